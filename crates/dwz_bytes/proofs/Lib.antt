@@ -1,0 +1,5 @@
+pub mod GroupLemmas
+pub mod LebLemmas
+pub mod PaddedLemmas
+pub mod SignedLemmas
+pub mod FixedLemmas

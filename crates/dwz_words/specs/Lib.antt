@@ -1,0 +1,4 @@
+pub mod Command
+pub mod Conditions
+pub mod Lawful
+pub mod Plain

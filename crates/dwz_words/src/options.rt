@@ -1,0 +1,50 @@
+//! What words ask for.
+
+ghost use Rattle.std.specs.Prelude.{◌≡◌};
+ghost use Rattle.dwz_words.specs.declared.options.WordsErr.TheVariants.{NoMemory};
+
+use dwz_model::{Blob, Names};
+use std::alloc::{AllocError, AllocFailed};
+
+/// What lawful words ask for.
+#[derive(Debug, Drop)]
+pub struct Options {
+    /// `-q`: print no summary.
+    pub quiet: bool,
+    /// `-m COMMON`: the name of the common file.
+    pub common: Option<Blob>,
+    /// `-M NAME`: the name by which files refer to the common file, in place of COMMON.
+    pub name: Option<Blob>,
+    /// `-o OUT`: where the one output goes, in place of the FILE.
+    pub out: Option<Blob>,
+    /// `-j N`: the number of workers, from 1 to 64; 4 where it is left out.
+    pub workers: u32,
+    /// The FILEs, in the order of the words.
+    pub files: Names,
+    /// `--demo N`: the number of units of each generated file, from 2 to 10,000.
+    pub demo: Option<u32>,
+}
+
+/// Why there are no options.
+#[derive(Clone, Copy, Debug, PartialEq, Eq)]
+pub enum WordsErr {
+    /// The words aren't lawful.
+    Usage,
+    NoMemory,
+}
+
+impl From<AllocError> for WordsErr {
+    ghost from_gives = { λ _ e. e ≡ NoMemory };
+
+    fn from(_error: AllocError) -> WordsErr {
+        WordsErr::NoMemory
+    }
+}
+
+impl<T: Drop> From<AllocFailed<T>> for WordsErr {
+    ghost from_gives = { λ _ e. e ≡ NoMemory };
+
+    fn from(_error: AllocFailed<T>) -> WordsErr {
+        WordsErr::NoMemory
+    }
+}

@@ -1,0 +1,17 @@
+//! A run of the tool, from the words of the command line to the files that are put.
+#![tactic(auto)]
+
+mod alike;
+mod faults;
+mod file;
+mod plan;
+mod reading;
+mod running;
+mod status;
+mod tables;
+mod words;
+mod writing;
+
+pub use file::one_file;
+pub use running::run;
+pub use status::Status;

@@ -21,7 +21,7 @@ bytes_of words = map (λ word. word.items) words
 abbrev pub is_set : Text → List Row → Bool
 is_set id rows = option_map_or (λ text. bytes_eq text (codes "true")) (one_of id rows) false
 
--- the number that a text spells: decimal digits, perhaps after a plus, of 32 bits
+-- the number below 2^32 that a text spells, in decimal digits, perhaps after a plus
 abbrev pub number_of : Text → Option ℕ
 number_of text = if is_unsigned_in 0 4294967295 text
     then Some (digits_value 10 (without_leading_plus text)) else None

@@ -13,6 +13,7 @@ use words::{WordsErr, longest, words_of};
 
 // The statuses of a program that came to no run.
 const NO_MEMORY: u8 = 5;
+
 const NO_WORDS: u8 = 9;
 
 // Runs with the words of the command line, and answers the status.

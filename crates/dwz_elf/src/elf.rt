@@ -227,7 +227,9 @@ fn sections_of(alloc: Global, bytes: &[u8], file: &FileHeader) -> Result<Vec<Hea
         return Err(not_built());
     }
     let whole = count_of(&headers, 1) == 1 && count_of(&headers, 2) == 1;
-    let named = headers.get(file.names as usize).is_some_and(|header| header.code == 0);
+    let named = headers
+        .get(file.names as usize)
+        .is_some_and(|header| header.code == 0);
     if !whole || !named || has_relocations(&headers) {
         return Err(not_built());
     }

@@ -8,10 +8,15 @@ use dwz_bytes::{ByteErr, Cursor};
 pub(crate) const SECTION_HEADER: usize = 64;
 
 const SHT_NULL: u32 = 0;
+
 const SHT_RELA: u32 = 4;
+
 const SHT_NOBITS: u32 = 8;
+
 const SHT_REL: u32 = 9;
+
 const SHF_ALLOC: u64 = 2;
+
 const SHF_COMPRESSED: u64 = 0x800;
 
 /// What is read of a file header.

@@ -11,4 +11,3 @@ mod rebuild;
 
 pub use elf::Elf;
 pub use rebuild::Rebuild;
-

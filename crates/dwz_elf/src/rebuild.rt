@@ -48,11 +48,7 @@ fn replaced_content(replaced: &[Replaced], code: u8) -> Option<&[u8]> {
 }
 
 // The content of a section in the new file.
-fn content_of<'b>(
-    replaced: &'b [Replaced],
-    input: &'b [u8],
-    header: &Header,
-) -> Option<&'b [u8]> {
+fn content_of<'b>(replaced: &'b [Replaced], input: &'b [u8], header: &Header) -> Option<&'b [u8]> {
     if header.code != 0
         && let Some(content) = replaced_content(replaced, header.code)
     {

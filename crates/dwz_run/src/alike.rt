@@ -26,6 +26,13 @@ pub(crate) struct Class<'a> {
     pub(crate) users: Vec<usize>,
 }
 
+// A unit that has a top: its number and its language.
+#[derive(Clone, Copy)]
+struct User {
+    unit: usize,
+    language: Option<u8>,
+}
+
 /// The classes in order of their first tops, by what their tops have in common.
 pub(crate) type Classes<'a> = IndexMap<Vec<u8>, Class<'a>>;
 
@@ -39,7 +46,11 @@ pub(crate) fn units_of<'a>(
     for unit in rows.chunk_by(|_, next| next.depth > 1) {
         if let [root, below @ ..] = unit {
             let number = units.len();
-            let tops = tops_of(alloc, below, number, &mut classes)?;
+            let user = User {
+                unit: number,
+                language: root.language(),
+            };
+            let tops = tops_of(alloc, below, user, &mut classes)?;
             units.push(Unit { root: *root, tops })?;
         }
     }
@@ -50,12 +61,12 @@ pub(crate) fn units_of<'a>(
 fn tops_of<'a>(
     alloc: Global,
     below: &'a [Row<'a>],
-    unit: usize,
+    user: User,
     classes: &mut Classes<'a>,
 ) -> Result<Vec<Top<'a>>, NoMemory> {
     let mut tops = Vec::new(alloc);
     for rows in below.chunk_by(|_, next| next.depth > 2) {
-        let class = class_of(alloc, rows, unit, classes)?;
+        let class = class_of(alloc, rows, user, classes)?;
         tops.push(Top { rows, class })?;
     }
     Ok(tops)
@@ -65,10 +76,10 @@ fn tops_of<'a>(
 fn class_of<'a>(
     alloc: Global,
     rows: &'a [Row<'a>],
-    unit: usize,
+    user: User,
     classes: &mut Classes<'a>,
 ) -> Result<usize, NoMemory> {
-    let label = label_of(alloc, rows)?;
+    let label = label_of(alloc, user.language, rows)?;
     let number = match classes.get_index_of(label.as_slice()) {
         Some(number) => number,
         None => {
@@ -82,26 +93,34 @@ fn class_of<'a>(
         }
     };
     if let Some(class) = classes.get_index_mut(number)
-        && class.users.last() != Some(&unit)
+        && class.users.last() != Some(&user.unit)
     {
-        class.users.push(unit)?;
+        class.users.push(user.unit)?;
     }
     Ok(number)
 }
 
-// Bytes that are equal for two tops exactly where their trees of tags, attributes and values are: a name has one width
-// and sign rule, so values are equal where form and bytes are.
-fn label_of(alloc: Global, rows: &[Row<'_>]) -> Result<Vec<u8>, NoMemory> {
+// Bytes that are equal for two tops exactly where the languages of their units are, and their trees of tags, attributes
+// and values: an attribute's name says how a number is read, so values are equal where form and bytes are.
+fn label_of(alloc: Global, language: Option<u8>, rows: &[Row<'_>]) -> Result<Vec<u8>, NoMemory> {
     let mut label = Vec::new(alloc);
+    match language {
+        Some(language) => label.extend_from_slice(&[1, language])?,
+        None => label.push(0)?,
+    }
     for row in rows {
-        label.extend_from_slice(&row.depth.to_le_bytes())?;
-        label.extend_from_slice(&row.tag.to_le_bytes())?;
-        label.extend_from_slice(&row.specs.len().to_le_bytes())?;
-        for spec in row.specs {
-            label.extend_from_slice(&spec.name.to_le_bytes())?;
-            label.extend_from_slice(&spec.form.to_le_bytes())?;
-        }
-        label.extend_from_slice(row.values)?;
+        put_row(&mut label, row)?;
     }
     Ok(label)
+}
+
+fn put_row(label: &mut Vec<u8>, row: &Row<'_>) -> Result<(), NoMemory> {
+    label.extend_from_slice(&row.depth.to_le_bytes())?;
+    label.extend_from_slice(&row.tag.to_le_bytes())?;
+    label.extend_from_slice(&row.specs.len().to_le_bytes())?;
+    for spec in row.specs {
+        label.extend_from_slice(&spec.name.to_le_bytes())?;
+        label.extend_from_slice(&spec.form.to_le_bytes())?;
+    }
+    label.extend_from_slice(row.values)
 }

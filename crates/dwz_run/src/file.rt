@@ -15,9 +15,13 @@ use dwz_model::{Blob, ReadErr};
 use std::alloc::Global;
 
 const PARTIAL_UNIT: u16 = 0x3c;
+
 const COMPILE: u8 = 1;
+
 const PARTIAL: u8 = 3;
+
 const INFO: u8 = 1;
+
 const ABBREV: u8 = 2;
 
 /// The bytes of the file that stands for one with these bytes: repeated tops are in partial units, which their users
@@ -126,7 +130,13 @@ fn kept_entries(
 ) -> Result<Entries, ReadErr> {
     let mut entries = Entries::new(alloc);
     let root = &unit.root;
-    entries.put(alloc, root.tag, !unit.tops.is_empty(), root.specs, root.values)?;
+    entries.put(
+        alloc,
+        root.tag,
+        !unit.tops.is_empty(),
+        root.specs,
+        root.values,
+    )?;
     for top in &unit.tops {
         if stays(classes, top.class) {
             entries.put_top(alloc, top.rows)?;

@@ -9,9 +9,15 @@ use std::alloc::Global;
 use std::collections::BTreeMap;
 
 const COMPILE_UNIT: u16 = 0x11;
+
 const IMPORTED_UNIT: u16 = 0x3d;
+
+const LANGUAGE: u16 = 0x13;
+
 const FORM_STRING: u64 = 0x08;
+
 const FORM_DATA1: u64 = 0x0b;
+
 const DEEPEST: u32 = 256;
 
 // The bytes of a compile unit's header.
@@ -24,6 +30,25 @@ pub(crate) struct Row<'a> {
     pub(crate) depth: u32,
     pub(crate) specs: &'a [Spec],
     pub(crate) values: &'a [u8],
+}
+
+impl Row<'_> {
+    /// The number of the first `DW_AT_language`, if there is one and it is a number.
+    pub(crate) fn language(&self) -> Option<u8> {
+        let mut rest = self.values;
+        for spec in self.specs {
+            let len = match spec.form {
+                FORM_DATA1 => 1,
+                _ => text_len(rest, 0)?,
+            };
+            if spec.name == LANGUAGE {
+                let is_number = spec.form == FORM_DATA1;
+                return rest.first().copied().filter(|_| is_number);
+            }
+            rest = rest.get(len..)?;
+        }
+        None
+    }
 }
 
 /// A unit's header: where the unit begins and ends, and its abbreviation table, in bytes from the sections' first.
@@ -220,7 +245,12 @@ fn read_entry<'a>(
 }
 
 // Goes behind a value.
-fn read_value(unit: &[u8], cursor: &mut Cursor<'_>, spec: &Spec, entry: usize) -> Result<(), ReadErr> {
+fn read_value(
+    unit: &[u8],
+    cursor: &mut Cursor<'_>,
+    spec: &Spec,
+    entry: usize,
+) -> Result<(), ReadErr> {
     let at = cursor.at();
     let len = match spec.form {
         FORM_STRING => text_len(unit, at),
@@ -229,7 +259,7 @@ fn read_value(unit: &[u8], cursor: &mut Cursor<'_>, spec: &Spec, entry: usize) -
         form => return Err(unsupported_form(entry, form)),
     };
     // The attributes that name other entries, sections or files.
-    if matches!(spec.name, 0x01 | 0x10 | 0x13 | 0x3a | 0x58) {
+    if matches!(spec.name, 0x01 | 0x10 | 0x3a | 0x58) {
         return Err(not_built());
     }
     match len {

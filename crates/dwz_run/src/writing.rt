@@ -9,6 +9,7 @@ use indexmap::IndexMap;
 use std::alloc::Global;
 
 const IMPORTED_UNIT: u16 = 0x3d;
+
 const IMPORT: [Spec; 1] = [Spec {
     name: 0x18,
     form: 0x10,
@@ -50,7 +51,12 @@ impl Output {
 
     /// Appends a unit of a type with these entries. The answer is the place of its root, in bytes from the first of
     /// `.debug_info`.
-    pub(crate) fn put_unit(&mut self, alloc: Global, kind: u8, entries: Entries) -> Result<u32, ReadErr> {
+    pub(crate) fn put_unit(
+        &mut self,
+        alloc: Global,
+        kind: u8,
+        entries: Entries,
+    ) -> Result<u32, ReadErr> {
         let Entries { decls, bytes } = entries;
         let abbrev = self.place_of(table_of(alloc, &decls)?)?;
         if self.info.len() >= LONGEST || bytes.len() >= LONGEST {
@@ -154,7 +160,12 @@ impl Entries {
 }
 
 // The bytes of a declaration behind its code.
-fn decl_of(alloc: Global, tag: u16, has_children: bool, specs: &[Spec]) -> Result<Vec<u8>, NoMemory> {
+fn decl_of(
+    alloc: Global,
+    tag: u16,
+    has_children: bool,
+    specs: &[Spec],
+) -> Result<Vec<u8>, NoMemory> {
     let mut decl = Vec::new(alloc);
     put_uleb(&mut decl, tag as u64)?;
     decl.push(u8::from(has_children))?;

@@ -25,9 +25,21 @@ pub(crate) fn plain(alloc: Global, info: &[u8], abbrev: &[u8]) -> Result<Vec<u8>
     file.extend_from_slice(&body)?;
     file.extend_from_slice(&[0; 64])?;
     let sections = [
-        Section { name: 1, kind: 1, len: info.len() },
-        Section { name: 13, kind: 1, len: abbrev.len() },
-        Section { name: 27, kind: 3, len: NAMES.len() },
+        Section {
+            name: 1,
+            kind: 1,
+            len: info.len(),
+        },
+        Section {
+            name: 13,
+            kind: 1,
+            len: abbrev.len(),
+        },
+        Section {
+            name: 27,
+            kind: 3,
+            len: NAMES.len(),
+        },
     ];
     let mut at = 64u64;
     for section in &sections {

@@ -7,9 +7,14 @@ use std::alloc::{AllocError, Global};
 use std::test::Fail;
 
 const ABBREV: &str = "011101000002240003080b0b3e0b000000";
-const TWO: &str = "1100000005000108000000000102696e74000405001100000005000108000000000102696e7400040500";
+
+const TWO: &str =
+    "1100000005000108000000000102696e74000405001100000005000108000000000102696e7400040500";
+
 const NEW_ABBREV: &str = "013c01000002240003080b0b3e0b0000000111010000023d001810000000";
-const NEW_TWO: &str = "1100000005000308000000000102696e74000405000f000000050001081100000001020c000000000f000000050001081100000001020c00000000";
+
+const NEW_TWO: &str =
+    "1100000005000308000000000102696e74000405000f000000050001081100000001020c000000000f000000050001081100000001020c00000000";
 
 fn words(alloc: Global, texts: &[&[u8]]) -> Result<Vec<Vec<u8>>, AllocError> {
     let mut words = Vec::new(alloc);
@@ -20,7 +25,11 @@ fn words(alloc: Global, texts: &[&[u8]]) -> Result<Vec<Vec<u8>>, AllocError> {
 }
 
 fn old_file(alloc: Global) -> Result<Vec<u8>, Fail> {
-    Ok(plain(alloc, &hex::decode(alloc, TWO)?, &hex::decode(alloc, ABBREV)?)?)
+    Ok(plain(
+        alloc,
+        &hex::decode(alloc, TWO)?,
+        &hex::decode(alloc, ABBREV)?,
+    )?)
 }
 
 // Files that hold `a`, with ample room.
@@ -39,7 +48,11 @@ fn the_file_is_written_elsewhere(rt: HostRuntime) -> Result<(), Fail> {
     let words = words(alloc, &[b"-o", b"out", b"a"])?;
     let status = run(&rt, alloc, &words, &mut files, &mut console);
     assert_eq!(rt; status, Status::Done);
-    let new = plain(alloc, &hex::decode(alloc, NEW_TWO)?, &hex::decode(alloc, NEW_ABBREV)?)?;
+    let new = plain(
+        alloc,
+        &hex::decode(alloc, NEW_TWO)?,
+        &hex::decode(alloc, NEW_ABBREV)?,
+    )?;
     assert_eq!(rt; new.len(), 448);
     assert!(rt; files.content(b"out") == Some(new.as_slice()));
     assert!(rt; files.content(b"a") == Some(old_file(alloc)?.as_slice()));

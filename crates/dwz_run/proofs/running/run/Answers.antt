@@ -13,17 +13,17 @@ returns-in-Err-Failed-clause-ends g c =
     (record { out = c.in-Some.asked.out.now; file = c.in-Some.asked.file.now; lawful = c.in-Some.ensures.lawful }, why.0, why.1, c.get.ensures.held)
 
 pub returns-in-Ok-put-clause-ends : goal.returns-in-Ok-put-clause-ends
-returns-in-Ok-put-clause-ends g c =
-    ( record { out = c.in-Some.asked.out.now; file = c.in-Some.asked.file.now; lawful = c.in-Some.ensures.lawful }
-    , wrote _ _ _ _ _ c.in-Ok.input.items c.in-Ok-one_file.output.items _ _ c.get.ensures.held c.in-Ok.ensures.content
-        (ap not_elf_at (sym c.deref.ensures.value) ∙ is_elf _ _ _ _ c.in-Ok-one_file.ensures.not_elf)
-        c.in-Ok-from_slice.ensures.items c.deref-2.ensures.value c.in-Ok-put.ensures.done
-    )
+returns-in-Ok-put-clause-ends g c = (
+  record { out = c.in-Some.asked.out.now; file = c.in-Some.asked.file.now; lawful = c.in-Some.ensures.lawful },
+  wrote _ _ _ _ _ c.in-Ok.input.items c.in-Ok-one_file.output.items _ _ c.get.ensures.held c.in-Ok.ensures.content
+      (ap not_elf_at (sym c.deref.ensures.value) ∙ is_elf _ _ _ _ c.in-Ok-one_file.ensures.not_elf)
+      c.in-Ok-from_slice.ensures.items c.deref-2.ensures.value c.in-Ok-put.ensures.done,
+)
 
 pub returns-clause-ends : goal.returns-clause-ends
-returns-clause-ends g c =
-    ( record { out = c.in-Some.asked.out.now; file = c.in-Some.asked.file.now; lawful = c.in-Some.ensures.lawful }
-    , subst (λ (n : ℕ). Rose n (g.F.Files.write_faults c.put.new.self)) c.get.ensures.writes.0 c.in-Err.ensures.failed.0
-    , c.in-Err.ensures.failed.1 ∙ ap some_name c.in-Ok-from_slice.ensures.items
-    , c.in-Err.ensures.not_done ∙ c.get.ensures.held
-    )
+returns-clause-ends g c = (
+  record { out = c.in-Some.asked.out.now; file = c.in-Some.asked.file.now; lawful = c.in-Some.ensures.lawful },
+  subst (λ (n : ℕ). Rose n (g.F.Files.write_faults c.put.new.self)) c.get.ensures.writes.0 c.in-Err.ensures.failed.0,
+  c.in-Err.ensures.failed.1 ∙ ap some_name c.in-Ok-from_slice.ensures.items,
+  c.in-Err.ensures.not_done ∙ c.get.ensures.held,
+)

@@ -1,6 +1,6 @@
 -- What calls that tell nothing of content give.
-use Rattle.std.proofs.Common.{◌≡◌, ◌≤◌, ◌+◌, ◌-◌, ◌^◌, ℕ, List, Option, Some, Result, Ok, Err, refl, arith, min}
-use Rattle.std.specs.Prelude.{OnOk, OnErr, IfOk, ⊤}
+use Rattle.std.proofs.Common.{◌≡◌, ℕ, List, Some, Result, Ok, Err, refl, arith}
+use Rattle.std.specs.Prelude.{OnOk, OnErr, ⊤}
 use Rattle.dwz_outside.specs.declared.files.GetErr.{GetErr}
 use Rattle.dwz_outside.specs.declared.files.GetErr.TheVariants.{Failed, NoMemory}
 use Rattle.dwz_outside.specs.Counts.{Rose, next_count}

@@ -1,7 +1,7 @@
 -- A log whose bytes stand in one growing list.
-use Rattle.std.proofs.Common.{◌≡◌, ℕ, ◌+◌, ◌-◌, ◌≤◌, List, [], ◌∷◌, ◌++◌, zero, suc, ◌<◌, Option, Some, None, true, false, length, get_or, map, take, drop, refl, sym, ap, ◌∙◌, arith}
+use Rattle.std.proofs.Common.{◌≡◌, ℕ, ◌+◌, ◌-◌, ◌≤◌, List, [], ◌∷◌, ◌++◌, zero, suc, ◌<◌, Option, Some, true, false, length, get_or, map, take, drop, refl, sym, ap, ◌∙◌, arith}
 use Rattle.std.specs.Prelude.{slice_range}
-use Rattle.std.proofs.lemmas.List.{length-append, take_more, length-drop, drop-append-le, take-append-le, map_push}
+use Rattle.std.proofs.lemmas.List.{take_more, length-drop, drop-append-le, take-append-le, map_push}
 use Rattle.std.proofs.lemmas.Grind.{common_steps}
 use Rattle.dwz_outside.specs.declared.memory.Entry.{Entry}
 use Rattle.std.specs.Str.{bytes_eq}

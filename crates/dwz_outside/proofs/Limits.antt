@@ -1,5 +1,5 @@
 -- The most that is got of a content.
-use Rattle.std.proofs.Common.{◌≡◌, ◌≤◌, ◌++◌, ℕ, List, [], length, take, Option, Some, None, refl, ap, ◌∙◌, arith, min}
+use Rattle.std.proofs.Common.{◌≡◌, ◌≤◌, ◌++◌, ℕ, List, [], length, take, Option, Some, None, refl, arith, min}
 use Rattle.std.specs.Prelude.{IfSome, option_map}
 use Rattle.std.proofs.lemmas.List.{take_min, length-take}
 use Rattle.std.proofs.lemmas.Grind.{common_steps}

@@ -1,5 +1,5 @@
 -- Contents that stand one after the other in one list of bytes.
-use Rattle.std.specs.Prelude.{ℕ, ◌≤◌, List, [], ◌∷◌, Option, Some, None, option_map, slice_range}
+use Rattle.std.specs.Prelude.{ℕ, ◌≤◌, List, [], ◌∷◌, Option, option_map, slice_range}
 use Rattle.dwz_outside.specs.declared.memory.Entry.{Entry}
 use Rattle.dwz_outside.specs.Store.{Put}
 

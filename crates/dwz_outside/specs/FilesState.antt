@@ -1,19 +1,23 @@
 -- What a caller sees of files in memory.
-use Rattle.std.specs.Prelude.{ℕ, ◌+◌, ◌-◌, List, [], ◌∷◌, ◌++◌, length, Option, Some, None, Bool, true, false, ◌==◌, if◌then◌else◌, ◌||◌, nat_lt, max}
+use Rattle.std.specs.Prelude.{ℕ, ◌-◌, List, [], ◌∷◌, ◌++◌, length, Option, Some, None, Bool, true, false, ◌==◌, if◌then◌else◌, ◌||◌, nat_lt, max}
 use Rattle.std.specs.List.{list_any}
 use Rattle.dwz_outside.specs.Counts.{next_count}
 use Rattle.dwz_outside.specs.Store.{Store, Put, empty, done, got}
 
--- what was stored, the oldest first; the room that is left for puts and for their bytes; how many gets and puts were
--- called, and the numbers of those that fail; how many failed, and the name of the last of them
+-- files in memory
 pub record FilesState : Type 0 where
+  -- what was added and put, the oldest first
   pub stored : List Put
+  -- the room that is left: for how many puts, and for how many bytes of contents
   pub room_puts : ℕ
   pub room_bytes : ℕ
+  -- how many gets and puts were called; this is the number of the next
   pub gets : ℕ
   pub puts : ℕ
+  -- the numbers of those that were told to fail
   pub failing_gets : List ℕ
   pub failing_puts : List ℕ
+  -- how many failed, and the name of the last that did
   pub read_faults : ℕ
   pub write_faults : ℕ
   pub last_read : Option (List ℕ)

@@ -1,24 +1,22 @@
-//! A console, one in memory, and the standard output.
+//! A console, and one in memory.
 
-ghost use Rattle.std.specs.Prelude.{◌≡◌, ◌≤◌, ◌++◌, ◌∷◌, [], ℕ, List, length, Option, Some, None, is_err, max, IfSome, IfOk, OnOk, OnErr};
+ghost use Rattle.std.specs.Prelude.{◌≡◌, ◌≤◌, ◌++◌, ◌∷◌, [], ℕ, List, length, Option, Some, is_err, max, IfSome, IfOk, OnOk, OnErr};
 ghost use Rattle.dwz_outside.specs.ConsoleState.{after_failed_write, after_write, new_console, write_fails};
-ghost use Rattle.dwz_outside.specs.Counts.{Rose, next_count};
+ghost use Rattle.dwz_outside.specs.Counts.{Rose};
 
 use crate::files::Failed;
 use dwz_model::NoMemory;
 use std::alloc::Global;
-use std::io;
-use std::io::Write;
 use std::marker::Model;
 
 /// Where a text is written.
 ///
 /// The count of faults never falls. One that stands at 2^64 - 1 counts as one that rose.
 pub trait Console {
-    // What was written, where the object can tell it.
+    /// What was written, where the object can tell it.
     ghost text: { Self → Option (List ℕ) };
 
-    // How many puts failed.
+    /// How many puts failed.
     ghost faults: { Self → ℕ };
 
     /// Writes these bytes after those that were written.
@@ -119,53 +117,6 @@ impl Console for MemConsole {
             unreachable!()
         };
         self.room -= bytes.len() as u64;
-        Ok(())
-    }
-}
-
-/// The standard output. What was written isn't told.
-#[derive(Drop)]
-pub struct StdConsole<'r, R> {
-    rt: &'r R,
-    faults: u64,
-}
-
-impl<'r, R> Model for StdConsole<'r, R> {
-    ghost Value = { ℕ };
-
-    ghost view = { λ s. s.faults };
-}
-
-impl<'r, R: Print> StdConsole<'r, R> {
-    /// Nothing failed.
-    pub fn new(rt: &'r R) -> StdConsole<'r, R>
-        ensures { result ≡ 0 }
-    {
-        StdConsole { rt, faults: 0 }
-    }
-}
-
-fn write_out<R: Print>(rt: &R, bytes: &[u8]) -> io::Result<()> {
-    let mut out = io::writer(rt);
-    out.write_all(bytes)?;
-    out.flush()
-}
-
-impl<'r, R: Print> Console for StdConsole<'r, R> {
-    ghost text = { λ _. None };
-
-    ghost faults = { λ faults. faults };
-
-    /// It fails where the system refuses to write. A part of the bytes may then be written.
-    fn put(&mut self, bytes: &[u8]) -> Result<(), Failed>
-        ensures ok { OnOk result (self.new ≡ self.old) }
-        ensures err { OnErr result (self.new ≡ next_count self.old) }
-        ensures never_falls { self.old ≤ self.new }
-    {
-        if write_out(self.rt, bytes).is_err() {
-            self.faults = self.faults.saturating_add(1);
-            return Err(Failed);
-        }
         Ok(())
     }
 }

@@ -7,12 +7,9 @@ ghost use Rattle.dwz_outside.specs.Store.{most_got};
 use crate::files::{Failed, Files, GET_LIMIT, GetErr};
 use dwz_model::{Blob, NoMemory};
 use std::alloc::{AllocError, Global};
-use std::fs;
-use std::io;
 use std::io::{ErrorKind, Read, Write};
 use std::marker::Model;
-use std::rt;
-use std::str;
+use std::{fs, io, rt, str};
 
 /// What the name of a file is followed by while its new content is written.
 const ENDING: &str = ".dwz-tmp";
@@ -84,7 +81,9 @@ impl<'r, R: rt::Files> DiskFiles<'r, R> {
 /// Writes a file, and moves it to another path. Where that fails the file is removed again, if it can be.
 fn write_and_move<R: rt::Files>(rt: &R, from: &str, to: &str, bytes: &[u8]) -> io::Result<()> {
     let mut file = fs::create(rt, from)?;
-    let moved = file.write_all(bytes).and_then(|()| fs::rename(rt, from, to));
+    let moved = file
+        .write_all(bytes)
+        .and_then(|()| fs::rename(rt, from, to));
     if moved.is_err() {
         let _ = fs::remove_file(rt, from);
     }

@@ -33,17 +33,19 @@ pub struct Failed;
 ///
 /// A count of faults never falls. One that stands at 2^64 - 1 counts as one that rose.
 pub trait Files {
-    // What is held, where the object can tell it.
+    /// What is held, where the object can tell it.
     ghost held: { Self → Option Store };
 
-    // How many gets failed, and how many puts.
+    /// How many gets failed.
     ghost read_faults: { Self → ℕ };
 
+    /// How many puts failed.
     ghost write_faults: { Self → ℕ };
 
-    // The name of the last get that failed, and of the last put.
+    /// The name of the last get that failed.
     ghost last_read: { Self → Option (List ℕ) };
 
+    /// The name of the last put that failed.
     ghost last_write: { Self → Option (List ℕ) };
 
     /// The content of this name, or its first `GET_LIMIT` bytes where it is longer. It first copies the name, and may

@@ -6,11 +6,13 @@ mod console;
 mod disk;
 mod files;
 mod memory;
+mod standard;
 
-pub use console::{Console, MemConsole, StdConsole};
+pub use console::{Console, MemConsole};
 pub use disk::DiskFiles;
 pub use files::{Failed, Files, GET_LIMIT, GetErr};
 pub use memory::MemFiles;
+pub use standard::StdConsole;
 
 #[cfg(test)]
 mod tests;

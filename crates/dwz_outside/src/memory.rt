@@ -228,15 +228,15 @@ impl Files for MemFiles {
         ensures held { OnOk result (held_by self.new ≡ put_in name.items bytes.now (held_by self.old)) }
         ensures never_falls { self.old.write_faults ≤ self.new.write_faults }
     {
-        let name = Blob::new(name);
+        let kept = Blob::new(name);
         let fails = self.put_fails(bytes.len());
         self.puts = self.puts.saturating_add(1);
         if fails {
             self.write_faults = self.write_faults.saturating_add(1);
-            self.last_write = Some(name);
+            self.last_write = Some(kept);
             return Err(Failed);
         }
-        append(&mut self.log, &mut self.arena, name, bytes);
+        append(&mut self.log, &mut self.arena, kept, bytes);
         self.room_puts -= 1;
         self.room_bytes -= bytes.len() as u64;
         Ok(())

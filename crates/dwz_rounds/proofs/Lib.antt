@@ -1,0 +1,9 @@
+pub mod Bytes
+pub mod Dealings
+pub mod Levels
+pub mod Parts
+pub mod Seen
+pub mod Settling
+pub mod Shares
+pub mod Steps
+pub mod Sums

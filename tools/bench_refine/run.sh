@@ -10,8 +10,10 @@ for crate in dwz_model dwz_nodes dwz_bucket dwz_core dwz_table dwz_gate dwz_roun
     (cd "$top/crates" && tar cf - --exclude=out "$crate") | tar xf - -C "$copy/crates"
     grep "^$crate[ :]" "$top/crates.txt"
 done > "$copy/crates.txt"
-mkdir -p "$copy/crates/bench_refine"
-cp -r "$here/src" "$here/proofs" "$copy/crates/bench_refine/"
+bench=$copy/crates/bench_refine
+mkdir -p "$bench/src" "$bench/specs" "$bench/proofs/is_closed"
+cp "$here/main.rt.txt" "$bench/src/main.rt"
+cp "$here/is_closed_Invariants.antt.txt" "$bench/proofs/is_closed/Invariants.antt"
 echo "bench_refine: dwz_model dwz_nodes dwz_table dwz_gate dwz_rounds" >> "$copy/crates.txt"
 cd "$copy"
 [ -d .git ] || git init -q

@@ -1,0 +1,4 @@
+pub mod HeaderLemmas
+pub mod NameLemmas
+pub mod FaultLemmas
+pub mod ReadLemmas

@@ -1,3 +1,3 @@
-pub mod Identification
-pub mod Sections
-pub mod Faults
+pub mod Reads
+pub mod Names
+pub mod Plain

@@ -1,237 +1,209 @@
 //! A file's sections.
 
-ghost use Rattle.std.specs.Prelude.{◌≡◌, Err, IfErr, IfNone, IfSome};
-ghost use Rattle.dwz_elf.specs.Faults.{IsNotBuilt, not_built, not_elf};
-ghost use Rattle.dwz_elf.specs.Identification.{not_elf_at};
-ghost use Rattle.dwz_elf.specs.Sections.{section_in};
+ghost use Rattle.std.specs.Prelude.{◌≡◌, ◌≤◌, ◌<◌, ◌↔◌, All, Err, IsTrue, IfNone, IfOk, Some, length, map};
+ghost use Rattle.dwz_docs.specs.ElfHeaders;
+ghost use Rattle.dwz_docs.specs.ElfNames;
+ghost use Rattle.dwz_docs.specs.ElfReading.{elf_fault, elf_of, section_range};
+ghost use Rattle.dwz_elf.specs.Plain.{IsPlain, IsPlainSection};
+ghost use Rattle.dwz_elf.specs.Reads.{Gives, IsWhole, front_fault_of, rest_fault_of};
+ghost use Rattle.dwz_model.specs.declared.fault.Fault.{Fault};
 ghost use Rattle.dwz_model.specs.declared.fault.ReadErr.TheVariants.{Refused};
 
-use crate::header::{FileHeader, Header, SECTION_HEADER};
-use crate::identification::not_elf;
-use dwz_bytes::ByteErr;
-use dwz_model::{Fault, ReadErr, Reason};
+use crate::fault;
+use crate::header::{file_header, header_at, headers_from, is_loaded, is_there};
+use crate::name::{names_end, section_of};
+use dwz_docs::{FileHeader, Header, Section};
+use dwz_model::{Fault, NoMemory, ReadErr};
 use std::alloc::Global;
 use std::marker::Model;
 
-// The longest file that is read as long as the tool is being built.
-pub(crate) const LONGEST: usize = 1 << 24;
+// The longest file that is plain.
+const LONGEST_PLAIN: usize = 1 << 24;
 
 /// The sections of an ELF64 file.
 #[derive(Drop)]
 pub struct Elf {
-    machine: u16,
-    flags: u32,
-    headers: Vec<Header>,
+    len: usize,
+    file: FileHeader,
+    sections: Vec<Section>,
 }
 
 impl Model for Elf {
-    ghost use Rattle.dwz_elf.specs.Sections.{ElfView};
+    ghost use Rattle.dwz_docs.specs.ElfReading.{ElfView};
 
     ghost Value = { ElfView };
 
-    ghost view = { λ e. record { machine = e.machine; flags = e.flags; headers = e.headers.items } };
+    ghost view = { λ e. record { length = e.len; file = e.file; sections = e.sections.items } };
 }
 
-// A file that isn't read as long as the tool is being built.
-pub(crate) fn not_built() -> ReadErr
-    ensures { result ≡ Refused not_built }
+// The first fault of the file header and of the name table.
+#[tactic(auto, unfolding(crate::specs::Reads::front_fault_of))]
+fn front_fault(bytes: &[u8]) -> Option<Fault>
+    ensures fault { result ≡ front_fault_of bytes.now }
+    ensures whole { IfNone result (IsWhole bytes.now) }
 {
-    ReadErr::Refused(Fault {
-        section: 0,
-        at: 0,
-        reason: Reason::NotBuilt,
-    })
-}
-
-// The bytes of a text that a zero byte ends.
-fn text_at(texts: &[u8], at: usize) -> Option<&[u8]> {
-    let rest = texts.get(at..)?;
-    let end = rest.iter().position(|byte| *byte == 0)?;
-    rest.get(..end)
-}
-
-// The code of a section by its name, of those that are read; None where a file with such a section isn't.
-fn code_of(name: &[u8]) -> Option<u8> {
-    match name {
-        b".debug_info" => Some(1),
-        b".debug_abbrev" => Some(2),
-        b".gnu_debugaltlink" | b".gdb_index" => None,
-        _ => {
-            if name.starts_with(b".debug_") {
-                None
-            } else {
-                Some(0)
-            }
-        }
+    if let Some(fault) = fault::identification_fault(bytes) {
+        return Some(fault);
     }
+    let file = file_header(bytes);
+    if let Some(fault) = fault::field_fault(bytes.len(), &file) {
+        return Some(fault);
+    }
+    let names = names_header(bytes, &file);
+    fault::names_fault(bytes.len(), &names)
 }
 
-// The section headers, as they are stored.
-fn stored_headers(alloc: Global, bytes: &[u8], file: &FileHeader) -> Result<Vec<Header>, ReadErr>
-    ensures { IfErr result IsNotBuilt }
+// The header of the name table.
+fn names_header(bytes: &[u8], file: &FileHeader) -> Header
+    requires file { file.now ≡ ElfHeaders.file_header bytes.now }
+    requires names { file.now.names < file.now.headers }
+    requires room { ElfHeaders.headers_end file.now ≤ length bytes.now }
+    ensures { result ≡ ElfNames.names_header bytes.now }
 {
-    let mut headers = Vec::new(alloc);
-    let mut at = file.section_headers;
-    for _ in 0..file.sections {
-        if at > bytes.len() as u64 {
-            return Err(not_built());
-        }
-        match Header::read(bytes, at as usize) {
-            Ok(header) => headers.push(header)?,
-            Err(ByteErr::Short { .. } | ByteErr::Wide { .. }) => return Err(not_built()),
-        }
-        at += SECTION_HEADER as u64;
-    }
-    Ok(headers)
+    header_at(bytes, file.headers_at as usize + 64 * file.names as usize)
 }
 
-// The bytes of a section.
-fn content<'a>(bytes: &'a [u8], header: &Header) -> Option<&'a [u8]> {
-    let rest = bytes.get(header.offset as usize..)?;
-    rest.get(..header.size as usize)
-}
-
-// Gives each header its section's code. False where a section's name or place is wrong, or such a section isn't read.
-fn give_codes(headers: &mut [Header], names: &[u8], len: usize) -> bool {
-    for header in headers.iter_mut() {
-        let Some(name) = text_at(names, header.name as usize) else {
-            return false;
-        };
-        let code = code_of(name);
-        if !header.is_placed(len) || header.is_loaded() || (code.is_none() && header.is_there) {
-            return false;
-        }
-        if name.starts_with(b".debug_") && header.is_there && header.is_compressed() {
-            return false;
-        }
-        header.code = code.unwrap_or(0);
-    }
-    true
-}
-
-// How many sections with a content have a code.
-fn count_of(headers: &[Header], code: u8) -> usize {
+// The sections with those headers.
+fn named(alloc: Global, table: &[u8], headers: &[Header]) -> Result<Vec<Section>, NoMemory>
+    ensures { IfOk result (λ sections. sections.items ≡ map (ElfNames.section_of table.now) headers.now) }
+{
+    let end = names_end(table);
     headers
         .iter()
-        .filter(|header| header.is_there && header.code == code)
-        .count()
+        .map(|header| section_of(table, end, header))
+        .collect(alloc)
 }
 
-// Whether a section has relocations for one that is written anew.
-fn has_relocations(headers: &[Header]) -> bool {
-    headers.iter().any(|header| {
-        header.has_relocations()
-            && match headers.get(header.info as usize) {
-                Some(target) => target.is_there && target.code != 0,
-                None => false,
-            }
-    })
+// The sections of a file whose tables are whole.
+fn sections_of(alloc: Global, bytes: &[u8], file: &FileHeader) -> Result<Vec<Section>, NoMemory>
+    requires file { file.now ≡ ElfHeaders.file_header bytes.now }
+    requires whole { IsWhole bytes.now }
+    ensures { IfOk result (λ sections. sections.items ≡ ElfNames.sections_in bytes.now) }
+{
+    let names = names_header(bytes, file);
+    let start = names.offset as usize;
+    let table = &bytes[start..start + names.size as usize];
+    let headers = headers_from(
+        alloc,
+        bytes,
+        file.headers_at as usize,
+        file.headers as usize,
+    )?;
+    named(alloc, table, &headers)
 }
 
-// Whether the file header is that of a file that is read.
-fn is_read(file: &FileHeader, len: usize) -> bool {
-    len <= LONGEST
-        && (file.kind == 2 || file.kind == 3)
-        && file.section_headers != 0
-        && file.section_header_size as usize == SECTION_HEADER
-        && file.sections <= 65278
-        && file.names != 0
-        && file.names < file.sections
-        && file.program_headers == 0
+// The first fault of the section headers, in a file of that length whose name table has that index.
+#[tactic(auto, unfolding(crate::specs::Reads::rest_fault_of))]
+fn rest_fault(len: usize, names: u16, sections: &[Section]) -> Option<Fault>
+    ensures { result ≡ rest_fault_of len names sections.now }
+{
+    if let Some(fault) = fault::headers_fault(len, names, sections) {
+        return Some(fault);
+    }
+    if let Some(fault) = fault::kept_fault(sections) {
+        return Some(fault);
+    }
+    fault::missing_fault(sections)
 }
 
 impl Elf {
-    /// Reads the sections of a file, of which at present only the plainest are taken.
+    /// Reads the sections of a file. Refused with its first fault, and read exactly where it has none:
     ///
-    /// Refused with `NotElf`, section 0, at the first byte of the identification that is wrong or missing, else at the
-    /// length of a file that is too short; and with `NotBuilt` where anything else keeps the file from being read.
+    /// - `NotElf`, at the first byte of the identification that is wrong or missing, else at the length of a file that is
+    ///   too short for a header.
+    /// - `FileType`, at 16: neither an executable nor a shared object.
+    /// - `SectionTable`, at the field of the file header or at the section header that is wrong.
+    /// - `Index` and `Compressed`, at the section header, the one before the other: a section that can't be kept, and a
+    ///   `.debug_` section that is compressed.
+    /// - `NoDebugInfo`, at 0: `.debug_info` or `.debug_abbrev` isn't there.
+    ///
+    /// All places are counted from the first byte of the file. The faults of the identification, of the file header and of
+    /// the name table come before any memory is taken.
     pub fn read(alloc: Global, bytes: &[u8]) -> Result<Elf, ReadErr>
-        ensures not_elf { IfSome (not_elf_at bytes.now) (λ at. result ≡ Err (Refused (not_elf at))) }
-        ensures others { IfNone (not_elf_at bytes.now) (IfErr result IsNotBuilt) }
+        ensures gives { Gives result (elf_fault bytes.now) (elf_of bytes.now) }
+        ensures at_once { (f : Fault) → front_fault_of bytes.now ≡ Some f → result ≡ Err (Refused f) }
     {
-        if let Some(at) = not_elf(bytes) {
-            return Err(ReadErr::Refused(Fault {
-                section: 0,
-                at: at as u64,
-                reason: Reason::NotElf,
-            }));
+        if let Some(fault) = front_fault(bytes) {
+            return Err(ReadErr::Refused(fault));
         }
-        let Ok(file) = FileHeader::read(bytes) else {
-            return Err(not_built());
-        };
-        if !is_read(&file, bytes.len()) {
-            return Err(not_built());
+        let file = file_header(bytes);
+        let sections = sections_of(alloc, bytes, &file)?;
+        if let Some(fault) = rest_fault(bytes.len(), file.names, &sections) {
+            return Err(ReadErr::Refused(fault));
         }
-        let headers = sections_of(alloc, bytes, &file)?;
         Ok(Elf {
-            machine: file.machine,
-            flags: file.flags,
-            headers,
+            len: bytes.len(),
+            file,
+            sections,
         })
     }
 
     /// The machine that the file is for.
     pub fn machine(&self) -> u16
-        ensures { result ≡ self.now.machine }
+        ensures { result ≡ self.now.file.machine }
     {
-        self.machine
+        self.file.machine
     }
 
     /// The processor's flags in the file header.
     pub fn flags(&self) -> u32
-        ensures { result ≡ self.now.flags }
+        ensures { result ≡ self.now.file.flags }
     {
-        self.flags
+        self.file.flags
     }
 
-    /// The offset in the file and the size of the section with a code, in bytes. None exactly where the file has no such
-    /// section, or it has no content.
+    /// The offset in the file and the size of the section with a code, in bytes. None exactly where no section with that
+    /// code is there: the file has none, or it has no content in the file.
     pub fn section(&self, code: u8) -> Option<(u64, u64)>
-        ensures { result ≡ section_in self.now.headers code }
+        ensures { result ≡ section_range self.now.sections code }
     {
-        section_of(&self.headers, code)
+        range_of(&self.sections, code)
     }
 
-    pub(crate) fn headers(&self) -> &[Header]
-        ensures { result.now ≡ self.now.headers }
+    pub(crate) fn sections(&self) -> &[Section]
+        ensures { result.now ≡ self.now.sections }
     {
-        self.headers.as_slice()
+        self.sections.as_slice()
+    }
+
+    /// Whether the file is one of those that are handled as long as the tool is being built: it has at most 2^24 bytes, no
+    /// program headers, no section with `SHF_ALLOC`, and of the sections whose names begin `.debug_` only `.debug_info`
+    /// and `.debug_abbrev` are there.
+    pub fn is_plain(&self) -> bool
+        ensures { IsTrue result ↔ IsPlain self.now }
+    {
+        if self.len > LONGEST_PLAIN || self.file.program_headers != 0 {
+            return false;
+        }
+        are_plain(&self.sections)
     }
 }
 
-// The range of the first section with a code.
-fn section_of(headers: &[Header], code: u8) -> Option<(u64, u64)>
-    ensures { result ≡ section_in headers.now code }
+// Whether each section is plain.
+fn are_plain(sections: &[Section]) -> bool
+    ensures { IsTrue result ↔ All IsPlainSection sections.now }
 {
-    for header in headers {
-        if header.is_there && header.code == code {
-            return Some((header.offset, header.size));
+    sections.iter().all(is_plain_section)
+}
+
+// Whether the section isn't loaded, and is none of debug information but those that are handled.
+fn is_plain_section(section: &Section) -> bool
+    ensures { IsTrue result ↔ IsPlainSection section.now }
+{
+    let name = &section.name;
+    !is_loaded(&section.header)
+        && (!is_there(&section.header) || !name.is_debug || name.code == 1 || name.code == 2)
+}
+
+// The range of the first section with a code that is there.
+#[tactic(auto, unfolding(dwz_docs::specs::ElfReading::section_range))]
+fn range_of(sections: &[Section], code: u8) -> Option<(u64, u64)>
+    ensures { result ≡ section_range sections.now code }
+{
+    for section in sections {
+        if is_there(&section.header) && section.name.code == code {
+            return Some((section.header.offset, section.header.size));
         }
     }
     None
-}
-
-// The section headers of a file that is read, with their codes.
-fn sections_of(alloc: Global, bytes: &[u8], file: &FileHeader) -> Result<Vec<Header>, ReadErr>
-    ensures { IfErr result IsNotBuilt }
-{
-    let mut headers = stored_headers(alloc, bytes, file)?;
-    let Some(names) = headers.get(file.names as usize) else {
-        return Err(not_built());
-    };
-    let names = *names;
-    let Some(texts) = content(bytes, &names) else {
-        return Err(not_built());
-    };
-    if !names.is_there || !give_codes(&mut headers, texts, bytes.len()) {
-        return Err(not_built());
-    }
-    let whole = count_of(&headers, 1) == 1 && count_of(&headers, 2) == 1;
-    let named = headers
-        .get(file.names as usize)
-        .is_some_and(|header| header.code == 0);
-    if !whole || !named || has_relocations(&headers) {
-        return Err(not_built());
-    }
-    Ok(headers)
 }

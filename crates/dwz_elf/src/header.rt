@@ -1,11 +1,13 @@
 //! The file header and the section headers, as they are stored.
 
-ghost use Rattle.std.specs.Prelude.{◌≤◌, ◌+◌, length};
+ghost use Rattle.std.specs.Prelude.{◌≡◌, ◌≤◌, ◌+◌, ◌*◌, IfOk, length};
+ghost use Rattle.dwz_docs.specs.ElfHeaders;
+ghost use Rattle.dwz_docs.specs.ElfHeaders.{number_at};
 
-use dwz_bytes::{ByteErr, Cursor};
-
-/// How many bytes a section header has.
-pub(crate) const SECTION_HEADER: usize = 64;
+use dwz_bytes::Cursor;
+use dwz_docs::{FileHeader, Header};
+use dwz_model::NoMemory;
+use std::alloc::Global;
 
 const SHT_NULL: u32 = 0;
 
@@ -19,121 +21,127 @@ const SHF_ALLOC: u64 = 2;
 
 const SHF_COMPRESSED: u64 = 0x800;
 
-/// What is read of a file header.
-#[derive(Clone, Copy, Debug)]
-pub(crate) struct FileHeader {
-    pub(crate) kind: u16,
-    pub(crate) machine: u16,
-    /// Where the section header table is, in bytes from the first of the file.
-    pub(crate) section_headers: u64,
-    pub(crate) flags: u32,
-    pub(crate) program_headers: u16,
-    pub(crate) section_header_size: u16,
-    pub(crate) sections: u16,
-    /// The index of the section that has the names of sections.
-    pub(crate) names: u16,
+// The number of two bytes at a place.
+#[tactic(auto, unfolding(dwz_docs::specs::ElfHeaders::number_at))]
+fn u16_at(bytes: &[u8], at: usize) -> u16
+    requires { at + 2 ≤ length bytes.now }
+    ensures { result ≡ number_at bytes.now at 2 }
+{
+    let mut cursor = Cursor::new(bytes, at);
+    let Ok(number) = cursor.u16() else {
+        unreachable!()
+    };
+    number
 }
 
-impl FileHeader {
-    /// The header at the front of a file that has one.
-    pub(crate) fn read(bytes: &[u8]) -> Result<FileHeader, ByteErr>
-        requires { 64 ≤ length bytes.now }
-    {
-        let mut cursor = Cursor::new(bytes, 16);
-        let kind = cursor.u16()?;
-        let machine = cursor.u16()?;
-        cursor.take(20)?;
-        let section_headers = cursor.u64()?;
-        let flags = cursor.u32()?;
-        cursor.take(4)?;
-        let program_headers = cursor.u16()?;
-        let section_header_size = cursor.u16()?;
-        let sections = cursor.u16()?;
-        let names = cursor.u16()?;
-        Ok(FileHeader {
-            kind,
-            machine,
-            section_headers,
-            flags,
-            program_headers,
-            section_header_size,
-            sections,
-            names,
-        })
+// The number of four bytes at a place.
+#[tactic(auto, unfolding(dwz_docs::specs::ElfHeaders::number_at))]
+fn u32_at(bytes: &[u8], at: usize) -> u32
+    requires { at + 4 ≤ length bytes.now }
+    ensures { result ≡ number_at bytes.now at 4 }
+{
+    let mut cursor = Cursor::new(bytes, at);
+    let Ok(number) = cursor.u32() else {
+        unreachable!()
+    };
+    number
+}
+
+// The number of eight bytes at a place.
+#[tactic(auto, unfolding(dwz_docs::specs::ElfHeaders::number_at))]
+fn u64_at(bytes: &[u8], at: usize) -> u64
+    requires { at + 8 ≤ length bytes.now }
+    ensures { result ≡ number_at bytes.now at 8 }
+{
+    let mut cursor = Cursor::new(bytes, at);
+    let Ok(number) = cursor.u64() else {
+        unreachable!()
+    };
+    number
+}
+
+/// The header at the front of a file that has one.
+pub(crate) fn file_header(bytes: &[u8]) -> FileHeader
+    requires { 64 ≤ length bytes.now }
+    ensures { result ≡ ElfHeaders.file_header bytes.now }
+{
+    FileHeader {
+        kind: u16_at(bytes, 16),
+        machine: u16_at(bytes, 18),
+        program_headers_at: u64_at(bytes, 32),
+        headers_at: u64_at(bytes, 40),
+        flags: u32_at(bytes, 48),
+        program_header_size: u16_at(bytes, 54),
+        program_headers: u16_at(bytes, 56),
+        header_size: u16_at(bytes, 58),
+        headers: u16_at(bytes, 60),
+        names: u16_at(bytes, 62),
     }
 }
 
-/// A section header, with the code of its section.
-#[derive(Clone, Copy, Debug)]
-pub(crate) struct Header {
-    /// Where the header is, in bytes from the first of the file.
-    pub(crate) at: usize,
-    /// Where the name is in the name table.
-    pub(crate) name: u32,
-    /// The section's code, or 0 where it has none.
-    pub(crate) code: u8,
-    pub(crate) kind: u32,
-    pub(crate) flags: u64,
-    pub(crate) offset: u64,
-    pub(crate) size: u64,
-    /// For relocations the index of the section that they are for.
-    pub(crate) info: u32,
-    pub(crate) align: u64,
-    /// Whether the section has a content in the file: it is neither empty by its type nor zero bytes in memory alone.
-    pub(crate) is_there: bool,
+/// The section header at a place.
+pub(crate) fn header_at(bytes: &[u8], at: usize) -> Header
+    requires { at + 64 ≤ length bytes.now }
+    ensures { result ≡ ElfHeaders.header_at bytes.now at }
+{
+    Header {
+        at: at as u64,
+        name: u32_at(bytes, at),
+        kind: u32_at(bytes, at + 4),
+        flags: u64_at(bytes, at + 8),
+        offset: u64_at(bytes, at + 24),
+        size: u64_at(bytes, at + 32),
+        info: u32_at(bytes, at + 44),
+        align: u64_at(bytes, at + 48),
+    }
 }
 
-impl Header {
-    /// The header at a place, as yet with no code.
-    pub(crate) fn read(bytes: &[u8], at: usize) -> Result<Header, ByteErr>
-        requires { at ≤ length bytes.now }
-    {
-        let mut cursor = Cursor::new(bytes, at);
-        let name = cursor.u32()?;
-        let kind = cursor.u32()?;
-        let flags = cursor.u64()?;
-        cursor.u64()?;
-        let offset = cursor.u64()?;
-        let size = cursor.u64()?;
-        cursor.u32()?;
-        let info = cursor.u32()?;
-        let align = cursor.u64()?;
-        cursor.u64()?;
-        Ok(Header {
-            at,
-            name,
-            code: 0,
-            kind,
-            flags,
-            offset,
-            size,
-            info,
-            align,
-            is_there: kind != SHT_NULL && kind != SHT_NOBITS,
-        })
+/// `count` section headers, from a place on.
+pub(crate) fn headers_from(
+    alloc: Global,
+    bytes: &[u8],
+    first: usize,
+    count: usize,
+) -> Result<Vec<Header>, NoMemory>
+    requires { first + 64 * count ≤ length bytes.now }
+    ensures { IfOk result (λ v. v.items ≡ ElfHeaders.headers_from bytes.now first count) }
+{
+    let mut headers = Vec::with_capacity(alloc, count)?;
+    for index in 0..count {
+        headers.push(header_at(bytes, first + 64 * index))?;
     }
+    Ok(headers)
+}
 
-    /// Whether the section is loaded with the program.
-    pub(crate) fn is_loaded(&self) -> bool {
-        self.flags & SHF_ALLOC != 0
-    }
+/// Whether the section has a content in the file.
+pub(crate) fn is_there(header: &Header) -> bool
+    ensures { result ≡ ElfHeaders.is_there header.now }
+{
+    header.kind != SHT_NULL && header.kind != SHT_NOBITS
+}
 
-    pub(crate) fn is_compressed(&self) -> bool {
-        self.flags & SHF_COMPRESSED != 0
-    }
+/// Whether the section is loaded with the program.
+pub(crate) fn is_loaded(header: &Header) -> bool
+    ensures { result ≡ ElfHeaders.is_loaded header.now }
+{
+    header.flags & SHF_ALLOC != 0
+}
 
-    /// Whether the section has relocations.
-    pub(crate) fn has_relocations(&self) -> bool {
-        self.is_there && (self.kind == SHT_RELA || self.kind == SHT_REL)
-    }
+pub(crate) fn is_compressed(header: &Header) -> bool
+    ensures { result ≡ ElfHeaders.is_compressed header.now }
+{
+    header.flags & SHF_COMPRESSED != 0
+}
 
-    /// Whether the section's alignment is one, and its bytes lie in a file of that length, behind the file header.
-    pub(crate) fn is_placed(&self, len: usize) -> bool {
-        let aligned = self.align == 0 || self.align.is_power_of_two();
-        let inside = match self.offset.checked_add(self.size) {
-            Some(end) => self.size == 0 || (self.offset >= 64 && end <= len as u64),
-            None => false,
-        };
-        aligned && (!self.is_there || inside)
-    }
+pub(crate) fn has_relocations(header: &Header) -> bool
+    ensures { result ≡ ElfHeaders.has_relocations header.now }
+{
+    header.kind == SHT_RELA || header.kind == SHT_REL
+}
+
+/// Where the section ends.
+pub(crate) fn end_of(header: &Header) -> u128
+    ensures { result ≡ ElfHeaders.end_of header.now }
+{
+    header.offset as u128 + header.size as u128
 }

@@ -1,13 +1,21 @@
 //! The same file with some sections replaced.
 
-ghost use Rattle.std.specs.Prelude.{◌≡◌, ◌++◌, ◌∷◌, [], ◌+◌, ◌≤◌, OnOk, OnErr, IsSome, length, option_map};
-ghost use Rattle.dwz_elf.specs.Sections.{content_in, section_in};
+ghost use Rattle.std.specs.Prelude.{◌≡◌, ◌++◌, ◌∷◌, [], OnOk, OnErr, IsSome, length};
+ghost use Rattle.dwz_docs.specs.ElfReading.{section_range};
 
-use crate::elf::{Elf, LONGEST, not_built};
-use crate::header::{Header, SECTION_HEADER};
-use crate::identification::FILE_HEADER;
-use dwz_model::{Blob, NoMemory, ReadErr};
+use crate::elf::Elf;
+use crate::header::is_there;
+use dwz_docs::Section;
+use dwz_model::{Blob, Fault, NoMemory, ReadErr, Reason};
 use std::alloc::Global;
+
+// How many bytes a file header has, and a section header.
+const FILE_HEADER: usize = 64;
+
+const SECTION_HEADER: usize = 64;
+
+// A file or a section is shorter as long as the tool is being built.
+const TOO_LONG: usize = 1 << 24;
 
 /// A section's new content.
 #[derive(Drop)]
@@ -30,11 +38,20 @@ struct Moved {
     size: u64,
 }
 
-// A section header and its index.
+// A section and its index.
 #[derive(Clone, Copy)]
 struct Indexed {
     index: usize,
-    header: Header,
+    section: Section,
+}
+
+// A file that isn't written as long as the tool is being built.
+fn not_built() -> ReadErr {
+    ReadErr::Refused(Fault {
+        section: 0,
+        at: 0,
+        reason: Reason::NotBuilt,
+    })
 }
 
 // The new content of the section with a code, if it was replaced.
@@ -48,14 +65,21 @@ fn replaced_content(replaced: &[Replaced], code: u8) -> Option<&[u8]> {
 }
 
 // The content of a section in the new file.
-fn content_of<'b>(replaced: &'b [Replaced], input: &'b [u8], header: &Header) -> Option<&'b [u8]> {
-    if header.code != 0
-        && let Some(content) = replaced_content(replaced, header.code)
+fn content_of<'b>(
+    replaced: &'b [Replaced],
+    input: &'b [u8],
+    section: &Section,
+) -> Option<&'b [u8]> {
+    if section.name.code != 0
+        && let Some(content) = replaced_content(replaced, section.name.code)
     {
         return Some(content);
     }
-    let rest = input.get(header.offset as usize..)?;
-    rest.get(..header.size as usize)
+    if section.header.size == 0 {
+        return Some(&[]);
+    }
+    let rest = input.get(section.header.offset as usize..)?;
+    rest.get(..section.header.size as usize)
 }
 
 // Zero bytes up to the next multiple of an alignment.
@@ -65,7 +89,7 @@ fn pad(out: &mut Vec<u8>, align: u64) -> Result<(), ReadErr> {
         return Ok(());
     }
     let missing = align.max(1) - over;
-    if missing > LONGEST as u64 {
+    if missing > TOO_LONG as u64 {
         return Err(not_built());
     }
     for _ in 0..missing {
@@ -96,7 +120,7 @@ impl<'a> Rebuild<'a> {
 
     /// Replaces the content of the section with a code, which is there. After an error nothing has changed.
     pub fn replace(&mut self, code: u8, bytes: Blob) -> Result<(), NoMemory>
-        requires { IsSome (section_in self.old.elf.now.headers code) }
+        requires { IsSome (section_range self.old.elf.now.sections code) }
         ensures file { self.new.elf.now ≡ self.old.elf.now }
         ensures ok { OnOk result (self.new.replaced.items ≡ self.old.replaced.items ++ record { code = code; bytes = bytes } ∷ []) }
         ensures err { OnErr result (self.new.replaced.items ≡ self.old.replaced.items) }
@@ -120,7 +144,7 @@ impl<'a> Rebuild<'a> {
         let table = out.len();
         self.put_headers(input, &moved, &mut out)?;
         set_u64(&mut out, 40, table as u64);
-        if out.len() >= LONGEST {
+        if out.len() >= TOO_LONG {
             return Err(not_built());
         }
         Ok(out)
@@ -133,18 +157,18 @@ impl<'a> Rebuild<'a> {
         input: &[u8],
         out: &mut Vec<u8>,
     ) -> Result<Vec<Option<Moved>>, ReadErr> {
-        let headers = self.elf.headers();
-        let order = in_order(alloc, headers)?;
-        let mut moved = vec![in alloc; None; headers.len()]?;
-        for section in &order {
-            let Some(content) = content_of(&self.replaced, input, &section.header) else {
+        let sections = self.elf.sections();
+        let order = in_order(alloc, sections)?;
+        let mut moved = vec![in alloc; None; sections.len()]?;
+        for Indexed { index, section } in &order {
+            let Some(content) = content_of(&self.replaced, input, section) else {
                 return Err(not_built());
             };
-            if content.len() >= LONGEST || out.len() >= LONGEST {
+            if content.len() >= TOO_LONG || out.len() >= TOO_LONG {
                 return Err(not_built());
             }
             pad(out, section.header.align)?;
-            if let Some(place) = moved.get_mut(section.index) {
+            if let Some(place) = moved.get_mut(*index) {
                 *place = Some(Moved {
                     offset: out.len() as u64,
                     size: content.len() as u64,
@@ -162,8 +186,8 @@ impl<'a> Rebuild<'a> {
         moved: &[Option<Moved>],
         out: &mut Vec<u8>,
     ) -> Result<(), ReadErr> {
-        for (header, place) in self.elf.headers().iter().zip(moved) {
-            let Some(old) = input.get(header.at..) else {
+        for (section, place) in self.elf.sections().iter().zip(moved) {
+            let Some(old) = input.get(section.header.at as usize..) else {
                 return Err(not_built());
             };
             if old.len() < SECTION_HEADER {
@@ -189,16 +213,16 @@ fn put_header(out: &mut Vec<u8>, old: &[u8], place: Option<Moved>) -> Result<(),
 }
 
 // The sections that move, in order of their old offset, and of their index among equal ones.
-fn in_order(alloc: Global, headers: &[Header]) -> Result<Vec<Indexed>, NoMemory> {
+fn in_order(alloc: Global, sections: &[Section]) -> Result<Vec<Indexed>, NoMemory> {
     let mut order = Vec::new(alloc);
-    for (index, header) in headers.iter().enumerate() {
-        if header.is_there && header.offset >= FILE_HEADER as u64 {
+    for (index, section) in sections.iter().enumerate() {
+        if is_there(&section.header) && section.header.offset >= FILE_HEADER as u64 {
             order.push(Indexed {
                 index,
-                header: *header,
+                section: *section,
             })?;
         }
     }
-    order.sort_by_key(|section| section.header.offset)?;
+    order.sort_by_key(|indexed| indexed.section.header.offset)?;
     Ok(order)
 }

@@ -1,32 +1,30 @@
--- How a run that put its file ends.
-use Rattle.std.proofs.Common.{◌≡◌, ℕ, ap, subst, sym, ◌∙◌, List, Err, None, Ok, Option, Result, Some, refl}
+-- How a run ends whose file was got.
+use Rattle.std.proofs.Common.{◌≡◌, ℕ, ap, subst, sym, ◌∙◌, List, None, Option, Some}
 use Rattle.std.specs.Prelude.{IfSome}
 use Rattle.dwz_outside.specs.Store.{Store, got, put_in}
-use Rattle.dwz_elf.specs.Identification.{not_elf_at}
+use Rattle.dwz_model.specs.declared.fault.Fault.{Fault}
 use Rattle.dwz_model.specs.declared.fault.ReadErr.{ReadErr}
-use Rattle.dwz_run.specs.Ends.{Wrote}
+use Rattle.dwz_model.specs.declared.fault.ReadErr.TheVariants.{NoMemory, Refused}
+use Rattle.dwz_run.specs.Ends.{MayBeRefused, Wrote}
+use Rattle.dwz_run.specs.Files.{IsTaken, StandsForItself}
 
-abbrev answered : (T : Type 0) → T → Result T ReadErr
-answered T x = Ok x
-
-abbrev failed : (T : Type 0) → ReadErr → Result T ReadErr
-failed T e = Err e
-
--- what isn't refused as no ELF file is one
-pub is_elf : (T : Type 0) (x : T) (o : Option ℕ) (e : ℕ → ReadErr) → IfSome o (λ at. answered T x ≡ failed T (e at)) → o ≡ None
-is_elf T x None e h = refl
-is_elf T x (Some at) e h = absurd cc
-
-pub wrote : (old mid new : Option Store) (out file input output name bytes : List ℕ) → mid ≡ old
-    → IfSome old (λ store. got store file ≡ Some input) → not_elf_at input ≡ None → name ≡ out → bytes ≡ output
+pub wrote : (old mid new : Option Store) (out file input seen output name bytes : List ℕ) → mid ≡ old → seen ≡ input
+    → IfSome old (λ store. got store file ≡ Some input) → IsTaken seen → (StandsForItself seen → output ≡ seen) → name ≡ out → bytes ≡ output
     → IfSome mid (λ store. new ≡ Some (put_in name bytes store)) → IfSome old (λ store. Wrote out file store new)
-wrote None mid new out file input output name bytes same held elf named is put = tt
-wrote (Some store) mid new out file input output name bytes same held elf named is put =
+wrote None mid new out file input seen output name bytes same is_input held taken itself named is put = tt
+wrote (Some store) mid new out file input seen output name bytes same is_input held taken itself named is put =
     let there : IfSome (Some store) (λ store. new ≡ Some (put_in name bytes store)) = subst (λ (o : Option Store). IfSome o (λ store. new ≡ Some (put_in name bytes store))) same put in
     record {
       input = input;
       output = output;
       was_held = held;
-      is_elf = elf;
+      taken = subst IsTaken is_input taken;
+      itself = subst (λ (bs : List ℕ). StandsForItself bs → output ≡ bs) is_input itself;
       held = there ∙ ap (λ (n : List ℕ). Some (put_in n bytes store)) named ∙ ap (λ (b : List ℕ). Some (put_in out b store)) is;
     }
+
+pub refused : (old : Option Store) (file input seen : List ℕ) (f : Fault) → seen ≡ input → IfSome old (λ store. got store file ≡ Some input)
+    → (StandsForItself seen → Refused f ≡ NoMemory) → IfSome old (MayBeRefused file)
+refused None file input seen f is_input held lasts = tt
+refused (Some store) file input seen f is_input held lasts =
+    record { input = input; was_held = held; other = λ itself. absurd let no : Refused f ≡ NoMemory = lasts (subst StandsForItself (sym is_input) itself) in cc }

@@ -1,9 +1,11 @@
 //! One file, read and written again with repeated entries stored once.
 
-ghost use Rattle.std.specs.Prelude.{◌≡◌, Err, IfSome};
-ghost use Rattle.dwz_elf.specs.Faults.{not_elf};
-ghost use Rattle.dwz_elf.specs.Identification.{not_elf_at};
-ghost use Rattle.dwz_model.specs.declared.fault.ReadErr.TheVariants.{Refused};
+ghost use Rattle.std.specs.Prelude.{◌≡◌, ◌↔◌, ◌<◌, ◌^◌, Err, IfErr, IfOk, IsTrue, Some, length};
+ghost use Rattle.dwz_docs.specs.ElfReading.{elf_of, identification_fault};
+ghost use Rattle.dwz_model.specs.declared.fault.Fault.{Fault};
+ghost use Rattle.dwz_model.specs.declared.fault.Reason.TheVariants.{NotElf};
+ghost use Rattle.dwz_model.specs.declared.fault.ReadErr.TheVariants.{NoMemory, Refused};
+ghost use Rattle.dwz_run.specs.Files.{HasNoUnits, IsTaken, StandsForItself};
 
 use crate::alike::{Classes, Unit, units_of};
 use crate::faults::not_built;
@@ -11,7 +13,7 @@ use crate::plan::{Partials, imports_of, partials_of};
 use crate::reading::{Headers, read_headers, read_rows};
 use crate::writing::{Entries, Output};
 use dwz_elf::{Elf, Rebuild};
-use dwz_model::{Blob, ReadErr};
+use dwz_model::{Blob, Fault, ReadErr, Reason};
 use std::alloc::Global;
 
 const PARTIAL_UNIT: u16 = 0x3c;
@@ -24,21 +26,75 @@ const INFO: u8 = 1;
 
 const ABBREV: u8 = 2;
 
+// What is written is shorter as long as the tool is being built.
+const TOO_LONG: usize = 1 << 24;
+
 /// The bytes of the file that stands for one with these bytes: repeated tops are in partial units, which their users
 /// import. A file of which nothing moves stands for itself.
 ///
 /// Refused with `NotElf`, `UnsupportedForm` or `Truncated` at its place, and with `NotBuilt` where the file isn't one of
 /// those that are read as long as the tool is being built.
 pub fn one_file(alloc: Global, bytes: &[u8]) -> Result<Vec<u8>, ReadErr>
-    ensures not_elf { IfSome (not_elf_at bytes.now) (λ at. result ≡ Err (Refused (not_elf at))) }
+    ensures not_elf { (f : Fault) → identification_fault bytes.now ≡ Some f → result ≡ Err (Refused f) }
+    ensures taken { IfOk result (λ out. IsTaken bytes.now) }
+    ensures itself { StandsForItself bytes.now → IfOk result (λ out. out.items ≡ bytes.now) }
+    ensures lasts { StandsForItself bytes.now → IfErr result (λ e. e ≡ NoMemory) }
 {
-    let elf = Elf::read(alloc, bytes)?;
+    let elf = read_elf(alloc, bytes)?;
+    if has_no_units(&elf) {
+        return itself(alloc, bytes);
+    }
     let headers = read_headers(
         alloc,
         section(bytes, &elf, INFO)?,
         section(bytes, &elf, ABBREV)?,
     )?;
     rewritten(alloc, bytes, &elf, &headers)
+}
+
+// A fault as it is answered: as long as the tool is being built, of these only that of a file that isn't an ELF file.
+fn as_answered(fault: Fault) -> ReadErr
+    ensures { fault.reason ≡ NotElf → result ≡ Refused fault }
+{
+    match fault.reason {
+        Reason::NotElf => ReadErr::Refused(fault),
+        _ => not_built(),
+    }
+}
+
+// The sections of a file that is taken as long as the tool is being built.
+fn read_elf(alloc: Global, bytes: &[u8]) -> Result<Elf, ReadErr>
+    ensures not_elf { (f : Fault) → identification_fault bytes.now ≡ Some f → result ≡ Err (Refused f) }
+    ensures ok { IfOk result (λ elf. (elf ≡ elf_of bytes.now) × IsTaken bytes.now) }
+    ensures err { IsTaken bytes.now → IfErr result (λ e. e ≡ NoMemory) }
+{
+    let elf = match Elf::read(alloc, bytes) {
+        Ok(elf) => elf,
+        Err(ReadErr::Refused(fault)) => return Err(as_answered(fault)),
+        Err(ReadErr::NoMemory) => return Err(ReadErr::NoMemory),
+    };
+    if !elf.is_plain() {
+        return Err(not_built());
+    }
+    Ok(elf)
+}
+
+// Whether `.debug_info` is empty.
+fn has_no_units(elf: &Elf) -> bool
+    ensures { IsTrue result ↔ HasNoUnits elf.now }
+{
+    matches!(elf.section(INFO), Some((_, 0)))
+}
+
+// The bytes of a file of which nothing moves.
+fn itself(alloc: Global, bytes: &[u8]) -> Result<Vec<u8>, ReadErr>
+    ensures ok { IfOk result (λ out. out.items ≡ bytes.now) }
+    ensures err { length bytes.now < 2 ^ 24 → IfErr result (λ e. e ≡ NoMemory) }
+{
+    if bytes.len() >= TOO_LONG {
+        return Err(not_built());
+    }
+    Ok(Vec::from_slice(alloc, bytes)?)
 }
 
 // The file's bytes with repeated tops moved.
@@ -52,7 +108,7 @@ fn rewritten<'a>(
     let (units, classes) = units_of(alloc, &rows)?;
     let partials = partials_of(alloc, &classes)?;
     if partials.is_empty() {
-        return Ok(Vec::from_slice(alloc, bytes)?);
+        return itself(alloc, bytes);
     }
     let output = write(alloc, &units, &classes, &partials)?;
     replaced(alloc, bytes, elf, output)

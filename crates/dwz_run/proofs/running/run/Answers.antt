@@ -1,7 +1,7 @@
-use Rattle.std.proofs.Common.{ℕ, List, Option, Some, refl, subst, sym, ap, ◌∙◌}
-use Rattle.dwz_elf.specs.Identification.{not_elf_at}
+use Rattle.std.proofs.Common.{ℕ, List, Option, Some, Err, Ok, IfErr, IfOk, refl, subst, sym, ap, ◌∙◌}
 use Rattle.dwz_outside.specs.Counts.{Rose}
-use Rattle.dwz_run.proofs.Endings.{is_elf, wrote}
+use Rattle.dwz_run.specs.Files.{StandsForItself}
+use Rattle.dwz_run.proofs.Endings.{refused, wrote}
 use Rattle.dwz_run.proofs.running.run.Goals as goal
 
 abbrev some_name : List ℕ → Option (List ℕ)
@@ -12,11 +12,19 @@ returns-in-Err-Failed-clause-ends g c =
     let why = (rw c.in-Err-Failed.field-0-is at c.in-Err-Failed.ensures.failed) refl in
     (record { out = c.in-Some.asked.out.now; file = c.in-Some.asked.file.now; lawful = c.in-Some.ensures.lawful }, why.0, why.1, c.get.ensures.held)
 
+pub returns-in-Err-Refused-clause-ends : goal.returns-in-Err-Refused-clause-ends
+returns-in-Err-Refused-clause-ends g c = (
+  record { out = c.in-Some.asked.out.now; file = c.in-Some.asked.file.now; lawful = c.in-Some.ensures.lawful },
+  refused _ _ _ _ c.in-Err-Refused.field-0-0 c.deref.ensures.value c.in-Ok.ensures.content
+      (rw c.in-Err-Refused.field-0-is at c.in-Err-Refused.ensures.lasts),
+  c.get.ensures.held,
+)
+
 pub returns-in-Ok-put-clause-ends : goal.returns-in-Ok-put-clause-ends
 returns-in-Ok-put-clause-ends g c = (
   record { out = c.in-Some.asked.out.now; file = c.in-Some.asked.file.now; lawful = c.in-Some.ensures.lawful },
-  wrote _ _ _ _ _ c.in-Ok.input.items c.in-Ok-one_file.output.items _ _ c.get.ensures.held c.in-Ok.ensures.content
-      (ap not_elf_at (sym c.deref.ensures.value) ∙ is_elf _ _ _ _ c.in-Ok-one_file.ensures.not_elf)
+  wrote _ _ _ _ _ c.in-Ok.input.items c.deref.result.now c.in-Ok-one_file.output.items _ _ c.get.ensures.held c.deref.ensures.value c.in-Ok.ensures.content
+      c.in-Ok-one_file.ensures.taken c.in-Ok-one_file.ensures.itself
       c.in-Ok-from_slice.ensures.items c.deref-2.ensures.value c.in-Ok-put.ensures.done,
 )
 

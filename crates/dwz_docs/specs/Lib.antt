@@ -1,0 +1,4 @@
+pub mod ElfHeaders
+pub mod ElfNames
+pub mod ElfFaults
+pub mod ElfReading

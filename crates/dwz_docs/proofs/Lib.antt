@@ -1,1 +1,11 @@
+pub mod PartLemmas
+pub mod TextLemmas
+pub mod ReadLemmas
+pub mod ValueLemmas
+pub mod WrittenLemmas
+pub mod ListLemmas
+pub mod AbbrevLemmas
+pub mod TableLemmas
 pub mod ElfFaultLemmas
+pub mod TreeLemmas
+pub mod TreeSteps

@@ -27,11 +27,14 @@ elf_of bytes = record { length = length bytes; file = file_header bytes; section
 abbrev pub has_code : ℕ → Section → Bool
 has_code code s = is_there s.header && s.name.code == code
 
--- The range of the first section with a code that is there, in bytes from the first of the file. In a file that is read no
--- two have one code.
+abbrev pub range_in : List Section → ℕ → Option (ℕ × ℕ)
+range_in [] code = None
+range_in (s ∷ sections) code = if has_code code s then Some (s.header.offset, s.header.size) else range_in sections code
+
+-- The range of the section with a code, in bytes from the first of the file: of the first that is there, and in a file that
+-- is read no two have one code. 0 is no section's code.
 unfoldable pub section_range : List Section → ℕ → Option (ℕ × ℕ)
-section_range [] code = None
-section_range (s ∷ sections) code = if has_code code s then Some (s.header.offset, s.header.size) else section_range sections code
+section_range sections code = if code == 0 then None else range_in sections code
 
 -- ---- the first fault
 

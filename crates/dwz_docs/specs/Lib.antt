@@ -1,4 +1,12 @@
+pub mod Parts
+pub mod Lists
+pub mod Faults
+pub mod Texts
+pub mod Values
+pub mod Abbrevs
 pub mod ElfHeaders
 pub mod ElfNames
 pub mod ElfFaults
 pub mod ElfReading
+pub mod Trees
+pub mod ElfLayout

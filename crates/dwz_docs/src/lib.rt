@@ -1,9 +1,18 @@
-//! What files mean. The definitions stand in `specs/`; here are the records that they speak of, and laws, which are
-//! functions without a body.
+//! What files mean: how their parts are spelled (DWARF 5, chapter 7; ELF-64 Object File Format), what reading them gives,
+//! and where it stops.
+//!
+//! There is no running code here. The definitions stand in `specs/`; here are the records that they speak of, and laws,
+//! which are functions without a body.
 #![tactic(auto)]
 
+mod abbrevs;
 mod elf;
-mod laws;
+mod elf_faults;
+mod texts;
+mod values;
 
-pub use elf::{FileHeader, Header, Name, Section};
-pub use laws::elf_fault_laws;
+pub use abbrevs::table_laws;
+pub use elf::{FileHeader, Header, Moved, Name, NewContent, Section};
+pub use elf_faults::elf_fault_laws;
+pub use texts::{slot_laws, text_laws};
+pub use values::value_laws;

@@ -3,7 +3,7 @@
 ghost use Rattle.std.specs.Prelude.{◌≡◌, ◌≤◌, ◌<◌, ◌↔◌, All, Err, IsTrue, IfNone, IfOk, Some, length, map};
 ghost use Rattle.dwz_docs.specs.ElfHeaders;
 ghost use Rattle.dwz_docs.specs.ElfNames;
-ghost use Rattle.dwz_docs.specs.ElfReading.{elf_fault, elf_of, section_range};
+ghost use Rattle.dwz_docs.specs.ElfReading.{elf_fault, elf_of, range_in, section_range};
 ghost use Rattle.dwz_elf.specs.Plain.{IsPlain, IsPlainSection};
 ghost use Rattle.dwz_elf.specs.Reads.{Gives, IsWhole, front_fault_of, rest_fault_of};
 ghost use Rattle.dwz_model.specs.declared.fault.Fault.{Fault};
@@ -153,17 +153,23 @@ impl Elf {
     }
 
     /// The offset in the file and the size of the section with a code, in bytes. None exactly where no section with that
-    /// code is there: the file has none, or it has no content in the file.
+    /// code is there: the file has none, or it has no content in the file. 0 is no section's code.
     pub fn section(&self, code: u8) -> Option<(u64, u64)>
         ensures { result ≡ section_range self.now.sections code }
     {
         range_of(&self.sections, code)
     }
 
+    pub(crate) fn file(&self) -> FileHeader
+        ensures { result ≡ self.now.file }
+    {
+        self.file
+    }
+
     pub(crate) fn sections(&self) -> &[Section]
         ensures { result.now ≡ self.now.sections }
     {
-        self.sections.as_slice()
+        &self.sections
     }
 
     /// Whether the file is one of those that are handled as long as the tool is being built: it has at most 2^24 bytes, no
@@ -195,10 +201,20 @@ fn is_plain_section(section: &Section) -> bool
         && (!is_there(&section.header) || !name.is_debug || name.code == 1 || name.code == 2)
 }
 
-// The range of the first section with a code that is there.
+// The range of the section with a code.
 #[tactic(auto, unfolding(dwz_docs::specs::ElfReading::section_range))]
 fn range_of(sections: &[Section], code: u8) -> Option<(u64, u64)>
     ensures { result ≡ section_range sections.now code }
+{
+    if code == 0 {
+        return None;
+    }
+    first_range(sections, code)
+}
+
+// The range of the first section with a code that is there.
+fn first_range(sections: &[Section], code: u8) -> Option<(u64, u64)>
+    ensures { result ≡ range_in sections.now code }
 {
     for section in sections {
         if is_there(&section.header) && section.name.code == code {

@@ -1,228 +1,123 @@
 //! The same file with some sections replaced.
 
-ghost use Rattle.std.specs.Prelude.{◌≡◌, ◌++◌, ◌∷◌, [], OnOk, OnErr, IsSome, length};
+ghost use Rattle.std.specs.Prelude.{◌≡◌, ℕ, ◌<◌, ◌≤◌, [], None, Some, IsSome, IsNone, IfOk, OnOk, OnErr};
+ghost use Rattle.dwz_docs.specs.ElfLayout;
 ghost use Rattle.dwz_docs.specs.ElfReading.{section_range};
+ghost use Rattle.dwz_elf.specs.Rebuilds.{Finishes, IsWritten, changes_of, replaced, with_sup};
 
+use crate::edits::{Edits, sup_bytes};
 use crate::elf::Elf;
-use crate::header::is_there;
-use dwz_docs::Section;
+use crate::layout::{self, TOO_LARGE};
+use crate::output::{file_of, new_count};
+use dwz_docs::NewContent;
 use dwz_model::{Blob, Fault, NoMemory, ReadErr, Reason};
 use std::alloc::Global;
+use std::marker::Model;
 
-// How many bytes a file header has, and a section header.
-const FILE_HEADER: usize = 64;
-
-const SECTION_HEADER: usize = 64;
-
-// A file or a section is shorter as long as the tool is being built.
-const TOO_LONG: usize = 1 << 24;
-
-/// A section's new content.
-#[derive(Drop)]
-pub(crate) struct Replaced {
-    code: u8,
-    bytes: Blob,
-}
-
-/// A file that is to be made from another one.
+/// A file that is to be made from another one: its bytes that are loaded stay, and the other sections are written again
+/// behind them, some with a new content.
 #[derive(Drop)]
 pub struct Rebuild<'a> {
     elf: &'a Elf,
-    replaced: Vec<Replaced>,
+    edits: Edits,
 }
 
-// Where a section's content stands in the new file.
-#[derive(Clone, Copy)]
-struct Moved {
-    offset: u64,
-    size: u64,
-}
+impl<'a> Model for Rebuild<'a> {
+    ghost use Rattle.dwz_elf.specs.Rebuilds.{RebuildView, changes_of};
 
-// A section and its index.
-#[derive(Clone, Copy)]
-struct Indexed {
-    index: usize,
-    section: Section,
-}
+    ghost Value = { RebuildView };
 
-// A file that isn't written as long as the tool is being built.
-fn not_built() -> ReadErr {
-    ReadErr::Refused(Fault {
-        section: 0,
-        at: 0,
-        reason: Reason::NotBuilt,
-    })
-}
-
-// The new content of the section with a code, if it was replaced.
-fn replaced_content(replaced: &[Replaced], code: u8) -> Option<&[u8]> {
-    for section in replaced {
-        if section.code == code {
-            return Some(section.bytes.as_slice());
-        }
-    }
-    None
-}
-
-// The content of a section in the new file.
-fn content_of<'b>(
-    replaced: &'b [Replaced],
-    input: &'b [u8],
-    section: &Section,
-) -> Option<&'b [u8]> {
-    if section.name.code != 0
-        && let Some(content) = replaced_content(replaced, section.name.code)
-    {
-        return Some(content);
-    }
-    if section.header.size == 0 {
-        return Some(&[]);
-    }
-    let rest = input.get(section.header.offset as usize..)?;
-    rest.get(..section.header.size as usize)
-}
-
-// Zero bytes up to the next multiple of an alignment.
-fn pad(out: &mut Vec<u8>, align: u64) -> Result<(), ReadErr> {
-    let over = out.len() as u64 % align.max(1);
-    if over == 0 {
-        return Ok(());
-    }
-    let missing = align.max(1) - over;
-    if missing > TOO_LONG as u64 {
-        return Err(not_built());
-    }
-    for _ in 0..missing {
-        out.push(0)?;
-    }
-    Ok(())
-}
-
-// Writes a number of 8 bytes over those at a place.
-fn set_u64(out: &mut [u8], at: usize, value: u64) {
-    let bytes = value.to_le_bytes();
-    for (byte, new) in out.iter_mut().skip(at).zip(bytes) {
-        *byte = new;
-    }
+    ghost view = { λ r. record { elf = r.elf.now; changes = changes_of r.edits } };
 }
 
 impl<'a> Rebuild<'a> {
-    /// The file as it is.
+    /// The file with nothing new.
     pub fn new(alloc: Global, elf: &'a Elf) -> Rebuild<'a>
-        ensures file { result.elf.now ≡ elf.now }
-        ensures none { result.replaced.items ≡ [] }
+        ensures file { result.elf ≡ elf.now }
+        ensures none { result.changes.new ≡ [] }
+        ensures no_sup { result.changes.sup ≡ None }
     {
         Rebuild {
             elf,
-            replaced: Vec::new(alloc),
+            edits: Edits {
+                replaced: Vec::new(alloc),
+                sup: None,
+            },
         }
     }
 
-    /// Replaces the content of the section with a code, which is there. After an error nothing has changed.
+    /// Gives the section with a code, which is there, a new content, in place of one that was given before. After an error
+    /// nothing has changed.
     pub fn replace(&mut self, code: u8, bytes: Blob) -> Result<(), NoMemory>
-        requires { IsSome (section_range self.old.elf.now.sections code) }
-        ensures file { self.new.elf.now ≡ self.old.elf.now }
-        ensures ok { OnOk result (self.new.replaced.items ≡ self.old.replaced.items ++ record { code = code; bytes = bytes } ∷ []) }
-        ensures err { OnErr result (self.new.replaced.items ≡ self.old.replaced.items) }
+        requires { IsSome (section_range self.old.elf.sections code) }
+        ensures ok { OnOk result (self.new ≡ replaced code bytes self.old) }
+        ensures err { OnErr result (self.new ≡ self.old) }
     {
-        self.replaced.push(Replaced { code, bytes })?;
+        self.edits.replaced.insert(0, NewContent { code, bytes })?;
+        Ok(())
+    }
+
+    /// Adds `.debug_sup`, where none was added. It comes to be the last section. After an error nothing has changed.
+    pub fn add_sup(&mut self, bytes: Blob) -> Result<(), NoMemory>
+        requires { self.old.changes.sup ≡ None }
+        ensures ok { OnOk result (self.new ≡ with_sup bytes self.old) }
+        ensures err { OnErr result (self.new ≡ self.old) }
+    {
+        self.edits.sup = Some(bytes);
         Ok(())
     }
 
     /// The file's bytes. `input` is what the sections were read from.
     ///
-    /// Sections follow the file header in order of their old offset, each at a multiple of its alignment, and then the
-    /// section header table. Refused with `NotBuilt` where the file or a section would have 2^24 bytes or more.
-    pub fn finish(&self, alloc: Global, input: &[u8]) -> Result<Vec<u8>, ReadErr> {
-        let mut out = Vec::new(alloc);
-        let Some(front) = input.get(..FILE_HEADER) else {
-            return Err(not_built());
-        };
-        out.extend_from_slice(front)?;
-        let moved = self.put_sections(alloc, input, &mut out)?;
-        pad(&mut out, 8)?;
-        let table = out.len();
-        self.put_headers(input, &moved, &mut out)?;
-        set_u64(&mut out, 40, table as u64);
-        if out.len() >= TOO_LONG {
-            return Err(not_built());
+    /// Refused with `Layout`, section 0, at the first section header whose section begins among the bytes that stay, and
+    /// gets another content or ends behind them; the name table gets another content where `.debug_sup` was added. Refused
+    /// with `TooLarge`, section 0, at 0, where it isn't refused so and the file would have 2^32 - 16 bytes or more.
+    pub fn finish(&self, alloc: Global, input: &[u8]) -> Result<Vec<u8>, ReadErr>
+        ensures { Finishes (λ out. out.items) self.now input.now result }
+    {
+        let keep = layout::keep_end(self.elf);
+        if let Some(fault) = layout::layout_fault(self.elf, &self.edits, keep) {
+            return Err(ReadErr::Refused(fault));
         }
-        Ok(out)
-    }
-
-    // Appends the sections, and says where each stands.
-    fn put_sections(
-        &self,
-        alloc: Global,
-        input: &[u8],
-        out: &mut Vec<u8>,
-    ) -> Result<Vec<Option<Moved>>, ReadErr> {
-        let sections = self.elf.sections();
-        let order = in_order(alloc, sections)?;
-        let mut moved = vec![in alloc; None; sections.len()]?;
-        for Indexed { index, section } in &order {
-            let Some(content) = content_of(&self.replaced, input, section) else {
-                return Err(not_built());
-            };
-            if content.len() >= TOO_LONG || out.len() >= TOO_LONG {
-                return Err(not_built());
-            }
-            pad(out, section.header.align)?;
-            if let Some(place) = moved.get_mut(*index) {
-                *place = Some(Moved {
-                    offset: out.len() as u64,
-                    size: content.len() as u64,
-                });
-            }
-            out.extend_from_slice(content)?;
+        let order = layout::order_of(alloc, self.elf, keep)?;
+        match written(alloc, self.elf, &self.edits, input, keep, &order)? {
+            Some(out) => Ok(out),
+            None => Err(ReadErr::Refused(Fault {
+                section: 0,
+                at: 0,
+                reason: Reason::TooLarge,
+            })),
         }
-        Ok(moved)
-    }
-
-    // Appends the section headers with their new places.
-    fn put_headers(
-        &self,
-        input: &[u8],
-        moved: &[Option<Moved>],
-        out: &mut Vec<u8>,
-    ) -> Result<(), ReadErr> {
-        for (section, place) in self.elf.sections().iter().zip(moved) {
-            let Some(old) = input.get(section.header.at as usize..) else {
-                return Err(not_built());
-            };
-            if old.len() < SECTION_HEADER {
-                return Err(not_built());
-            }
-            put_header(out, &old[..SECTION_HEADER], *place)?;
-        }
-        Ok(())
     }
 }
 
-// Appends a section header with the section's new place, if it moved.
-fn put_header(out: &mut Vec<u8>, old: &[u8], place: Option<Moved>) -> Result<(), NoMemory>
-    requires { length old.now ≡ 64 }
+// The file whose sections are in that order. None where it is too large.
+fn written(
+    alloc: Global,
+    elf: &Elf,
+    edits: &Edits,
+    input: &[u8],
+    keep: u128,
+    order: &[(u64, usize)],
+) -> Result<Option<Vec<u8>>, NoMemory>
+    requires { keep ≡ ElfLayout.keep_end elf.now }
+    ensures { IfOk result (IsWritten (λ out. out.items) elf.now (changes_of edits.now) input.now order.now) }
 {
-    let Some(place) = place else {
-        return out.extend_from_slice(old);
-    };
-    out.extend_from_slice(&old[..24])?;
-    out.extend_from_slice(&place.offset.to_le_bytes())?;
-    out.extend_from_slice(&place.size.to_le_bytes())?;
-    out.extend_from_slice(&old[40..])
-}
-
-// The sections that move, in order of their old offset, and of their index among equal ones.
-fn in_order(alloc: Global, sections: &[Section]) -> Result<Vec<Indexed>, NoMemory> {
-    let mut order = Vec::new(alloc);
-    for (index, section) in sections.iter().enumerate() {
-        if is_there(&section.header) && section.header.offset >= FILE_HEADER as u64 {
-            order.push(Indexed {
-                index,
-                section: *section,
-            })?;
-        }
+    if keep >= TOO_LARGE as u128 {
+        return Ok(None);
     }
-    order.sort_by_key(|indexed| indexed.section.header.offset)?;
-    Ok(order)
+    let keep = keep as u64;
+    let Some(places) = layout::place(alloc, elf, edits, input, keep, order)? else {
+        return Ok(None);
+    };
+    let sup_end = places.end as u128 + sup_bytes(edits).len() as u128;
+    if sup_end >= TOO_LARGE as u128 {
+        return Ok(None);
+    }
+    let headers_at = layout::up(sup_end as u64, 8);
+    if headers_at + 64 * new_count(elf, edits) as u128 >= TOO_LARGE as u128 {
+        return Ok(None);
+    }
+    let out = file_of(alloc, elf, edits, input, keep, &places, headers_at as u64)?;
+    Ok(Some(out))
 }

@@ -123,7 +123,11 @@ fn replaced(alloc: Global, bytes: &[u8], elf: &Elf, output: Output) -> Result<Ve
     let mut rebuild = Rebuild::new(alloc, elf);
     rebuild.replace(INFO, Blob::new(info))?;
     rebuild.replace(ABBREV, Blob::new(abbrev))?;
-    rebuild.finish(alloc, bytes)
+    match rebuild.finish(alloc, bytes) {
+        Ok(file) if file.len() < TOO_LONG => Ok(file),
+        Ok(_) | Err(ReadErr::Refused(_)) => Err(not_built()),
+        Err(ReadErr::NoMemory) => Err(ReadErr::NoMemory),
+    }
 }
 
 // The bytes of a section that is there.

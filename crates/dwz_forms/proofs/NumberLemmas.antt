@@ -1,0 +1,94 @@
+-- Numbers that are written: that the casts keep them, their low bytes, and lengths.
+use Rattle.std.proofs.Common.{◌≡◌, ℕ, zero, suc, ◌+◌, ◌*◌, ◌/◌, ◌%◌, ◌^◌, ◌<◌, ◌≤◌, ◌-◌, List, [], ◌∷◌, ◌++◌, length, take, refl, sym, ap, subst, ◌∙◌, arith, true}
+use Rattle.std.specs.Prelude.{ℤ, pos}
+use Rattle.std.specs.Int.{byte_at, bytes_low_first, to_le_bytes, w64}
+use Rattle.std.proofs.Math.Nat.{div-div-eq-div-mul, div-one, pow-suc}
+use Rattle.std.proofs.lemmas.Bool.{ltb-true}
+use Rattle.std.proofs.lemmas.List.{length-append}
+use Rattle.dwz_bytes.specs.Spelling.{fits_i64, le_bytes, sleb, uleb}
+use Rattle.dwz_bytes.proofs.PaddedLemmas.{padded_len}
+use Rattle.dwz_codes.specs.declared.shape.Shape.{Shape}
+use Rattle.dwz_codes.specs.declared.shape.Shape.TheVariants.{Nothing, Refused, Fixed1, Fixed2, Fixed3, Fixed4, Fixed8, Fixed16, Uleb, Sleb, ZeroEnded, Block1, Block2, Block4, BlockUleb, Address}
+use Rattle.dwz_docs.specs.Values.{AreBytes, HasSpelling, Number, Raw, SpellsShape, constant_of, number_bytes, run_bytes, shape_of, unsigned, written_rows}
+use Rattle.dwz_docs.proofs.WrittenLemmas.{fixed_less}
+use Rattle.dwz_forms.specs.Numbers.{FitsNumber, IsUnsigned}
+use Rattle.dwz_forms.specs.Sizes.{number_len, run_len}
+
+-- ---- that the casts keep a number
+
+same_number : (y z : ℤ) → Number y ≡ Number z → y ≡ z
+same_number y z e = cc
+
+is_unsigned : (z : ℤ) (n : ℕ) → Number z ≡ unsigned n → n < 2 ^ 64 → IsUnsigned z
+is_unsigned z n e lt = subst IsUnsigned (sym (same_number z (pos n) e)) lt
+
+fits : (shape : Shape) (number : ℤ) (bytes : List ℕ) (z : ℤ) → AreBytes bytes → SpellsShape shape number bytes (Number z) → FitsNumber shape z
+fits Fixed1 number bytes z are is = is_unsigned z is.content is.value (let less = fixed_less 1 is.content bytes are is.spelled in omega (arith, less))
+fits Fixed2 number bytes z are is = is_unsigned z is.content is.value (let less = fixed_less 2 is.content bytes are is.spelled in omega (arith, less))
+fits Fixed3 number bytes z are is = is_unsigned z is.content is.value (let less = fixed_less 3 is.content bytes are is.spelled in omega (arith, less))
+fits Fixed4 number bytes z are is = is_unsigned z is.content is.value (let less = fixed_less 4 is.content bytes are is.spelled in omega (arith, less))
+fits Fixed8 number bytes z are is = is_unsigned z is.content is.value (let less = fixed_less 8 is.content bytes are is.spelled in omega (arith, less))
+fits Address number bytes z are is = is_unsigned z is.content is.value (let less = fixed_less 8 is.content bytes are is.spelled in omega (arith, less))
+fits Uleb number bytes z are is = is_unsigned z is.content is.value (ltb-true is.content (2 ^ 64) is.spelled.in_range)
+fits Sleb number bytes z are is = subst (λ (y : ℤ). fits_i64 y ≡ true) (sym (same_number z is.content is.value)) is.spelled.in_range
+fits _ number bytes z are is = tt
+
+pub spelled_fits : (form : ℕ) (z : ℤ) → HasSpelling form (Number z) → FitsNumber (shape_of written_rows form) z
+spelled_fits form z h =
+    subst (λ (g : ℕ). FitsNumber (shape_of written_rows g) z) h.of_form
+    (fits (shape_of written_rows h.pair.form) (constant_of h.pair) h.bytes z h.are_bytes h.spelled)
+
+-- ---- the low bytes of a number
+
+low_first : (k i n : ℕ) → bytes_low_first i k n ≡ le_bytes k (n / 256 ^ i)
+unfolding le_bytes
+low_first zero i n = refl
+low_first (suc k) zero n =
+    let one : n / 256 ^ 0 ≡ n = div-one n in
+    let rest : bytes_low_first 1 k n ≡ le_bytes k (n / 256) = low_first k 1 n in
+    rw (one, rest) refl
+low_first (suc k) (suc i) n =
+    let rest = low_first k (suc (suc i)) n in
+    let deeper : n / 256 ^ suc (suc i) ≡ n / 256 ^ suc i / 256 = ap (λ (m : ℕ). n / m) (pow-suc 256 (suc i)) ∙ sym (div-div-eq-div-mul n (256 ^ suc i) 256) in
+    ap (λ (bytes : List ℕ). n / 256 ^ suc i % 256 ∷ bytes) (rest ∙ ap (le_bytes k) deeper)
+
+take_le : (k m n : ℕ) → take k (le_bytes (k + m) n) ≡ le_bytes k n
+unfolding le_bytes
+take_le zero m n = refl
+take_le (suc k) m n = let next : suc k + m ≡ suc (k + m) = omega arith in rw next (ap (λ (bytes : List ℕ). n % 256 ∷ bytes) (take_le k m (n / 256)))
+
+pub low_bytes : (k n : ℕ) → k ≤ 8 → take k (to_le_bytes w64 n) ≡ le_bytes k n
+low_bytes k n le =
+    let all : to_le_bytes w64 n ≡ le_bytes 8 n = low_first 8 0 n ∙ ap (le_bytes 8) (div-one n) in
+    let eight : 8 ≡ k + (8 - k) = omega arith in
+    ap (take k) (all ∙ ap (λ (m : ℕ). le_bytes m n) eight) ∙ take_le k (8 - k) n
+
+-- ---- lengths
+
+le_len : (k n : ℕ) → length (le_bytes k n) ≡ k
+unfolding le_bytes
+le_len zero n = refl
+le_len (suc k) n = let rest = le_len k (n / 256) in omega arith
+
+front_len : (k n : ℕ) (content : List ℕ) → length (le_bytes k n ++ content) ≡ k + length content
+front_len k n content = length-append (le_bytes k n) content ∙ ap (λ (m : ℕ). m + length content) (le_len k n)
+
+pub length-number_bytes : (shape : Shape) (z : ℤ) → number_len shape z ≡ length (number_bytes shape z)
+length-number_bytes Fixed1 z = sym (le_len 1 _)
+length-number_bytes Fixed2 z = sym (le_len 2 _)
+length-number_bytes Fixed3 z = sym (le_len 3 _)
+length-number_bytes Fixed4 z = sym (le_len 4 _)
+length-number_bytes Fixed8 z = sym (le_len 8 _)
+length-number_bytes Address z = sym (le_len 8 _)
+length-number_bytes Uleb z = sym (padded_len _ _)
+length-number_bytes Sleb z = sym (padded_len _ _)
+length-number_bytes _ z = refl
+
+pub length-run_bytes : (shape : Shape) (content : List ℕ) → run_len shape content ≡ length (run_bytes shape content)
+length-run_bytes Fixed16 content = refl
+length-run_bytes ZeroEnded content = sym (length-append content (0 ∷ []))
+length-run_bytes Block1 content = sym (front_len 1 (length content) content)
+length-run_bytes Block2 content = sym (front_len 2 (length content) content)
+length-run_bytes Block4 content = sym (front_len 4 (length content) content)
+length-run_bytes BlockUleb content = sym (length-append (uleb (length content)) content ∙ ap (λ (m : ℕ). m + length content) (padded_len _ _))
+length-run_bytes _ content = refl

@@ -1,0 +1,3 @@
+pub mod RawValues
+pub mod Numbers
+pub mod Sizes

@@ -1,0 +1,170 @@
+//! Values that are read.
+
+ghost use Rattle.std.specs.Prelude.{◌≡◌, ◌<◌, ◌≤◌, ◌==◌, length, position, take, IfOk, IfSome};
+ghost use Rattle.std.specs.Option.{option_map};
+ghost use Rattle.dwz_bytes.specs.Input.{input};
+ghost use Rattle.dwz_bytes.specs.Reading.{fixed_at};
+ghost use Rattle.dwz_bytes.specs.Spelling.{le_value};
+ghost use Rattle.dwz_codes.specs.Forms.{form_rows};
+ghost use Rattle.dwz_docs.specs.Parts.{Gives, Leaves};
+ghost use Rattle.dwz_docs.specs.Texts.{text_in, zero_ended_at};
+ghost use Rattle.dwz_docs.specs.Values;
+ghost use Rattle.dwz_docs.specs.Values.{HasSpelling};
+ghost use Rattle.dwz_forms.specs.RawValues.{FindsIn, raw_view};
+
+use crate::raw::Raw;
+use crate::shapes::shape_of;
+use dwz_bytes::{ByteErr, Cursor};
+use dwz_codes::Shape;
+use dwz_model::{Fault, Pair, Reason};
+
+// The form whose value stands in its declaration.
+const IMPLICIT_CONST: u64 = 0x21;
+
+// The section `.debug_info` in faults.
+const INFO: u8 = 1;
+
+// A fault inside a value that begins at the place.
+#[inline(always)]
+fn fault_from(place: u64, error: ByteErr) -> Fault
+    ensures { result ≡ Values.fault_from place error }
+{
+    let reason = match error {
+        ByteErr::Short { .. } => Reason::Truncated,
+        ByteErr::Wide { .. } => Reason::BadNumber,
+    };
+    Fault {
+        section: INFO,
+        at: place,
+        reason,
+    }
+}
+
+// The number of a value without bytes.
+#[inline(always)]
+fn constant_of(pair: &Pair) -> i64
+    ensures { result ≡ Values.constant_of pair.now }
+{
+    if pair.form == IMPLICIT_CONST {
+        pair.constant
+    } else {
+        0
+    }
+}
+
+// The number that three bytes spell.
+#[inline(always)]
+fn three_bytes(bytes: &[u8]) -> u32
+    requires { length bytes.now ≡ 3 }
+    ensures { result ≡ le_value bytes.now }
+{
+    u32::from_le_bytes([bytes[0], bytes[1], bytes[2], 0])
+}
+
+// A number of three bytes.
+#[inline(always)]
+fn three<'a>(cursor: &mut Cursor<'a>) -> Result<u32, ByteErr>
+    ensures { Gives (λ x. x) cursor.old cursor.new result (fixed_at 3 cursor.old) }
+{
+    let bytes = cursor.take(3)?;
+    Ok(three_bytes(bytes))
+}
+
+// The index of the first zero byte.
+#[inline(always)]
+fn zero_at(bytes: &[u8]) -> Option<usize>
+    ensures { result ≡ position (λ byte. byte == 0) bytes.now }
+{
+    bytes.iter().position(|byte| *byte == 0)
+}
+
+// How many bytes stand before the first zero byte.
+#[inline(always)]
+fn text_len(bytes: &[u8]) -> Option<usize>
+    ensures text { option_map (λ len. take len bytes.now) result ≡ text_in bytes.now }
+    ensures within { IfSome result (λ len. len < length bytes.now) }
+{
+    zero_at(bytes)
+}
+
+// The text at the cursor, which stands in these bytes. The cursor is left behind the zero byte.
+#[inline(always)]
+fn text<'a>(bytes: &'a [u8], cursor: &mut Cursor<'a>) -> Result<&'a [u8], ByteErr>
+    requires here { cursor.old ≡ input bytes.now cursor.old.at }
+    requires within { cursor.old.at ≤ length bytes.now }
+    ensures { Gives (λ t. t.now) cursor.old cursor.new result (zero_ended_at cursor.old) }
+{
+    let at = cursor.at();
+    let rest = &bytes[at..];
+    match text_len(rest) {
+        None => Err(ByteErr::Short { at }),
+        Some(len) => {
+            *cursor = Cursor::new(bytes, at + len + 1);
+            Ok(&rest[..len])
+        }
+    }
+}
+
+// The value at the cursor, which stands in these bytes, by its shape.
+#[inline(always)]
+#[tactic(auto, unfolding(dwz_docs::specs::Values::shaped_at))]
+fn shaped<'a>(
+    bytes: &'a [u8],
+    cursor: &mut Cursor<'a>,
+    shape: Shape,
+    pair: &Pair,
+) -> Result<Raw<'a>, Fault>
+    requires here { cursor.old ≡ input bytes.now cursor.old.at }
+    requires within { cursor.old.at ≤ length bytes.now }
+    ensures { Leaves raw_view cursor.new result (Values.shaped_at shape pair.now cursor.old) }
+{
+    let place = cursor.at() as u64;
+    let fault = |error| fault_from(place, error);
+    match shape {
+        Shape::Nothing => Ok(Raw::Number(constant_of(pair) as i128)),
+        Shape::Fixed1 => Ok(Raw::Number(cursor.u8().map_err(fault)? as i128)),
+        Shape::Fixed2 => Ok(Raw::Number(cursor.u16().map_err(fault)? as i128)),
+        Shape::Fixed3 => Ok(Raw::Number(three(cursor).map_err(fault)? as i128)),
+        Shape::Fixed4 => Ok(Raw::Number(cursor.u32().map_err(fault)? as i128)),
+        Shape::Fixed8 | Shape::Address => Ok(Raw::Number(cursor.u64().map_err(fault)? as i128)),
+        Shape::Fixed16 => Ok(Raw::Bytes(cursor.take(16).map_err(fault)?)),
+        Shape::Uleb => Ok(Raw::Number(cursor.uleb().map_err(fault)? as i128)),
+        Shape::Sleb => Ok(Raw::Number(cursor.sleb().map_err(fault)? as i128)),
+        Shape::ZeroEnded => Ok(Raw::Bytes(text(bytes, cursor).map_err(fault)?)),
+        Shape::Block1 => {
+            let count = cursor.u8().map_err(fault)?;
+            Ok(Raw::Bytes(cursor.take(count as usize).map_err(fault)?))
+        }
+        Shape::Block2 => {
+            let count = cursor.u16().map_err(fault)?;
+            Ok(Raw::Bytes(cursor.take(count as usize).map_err(fault)?))
+        }
+        Shape::Block4 => {
+            let count = cursor.u32().map_err(fault)?;
+            Ok(Raw::Bytes(cursor.take(count as usize).map_err(fault)?))
+        }
+        Shape::BlockUleb => {
+            let count = cursor.uleb().map_err(fault)?;
+            Ok(Raw::Bytes(cursor.take(count as usize).map_err(fault)?))
+        }
+        _ => Err(Fault {
+            section: INFO,
+            at: place,
+            reason: Reason::UnsupportedForm { form: pair.form },
+        }),
+    }
+}
+
+/// The value of the pair's form at a place in `.debug_info`, whose bytes end where the unit does, and the place behind it.
+/// A form that isn't read, a value that the bytes end in, and a LEB128 number that is too wide are faults at the value's
+/// place.
+#[inline(always)]
+pub fn value_in<'a>(bytes: &'a [u8], at: usize, pair: &Pair) -> Result<(Raw<'a>, usize), Fault>
+    requires { at ≤ length bytes.now }
+    ensures value { FindsIn raw_view bytes.now result (Values.value_at form_rows pair.now (input bytes.now at)) }
+    ensures writable { IfOk result (λ found. HasSpelling pair.now.form (raw_view found.0)) }
+{
+    let mut cursor = Cursor::new(bytes, at);
+    let raw = shaped(bytes, &mut cursor, shape_of(pair.form), pair)?;
+    Ok((raw, cursor.at()))
+}

@@ -97,18 +97,18 @@ fn read_file<R: rt::Files>(rt: &R, alloc: Global, name: &[u8]) -> Result<Vec<u8>
 {
     let path = str::from_utf8(name).map_err(|_| GetErr::Failed)?;
     let file = fs::open(rt, path).map_err(|_| GetErr::Failed)?;
-    read_limited(alloc, file)
+    read_limited(alloc, file, GET_LIMIT)
 }
 
-/// What is left in a reader, or its first `GET_LIMIT` bytes.
-fn read_limited<F: Read + Drop>(alloc: Global, file: F) -> Result<Vec<u8>, GetErr>
-    ensures content { IfOk result (λ bytes. IfSome (F.remaining file) (λ rest. bytes.items ≡ take most_got rest)) }
-    ensures limit { IfOk result (λ bytes. length bytes.items ≤ most_got) }
+/// What is left in a reader, or its first `limit` bytes.
+fn read_limited<F: Read + Drop>(alloc: Global, file: F, limit: usize) -> Result<Vec<u8>, GetErr>
+    ensures content { IfOk result (λ bytes. IfSome (F.remaining file) (λ rest. bytes.items ≡ take limit rest)) }
+    ensures limit { IfOk result (λ bytes. length bytes.items ≤ limit) }
 {
     let mut bytes = Vec::new(alloc);
-    match file.take(GET_LIMIT as u64).read_to_end(&mut bytes) {
+    match file.take(limit as u64).read_to_end(&mut bytes) {
         Ok(_) => {
-            bytes.truncate(GET_LIMIT);
+            bytes.truncate(limit);
             Ok(bytes)
         }
         Err(error) if error.kind() == ErrorKind::OutOfMemory => Err(GetErr::NoMemory),

@@ -17,7 +17,8 @@ pub(crate) fn plain(alloc: Global, info: &[u8], abbrev: &[u8]) -> Result<Vec<u8>
     body.extend_from_slice(info)?;
     body.extend_from_slice(abbrev)?;
     body.extend_from_slice(NAMES)?;
-    while body.len() % 8 != 0 {
+    let missing = (8 - body.len() % 8) % 8;
+    for _ in 0..missing {
         body.push(0)?;
     }
     let mut file = Vec::new(alloc);

@@ -10,3 +10,5 @@ pub mod ElfFaults
 pub mod ElfReading
 pub mod Trees
 pub mod ElfLayout
+pub mod Entries
+pub mod Units

@@ -9,4 +9,5 @@ pub mod TableLemmas
 pub mod ElfFaultLemmas
 pub mod TreeLemmas
 pub mod TreeSteps
+pub mod EntryLemmas
 mod UnitRows

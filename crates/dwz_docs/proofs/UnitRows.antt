@@ -1,8 +1,8 @@
 -- Small sections, read by the definitions.
-use Rattle.std.proofs.Common.{◌≡◌, ℕ, ◌+◌, List, [], ◌∷◌, ◌++◌, Option, Some, None, Result, Ok, Err, refl, length, true, false, take}
+use Rattle.std.proofs.Common.{◌≡◌, ℕ, List, [], ◌∷◌, ◌++◌, Result, Ok, Err, refl, length, take}
 use Rattle.dwz_model.specs.declared.fault.Fault.{Fault}
-use Rattle.dwz_model.specs.declared.fault.Reason.TheVariants.{Truncated, UnsupportedForm, TooMany}
-use Rattle.dwz_bytes.specs.Input.{Input, input}
+use Rattle.dwz_model.specs.declared.fault.Reason.TheVariants.{Truncated, TooMany}
+use Rattle.dwz_bytes.specs.Input.{input}
 use Rattle.dwz_bytes.specs.Reading.{groups_at, uleb_at}
 use Rattle.dwz_codes.specs.Forms.{form_rows}
 use Rattle.dwz_docs.specs.Abbrevs.{declaration_at, pair_at, table_at}

@@ -14,7 +14,7 @@ use Rattle.dwz_bytes.specs.Spelling.{SpellsUleb, fits_u64, groups_value}
 use Rattle.dwz_codes.specs.Forms.{form_rows}
 use Rattle.dwz_docs.specs.Abbrevs.{Declaration, find_decl}
 use Rattle.dwz_docs.specs.Faults.{info_fault}
-use Rattle.dwz_docs.specs.Trees.{FaultOf, Forest, FrontOf, Position, Reader, TwoParts}
+use Rattle.dwz_docs.specs.Trees.{FaultOf, FrontOf, Position, Reader, TwoParts}
 use Rattle.dwz_docs.specs.Values.{IsTooBig, IsValueFault, Raw, SpellsValue, value_at}
 
 -- an attribute as it is stored: where its value begins, its name and form, and what the value stores

@@ -5,7 +5,7 @@ use Rattle.dwz_model.specs.declared.fault.Reason.{Reason}
 use Rattle.dwz_model.specs.declared.fault.Reason.TheVariants.{Truncated, DwarfFormat, Version, UnitType, AddressSize, BadRoot}
 use Rattle.dwz_bytes.specs.Input.{Input, past}
 use Rattle.dwz_bytes.specs.Reading.{◌>>=◌}
-use Rattle.dwz_bytes.specs.Spelling.{SpellsFixed, le_value}
+use Rattle.dwz_bytes.specs.Spelling.{le_value}
 use Rattle.dwz_docs.specs.Abbrevs.{Declaration, IsBadTable, SpellsTable, table_at}
 use Rattle.dwz_docs.specs.Entries.{IsFrontFault, RawEntry, SpellsEntry, SpellsFront, UnitContext, front_at, root_position, unless_so}
 use Rattle.dwz_docs.specs.Faults.{bad_abbrev, info_fault}

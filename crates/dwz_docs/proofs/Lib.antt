@@ -10,4 +10,5 @@ pub mod ElfFaultLemmas
 pub mod TreeLemmas
 pub mod TreeSteps
 pub mod EntryLemmas
+pub mod UnitTreeLemmas
 mod UnitRows

@@ -67,7 +67,7 @@ pub record Stops {E : Type 0} (has : E → Bool) (Front : FrontOf E) (Fault' : F
   pub cut : Cut E
   pub faulty : Faulty has Front Fault' cut p f i.at i.rest
 
-children_err : {E : Type 0} (read : ForestReader E) (p : Position) (flag : Bool) (i : Input) (f : Fault) → children_by read p flag i ≡ Err f → (flag ≡ true) × (read (first_below p) i ≡ Err f)
+pub children_err : {E : Type 0} (read : ForestReader E) (p : Position) (flag : Bool) (i : Input) (f : Fault) → children_by read p flag i ≡ Err f → (flag ≡ true) × (read (first_below p) i ≡ Err f)
 children_err read p true i f e = (refl, e)
 children_err read p false i f e = absurd cc
 

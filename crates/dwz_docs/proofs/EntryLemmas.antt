@@ -1,7 +1,7 @@
 -- Attributes and fronts of entries are read as they are spelled, and fail with the faults that they have.
 use Rattle.std.proofs.Common.{◌≡◌, ◌≢◌, ℕ, zero, suc, ◌+◌, ◌<◌, ◌≤◌, inl, inr, Bool, true, false, cond, eqb, ltb, List, [], ◌∷◌, ◌++◌, length, Option, Some, None, Result, Ok, Err, refl, sym, ap, subst, ◌∙◌, append_assoc, arith}
 use Rattle.std.specs.Prelude.{◌&&◌, not}
-use Rattle.std.proofs.lemmas.Bool.{and_from, eq-eqb, eqb-false, eqb-true, le-ltb, lt-ltb, ltb-false, ltb-true, ne_eqb}
+use Rattle.std.proofs.lemmas.Bool.{and_from, and_parts, eq-eqb, eqb-false, eqb-true, le-ltb, lt-ltb, ltb-false, ltb-true, ne_eqb, not-false, not-true}
 use Rattle.std.proofs.lemmas.List.{length-append}
 use Rattle.dwz_model.specs.declared.fault.Fault.{Fault}
 use Rattle.dwz_model.specs.declared.fault.Reason.TheVariants.{BadNumber, BadRoot, NoSuchCode, TooDeep, TooMany}
@@ -85,10 +85,10 @@ same_attr : (pair : Pair) (a : RawAttr) (start : ℕ) (bytes : List ℕ) → IsA
 same_attr pair a start bytes is =
     ap (λ (n : ℕ). record { at = n; pair = pair; raw = a.raw }) (sym is.place) ∙ ap (λ (p : Pair). record { at = a.at; pair = p; raw = a.raw }) (sym is.same)
 
-regrouped : (bytes front back rest : List ℕ) → bytes ≡ front ++ back → bytes ++ rest ≡ front ++ (back ++ rest)
+pub regrouped : (bytes front back rest : List ℕ) → bytes ≡ front ++ back → bytes ++ rest ≡ front ++ (back ++ rest)
 regrouped bytes front back rest parts = ap (λ (w : List ℕ). w ++ rest) parts ∙ append_assoc front back rest
 
-place_behind : (start : ℕ) (bytes front back : List ℕ) → bytes ≡ front ++ back → start + length front + length back ≡ start + length bytes
+pub place_behind : (start : ℕ) (bytes front back : List ℕ) → bytes ≡ front ++ back → start + length front + length back ≡ start + length bytes
 place_behind start bytes front back parts = omega (arith, ap length parts, length-append front back)
 
 -- a value is read, and then the others
@@ -234,32 +234,20 @@ not_zero n lt = ne_eqb n 0 (λ same. omega (arith, same, lt))
 
 -- ---- whether an entry may stand there
 
-unless_ok : (test : Bool) (f : Fault) (u : Unit {0}) → unless_so test f ≡ Ok u → test ≡ false
+pub unless_ok : (test : Bool) (f : Fault) (u : Unit {0}) → unless_so test f ≡ Ok u → test ≡ false
 unless_ok true f u e = absurd cc
 unless_ok false f u e = refl
 
-unless_err : (test : Bool) (f g : Fault) → unless_so test f ≡ Err g → (test ≡ true) × (g ≡ f)
+pub unless_err : (test : Bool) (f g : Fault) → unless_so test f ≡ Err g → (test ≡ true) × (g ≡ f)
 unless_err true f g e = (refl, same_error g f (Err g) refl (sym e))
 unless_err false f g e = absurd cc
 
-not_true_is : (b : Bool) → not b ≡ false → b ≡ true
-not_true_is true e = refl
-not_true_is false e = absurd cc
-
-not_false_is : (b : Bool) → not b ≡ true → b ≡ false
-not_false_is true e = absurd cc
-not_false_is false e = refl
-
-both_true : (a b : Bool) → (a && b) ≡ true → (a ≡ true) × (b ≡ true)
-both_true true b e = (refl, e)
-both_true false b e = absurd cc
-
-second_false : (a b : Bool) → (a && b) ≡ false → a ≡ true → b ≡ false
+pub second_false : (a b : Bool) → (a && b) ≡ false → a ≡ true → b ≡ false
 second_false true b e t = e
 second_false false b e t = absurd cc
 
 right_root : (c : UnitContext) (p : Position) (d : Declaration) → is_wrong_root c p d ≡ false → p.depth ≡ 1 → d.tag ≡ c.root_tag
-right_root c p d e root = eqb-true d.tag c.root_tag (not_true_is (eqb d.tag c.root_tag) (second_false (eqb p.depth 1) (not (eqb d.tag c.root_tag)) e (eq-eqb p.depth 1 root)))
+right_root c p d e root = eqb-true d.tag c.root_tag (not-false (eqb d.tag c.root_tag) (second_false (eqb p.depth 1) (not (eqb d.tag c.root_tag)) e (eq-eqb p.depth 1 root)))
 
 not_wrong : (c : UnitContext) (p : Position) (d : Declaration) → (p.depth ≡ 1 → d.tag ≡ c.root_tag) → is_wrong_root c p d ≡ false
 not_wrong c p d right = by_depth (eqb p.depth 1) refl where
@@ -269,8 +257,8 @@ not_wrong c p d right = by_depth (eqb p.depth 1) refl where
 
 wrong_root : (c : UnitContext) (p : Position) (d : Declaration) → is_wrong_root c p d ≡ true → (p.depth ≡ 1) × (d.tag ≢ c.root_tag)
 wrong_root c p d e =
-    let b = both_true (eqb p.depth 1) (not (eqb d.tag c.root_tag)) e in
-    (eqb-true p.depth 1 b.0, eqb-false d.tag c.root_tag (not_false_is (eqb d.tag c.root_tag) b.1))
+    let b = and_parts (eqb p.depth 1) (not (eqb d.tag c.root_tag)) e in
+    (eqb-true p.depth 1 b.0, eqb-false d.tag c.root_tag (not-true (eqb d.tag c.root_tag) b.1))
 
 root_wrong : (c : UnitContext) (p : Position) (d : Declaration) → p.depth ≡ 1 → d.tag ≢ c.root_tag → is_wrong_root c p d ≡ true
 root_wrong c p d root other = and_from (eqb p.depth 1) (not (eqb d.tag c.root_tag)) (eq-eqb p.depth 1 root) (ap not (ne_eqb d.tag c.root_tag other))

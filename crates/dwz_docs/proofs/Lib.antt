@@ -11,4 +11,6 @@ pub mod TreeLemmas
 pub mod TreeSteps
 pub mod EntryLemmas
 pub mod UnitTreeLemmas
+pub mod HeaderLemmas
+pub mod UnitLemmas
 mod UnitRows

@@ -225,6 +225,10 @@ unit_at abbrevs room before i = header_at i (header_reason i.rest) >>= after_hea
 abbrev pub with_unit : RawUnit → List RawUnit → Result (List RawUnit) Fault
 with_unit u units = Ok (u ∷ units)
 
+-- the units behind one that is read
+abbrev pub after_unit : (ℕ → Input → Result (List RawUnit) Fault) → ℕ → RawUnit × Input → Result (List RawUnit) Fault
+after_unit read before u = read (before + entry_count u.0) u.1 >>= with_unit u.0
+
 abbrev pub is_empty : List ℕ → Bool
 is_empty [] = true
 is_empty (b ∷ bytes) = false
@@ -233,7 +237,7 @@ is_empty (b ∷ bytes) = false
 unfoldable pub units_from : List ℕ → ℕ → ℕ → ℕ → Input → Result (List RawUnit) Fault
 units_from abbrevs room zero before i = Ok []
 units_from abbrevs room (suc k) before i =
-    if is_empty i.rest then Ok [] else (unit_at abbrevs room before i >>= λ u. units_from abbrevs room k (before + entry_count u.0) u.1 >>= with_unit u.0)
+    if is_empty i.rest then Ok [] else (unit_at abbrevs room before i >>= after_unit (units_from abbrevs room k) before)
 
 -- all units from an input on, behind so many entries: each takes a byte at least
 unfoldable pub units_at : List ℕ → ℕ → ℕ → Input → Result (List RawUnit) Fault

@@ -27,6 +27,11 @@ first_below p = record { before = p.before + 1; depth = p.depth + 1 }
 abbrev pub behind : {E : Type 0} → Position → Forest E → Position
 behind p children = record { before = p.before + 1 + size children; depth = p.depth }
 
+-- that holds for each entry, at its position, where the first has this position
+abbrev pub EachEntry : {E : Type 0} → (Position → E → Type 0) → Position → Forest E → Type 0
+EachEntry P p End = Unit {0}
+EachEntry P p (Entry e children next) = P p e × EachEntry P (first_below p) children × EachEntry P (behind p children) next
+
 -- ---- spelling
 
 -- From a place on the bytes are the front of an entry, or what ends a sibling list.

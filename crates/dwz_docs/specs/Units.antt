@@ -10,7 +10,7 @@ use Rattle.dwz_docs.specs.Abbrevs.{Declaration, IsBadTable, SpellsTable, table_a
 use Rattle.dwz_docs.specs.Entries.{IsFrontFault, RawEntry, SpellsEntry, SpellsFront, UnitContext, front_at, root_position, unless_so}
 use Rattle.dwz_docs.specs.Faults.{bad_abbrev, info_fault}
 use Rattle.dwz_docs.specs.Parts.{StandsAt}
-use Rattle.dwz_docs.specs.Trees.{Behind, Cut, Faulty, Here, Inside, Forest, IfChildren, Position, SpellsForest, TwoParts, children_by, first_below, siblings_at, size}
+use Rattle.dwz_docs.specs.Trees.{Behind, Cut, EachEntry, Faulty, Here, Inside, Forest, IfChildren, Position, SpellsForest, TwoParts, children_by, first_below, siblings_at, size}
 
 -- a compile unit (3.1.1), or a type unit with its signature and the offset of its type from the unit's first byte (3.1.4)
 pub data RawKind : Type 0 where
@@ -34,6 +34,10 @@ entry_count u = size u.below + 1
 unfoldable pub entries_in : List RawUnit → ℕ
 entries_in [] = 0
 entries_in (u ∷ units) = entry_count u + entries_in units
+
+-- that holds for each entry of a unit, at its position behind so many entries of other units
+abbrev pub EachEntryOf : (Position → RawEntry → Type 0) → ℕ → RawUnit → Type 0
+EachEntryOf P before u = P (root_position before) u.root × EachEntry P (first_below (root_position before)) u.below
 
 -- ---- the header (7.5.1.1, 7.5.1.3), for the 32-bit format (7.4)
 
@@ -119,11 +123,15 @@ pub record SpellsHeader (kind : RawKind) (len offset : ℕ) (bytes : List ℕ) :
   pub address_size : address_size bytes ≡ 8
   pub names_table : debug_abbrev_offset bytes ≡ offset
 
+-- a sibling list of a unit
+abbrev pub SpellsList : UnitContext → Position → Forest RawEntry → ℕ → List ℕ → Type 0
+SpellsList c p list start bytes = SpellsForest (λ e. e.children) (SpellsFront c) list p start bytes
+
 -- a root, and the list of its children if it says that it has some
 abbrev pub SpellsTree : UnitContext → ℕ → RawEntry → Forest RawEntry → ℕ → List ℕ → Type 0
 SpellsTree c before root below start bytes =
     TwoParts (SpellsEntry c (root_position before) root)
-    (λ s b. IfChildren root.children below (SpellsForest (λ e. e.children) (SpellsFront c) below (first_below (root_position before)) s b) b) start bytes
+    (λ s b. IfChildren root.children below (SpellsList c (first_below (root_position before)) below s b) b) start bytes
 
 -- each byte is 0
 abbrev pub AreZeros : List ℕ → Type 0
@@ -244,6 +252,10 @@ unfoldable pub units_at : List ℕ → ℕ → ℕ → Input → Result (List Ra
 units_at abbrevs room before i = units_from abbrevs room (length i.rest) before i
 
 -- ---- why units aren't read
+
+-- some front of the list has a fault, and all before it is spelled
+abbrev pub IsListFault : UnitContext → Position → ℕ → List ℕ → Fault → Type 0
+IsListFault c p start bytes f = (cut : Cut RawEntry) × Faulty (λ e. e.children) (SpellsFront c) (IsFrontFault c) cut p f start bytes
 
 -- the place is at the root or below it: a root has no sibling
 abbrev pub IsDown : Cut RawEntry → Type 0

@@ -4,7 +4,7 @@ use Rattle.std.proofs.lemmas.List.{append-nil, length-append}
 use Rattle.dwz_model.specs.declared.fault.Fault.{Fault}
 use Rattle.dwz_bytes.specs.Input.{Input}
 use Rattle.dwz_bytes.specs.Reading.{◌>>=◌}
-use Rattle.dwz_docs.specs.Units.{IsUnitFault, IsUnitsFault, RawUnit, SpellsUnit, SpellsUnits, after_unit, entries_in, entry_count, is_empty, unit_at, units_at, units_from, with_unit}
+use Rattle.dwz_docs.specs.Units.{IsUnitFault, IsUnitsFault, RawUnit, SpellsUnit, SpellsUnits, after_unit, entries_in, entry_count, is_empty, unit_at, units_at, units_by, units_from, with_unit}
 use Rattle.dwz_docs.proofs.EntryLemmas.{place_behind}
 use Rattle.dwz_docs.proofs.HeaderLemmas.{header_some}
 use Rattle.dwz_docs.proofs.PartLemmas.{bind_err, bind_ok, chosen}
@@ -34,10 +34,7 @@ step_agrees abbrevs room before i f g agree (Ok u) is =
     let less = unit_moves abbrevs room before i u.0 u.1 is in
     ap (λ (r : Result (List RawUnit) Fault). r >>= with_unit u.0) (agree (before + entry_count u.0) u.1 less)
 
-abbrev stepped : List ℕ → ℕ → ℕ → Input → (ℕ → Input → Result (List RawUnit) Fault) → Result (List RawUnit) Fault
-stepped abbrevs room before i read = cond (is_empty i.rest) (Ok []) (unit_at abbrevs room before i >>= after_unit read before)
-
-both_step : (abbrevs : List ℕ) (room before : ℕ) (i : Input) (f g : ℕ → Input → Result (List RawUnit) Fault) → Agree (length i.rest) f g → stepped abbrevs room before i f ≡ stepped abbrevs room before i g
+both_step : (abbrevs : List ℕ) (room before : ℕ) (i : Input) (f g : ℕ → Input → Result (List RawUnit) Fault) → Agree (length i.rest) f g → units_by f abbrevs room before i ≡ units_by g abbrevs room before i
 both_step abbrevs room before i f g agree = ap (λ (r : Result (List RawUnit) Fault). cond (is_empty i.rest) (Ok []) r) (step_agrees abbrevs room before i f g agree (unit_at abbrevs room before i) refl)
 
 -- where no bytes are left, there is no unit
@@ -59,7 +56,7 @@ enough abbrevs room (suc k) (suc l) before i le le' =
     (λ q j less. enough abbrevs room k l q j (omega (arith, less, le)) (omega (arith, less, le')))
 
 -- units are the first of them, and those behind it
-pub units_step : (abbrevs : List ℕ) (room before : ℕ) (i : Input) → units_at abbrevs room before i ≡ cond (is_empty i.rest) (Ok []) (unit_at abbrevs room before i >>= after_unit (units_at abbrevs room) before)
+pub units_step : (abbrevs : List ℕ) (room before : ℕ) (i : Input) → units_at abbrevs room before i ≡ units_by (units_at abbrevs room) abbrevs room before i
 unfolding units_at units_from
 units_step abbrevs room before i =
     enough abbrevs room (length i.rest) (suc (length i.rest)) before i (omega arith) (omega arith)
@@ -167,6 +164,11 @@ units_again abbrevs room before units start bytes is =
     ap (λ (w : List ℕ). units_at abbrevs room before (input_at start w)) (sym (append-nil bytes))
     ∙ units_up_to units abbrevs room before start bytes [] (Ok []) is none
     ∙ ap row (append-nil units)
+
+-- a section is a row of units in one way
+pub units_one : (abbrevs : List ℕ) (room before at : ℕ) (units others : List RawUnit) (bytes : List ℕ) → SpellsUnits abbrevs room before units at bytes → SpellsUnits abbrevs room before others at bytes → units ≡ others
+units_one abbrevs room before at units others bytes p q =
+    same_row units others (units_at abbrevs room before (input_at at bytes)) (units_again abbrevs room before units at bytes p) (units_again abbrevs room before others at bytes q)
 
 -- ---- faults
 

@@ -241,11 +241,14 @@ abbrev pub is_empty : List ℕ → Bool
 is_empty [] = true
 is_empty (b ∷ bytes) = false
 
+-- none where no bytes are left, and else a unit and those behind it
+abbrev pub units_by : (ℕ → Input → Result (List RawUnit) Fault) → List ℕ → ℕ → ℕ → Input → Result (List RawUnit) Fault
+units_by read abbrevs room before i = if is_empty i.rest then Ok [] else (unit_at abbrevs room before i >>= after_unit read before)
+
 -- at most k units
 unfoldable pub units_from : List ℕ → ℕ → ℕ → ℕ → Input → Result (List RawUnit) Fault
 units_from abbrevs room zero before i = Ok []
-units_from abbrevs room (suc k) before i =
-    if is_empty i.rest then Ok [] else (unit_at abbrevs room before i >>= after_unit (units_from abbrevs room k) before)
+units_from abbrevs room (suc k) before i = units_by (units_from abbrevs room k) abbrevs room before i
 
 -- all units from an input on, behind so many entries: each takes a byte at least
 unfoldable pub units_at : List ℕ → ℕ → ℕ → Input → Result (List RawUnit) Fault

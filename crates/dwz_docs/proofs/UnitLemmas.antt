@@ -1,24 +1,22 @@
 -- A unit is read as it is spelled, and fails with the faults that it has.
-use Rattle.std.proofs.Common.{◌≡◌, ℕ, ◌+◌, ◌<◌, ◌≤◌, ◌⊎◌, inl, inr, Bool, true, false, ltb, List, ◌++◌, length, take, drop, Option, Some, None, Result, Ok, Err, refl, sym, ap, subst, ◌∙◌, append_assoc, arith}
+use Rattle.std.proofs.Common.{◌≡◌, ℕ, ◌+◌, ◌<◌, inl, inr, Bool, ltb, List, ◌++◌, length, drop, Option, Some, None, Result, Ok, Err, refl, sym, ap, subst, ◌∙◌, arith}
 use Rattle.std.proofs.lemmas.Bool.{le-ltb, lt-ltb, ltb-false, ltb-true}
-use Rattle.std.proofs.lemmas.List.{length-append, take-append-drop}
+use Rattle.std.proofs.lemmas.List.{take-append-drop}
 use Rattle.dwz_model.specs.declared.fault.Fault.{Fault}
 use Rattle.dwz_model.specs.declared.fault.Reason.{Reason}
 use Rattle.dwz_model.specs.declared.fault.Reason.TheVariants.{BadRoot}
 use Rattle.dwz_bytes.specs.Input.{Input, past}
 use Rattle.dwz_bytes.specs.Reading.{◌>>=◌}
-use Rattle.dwz_bytes.proofs.FixedLemmas.{same_front}
 use Rattle.dwz_docs.specs.Abbrevs.{Declaration, SpellsTable, table_at}
-use Rattle.dwz_docs.specs.Entries.{RawEntry, UnitContext, unless_so}
+use Rattle.dwz_docs.specs.Entries.{UnitContext, unless_so}
 use Rattle.dwz_docs.specs.Faults.{info_fault}
 use Rattle.dwz_docs.specs.Parts.{StandsAt}
-use Rattle.dwz_docs.specs.Trees.{Forest}
-use Rattle.dwz_docs.specs.Units.{IsBadPadding, IsContext, IsFaultBehindHeader, IsTreeFault, IsUnitFault, RawKind, RawUnit, SpellsHeader, SpellsTree, SpellsUnit, Tree, after_header, after_table, after_tree, behind_header, context_of, debug_abbrev_offset, header_at, header_reason, header_size, kind_of, root_tag, tree_at, unit_at, unit_of, unit_size, zero_count, zeros_at}
+use Rattle.dwz_docs.specs.Units.{IsBadPadding, IsContext, IsFaultBehindHeader, IsUnitFault, RawKind, RawUnit, SpellsHeader, SpellsTree, SpellsUnit, Tree, after_header, after_table, after_tree, behind_header, context_of, debug_abbrev_offset, header_at, header_reason, header_size, kind_of, root_tag, tree_at, unit_at, unit_of, unit_size, zero_count, zeros_at}
 use Rattle.dwz_docs.proofs.EntryLemmas.{unless_err, unless_ok}
-use Rattle.dwz_docs.proofs.HeaderLemmas.{HasHeader, Says, header_again, header_found, header_passed, other_again, other_found, zeros_again, zeros_found}
+use Rattle.dwz_docs.proofs.HeaderLemmas.{header_again, header_found, header_passed, other_again, other_found, zeros_again, zeros_found}
 use Rattle.dwz_docs.proofs.PartLemmas.{bind_err, bind_ok, drop-front, same_error, same_input, same_value}
 use Rattle.dwz_docs.proofs.TableLemmas.{fault_here, here_fault, here_table, table_here}
-use Rattle.dwz_docs.proofs.TreeLemmas.{Takes, Takes-then, input_at}
+use Rattle.dwz_docs.proofs.TreeLemmas.{Takes, input_at}
 use Rattle.dwz_docs.proofs.UnitTreeLemmas.{tree_again, tree_fault, tree_fault_again, tree_found}
 
 -- ---- the parts of a unit that is read

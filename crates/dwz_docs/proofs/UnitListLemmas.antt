@@ -1,14 +1,17 @@
 -- `.debug_info` is read unit by unit, as it is spelled, and fails with the first fault that it has.
-use Rattle.std.proofs.Common.{◌≡◌, ℕ, zero, suc, ◌+◌, ◌<◌, ◌≤◌, ◌⊎◌, inl, inr, Bool, true, false, cond, List, [], ◌∷◌, ◌++◌, length, Result, Ok, Err, refl, sym, ap, subst, ◌∙◌, append_assoc, arith}
+use Rattle.std.proofs.Common.{◌≡◌, ℕ, zero, suc, ◌+◌, ◌<◌, ◌≤◌, inl, inr, Bool, true, false, cond, List, [], ◌∷◌, ◌++◌, length, Result, Ok, Err, refl, sym, ap, subst, ◌∙◌, append_assoc, arith}
 use Rattle.std.proofs.lemmas.List.{append-nil, length-append}
 use Rattle.dwz_model.specs.declared.fault.Fault.{Fault}
+use Rattle.dwz_model.specs.declared.fault.ReadErr.{ReadErr}
+use Rattle.dwz_model.specs.declared.fault.ReadErr.TheVariants.{NoMemory, Refused}
 use Rattle.dwz_bytes.specs.Input.{Input}
 use Rattle.dwz_bytes.specs.Reading.{◌>>=◌}
+use Rattle.dwz_docs.specs.Faults.{Fails}
 use Rattle.dwz_docs.specs.Units.{IsUnitFault, IsUnitsFault, RawUnit, SpellsUnit, SpellsUnits, after_unit, entries_in, entry_count, is_empty, unit_at, units_at, units_by, units_from, with_unit}
 use Rattle.dwz_docs.proofs.EntryLemmas.{place_behind}
 use Rattle.dwz_docs.proofs.HeaderLemmas.{header_some}
 use Rattle.dwz_docs.proofs.PartLemmas.{bind_err, bind_ok, chosen}
-use Rattle.dwz_docs.proofs.TreeLemmas.{Takes, input_at, shorter_by_some}
+use Rattle.dwz_docs.proofs.TreeLemmas.{input_at, shorter_by_some}
 use Rattle.dwz_docs.proofs.UnitLemmas.{unit_again, unit_fault, unit_fault_again, unit_found}
 
 -- ---- one step
@@ -86,7 +89,7 @@ units_fail abbrevs room before i f some e = units_some abbrevs room before i som
 
 -- ---- what is read is spelled
 
-abbrev row : List RawUnit → Result (List RawUnit) Fault
+abbrev pub row : List RawUnit → Result (List RawUnit) Fault
 row units = Ok units
 
 abbrev units_or : List RawUnit → Result (List RawUnit) Fault → List RawUnit
@@ -233,3 +236,38 @@ units_fault_again abbrevs room before start bytes f is =
     let fails = units_fail abbrevs room (before + entries_in is.units) there f is.some (unit_fault_again abbrevs room (before + entries_in is.units) there f is.is_fault) in
     ap (λ (w : List ℕ). units_at abbrevs room before (input_at start w)) is.parts
     ∙ units_up_to is.units abbrevs room before start is.front is.rest (Err f) is.spelled fails
+
+-- ---- the same, as a loop reads a row: some units are read, and then those behind them
+
+abbrev pub behind_units : List RawUnit → List RawUnit → Result (List RawUnit) Fault
+behind_units units more = row (units ++ more)
+
+pub row_begins : (abbrevs : List ℕ) (room before : ℕ) (i : Input) → units_at abbrevs room before i ≡ (units_at abbrevs room before i >>= behind_units [])
+row_begins abbrevs room before i = unchanged (units_at abbrevs room before i) where
+  unchanged : (r : Result (List RawUnit) Fault) → r ≡ (r >>= behind_units [])
+  unchanged (Ok units) = refl
+  unchanged (Err f) = refl
+
+-- one more unit is read
+pub row_more : (abbrevs : List ℕ) (room before : ℕ) (i j : Input) (u : RawUnit) (units : List RawUnit) (r : Result (List RawUnit) Fault) → r ≡ (units_at abbrevs room before i >>= behind_units units)
+    → unit_at abbrevs room before i ≡ Ok (u, j) → r ≡ (units_at abbrevs room (before + entry_count u) j >>= behind_units (units ++ u ∷ []))
+row_more abbrevs room before i j u units r so_far e =
+    so_far ∙ ap (λ (w : Result (List RawUnit) Fault). w >>= behind_units units) (units_more abbrevs room before i j u e) ∙ joined (units_at abbrevs room (before + entry_count u) j) where
+      joined : (w : Result (List RawUnit) Fault) → ((w >>= with_unit u) >>= behind_units units) ≡ (w >>= behind_units (units ++ u ∷ []))
+      joined (Ok more) = ap row (sym (append_assoc units (u ∷ []) more))
+      joined (Err f) = refl
+
+-- no bytes are left
+pub row_ends : (abbrevs : List ℕ) (room before : ℕ) (i : Input) (units : List RawUnit) (r : Result (List RawUnit) Fault) → r ≡ (units_at abbrevs room before i >>= behind_units units) → i.rest ≡ [] → r ≡ Ok units
+row_ends abbrevs room before i units r so_far none = so_far ∙ ap (λ (w : Result (List RawUnit) Fault). w >>= behind_units units) (units_none abbrevs room before i none) ∙ ap row (append-nil units)
+
+-- a unit isn't read
+pub row_fails : (abbrevs : List ℕ) (room before : ℕ) (i : Input) (f : Fault) (units : List RawUnit) (r : Result (List RawUnit) Fault) → r ≡ (units_at abbrevs room before i >>= behind_units units) → 0 < length i.rest
+    → unit_at abbrevs room before i ≡ Err f → r ≡ Err f
+row_fails abbrevs room before i f units r so_far some e = so_far ∙ ap (λ (w : Result (List RawUnit) Fault). w >>= behind_units units) (units_fail abbrevs room before i f some e)
+
+-- a call that failed on a unit fails on the row
+pub row_fails_so : (abbrevs : List ℕ) (room before : ℕ) (i : Input) (e : ReadErr) (units : List RawUnit) (r : Result (List RawUnit) Fault) → r ≡ (units_at abbrevs room before i >>= behind_units units) → 0 < length i.rest
+    → Fails e (unit_at abbrevs room before i) → Fails e r
+row_fails_so abbrevs room before i NoMemory units r so_far some is = tt
+row_fails_so abbrevs room before i (Refused f) units r so_far some is = row_fails abbrevs room before i f units r so_far some is

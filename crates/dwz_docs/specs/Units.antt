@@ -10,7 +10,7 @@ use Rattle.dwz_docs.specs.Abbrevs.{Declaration, IsBadTable, SpellsTable, table_a
 use Rattle.dwz_docs.specs.Entries.{IsFrontFault, RawEntry, SpellsEntry, SpellsFront, UnitContext, front_at, root_position, unless_so}
 use Rattle.dwz_docs.specs.Faults.{bad_abbrev, info_fault}
 use Rattle.dwz_docs.specs.Parts.{StandsAt}
-use Rattle.dwz_docs.specs.Trees.{Behind, Cut, EachEntry, Faulty, Here, Inside, Forest, IfChildren, Position, SpellsForest, TwoParts, children_by, first_below, siblings_at, size}
+use Rattle.dwz_docs.specs.Trees.{Behind, Cut, EachEntry, Faulty, Forest, ForestReader, Here, IfChildren, Inside, Position, SpellsForest, TwoParts, after_front, children_by, first_below, siblings_at, size}
 
 -- a compile unit (3.1.1), or a type unit with its signature and the offset of its type from the unit's first byte (3.1.4)
 pub data RawKind : Type 0 where
@@ -174,6 +174,10 @@ cut_tree c i = info_fault c.end Truncated
 -- the sibling lists of a unit
 abbrev pub list_at : UnitContext → Position → Input → Result (Forest RawEntry × Input) Fault
 list_at c = siblings_at (λ e. e.children) (front_at c) (cut_tree c)
+
+-- one front, and the lists behind it
+abbrev pub list_by : ForestReader RawEntry → UnitContext → ForestReader RawEntry
+list_by read c p i = front_at c p i >>= after_front (λ e. e.children) read p
 
 abbrev pub Tree : Type 0
 Tree = RawEntry × Forest RawEntry

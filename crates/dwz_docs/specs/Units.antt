@@ -35,7 +35,7 @@ unfoldable pub entries_in : List RawUnit → ℕ
 entries_in [] = 0
 entries_in (u ∷ units) = entry_count u + entries_in units
 
--- that holds for each entry of a unit, at its position behind so many entries of other units
+-- P holds of each entry of a unit at its position, behind so many entries of other units
 abbrev pub EachEntryOf : (Position → RawEntry → Type 0) → ℕ → RawUnit → Type 0
 EachEntryOf P before u = P (root_position before) u.root × EachEntry P (first_below (root_position before)) u.below
 

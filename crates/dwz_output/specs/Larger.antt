@@ -1,0 +1,23 @@
+-- The whole way from sections to sections, for one file.
+use Rattle.std.specs.Prelude.{ℕ, List, [], ◌∷◌, Result, Ok, Err}
+use Rattle.dwz_model.specs.declared.fault.Fault.{Fault}
+use Rattle.dwz_bytes.specs.Input.{input}
+use Rattle.dwz_bytes.specs.Reading.{◌>>=◌}
+use Rattle.dwz_docs.specs.Documents.{Doc, DwUnit}
+use Rattle.dwz_docs.specs.Meanings.{Sources, all_places, units_meaning}
+use Rattle.dwz_docs.specs.Units.{units_at}
+use Rattle.dwz_output.specs.Alike.{Apart}
+use Rattle.dwz_output.specs.Deciding.{alike_test}
+use Rattle.dwz_output.specs.Out.{new_sections, units_of}
+use Rattle.dwz_output.specs.Placing.{UnitSections}
+
+abbrev no_sources : Sources
+no_sources = record { strs = []; line_strs = []; offsets = [] }
+
+abbrev after_units : List (DwUnit ℕ) → Result UnitSections Fault
+after_units units =
+    let names = units_of (record { machine = 62; units = units } ∷ []) in
+    Ok (new_sections (alike_test Apart names) names (0 ∷ []) 0)
+
+abbrev pub written : List ℕ → List ℕ → Result UnitSections Fault
+written info abbrevs = units_at abbrevs 1000 0 (input info 0) >>= λ units. units_meaning no_sources (all_places units) units >>= after_units

@@ -6,7 +6,7 @@ use Rattle.dwz_bytes.specs.Input.{Input, input}
 use Rattle.dwz_bytes.specs.Reading.{groups_at, uleb_at}
 use Rattle.dwz_codes.specs.Forms.{form_rows}
 use Rattle.dwz_docs.specs.Abbrevs.{declaration_at, pair_at, table_at}
-use Rattle.dwz_docs.specs.Entries.{attrs_at, front_at}
+use Rattle.dwz_docs.specs.Entries.{attrs_at, front_at, given}
 use Rattle.dwz_docs.specs.Faults.{info_fault}
 use Rattle.dwz_docs.specs.Lists.{items_at, items_from}
 use Rattle.dwz_docs.specs.Texts.{text_in}
@@ -24,14 +24,14 @@ abbrev count_of : Result (List RawUnit) Fault → Result ℕ Fault
 count_of (Ok units) = Ok (length units)
 count_of (Err f) = Err f
 
-two_units : count_of (units_at table 4 0 (input (a_unit ++ a_unit) 0)) ≡ Ok 2
+two_units : count_of (units_at table (given 4) 0 (input (a_unit ++ a_unit) 0)) ≡ Ok 2
 unfolding units_at units_from unit_at header_reason tree_at zero_count front_at attrs_at siblings_at forest_at table_at declaration_at pair_at items_at items_from uleb_at groups_at shaped_at text_in form_rows
 two_units = refl
 
-room_for_three : count_of (units_at table 3 0 (input (a_unit ++ a_unit) 0)) ≡ Err (info_fault 0x22 TooMany)
+room_for_three : count_of (units_at table (given 3) 0 (input (a_unit ++ a_unit) 0)) ≡ Err (info_fault 0x22 TooMany)
 unfolding units_at units_from unit_at header_reason tree_at zero_count front_at attrs_at siblings_at forest_at table_at declaration_at pair_at items_at items_from uleb_at groups_at shaped_at text_in form_rows
 room_for_three = refl
 
-cut : count_of (units_at table 4 0 (input (a_unit ++ take 20 a_unit) 0)) ≡ Err (info_fault 0x15 Truncated)
+cut : count_of (units_at table (given 4) 0 (input (a_unit ++ take 20 a_unit) 0)) ≡ Err (info_fault 0x15 Truncated)
 unfolding units_at units_from unit_at header_reason tree_at zero_count front_at attrs_at siblings_at forest_at table_at declaration_at pair_at items_at items_from uleb_at groups_at shaped_at text_in form_rows
 cut = refl

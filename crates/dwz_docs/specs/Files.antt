@@ -11,7 +11,7 @@ use Rattle.dwz_docs.specs.ElfFaults.{IsElfFault, IsFirstElfFault, file_fault}
 use Rattle.dwz_docs.specs.ElfHeaders.{file_header}
 use Rattle.dwz_docs.specs.ElfNames.{sections_in}
 use Rattle.dwz_docs.specs.ElfReading.{elf_fault, section_range}
-use Rattle.dwz_docs.specs.Entries.{unless_so}
+use Rattle.dwz_docs.specs.Entries.{given, unless_so}
 use Rattle.dwz_docs.specs.Meanings.{HaveUnitFault, MeanUnits, Sources, all_places, units_meaning}
 use Rattle.dwz_docs.specs.Units.{IsUnitsFault, RawUnit, SpellsUnits, entries_in, units_at}
 
@@ -77,7 +77,7 @@ pub record Reads (l : Limits) (bytes : List ℕ) (units : List RawUnit) (doc : D
   pub size : IsNotTooLong l bytes
   pub elf : (f : _) → IsElfFault bytes f → ⊥
   pub same_machine : IsForMachine l.machine (machine_of bytes)
-  pub spelled : SpellsUnits (debug_abbrev bytes) l.entries 0 units 0 (debug_info bytes)
+  pub spelled : SpellsUnits (debug_abbrev bytes) (given l.entries) 0 units 0 (debug_info bytes)
   pub means : MeanUnits (sources_of bytes) (all_places units) units doc.units
   pub machine : doc.machine ≡ machine_of bytes
 
@@ -113,7 +113,7 @@ file_meaning l bytes =
     unless_so (is_too_long l bytes) (file_fault FileSize 0)
     >>= λ size. ends_at (elf_fault bytes)
     >>= λ elf. unless_so (is_other_machine l.machine (machine_of bytes)) (file_fault Machine machine_at)
-    >>= λ machine. units_at (debug_abbrev bytes) l.entries 0 (input (debug_info bytes) 0)
+    >>= λ machine. units_at (debug_abbrev bytes) (given l.entries) 0 (input (debug_info bytes) 0)
     >>= λ units. units_meaning (sources_of bytes) (all_places units) units >>= doc_with bytes units
 
 abbrev pub in_file : {X : Type 0} → ℕ → Result X Fault → Result X Refusal
@@ -142,7 +142,7 @@ IsOtherMachine (Some other) machine = machine ≢ other
 -- the units are spelled, and the first of them that means nothing has that fault
 pub record HasMeaningFault (l : Limits) (bytes : List ℕ) (f : Fault) : Type 0 where
   pub units : List RawUnit
-  pub spelled : SpellsUnits (debug_abbrev bytes) l.entries 0 units 0 (debug_info bytes)
+  pub spelled : SpellsUnits (debug_abbrev bytes) (given l.entries) 0 units 0 (debug_info bytes)
   pub fault : HaveUnitFault (sources_of bytes) (all_places units) units f
 
 -- The first fault of a file: it is too long; else the first fault of the ELF file; else it is for another machine than the files
@@ -155,7 +155,7 @@ IsFileFault l bytes f =
     ⊎ (((g : Fault) → IsElfFault bytes g → ⊥)
     × (((f ≡ file_fault Machine machine_at) × IsOtherMachine l.machine (machine_of bytes))
     ⊎ (IsForMachine l.machine (machine_of bytes)
-    × (IsUnitsFault (debug_abbrev bytes) l.entries 0 0 (debug_info bytes) f ⊎ HasMeaningFault l bytes f))))))
+    × (IsUnitsFault (debug_abbrev bytes) (given l.entries) 0 0 (debug_info bytes) f ⊎ HasMeaningFault l bytes f))))))
 
 -- a fault of the file with that number
 pub record IsRefusal (l : Limits) (number : ℕ) (bytes : List ℕ) (r : Refusal) : Type 0 where

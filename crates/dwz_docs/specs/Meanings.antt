@@ -4,12 +4,12 @@ use Rattle.dwz_model.specs.declared.fault.Fault.{Fault}
 use Rattle.dwz_model.specs.declared.fault.Reason.TheVariants.{BadString, BadReference, NotBuilt}
 use Rattle.dwz_bytes.specs.Reading.{◌>>=◌}
 use Rattle.dwz_bytes.specs.Spelling.{reach}
-use Rattle.dwz_docs.specs.Documents.{Addr, Attr, Block, Compile, Doc, DwUnit, Entries, Flag, Index, Kind, Node, Num, OfType, Plain, Sec, Sig, Text, Value, only, ref}
+use Rattle.dwz_docs.specs.Documents.{Addr, Attr, Block, Compile, Doc, DwUnit, Entries, Flag, Index, Kind, Node, Num, OfType, Partial, Plain, Sec, Sig, Text, Value, only, ref}
 use Rattle.dwz_docs.specs.Entries.{RawAttr, RawEntry}
 use Rattle.dwz_docs.specs.Faults.{info_fault}
 use Rattle.dwz_docs.specs.Texts.{IsSlot, IsTextAt, NoZero, slot, slot_place, text_at}
 use Rattle.dwz_docs.specs.Trees.{End, Entry, Forest}
-use Rattle.dwz_docs.specs.Units.{CompileUnit, RawKind, RawUnit, TypeUnit}
+use Rattle.dwz_docs.specs.Units.{CompileUnit, PartialUnit, RawKind, RawUnit, TypeUnit}
 use Rattle.dwz_docs.specs.Values.{Bytes, Number, Raw}
 
 -- ---- the class of a form (7.5.6)
@@ -261,6 +261,7 @@ MeanEntries s _ _ = ⊥
 -- the type of a type unit is an entry of that unit
 abbrev pub MeansKind : Scope → RawKind → Kind ℕ → Type 0
 MeansKind s CompileUnit k = k ≡ Compile
+MeansKind s PartialUnit k = k ≡ Partial
 MeansKind s (TypeUnit signature type_offset) k = In (s.unit + type_offset) s.own × (k ≡ OfType signature (s.unit + type_offset))
 
 -- the places of entries, in order
@@ -362,6 +363,7 @@ type_offset_at unit = unit + 20
 
 abbrev pub kind_meaning : Scope → RawKind → Result (Kind ℕ) Fault
 kind_meaning s CompileUnit = Ok Compile
+kind_meaning s PartialUnit = Ok Partial
 kind_meaning s (TypeUnit signature type_offset) =
     if has (s.unit + type_offset) s.own then Ok (OfType signature (s.unit + type_offset)) else Err (info_fault (type_offset_at s.unit) BadReference)
 
@@ -436,6 +438,7 @@ HasEntryFault s (Entry e children next) f =
 
 abbrev pub HasKindFault : Scope → RawKind → Fault → Type 0
 HasKindFault s CompileUnit f = ⊥
+HasKindFault s PartialUnit f = ⊥
 HasKindFault s (TypeUnit signature type_offset) f = IsBadReference (type_offset_at s.unit) s.own (s.unit + type_offset) f
 
 -- a type unit's type comes before its entries

@@ -7,15 +7,17 @@ use Rattle.dwz_bytes.specs.Input.{Input, past}
 use Rattle.dwz_bytes.specs.Reading.{◌>>=◌}
 use Rattle.dwz_bytes.specs.Spelling.{SpellsFixed, le_value}
 use Rattle.dwz_docs.specs.Abbrevs.{Declaration, IsBadTable, SpellsTable, table_at}
-use Rattle.dwz_docs.specs.Entries.{IsFrontFault, RawEntry, SpellsEntry, SpellsFront, UnitContext, front_at, root_position, unless_so}
+use Rattle.dwz_docs.specs.Entries.{IsFrontFault, Mode, RawEntry, SpellsEntry, SpellsFront, UnitContext, front_at, root_position, unless_so}
 use Rattle.dwz_docs.specs.Faults.{bad_abbrev, info_fault}
 use Rattle.dwz_docs.specs.Parts.{StandsAt}
 use Rattle.dwz_docs.specs.Trees.{Behind, Cut, Faulty, Here, Inside, Forest, IfChildren, Position, SpellsForest, TwoParts, children_by, first_below, siblings_at, size}
 
--- a compile unit (3.1.1), or a type unit with its signature and the offset of its type from the unit's first byte (3.1.4)
+-- a compile unit (3.1.1), a type unit with its signature and the offset of its type from the unit's first byte (3.1.4), or a
+-- partial unit (3.1.1)
 pub data RawKind : Type 0 where
   CompileUnit : RawKind
   TypeUnit : (signature : ℕ) → (type_offset : ℕ) → RawKind
+  PartialUnit : RawKind
 
 -- a unit as it is stored: where it begins and ends, the offset of its abbreviation table, its kind, its root, and the children
 -- of the root
@@ -56,23 +58,30 @@ address_size bytes = field 7 1 bytes
 abbrev pub debug_abbrev_offset : List ℕ → ℕ
 debug_abbrev_offset bytes = field 8 4 bytes
 
--- the kind of a unit by its type: DW_UT_compile is 1, DW_UT_type is 2
-abbrev pub kind_by : Bool → List ℕ → RawKind
-kind_by true bytes = TypeUnit (field 12 8 bytes) (field 20 4 bytes)
-kind_by false bytes = CompileUnit
+-- the kind of a unit by its type: DW_UT_compile is 1, DW_UT_type is 2, DW_UT_partial is 3
+abbrev pub kind_by : Bool → Bool → List ℕ → RawKind
+kind_by true is_partial bytes = TypeUnit (field 12 8 bytes) (field 20 4 bytes)
+kind_by false true bytes = PartialUnit
+kind_by false false bytes = CompileUnit
 
 abbrev pub kind_of : List ℕ → RawKind
-kind_of bytes = kind_by (unit_type bytes == 2) bytes
+kind_of bytes = kind_by (unit_type bytes == 2) (unit_type bytes == 3) bytes
 
 -- how many bytes the header has
 abbrev pub header_size : RawKind → ℕ
 header_size CompileUnit = 12
 header_size (TypeUnit signature type_offset) = 24
+header_size PartialUnit = 12
 
--- the tag that the root has to have: DW_TAG_compile_unit, DW_TAG_type_unit
+-- the tag that the root has to have: DW_TAG_compile_unit, DW_TAG_type_unit, DW_TAG_partial_unit
 abbrev pub root_tag : RawKind → ℕ
 root_tag CompileUnit = 0x11
 root_tag (TypeUnit signature type_offset) = 0x41
+root_tag PartialUnit = 0x3c
+
+-- which types of units are read
+abbrev pub is_read : Mode → ℕ → Bool
+is_read mode type = type == 1 || (type == 2 || (mode.partial && type == 3))
 
 -- the bytes that the length says: those of the unit, with the length itself
 abbrev pub unit_size : List ℕ → ℕ
@@ -87,13 +96,13 @@ pub record Test : Type 0 where
 abbrev pub test : Bool → Reason → Test
 test fails reason = record { fails = fails; reason = reason }
 
-abbrev pub header_tests : List ℕ → List Test
-header_tests bytes =
+abbrev pub header_tests : Mode → List ℕ → List Test
+header_tests mode bytes =
     test (nat_lt (length bytes) 4) Truncated
     ∷ test (not (nat_lt (unit_length bytes) 0xfffffff0)) DwarfFormat
     ∷ test (nat_lt (length bytes) (unit_size bytes) || nat_lt (unit_size bytes) 12) Truncated
     ∷ test (not (version bytes == 5)) Version
-    ∷ test (not (unit_type bytes == 1 || unit_type bytes == 2)) UnitType
+    ∷ test (not (is_read mode (unit_type bytes))) UnitType
     ∷ test (not (address_size bytes == 8)) AddressSize
     ∷ test (unit_type bytes == 2 && nat_lt (unit_size bytes) 24) Truncated
     ∷ []
@@ -103,18 +112,18 @@ abbrev pub first_failed : List Test → Option Reason
 first_failed [] = None
 first_failed (t ∷ tests) = if t.fails then Some t.reason else first_failed tests
 
-unfoldable pub header_reason : List ℕ → Option Reason
-header_reason bytes = first_failed (header_tests bytes)
+unfoldable pub header_reason : Mode → List ℕ → Option Reason
+header_reason mode bytes = first_failed (header_tests mode bytes)
 
 -- ---- how a unit is spelled
 
 -- the header of a unit of that size, kind and abbreviation offset
-pub record SpellsHeader (kind : RawKind) (len offset : ℕ) (bytes : List ℕ) : Type 0 where
+pub record SpellsHeader (mode : Mode) (kind : RawKind) (len offset : ℕ) (bytes : List ℕ) : Type 0 where
   pub size : length bytes ≡ header_size kind
   pub unit_length : field 0 4 bytes + 4 ≡ len
   pub is_32_bit : field 0 4 bytes < 0xfffffff0
   pub version : version bytes ≡ 5
-  pub unit_type : (unit_type bytes ≡ 1) ⊎ (unit_type bytes ≡ 2)
+  pub unit_type : is_read mode (unit_type bytes) ≡ true
   pub of_kind : kind ≡ kind_of bytes
   pub address_size : address_size bytes ≡ 8
   pub names_table : debug_abbrev_offset bytes ≡ offset
@@ -131,20 +140,20 @@ AreZeros [] = Unit {0}
 AreZeros (b ∷ bytes) = (b ≡ 0) × AreZeros bytes
 
 -- the table that stands at an offset of `.debug_abbrev`, for a unit of that kind with that end
-pub record IsContext (abbrevs : List ℕ) (offset : ℕ) (kind : RawKind) (end room : ℕ) (c : UnitContext) : Type 0 where
+pub record IsContext (abbrevs : List ℕ) (offset : ℕ) (kind : RawKind) (end : ℕ) (mode : Mode) (c : UnitContext) : Type 0 where
   pub stands : StandsAt SpellsTable abbrevs offset c.table
   pub same_root : c.root_tag ≡ root_tag kind
   pub same_end : c.end ≡ end
-  pub same_room : c.room ≡ room
+  pub same_mode : c.mode ≡ mode
 
 -- a unit, behind so many entries of other units: its header, its tree, and zero bytes up to its end
-pub record SpellsUnit (abbrevs : List ℕ) (room before : ℕ) (u : RawUnit) (start : ℕ) (bytes : List ℕ) : Type 0 where
+pub record SpellsUnit (abbrevs : List ℕ) (mode : Mode) (before : ℕ) (u : RawUnit) (start : ℕ) (bytes : List ℕ) : Type 0 where
   pub place : u.at ≡ start
   pub end : u.end ≡ start + length bytes
   pub context : UnitContext
-  pub is_context : IsContext abbrevs u.table_offset u.kind u.end room context
+  pub is_context : IsContext abbrevs u.table_offset u.kind u.end mode context
   pub header : List ℕ
-  pub is_header : SpellsHeader u.kind (length bytes) u.table_offset header
+  pub is_header : SpellsHeader mode u.kind (length bytes) u.table_offset header
   pub tree : List ℕ
   pub is_tree : SpellsTree context before u.root u.below (start + length header) tree
   pub padding : List ℕ
@@ -152,10 +161,10 @@ pub record SpellsUnit (abbrevs : List ℕ) (room before : ℕ) (u : RawUnit) (st
   pub parts : bytes ≡ header ++ (tree ++ padding)
 
 -- `.debug_info` is a row of units without gaps
-abbrev pub SpellsUnits : List ℕ → ℕ → ℕ → List RawUnit → ℕ → List ℕ → Type 0
-SpellsUnits abbrevs room before [] start bytes = bytes ≡ []
-SpellsUnits abbrevs room before (u ∷ units) start bytes =
-    TwoParts (SpellsUnit abbrevs room before u) (SpellsUnits abbrevs room (before + entry_count u) units) start bytes
+abbrev pub SpellsUnits : List ℕ → Mode → ℕ → List RawUnit → ℕ → List ℕ → Type 0
+SpellsUnits abbrevs mode before [] start bytes = bytes ≡ []
+SpellsUnits abbrevs mode before (u ∷ units) start bytes =
+    TwoParts (SpellsUnit abbrevs mode before u) (SpellsUnits abbrevs mode (before + entry_count u) units) start bytes
 
 -- ---- reading
 
@@ -202,8 +211,8 @@ behind_header i = record {
   rest = drop (header_size (kind_of i.rest)) (take (unit_size i.rest) i.rest);
 }
 
-abbrev pub context_of : Input → ℕ → List Declaration → UnitContext
-context_of i room table = record { table = table; root_tag = root_tag (kind_of i.rest); end = i.at + unit_size i.rest; room = room }
+abbrev pub context_of : Input → Mode → List Declaration → UnitContext
+context_of i mode table = record { table = table; root_tag = root_tag (kind_of i.rest); end = i.at + unit_size i.rest; mode = mode }
 
 abbrev pub unit_of : Input → Tree → Unit {0} → Result (RawUnit × Input) Fault
 unit_of i tree zeros =
@@ -212,15 +221,15 @@ unit_of i tree zeros =
 abbrev pub after_tree : Input → Tree × Input → Result (RawUnit × Input) Fault
 after_tree i tree = zeros_at tree.1 >>= unit_of i tree.0
 
-abbrev pub after_table : ℕ → ℕ → Input → List Declaration → Result (RawUnit × Input) Fault
-after_table room before i table = tree_at (context_of i room table) before (behind_header i) >>= after_tree i
+abbrev pub after_table : Mode → ℕ → Input → List Declaration → Result (RawUnit × Input) Fault
+after_table mode before i table = tree_at (context_of i mode table) before (behind_header i) >>= after_tree i
 
-abbrev pub after_header : List ℕ → ℕ → ℕ → Input → Unit {0} → Result (RawUnit × Input) Fault
-after_header abbrevs room before i header = table_at abbrevs (debug_abbrev_offset i.rest) >>= after_table room before i
+abbrev pub after_header : List ℕ → Mode → ℕ → Input → Unit {0} → Result (RawUnit × Input) Fault
+after_header abbrevs mode before i header = table_at abbrevs (debug_abbrev_offset i.rest) >>= after_table mode before i
 
 -- a unit, behind so many entries
-unfoldable pub unit_at : List ℕ → ℕ → ℕ → Input → Result (RawUnit × Input) Fault
-unit_at abbrevs room before i = header_at i (header_reason i.rest) >>= after_header abbrevs room before i
+unfoldable pub unit_at : List ℕ → Mode → ℕ → Input → Result (RawUnit × Input) Fault
+unit_at abbrevs mode before i = header_at i (header_reason mode i.rest) >>= after_header abbrevs mode before i
 
 abbrev pub with_unit : RawUnit → List RawUnit → Result (List RawUnit) Fault
 with_unit u units = Ok (u ∷ units)
@@ -230,14 +239,14 @@ is_empty [] = true
 is_empty (b ∷ bytes) = false
 
 -- at most k units
-unfoldable pub units_from : List ℕ → ℕ → ℕ → ℕ → Input → Result (List RawUnit) Fault
-units_from abbrevs room zero before i = Ok []
-units_from abbrevs room (suc k) before i =
-    if is_empty i.rest then Ok [] else (unit_at abbrevs room before i >>= λ u. units_from abbrevs room k (before + entry_count u.0) u.1 >>= with_unit u.0)
+unfoldable pub units_from : List ℕ → Mode → ℕ → ℕ → Input → Result (List RawUnit) Fault
+units_from abbrevs mode zero before i = Ok []
+units_from abbrevs mode (suc k) before i =
+    if is_empty i.rest then Ok [] else (unit_at abbrevs mode before i >>= λ u. units_from abbrevs mode k (before + entry_count u.0) u.1 >>= with_unit u.0)
 
 -- all units from an input on, behind so many entries: each takes a byte at least
-unfoldable pub units_at : List ℕ → ℕ → ℕ → Input → Result (List RawUnit) Fault
-units_at abbrevs room before i = units_from abbrevs room (length i.rest) before i
+unfoldable pub units_at : List ℕ → Mode → ℕ → Input → Result (List RawUnit) Fault
+units_at abbrevs mode before i = units_from abbrevs mode (length i.rest) before i
 
 -- ---- why units aren't read
 
@@ -275,24 +284,24 @@ pub record IsBadPadding (c : UnitContext) (before start : ℕ) (bytes : List ℕ
   pub placed : f ≡ info_fault (start + length tree + behind) BadRoot
 
 -- the header is good, and the table is not, or one stands there and the tree or what follows it has a fault
-pub record IsFaultBehindHeader (abbrevs : List ℕ) (room before : ℕ) (i : Input) (f : Fault) : Type 0 where
-  pub header : header_reason i.rest ≡ None
+pub record IsFaultBehindHeader (abbrevs : List ℕ) (mode : Mode) (before : ℕ) (i : Input) (f : Fault) : Type 0 where
+  pub header : header_reason mode i.rest ≡ None
   pub fault : ((place : ℕ) × (f ≡ bad_abbrev place) × IsBadTable abbrevs (debug_abbrev_offset i.rest) place)
       ⊎ ((table : List Declaration) × StandsAt SpellsTable abbrevs (debug_abbrev_offset i.rest) table
-      × (IsTreeFault (context_of i room table) before (behind_header i).at (behind_header i).rest f
-      ⊎ IsBadPadding (context_of i room table) before (behind_header i).at (behind_header i).rest f))
+      × (IsTreeFault (context_of i mode table) before (behind_header i).at (behind_header i).rest f
+      ⊎ IsBadPadding (context_of i mode table) before (behind_header i).at (behind_header i).rest f))
 
 -- the unit that begins there, behind so many entries, has that fault: the first test of its header that fails, or one behind it
-abbrev pub IsUnitFault : List ℕ → ℕ → ℕ → Input → Fault → Type 0
-IsUnitFault abbrevs room before i f =
-    ((reason : Reason) × (header_reason i.rest ≡ Some reason) × (f ≡ info_fault i.at reason)) ⊎ IsFaultBehindHeader abbrevs room before i f
+abbrev pub IsUnitFault : List ℕ → Mode → ℕ → Input → Fault → Type 0
+IsUnitFault abbrevs mode before i f =
+    ((reason : Reason) × (header_reason mode i.rest ≡ Some reason) × (f ≡ info_fault i.at reason)) ⊎ IsFaultBehindHeader abbrevs mode before i f
 
 -- units stand there, and the one behind them has that fault
-pub record IsUnitsFault (abbrevs : List ℕ) (room before start : ℕ) (bytes : List ℕ) (f : Fault) : Type 0 where
+pub record IsUnitsFault (abbrevs : List ℕ) (mode : Mode) (before start : ℕ) (bytes : List ℕ) (f : Fault) : Type 0 where
   pub units : List RawUnit
   pub front : List ℕ
-  pub spelled : SpellsUnits abbrevs room before units start front
+  pub spelled : SpellsUnits abbrevs mode before units start front
   pub rest : List ℕ
   pub some : 0 < length rest
   pub parts : bytes ≡ front ++ rest
-  pub is_fault : IsUnitFault abbrevs room (before + entries_in units) (record { at = start + length front; rest = rest }) f
+  pub is_fault : IsUnitFault abbrevs mode (before + entries_in units) (record { at = start + length front; rest = rest }) f

@@ -1,1 +1,2 @@
+mod Larger
 mod Rows

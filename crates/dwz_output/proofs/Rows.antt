@@ -1,5 +1,5 @@
 -- Small files, written by the definitions.
-use Rattle.std.proofs.Common.{◌≡◌, ℕ, List, [], ◌∷◌, ◌++◌, Result, Ok, Err, refl}
+use Rattle.std.proofs.Common.{◌≡◌, ℕ, List, [], ◌∷◌, ◌++◌, Ok, refl}
 use Rattle.dwz_bytes.specs.Reading.{groups_at, sleb_at, uleb_at}
 use Rattle.dwz_bytes.specs.Spelling.{groups_in, le_bytes, padded}
 use Rattle.dwz_codes.specs.Forms.{form_rows}
@@ -14,9 +14,9 @@ use Rattle.dwz_docs.specs.Units.{entries_in, header_reason, tree_at, unit_at, un
 use Rattle.dwz_docs.specs.Values.{shaped_at, value_bytes}
 use Rattle.dwz_output.specs.Alike.{any_entry, unit_in}
 use Rattle.dwz_output.specs.Deciding.{alike_test, bound_test, look_test, same_by, same_entries, same_int, same_part, same_plain, top_in}
-use Rattle.dwz_output.specs.Larger.{written}
+use Rattle.dwz_output.proofs.Larger.{written}
 use Rattle.dwz_output.specs.Out.{file_numbers, fitted}
-use Rattle.dwz_output.specs.Placing.{UnitSections, fit, has_key, keys, number_in, placed, sections, unit_keys, units_placed}
+use Rattle.dwz_output.specs.Placing.{fit, has_key, keys, number_in, placed, sections, unit_keys, units_placed}
 use Rattle.dwz_output.specs.Plan.{chain, changes, distinct, file_of, first_alike, home, imports, is_pinned, joined_parts, kept, kept_units, local_partials, numbers_from, out_units, partial_units, partials, partials_at, representatives, stand_in, staying, uleb_targets, users}
 use Rattle.dwz_output.specs.Spots.{entry_spots, named_files, row_length, same_numbers, same_spot, spot_in, spots_from, top_spots, tops_among, tops_from, tops_in}
 use Rattle.dwz_output.specs.Writing.{attrs_bytes, code_in, coded, joined, node_bytes, parts_bytes, same_shape, shapes_in, spelled, table_in, tables_of, tree_bytes, unit_bytes, units_bytes, with_shape, with_table}

@@ -5,5 +5,5 @@ pub mod Plan
 pub mod Writing
 pub mod Placing
 pub mod Out
-pub mod Larger
 pub mod Same
+pub mod ReadBack

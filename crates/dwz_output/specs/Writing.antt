@@ -1,5 +1,5 @@
 -- The bytes of units whose places are keys, under numbers for the keys (DWARF 5, 7.5).
-use Rattle.std.specs.Prelude.{◌≡◌, ℕ, ℤ, pos, suc, ◌+◌, ◌-◌, Bool, true, false, List, [], ◌∷◌, ◌++◌, length, map, Option, Some, None, ◌==◌, if◌then◌else◌}
+use Rattle.std.specs.Prelude.{ℕ, pos, suc, ◌+◌, ◌-◌, Bool, true, false, List, [], ◌∷◌, ◌++◌, length, map, Option, Some, None, ◌==◌, if◌then◌else◌}
 use Rattle.dwz_model.specs.declared.place.Base.{Base}
 use Rattle.dwz_model.specs.declared.place.Base.TheVariants.{Unit as FromUnit, Info as FromInfo}
 use Rattle.dwz_model.specs.declared.place.Pair.{Pair}
@@ -7,7 +7,7 @@ use Rattle.dwz_bytes.specs.Spelling.{le_bytes, padded, uleb}
 use Rattle.dwz_docs.specs.Abbrevs.{Declaration, children_byte, table_bytes}
 use Rattle.dwz_docs.specs.Documents.{Attr, Block, Compile, DwUnit, Entries, Expr, Kind, Node, OfType, Operand, Part, Partial, Plain, Same, Text}
 use Rattle.dwz_docs.specs.Meanings.{Class, OfBlock, OfExpression, OfInfoEntry, OfText, OfUnitEntry, class_of}
-use Rattle.dwz_docs.specs.Trees.{End, Entry, Forest}
+use Rattle.dwz_docs.specs.Trees.{End, Entry}
 use Rattle.dwz_docs.specs.Values.{Bytes, Number, Raw, value_bytes}
 use Rattle.dwz_output.specs.Deciding.{same_by, same_int}
 use Rattle.dwz_output.specs.Spots.{same_numbers}

@@ -1,9 +1,10 @@
 -- The whole way from sections to sections, for one file.
-use Rattle.std.specs.Prelude.{ℕ, List, [], ◌∷◌, Result, Ok, Err}
+use Rattle.std.specs.Prelude.{ℕ, List, [], ◌∷◌, Result, Ok}
 use Rattle.dwz_model.specs.declared.fault.Fault.{Fault}
 use Rattle.dwz_bytes.specs.Input.{input}
 use Rattle.dwz_bytes.specs.Reading.{◌>>=◌}
-use Rattle.dwz_docs.specs.Documents.{Doc, DwUnit}
+use Rattle.dwz_docs.specs.Documents.{DwUnit}
+use Rattle.dwz_docs.specs.Entries.{given}
 use Rattle.dwz_docs.specs.Meanings.{Sources, all_places, units_meaning}
 use Rattle.dwz_docs.specs.Units.{units_at}
 use Rattle.dwz_output.specs.Alike.{Apart}
@@ -20,4 +21,4 @@ after_units units =
     Ok (new_sections (alike_test Apart names) names (0 ∷ []) 0)
 
 abbrev pub written : List ℕ → List ℕ → Result UnitSections Fault
-written info abbrevs = units_at abbrevs 1000 0 (input info 0) >>= λ units. units_meaning no_sources (all_places units) units >>= after_units
+written info abbrevs = units_at abbrevs (given 1000) 0 (input info 0) >>= λ units. units_meaning no_sources (all_places units) units >>= after_units

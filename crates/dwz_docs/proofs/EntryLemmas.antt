@@ -16,7 +16,7 @@ use Rattle.dwz_bytes.proofs.LebLemmas.{leb_short, leb_wide}
 use Rattle.dwz_bytes.proofs.PaddedLemmas.{some_groups}
 use Rattle.dwz_codes.specs.Forms.{form_rows}
 use Rattle.dwz_docs.specs.Abbrevs.{Declaration, find_decl}
-use Rattle.dwz_docs.specs.Entries.{BeginsWithZero, IsAttr, IsAttrFault, IsDeclared, IsDeclaredFault, IsFrontFault, MayStand, RawAttr, RawEntry, SpellsAttrs, SpellsCode, SpellsEntry, SpellsFront, UnitContext, after_code, after_decl, after_zero, attrs_at, code_fault, coded, declared_at, deepest, entry_of, fault_in_entry, front_at, in_entry, is_wrong_root, unless_so, with_value}
+use Rattle.dwz_docs.specs.Entries.{BeginsWithZero, IsAttr, IsAttrFault, IsDeclared, IsDeclaredFault, IsFrontFault, MayStand, RawAttr, RawEntry, SpellsAttrs, SpellsCode, SpellsEntry, SpellsFront, UnitContext, after_code, after_decl, after_zero, attrs_at, code_fault, coded, declared_at, entry_of, fault_in_entry, front_at, in_entry, is_wrong_root, unless_so, with_value}
 use Rattle.dwz_docs.specs.Faults.{info_fault}
 use Rattle.dwz_docs.specs.Trees.{AreFronts, FailsAs, Position}
 use Rattle.dwz_docs.specs.Values.{IsValueFault, Raw, SpellsValue, shape_of, value_at}
@@ -268,10 +268,10 @@ abbrev behind_room : ℕ → Declaration → Input → Unit {0} → Result (Opti
 behind_room at d i room = attrs_at at d.pairs i >>= entry_of at d
 
 abbrev behind_depth : UnitContext → Position → ℕ → Input → Declaration → Unit {0} → Result (Option RawEntry × Input) Fault
-behind_depth c p at i d depth = unless_so (ltb c.room (p.before + 1)) (info_fault at TooMany) >>= behind_room at d i
+behind_depth c p at i d depth = unless_so (ltb c.mode.entries (p.before + 1)) (info_fault at TooMany) >>= behind_room at d i
 
 abbrev behind_root : UnitContext → Position → ℕ → Input → Declaration → Unit {0} → Result (Option RawEntry × Input) Fault
-behind_root c p at i d root = unless_so (ltb deepest p.depth) (info_fault at TooDeep) >>= behind_depth c p at i d
+behind_root c p at i d root = unless_so (ltb c.mode.depth p.depth) (info_fault at TooDeep) >>= behind_depth c p at i d
 
 -- ---- fronts: what is read is spelled
 
@@ -286,14 +286,14 @@ decl_found : (c : UnitContext) (p : Position) (i k j : Input) (d : Declaration) 
 decl_found c p i k j d o front code takes e =
     let at = i.at in
     let root = bind_ok (unless_so (is_wrong_root c p d) (info_fault at BadRoot)) (behind_root c p at k d) (o, j) e in
-    let depth = bind_ok (unless_so (ltb deepest p.depth) (info_fault at TooDeep)) (behind_depth c p at k d) (o, j) root.2 in
-    let room = bind_ok (unless_so (ltb c.room (p.before + 1)) (info_fault at TooMany)) (behind_room at d k) (o, j) depth.2 in
+    let depth = bind_ok (unless_so (ltb c.mode.depth p.depth) (info_fault at TooDeep)) (behind_depth c p at k d) (o, j) root.2 in
+    let room = bind_ok (unless_so (ltb c.mode.entries (p.before + 1)) (info_fault at TooMany)) (behind_room at d k) (o, j) depth.2 in
     let a = bind_ok (attrs_at at d.pairs k) (entry_of at d) (o, j) room.2 in
     let t = attrs_found d.pairs at k a.0.1 a.0.0 a.1 in
     let stands : MayStand c p d = record {
       root = right_root c p d (unless_ok _ _ _ root.1);
-      depth = ltb-false deepest p.depth (unless_ok _ _ _ depth.1);
-      room = omega (arith, ltb-false c.room (p.before + 1) (unless_ok _ _ _ room.1));
+      depth = ltb-false c.mode.depth p.depth (unless_ok _ _ _ depth.1);
+      room = omega (arith, ltb-false c.mode.entries (p.before + 1) (unless_ok _ _ _ room.1));
     } in
     let entry : RawEntry = record { at = at; tag = d.tag; children = d.children; attrs = a.0.0 } in
     let same : Some entry ≡ o = same_value (Some entry) o a.0.1 j (entry_of at d a.0) refl a.2 in
@@ -357,8 +357,8 @@ front_found c p i j o e =
 decl_again : (c : UnitContext) (p : Position) (at : ℕ) (k : Input) (d : Declaration) → MayStand c p d → after_decl c p at k d ≡ (attrs_at at d.pairs k >>= entry_of at d)
 decl_again c p at k d stands =
     let root : is_wrong_root c p d ≡ false = not_wrong c p d stands.root in
-    let depth : ltb deepest p.depth ≡ false = le-ltb deepest p.depth stands.depth in
-    let room : ltb c.room (p.before + 1) ≡ false = le-ltb c.room (p.before + 1) (omega (arith, stands.room)) in
+    let depth : ltb c.mode.depth p.depth ≡ false = le-ltb c.mode.depth p.depth stands.depth in
+    let room : ltb c.mode.entries (p.before + 1) ≡ false = le-ltb c.mode.entries (p.before + 1) (omega (arith, stands.room)) in
     ap (λ (b : Bool). unless_so b (info_fault at BadRoot) >>= behind_root c p at k d) root
     ∙ ap (λ (b : Bool). unless_so b (info_fault at TooDeep) >>= behind_depth c p at k d) depth
     ∙ ap (λ (b : Bool). unless_so b (info_fault at TooMany) >>= behind_room at d k) room
@@ -430,15 +430,15 @@ decl_fault c p at k d f e =
     elim (bind_err (unless_so (is_wrong_root c p d) (info_fault at BadRoot)) (behind_root c p at k d) f e) [
       | inl r ↦ let t = unless_err _ _ f r in let w = wrong_root c p d t.0 in inl (t.1, w.0, w.1)
       | inr r ↦
-          elim (bind_err (unless_so (ltb deepest p.depth) (info_fault at TooDeep)) (behind_depth c p at k d) f r.2) [
-            | inl s ↦ let t = unless_err _ _ f s in inr (inl (t.1, ltb-true deepest p.depth t.0))
+          elim (bind_err (unless_so (ltb c.mode.depth p.depth) (info_fault at TooDeep)) (behind_depth c p at k d) f r.2) [
+            | inl s ↦ let t = unless_err _ _ f s in inr (inl (t.1, right_root c p d (unless_ok _ _ _ r.1), ltb-true c.mode.depth p.depth t.0))
             | inr s ↦
                 let root = right_root c p d (unless_ok _ _ _ r.1) in
-                let depth : p.depth ≤ deepest = ltb-false deepest p.depth (unless_ok _ _ _ s.1) in
-                elim (bind_err (unless_so (ltb c.room (p.before + 1)) (info_fault at TooMany)) (behind_room at d k) f s.2) [
-                  | inl t ↦ let u = unless_err _ _ f t in inr (inr (inl (u.1, root, depth, omega (arith, ltb-true c.room (p.before + 1) u.0))))
+                let depth : p.depth ≤ c.mode.depth = ltb-false c.mode.depth p.depth (unless_ok _ _ _ s.1) in
+                elim (bind_err (unless_so (ltb c.mode.entries (p.before + 1)) (info_fault at TooMany)) (behind_room at d k) f s.2) [
+                  | inl t ↦ let u = unless_err _ _ f t in inr (inr (inl (u.1, root, depth, omega (arith, ltb-true c.mode.entries (p.before + 1) u.0))))
                   | inr t ↦
-                      let stands : MayStand c p d = record { root = root; depth = depth; room = omega (arith, ltb-false c.room (p.before + 1) (unless_ok _ _ _ t.1)) } in
+                      let stands : MayStand c p d = record { root = root; depth = depth; room = omega (arith, ltb-false c.mode.entries (p.before + 1) (unless_ok _ _ _ t.1)) } in
                       let attrs : attrs_at at d.pairs k ≡ Err f = elim (bind_err (attrs_at at d.pairs k) (entry_of at d) f t.2) [ inl u ↦ u | inr u ↦ absurd cc ] in
                       inr (inr (inr (stands, attrs_fault d.pairs at k f attrs)))
                 ]
@@ -500,15 +500,14 @@ decl_fails c p d at start bytes f is =
           ∙ ap (λ (g : Fault). Err g) (sym r.0)
       | inr r ↦ elim r [
         | inl s ↦
-            let right : is_wrong_root c p d ≡ false = not_wrong c p d (λ root. absurd (omega (arith, s.1, root))) in
-            ap (λ (b : Bool). unless_so b (info_fault at BadRoot) >>= behind_root c p at (input_at start bytes) d) right
-            ∙ ap (λ (b : Bool). unless_so b (info_fault at TooDeep) >>= behind_depth c p at (input_at start bytes) d) (lt-ltb deepest p.depth s.1)
+            ap (λ (b : Bool). unless_so b (info_fault at BadRoot) >>= behind_root c p at (input_at start bytes) d) (not_wrong c p d s.1)
+            ∙ ap (λ (b : Bool). unless_so b (info_fault at TooDeep) >>= behind_depth c p at (input_at start bytes) d) (lt-ltb c.mode.depth p.depth s.2)
             ∙ ap (λ (g : Fault). Err g) (sym s.0)
         | inr s ↦ elim s [
           | inl t ↦
-              let full : ltb c.room (p.before + 1) ≡ true = lt-ltb c.room (p.before + 1) (omega (arith, t.3)) in
+              let full : ltb c.mode.entries (p.before + 1) ≡ true = lt-ltb c.mode.entries (p.before + 1) (omega (arith, t.3)) in
               ap (λ (b : Bool). unless_so b (info_fault at BadRoot) >>= behind_root c p at (input_at start bytes) d) (not_wrong c p d t.1)
-              ∙ ap (λ (b : Bool). unless_so b (info_fault at TooDeep) >>= behind_depth c p at (input_at start bytes) d) (le-ltb deepest p.depth t.2)
+              ∙ ap (λ (b : Bool). unless_so b (info_fault at TooDeep) >>= behind_depth c p at (input_at start bytes) d) (le-ltb c.mode.depth p.depth t.2)
               ∙ ap (λ (b : Bool). unless_so b (info_fault at TooMany) >>= behind_room at d (input_at start bytes)) full
               ∙ ap (λ (g : Fault). Err g) (sym t.0)
           | inr t ↦

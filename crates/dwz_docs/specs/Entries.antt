@@ -30,17 +30,24 @@ pub record RawEntry : Type 0 where
   pub children : Bool
   pub attrs : List RawAttr
 
+-- what is read: how many entries there may be in all, how deep an entry may be, where a root has depth 1, and whether there may
+-- be partial units
+pub record Mode : Type 0 where
+  pub entries : ℕ
+  pub depth : ℕ
+  pub partial : Bool
+
+-- the files that are given: no entry is deeper than 256, and no unit is partial
+abbrev pub given : ℕ → Mode
+given entries = record { entries = entries; depth = 256; partial = false }
+
 -- what reading the entries of a unit needs: the unit's abbreviation table, the tag that its root has to have, where the unit
--- ends, and how many entries there may be before and in it
+-- ends, and what is read
 pub record UnitContext : Type 0 where
   pub table : List Declaration
   pub root_tag : ℕ
   pub end : ℕ
-  pub room : ℕ
-
--- no entry may be deeper, where a root has depth 1
-abbrev pub deepest : ℕ
-deepest = 256
+  pub mode : Mode
 
 -- where a root stands, behind so many entries of other units
 abbrev pub root_position : ℕ → Position
@@ -71,8 +78,8 @@ pub record SpellsCode (table : List Declaration) (d : Declaration) (bytes : List
 -- room for it
 pub record MayStand (c : UnitContext) (p : Position) (d : Declaration) : Type 0 where
   pub root : p.depth ≡ 1 → d.tag ≡ c.root_tag
-  pub depth : p.depth ≤ deepest
-  pub room : p.before < c.room
+  pub depth : p.depth ≤ c.mode.depth
+  pub room : p.before < c.mode.entries
 
 -- an entry is the code of its declaration, and the values of its attributes
 pub record SpellsEntry (c : UnitContext) (p : Position) (e : RawEntry) (start : ℕ) (bytes : List ℕ) : Type 0 where
@@ -134,8 +141,8 @@ is_wrong_root c p d = p.depth == 1 && not (d.tag == c.root_tag)
 abbrev pub after_decl : UnitContext → Position → ℕ → Input → Declaration → Result (Option RawEntry × Input) Fault
 after_decl c p at i d =
     unless_so (is_wrong_root c p d) (info_fault at BadRoot)
-    >>= λ root. unless_so (nat_lt deepest p.depth) (info_fault at TooDeep)
-    >>= λ depth. unless_so (nat_lt c.room (p.before + 1)) (info_fault at TooMany)
+    >>= λ root. unless_so (nat_lt c.mode.depth p.depth) (info_fault at TooDeep)
+    >>= λ depth. unless_so (nat_lt c.mode.entries (p.before + 1)) (info_fault at TooMany)
     >>= λ room. attrs_at at d.pairs i >>= entry_of at d
 
 abbrev pub declared_at : ℕ → Option Declaration → Result Declaration Fault
@@ -207,8 +214,8 @@ pub record BeginsWithZero (bytes : List ℕ) : Type 0 where
 abbrev pub IsDeclaredFault : UnitContext → Position → Declaration → ℕ → ℕ → List ℕ → Fault → Type 0
 IsDeclaredFault c p d at start bytes f =
     ((f ≡ info_fault at BadRoot) × (p.depth ≡ 1) × (d.tag ≢ c.root_tag))
-    ⊎ (((f ≡ info_fault at TooDeep) × (deepest < p.depth))
-    ⊎ (((f ≡ info_fault at TooMany) × (p.depth ≡ 1 → d.tag ≡ c.root_tag) × (p.depth ≤ deepest) × (c.room ≤ p.before))
+    ⊎ (((f ≡ info_fault at TooDeep) × (p.depth ≡ 1 → d.tag ≡ c.root_tag) × (c.mode.depth < p.depth))
+    ⊎ (((f ≡ info_fault at TooMany) × (p.depth ≡ 1 → d.tag ≡ c.root_tag) × (p.depth ≤ c.mode.depth) × (c.mode.entries ≤ p.before))
     ⊎ (MayStand c p d × IsAttrFault at d.pairs start bytes f)))
 
 -- no front of an entry, and no end of a sibling list, is read there, for one of these reasons

@@ -12,3 +12,6 @@ pub mod Trees
 pub mod ElfLayout
 pub mod Entries
 pub mod Units
+pub mod Documents
+pub mod Meanings
+pub mod Files

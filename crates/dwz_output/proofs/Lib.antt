@@ -1,0 +1,2 @@
+mod Larger
+mod Rows

@@ -1,0 +1,9 @@
+pub mod Spots
+pub mod Alike
+pub mod Deciding
+pub mod Plan
+pub mod Writing
+pub mod Placing
+pub mod Out
+pub mod Same
+pub mod ReadBack

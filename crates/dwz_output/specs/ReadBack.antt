@@ -1,0 +1,36 @@
+-- What was written, read back with imports expanded, is what was read.
+use Rattle.std.specs.Prelude.{◌≡◌, ℕ, true, List, [], ◌∷◌}
+use Rattle.dwz_docs.specs.Documents.{Doc, DwUnit}
+use Rattle.dwz_docs.specs.ElfFaults.{IsElfFault}
+use Rattle.dwz_docs.specs.Entries.{Mode}
+use Rattle.dwz_docs.specs.Files.{debug_abbrev, debug_info, machine_of, sources_of}
+use Rattle.dwz_docs.specs.Meanings.{MeanUnits, all_places}
+use Rattle.dwz_docs.specs.Units.{RawUnit, SpellsUnits}
+use Rattle.dwz_output.specs.Alike.{Apart}
+use Rattle.dwz_output.specs.Out.{alike_in, has_changes, image_place, one_file}
+use Rattle.dwz_output.specs.Out as out
+use Rattle.dwz_output.specs.Plan.{moves}
+use Rattle.dwz_output.specs.Same.{EntriesSame, OneImage, UnitsSame}
+
+-- A file that was written says these units: it has no fault of an ELF file, and its units, of which some may be partial, are spelled
+-- and mean these. No limit on depth or on entries is asked of it.
+pub record Back (bytes : List ℕ) (units : List (DwUnit ℕ)) : Type 0 where
+  pub elf : (f : _) → IsElfFault bytes f → ⊥
+  pub mode : Mode
+  pub partial : mode.partial ≡ true
+  pub raw : List RawUnit
+  pub spelled : SpellsUnits (debug_abbrev bytes) mode 0 raw 0 (debug_info bytes)
+  pub means : MeanUnits (sources_of bytes) (all_places raw) raw units
+
+-- the file that stands for one that says this reads back as the same, along images
+pub record ReadsBack (doc : Doc ℕ) (bytes : List ℕ) : Type 0 where
+  pub machine : machine_of bytes ≡ doc.machine
+  pub units : List (DwUnit ℕ)
+  pub back : Back bytes units
+  pub entries : EntriesSame (out.image_in doc) doc.units units
+  pub same : UnitsSame (out.image_in doc) doc.units units
+
+-- and entries share an image exactly where nothing tells them apart
+abbrev pub HasOneImage : Doc ℕ → Type 0
+HasOneImage doc =
+    has_changes doc ≡ true → OneImage Apart (one_file doc) (λ n. moves (alike_in doc) (one_file doc) n ≡ true) (image_place (alike_in doc) (one_file doc) (0 ∷ []) 0)

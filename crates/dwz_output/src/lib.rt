@@ -1,0 +1,4 @@
+//! What is written, and what it says when it is read back.
+//!
+//! There is no running code here. The definitions stand in `specs/`; here are laws, which are functions without a body.
+#![tactic(auto)]

@@ -9,4 +9,7 @@ pub mod TableLemmas
 pub mod ElfFaultLemmas
 pub mod TreeLemmas
 pub mod TreeSteps
+pub mod AgreeLemmas
+pub mod MeaningLemmas
+pub mod ClassLemmas
 mod UnitRows

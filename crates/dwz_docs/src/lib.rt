@@ -8,11 +8,13 @@
 mod abbrevs;
 mod elf;
 mod elf_faults;
+mod meanings;
 mod texts;
 mod values;
 
 pub use abbrevs::table_laws;
 pub use elf::{FileHeader, Header, Moved, Name, NewContent, Section};
 pub use elf_faults::elf_fault_laws;
+pub use meanings::meaning_laws;
 pub use texts::{slot_laws, text_laws};
 pub use values::value_laws;

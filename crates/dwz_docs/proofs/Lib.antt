@@ -12,4 +12,5 @@ pub mod TreeSteps
 pub mod AgreeLemmas
 pub mod MeaningLemmas
 pub mod ClassLemmas
+mod MeaningRows
 mod UnitRows

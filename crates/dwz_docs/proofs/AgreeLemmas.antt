@@ -44,16 +44,16 @@ then_made {X} {Y} {E} {r} {M} {F} a c = record {
   );
 }
 
--- a step, and then the others
+-- a step, and then the others, whose relations may speak of what it answered
 abbrev pub Next : {X Y : Type 0} → (X → Type 0) → (X → Y → Type 0) → Y → Type 0
 Next {X} M N y = (x : X) × M x × N x y
 
-abbrev pub Or : {X E : Type 0} → (E → Type 0) → (X → Type 0) → (E → Type 0) → E → Type 0
-Or {X} F M G e = F e ⊎ (((x : X) × M x) × G e)
+abbrev pub OrNext : {X E : Type 0} → (E → Type 0) → (X → Type 0) → (X → E → Type 0) → E → Type 0
+OrNext {X} F M G e = F e ⊎ ((x : X) × M x × G x e)
 
-pub and_then : {X Y E : Type 0} {r : Result X E} {M : X → Type 0} {F : E → Type 0} {N : X → Y → Type 0} {G : E → Type 0}
-    → Agrees r M F → (f : X → Result Y E) → ((x : X) → Agrees (f x) (N x) G) → Agrees (r >>= f) (Next M N) (Or F M G)
-and_then {X} {Y} {E} {r} {M} {F} {N} {G} a f others = record {
+pub and_with : {X Y E : Type 0} {r : Result X E} {M : X → Type 0} {F : E → Type 0} {N : X → Y → Type 0} {G : X → E → Type 0}
+    → Agrees r M F → (f : X → Result Y E) → ((x : X) → Agrees (f x) (N x) (G x)) → Agrees (r >>= f) (Next M N) (OrNext F M G)
+and_with {X} {Y} {E} {r} {M} {F} {N} {G} a f others = record {
   ok = λ y. (
     λ is. let b = bind_ok r f y is in (b.0, (a.ok b.0).0 b.1, ((others b.0).ok y).0 b.2),
     λ holds. let e = (a.ok holds.0).1 holds.1 in rw e (((others holds.0).ok y).1 holds.2),
@@ -61,14 +61,26 @@ and_then {X} {Y} {E} {r} {M} {F} {N} {G} a f others = record {
   err = λ e. (
     λ is. elim (bind_err r f e is) [
       | inl d ↦ inl ((a.err e).0 d)
-      | inr b ↦ inr ((b.0, (a.ok b.0).0 b.1), ((others b.0).err e).0 b.2)
+      | inr b ↦ inr (b.0, (a.ok b.0).0 b.1, ((others b.0).err e).0 b.2)
     ],
     λ holds. elim holds [
-      | inl d ↦ let no = (a.err e).1 d in rw no refl
-      | inr p ↦ let is = (a.ok p.0.0).1 p.0.1 in rw is (((others p.0.0).err e).1 p.1)
+      | inl d ↦ let none = (a.err e).1 d in rw none refl
+      | inr p ↦ let is = (a.ok p.0).1 p.1 in rw is (((others p.0).err e).1 p.2)
     ],
   );
 }
+
+-- a step, and then the others, whose fault says nothing of what it answered
+abbrev pub Or : {X E : Type 0} → (E → Type 0) → (X → Type 0) → (E → Type 0) → E → Type 0
+Or {X} F M G e = F e ⊎ (((x : X) × M x) × G e)
+
+pub and_then : {X Y E : Type 0} {r : Result X E} {M : X → Type 0} {F : E → Type 0} {N : X → Y → Type 0} {G : E → Type 0}
+    → Agrees r M F → (f : X → Result Y E) → ((x : X) → Agrees (f x) (N x) G) → Agrees (r >>= f) (Next M N) (Or F M G)
+and_then {X} {Y} {E} {r} {M} {F} {N} {G} a f others =
+    in_words (and_with a f others) (λ y. (λ h. h, λ h. h)) (λ e. (
+      λ h. elim h [ inl d ↦ inl d | inr p ↦ inr ((p.0, p.1), p.2) ],
+      λ h. elim h [ inl d ↦ inl d | inr p ↦ inr (p.0.0, p.0.1, p.1) ],
+    ))
 
 -- ---- what follows: one value at most, one fault at most, and just one of them
 

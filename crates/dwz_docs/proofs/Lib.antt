@@ -12,5 +12,6 @@ pub mod TreeSteps
 pub mod AgreeLemmas
 pub mod MeaningLemmas
 pub mod ClassLemmas
+pub mod FileLemmas
 mod MeaningRows
 mod UnitRows

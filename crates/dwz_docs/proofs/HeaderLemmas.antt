@@ -121,7 +121,7 @@ field-append at width front rest le =
     let taken : take width (drop at front ++ rest) ≡ take width (drop at front) = take-append-le width (drop at front) rest (omega (arith, length-drop at front, le)) in
     ap (λ (w : List ℕ). le_value (take width w)) dropped ∙ ap le_value taken
 
-header_some : (kind : RawKind) → 12 ≤ header_size kind
+pub header_some : (kind : RawKind) → 12 ≤ header_size kind
 header_some CompileUnit = omega arith
 header_some (TypeUnit signature type_offset) = omega arith
 

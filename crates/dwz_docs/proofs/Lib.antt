@@ -13,4 +13,5 @@ pub mod EntryLemmas
 pub mod UnitTreeLemmas
 pub mod HeaderLemmas
 pub mod UnitLemmas
+pub mod UnitListLemmas
 mod UnitRows

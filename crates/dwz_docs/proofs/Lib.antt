@@ -14,4 +14,5 @@ pub mod UnitTreeLemmas
 pub mod HeaderLemmas
 pub mod UnitLemmas
 pub mod UnitListLemmas
+pub mod UnitReads
 mod UnitRows

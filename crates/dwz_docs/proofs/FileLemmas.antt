@@ -21,6 +21,7 @@ use Rattle.dwz_docs.specs.Units.{IsUnitsFault, RawUnit, SpellsUnits, units_at}
 use Rattle.dwz_docs.proofs.AgreeLemmas.{Agrees, Made, Next, OrNext, agrees_err, agrees_ok, and_with, in_words, then_made}
 use Rattle.dwz_docs.proofs.ElfFaultLemmas.{elf_is_sound}
 use Rattle.dwz_docs.proofs.MeaningLemmas.{units_agree}
+use Rattle.dwz_docs.proofs.UnitListLemmas.{units_again, units_fault, units_fault_again, units_found}
 
 -- ---- the first ELF fault is one
 
@@ -147,27 +148,30 @@ abbrev Mean : List ℕ → List RawUnit → List (DwUnit ℕ) → Type 0
 Mean bytes units = MeanUnits (sources_of bytes) (all_places units) units
 
 -- reading units agrees with how they are spelled
-abbrev pub UnitsAgree : Type 0
-UnitsAgree = (abbrevs : List ℕ) (room : ℕ) (bytes : List ℕ)
+units_spelled : (abbrevs : List ℕ) (room : ℕ) (bytes : List ℕ)
     → Agrees (units_at abbrevs room 0 (input bytes 0)) (λ units. SpellsUnits abbrevs room 0 units 0 bytes) (IsUnitsFault abbrevs room 0 0 bytes)
+units_spelled abbrevs room bytes = record {
+  ok = λ units. (units_found abbrevs room 0 (input bytes 0) units, units_again abbrevs room 0 units 0 bytes);
+  err = λ f. (units_fault abbrevs room 0 (input bytes 0) f, units_fault_again abbrevs room 0 0 bytes f);
+}
 
 abbrev in_units : List ℕ → List RawUnit → Result Read Fault
 in_units bytes units = units_meaning (sources_of bytes) (all_places units) units >>= doc_with bytes units
 
-units_then : UnitsAgree → (l : Limits) (bytes : List ℕ)
+units_then : (l : Limits) (bytes : List ℕ)
     → Agrees (units_at (debug_abbrev bytes) l.entries 0 (input (debug_info bytes) 0) >>= in_units bytes)
     (Next (Spelled l bytes) (λ units. Made (Mean bytes units) (doc_of bytes units)))
     (OrNext (IsUnitsFault (debug_abbrev bytes) l.entries 0 0 (debug_info bytes)) (Spelled l bytes) (λ units. HaveUnitFault (sources_of bytes) (all_places units) units))
-units_then laws l bytes =
-    and_with (laws (debug_abbrev bytes) l.entries (debug_info bytes)) (in_units bytes)
+units_then l bytes =
+    and_with (units_spelled (debug_abbrev bytes) l.entries (debug_info bytes)) (in_units bytes)
     (λ units. then_made (units_agree (sources_of bytes) (all_places units) units) (doc_of bytes units))
 
-pub file_agrees : UnitsAgree → (l : Limits) (bytes : List ℕ) → Agrees (file_meaning l bytes) (λ x. Reads l bytes x.0 x.1) (IsFileFault l bytes)
+pub file_agrees : (l : Limits) (bytes : List ℕ) → Agrees (file_meaning l bytes) (λ x. Reads l bytes x.0 x.1) (IsFileFault l bytes)
 unfolding file_meaning
-file_agrees laws l bytes =
+file_agrees l bytes =
     in_words (and_unless (size_agrees l bytes) (λ size. ends_at (elf_fault bytes) >>= after_elf)
     (and_unless (elf_agrees bytes) after_elf
-    (and_unless (machine_agrees l.machine (machine_of bytes)) after_machine (units_then laws l bytes))))
+    (and_unless (machine_agrees l.machine (machine_of bytes)) after_machine (units_then l bytes))))
     means faults where
       after_machine : Unit {0} → Result Read Fault
       after_machine machine = units_at (debug_abbrev bytes) l.entries 0 (input (debug_info bytes) 0) >>= in_units bytes
@@ -263,15 +267,15 @@ numbered number l bytes a = by (file_meaning l bytes) a where
     );
   }
 
-pub files_agree : UnitsAgree → (l : Limits) (number : ℕ) (files : List (List ℕ)) → Agrees (files_meaning l number files) (ReadAll l files) (First l number files)
+pub files_agree : (l : Limits) (number : ℕ) (files : List (List ℕ)) → Agrees (files_meaning l number files) (ReadAll l files) (First l number files)
 unfolding files_meaning
-files_agree laws l number [] = in_words (agrees_ok []) means (λ r. (λ none. none, λ none. none)) where
+files_agree l number [] = in_words (agrees_ok []) means (λ r. (λ none. none, λ none. none)) where
   means : (docs : List (Doc ℕ)) → (docs ≡ []) ↔ ReadAll l [] docs
   means [] = (λ same. tt, λ is. refl)
   means (doc ∷ docs) = (λ same. absurd cc, λ none. absurd none)
-files_agree laws l number (bytes ∷ files) =
-    in_words (and_with (numbered number l bytes (file_agrees laws l bytes)) (λ x. files_meaning (limits_after l bytes x.0) (suc number) files >>= λ docs. Ok (x.1 ∷ docs))
-    (λ x. then_made (files_agree laws (limits_after l bytes x.0) (suc number) files) (λ docs. x.1 ∷ docs)))
+files_agree l number (bytes ∷ files) =
+    in_words (and_with (numbered number l bytes (file_agrees l bytes)) (λ x. files_meaning (limits_after l bytes x.0) (suc number) files >>= λ docs. Ok (x.1 ∷ docs))
+    (λ x. then_made (files_agree (limits_after l bytes x.0) (suc number) files) (λ docs. x.1 ∷ docs)))
     means faults where
       means : (docs : List (Doc ℕ)) → Next (λ (x : Read). Reads l bytes x.0 x.1) (λ x. Made (ReadAll (limits_after l bytes x.0) files) (λ ds. x.1 ∷ ds)) docs ↔ ReadAll l (bytes ∷ files) docs
       means [] = (λ h. absurd (let none = h.2.2 in cc), λ none. absurd none)

@@ -9,6 +9,12 @@ pub mod TableLemmas
 pub mod ElfFaultLemmas
 pub mod TreeLemmas
 pub mod TreeSteps
+pub mod EntryLemmas
+pub mod UnitTreeLemmas
+pub mod HeaderLemmas
+pub mod UnitLemmas
+pub mod UnitListLemmas
+pub mod UnitReads
 pub mod AgreeLemmas
 pub mod MeaningLemmas
 pub mod ClassLemmas

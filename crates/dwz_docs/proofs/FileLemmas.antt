@@ -26,20 +26,20 @@ use Rattle.dwz_docs.proofs.UnitListLemmas.{units_again, units_fault, units_fault
 -- ---- the first ELF fault is one
 
 -- what the one says of a fault, the other does
-record Gives (First Any : Fault → Type 0) : Type 0 where
-  it : (f : Fault) → First f → Any f
+record Covers (First Any : Fault → Type 0) : Type 0 where
+  each : (f : Fault) → First f → Any f
 
-itself : (First : Fault → Type 0) → Gives First First
-itself First = record { it = λ f h. h }
+itself : (First : Fault → Type 0) → Covers First First
+itself First = record { each = λ f h. h }
 
-weaker : (First Any Then AnyThen : Fault → Type 0) → Gives First Any → Gives Then AnyThen → Gives (Before First Then) (Either Any AnyThen)
-weaker First Any Then AnyThen one others = record { it = λ f h. elim h [ inl is ↦ inl (one.it f is) | inr p ↦ inr (others.it f p.1) ] }
+weaker : (First Any Then AnyThen : Fault → Type 0) → Covers First Any → Covers Then AnyThen → Covers (Before First Then) (Either Any AnyThen)
+weaker First Any Then AnyThen one others = record { each = λ f h. elim h [ inl is ↦ inl (one.each f is) | inr p ↦ inr (others.each f p.1) ] }
 
-weaker_in_order : {X : Type 0} (One Any : List X → X → Fault → Type 0) → ((before : List X) (x : X) → Gives (One before x) (Any before x)) → (before xs : List X) → Gives (InOrder Before One before xs) (InOrder Either Any before xs)
-weaker_in_order One Any each before [] = record { it = λ f h. h }
+weaker_in_order : {X : Type 0} (One Any : List X → X → Fault → Type 0) → ((before : List X) (x : X) → Covers (One before x) (Any before x)) → (before xs : List X) → Covers (InOrder Before One before xs) (InOrder Either Any before xs)
+weaker_in_order One Any each before [] = record { each = λ f h. h }
 weaker_in_order One Any each before (x ∷ xs) = weaker _ _ _ _ (each before x) (weaker_in_order One Any each (before ++ x ∷ []) xs)
 
-weaker_fields : (bytes : List ℕ) (file : FileHeader) → Gives (ElfFaults.FieldRows Before bytes file) (ElfFaults.FieldRows Either bytes file)
+weaker_fields : (bytes : List ℕ) (file : FileHeader) → Covers (ElfFaults.FieldRows Before bytes file) (ElfFaults.FieldRows Either bytes file)
 weaker_fields bytes file =
     weaker _ _ _ _ (itself _)
     (weaker _ _ _ _ (itself _)
@@ -48,8 +48,8 @@ weaker_fields bytes file =
     (weaker _ _ _ _ (itself _)
     (weaker _ _ _ _ (itself _) (itself _))))))
 
-first_gives : (bytes : List ℕ) → Gives (IsFirstElfFault bytes) (IsElfFault bytes)
-first_gives bytes =
+first_covered : (bytes : List ℕ) → Covers (IsFirstElfFault bytes) (IsElfFault bytes)
+first_covered bytes =
     let file = file_header bytes in
     let sections = sections_in bytes in
     weaker _ _ _ _ (weaker _ _ _ _ (itself _) (itself _))
@@ -60,7 +60,7 @@ first_gives bytes =
     (itself _)))))
 
 first_is_one : (bytes : List ℕ) (f : Fault) → IsFirstElfFault bytes f → IsElfFault bytes f
-first_is_one bytes = (first_gives bytes).it
+first_is_one bytes = (first_covered bytes).each
 
 -- ---- tests
 

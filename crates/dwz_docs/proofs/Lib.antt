@@ -20,4 +20,5 @@ pub mod MeaningLemmas
 pub mod ClassLemmas
 pub mod FileLemmas
 mod MeaningRows
+mod FileRows
 mod UnitRows

@@ -1,15 +1,12 @@
 -- Texts and slots.
-use Rattle.std.proofs.Common.{◌≡◌, ◌≢◌, ℕ, zero, suc, ◌+◌, ◌<◌, ◌≤◌, ◌⊎◌, List, [], ◌∷◌, ◌++◌, length, take, drop, Option, Some, None, Result, Ok, Err, refl, sym, ap, subst, ◌∙◌, cond, eqb, ltb, false, true, Bool, arith, inl, inr, append_assoc}
+use Rattle.std.proofs.Common.{◌≡◌, ℕ, ◌+◌, ◌<◌, ◌≤◌, List, [], ◌∷◌, ◌++◌, length, take, drop, Option, Some, None, Ok, refl, sym, ap, subst, ◌∙◌, eqb, ltb, false, true, arith, inl, inr, append_assoc}
 use Rattle.std.specs.Option.{option_map}
 use Rattle.std.proofs.lemmas.Bool.{eqb-false, eqb-true, le-ltb, lt-ltb, ltb-false, ltb-true, ne_eqb}
 use Rattle.std.proofs.lemmas.List.{length-append, length-drop, length-take, take-append-drop}
-use Rattle.std.proofs.Math.ListN.{drop_of_length-le}
-use Rattle.dwz_bytes.specs.declared.error.ByteErr.{ByteErr}
-use Rattle.dwz_bytes.specs.declared.error.ByteErr.TheVariants.{Short}
 use Rattle.dwz_bytes.specs.Input.{Input, past}
 use Rattle.dwz_bytes.specs.Laws.{One}
-use Rattle.dwz_bytes.specs.Spelling.{SpellsFixed, le_value}
-use Rattle.dwz_docs.specs.Parts.{Again, Found, IsRead, StandsAt}
+use Rattle.dwz_bytes.specs.Spelling.{le_value}
+use Rattle.dwz_docs.specs.Parts.{Again, Found, IsRead}
 use Rattle.dwz_docs.specs.Texts.{IsSlot, IsTextAt, NoZero, SpellsText, behind_text, slot, slot_place, text_at, text_in, zero_ended_at}
 use Rattle.dwz_docs.proofs.PartLemmas.{chosen, drop-front, same_input, same_value, take-front}
 

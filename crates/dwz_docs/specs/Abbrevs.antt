@@ -5,7 +5,7 @@ use Rattle.dwz_model.specs.declared.place.Pair.{Pair}
 use Rattle.dwz_bytes.specs.declared.error.ByteErr.{ByteErr}
 use Rattle.dwz_bytes.specs.Input.{Input, input}
 use Rattle.dwz_bytes.specs.Reading.{◌>>=◌, fixed_at, sleb_at, uleb_at}
-use Rattle.dwz_bytes.specs.Spelling.{SpellsSleb, SpellsUleb, fits_i64, sleb, uleb}
+use Rattle.dwz_bytes.specs.Spelling.{SpellsSleb, SpellsUleb, sleb, uleb}
 use Rattle.dwz_docs.specs.Faults.{bad_abbrev}
 use Rattle.dwz_docs.specs.Lists.{BreaksOff, SpellsItems, items_at}
 use Rattle.dwz_docs.specs.Parts.{Then}

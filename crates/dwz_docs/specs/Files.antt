@@ -1,6 +1,6 @@
 -- Files: what the debug information of files says, or the first fault. One file after the other, and in a file the ELF faults come
 -- before those of the units, and those before the faults of meanings.
-use Rattle.std.specs.Prelude.{◌≡◌, ◌≢◌, ◌⊎◌, ℕ, suc, ◌+◌, ◌-◌, ◌^◌, ◌<◌, ◌≤◌, Bool, false, List, [], ◌∷◌, length, take, drop, Option, Some, None, Result, Ok, Err, ◌==◌, ◌||◌, not, nat_lt}
+use Rattle.std.specs.Prelude.{◌≡◌, ◌≢◌, ◌⊎◌, ℕ, suc, ◌-◌, ◌^◌, ◌<◌, ◌≤◌, Bool, false, List, [], ◌∷◌, length, take, drop, Option, Some, None, Result, Ok, Err, ◌==◌, ◌||◌, not, nat_lt}
 use Rattle.dwz_model.specs.declared.fault.Fault.{Fault}
 use Rattle.dwz_model.specs.declared.fault.Reason.TheVariants.{FileSize, Machine}
 use Rattle.dwz_model.specs.declared.fault.Refusal.{Refusal}
@@ -72,6 +72,14 @@ pub record IsNotTooLong (l : Limits) (bytes : List ℕ) : Type 0 where
   pub file : length bytes ≤ longest_file
   pub files : length bytes ≤ l.bytes
 
+-- The sets of `.debug_aranges` (6.1.2) have their place here, and location lists that share operands; nothing is asked of them yet,
+-- and no fault is one of theirs.
+abbrev pub HaveGoodRanges : List ℕ → Type 0
+HaveGoodRanges bytes = Unit {0}
+
+abbrev pub IsRangesFault : List ℕ → Fault → Type 0
+IsRangesFault bytes f = ⊥
+
 -- the units are spelled, and mean those of the document
 pub record Reads (l : Limits) (bytes : List ℕ) (units : List RawUnit) (doc : Doc ℕ) : Type 0 where
   pub size : IsNotTooLong l bytes
@@ -80,6 +88,7 @@ pub record Reads (l : Limits) (bytes : List ℕ) (units : List RawUnit) (doc : D
   pub spelled : SpellsUnits (debug_abbrev bytes) (given l.entries) 0 units 0 (debug_info bytes)
   pub means : MeanUnits (sources_of bytes) (all_places units) units doc.units
   pub machine : doc.machine ≡ machine_of bytes
+  pub ranges : HaveGoodRanges bytes
 
 -- each file says what its document does
 abbrev pub ReadAll : Limits → List (List ℕ) → List (Doc ℕ) → Type 0
@@ -146,7 +155,7 @@ pub record HasMeaningFault (l : Limits) (bytes : List ℕ) (f : Fault) : Type 0 
   pub fault : HaveUnitFault (sources_of bytes) (all_places units) units f
 
 -- The first fault of a file: it is too long; else the first fault of the ELF file; else it is for another machine than the files
--- before it; else the first fault of the units; else the first of their meanings.
+-- before it; else the first fault of the units; else the first of their meanings; else one of the address ranges.
 abbrev pub IsFileFault : Limits → List ℕ → Fault → Type 0
 IsFileFault l bytes f =
     ((f ≡ file_fault FileSize 0) × IsTooLong l bytes)
@@ -155,7 +164,7 @@ IsFileFault l bytes f =
     ⊎ (((g : Fault) → IsElfFault bytes g → ⊥)
     × (((f ≡ file_fault Machine machine_at) × IsOtherMachine l.machine (machine_of bytes))
     ⊎ (IsForMachine l.machine (machine_of bytes)
-    × (IsUnitsFault (debug_abbrev bytes) (given l.entries) 0 0 (debug_info bytes) f ⊎ HasMeaningFault l bytes f))))))
+    × (IsUnitsFault (debug_abbrev bytes) (given l.entries) 0 0 (debug_info bytes) f ⊎ (HasMeaningFault l bytes f ⊎ IsRangesFault bytes f)))))))
 
 -- a fault of the file with that number
 pub record IsRefusal (l : Limits) (number : ℕ) (bytes : List ℕ) (r : Refusal) : Type 0 where

@@ -1,10 +1,10 @@
 -- What stored values mean (DWARF 5, 7.5.4 to 7.5.6): the relation, the function, and why a value means nothing.
-use Rattle.std.specs.Prelude.{◌≡◌, ◌≢◌, ◌⊎◌, ℕ, ℤ, pos, ◌+◌, ◌-◌, ◌*◌, ◌^◌, ◌<◌, Bool, true, false, List, [], ◌∷◌, ◌++◌, length, drop, Option, Some, None, Result, Ok, Err, ◌==◌, ◌&&◌, ◌||◌, not, nat_lt, if◌then◌else◌}
+use Rattle.std.specs.Prelude.{◌≡◌, ◌⊎◌, ℕ, ℤ, pos, ◌+◌, ◌-◌, ◌*◌, ◌^◌, ◌<◌, Bool, true, false, List, [], ◌∷◌, ◌++◌, length, drop, Option, Some, None, Result, Ok, Err, ◌==◌, ◌&&◌, ◌||◌, not, nat_lt, if◌then◌else◌}
 use Rattle.dwz_model.specs.declared.fault.Fault.{Fault}
 use Rattle.dwz_model.specs.declared.fault.Reason.TheVariants.{BadString, BadReference, NotBuilt}
 use Rattle.dwz_bytes.specs.Reading.{◌>>=◌}
 use Rattle.dwz_bytes.specs.Spelling.{reach}
-use Rattle.dwz_docs.specs.Documents.{Addr, Attr, Block, Compile, Doc, DwUnit, Entries, Flag, Index, Kind, Node, Num, OfType, Partial, Plain, Sec, Sig, Text, Value, only, ref}
+use Rattle.dwz_docs.specs.Documents.{Addr, Attr, Block, Compile, DwUnit, Entries, Flag, Index, Kind, Node, Num, OfType, Partial, Sec, Sig, Text, Value, only, ref}
 use Rattle.dwz_docs.specs.Entries.{RawAttr, RawEntry}
 use Rattle.dwz_docs.specs.Faults.{info_fault}
 use Rattle.dwz_docs.specs.Texts.{IsSlot, IsTextAt, NoZero, slot, slot_place, text_at}
@@ -454,3 +454,15 @@ abbrev pub HaveUnitFault : Sources → List ℕ → List RawUnit → Fault → T
 HaveUnitFault sources all [] f = ⊥
 HaveUnitFault sources all (u ∷ units) f =
     HasUnitFault sources all u f ⊎ (((v : DwUnit ℕ) × MeansUnit sources all u v) × HaveUnitFault sources all units f)
+
+-- ---- one answer
+
+-- x has a property, and nothing else has it
+pub record IsTheOne {X : Type 0} (Is : X → Type 0) (x : X) : Type 0 where
+  pub is : Is x
+  pub alone : (y : X) → Is y → y ≡ x
+
+-- just one of two holds: one thing has the one property and nothing the other, or the other way round
+abbrev pub ExactlyOne : {X Y : Type 0} → (X → Type 0) → (Y → Type 0) → Type 0
+ExactlyOne {X} {Y} Is Other =
+    ((x : X) × IsTheOne Is x × ((y : Y) → Other y → ⊥)) ⊎ ((y : Y) × IsTheOne Other y × ((x : X) → Is x → ⊥))

@@ -9,3 +9,4 @@ pub mod TableLemmas
 pub mod ElfFaultLemmas
 pub mod TreeLemmas
 pub mod TreeSteps
+pub mod FitLemmas

@@ -1,5 +1,5 @@
 -- Abbreviation tables (DWARF 5, 7.5.3).
-use Rattle.std.specs.Prelude.{◌≡◌, ℕ, ℤ, pos, ◌<◌, ◌≤◌, Bool, true, false, ◌+◌, drop, List, [], ◌∷◌, ◌++◌, Option, Some, None, Result, Ok, Err, ◌==◌, ◌&&◌, ◌||◌, nat_lt, if◌then◌else◌, MatchBool}
+use Rattle.std.specs.Prelude.{◌≡◌, ◌≢◌, ℕ, ℤ, pos, ◌<◌, ◌≤◌, ◌^◌, All, AllPairs, Bool, true, false, ◌+◌, drop, List, [], ◌∷◌, ◌++◌, Option, Some, None, Result, Ok, Err, ◌==◌, ◌&&◌, ◌||◌, nat_lt, if◌then◌else◌, MatchBool}
 use Rattle.dwz_model.specs.declared.fault.Fault.{Fault}
 use Rattle.dwz_model.specs.declared.place.Pair.{Pair}
 use Rattle.dwz_bytes.specs.declared.error.ByteErr.{ByteErr}
@@ -190,3 +190,30 @@ declaration_bytes d = uleb d.code ++ (uleb d.tag ++ (children_byte d.children �
 unfoldable pub table_bytes : List Declaration → List ℕ
 table_bytes [] = 0 ∷ []
 table_bytes (d ∷ table) = declaration_bytes d ++ table_bytes table
+
+-- ---- which tables can be spelled
+
+-- neither the name nor the form is 0, and a constant stands only with the form `DW_FORM_implicit_const`
+pub record IsPlainPair (pair : Pair) : Type 0 where
+  pub some_name : 0 < pair.name
+  pub some_form : 0 < pair.form
+  pub no_constant : pair.form ≢ 0x21 → pair.constant ≡ pos 0
+
+-- the same, and its numbers are not too great
+pub record FitsPair (pair : Pair) : Type 0 where
+  pub plain : IsPlainPair pair
+  pub name_fits : pair.name ≤ 0xffff
+  pub form_fits : pair.form < 2 ^ 64
+  pub constant_fits : fits_i64 pair.constant ≡ true
+
+pub record FitsDeclaration (d : Declaration) : Type 0 where
+  pub some_code : 0 < d.code
+  pub code_fits : d.code < 2 ^ 64
+  pub some_tag : 0 < d.tag
+  pub tag_fits : d.tag ≤ 0xffff
+  pub pairs : All FitsPair d.pairs
+
+-- each declaration can be spelled, and their codes differ
+pub record FitsTable (table : List Declaration) : Type 0 where
+  pub each : All FitsDeclaration table
+  pub different : AllPairs (λ d e. d.code ≢ e.code) table

@@ -10,3 +10,5 @@ pub mod ElfFaultLemmas
 pub mod TreeLemmas
 pub mod TreeSteps
 pub mod FitLemmas
+pub mod OrderLemmas
+pub mod CodeLemmas

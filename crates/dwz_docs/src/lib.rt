@@ -11,7 +11,7 @@ mod elf_faults;
 mod texts;
 mod values;
 
-pub use abbrevs::table_laws;
+pub use abbrevs::{code_laws, order_laws, table_laws};
 pub use elf::{FileHeader, Header, Moved, Name, NewContent, Section};
 pub use elf_faults::elf_fault_laws;
 pub use texts::{slot_laws, text_laws};

@@ -3,6 +3,8 @@
 
 mod decl;
 mod reading;
+mod rows;
+mod shape;
 mod table;
 
 pub use decl::Decl;

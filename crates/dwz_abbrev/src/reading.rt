@@ -8,6 +8,7 @@ ghost use Rattle.dwz_model.specs.declared.fault.ReadErr.TheVariants.{Refused};
 ghost use Rattle.dwz_abbrev.specs.Views.{decl_view};
 
 use crate::decl::Decl;
+use crate::rows::Rows;
 use crate::table::Table;
 use dwz_bytes::Cursor;
 use dwz_model::{Fault, Pair, Pairs, ReadErr, Reason};
@@ -77,10 +78,10 @@ fn pairs(alloc: Global, start: usize, cursor: &mut Cursor) -> Result<Pairs, Read
     Ok(Pairs::new(pairs))
 }
 
-// A declaration behind those of the table, or the end of the table.
+// A declaration behind the earlier ones, or the end of the table.
 #[tactic(auto, unfolding(dwz_docs::specs::Abbrevs::declaration_at))]
-fn declaration(alloc: Global, table: &Table, cursor: &mut Cursor) -> Result<Option<Decl>, ReadErr>
-    ensures { AnswersAt (option_map decl_view) cursor.new result (declaration_at table.now cursor.old) }
+fn declaration(alloc: Global, earlier: &Rows, cursor: &mut Cursor) -> Result<Option<Decl>, ReadErr>
+    ensures { AnswersAt (option_map decl_view) cursor.new result (declaration_at earlier.now cursor.old) }
 {
     let start = cursor.at();
     let fault = |_| bad(start);
@@ -90,7 +91,7 @@ fn declaration(alloc: Global, table: &Table, cursor: &mut Cursor) -> Result<Opti
     }
     let tag = cursor.uleb().map_err(fault)?;
     let children = cursor.u8().map_err(fault)?;
-    if tag == 0 || tag > 0xffff || children > 1 || table.decl(code).is_some() {
+    if tag == 0 || tag > 0xffff || children > 1 || earlier.decl(code).is_some() {
         return Err(bad(start));
     }
     let pairs = pairs(alloc, start, cursor)?;
@@ -102,6 +103,21 @@ fn declaration(alloc: Global, table: &Table, cursor: &mut Cursor) -> Result<Opti
     }))
 }
 
+// The declarations of the table at a place.
+fn rows(alloc: Global, section: &[u8], at: usize) -> Result<Rows, ReadErr>
+    ensures { Answers (λ t. t) result (table_at section.now at) }
+{
+    if at > section.len() {
+        return Err(bad(at));
+    }
+    let mut rows = Rows::new(alloc);
+    let mut cursor = Cursor::new(section, at);
+    while let Some(decl) = declaration(alloc, &rows, &mut cursor)? {
+        rows.push(decl)?;
+    }
+    Ok(rows)
+}
+
 impl Table {
     /// Reads the table at an offset of `.debug_abbrev`, in bytes from the section's first (DWARF 5, 7.5.3). Refused as
     /// `BadAbbrev` exactly where no table is spelled there: at the first declaration that isn't spelled, or whose code one
@@ -109,15 +125,7 @@ impl Table {
     pub fn read(alloc: Global, section: &[u8], at: u32) -> Result<Table, ReadErr>
         ensures { Answers (λ t. t) result (table_at section.now at) }
     {
-        let at = at as usize;
-        if at > section.len() {
-            return Err(bad(at));
-        }
-        let mut table = Table::new(alloc);
-        let mut cursor = Cursor::new(section, at);
-        while let Some(decl) = declaration(alloc, &table, &mut cursor)? {
-            table.push(decl)?;
-        }
-        Ok(table)
+        let rows = rows(alloc, section, at as usize)?;
+        Ok(Table { rows, firsts: None })
     }
 }

@@ -22,3 +22,6 @@ pub mod FileLemmas
 mod MeaningRows
 mod FileRows
 mod UnitRows
+pub mod FitLemmas
+pub mod OrderLemmas
+pub mod CodeLemmas

@@ -1,0 +1,122 @@
+//! The declarations of a table, in memory, and where each code leads.
+
+ghost use Rattle.std.specs.Prelude.{◌≡◌, ◌<◌, ◌^◌, ◌++◌, ◌∷◌, [], None, OnErr, OnOk, length};
+ghost use Rattle.std.specs.BTreeMap.{IsUnchanged};
+ghost use Rattle.std.specs.Option.{option_copied, option_map};
+ghost use Rattle.dwz_docs.specs.Abbrevs.{find_decl};
+ghost use Rattle.dwz_abbrev.specs.Views.{decl_view, views};
+ghost use Rattle.dwz_abbrev.specs.Places.{Stores, or_else, stored_decl};
+
+use crate::decl::Decl;
+use dwz_model::NoMemory;
+use std::alloc::Global;
+use std::collections::BTreeMap;
+use std::marker::Model;
+
+/// Declarations with different codes. Clauses see them in their order.
+#[derive(Drop)]
+pub(crate) struct Rows {
+    decls: Vec<Decl>,
+    // Where the declarations stand whose code isn't one more than the number of those before them.
+    places: BTreeMap<u64, usize>,
+}
+
+impl Model for Rows {
+    ghost use Rattle.std.specs.Prelude.{List};
+    ghost use Rattle.dwz_docs.specs.Abbrevs.{Declaration};
+
+    ghost Value = { List Declaration };
+
+    ghost use Rattle.dwz_abbrev.specs.Views.{views};
+    ghost use Rattle.dwz_abbrev.specs.Places.{IsIndexed};
+
+    ghost view = { λ r. views r.decls.items };
+
+    ghost invariant = { λ r. IsIndexed r.decls.items r.places };
+}
+
+// A declaration, if it has the code.
+#[inline(always)]
+fn having(decl: Option<&Decl>, code: u64) -> Option<&Decl>
+    ensures { option_copied result ≡ or_else (option_copied decl.entry) code None }
+{
+    match decl {
+        Some(decl) if decl.code == code => Some(decl),
+        _ => None,
+    }
+}
+
+// The declaration with a code at the place that is stored for it.
+#[inline(never)]
+fn stored<'a>(decls: &'a [Decl], places: &BTreeMap<u64, usize>, code: u64) -> Option<&'a Decl>
+    ensures { option_copied result ≡ stored_decl decls.now places.now code }
+{
+    let place = *places.get(&code)?;
+    having(decls.get(place), code)
+}
+
+// Stores the place of a declaration with a code, unless it follows from the code.
+fn store(places: &mut BTreeMap<u64, usize>, code: u64, place: usize) -> Result<(), NoMemory>
+    requires { place < 2 ^ 63 }
+    ensures ok { OnOk result (Stores places.old places.new code place) }
+    ensures err { OnErr result (IsUnchanged places.old places.new) }
+{
+    if code != place as u64 + 1 {
+        places.insert(code, place)?;
+    }
+    Ok(())
+}
+
+impl Rows {
+    // No declarations.
+    pub(crate) fn new(alloc: Global) -> Rows
+        ensures { result ≡ [] }
+    {
+        Rows {
+            decls: Vec::new(alloc),
+            places: BTreeMap::new(alloc),
+        }
+    }
+
+    // The declaration with a code, if one has it.
+    #[inline(always)]
+    pub(crate) fn decl(&self, code: u64) -> Option<&Decl>
+        ensures { option_map decl_view (option_copied result) ≡ find_decl self.now code }
+    {
+        let decls = self.decls.as_slice();
+        if let Some(decl) = decls.get(code.saturating_sub(1) as usize) {
+            if decl.code == code {
+                return Some(decl);
+            }
+        }
+        stored(decls, &self.places, code)
+    }
+
+    // Appends a declaration with a code of its own.
+    pub(crate) fn push(&mut self, decl: Decl) -> Result<(), NoMemory>
+        requires { find_decl self.old decl.code ≡ None }
+        ensures ok { OnOk result (self.new ≡ self.old ++ decl_view decl ∷ []) }
+        ensures err { OnErr result (self.new ≡ self.old) }
+    {
+        store(&mut self.places, decl.code, self.decls.len())?;
+        self.decls.push(decl)?;
+        Ok(())
+    }
+
+    // How many declarations there are.
+    #[inline(always)]
+    pub(crate) fn len(&self) -> usize
+        ensures len { result ≡ length self.now }
+        ensures small { result < 2 ^ 63 }
+    {
+        self.decls.len()
+    }
+
+    // The declarations in their order.
+    #[inline(always)]
+    pub(crate) fn as_slice(&self) -> &[Decl]
+        ensures { views result.now ≡ self.now }
+    {
+        self.decls.as_slice()
+    }
+}

@@ -1,2 +1,3 @@
+pub mod TopNumbers
 mod Larger
 mod Rows

@@ -1,3 +1,4 @@
 pub mod TopNumbers
+pub mod AlikeTests
 mod Larger
 mod Rows

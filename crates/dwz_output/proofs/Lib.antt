@@ -3,5 +3,7 @@ pub mod AlikeTests
 pub mod AlikeTops
 pub mod AlikeCounts
 pub mod AlikeLooks
+pub mod AlikeDepth
+pub mod AlikeBound
 mod Larger
 mod Rows

@@ -11,7 +11,7 @@ use Rattle.dwz_output.specs.Deciding.{bound_test, is_movable}
 use Rattle.dwz_output.specs.Spots.{FileUnit, Import, InType, PartialOf, PartialRoot, RootOf, Spot, Top, UnitOf, Within, tops_of}
 use Rattle.dwz_output.proofs.AlikeCounts.{any_from, any_of, passing, passing_most, passing_same, settles}
 use Rattle.dwz_output.proofs.AlikeLooks.{AreClosed}
-use Rattle.dwz_output.proofs.AlikeTests.{Decides-none}
+use Rattle.dwz_output.proofs.AlikeTests.{Decides-both, Decides-none}
 use Rattle.dwz_output.proofs.AlikeTops.{AttrsIn, EntriesIn, RefsIn, TargetIn, TopIn}
 use Rattle.dwz_output.proofs.TopNumbers.{one_top, tops_numbers, unit_found}
 
@@ -32,3 +32,94 @@ unfolding Bound
 bound_top units zero n b = (b.0, b.1, b.2)
 bound_top units (suc k) n (inl b) = bound_top units k n b
 bound_top units (suc k) n (inr b) = (b.0, b.2, b.3)
+
+-- ---- the test of chains of each length
+
+abbrev binds_by : List (FileUnit Spot) → ℕ → Top → Top → Bool
+binds_by units k t u = elim (refers_to u.number t) as (λ _. Bool) [ true ↦ bound_test units k u | false ↦ false ]
+
+abbrev Binds : List (FileUnit Spot) → ℕ → Top → Top → Type 0
+Binds units k t u = (refers_to u.number t ≡ true) × Bound units k u.number
+
+-- a reference into a top that is bound
+abbrev BoundBy : List (FileUnit Spot) → ℕ → ℕ → Type 0
+BoundBy units k n = (t : Top) × (m : ℕ) × In t (tops_of units) × (t.number ≡ n) × (refers_to m t ≡ true) × Bound units k m
+
+bound_by : (units : List (FileUnit Spot)) (k : ℕ) (t : Top) → In t (tops_of units) → (u : Top) × In u (tops_of units) × Binds units k t u → BoundBy units k t.number
+bound_by units k t i r = (t, r.0.number, i, refl, r.2.0, r.2.1)
+
+by_bound : (units : List (FileUnit Spot)) (k : ℕ) (t : Top) → In t (tops_of units) → BoundBy units k t.number → (u : Top) × In u (tops_of units) × Binds units k t u
+by_bound units k t i (s, m, j, e, r, b) =
+    let same : s ≡ t = one_top 0 (tops_of units) s t (tops_numbers units) j i e in
+    let u = bound_top units k m b in
+    (u.0, u.1, subst (λ (n : ℕ). refers_to n t ≡ true) (sym u.2) (subst (λ (x : Top). refers_to m x ≡ true) same r), subst (λ (n : ℕ). Bound units k n) (sym u.2) b)
+
+bound_tells : (units : List (FileUnit Spot)) (k : ℕ) (t : Top) → In t (tops_of units) → Decides (bound_test units k t) (Bound units k t.number)
+unfolding bound_test Bound
+bound_tells units zero t i = (
+  λ e. (t, i, refl, e),
+  λ b. (let same : b.0 ≡ t = one_top 0 (tops_of units) b.0 t (tops_numbers units) b.1 i b.2 in subst (λ (x : Top). binds_itself units x ≡ true) same b.3),
+)
+bound_tells units (suc k) t i =
+    Decides-either (bound_test units k t) (list_any (binds_by units k t) (tops_of units)) (bound_tells units k t i)
+    (Decides-like _ (bound_by units k t i) (by_bound units k t i)
+    (any_decides (binds_by units k t) (Binds units k t) (tops_of units) (λ u j. Decides-both (refers_to u.number t) (bound_test units k u) (λ e. e, λ e. e) (bound_tells units k u j))))
+
+-- ---- longer chains
+
+bound_up : (units : List (FileUnit Spot)) (n k m : ℕ) → Bound units k m → Bound units (n + k) m
+unfolding Bound
+bound_up units zero k m b = let e : k ≡ zero + k = omega arith in subst (λ (i : ℕ). Bound units i m) e b
+bound_up units (suc n) k m b =
+    let e : suc (n + k) ≡ suc n + k = omega arith in
+    let up : Bound units (suc (n + k)) m = inl (bound_up units n k m b) in
+    subst (λ (i : ℕ). Bound units i m) e up
+
+abbrev Rests : List (FileUnit Spot) → ℕ → Type 0
+Rests units j = (m : ℕ) → Bound units (suc j) m → Bound units j m
+
+bound_back : (units : List (FileUnit Spot)) (j : ℕ) → Rests units j → (n m : ℕ) → Bound units (n + j) m → Bound units j m
+unfolding Bound
+bound_back units j rests zero m b = let e : zero + j ≡ j = omega arith in subst (λ (i : ℕ). Bound units i m) e b
+bound_back units j rests (suc n) m b =
+    let e : suc n + j ≡ suc (n + j) = omega arith in
+    let cases : Bound units (suc (n + j)) m = subst (λ (i : ℕ). Bound units i m) e b in
+    ⊎_elim (λ h. bound_back units j rests n m h) (λ (h : BoundBy units (n + j) m). rests m (inr (h.0, h.1, h.2, h.3, h.4, bound_back units j rests n h.1 h.5))) cases
+
+-- chains of some length bind all that longer ones bind
+bound_rests : (units : List (FileUnit Spot)) → (j : ℕ) × (j ≤ length (tops_of units)) × Rests units j
+unfolding Bound
+bound_rests units =
+    let tops = tops_of units in
+    let r = settles (λ k. passing (bound_test units k) tops) (length tops) (λ k. passing_most (bound_test units k) tops) in
+    let j = r.0 in
+    let wider = λ (t : Top) (i : In t tops) (e : bound_test units j t ≡ true). (bound_tells units (suc j) t i).1 (inl ((bound_tells units j t i).0 e)) in
+    let same = passing_same (bound_test units j) (bound_test units (suc j)) tops wider r.2 in (
+      j,
+      r.1,
+      λ m b. (
+        let x = bound_top units (suc j) m b in
+        let here : Bound units (suc j) x.0.number = subst (λ (n : ℕ). Bound units (suc j) n) (sym x.2) b in
+        subst (λ (n : ℕ). Bound units j n) x.2 ((bound_tells units j x.0 x.1).0 (same x.0 x.1 ((bound_tells units (suc j) x.0 x.1).1 here)))),
+    )
+
+-- a chain as long as there are tops decides
+bound_most : (units : List (FileUnit Spot)) (k m : ℕ) → Bound units k m → Bound units (length (tops_of units)) m
+bound_most units k m b =
+    let r = bound_rests units in
+    let j = r.0 in
+    let n = length (tops_of units) in
+    let low : j ≤ n = r.1 in
+    let turned : j + k ≡ k + j = omega arith in
+    let back : Bound units j m = bound_back units j r.2 k m (subst (λ (i : ℕ). Bound units i m) turned (bound_up units j k m b)) in
+    let most : (n - j) + j ≡ n = omega arith in
+    subst (λ (i : ℕ). Bound units i m) most (bound_up units (n - j) j m back)
+
+pub bound_decides : (units : List (FileUnit Spot)) (t : Top) → In t (tops_of units) → Decides (bound_test units (length (tops_of units)) t) ((k : ℕ) × Bound units k t.number)
+bound_decides units t i = Decides-like _ (λ b. (length (tops_of units), b)) (λ r. bound_most units r.0 t.number r.1) (bound_tells units (length (tops_of units)) t i)
+
+pub movable_decides : (units : List (FileUnit Spot)) (t : Top) → In t (tops_of units) → Decides (is_movable units t) (Movable units t.number)
+movable_decides units t i = Decides-like _
+    (λ f. record { top = t; is_top = i; number = refl; free = λ k b. f (k, b) })
+    (λ m r. m.free r.0 r.1)
+    (Decides-not _ (bound_decides units t i))

@@ -52,7 +52,7 @@ by_bound : (units : List (FileUnit Spot)) (k : ℕ) (t : Top) → In t (tops_of 
 by_bound units k t i (s, m, j, e, r, b) =
     let same : s ≡ t = one_top 0 (tops_of units) s t (tops_numbers units) j i e in
     let u = bound_top units k m b in
-    (u.0, u.1, subst (λ (n : ℕ). refers_to n t ≡ true) (sym u.2) (subst (λ (x : Top). refers_to m x ≡ true) same r), subst (λ (n : ℕ). Bound units k n) (sym u.2) b)
+    (u.0, u.1, (subst (λ (n : ℕ). refers_to n t ≡ true) (sym u.2) (subst (λ (x : Top). refers_to m x ≡ true) same r), subst (λ (n : ℕ). Bound units k n) (sym u.2) b))
 
 bound_tells : (units : List (FileUnit Spot)) (k : ℕ) (t : Top) → In t (tops_of units) → Decides (bound_test units k t) (Bound units k t.number)
 unfolding bound_test Bound
@@ -123,3 +123,90 @@ movable_decides units t i = Decides-like _
     (λ f. record { top = t; is_top = i; number = refl; free = λ k b. f (k, b) })
     (λ m r. m.free r.0 r.1)
     (Decides-not _ (bound_decides units t i))
+
+-- ---- what stands in a top's tree
+
+abbrev InEntries : Node Spot → Entries Spot → Type 0
+InEntries e End = ⊥
+InEntries e (Entry d f g) = (d ≡ e) ⊎ (InEntries e f ⊎ InEntries e g)
+
+abbrev InTop : Node Spot → Top → Type 0
+InTop e t = (t.node ≡ e) ⊎ InEntries e t.below
+
+entries_any : (test : Node Spot → Bool) (f : Entries Spot) (e : Node Spot) → InEntries e f → test e ≡ true → any_entry test f ≡ true
+unfolding any_entry
+entries_any test End e i h = absurd i
+entries_any test (Entry d f g) e (inl same) h = or_left (test d) _ (ap test same ∙ h)
+entries_any test (Entry d f g) e (inr (inl i)) h = or_right (test d) _ (or_left (any_entry test f) (any_entry test g) (entries_any test f e i h))
+entries_any test (Entry d f g) e (inr (inr i)) h = or_right (test d) _ (or_right (any_entry test f) (any_entry test g) (entries_any test g e i h))
+
+top_any : (test : Node Spot → Bool) (t : Top) (e : Node Spot) → InTop e t → test e ≡ true → any_in test t ≡ true
+top_any test t e (inl same) h = or_left (test t.node) _ (ap test same ∙ h)
+top_any test t e (inr i) h = or_right (test t.node) _ (entries_any test t.below e i h)
+
+each_from : {X : Type 0} (P : X → Type 0) (xs : List X) → ((x : X) → In x xs → P x) → Each P xs
+each_from P [] h = tt
+each_from P (x ∷ xs) h = (h x (inl refl), each_from P xs (λ y i. h y (inr i)))
+
+-- a reference of an attribute of an entry in the tree
+abbrev InTree : Spot → Node Spot → Attr Spot → Top → Type 0
+InTree s e a t = InTop e t × In a e.attrs × In s a.value.refs
+
+entries_in : (Q : ℕ → Type 0) (f : Entries Spot) → ((e : Node Spot) → InEntries e f → AttrsIn Q e.attrs) → EntriesIn Q f
+entries_in Q End h = tt
+entries_in Q (Entry e f g) h = (h e (inl refl), entries_in Q f (λ d i. h d (inr (inl i))), entries_in Q g (λ d i. h d (inr (inr i))))
+
+pub top_in_from : (Q : ℕ → Type 0) (t : Top) → ((s : Spot) (e : Node Spot) (a : Attr Spot) → InTree s e a t → TargetIn Q s) → TopIn Q t
+top_in_from Q t h =
+    let attrs = λ (e : Node Spot) (i : InTop e t). each_from (λ a. RefsIn Q a.value.refs) e.attrs (λ a j. each_from (TargetIn Q) a.value.refs (λ s l. h s e a (i, j, l))) in
+    (attrs t.node (inl refl), entries_in Q t.below (λ e i. attrs e (inr i)))
+
+-- ---- references of movable tops
+
+refers_here : (n : ℕ) (s : Spot) (e : Node Spot) (a : Attr Spot) (t : Top) → InTree s e a t → is_in n s ≡ true → refers_to n t ≡ true
+refers_here n s e a t (i, j, l) h =
+    let test = λ (b : Attr Spot). list_any (is_in n) b.value.refs in
+    top_any (any_attr test) t e i (any_from test e.attrs a j (any_from (is_in n) a.value.refs s l h))
+
+binds_here : (units : List (FileUnit Spot)) (s : Spot) (e : Node Spot) (a : Attr Spot) (t : Top) → InTree s e a t → leaves (tops_of units) t.unit s ≡ true → binds_itself units t ≡ true
+binds_here units s e a t (i, j, l) h =
+    let tops = tops_of units in
+    let leaving = any_from (leaves tops t.unit) a.value.refs s l h in
+    let attr : attr_binds tops t.unit a ≡ true = or_right (has a.form binding_forms) _ (or_right (has_operand a.value.plain) _ (or_right (has_address a.value.plain) _ leaving)) in
+    or_left _ (is_named units t.number) (top_any (entry_binds tops t.unit) t e i (or_right (e.tag == 0x3d) _ (any_from (attr_binds tops t.unit) e.attrs a j attr)))
+
+number_is : (o : Option ℕ) (n : ℕ) → is_number o n ≡ true → o ≡ Some n
+number_is None n e = absurd (false≢true e)
+number_is (Some m) n e = ap (λ (i : ℕ). Some i) (eqb-true m n e)
+
+-- a target that doesn't leave the unit is a top
+stays : (tops : List Top) (unit n : ℕ) (path : List ℕ) → (leaves tops unit (Within n path) ≡ true → ⊥) → (u : Top) × In u tops × (u.number ≡ n)
+stays tops unit n path h = ⊎_elim
+    (λ (e : is_number (unit_in tops n) unit ≡ true). let r = unit_found tops n unit (number_is (unit_in tops n) unit e) in (r.0, r.1, r.2))
+    (λ (e : is_number (unit_in tops n) unit ≡ false). absurd (h (not_from_false (is_number (unit_in tops n) unit) e)))
+    (cases_Bool (is_number (unit_in tops n) unit))
+
+free_top : (units : List (FileUnit Spot)) (t : Top) → In t (tops_of units) → Movable units t.number → binds_itself units t ≡ true → ⊥
+unfolding Bound
+free_top units t i m e = m.free 0 (t, i, refl, e)
+
+free_target : (units : List (FileUnit Spot)) (t : Top) (n : ℕ) → In t (tops_of units) → Movable units t.number → refers_to n t ≡ true → (k : ℕ) → Bound units k n → ⊥
+unfolding Bound
+free_target units t n i m e k b = m.free (suc k) (inr (t, n, i, refl, e, b))
+
+movable_target : (units : List (FileUnit Spot)) (t : Top) → In t (tops_of units) → Movable units t.number → (s : Spot) (e : Node Spot) (a : Attr Spot) → InTree s e a t → TargetIn (Movable units) s
+movable_target units t i m (Within n path) e a h =
+    let u = stays (tops_of units) t.unit n path (λ l. free_top units t i m (binds_here units (Within n path) e a t h l)) in
+    record { top = u.0; is_top = u.1; number = u.2; free = free_target units t n i m (refers_here n (Within n path) e a t h (eq-eqb n n refl)) }
+movable_target units t i m (UnitOf n) e a h = tt
+movable_target units t i m (RootOf n) e a h = tt
+movable_target units t i m (InType n path) e a h = tt
+movable_target units t i m (PartialOf n) e a h = tt
+movable_target units t i m (PartialRoot n) e a h = tt
+movable_target units t i m (Import n p) e a h = tt
+
+pub movable_closed : (units : List (FileUnit Spot)) → AreClosed (tops_of units) (Movable units)
+movable_closed units = record {
+  there = λ n m. (m.top, m.is_top, m.number);
+  inside = λ t i m. top_in_from (Movable units) t (movable_target units t i m);
+}

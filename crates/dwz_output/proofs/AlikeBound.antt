@@ -205,8 +205,13 @@ movable_target units t i m (PartialOf n) e a h = tt
 movable_target units t i m (PartialRoot n) e a h = tt
 movable_target units t i m (Import n p) e a h = tt
 
-pub movable_closed : (units : List (FileUnit Spot)) → AreClosed (tops_of units) (Movable units)
-movable_closed units = record {
-  there = λ n m. (m.top, m.is_top, m.number);
-  inside = λ t i m. top_in_from (Movable units) t (movable_target units t i m);
+target_more : (P Q : ℕ → Type 0) → ((n : ℕ) → P n → Q n) → (s : Spot) → TargetIn P s → TargetIn Q s
+target_more P Q f (Within n path) h = f n h
+target_more P Q f _ h = tt
+
+-- the numbers of movable tops, said in any way, are closed
+pub movable_closed : (units : List (FileUnit Spot)) (Q : ℕ → Type 0) → ((n : ℕ) → Movable units n → Q n) → ((n : ℕ) → Q n → Movable units n) → AreClosed (tops_of units) Q
+movable_closed units Q to from = record {
+  there = λ n q. (let m = from n q in (m.top, m.is_top, m.number));
+  inside = λ t i q. top_in_from Q t (λ s e a h. target_more (Movable units) Q to s (movable_target units t i (from t.number q) s e a h));
 }

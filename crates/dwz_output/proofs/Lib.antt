@@ -5,5 +5,6 @@ pub mod AlikeCounts
 pub mod AlikeLooks
 pub mod AlikeDepth
 pub mod AlikeBound
+pub mod AlikeLaws
 mod Larger
 mod Rows

@@ -1,5 +1,5 @@
 -- A chain of references that binds a top needs no more steps than there are tops; and references of movable tops go to movable tops.
-use Rattle.std.proofs.Common.{◌≡◌, ◌⊎◌, ℕ, zero, suc, ◌+◌, ◌-◌, ◌≤◌, Bool, true, false, List, [], ◌∷◌, length, Option, Some, None, Decides, ◌==◌, ◌||◌, not, refl, sym, ap, subst, ◌∙◌, inl, inr, ⊎_elim, arith}
+use Rattle.std.proofs.Common.{◌≡◌, ◌⊎◌, ℕ, zero, suc, ◌+◌, ◌-◌, ◌≤◌, Bool, true, false, List, [], ◌∷◌, length, Option, Some, None, Decides, ◌==◌, refl, sym, ap, subst, ◌∙◌, inl, inr, ⊎_elim, arith}
 use Rattle.std.proofs.lemmas.Bool.{cases_Bool, eq-eqb, eqb-true, false≢true, not_from_false, or_left, or_right}
 use Rattle.std.proofs.lemmas.Bool.Decides.{Decides-like, Decides-not}
 use Rattle.std.specs.List.{list_any}
@@ -11,7 +11,7 @@ use Rattle.dwz_output.specs.Deciding.{bound_test, is_movable}
 use Rattle.dwz_output.specs.Spots.{FileUnit, Import, InType, PartialOf, PartialRoot, RootOf, Spot, Top, UnitOf, Within, tops_of}
 use Rattle.dwz_output.proofs.AlikeCounts.{any_from, any_of, passing, passing_most, passing_same, settles}
 use Rattle.dwz_output.proofs.AlikeLooks.{AreClosed}
-use Rattle.dwz_output.proofs.AlikeTests.{Decides-both, Decides-none}
+use Rattle.dwz_output.proofs.AlikeTests.{Decides-both}
 use Rattle.dwz_output.proofs.AlikeTops.{AttrsIn, EntriesIn, RefsIn, TargetIn, TopIn}
 use Rattle.dwz_output.proofs.TopNumbers.{one_top, tops_numbers, unit_found}
 
@@ -98,9 +98,9 @@ bound_rests units =
       j,
       r.1,
       λ m b. (
-        let x = bound_top units (suc j) m b in
-        let here : Bound units (suc j) x.0.number = subst (λ (n : ℕ). Bound units (suc j) n) (sym x.2) b in
-        subst (λ (n : ℕ). Bound units j n) x.2 ((bound_tells units j x.0 x.1).0 (same x.0 x.1 ((bound_tells units (suc j) x.0 x.1).1 here)))),
+          let x = bound_top units (suc j) m b in
+          let here : Bound units (suc j) x.0.number = subst (λ (n : ℕ). Bound units (suc j) n) (sym x.2) b in
+          subst (λ (n : ℕ). Bound units j n) x.2 ((bound_tells units j x.0 x.1).0 (same x.0 x.1 ((bound_tells units (suc j) x.0 x.1).1 here)))),
     )
 
 -- a chain as long as there are tops decides

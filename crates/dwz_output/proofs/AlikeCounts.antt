@@ -1,6 +1,6 @@
 -- What only grows comes to rest: counts over a list.
-use Rattle.std.proofs.Common.{◌≡◌, ◌⊎◌, ℕ, zero, suc, ◌+◌, ◌-◌, ◌<◌, ◌≤◌, Bool, true, false, cond, List, [], ◌∷◌, length, refl, sym, ap, subst, ◌∙◌, inl, inr, ⊎_elim, arith}
-use Rattle.std.proofs.lemmas.Bool.{cases_Bool, cases_lt, false≢true, or_cases, or_left, or_right}
+use Rattle.std.proofs.Common.{◌≡◌, ◌⊎◌, ℕ, zero, suc, ◌+◌, ◌-◌, ◌<◌, ◌≤◌, Bool, true, false, List, [], ◌∷◌, length, refl, sym, ap, subst, ◌∙◌, inl, inr, ⊎_elim, arith}
+use Rattle.std.proofs.lemmas.Bool.{cases_lt, false≢true, or_cases, or_left, or_right}
 use Rattle.std.specs.List.{list_any}
 use Rattle.dwz_docs.specs.Meanings.{In}
 use Rattle.dwz_output.specs.Deciding.{Test}
@@ -146,10 +146,10 @@ classes_same fine same (x ∷ xs) h f s le y z i j e =
     let again = classes_same fine same xs on (on_rest fine x xs f) (on_rest same x xs s) (omega arith) in
     let flags : one_if (list_any (same x) xs) ≤ one_if (list_any (fine x) xs) = omega arith in
     let at_first : (z : ℕ) → In z xs → same x z ≡ true → fine x z ≡ true = (λ z j e. (
-        let r = any_of (fine x) xs (one_same (list_any (fine x) xs) (list_any (same x) xs) flags (any_from (same x) xs z j e)) in
-        let w = r.0 in
-        let k = r.1 in
-        let near = h x w (inl refl) (inr k) r.2 in
-        let other = again w z k j (s.joins w x z (inr k) (inl refl) (inr j) (s.turns x w (inl refl) (inr k) near) e) in
-        f.joins x w z (inl refl) (inr k) (inr j) r.2 other)) in
+    let r = any_of (fine x) xs (one_same (list_any (fine x) xs) (list_any (same x) xs) flags (any_from (same x) xs z j e)) in
+    let w = r.0 in
+    let k = r.1 in
+    let near = h x w (inl refl) (inr k) r.2 in
+    let other = again w z k j (s.joins w x z (inr k) (inl refl) (inr j) (s.turns x w (inl refl) (inr k) near) e) in
+    f.joins x w z (inl refl) (inr k) (inr j) r.2 other)) in
     with_first fine same x xs f s at_first again y z i j e

@@ -1,5 +1,5 @@
 -- A look as deep as there are tops decides the looks of every depth.
-use Rattle.std.proofs.Common.{◌≡◌, ℕ, zero, suc, ◌+◌, ◌-◌, ◌≤◌, true, List, length, subst, arith}
+use Rattle.std.proofs.Common.{◌≡◌, ℕ, suc, ◌+◌, ◌-◌, ◌≤◌, List, length, subst, arith}
 use Rattle.dwz_docs.specs.Meanings.{In}
 use Rattle.dwz_output.specs.Alike.{Look}
 use Rattle.dwz_output.specs.Deciding.{look_test}

@@ -1,6 +1,6 @@
 -- The test of alike tops decides.
-use Rattle.std.proofs.Common.{◌≡◌, ◌⊎◌, ℕ, zero, suc, ◌+◌, ◌≤◌, Bool, true, false, List, [], ◌∷◌, length, Option, Some, None, Decides, ◌==◌, refl, sym, ap, subst, ◌∙◌, inl, inr, ⊎_elim, arith}
-use Rattle.std.proofs.lemmas.Bool.{cases_Bool, eq-eqb, eqb-true, false≢true}
+use Rattle.std.proofs.Common.{◌≡◌, ◌⊎◌, ℕ, suc, ◌≤◌, Bool, true, false, List, [], ◌∷◌, length, Option, Some, None, Decides, refl, sym, ap, subst, ◌∙◌, inl, inr, ⊎_elim, arith}
+use Rattle.std.proofs.lemmas.Bool.{false≢true}
 use Rattle.std.proofs.lemmas.Bool.Decides.{Decides-at, Decides-eqb, Decides-like}
 use Rattle.dwz_docs.specs.Meanings.{In}
 use Rattle.dwz_output.specs.Alike.{Alike, Apart, InScope, IsAlike, Look, Movable, Scope, Together}
@@ -145,12 +145,12 @@ tops_there scope units m n e = both_there (alike_tops scope units) (top_in (tops
 pub alike_decides : (scope : Scope) (units : List (FileUnit Spot)) → IsAlike scope units (alike_test scope units)
 alike_decides scope units = record {
   decides = λ m n e. (
-    let r = tops_there scope units m n e in
-    let x = found (tops_of units) m r.0 r.2 in
-    let y = found (tops_of units) n r.1 r.3 in
-    let here : alike_test scope units r.0.number r.1.number ≡ true = ap (λ (i : ℕ). alike_test scope units i r.1.number) x.1 ∙ ap (λ (i : ℕ). alike_test scope units m i) y.1 ∙ e in
-    let is = ((test_decides scope units r.0 r.1 x.0 y.0).0 here).1 in
-    subst (λ (i : ℕ). Alike units m i) y.1 (subst (λ (i : ℕ). Alike units i r.1.number) x.1 is));
+      let r = tops_there scope units m n e in
+      let x = found (tops_of units) m r.0 r.2 in
+      let y = found (tops_of units) n r.1 r.3 in
+      let here : alike_test scope units r.0.number r.1.number ≡ true = ap (λ (i : ℕ). alike_test scope units i r.1.number) x.1 ∙ ap (λ (i : ℕ). alike_test scope units m i) y.1 ∙ e in
+      let is = ((test_decides scope units r.0 r.1 x.0 y.0).0 here).1 in
+      subst (λ (i : ℕ). Alike units m i) y.1 (subst (λ (i : ℕ). Alike units i r.1.number) x.1 is));
   scoped = λ a b i j e. ((test_decides scope units a b i j).0 e).0;
   decided = λ a b i j s l. (test_decides scope units a b i j).1 (s, l);
 }

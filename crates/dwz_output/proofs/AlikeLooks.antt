@@ -1,5 +1,5 @@
 -- Looks of one depth, among tops whose references go to each other.
-use Rattle.std.proofs.Common.{◌≡◌, ℕ, zero, suc, ◌+◌, true, List, Some, Decides, refl, sym, ap, subst, ◌∙◌, arith}
+use Rattle.std.proofs.Common.{◌≡◌, ℕ, zero, suc, ◌+◌, ◌<◌, List, length, Some, Decides, refl, sym, ap, subst, ◌∙◌, arith}
 use Rattle.std.proofs.lemmas.Bool.Decides.{Decides-at, Decides-like}
 use Rattle.dwz_docs.specs.Meanings.{In}
 use Rattle.dwz_output.specs.Alike.{Look, SameTop}
@@ -7,12 +7,19 @@ use Rattle.dwz_output.specs.Deciding.{look_test, on_tops, same_top, top_in}
 use Rattle.dwz_output.specs.Spots.{Top}
 use Rattle.dwz_output.proofs.AlikeTests.{Decides-any}
 use Rattle.dwz_output.proofs.AlikeTops.{DecidesIn, Gives, Holds, Joins, TopIn, Turns, top_decides, top_gives, top_joins, top_self, top_turns}
-use Rattle.dwz_output.proofs.TopNumbers.{Numbered, finds, one_top}
+use Rattle.dwz_output.proofs.TopNumbers.{Numbered, finds, one_top, top_at}
 
 -- each of the numbers has a top, and references in these tops go to tops whose numbers are among them
 pub record AreClosed (tops : List Top) (Q : ℕ → Type 0) : Type 0 where
   pub there : (n : ℕ) → Q n → (t : Top) × In t tops × (t.number ≡ n)
   pub inside : (t : Top) → In t tops → Q t.number → TopIn Q t
+
+-- all tops are, where each reference into a top names one that is there
+pub tops_closed : (tops : List Top) → Numbered 0 tops → ((t : Top) → In t tops → TopIn (λ n. n < length tops) t) → AreClosed tops (λ n. n < length tops)
+tops_closed tops numbered h = record {
+  there = λ n low. top_at 0 tops n numbered (omega arith) (omega arith);
+  inside = λ t i low. h t i;
+}
 
 -- ---- one step deeper
 
@@ -59,8 +66,8 @@ module _ (tops : List Top) (numbered : Numbered 0 tops) (Q : ℕ → Type 0) (cl
       let b = y.0 in
       let same = top_decides Q (look_test tops k) (Look tops k) (look_decides k) a b (inside_at a m x.1 x.2 u) (inside_at b n y.1 y.2 v) in
       let here : Decides (look_test tops (suc k) a.number b.number) (Look tops (suc k) a.number b.number) =
-          Decides-at _ (same_top (look_test tops k) a b) (look_test_at tops numbered k a b x.1 y.1)
-          (Decides-like _ (look_out tops numbered k a b x.1 y.1) (look_in tops k a b x.1 y.1) same) in
+      Decides-at _ (same_top (look_test tops k) a b) (look_test_at tops numbered k a b x.1 y.1)
+      (Decides-like _ (look_out tops numbered k a b x.1 y.1) (look_in tops k a b x.1 y.1) same) in
       subst (λ (j : ℕ). Decides (look_test tops (suc k) m j) (Look tops (suc k) m j)) y.2
       (subst (λ (i : ℕ). Decides (look_test tops (suc k) i b.number) (Look tops (suc k) i b.number)) x.2 here)
 

@@ -1,5 +1,5 @@
 -- Equal bare trees, where a relation holds of the tops of their targets.
-use Rattle.std.proofs.Common.{◌≡◌, ℕ, Bool, true, false, List, [], ◌∷◌, Decides, ◌==◌, refl, sym, ◌∙◌}
+use Rattle.std.proofs.Common.{ℕ, List, [], ◌∷◌, Decides, ◌==◌, refl, sym, ◌∙◌}
 use Rattle.std.proofs.lemmas.Bool.Decides.{Decides-eqb, Decides-like}
 use Rattle.dwz_docs.specs.Documents.{Attr, Entries, Node, Value}
 use Rattle.dwz_docs.specs.Trees.{End, Entry}

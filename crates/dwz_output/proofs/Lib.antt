@@ -8,3 +8,4 @@ pub mod AlikeBound
 pub mod AlikeLaws
 mod Larger
 mod Rows
+mod AlikeRows

@@ -6,12 +6,12 @@ ghost use Rattle.dwz_output.specs.Alike.{Alike, Bound, IsAlike, Look, Movable, S
 ghost use Rattle.dwz_output.specs.Deciding.{alike_test, bound_test, is_movable, look_test};
 ghost use Rattle.dwz_output.specs.Spots.{FileUnit, Spot, Top, tops_of};
 
-/// The tops of any units, with n tops in all. A chain of references that binds a top can be cut to n references at most, so
-/// the test of chains of n references says which tops are bound, and which are movable. Of two movable tops the test of looks
-/// of a depth says what such a look says; and a look of depth n that finds them equal is followed by looks of every depth.
-/// So the test of alike tops decides, in either scope: it finds two numbers alike exactly where they are those of tops in one
-/// scope that are alike. Being alike is an equivalence of movable tops: each is alike to itself, and what is alike is so in
-/// either order and in turn.
+/// Laws on the tops of any units; n is how many tops there are. A top that some chain of references binds is bound by one of n
+/// references at most. So the test of such chains says which tops are bound, and which are movable. Of two movable tops the
+/// test of looks of a depth says what a look of that depth says, and where a look of depth n finds them equal, so do looks of
+/// every depth. So the test of alike tops decides in either scope: it is true exactly of the numbers of two tops in one scope
+/// that are alike. Being alike is an equivalence of movable tops: each is alike to itself, two that are alike are so in either
+/// order, and two that are alike to a third are alike.
 pub fn alike_laws()
     ensures bound { (units : List (FileUnit Spot)) (t : Top) → In t (tops_of units) → (bound_test units (length (tops_of units)) t ≡ true) ↔ ((k : ℕ) × Bound units k t.number) }
     ensures movable { (units : List (FileUnit Spot)) (t : Top) → In t (tops_of units) → (is_movable units t ≡ true) ↔ Movable units t.number }

@@ -1,7 +1,7 @@
 -- Texts and slots.
-use Rattle.std.proofs.Common.{◌≡◌, ◌≢◌, ℕ, zero, suc, ◌+◌, ◌<◌, ◌≤◌, ◌⊎◌, List, [], ◌∷◌, ◌++◌, length, take, drop, Option, Some, None, Result, Ok, Err, refl, sym, ap, subst, ◌∙◌, cond, eqb, ltb, false, true, Bool, arith, inl, inr, append_assoc}
+use Rattle.std.proofs.Common.{◌≡◌, ◌≢◌, ℕ, zero, suc, ◌+◌, ◌<◌, ◌≤◌, ◌⊎◌, List, [], ◌∷◌, ◌++◌, length, take, drop, Option, Some, None, Result, Ok, Err, refl, sym, ap, subst, ◌∙◌, cond, eqb, ltb, false, true, Bool, arith, inl, inr, append_assoc, get_or}
 use Rattle.std.specs.Option.{option_map}
-use Rattle.std.proofs.lemmas.Bool.{eqb-false, eqb-true, le-ltb, lt-ltb, ltb-false, ltb-true, ne_eqb}
+use Rattle.std.proofs.lemmas.Bool.{eq-eqb, eqb-false, eqb-true, le-ltb, lt-ltb, ltb-false, ltb-true, ne_eqb}
 use Rattle.std.proofs.lemmas.List.{length-append, length-drop, length-take, take-append-drop}
 use Rattle.std.proofs.Math.ListN.{drop_of_length-le}
 use Rattle.dwz_bytes.specs.declared.error.ByteErr.{ByteErr}
@@ -73,6 +73,24 @@ none_again [] n = refl
 none_again (b ∷ bs) n =
     let test : eqb b 0 ≡ false = ne_eqb b 0 n.0 in
     let more = none_again bs n.1 in
+    rw (test, more) refl
+
+-- no byte is 0
+zero_free : (bytes : List ℕ) → ((k : ℕ) → k < length bytes → get_or bytes k 0 ≢ 0) → NoZero bytes
+zero_free [] each = tt
+zero_free (b ∷ bs) each = (each 0 (omega arith), zero_free bs (λ k lt. each (suc k) (omega arith)))
+
+pub text_in-none : (bytes : List ℕ) → ((k : ℕ) → k < length bytes → get_or bytes k 0 ≢ 0) → text_in bytes ≡ None
+text_in-none bytes each = none_again bytes (zero_free bytes each)
+
+-- the first byte that is 0 ends the text
+pub text_in-some : (bytes : List ℕ) (end : ℕ) → end < length bytes → ((k : ℕ) → k < end → get_or bytes k 0 ≢ 0) → get_or bytes end 0 ≡ 0 → text_in bytes ≡ Some (take end bytes)
+unfolding text_in
+text_in-some [] end lt before is = absurd (omega (arith, lt))
+text_in-some (b ∷ bs) zero lt before is = let test : eqb b 0 ≡ true = eq-eqb b 0 is in rw test refl
+text_in-some (b ∷ bs) (suc end) lt before is =
+    let test : eqb b 0 ≡ false = ne_eqb b 0 (before 0 (omega arith)) in
+    let more = text_in-some bs end (omega (arith, lt)) (λ k less. before (suc k) (omega arith)) is in
     rw (test, more) refl
 
 -- ---- at an offset

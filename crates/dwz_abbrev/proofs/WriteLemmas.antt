@@ -33,6 +33,10 @@ pub last_one : {T E : Type 0} (r : Result T E) (new out old rest all : List ℕ)
 last_one (Ok x) new out old rest all is so_far = is ∙ so_far
 last_one (Err e) new out old rest all is so_far = tt
 
+pub end_one : {T E : Type 0} (r : Result T E) (new out old rest all : List ℕ) → OnOk r (new ≡ out ++ rest) → out ++ rest ≡ old ++ all → OnOk r (new ≡ old ++ all)
+end_one (Ok x) new out old rest all is so_far = is ∙ so_far
+end_one (Err e) new out old rest all is so_far = tt
+
 pub pairs_more : (pairs : List Pair) (i : ℕ) (d : Pair) → i < length pairs → pairs_bytes (drop i pairs) ≡ pair_bytes (get_or pairs i d) ++ pairs_bytes (drop (i + 1) pairs)
 unfolding pairs_bytes
 pairs_more pairs i d lt = at_drop_more pairs_bytes pairs i d lt

@@ -1,6 +1,6 @@
 //! Tables that are written.
 
-ghost use Rattle.std.specs.Prelude.{◌≡◌, ◌≢◌, ◌++◌, AllPairs, IfOk, OnErr, OnOk, length, take, vec_len};
+ghost use Rattle.std.specs.Prelude.{◌≡◌, ◌≢◌, ◌++◌, ◌∷◌, [], AllPairs, IfOk, OnErr, OnOk, length, take, vec_len};
 ghost use Rattle.std.specs.Bool.{OnTrue};
 ghost use Rattle.std.specs.BTreeMap.{values};
 ghost use Rattle.dwz_docs.specs.Abbrevs.{SpellsTable, by_code, declaration_bytes, pair_bytes, pairs_bytes, table_bytes};
@@ -49,6 +49,15 @@ fn put_decl(out: &mut Vec<u8>, decl: &Decl) -> Result<(), NoMemory>
     put_pairs(out, decl.pairs.as_slice())
 }
 
+// Appends the end of a table. After an error `out` is as before.
+fn put_end(out: &mut Vec<u8>) -> Result<(), NoMemory>
+    ensures ok { OnOk result (out.new.items ≡ out.old.items ++ 0 ∷ []) }
+    ensures err { OnErr result (out.new.items ≡ out.old.items) }
+{
+    out.push(0)?;
+    Ok(())
+}
+
 // Appends declarations as they stand, and the end of a table. After an error `out` still begins with what it was.
 fn put_decls(out: &mut Vec<u8>, decls: &[Decl]) -> Result<(), NoMemory>
     ensures ok { OnOk result (out.new.items ≡ out.old.items ++ table_bytes (views decls.now)) }
@@ -57,8 +66,7 @@ fn put_decls(out: &mut Vec<u8>, decls: &[Decl]) -> Result<(), NoMemory>
     for decl in decls {
         put_decl(out, decl)?;
     }
-    out.push(0)?;
-    Ok(())
+    put_end(out)
 }
 
 // The declarations by their codes.
@@ -85,8 +93,7 @@ fn put_sorted(out: &mut Vec<u8>, decls: &[Decl]) -> Result<(), NoMemory>
     for decl in order.values() {
         put_decl(out, decl)?;
     }
-    out.push(0)?;
-    Ok(())
+    put_end(out)
 }
 
 // Whether each code is above the one before it.

@@ -1,8 +1,8 @@
-use Rattle.std.proofs.Common.{◌≡◌, ◌+◌, ◌++◌, ◌∙◌, List, ℕ, ap, drop, sym}
+use Rattle.std.proofs.Common.{◌≡◌, ◌+◌, ◌++◌, ◌∷◌, [], ◌∙◌, List, ℕ, ap, drop, sym}
 use Rattle.dwz_docs.specs.Abbrevs.{declaration_bytes, table_bytes}
 use Rattle.dwz_abbrev.specs.declared.decl.Decl.{Decl}
 use Rattle.dwz_abbrev.specs.Views.{decl_view, views}
-use Rattle.dwz_abbrev.proofs.WriteLemmas.{begins_on, one_more, table_all, table_more}
+use Rattle.dwz_abbrev.proofs.WriteLemmas.{begins_on, end_one, one_more, table_all, table_more}
 use Rattle.dwz_abbrev.proofs.writing.put_decls.Goals as goal
 
 pub loop-decl-preserved : goal.loop-decl-preserved
@@ -23,4 +23,5 @@ pub returns-clause-ok : goal.returns-clause-ok
 returns-clause-ok c =
     let decls = c.args.decls.now in
     let out = c.loop-decl.out.items in
-    c.in_ok-push.ensures.items ∙ ap (λ (w : List ℕ). out ++ w) (sym (table_all decls c.loop-decl.decl-index c.loop-decl-test.false)) ∙ c.loop-decl.invariant.1
+    end_one c.put_end.result c.put_end.new.out.items out c.args.out.now.items (0 ∷ []) (table_bytes (views decls)) c.put_end.ensures.ok
+    (ap (λ (w : List ℕ). out ++ w) (sym (table_all decls c.loop-decl.decl-index c.loop-decl-test.false)) ∙ c.loop-decl.invariant.1)

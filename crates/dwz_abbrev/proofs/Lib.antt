@@ -1,2 +1,3 @@
 pub mod PlaceLemmas
 pub mod ShapeLemmas
+pub mod WriteLemmas

@@ -6,6 +6,7 @@ use Rattle.std.specs.Ordering.{nat_cmp}
 use Rattle.std.specs.BTreeMap.{BTreeMap, get}
 use Rattle.std.proofs.lemmas.Bool.{cases_eq, eq-eqb, ne_eqb}
 use Rattle.std.proofs.lemmas.List.{map_push}
+use Rattle.dwz_docs.proofs.CodeLemmas.{last_found}
 use Rattle.dwz_docs.specs.Abbrevs.{Declaration, find_decl}
 use Rattle.dwz_abbrev.specs.declared.decl.Decl.{Decl}
 use Rattle.dwz_abbrev.specs.Places.{IsIndexed, Stores, decl_in, or_else, stored_decl}
@@ -26,14 +27,7 @@ slice_get_end : {X : Type 0} (xs : List X) → slice_get xs (length xs) ≡ None
 slice_get_end [] = refl
 slice_get_end (x ∷ xs) = slice_get_end xs
 
--- what is found among declarations and one more
-pub find_new : (table : List Declaration) (d : Declaration) → find_decl table d.code ≡ None → find_decl (table ++ d ∷ []) d.code ≡ Some d
-find_new [] d none = let same : eqb d.code d.code ≡ true = eq-eqb d.code d.code refl in rw same refl
-find_new (e ∷ table) d none = go (find_new table d) (eqb e.code d.code) none where
-  go : (find_decl table d.code ≡ None → find_decl (table ++ d ∷ []) d.code ≡ Some d) → (test : Bool) → cond test (Some e) (find_decl table d.code) ≡ None → cond test (Some e) (find_decl (table ++ d ∷ []) d.code) ≡ Some d
-  go below true is = absurd cc
-  go below false is = below is
-
+-- what is found among declarations and one more with another code
 pub find_old : (table : List Declaration) (d : Declaration) (code : ℕ) → (code ≡ d.code → ⊥) → find_decl (table ++ d ∷ []) code ≡ find_decl table code
 find_old [] d code ne = let other : eqb d.code code ≡ false = ne_eqb d.code code (λ same. ne (sym same)) in rw other refl
 find_old (e ∷ table) d code ne = ap (cond (eqb e.code code) (Some e)) (find_old table d code ne)
@@ -105,4 +99,4 @@ module _ (rows : List Decl) (old new : BTreeMap ℕ ℕ) (d : Decl) (index : IsI
     ]
 
     here : option_map decl_view (decl_in (rows ++ d ∷ []) new d.code) ≡ find_decl (views (rows ++ d ∷ [])) d.code
-    here = ap (option_map decl_view) found ∙ sym (ap (λ (t : List Declaration). find_decl t d.code) (map_push decl_view rows d) ∙ find_new (views rows) (decl_view d) is_new)
+    here = ap (option_map decl_view) found ∙ sym (ap (λ (t : List Declaration). find_decl t d.code) (map_push decl_view rows d) ∙ last_found (views rows) (decl_view d) is_new)

@@ -1,5 +1,5 @@
 -- A hash of shapes. Where hashes are equal the shapes themselves are compared, so any function would do.
-use Rattle.std.specs.Prelude.{ℕ, ◌*◌, ◌%◌, ◌^◌, List, fold, bit_xor}
+use Rattle.std.specs.Prelude.{ℕ, ◌*◌, ◌%◌, ◌^◌, fold, bit_xor}
 use Rattle.std.specs.Int.{cast_unsigned, w64}
 use Rattle.dwz_model.specs.declared.place.Pair.{Pair}
 use Rattle.dwz_docs.specs.Abbrevs.{EntryShape, children_byte}

@@ -1,5 +1,6 @@
 -- Declarations in memory.
 use Rattle.std.specs.Prelude.{List, map}
+use Rattle.std.specs.Borrow.{Bor}
 use Rattle.dwz_docs.specs.Abbrevs.{Declaration}
 use Rattle.dwz_abbrev.specs.declared.decl.Decl.{Decl}
 
@@ -9,3 +10,6 @@ decl_view d = record { code = d.code; tag = d.tag; children = d.children; pairs 
 
 abbrev pub views : List Decl → List Declaration
 views rows = map decl_view rows
+
+abbrev pub lent_views : List (Bor Decl) → List Declaration
+lent_views rows = map (λ d. decl_view d.now) rows

@@ -6,6 +6,7 @@ mod reading;
 mod rows;
 mod shape;
 mod table;
+mod writing;
 
 pub use decl::Decl;
 pub use table::Table;

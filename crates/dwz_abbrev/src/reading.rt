@@ -7,15 +7,12 @@ ghost use Rattle.dwz_docs.specs.Faults.{Answers, AnswersAt, bad_abbrev};
 ghost use Rattle.dwz_model.specs.declared.fault.ReadErr.TheVariants.{Refused};
 ghost use Rattle.dwz_abbrev.specs.Views.{decl_view};
 
-use crate::decl::Decl;
+use crate::decl::{Decl, IMPLICIT_CONST};
 use crate::rows::Rows;
 use crate::table::Table;
 use dwz_bytes::Cursor;
 use dwz_model::{Fault, Pair, Pairs, ReadErr, Reason};
 use std::alloc::Global;
-
-// The form that a signed number follows.
-const IMPLICIT_CONST: u64 = 0x21;
 
 // The section `.debug_abbrev` in faults.
 const ABBREV: u8 = 2;

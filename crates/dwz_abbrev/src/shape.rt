@@ -60,9 +60,7 @@ pub(crate) fn hash_of(shape: Shape) -> u64
 fn has_shape(decl: &Decl, shape: Shape) -> bool
     ensures { result ≡ Abbrevs.has_shape (shape_view shape.entry) (decl_view decl.now) }
 {
-    decl.tag == shape.tag
-        && decl.children == shape.children
-        && decl.pairs.as_slice() == shape.pairs
+    decl.tag == shape.tag && decl.children == shape.children && decl.pairs.as_slice() == shape.pairs
 }
 
 /// The code of the first declaration with the shape.

@@ -36,11 +36,7 @@ impl Model for Table {
 }
 
 // Keeps a place as the first for a hash that has none, where such places are kept.
-fn note(
-    firsts: &mut Option<BTreeMap<u64, usize>>,
-    hash: u64,
-    place: usize,
-) -> Result<(), NoMemory>
+fn note(firsts: &mut Option<BTreeMap<u64, usize>>, hash: u64, place: usize) -> Result<(), NoMemory>
     ensures notes { Notes hash place firsts.old firsts.new }
     ensures ok { OnOk result (HasPlace hash firsts.new) }
 {

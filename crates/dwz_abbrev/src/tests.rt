@@ -1,7 +1,10 @@
 //! Tables spelled by hand, by the standard's section 7.5.3.
 
+ghost use Rattle.std.specs.Prelude.{◌≢◌, ◌<◌, All, IfOk};
+ghost use Rattle.dwz_docs.specs.Abbrevs.{IsPlainPair};
+
 use crate::Table;
-use dwz_model::{Fault, Pair, ReadErr, Reason};
+use dwz_model::{Fault, NoMemory, Pair, Pairs, ReadErr, Reason};
 use std::alloc::Global;
 use std::test::Fail;
 
@@ -77,4 +80,59 @@ fn refuses_an_offset_past_the_end(rt: HostRuntime) {
     assert_eq!(rt; fault_of(rt.alloc(), &TWO, 18), bad(18));
     assert_eq!(rt; fault_of(rt.alloc(), &TWO, 40), bad(40));
     assert_eq!(rt; fault_of(rt.alloc(), &TWO, 17), None);
+}
+
+// A name and a form.
+fn pairs(alloc: Global, name: u16, form: u64) -> Result<Pairs, NoMemory>
+    requires some_name { 0 < name }
+    requires some_form { 0 < form }
+    ensures { IfOk result (All IsPlainPair) }
+{
+    let mut pairs = Vec::new(alloc);
+    pairs.push(Pair {
+        name,
+        form,
+        constant: 0,
+    })?;
+    Ok(Pairs::new(pairs))
+}
+
+#[test]
+fn makes_a_table(rt: HostRuntime) -> Result<(), Fail> {
+    let alloc = rt.alloc();
+    let mut table = Table::new(alloc);
+    assert_eq!(rt; table.add(0x11, true, pairs(alloc, 0x03, 0x08)?)?, 1);
+    assert_eq!(rt; table.add(0x24, false, pairs(alloc, 0x0b, 0x0b)?)?, 2);
+    assert_eq!(rt; table.add(0x11, false, pairs(alloc, 0x03, 0x08)?)?, 3);
+    assert_eq!(rt; table.add(0x11, true, pairs(alloc, 0x03, 0x08)?)?, 1);
+    assert_eq!(rt; table.add(0x24, false, pairs(alloc, 0x0b, 0x0b)?)?, 2);
+    let name = pairs(alloc, 0x03, 0x08)?;
+    assert_eq!(rt; table.code_of(0x11, false, &name), Some(3));
+    assert_eq!(rt; table.code_of(0x24, false, &name), None);
+    assert_eq!(rt; table.decl(2).ok_or("no code 2")?.tag, 0x24);
+    let mut out = [7].to_vec(alloc)?;
+    table.write(&mut out)?;
+    let bytes = [
+        7, 1, 0x11, 1, 0x03, 0x08, 0, 0, 2, 0x24, 0, 0x0b, 0x0b, 0, 0, 3, 0x11, 0, 0x03, 0x08, 0,
+        0, 0,
+    ];
+    assert_eq!(rt; out.as_slice(), bytes.as_slice());
+    Ok(())
+}
+
+#[test]
+fn writes_what_it_read_by_ascending_code(rt: HostRuntime) -> Result<(), Fail> {
+    let bytes = [
+        0x85, 0x81, 0x00, 0x34, 0, 0, 0, 2, 0x34, 0, 0x3e, 0x21, 0x7f, 0, 0, 1, 0x34, 0, 0, 0, 0,
+    ];
+    let table = Table::read(rt.alloc(), &bytes, 0).map_err(|_| "refused")?;
+    let mut out = Vec::new(rt.alloc());
+    table.write(&mut out)?;
+    let sorted = [
+        1, 0x34, 0, 0, 0, 2, 0x34, 0, 0x3e, 0x21, 0x7f, 0, 0, 0x85, 0x01, 0x34, 0, 0, 0, 0,
+    ];
+    assert_eq!(rt; out.as_slice(), sorted.as_slice());
+    let none = Pairs::new(Vec::new(rt.alloc()));
+    assert_eq!(rt; table.code_of(0x34, false, &none), Some(1));
+    Ok(())
 }

@@ -1,6 +1,6 @@
-use Rattle.std.proofs.Common.{◌≡◌, ◌+◌, ◌++◌, ◌∷◌, [], Bool, List, Option, Some, ℕ, cond, take, sym, ap, ◌∙◌}
+use Rattle.std.proofs.Common.{◌≡◌, ◌+◌, ◌++◌, ◌∷◌, [], Bool, Option, Some, ℕ, cond, take, sym, ap, ◌∙◌}
 use Rattle.std.proofs.lemmas.List.{map_more}
-use Rattle.dwz_docs.specs.Abbrevs.{Declaration, code_in, has_shape, least}
+use Rattle.dwz_docs.specs.Abbrevs.{code_in, has_shape, least}
 use Rattle.dwz_abbrev.specs.Shapes.{shape_view}
 use Rattle.dwz_abbrev.specs.Views.{decl_view, views}
 use Rattle.dwz_abbrev.specs.declared.decl.Decl.{Decl}

@@ -1,9 +1,9 @@
-use Rattle.std.proofs.Common.{◌≡◌, ◌<◌, ◌+◌, ◌≤◌, ℕ, List, All, length, ap, sym, subst, ◌∙◌, arith}
+use Rattle.std.proofs.Common.{◌≡◌, ◌+◌, ℕ, List, All, ap, sym, subst, ◌∙◌, arith}
 use Rattle.dwz_model.specs.declared.place.Pair.{Pair}
-use Rattle.dwz_docs.specs.Abbrevs.{Declaration, EntryShape, FitsDeclaration, FitsPair, FitsTable, IsCounted, with_code}
+use Rattle.dwz_docs.specs.Abbrevs.{EntryShape, FitsDeclaration, IsCounted, with_code}
 use Rattle.dwz_docs.proofs.FitLemmas.{none_found}
 use Rattle.dwz_abbrev.specs.Hash.{shape_hash}
-use Rattle.dwz_abbrev.specs.Shapes.{HasPlace, IsInRange, KeepsFirst, Notes}
+use Rattle.dwz_abbrev.specs.Shapes.{HasPlace, IsInRange, Notes}
 use Rattle.dwz_abbrev.proofs.ShapeLemmas.{kept, next_above, noted, pairs_fit, pushed_fits}
 use Rattle.dwz_abbrev.proofs.table.Table.add.Goals as goal
 

@@ -1,10 +1,10 @@
-use Rattle.std.proofs.Common.{◌≡◌, ℕ, Bool, List, Option, None, Some, drop, take, ◌-◌, length, sym, ap, subst, ◌∙◌}
+use Rattle.std.proofs.Common.{◌≡◌, ℕ, Bool, List, Option, None, drop, take, ◌-◌, length, sym, ap, subst, ◌∙◌}
 use Rattle.std.specs.Prelude.{unwrap_or}
 use Rattle.std.specs.Ordering.{nat_cmp}
 use Rattle.std.specs.BTreeMap.{get}
 use Rattle.std.proofs.lemmas.List.{drop-map, take_rest}
 use Rattle.dwz_model.specs.declared.place.Pair.{Pair}
-use Rattle.dwz_docs.specs.Abbrevs.{Declaration, EntryShape, code_in}
+use Rattle.dwz_docs.specs.Abbrevs.{EntryShape, code_in}
 use Rattle.dwz_abbrev.specs.Hash.{shape_hash}
 use Rattle.dwz_abbrev.specs.Shapes.{AreFirst, KeepsFirst, first_code, start_of}
 use Rattle.dwz_abbrev.specs.Views.{decl_view, views}

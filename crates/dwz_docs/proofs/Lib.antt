@@ -14,3 +14,4 @@ pub mod UnitTreeLemmas
 pub mod HeaderLemmas
 pub mod UnitLemmas
 mod UnitRows
+pub mod FitLemmas

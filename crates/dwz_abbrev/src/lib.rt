@@ -1,0 +1,12 @@
+//! Abbreviation tables: reading, looking up, making and writing them (DWARF 5, 7.5.3).
+#![tactic(auto)]
+
+mod decl;
+mod reading;
+mod table;
+
+pub use decl::Decl;
+pub use table::Table;
+
+#[cfg(test)]
+mod tests;

@@ -1,0 +1,107 @@
+//! The front of an entry: its code and its values.
+
+ghost use Rattle.std.specs.Prelude.{◌≡◌, ◌+◌, ◌<◌, ◌^◌, length, slice_get, IfOk, IsOk, Some};
+ghost use Rattle.dwz_docs.specs.Entries.{attrs_at};
+ghost use Rattle.dwz_docs.specs.Parts.{Leaves};
+ghost use Rattle.dwz_unit.specs.Contexts.{EndsWithUnit, context_view};
+ghost use Rattle.dwz_unit.specs.Fronts.{attrs_passed, front_passed};
+ghost use Rattle.dwz_unit.specs.Rows.{attr_view};
+
+use crate::context::Context;
+use crate::faults::{code_fault, fault_in_entry, info_fault};
+use crate::rows::RawAttr;
+use dwz_bytes::Cursor;
+use dwz_forms::read_value;
+use dwz_model::{Fault, Pair, Reason};
+
+// No entry may be deeper, where a root has depth 1.
+const DEEPEST: u32 = 256;
+
+/// An entry without its children and its values.
+#[derive(Clone, Copy)]
+pub(crate) struct Front {
+    /// Where it begins, in bytes from the first of `.debug_info`.
+    pub at: usize,
+    pub tag: u16,
+    /// Whether a list of children follows.
+    pub children: bool,
+    /// How many values it has.
+    pub attrs: u32,
+}
+
+// Passes over the values of an entry.
+#[inline(always)]
+fn pass(entry: usize, pairs: &[Pair], cursor: &mut Cursor) -> Result<(), Fault>
+    ensures { Leaves (λ x. x) cursor.new result (attrs_passed entry pairs.now cursor.old) }
+{
+    for pair in pairs {
+        read_value(cursor, pair).map_err(|fault| fault_in_entry(entry, fault))?;
+    }
+    Ok(())
+}
+
+/// Passes over an entry at that depth, behind `before` others, or over the end of a sibling list.
+#[inline(always)]
+#[tactic(auto, unfolding(dwz_docs::specs::Entries::front_at))]
+pub(crate) fn pass_front(
+    context: &Context,
+    before: usize,
+    depth: u32,
+    cursor: &mut Cursor,
+) -> Result<Option<Front>, Fault>
+    requires { EndsWithUnit context.now cursor.old }
+    ensures { Leaves (λ x. x) cursor.new result (front_passed (context_view context.now) (record { before = before; depth = depth }) cursor.old) }
+{
+    let at = cursor.at();
+    let code = cursor.uleb().map_err(|error| code_fault(context, error))?;
+    if code == 0 {
+        if depth == 1 {
+            return Err(info_fault(at, Reason::BadRoot));
+        }
+        return Ok(None);
+    }
+    let Some(decl) = context.table.decl(code) else {
+        return Err(info_fault(at, Reason::NoSuchCode));
+    };
+    if depth == 1 && decl.tag != context.root_tag {
+        return Err(info_fault(at, Reason::BadRoot));
+    }
+    if depth > DEEPEST {
+        return Err(info_fault(at, Reason::TooDeep));
+    }
+    if before >= context.room as usize {
+        return Err(info_fault(at, Reason::TooMany));
+    }
+    let pairs = decl.pairs.as_slice();
+    pass(at, pairs, cursor)?;
+    Ok(Some(Front {
+        at,
+        tag: decl.tag,
+        children: decl.children,
+        attrs: pairs.len() as u32,
+    }))
+}
+
+/// The value with that number of an entry whose values begin at the cursor.
+#[inline(always)]
+pub(crate) fn value_of<'a>(
+    entry: usize,
+    pairs: &[Pair],
+    number: usize,
+    cursor: &mut Cursor<'a>,
+) -> RawAttr<'a>
+    requires number { number < length pairs.now }
+    requires read { IsOk (attrs_at entry pairs.now cursor.old) }
+    requires short { cursor.old.at + length cursor.old.rest < 2 ^ 32 }
+    ensures { IfOk (attrs_at entry pairs.now cursor.old) (λ x. slice_get x.0 number ≡ Some (attr_view result)) }
+{
+    let Ok(()) = pass(entry, &pairs[..number], cursor) else {
+        unreachable!()
+    };
+    let at = cursor.at() as u32;
+    let pair = pairs[number];
+    let Ok(raw) = read_value(cursor, &pair) else {
+        unreachable!()
+    };
+    RawAttr { at, pair, raw }
+}

@@ -1,10 +1,9 @@
 -- Headers of units: the tests are passed exactly where a header is spelled, and what a header says is said by its bytes alone.
 -- And the zero bytes behind a tree.
-use Rattle.std.proofs.Common.{◌≡◌, ◌≢◌, ℕ, zero, suc, ◌+◌, ◌-◌, ◌<◌, ◌≤◌, ◌⊎◌, inl, inr, Bool, true, false, cond, eqb, ltb, List, [], ◌∷◌, ◌++◌, length, take, drop, Option, Some, None, Result, Ok, Err, refl, sym, ap, subst, ◌∙◌, append_assoc, arith}
+use Rattle.std.proofs.Common.{◌≡◌, ◌≢◌, ℕ, suc, ◌+◌, ◌<◌, ◌≤◌, ◌⊎◌, inl, inr, Bool, true, false, cond, eqb, ltb, List, [], ◌∷◌, ◌++◌, length, take, drop, Some, None, refl, sym, ap, subst, ◌∙◌, append_assoc, arith}
 use Rattle.std.specs.Prelude.{◌&&◌, ◌||◌, not}
 use Rattle.std.proofs.lemmas.Bool.{eq-eqb, eqb-false, eqb-true, le-ltb, lt-ltb, ltb-false, ltb-true, ne_eqb, not-false, or_cases}
 use Rattle.std.proofs.lemmas.List.{drop-append-le, length-append, length-drop, length-take, take-append-drop, take-append-le}
-use Rattle.dwz_model.specs.declared.fault.Reason.{Reason}
 use Rattle.dwz_bytes.specs.Input.{Input}
 use Rattle.dwz_bytes.specs.Spelling.{le_value}
 use Rattle.dwz_docs.specs.Units.{AreZeros, CompileUnit, IsOtherByte, RawKind, SpellsHeader, Test, TypeUnit, address_size, behind_header, debug_abbrev_offset, field, first_failed, header_reason, header_size, header_tests, kind_by, kind_of, unit_length, unit_size, unit_type, version, zero_count}
@@ -121,7 +120,7 @@ field-append at width front rest le =
     let taken : take width (drop at front ++ rest) ≡ take width (drop at front) = take-append-le width (drop at front) rest (omega (arith, length-drop at front, le)) in
     ap (λ (w : List ℕ). le_value (take width w)) dropped ∙ ap le_value taken
 
-header_some : (kind : RawKind) → 12 ≤ header_size kind
+pub header_some : (kind : RawKind) → 12 ≤ header_size kind
 header_some CompileUnit = omega arith
 header_some (TypeUnit signature type_offset) = omega arith
 

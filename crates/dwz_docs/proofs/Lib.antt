@@ -13,5 +13,7 @@ pub mod EntryLemmas
 pub mod UnitTreeLemmas
 pub mod HeaderLemmas
 pub mod UnitLemmas
+pub mod UnitListLemmas
+pub mod UnitReads
 mod UnitRows
 pub mod FitLemmas

@@ -1,6 +1,6 @@
 -- Entries and their attributes, as they are stored (DWARF 5, 7.5.2 and 7.5.3): how they are spelled, how they are read, and why
 -- one isn't.
-use Rattle.std.specs.Prelude.{◌≡◌, ◌≢◌, ◌⊎◌, ℕ, ◌+◌, ◌<◌, ◌≤◌, Bool, true, false, List, [], ◌∷◌, ◌++◌, length, Option, Some, None, Result, Ok, Err, ◌==◌, ◌&&◌, not, nat_lt, if◌then◌else◌}
+use Rattle.std.specs.Prelude.{◌≡◌, ◌≢◌, ◌⊎◌, ℕ, ◌+◌, ◌-◌, ◌<◌, ◌≤◌, Bool, true, false, List, [], ◌∷◌, ◌++◌, length, drop, Option, Some, None, Result, Ok, Err, ◌==◌, ◌&&◌, not, nat_lt, if◌then◌else◌}
 use Rattle.dwz_model.specs.declared.fault.Fault.{Fault}
 use Rattle.dwz_model.specs.declared.fault.Reason.{Reason}
 use Rattle.dwz_model.specs.declared.fault.Reason.TheVariants.{UnsupportedForm, Truncated, BadNumber, NoSuchCode, BadRoot, TooDeep, TooMany}
@@ -152,6 +152,13 @@ after_code c p at code =
 -- the front of an entry, or the end of a sibling list
 unfoldable pub front_at : UnitContext → Reader RawEntry
 front_at c p i = coded c (uleb_at i) >>= after_code c p i.at
+
+-- among bytes from start on, the entry is read again from its own place
+pub record IsReadAgain (c : UnitContext) (start : ℕ) (bytes : List ℕ) (p : Position) (e : RawEntry) : Type 0 where
+  pub from : start ≤ e.at
+  pub to : e.at < start + length bytes
+  pub behind : Input
+  pub read : front_at c p (record { at = e.at; rest = drop (e.at - start) bytes }) ≡ Ok (Some e, behind)
 
 -- ---- why there is none
 

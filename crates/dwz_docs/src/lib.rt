@@ -8,11 +8,17 @@
 mod abbrevs;
 mod elf;
 mod elf_faults;
+mod entries;
 mod texts;
+mod trees;
+mod units;
 mod values;
 
 pub use abbrevs::table_laws;
 pub use elf::{FileHeader, Header, Moved, Name, NewContent, Section};
 pub use elf_faults::elf_fault_laws;
+pub use entries::{attrs_laws, entry_laws};
 pub use texts::{slot_laws, text_laws};
+pub use trees::tree_laws;
+pub use units::unit_laws;
 pub use values::value_laws;

@@ -1,5 +1,5 @@
 -- What reading the entries of a unit needs, as the definitions see it.
-use Rattle.std.specs.Prelude.{◌≡◌, ℕ, ◌+◌, length}
+use Rattle.std.specs.Prelude.{◌+◌, ◌<◌, ◌^◌, length}
 use Rattle.dwz_bytes.specs.Input.{Input}
 use Rattle.dwz_docs.specs.Entries.{UnitContext}
 use Rattle.dwz_unit.specs.declared.context.Context.{Context}
@@ -7,6 +7,6 @@ use Rattle.dwz_unit.specs.declared.context.Context.{Context}
 abbrev pub context_view : Context → UnitContext
 context_view c = record { table = c.table.now; root_tag = c.root_tag; end = c.end; room = c.room }
 
--- the bytes go on up to the end of the unit
-abbrev pub EndsWithUnit : Context → Input → Type 0
-EndsWithUnit c i = i.at + length i.rest ≡ c.end
+-- the place behind the bytes fits 32 bits
+abbrev pub IsShort : Input → Type 0
+IsShort i = i.at + length i.rest < 2 ^ 32

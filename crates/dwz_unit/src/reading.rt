@@ -27,7 +27,7 @@ fn append_entries(
     entries: &mut Vec<RawEntry>,
 ) -> Result<(), ReadErr>
     requires place { at ≤ length bytes.now }
-    requires end { length bytes.now ≡ context.now.end }
+    requires short { length bytes.now < 2 ^ 32 }
     requires room { length entries.old.items ≤ context.now.room }
     ensures rows { Answers (λ _. entries.new.items) result (unit_rows (context_view context.now) context.now.unit entries.old.items (input bytes.now at)) }
     ensures room { OnOk result (length entries.new.items ≤ context.now.room) }

@@ -1,7 +1,8 @@
 //! The tree of a unit, in preorder.
 
 ghost use Rattle.std.specs.Prelude.{◌≡◌, ◌≤◌, ◌<◌, ◌^◌, ◌∷◌, ◌++◌, [], length, OnOk, IfOk};
-ghost use Rattle.dwz_unit.specs.Contexts.{EndsWithUnit, context_view};
+ghost use Rattle.dwz_unit.specs.Contexts.{IsShort, context_view};
+ghost use Rattle.dwz_unit.specs.Fronts.{front_passed};
 ghost use Rattle.dwz_docs.specs.Faults.{AnswersAt};
 ghost use Rattle.dwz_unit.specs.Appending.{Closes, list_rows, opened, tree_rows};
 
@@ -10,6 +11,19 @@ use crate::front::{Front, pass_front};
 use crate::rows::RawEntry;
 use dwz_bytes::Cursor;
 use dwz_model::{NoMemory, ReadErr};
+
+// Passes over an entry behind `before` others, or over the end of a sibling list.
+#[inline(always)]
+fn next_front(
+    context: &Context,
+    before: usize,
+    depth: u32,
+    cursor: &mut Cursor,
+) -> Result<Option<Front>, ReadErr>
+    ensures { AnswersAt (λ x. x) cursor.new result (front_passed (context_view context.now) (record { before = before; depth = depth }) cursor.old) }
+{
+    pass_front(context, before, depth, cursor).map_err(ReadErr::Refused)
+}
 
 // Appends an entry as if it had no children, and answers its number.
 #[inline(always)]
@@ -56,14 +70,12 @@ fn siblings(
     rows: &mut Vec<RawEntry>,
 ) -> Result<(), ReadErr>
     requires depth { depth ≤ 257 }
-    requires end { EndsWithUnit context.now cursor.old }
+    requires short { IsShort cursor.old }
     requires room { length rows.old.items ≤ context.now.room }
     ensures rows { AnswersAt (λ _. rows.new.items) cursor.new result (list_rows (context_view context.now) context.now.unit depth rows.old.items cursor.old) }
     ensures room { OnOk result (length rows.new.items ≤ context.now.room) }
 {
-    'entries: while let Some(front) = pass_front(context, rows.len(), depth, cursor).map_err(
-        ReadErr::Refused,
-    )? {
+    'entries: while let Some(front) = next_front(context, rows.len(), depth, cursor)? {
         let number = open(context, depth, &front, rows)?;
         if front.children {
             siblings(context, depth + 1, cursor, rows)?;
@@ -79,12 +91,12 @@ pub(crate) fn tree(
     cursor: &mut Cursor,
     rows: &mut Vec<RawEntry>,
 ) -> Result<(), ReadErr>
-    requires end { EndsWithUnit context.now cursor.old }
+    requires short { IsShort cursor.old }
     requires room { length rows.old.items ≤ context.now.room }
     ensures rows { AnswersAt (λ _. rows.new.items) cursor.new result (tree_rows (context_view context.now) context.now.unit rows.old.items cursor.old) }
     ensures room { OnOk result (length rows.new.items ≤ context.now.room) }
 {
-    let Some(root) = pass_front(context, rows.len(), 1, cursor).map_err(ReadErr::Refused)? else {
+    let Some(root) = next_front(context, rows.len(), 1, cursor)? else {
         unreachable!()
     };
     let number = open(context, 1, &root, rows)?;

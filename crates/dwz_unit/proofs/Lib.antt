@@ -1,0 +1,5 @@
+mod FrontLemmas
+mod AttrLemmas
+mod PaddingLemmas
+mod NumberLemmas
+mod RowLemmas

@@ -9,10 +9,10 @@ use Rattle.dwz_model.specs.declared.fault.ReadErr.{ReadErr}
 use Rattle.dwz_model.specs.declared.fault.ReadErr.TheVariants.{NoMemory, Refused}
 use Rattle.dwz_bytes.specs.Input.{Input}
 use Rattle.dwz_bytes.specs.Reading.{◌>>=◌}
-use Rattle.dwz_docs.specs.Entries.{RawEntry, SpellsFront, UnitContext, front_at}
+use Rattle.dwz_docs.specs.Entries.{RawEntry, SpellsFront, UnitContext, front_at, root_position}
 use Rattle.dwz_docs.specs.Faults.{Fails}
 use Rattle.dwz_docs.specs.Trees.{End, Entry, Forest, Position, behind, children_by, first_below, size}
-use Rattle.dwz_docs.specs.Units.{cut_tree, list_at}
+use Rattle.dwz_docs.specs.Units.{Tree, after_root, cut_tree, list_at, tree_at, with_root}
 use Rattle.dwz_docs.proofs.EntryLemmas.{front_found, front_laws, some_front}
 use Rattle.dwz_docs.proofs.PartLemmas.{bind_ok, same_input, same_value}
 use Rattle.dwz_docs.proofs.TreeLemmas.{Takes, children_found, read_is_spelled, shorter, shorter_by_some}
@@ -20,7 +20,7 @@ use Rattle.dwz_docs.proofs.TreeSteps.{siblings_step}
 use Rattle.dwz_unit.specs.declared.context.Context.{Context}
 use Rattle.dwz_unit.specs.declared.front.Front.{Front}
 use Rattle.dwz_unit.specs.declared.rows.RawEntry.{RawEntry as Row}
-use Rattle.dwz_unit.specs.Appending.{Closes, list_rows, opened, position, shown_below, with_rows}
+use Rattle.dwz_unit.specs.Appending.{Closes, list_rows, opened, position, shown_below, tree_rows, with_rows, with_tree}
 use Rattle.dwz_unit.specs.Contexts.{IsShort, context_view}
 use Rattle.dwz_unit.specs.Fronts.{front_of, front_passed, fronts_of}
 use Rattle.dwz_unit.specs.Rows.{EntryRow, entry_shown, rows_below}
@@ -320,3 +320,42 @@ list_end context depth before rows i j count e =
 pub ends_here : (context : Context) (depth before : ℕ) (rows : List Row) (i j : Input) → before ≡ length rows → front_passed (context_view context) (record { before = before; depth = depth }) i ≡ Ok (None, j)
     → list_rows (context_view context) context.unit depth rows i ≡ Ok (rows, j)
 ends_here context depth before rows i j count e = ends (context_view context) context.unit depth rows i j (list_end context depth before rows i j count e)
+
+-- ---- a tree
+
+pub tree_is : (context : Context) (rows : List Row) (i : Input) (new : List Row) (after : Input) → EntryRead context 1 rows i new after → tree_rows (context_view context) context.unit rows i ≡ Ok (new, after)
+unfolding tree_at rows_below
+tree_is context rows i new after e =
+    let c = context_view context in
+    let before = length rows in
+    let p = root_position before in
+    let tree : tree_at c before i ≡ Ok ((e.entry, e.children), after) =
+    ap (λ (r : Result (Option RawEntry × Input) Fault). r >>= after_root c before) e.first ∙ ap (λ (r : Result (Forest RawEntry × Input) Fault). r >>= with_root e.entry) e.second in
+    let whole : shown_below (Entry e.entry e.children End) context.unit p ≡ rows_of_entry context.unit p e.entry e.children = shown_below-entry e.entry e.children End context.unit p ∙ append-nil (rows_of_entry context.unit p e.entry e.children) in
+    ap (λ (r : Result (Tree × Input) Fault). r >>= with_tree context.unit rows) tree ∙ ap (λ (w : List Row). Ok (rows ++ w, after)) whole ∙ ap (λ (w : List Row). Ok (w, after)) (sym e.are)
+
+pub root_there : (context : Context) (before : ℕ) (rows : List Row) (i j : Input) → before ≡ length rows → front_passed (context_view context) (record { before = before; depth = 1 }) i ≡ Ok (None, j) → ⊥
+root_there context before rows i j count e =
+    let t = front_found (context_view context) (position rows 1) i j None (list_end context 1 before rows i j count e) in
+    t.spelled.0 refl
+
+tree_err : (c : UnitContext) (unit : ℕ) (rows : List Row) (i : Input) (f : Fault) → tree_at c (length rows) i ≡ Err f → tree_rows c unit rows i ≡ Err f
+tree_err c unit rows i f e = ap (λ (r : Result (Tree × Input) Fault). r >>= with_tree unit rows) e
+
+pub root_fails : (e : ReadErr) (context : Context) (before : ℕ) (rows : List Row) (i : Input) → before ≡ length rows → Fails e (front_passed (context_view context) (record { before = before; depth = 1 }) i)
+    → Fails e (tree_rows (context_view context) context.unit rows i)
+unfolding tree_at
+root_fails NoMemory context before rows i count e = tt
+root_fails (Refused f) context before rows i count e =
+    let c = context_view context in
+    tree_err c context.unit rows i f (ap (λ (r : Result (Option RawEntry × Input) Fault). r >>= after_root c (length rows)) (front_faulty context 1 before rows i f count e))
+
+pub below_root_fails : (e : ReadErr) (context : Context) (rows opened_rows : List Row) (i j : Input) (front : Front) → FrontRead context 1 rows i front j → opened_rows ≡ rows ++ opened context.unit (length rows) 1 front ∷ [] → front.children ≡ true
+    → Fails e (list_rows (context_view context) context.unit 2 opened_rows j) → Fails e (tree_rows (context_view context) context.unit rows i)
+unfolding tree_at
+below_root_fails NoMemory context rows opened_rows i j front r is_opened flag e = tt
+below_root_fails (Refused f) context rows opened_rows i j front r is_opened flag e =
+    let c = context_view context in
+    let second = children_faulty context 1 rows opened_rows i j front f r is_opened flag e in
+    tree_err c context.unit rows i f
+    (ap (λ (w : Result (Option RawEntry × Input) Fault). w >>= after_root c (length rows)) r.first ∙ ap (λ (w : Result (Forest RawEntry × Input) Fault). w >>= with_root r.entry) second)

@@ -3,3 +3,5 @@ mod AttrLemmas
 mod PaddingLemmas
 mod NumberLemmas
 mod RowLemmas
+mod ShortLemmas
+mod KeepLemmas

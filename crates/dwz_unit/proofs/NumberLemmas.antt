@@ -1,7 +1,8 @@
 -- Tables and their numbers.
-use Rattle.std.proofs.Common.{◌≡◌, ℕ, zero, suc, List, [], ◌∷◌, ◌++◌, length, Bool, true, false, cond, Option, Some, None, Result, Ok, Err, refl, sym, ap, subst, ◌∙◌, arith, inl, inr}
+use Rattle.std.proofs.Common.{◌≡◌, ℕ, ◌<◌, zero, suc, List, [], ◌∷◌, ◌++◌, length, Bool, true, false, cond, Option, Some, None, Result, Ok, Err, refl, sym, ap, subst, ◌∙◌, arith, inl, inr}
 use Rattle.std.proofs.lemmas.Bool.Decides.{nat_tests}
 use Rattle.std.proofs.lemmas.List.{append-nil}
+use Rattle.std.proofs.lemmas.Option.{slice_get_within}
 use Rattle.std.specs.List.{slice_get}
 use Rattle.std.specs.Ordering.{is_eq, nat_cmp}
 use Rattle.std.specs.BTreeMap.{BTreeMap, Updates, get}
@@ -65,3 +66,12 @@ numbers_added section tables new table numbers others offset number are is at re
         | inr p ↦ still_has (record { section = section; tables = tables }) (record { section = section; tables = new }) place n (record { section = refl; others = table ∷ []; tables = is }) (are.found place n p.1)
       ];
 }
+
+-- the table with that number is the one at its offset
+pub table_there : (s : Stored) (offset number : ℕ) (table : List Declaration) → HasTable s offset number → slice_get s.tables number ≡ Some table → table_at s.section offset ≡ Ok table
+table_there s offset number table has stored =
+    let same : has.table ≡ table = let both = sym has.stored ∙ stored in cc in
+    has.read ∙ ap (λ (w : List Declaration). Ok w) same
+
+pub number_within : (s : Stored) (offset number : ℕ) → HasTable s offset number → number < length s.tables
+number_within s offset number has = slice_get_within s.tables number has.table has.stored

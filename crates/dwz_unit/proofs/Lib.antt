@@ -5,3 +5,4 @@ mod NumberLemmas
 mod RowLemmas
 mod ShortLemmas
 mod KeepLemmas
+mod ShownLemmas

@@ -40,5 +40,5 @@ pub record AreKept (info : List ℕ) (room : ℕ) (s : Stored) (kept : List Unit
   pub read : units_at s.section room 0 (input info 0) ≡ Ok (units_of (source_of info s room))
   pub units : ShowAll s 0 (units_of (source_of info s room)) kept
   pub entries : rows ≡ shown_entries (units_of (source_of info s room))
-  pub few : length rows ≤ room
+  pub few : length rows < 2 ^ 32
   pub short : length info < 2 ^ 32

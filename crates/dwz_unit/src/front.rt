@@ -1,0 +1,142 @@
+//! The front of an entry: its code and its values.
+
+ghost use Rattle.std.specs.Prelude.{◌≡◌, ◌+◌, ◌<◌, ◌^◌, length, slice_get, IfOk, IsOk, Ok, Some};
+ghost use Rattle.dwz_bytes.specs.Reading.{uleb_at};
+ghost use Rattle.dwz_codes.specs.Forms.{form_rows};
+ghost use Rattle.dwz_docs.specs.Entries.{attrs_at, coded};
+ghost use Rattle.dwz_docs.specs.Parts.{Leaves};
+ghost use Rattle.dwz_docs.specs.Values.{value_at};
+ghost use Rattle.dwz_forms.specs.RawValues.{raw_view};
+ghost use Rattle.dwz_unit.specs.Contexts.{context_view};
+ghost use Rattle.dwz_unit.specs.Fronts.{attrs_passed, front_passed, value_passed};
+ghost use Rattle.dwz_unit.specs.Rows.{attr_view};
+
+use crate::context::Context;
+use crate::faults::{code_fault, fault_in_entry, info_fault};
+use crate::rows::RawAttr;
+use dwz_bytes::Cursor;
+use dwz_forms::{Raw, read_value};
+use dwz_model::{Fault, Pair, Reason};
+
+// No entry may be deeper, where a root has depth 1.
+const DEEPEST: u32 = 256;
+
+/// An entry without its children and its values.
+#[derive(Clone, Copy)]
+pub(crate) struct Front {
+    /// Where it begins, in bytes from the first of `.debug_info`.
+    pub at: usize,
+    pub tag: u16,
+    /// Whether a list of children follows.
+    pub children: bool,
+    /// How many values it has.
+    pub attrs: u32,
+}
+
+// Passes over a value of an entry.
+#[inline(always)]
+fn pass_value(entry: usize, pair: &Pair, cursor: &mut Cursor) -> Result<(), Fault>
+    ensures { Leaves (λ x. x) cursor.new result (value_passed entry pair.now cursor.old) }
+{
+    match read_value(cursor, pair) {
+        Ok(_) => Ok(()),
+        Err(fault) => Err(fault_in_entry(entry, fault)),
+    }
+}
+
+// Passes over the values of an entry.
+#[inline(always)]
+fn pass_values(entry: usize, pairs: &[Pair], cursor: &mut Cursor) -> Result<(), Fault>
+    ensures { Leaves (λ x. x) cursor.new result (attrs_passed entry pairs.now cursor.old) }
+{
+    for pair in pairs {
+        pass_value(entry, pair, cursor)?;
+    }
+    Ok(())
+}
+
+// A code of a unit.
+#[inline(always)]
+fn read_code(context: &Context, cursor: &mut Cursor) -> Result<u64, Fault>
+    ensures { Leaves (λ x. x) cursor.new result (coded (context_view context.now) (uleb_at cursor.old)) }
+{
+    match cursor.uleb() {
+        Ok(code) => Ok(code),
+        Err(error) => Err(code_fault(context, error)),
+    }
+}
+
+/// Passes over an entry at that depth, behind `before` others, or over the end of a sibling list.
+#[inline(always)]
+#[tactic(auto, unfolding(dwz_docs::specs::Entries::front_at))]
+pub(crate) fn pass_front(
+    context: &Context,
+    before: usize,
+    depth: u32,
+    cursor: &mut Cursor,
+) -> Result<Option<Front>, Fault>
+    ensures { Leaves (λ x. x) cursor.new result (front_passed (context_view context.now) (record { before = before; depth = depth }) cursor.old) }
+{
+    let at = cursor.at();
+    let code = read_code(context, cursor)?;
+    if code == 0 {
+        if depth == 1 {
+            return Err(info_fault(at, Reason::BadRoot));
+        }
+        return Ok(None);
+    }
+    let Some(decl) = context.table.decl(code) else {
+        return Err(info_fault(at, Reason::NoSuchCode));
+    };
+    if depth == 1 && decl.tag != context.root_tag {
+        return Err(info_fault(at, Reason::BadRoot));
+    }
+    if depth > DEEPEST {
+        return Err(info_fault(at, Reason::TooDeep));
+    }
+    if before >= context.room as usize {
+        return Err(info_fault(at, Reason::TooMany));
+    }
+    let pairs = decl.pairs.as_slice();
+    pass_values(at, pairs, cursor)?;
+    Ok(Some(Front {
+        at,
+        tag: decl.tag,
+        children: decl.children,
+        attrs: pairs.len() as u32,
+    }))
+}
+
+// A value that was read before.
+#[inline(always)]
+fn known_value<'a>(cursor: &mut Cursor<'a>, pair: &Pair) -> Raw<'a>
+    requires { IsOk (value_at form_rows pair.now cursor.old) }
+    ensures { value_at form_rows pair.now cursor.old ≡ Ok (raw_view result, cursor.new) }
+{
+    match read_value(cursor, pair) {
+        Ok(raw) => raw,
+        Err(_) => unreachable!(),
+    }
+}
+
+/// The value with that number of an entry whose values begin at the cursor.
+#[inline(always)]
+pub(crate) fn value_of<'a>(
+    entry: usize,
+    pairs: &[Pair],
+    number: usize,
+    cursor: &mut Cursor<'a>,
+) -> RawAttr<'a>
+    requires number { number < length pairs.now }
+    requires read { IsOk (attrs_at entry pairs.now cursor.old) }
+    requires short { cursor.old.at + length cursor.old.rest < 2 ^ 32 }
+    ensures { IfOk (attrs_at entry pairs.now cursor.old) (λ x. slice_get x.0 number ≡ Some (attr_view result)) }
+{
+    let Ok(()) = pass_values(entry, &pairs[..number], cursor) else {
+        unreachable!()
+    };
+    let at = cursor.at() as u32;
+    let pair = pairs[number];
+    let raw = known_value(cursor, &pair);
+    RawAttr { at, pair, raw }
+}

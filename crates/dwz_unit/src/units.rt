@@ -1,0 +1,134 @@
+//! All units of a file, and their entries by number.
+
+ghost use Rattle.std.specs.Prelude.{◌≡◌, ◌<◌, ◌≤◌, ◌^◌, Some, length, slice_get, IfOk};
+ghost use Rattle.dwz_bytes.specs.Input.{input};
+ghost use Rattle.dwz_docs.specs.Faults.{Answers};
+ghost use Rattle.dwz_docs.specs.Units.{entries_in, units_at};
+ghost use Rattle.dwz_unit.specs.Rows.{attr_count, attr_of, attr_view, shown_entries, shown_units, units_of};
+
+use crate::front::value_of;
+use crate::reading::unit_of;
+use crate::rows::{RawAttr, RawEntry, RawUnit};
+use crate::tables::Tables;
+use crate::unit::Unit;
+use dwz_bytes::Cursor;
+use dwz_model::ReadErr;
+use std::alloc::Global;
+use std::marker::Model;
+
+/// All units of `.debug_info` (DWARF 5, 7.5.1), and their entries in preorder. Clauses see what they were read from.
+#[derive(Drop)]
+pub struct Units<'a> {
+    info: &'a [u8],
+    room: u32,
+    tables: Tables<'a>,
+    units: Vec<Unit>,
+    entries: Vec<RawEntry>,
+}
+
+impl<'a> Model for Units<'a> {
+    ghost use Rattle.dwz_unit.specs.Rows.{Source};
+
+    ghost Value = { Source };
+
+    ghost use Rattle.dwz_unit.specs.Kept.{AreKept, source_of};
+
+    ghost view = { λ u. source_of u.info.now u.tables u.room };
+
+    ghost invariant = { λ u. AreKept u.info.now u.room u.tables u.units.items u.entries.items };
+}
+
+impl<'a> Units<'a> {
+    /// Reads all units. `room` is how many entries there may be.
+    pub fn read(
+        alloc: Global,
+        info: &'a [u8],
+        abbrevs: &'a [u8],
+        room: u32,
+    ) -> Result<Units<'a>, ReadErr>
+        requires info { length info.now < 2 ^ 32 }
+        requires abbrevs { length abbrevs.now < 2 ^ 32 }
+        ensures answers { Answers units_of result (units_at abbrevs.now room 0 (input info.now 0)) }
+        ensures source { IfOk result (λ units. units ≡ record { info = info.now; abbrevs = abbrevs.now; room = room }) }
+    {
+        let mut tables = Tables::new(alloc, abbrevs);
+        let mut units = Vec::new(alloc);
+        let mut entries = Vec::new(alloc);
+        let mut at = 0;
+        while at < info.len() {
+            let unit = unit_of(
+                alloc,
+                info,
+                at,
+                room,
+                units.len(),
+                &mut tables,
+                &mut entries,
+            )?;
+            at = unit.shown.end as usize;
+            units.push(unit)?;
+        }
+        Ok(Units {
+            info,
+            room,
+            tables,
+            units,
+            entries,
+        })
+    }
+
+    /// How many units there are.
+    pub fn len(&self) -> u32
+        ensures { result ≡ length (units_of self.now) }
+    {
+        self.units.len() as u32
+    }
+
+    /// How many entries there are.
+    pub fn entries(&self) -> u32
+        ensures { result ≡ entries_in (units_of self.now) }
+    {
+        self.entries.len() as u32
+    }
+
+    /// The unit with a number. Units are numbered from 0 in order of place.
+    pub fn unit(&self, n: u32) -> RawUnit
+        requires { n < length (units_of self.now) }
+        ensures { slice_get (shown_units (units_of self.now)) n ≡ Some result }
+    {
+        self.units[n as usize].shown
+    }
+
+    /// The entry with a number.
+    #[inline(always)]
+    pub fn entry(&self, i: u32) -> RawEntry
+        requires { i < entries_in (units_of self.now) }
+        ensures entry { slice_get (shown_entries (units_of self.now)) i ≡ Some result }
+        ensures attrs { attr_count (units_of self.now) i ≡ result.attrs }
+    {
+        self.entries[i as usize]
+    }
+
+    /// The k-th value of the entry with a number.
+    #[inline(always)]
+    pub fn attr(&self, i: u32, k: u32) -> RawAttr<'a>
+        requires { k < attr_count (units_of self.now) i }
+        ensures { attr_of (units_of self.now) i k ≡ Some (attr_view result) }
+    {
+        let entry = self.entries[i as usize];
+        let unit = self.units[entry.unit as usize];
+        let mut cursor = Cursor::new(&self.info[..unit.shown.end as usize], entry.at as usize);
+        let Ok(code) = cursor.uleb() else {
+            unreachable!()
+        };
+        let Some(decl) = self.tables.table(unit.table).decl(code) else {
+            unreachable!()
+        };
+        value_of(
+            entry.at as usize,
+            decl.pairs.as_slice(),
+            k as usize,
+            &mut cursor,
+        )
+    }
+}

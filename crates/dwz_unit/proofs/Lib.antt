@@ -6,3 +6,4 @@ mod RowLemmas
 mod ShortLemmas
 mod KeepLemmas
 mod ShownLemmas
+mod ReadLemmas

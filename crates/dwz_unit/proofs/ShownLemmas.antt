@@ -30,12 +30,12 @@ pub shown_entries-length : (units : List RawUnit) → length (shown_entries unit
 shown_entries-length units = length-map (rows_of units) entry_shown ∙ rows_from-length units 0 0
 
 -- each unit has a root
-units_few : (units : List RawUnit) → length units ≤ entries_in units
+pub units_few : (units : List RawUnit) → length units ≤ entries_in units
 unfolding entries_in
 units_few [] = omega arith
 units_few (u ∷ units) = omega (arith, units_few units)
 
-kept-length : (units : List RawUnit) (kept : List UnitOfCode) (s : Stored) (first : ℕ) → ShowAll s first units kept → length kept ≡ length units
+pub kept-length : (units : List RawUnit) (kept : List UnitOfCode) (s : Stored) (first : ℕ) → ShowAll s first units kept → length kept ≡ length units
 kept-length [] [] s first are = refl
 kept-length [] (k ∷ kept) s first are = absurd are
 kept-length (u ∷ units) [] s first are = absurd are

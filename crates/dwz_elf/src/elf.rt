@@ -1,8 +1,9 @@
 //! A file's sections.
 
-ghost use Rattle.std.specs.Prelude.{◌≡◌, ◌≤◌, ◌<◌, ◌↔◌, All, Err, IsTrue, IfNone, IfOk, Some, length, map};
+ghost use Rattle.std.specs.Prelude.{◌≡◌, ◌≤◌, ◌<◌, ◌↔◌, All, Err, IsTrue, IfNone, IfOk, Some, length, map, drop, take};
 ghost use Rattle.dwz_docs.specs.ElfHeaders;
 ghost use Rattle.dwz_docs.specs.ElfNames;
+ghost use Rattle.dwz_docs.specs.Files.{bytes_in};
 ghost use Rattle.dwz_docs.specs.ElfReading.{elf_fault, elf_of, range_in, section_range};
 ghost use Rattle.dwz_elf.specs.Plain.{IsPlain, IsPlainSection};
 ghost use Rattle.dwz_elf.specs.Reads.{Gives, IsWhole, front_fault_of, rest_fault_of};
@@ -160,6 +161,17 @@ impl Elf {
         range_of(&self.sections, code)
     }
 
+    /// The bytes of the section with a code, in the file that the sections were read from. A section that isn't there counts
+    /// as empty.
+    pub fn content<'a>(&self, file: &'a [u8], code: u8) -> &'a [u8]
+        ensures { result.now ≡ bytes_in file.now (section_range self.now.sections code) }
+    {
+        match self.section(code) {
+            None => &[],
+            Some((at, size)) => run_of(run_from(file, at), size),
+        }
+    }
+
     pub(crate) fn file(&self) -> FileHeader
         ensures { result ≡ self.now.file }
     {
@@ -182,6 +194,28 @@ impl Elf {
             return false;
         }
         are_plain(&self.sections)
+    }
+}
+
+// The bytes from a place on, as far as there are some.
+fn run_from(bytes: &[u8], at: u64) -> &[u8]
+    ensures { result.now ≡ drop at bytes.now }
+{
+    if at < bytes.len() as u64 {
+        &bytes[at as usize..]
+    } else {
+        &[]
+    }
+}
+
+// So many bytes, or all where there are fewer.
+fn run_of(bytes: &[u8], size: u64) -> &[u8]
+    ensures { result.now ≡ take size bytes.now }
+{
+    if size < bytes.len() as u64 {
+        &bytes[..size as usize]
+    } else {
+        bytes
     }
 }
 

@@ -1,2 +1,3 @@
 mod Larger
 mod Rows
+pub mod WriteLengths

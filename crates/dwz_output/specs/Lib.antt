@@ -8,3 +8,4 @@ pub mod Out
 pub mod Same
 pub mod ReadBack
 pub mod Sound
+pub mod Standing

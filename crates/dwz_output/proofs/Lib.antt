@@ -3,3 +3,5 @@ mod Rows
 pub mod WriteLists
 pub mod WriteLengths
 pub mod Places
+pub mod SameLemmas
+pub mod WriteCodes

@@ -5,3 +5,4 @@ pub mod WriteLengths
 pub mod Places
 pub mod SameLemmas
 pub mod WriteCodes
+pub mod WriteTables

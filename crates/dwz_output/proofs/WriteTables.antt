@@ -1,7 +1,8 @@
 -- Tables by first use: each is spelled, and stands where it is looked for.
-use Rattle.std.proofs.Common.{◌≡◌, ℕ, ℤ, pos, suc, ◌+◌, ◌<◌, ◌≤◌, ◌^◌, ◌⊎◌, Bool, true, false, List, [], ◌∷◌, ◌++◌, length, map, Option, Some, None, refl, sym, ap, ◌∙◌, append_assoc, arith, cond, eqb, eqb-true, ne_eqb}
+use Rattle.std.proofs.Common.{◌≡◌, ℕ, ℤ, pos, suc, ◌+◌, ◌<◌, ◌≤◌, ◌^◌, ◌⊎◌, Bool, true, false, List, [], ◌∷◌, ◌++◌, length, map, Option, Some, None, refl, sym, ap, subst, ◌∙◌, append_assoc, arith, cond, eqb, eqb-true, ltb, ne_eqb}
 use Rattle.std.specs.Prelude.{MatchBool}
 use Rattle.std.proofs.Math.Logic.{inl, inr}
+use Rattle.std.proofs.lemmas.Bool.{ltb-true}
 use Rattle.std.proofs.lemmas.List.{append-nil, length-append}
 use Rattle.dwz_model.specs.declared.place.Pair.{Pair}
 use Rattle.dwz_bytes.specs.Spelling.{SpellsSleb, SpellsUleb, fits_i64, sleb, uleb}
@@ -10,9 +11,11 @@ use Rattle.dwz_bytes.proofs.SignedLemmas.{sleb_spells}
 use Rattle.dwz_docs.specs.Abbrevs.{Declaration, EndsPairs, EndsTable, IsDeclared, IsPair, SpellsConstant, SpellsDeclaration, SpellsPair, SpellsTable, constant_bytes, declaration_bytes, find_decl, pair_bytes, pairs_bytes, table_bytes}
 use Rattle.dwz_docs.specs.Documents.{Attr, DwUnit, Entries, Node}
 use Rattle.dwz_docs.specs.Lists.{SpellsItems}
+use Rattle.dwz_docs.specs.Meanings.{Class, ClassRow, Unread, class_in, class_rows}
 use Rattle.dwz_docs.specs.Parts.{StandsAt, Then}
 use Rattle.dwz_docs.specs.Trees.{End, Entry, size}
 use Rattle.dwz_output.specs.Alike.{Each}
+use Rattle.dwz_output.specs.Sound.{IsBuilt, IsBuiltAs, SoundAttr, SoundEntries, SoundNode, SoundUnit}
 use Rattle.dwz_output.specs.Spots.{same_numbers}
 use Rattle.dwz_output.specs.Writing.{Shape, abbrevs_of, add_table, coded, declaration_of, joined, pair_of, shape_of, table_in, table_of, tables_of, with_table}
 use Rattle.dwz_output.proofs.SameLemmas.{same_numbers-same, same_numbers-true}
@@ -200,3 +203,73 @@ pub table_inside : (tables : List (List ℕ)) (t : List ℕ) (h : HasTable table
 table_inside tables t h =
     let at = table_stands tables t h in
     omega (arith, at.place, ap length at.parts, length-append at.before (t ++ at.after))
+
+-- ---- what is sound has such shapes
+
+abbrev in_range : List ClassRow → Bool
+in_range [] = true
+in_range (r ∷ rows) = cond (ltb 0 r.form) (cond (ltb r.form 0x10000) (in_range rows) false) false
+
+rows_in_range : in_range class_rows ≡ true
+unfolding class_rows
+rows_in_range = refl
+
+two_tests : (a b c : Bool) → cond a (cond b c false) false ≡ true → (a ≡ true) × (b ≡ true) × (c ≡ true)
+two_tests true true c e = (refl, refl, e)
+two_tests true false c e = absurd cc
+two_tests false b c e = absurd cc
+
+-- a form that has a class is neither 0 nor great
+class_range : (rows : List ClassRow) (form : ℕ) → in_range rows ≡ true → (class_in rows form ≡ Unread) ⊎ ((0 < form) × (form ≤ 0xffff))
+unfolding class_in
+class_range [] form e = inl refl
+class_range (r ∷ rows) form e =
+    let t = two_tests (ltb 0 r.form) (ltb r.form 0x10000) (in_range rows) e in
+    go t (class_range rows form t.2) (eqb r.form form) refl where
+  go : (ltb 0 r.form ≡ true) × (ltb r.form 0x10000 ≡ true) × (in_range rows ≡ true) → (class_in rows form ≡ Unread) ⊎ ((0 < form) × (form ≤ 0xffff)) → (b : Bool) → eqb r.form form ≡ b → (cond b r.class (class_in rows form) ≡ Unread) ⊎ ((0 < form) × (form ≤ 0xffff))
+  go t rest true e = let same = eqb-true r.form form e in inr (omega (arith, ltb-true 0 r.form t.0), omega (arith, ltb-true r.form 0x10000 t.1))
+  go t rest false e = rest
+
+form_range : (form name : ℕ) → IsBuilt form name → (0 < form) × (form ≤ 0xffff)
+form_range form name built = elim (class_range class_rows form rows_in_range) [
+  | inl e ↦ absurd (subst (λ (c : Class). IsBuiltAs c name) e built)
+  | inr h ↦ h
+]
+
+module _ {K : Type 0} where
+  good_constant : (a : Attr K) → SoundAttr a → (t : Bool) → eqb a.form 0x21 ≡ t → MatchBool t (fits_i64 (cond t a.raw (pos 0)) ≡ true) (cond t a.raw (pos 0) ≡ pos 0)
+  good_constant a s true e = s.constant (eqb-true a.form 0x21 e)
+  good_constant a s false e = refl
+
+  good_pair : (a : Attr K) → SoundAttr a → GoodPair (pair_of a)
+  good_pair a s =
+      let r = form_range a.form a.name s.built in
+      record { some_name = s.some_name; name_fits = s.name_fits; some_form = r.0; form_fits = r.1; constant = good_constant a s (eqb a.form 0x21) refl }
+
+  good_pairs : (attrs : List (Attr K)) → Each SoundAttr attrs → Each GoodPair (map pair_of attrs)
+  good_pairs [] s = tt
+  good_pairs (a ∷ attrs) s = (good_pair a s.0, good_pairs attrs s.1)
+
+  good_shape : (e : Node K) (children : Entries K) → SoundNode e → GoodShape (shape_of e children)
+  good_shape e children s = record { some_tag = s.some_tag; tag_fits = s.tag_fits; pairs = good_pairs e.attrs s.attrs }
+
+  good_shapes : (f : Entries K) → SoundEntries f → EachShape GoodShape f
+  good_shapes End s = tt
+  good_shapes (Entry e children next) s = (good_shape e children s.0, good_shapes children s.1, good_shapes next s.2)
+
+  pub good_table : (u : DwUnit K) → SoundUnit u → Each GoodShape (table_of u)
+  good_table u s = each_of_table GoodShape u (good_shape u.root u.below s.root) (good_shapes u.below s.below)
+
+  -- where few entries are in the unit, its table stands at the offset that the unit names
+  pub unit_table : (tables : List (List ℕ)) (u : DwUnit K) (h : HasTable tables (abbrevs_of u)) → SoundUnit u → size u.below < 2 ^ 63 → StandsAt SpellsTable (joined tables) h.offset (coded 1 (table_of u))
+  unit_table tables u h s few =
+      let at = table_stands tables (abbrevs_of u) h in
+      let len = (is_table u).len in
+      record {
+        before = at.before;
+        front = abbrevs_of u;
+        after = at.after;
+        spelled = table_written (table_of u) (omega (arith, len, few)) (good_table u s);
+        length_before = at.place;
+        parts = at.parts;
+      }

@@ -6,3 +6,5 @@ pub mod Places
 pub mod SameLemmas
 pub mod WriteCodes
 pub mod WriteTables
+pub mod RawUnits
+pub mod RawSpelled

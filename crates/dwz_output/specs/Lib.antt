@@ -9,3 +9,4 @@ pub mod Same
 pub mod ReadBack
 pub mod Sound
 pub mod Standing
+pub mod Fitting

@@ -8,7 +8,7 @@ use Rattle.dwz_docs.specs.Trees.{End, Entry}
 use Rattle.dwz_docs.specs.Values.{AreBytes, Raw, SpellsValue}
 use Rattle.dwz_output.specs.Alike.{Each}
 use Rattle.dwz_output.specs.Placing.{zeros}
-use Rattle.dwz_output.specs.Writing.{pair_of, stored}
+use Rattle.dwz_output.specs.Writing.{pair_of, stored_as}
 
 -- Which attributes are written. Texts by slots, expressions, location lists and the numbers of files will have their cases here.
 abbrev pub IsBuiltAs : Class → ℕ → Type 0
@@ -40,7 +40,7 @@ pub record NamesEntry {K : Type 0} (f : ℕ) (a : Attr K) : Type 0 where
 abbrev pub StoresAs : {K : Type 0} → Class → Attr K → Type 0
 StoresAs OfUnitEntry a = NamesEntry 0x13 a
 StoresAs OfInfoEntry a = NamesEntry 0x10 a
-StoresAs _ a = HasBytes a (stored zeros 0 a)
+StoresAs c a = HasBytes a (stored_as c zeros 0 a)
 
 -- an attribute other than DW_AT_sibling, as a declaration and an entry hold it
 pub record SoundAttr {K : Type 0} (a : Attr K) : Type 0 where

@@ -7,4 +7,5 @@ pub mod SameLemmas
 pub mod WriteCodes
 pub mod WriteTables
 pub mod RawUnits
+pub mod RawHeaders
 pub mod RawSpelled

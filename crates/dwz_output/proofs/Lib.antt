@@ -9,3 +9,4 @@ pub mod WriteTables
 pub mod RawUnits
 pub mod RawHeaders
 pub mod RawSpelled
+pub mod UnitsSpelled

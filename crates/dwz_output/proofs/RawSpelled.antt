@@ -129,7 +129,7 @@ module _ {K : Type 0} (n : Numbering K) (unit : ℕ) (table : List TableShape) (
       } in
       subst (λ (at : ℕ). SpellsEntry c p (raw_entry n unit table e children) at (node_bytes n unit table e children)) place one
 
-  size_raw : (f : Entries K) → size (raw_entries n unit table f) ≡ size f
+  pub size_raw : (f : Entries K) → size (raw_entries n unit table f) ≡ size f
   unfolding raw_entries
   size_raw End = refl
   size_raw (Entry e children next) = (let a = size_raw children in let b = size_raw next in omega (arith, a, b))

@@ -10,3 +10,4 @@ pub mod RawUnits
 pub mod RawHeaders
 pub mod RawSpelled
 pub mod UnitsSpelled
+pub mod ValuesMean

@@ -10,3 +10,4 @@ pub mod ReadBack
 pub mod Sound
 pub mod Standing
 pub mod Fitting
+pub mod Meant

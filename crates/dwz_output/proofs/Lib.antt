@@ -11,3 +11,4 @@ pub mod RawHeaders
 pub mod RawSpelled
 pub mod UnitsSpelled
 pub mod ValuesMean
+pub mod UnitsMean

@@ -100,7 +100,7 @@ module _ {K : Type 0} (n : Numbering K) (unit : ℕ) (sources : Sources) (own al
       let value' : value_map n.place a.value ≡ ref (n.place k) = ap (λ (w : Value K). value_map n.place w) value in
       (subst (λ (q : ℕ). In q places) place among, value' ∙ ap (λ (q : ℕ). ref q) place)
 
-  as_means : (c : Class) (a : Attr K) (at : ℕ) → class_of a.form ≡ c → IsBuiltAs c a.name → StoresAs c a → FitsAs c n unit a → SaysAs c sources own all a → MeansAs c s (stored_at c n unit a at) (value_map n.place a.value)
+  pub as_means : (c : Class) (a : Attr K) (at : ℕ) → class_of a.form ≡ c → IsBuiltAs c a.name → StoresAs c a → FitsAs c n unit a → SaysAs c sources own all a → MeansAs c s (stored_at c n unit a at) (value_map n.place a.value)
   as_means OfAddress a at e built stores fits says = (let r = read_of OfAddress sources a e says in kept n a r.named r.value _ r.same r.means ∙ ap (λ (z : ℤ). only (Addr (reach z))) r.number)
   as_means OfBlock a at e built stores fits says =
       let r = read_of OfBlock sources a e says in

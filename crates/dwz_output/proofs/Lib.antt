@@ -12,3 +12,4 @@ pub mod RawSpelled
 pub mod UnitsSpelled
 pub mod ValuesMean
 pub mod UnitsMean
+pub mod Rising

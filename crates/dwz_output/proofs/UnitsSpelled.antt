@@ -62,7 +62,7 @@ root_tag_of n unit Compile tag s = s
 root_tag_of n unit (OfType signature main) tag s = s.0
 root_tag_of n unit Partial tag s = s
 
-header_some : {K : Type 0} (kind : Kind K) → 12 ≤ header_size kind
+pub header_some : {K : Type 0} (kind : Kind K) → 12 ≤ header_size kind
 header_some Compile = omega arith
 header_some (OfType signature main) = omega arith
 header_some Partial = omega arith

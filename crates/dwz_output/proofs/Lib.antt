@@ -13,3 +13,4 @@ pub mod UnitsSpelled
 pub mod ValuesMean
 pub mod UnitsMean
 pub mod Rising
+pub mod WriteLaws

@@ -139,9 +139,9 @@ module _ {K : Type 0} (n : Numbering K) (sources : Sources) (all : List K) (smal
       let unit = n.place u.at in
       let rises = unit_rises n u at stands in
       let inside : (k : K) → In k (entry_keys u) → FitsUnit n unit k = λ k is.
-          (let from = rises_from n (unit_keys u) at (at + unit_size n at u) k rises (entry_is_key u k is) in
-          let to = rises_to n (unit_keys u) at (at + unit_size n at u) k rises (entry_is_key u k is) in
-          (omega (arith, stands.unit, from), omega (arith, stands.unit, to, lt))) in
+      (let from = rises_from n (unit_keys u) at (at + unit_size n at u) k rises (entry_is_key u k is) in
+      let to = rises_to n (unit_keys u) at (at + unit_size n at u) k rises (entry_is_key u k is) in
+      (omega (arith, stands.unit, from), omega (arith, stands.unit, to, lt))) in
       record {
         kind = kind_fits n unit sources (entry_keys u) all inside small u.kind says.kind;
         root = node_fits n unit sources (entry_keys u) all inside small u.root.attrs says.root;

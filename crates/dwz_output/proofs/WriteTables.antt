@@ -136,13 +136,16 @@ table_found (u ∷ tables) at t o e =
       | inl p ↦ (0, omega (arith, p.1), record { before = []; after = joined tables; place = refl; parts = ap (λ (w : List ℕ). w ++ joined tables) (same_numbers-true u t p.0) })
       | inr p ↦
           let r = table_found tables (at + length u) t o p.1 in
-          let is = r.2 in
-          (length u + r.0, omega (arith, r.1), record {
-            before = u ++ is.before;
-            after = is.after;
-            place = omega (arith, length-append u is.before, is.place);
-            parts = ap (λ (w : List ℕ). u ++ w) is.parts ∙ sym (append_assoc u is.before (t ++ is.after));
-          })
+          let is = r.2 in (
+            length u + r.0,
+            omega (arith, r.1),
+            record {
+              before = u ++ is.before;
+              after = is.after;
+              place = omega (arith, length-append u is.before, is.place);
+              parts = ap (λ (w : List ℕ). u ++ w) is.parts ∙ sym (append_assoc u is.before (t ++ is.after));
+            },
+          )
     ]
 
 table_grows : (at : ℕ) (tables more : List (List ℕ)) (t : List ℕ) (o : ℕ) → table_in at tables t ≡ Some o → table_in at (tables ++ more) t ≡ Some o
@@ -226,9 +229,9 @@ class_range [] form e = inl refl
 class_range (r ∷ rows) form e =
     let t = two_tests (ltb 0 r.form) (ltb r.form 0x10000) (in_range rows) e in
     go t (class_range rows form t.2) (eqb r.form form) refl where
-  go : (ltb 0 r.form ≡ true) × (ltb r.form 0x10000 ≡ true) × (in_range rows ≡ true) → (class_in rows form ≡ Unread) ⊎ ((0 < form) × (form ≤ 0xffff)) → (b : Bool) → eqb r.form form ≡ b → (cond b r.class (class_in rows form) ≡ Unread) ⊎ ((0 < form) × (form ≤ 0xffff))
-  go t rest true e = let same = eqb-true r.form form e in inr (omega (arith, ltb-true 0 r.form t.0), omega (arith, ltb-true r.form 0x10000 t.1))
-  go t rest false e = rest
+      go : (ltb 0 r.form ≡ true) × (ltb r.form 0x10000 ≡ true) × (in_range rows ≡ true) → (class_in rows form ≡ Unread) ⊎ ((0 < form) × (form ≤ 0xffff)) → (b : Bool) → eqb r.form form ≡ b → (cond b r.class (class_in rows form) ≡ Unread) ⊎ ((0 < form) × (form ≤ 0xffff))
+      go t rest true e = let same = eqb-true r.form form e in inr (omega (arith, ltb-true 0 r.form t.0), omega (arith, ltb-true r.form 0x10000 t.1))
+      go t rest false e = rest
 
 form_range : (form name : ℕ) → IsBuilt form name → (0 < form) × (form ≤ 0xffff)
 form_range form name built = elim (class_range class_rows form rows_in_range) [

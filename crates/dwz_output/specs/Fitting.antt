@@ -5,6 +5,11 @@ use Rattle.dwz_docs.specs.Entries.{Mode}
 use Rattle.dwz_docs.specs.Meanings.{Class, OfInfoEntry, OfUnitEntry, class_of}
 use Rattle.dwz_docs.specs.Trees.{End, Entry, size}
 use Rattle.dwz_output.specs.Alike.{Each}
+use Rattle.dwz_output.specs.Out.{FitsSections}
+use Rattle.dwz_output.specs.Placing.{numbering, sections, units_keys}
+use Rattle.dwz_output.specs.Sound.{SoundUnit}
+use Rattle.dwz_output.specs.Spots.{Spot, same_spot}
+use Rattle.dwz_output.specs.Standing.{NoneTwice}
 use Rattle.dwz_output.specs.Writing.{Numbering}
 
 -- ---- numbers of entries
@@ -53,8 +58,28 @@ unfoldable pub entry_total : {K : Type 0} → List (DwUnit K) → ℕ
 entry_total [] = 0
 entry_total (u ∷ units) = size u.below + 1 + entry_total units
 
+unfoldable pub deepest : {K : Type 0} → List (DwUnit K) → ℕ
+deepest [] = 0
+deepest (u ∷ units) = max (suc (depth u.below)) (deepest units)
+
+-- just as many and as deep entries as there are
+abbrev pub mode_for : {K : Type 0} → List (DwUnit K) → Mode
+mode_for units = record { entries = entry_total units; depth = deepest units; partial = true }
+
 -- partial units are read, and so many and so deep entries as there are
 pub record IsRoomy {K : Type 0} (units : List (DwUnit K)) (mode : Mode) : Type 0 where
   pub partial : mode.partial ≡ true
   pub entries : entry_total units ≤ mode.entries
   pub depth : Each (λ u. suc (depth u.below) ≤ mode.depth) units
+
+-- ---- what can be written
+
+-- Units with names that are sound, of which none stands twice, and whose sections have fewer than 2^32 - 16 bytes.
+pub record AreWritable (units : List (DwUnit Spot)) : Type 0 where
+  pub sound : Each SoundUnit units
+  pub apart : NoneTwice (units_keys units)
+  pub fits : FitsSections (sections same_spot units)
+
+-- where names stand
+abbrev pub places : List (DwUnit Spot) → Numbering Spot
+places units = numbering same_spot units

@@ -1,11 +1,12 @@
 -- What the units that are written mean: the same units, with places for keys.
 use Rattle.std.specs.Prelude.{◌≡◌, ℕ, List, [], ◌∷◌, ◌++◌, map}
 use Rattle.dwz_docs.specs.Documents.{Attr, Compile, DwUnit, Entries, Kind, Node, OfType, Partial, attr_map, kind_map, value_map}
-use Rattle.dwz_docs.specs.Entries.{RawAttr}
-use Rattle.dwz_docs.specs.Meanings.{Class, In, MeansAttr, OfInfoEntry, OfUnitEntry, Scope, Sources, class_of, number_of}
+use Rattle.dwz_docs.specs.Entries.{Mode, RawAttr}
+use Rattle.dwz_docs.specs.Meanings.{Class, In, MeanUnits, MeansAttr, OfInfoEntry, OfUnitEntry, Scope, Sources, all_places, class_of, number_of}
 use Rattle.dwz_docs.specs.Trees.{End, Entry}
+use Rattle.dwz_docs.specs.Units.{RawUnit, SpellsUnits}
 use Rattle.dwz_output.specs.Alike.{Each}
-use Rattle.dwz_output.specs.Placing.{keys}
+use Rattle.dwz_output.specs.Placing.{UnitSections, keys}
 use Rattle.dwz_output.specs.Writing.{Numbering, stored}
 
 -- ---- the units with places for keys; the number of an attribute is the one that it stores there
@@ -75,3 +76,17 @@ pub record UnitSays {K : Type 0} (sources : Sources) (all : List K) (u : DwUnit 
 
 abbrev pub UnitsSay : {K : Type 0} → Sources → List (DwUnit K) → Type 0
 UnitsSay sources units = Each (UnitSays sources (all_entry_keys units)) units
+
+-- ---- what sections say
+
+-- they spell units that stand at these places, entry by entry
+pub record Spells (s : UnitSections) (mode : Mode) (places : List ℕ) : Type 0 where
+  pub raw : List RawUnit
+  pub spelled : SpellsUnits s.abbrevs mode 0 raw 0 s.info
+  pub same_places : all_places raw ≡ places
+
+-- they spell units that mean these
+pub record Says (sources : Sources) (s : UnitSections) (mode : Mode) (units : List (DwUnit ℕ)) : Type 0 where
+  pub raw : List RawUnit
+  pub spelled : SpellsUnits s.abbrevs mode 0 raw 0 s.info
+  pub means : MeanUnits sources (all_places raw) raw units

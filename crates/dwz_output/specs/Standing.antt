@@ -1,12 +1,12 @@
--- What holds of where keys stand.
-use Rattle.std.specs.Prelude.{◌≡◌, ◌<◌, List, [], ◌∷◌, length}
-use Rattle.dwz_docs.specs.Documents.{DwUnit}
+-- No length depends on numbers, and no key has two places.
+use Rattle.std.specs.Prelude.{◌≡◌, ℕ, List, [], ◌∷◌, length}
 use Rattle.dwz_docs.specs.Meanings.{In}
-use Rattle.dwz_output.specs.Alike.{Each}
-use Rattle.dwz_output.specs.Placing.{UnitsStand, numbering, units_keys}
-use Rattle.dwz_output.specs.Sound.{SoundUnit}
-use Rattle.dwz_output.specs.Spots.{Spot, same_spot}
-use Rattle.dwz_output.specs.Writing.{Numbering, tables_of, units_bytes}
+use Rattle.dwz_output.specs.Spots.{Spot}
+use Rattle.dwz_output.specs.Writing.{Numbering}
+
+-- what is written under numbers, in a unit that begins at a place, has the same length under any others, and at any place
+abbrev pub SameLength : (Numbering Spot → ℕ → List ℕ) → Type 0
+SameLength bytes = (m n : Numbering Spot) (p q : ℕ) → length (bytes m p) ≡ length (bytes n q)
 
 -- each key is none of those behind it
 abbrev pub NoneTwice : {K : Type 0} → List K → Type 0

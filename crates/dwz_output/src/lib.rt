@@ -2,3 +2,7 @@
 //!
 //! There is no running code here. The definitions stand in `specs/`; here are laws, which are functions without a body.
 #![tactic(auto)]
+
+mod writing;
+
+pub use writing::{bytes_laws, length_laws, placing_laws};

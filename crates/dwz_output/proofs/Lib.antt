@@ -14,3 +14,4 @@ pub mod ValuesMean
 pub mod UnitsMean
 pub mod Rising
 pub mod WriteLaws
+pub mod Unnumbered

@@ -15,3 +15,5 @@ pub mod UnitsMean
 pub mod Rising
 pub mod WriteLaws
 pub mod Unnumbered
+pub mod Carrying
+pub mod Chosen

@@ -13,19 +13,19 @@ use Rattle.dwz_output.specs.Writing.{Numbering, block_in, first_place, pair_of, 
 use Rattle.dwz_output.proofs.WriteLists.{in_map}
 
 -- an attribute as it was read, whose form has that class
-record Read {K : Type 0} (c : Class) (sources : Sources) (a : Attr K) : Type 0 where
-  scope : Scope
-  same_sources : scope.sources ≡ sources
-  old : RawAttr
-  value : Value ℕ
-  means : MeansAs c scope old value
-  name : old.pair.name ≡ a.name
-  form : old.pair.form ≡ a.form
-  number : number_of old.raw ≡ a.raw
-  named : ℕ → K
-  same : a.value ≡ value_map named value
+pub record Read {K : Type 0} (c : Class) (sources : Sources) (a : Attr K) : Type 0 where
+  pub scope : Scope
+  pub same_sources : scope.sources ≡ sources
+  pub old : RawAttr
+  pub value : Value ℕ
+  pub means : MeansAs c scope old value
+  pub name : old.pair.name ≡ a.name
+  pub form : old.pair.form ≡ a.form
+  pub number : number_of old.raw ≡ a.raw
+  pub named : ℕ → K
+  pub same : a.value ≡ value_map named value
 
-read_of : {K : Type 0} (c : Class) (sources : Sources) (a : Attr K) → class_of a.form ≡ c → WasRead sources a → Read c sources a
+pub read_of : {K : Type 0} (c : Class) (sources : Sources) (a : Attr K) → class_of a.form ≡ c → WasRead sources a → Read c sources a
 read_of c sources a e w =
     let form : w.old.pair.form ≡ a.form = sym w.means.form ∙ sym (ap (λ (b : Attr _). b.form) w.same) in
     record {
@@ -41,7 +41,7 @@ read_of c sources a e w =
       same = ap (λ (b : Attr _). b.value) w.same;
     }
 
-not_so : (b : Bool) (P Q : Type 0) → b ≡ false → IfSo b P Q → Q
+pub not_so : (b : Bool) (P Q : Type 0) → b ≡ false → IfSo b P Q → Q
 not_so true P Q e h = absurd cc
 not_so false P Q e h = h
 
@@ -66,7 +66,7 @@ Kept n a v = value_map n.place a.value ≡ v
 kept : {K : Type 0} (n : Numbering K) (a : Attr K) (named : ℕ → K) (v : Value ℕ) (p : Plain) → a.value ≡ value_map named v → v ≡ only p → Kept n a (only p)
 kept {K} n a named v p same is = ap (λ (w : Value K). value_map n.place w) same ∙ ap (λ (w : Value ℕ). value_map n.place (value_map named w)) is
 
-plain_is : {K : Type 0} (a : Attr K) (named : ℕ → K) (v : Value ℕ) (p : Plain) → a.value ≡ value_map named v → v ≡ only p → a.value.plain ≡ p
+pub plain_is : {K : Type 0} (a : Attr K) (named : ℕ → K) (v : Value ℕ) (p : Plain) → a.value ≡ value_map named v → v ≡ only p → a.value.plain ≡ p
 plain_is {K} a named v p same is = ap (λ (w : Value K). w.plain) same ∙ ap (λ (w : Value ℕ). w.plain) is
 
 abbrev number_by : ℕ → ℕ → ℤ → Plain

@@ -11,3 +11,4 @@ pub mod Sound
 pub mod Standing
 pub mod Fitting
 pub mod Meant
+pub mod Carried

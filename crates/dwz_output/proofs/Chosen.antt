@@ -112,7 +112,7 @@ fit_all_keys {K} same (u ∷ units) =
 
 -- ---- a key that is found
 
-has_in : {K : Type 0} (same : K → K → Bool) (is : IsSame same) (k : K) (ks : List K) → has_key same k ks ≡ true → In k ks
+pub has_in : {K : Type 0} (same : K → K → Bool) (is : IsSame same) (k : K) (ks : List K) → has_key same k ks ≡ true → In k ks
 unfolding has_key
 has_in same is k [] e = absurd cc
 has_in same is k (x ∷ xs) e = go (λ r. has_in same is k xs r) (same x k) refl e where

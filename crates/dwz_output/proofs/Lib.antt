@@ -17,3 +17,4 @@ pub mod WriteLaws
 pub mod Unnumbered
 pub mod Carrying
 pub mod Chosen
+mod WriteRows

@@ -60,7 +60,7 @@ module _ {P : Type 0} where
 -- ---- imports expanded
 
 -- one of the results of a function
-in_mapped : {X Y : Type 0} (f : X → Y) (y : Y) (xs : List X) → In y (map f xs) → (x : X) × In x xs × (f x ≡ y)
+pub in_mapped : {X Y : Type 0} (f : X → Y) (y : Y) (xs : List X) → In y (map f xs) → (x : X) × In x xs × (f x ≡ y)
 in_mapped f y [] is = absurd is
 in_mapped f y (x ∷ xs) is = elim is [
   | inl e ↦ (x, inl refl, e)

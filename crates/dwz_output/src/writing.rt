@@ -1,13 +1,15 @@
 //! What holds of the bytes of units: their lengths, where things stand, and what they say.
 
 ghost use Rattle.std.specs.Prelude.{◌≡◌, ◌<◌, ℕ, List, length, map};
-ghost use Rattle.dwz_docs.specs.Documents.{Attr, DwUnit, Entries, Kind, Node};
+ghost use Rattle.dwz_docs.specs.Documents.{Attr, DwUnit, Entries, Kind, Node, unit_map};
 ghost use Rattle.dwz_docs.specs.Entries.{Mode};
 ghost use Rattle.dwz_docs.specs.Meanings.{In, Sources};
 ghost use Rattle.dwz_output.specs.Alike.{Each};
+ghost use Rattle.dwz_output.specs.Carried.{CarriedUnit};
 ghost use Rattle.dwz_output.specs.Fitting.{AreWritable, IsRoomy, UnitFits, mode_for, places};
 ghost use Rattle.dwz_output.specs.Meant.{Says, Spells, UnitsSay, all_entry_keys, placed_units};
-ghost use Rattle.dwz_output.specs.Placing.{UnitsStand, sections, units_keys};
+ghost use Rattle.dwz_output.specs.Placing.{UnitsStand, fit_unit, sections, units_keys};
+ghost use Rattle.dwz_output.specs.Same.{Closed, EntriesSame, UnitsSame};
 ghost use Rattle.dwz_output.specs.Sound.{SoundAttr, SoundEntries, SoundNode, SoundUnit};
 ghost use Rattle.dwz_output.specs.Spots.{Spot, same_spot};
 ghost use Rattle.dwz_output.specs.Standing.{NoneTwice, SameLength};
@@ -43,4 +45,20 @@ pub fn bytes_laws()
     ensures spelled { (units : List (DwUnit Spot)) (mode : Mode) → AreWritable units → Each (UnitFits (places units)) units → IsRoomy units mode → Spells (sections same_spot units) mode (map (places units).place (all_entry_keys units)) }
     ensures fits { (sources : Sources) (units : List (DwUnit Spot)) → AreWritable units → UnitsSay sources units → Each (UnitFits (places units)) units }
     ensures means { (sources : Sources) (units : List (DwUnit Spot)) (mode : Mode) → AreWritable units → UnitsSay sources units → IsRoomy units mode → Says sources (sections same_spot units) mode (placed_units (places units) units) }
+{}
+
+/// The forms of references. Units with what was read in a file are sound once these are chosen; and if each reference names an
+/// entry and no name stands twice, then each names what its form says, as the units' other attributes say what was read. No
+/// name is changed.
+pub fn form_laws()
+    ensures sound { (sources : Sources) (units : List (DwUnit Spot)) → Each (CarriedUnit sources) units → Each SoundUnit (map (fit_unit same_spot) units) }
+    ensures says { (sources : Sources) (units : List (DwUnit Spot)) → Each (CarriedUnit sources) units → Closed units → NoneTwice (units_keys units) → UnitsSay sources (map (fit_unit same_spot) units) }
+    ensures keys { (units : List (DwUnit Spot)) → units_keys (map (fit_unit same_spot) units) ≡ units_keys units }
+{}
+
+/// Sameness sees neither the forms of attributes nor the numbers that they store: what is the same as the units with places for
+/// names is the same as those that are read back.
+pub fn seen_laws()
+    ensures entries { (f : ℕ → ℕ) (before : List (DwUnit ℕ)) (n : Numbering Spot) (units : List (DwUnit Spot)) → EntriesSame f before (map (unit_map n.place) units) → EntriesSame f before (placed_units n units) }
+    ensures units { (f : ℕ → ℕ) (before : List (DwUnit ℕ)) (n : Numbering Spot) (units : List (DwUnit Spot)) → UnitsSame f before (map (unit_map n.place) units) → UnitsSame f before (placed_units n units) }
 {}

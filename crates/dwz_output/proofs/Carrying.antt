@@ -1,5 +1,5 @@
 -- What a file stores can be written again.
-use Rattle.std.proofs.Common.{◌≡◌, ◌≢◌, ℕ, ℤ, pos, ◌<◌, ◌≤◌, ◌⊎◌, Bool, true, false, List, [], ◌∷◌, map, refl, sym, ap, subst, ◌∙◌, arith, cond, eqb, eqb-true, eq-eqb}
+use Rattle.std.proofs.Common.{◌≡◌, ◌≢◌, ℕ, ℤ, pos, ◌<◌, ◌≤◌, ◌⊎◌, Bool, true, false, List, [], ◌∷◌, refl, sym, ap, subst, ◌∙◌, arith, cond, eqb, eqb-true, eq-eqb}
 use Rattle.std.specs.Prelude.{MatchBool}
 use Rattle.std.proofs.Math.Logic.{inl, inr}
 use Rattle.dwz_model.specs.declared.place.Pair.{Pair}
@@ -8,15 +8,15 @@ use Rattle.dwz_codes.specs.declared.shape.Shape.{Shape}
 use Rattle.dwz_codes.specs.declared.shape.Shape.TheVariants.{Nothing, Fixed1, Fixed2, Fixed3, Fixed4, Fixed8, Fixed16, Uleb, Sleb, ZeroEnded, Block1, Block2, Block4, BlockUleb, Address}
 use Rattle.dwz_codes.specs.Forms.{form_rows}
 use Rattle.dwz_docs.specs.Abbrevs.{SpellsPair}
-use Rattle.dwz_docs.specs.Documents.{Attr, Block, Plain, Ref, Text, Value, only, ref, value_map}
+use Rattle.dwz_docs.specs.Documents.{Attr, Plain, Value, only, ref, value_map}
 use Rattle.dwz_docs.specs.Entries.{RawAttr}
 use Rattle.dwz_docs.specs.Meanings.{Class, ClassRow, MeansAs, OfAddress, OfBlock, OfConstant, OfExpression, OfFlag, OfIndex, OfInfoEntry, OfListIndex, OfOffset, OfSignature, OfText, OfTextBySlot, OfTextInLineStr, OfTextInStr, OfUnitEntry, Sources, Unread, bytes_of, class_in, class_of, class_rows, names_file, names_list, number_of}
 use Rattle.dwz_docs.specs.Values.{Bytes, Number, Raw, SpellsShape, constant_of, shape_of}
-use Rattle.dwz_output.specs.Carried.{CameFrom, CarriedAttr, Imports, IsStored}
+use Rattle.dwz_output.specs.Carried.{CameFrom, CarriedAttr, Imports}
 use Rattle.dwz_output.specs.Meant.{AttrSays, SaysAs, WasRead}
-use Rattle.dwz_output.specs.Placing.{fit_attr, fit_form, has_key, ref_form, zeros}
-use Rattle.dwz_output.specs.Sound.{HasBytes, IsBuiltAs, NamesEntry, SoundAttr, StoresAs}
-use Rattle.dwz_output.specs.Writing.{block_in, pair_of, stored_as, text_in}
+use Rattle.dwz_output.specs.Placing.{fit_attr, fit_form}
+use Rattle.dwz_output.specs.Sound.{HasBytes, IsBuiltAs, SoundAttr, StoresAs}
+use Rattle.dwz_output.specs.Writing.{block_in, pair_of, text_in}
 use Rattle.dwz_output.proofs.ValuesMean.{not_so, plain_is}
 
 -- ---- which classes store bytes, and which a number
@@ -64,10 +64,10 @@ class_agrees [] form e = inl refl
 class_agrees (r ∷ rows) form e =
     let t = two_tests (same_bool (stores_bytes r.class) (holds_bytes (shape_of form_rows r.form))) (agree rows) e in
     go (same_bool-true _ _ t.0) (class_agrees rows form t.1) (eqb r.form form) refl where
-  go : stores_bytes r.class ≡ holds_bytes (shape_of form_rows r.form) → (class_in rows form ≡ Unread) ⊎ (stores_bytes (class_in rows form) ≡ holds_bytes (shape_of form_rows form)) → (b : Bool) → eqb r.form form ≡ b
-      → (cond b r.class (class_in rows form) ≡ Unread) ⊎ (stores_bytes (cond b r.class (class_in rows form)) ≡ holds_bytes (shape_of form_rows form))
-  go same rest true e = inr (same ∙ ap (λ (f : ℕ). holds_bytes (shape_of form_rows f)) (eqb-true r.form form e))
-  go same rest false e = rest
+      go : stores_bytes r.class ≡ holds_bytes (shape_of form_rows r.form) → (class_in rows form ≡ Unread) ⊎ (stores_bytes (class_in rows form) ≡ holds_bytes (shape_of form_rows form)) → (b : Bool) → eqb r.form form ≡ b
+          → (cond b r.class (class_in rows form) ≡ Unread) ⊎ (stores_bytes (cond b r.class (class_in rows form)) ≡ holds_bytes (shape_of form_rows form))
+      go same rest true e = inr (same ∙ ap (λ (f : ℕ). holds_bytes (shape_of form_rows f)) (eqb-true r.form form e))
+      go same rest false e = rest
 
 module _ (number : ℤ) (bytes : List ℕ) (raw : Raw) where
   is_bytes : (shape : Shape) → holds_bytes shape ≡ true → SpellsShape shape number bytes raw → raw ≡ Bytes (bytes_of raw)

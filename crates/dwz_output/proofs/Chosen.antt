@@ -1,7 +1,7 @@
 -- Units whose references have their forms are sound, and each reference names what its form says.
-use Rattle.std.proofs.Common.{◌≡◌, ℕ, ℤ, ◌<◌, ◌≤◌, ◌≢◌, ◌⊎◌, Bool, true, false, List, [], ◌∷◌, ◌++◌, map, refl, sym, ap, subst, ◌∙◌, arith}
+use Rattle.std.proofs.Common.{◌≡◌, ℕ, Bool, true, false, List, [], ◌∷◌, ◌++◌, map, refl, sym, ap, subst, ◌∙◌, arith}
 use Rattle.std.proofs.Math.Logic.{inl, inr}
-use Rattle.dwz_docs.specs.Documents.{Attr, Compile, DwUnit, Entries, Kind, Node, OfType, Partial, Value, ref}
+use Rattle.dwz_docs.specs.Documents.{Attr, DwUnit, Entries, Node, Value}
 use Rattle.dwz_docs.specs.Meanings.{Class, In, OfInfoEntry, OfUnitEntry, Sources, class_in, class_of, class_rows}
 use Rattle.dwz_docs.specs.Trees.{End, Entry}
 use Rattle.dwz_output.specs.Alike.{Each}
@@ -9,9 +9,9 @@ use Rattle.dwz_output.specs.Carried.{CarriedAttr, CarriedEntries, CarriedNode, C
 use Rattle.dwz_output.specs.Meant.{AttrSays, EntriesSay, KindSays, NodeSays, SaysAs, UnitSays, UnitsSay, all_entry_keys, entry_keys}
 use Rattle.dwz_output.specs.Placing.{fit, fit_attr, fit_form, fit_node, fit_unit, has_key, keys, ref_form, unit_keys, units_keys}
 use Rattle.dwz_output.specs.Same.{Closed, Named, Seen, all_seen, named_value, see, seen, seen_below, seen_roots}
-use Rattle.dwz_output.specs.Sound.{IsBuiltAs, NamesEntry, SoundAttr, SoundEntries, SoundNode, SoundUnit, StoresAs}
+use Rattle.dwz_output.specs.Sound.{IsBuiltAs, SoundAttr, SoundEntries, SoundNode, SoundUnit, StoresAs}
 use Rattle.dwz_output.specs.Standing.{NoneTwice}
-use Rattle.dwz_output.proofs.Carrying.{Other, Reference, carried_is}
+use Rattle.dwz_output.proofs.Carrying.{Reference, carried_is}
 use Rattle.dwz_output.proofs.Places.{IsSame}
 use Rattle.dwz_output.proofs.Rising.{entries_are_keys}
 use Rattle.dwz_output.proofs.WriteLists.{each_in, in_each, in_left, in_map, in_right, in_split}
@@ -276,7 +276,7 @@ units_say {K} same is sources units carried closed once =
     let all = all_entry_keys units in
     let names : (s : Seen K) → In s (all_seen units) → SeenNames all s = λ s there a k in_attrs in_refs. (let o = closed s a k there in_attrs in_refs in subst (λ (x : K). In x all) o.2 (all_seen_key units o.0 o.1)) in
     let one : (u : DwUnit K) → In u units → UnitSays sources all (fit_unit same u) = λ u there.
-        (let root = node_names all u.root u.below (names (see u.root u.below) (in_left (see u.root u.below) (seen_roots units) (seen_below units) (root_of units u there))) in
-        let below = entries_name all u.below (λ s i. names s (in_right s (seen_roots units) (seen_below units) (seen_of units u s there i))) in
-        unit_says same is sources all u (unit_apart units u once there) (each_in (CarriedUnit sources) units u carried there) root below) in
+    (let root = node_names all u.root u.below (names (see u.root u.below) (in_left (see u.root u.below) (seen_roots units) (seen_below units) (root_of units u there))) in
+    let below = entries_name all u.below (λ s i. names s (in_right s (seen_roots units) (seen_below units) (seen_of units u s there i))) in
+    unit_says same is sources all u (unit_apart units u once there) (each_in (CarriedUnit sources) units u carried there) root below) in
     subst (λ (w : List K). Each (UnitSays sources w) (map (fit_unit same) units)) (sym (fit_all_keys same units)) (each_says same sources all units one)

@@ -1,12 +1,12 @@
 -- Keys that differ stand where their numbers say, and there is one such numbering.
-use Rattle.std.proofs.Common.{◌≡◌, ℕ, ◌+◌, ◌≤◌, ◌⊎◌, Bool, true, false, List, [], ◌∷◌, ◌++◌, length, map, refl, sym, ap, subst, ◌∙◌, arith}
+use Rattle.std.proofs.Common.{◌≡◌, ℕ, ◌+◌, Bool, true, false, List, [], ◌∷◌, ◌++◌, length, map, refl, sym, ap, subst, ◌∙◌}
 use Rattle.std.proofs.Math.Logic.{inl, inr}
-use Rattle.std.proofs.lemmas.List.{length-append, map-append}
+use Rattle.std.proofs.lemmas.List.{map-append}
 use Rattle.dwz_docs.specs.Documents.{DwUnit, Entries}
 use Rattle.dwz_docs.specs.Meanings.{In}
 use Rattle.dwz_docs.specs.Trees.{End, Entry}
 use Rattle.dwz_output.specs.Alike.{Each}
-use Rattle.dwz_output.specs.Placing.{Stands, UnitStands, UnitsStand, keys, number_in, numbering, placed, unit_keys, units_keys, units_placed, zeros}
+use Rattle.dwz_output.specs.Placing.{Stands, UnitsStand, keys, number_in, numbering, placed, unit_keys, units_keys, units_placed, zeros}
 use Rattle.dwz_output.specs.Standing.{NoneTwice}
 use Rattle.dwz_output.specs.Writing.{Numbering, Shape, header_size, if_any, node_bytes, spelled, table_of, unit_size}
 use Rattle.dwz_output.proofs.WriteLengths.{FixedEntries, FixedUnit, if_len, node_len, size_len, spelled_len}

@@ -1,12 +1,12 @@
 -- The bytes of headers spell them.
-use Rattle.std.proofs.Common.{◌≡◌, ℕ, ◌+◌, ◌-◌, ◌<◌, ◌≤◌, ◌^◌, Bool, true, false, List, [], ◌∷◌, ◌++◌, length, refl, sym, ap, ◌∙◌, append_assoc, arith, ◌&&◌}
-use Rattle.std.proofs.lemmas.List.{append-nil, length-append}
+use Rattle.std.proofs.Common.{◌≡◌, ℕ, ◌-◌, ◌<◌, ◌≤◌, ◌^◌, Bool, true, List, [], ◌∷◌, ◌++◌, length, refl, sym, ap, ◌∙◌, append_assoc, arith, ◌&&◌}
+use Rattle.std.proofs.lemmas.List.{length-append}
 use Rattle.dwz_bytes.specs.Spelling.{le_bytes, le_value}
 use Rattle.dwz_bytes.proofs.FixedLemmas.{fixed_written}
 use Rattle.dwz_docs.specs.Documents.{Compile, DwUnit, Kind, OfType, Partial}
 use Rattle.dwz_docs.specs.Entries.{Mode}
-use Rattle.dwz_docs.specs.Units.{CompileUnit, PartialUnit, RawKind, SpellsHeader, TypeUnit}
-use Rattle.dwz_output.specs.Fitting.{FitsUnit, KindFits}
+use Rattle.dwz_docs.specs.Units.{CompileUnit, PartialUnit, SpellsHeader, TypeUnit}
+use Rattle.dwz_output.specs.Fitting.{KindFits}
 use Rattle.dwz_output.specs.Sound.{SoundKind}
 use Rattle.dwz_output.specs.Writing.{Numbering, header_size, kind_bytes, type_of, tree_bytes, unit_bytes, unit_size}
 use Rattle.dwz_output.proofs.RawUnits.{raw_kind}

@@ -1,24 +1,22 @@
 -- The bytes of entries spell them as they are stored.
-use Rattle.std.proofs.Common.{◌≡◌, ℕ, ℤ, pos, suc, ◌+◌, ◌-◌, ◌*◌, ◌^◌, ◌<◌, ◌≤◌, max, Bool, true, false, List, [], ◌∷◌, ◌++◌, length, map, Option, Some, None, refl, sym, ap, subst, ◌∙◌, arith, cond, eqb, ltb, ◌⊎◌}
+use Rattle.std.proofs.Common.{◌≡◌, ℕ, ℤ, pos, suc, ◌+◌, ◌-◌, ◌^◌, ◌<◌, ◌≤◌, List, [], ◌∷◌, length, map, refl, sym, ap, subst, ◌∙◌, arith}
 use Rattle.std.proofs.Math.Logic.{inl, inr}
 use Rattle.std.proofs.lemmas.Bool.Decides.{eqb_tells}
-use Rattle.std.proofs.lemmas.List.{length-append}
-use Rattle.dwz_model.specs.declared.place.Pair.{Pair}
-use Rattle.dwz_bytes.specs.Spelling.{SpellsFixed, SpellsUleb, groups_in, group_count, le_bytes, uleb}
+use Rattle.dwz_bytes.specs.Spelling.{SpellsFixed, SpellsUleb, le_bytes}
 use Rattle.dwz_bytes.proofs.FixedLemmas.{fixed_written}
-use Rattle.dwz_bytes.proofs.PaddedLemmas.{padded_len, uleb_spells}
+use Rattle.dwz_bytes.proofs.PaddedLemmas.{uleb_spells}
 use Rattle.dwz_codes.specs.declared.shape.Shape.{Shape}
 use Rattle.dwz_codes.specs.declared.shape.Shape.TheVariants.{Refused}
 use Rattle.dwz_codes.specs.Forms.{form_rows}
-use Rattle.dwz_docs.specs.Documents.{Attr, DwUnit, Entries, Node}
-use Rattle.dwz_docs.specs.Entries.{IsAttr, MayStand, Mode, RawEntry, SpellsAttrs, SpellsCode, SpellsEntry, SpellsFront, UnitContext}
-use Rattle.dwz_docs.specs.Meanings.{Class, OfConstant, OfExpression, OfInfoEntry, OfListIndex, OfOffset, OfTextBySlot, OfUnitEntry, Unread, class_of}
-use Rattle.dwz_docs.specs.Trees.{End, Entry, IfChildren, Position, SpellsForest, TwoParts, behind, first_below, size}
-use Rattle.dwz_docs.specs.Values.{AreBytes, Number, Raw, SpellsShape, SpellsValue, constant_of, shape_bytes, shape_of, value_bytes, written_rows}
+use Rattle.dwz_docs.specs.Documents.{Attr, Entries, Node}
+use Rattle.dwz_docs.specs.Entries.{Mode, SpellsAttrs, SpellsCode, SpellsEntry, SpellsFront, UnitContext}
+use Rattle.dwz_docs.specs.Meanings.{Class, OfExpression, OfInfoEntry, OfUnitEntry, class_of}
+use Rattle.dwz_docs.specs.Trees.{End, Entry, IfChildren, Position, SpellsForest, behind, first_below, size}
+use Rattle.dwz_docs.specs.Values.{Number, Raw, SpellsShape, SpellsValue, constant_of, shape_bytes, shape_of, value_bytes, written_rows}
 use Rattle.dwz_docs.proofs.WrittenLemmas.{shape_written}
 use Rattle.dwz_output.specs.Alike.{Each}
 use Rattle.dwz_output.specs.Fitting.{AttrFits, EntriesFit, FitsAs, FitsInfo, FitsUnit, NodeFits, depth}
-use Rattle.dwz_output.specs.Placing.{Stands, zeros}
+use Rattle.dwz_output.specs.Placing.{Stands}
 use Rattle.dwz_output.specs.Sound.{HasBytes, IsBuiltAs, SoundAttr, SoundEntries, SoundNode, StoresAs}
 use Rattle.dwz_output.specs.Writing.{Numbering, Shape as TableShape, any, attrs_bytes, code_bytes, code_in, coded, declaration_of, first_place, if_any, node_bytes, pair_of, shape_of as entry_shape, spelled, stored, stored_as}
 use Rattle.dwz_output.proofs.RawUnits.{code_of, raw_attrs, raw_entries, raw_entry}

@@ -1,13 +1,13 @@
 -- Places rise from key to key, so two keys with one place are one key, and each stands within its unit.
-use Rattle.std.proofs.Common.{◌≡◌, ℕ, ◌+◌, ◌-◌, ◌^◌, ◌<◌, ◌≤◌, List, [], ◌∷◌, ◌++◌, length, refl, sym, ap, subst, ◌∙◌, arith}
+use Rattle.std.proofs.Common.{◌≡◌, ℕ, ◌+◌, ◌^◌, ◌<◌, ◌≤◌, List, [], ◌∷◌, ◌++◌, length, sym, ap, subst, ◌∙◌, arith}
 use Rattle.std.proofs.Math.Logic.{inl, inr}
 use Rattle.std.proofs.lemmas.List.{length-append}
-use Rattle.dwz_docs.specs.Documents.{Attr, Compile, DwUnit, Entries, Kind, Node, OfType, Partial}
+use Rattle.dwz_docs.specs.Documents.{Attr, Compile, DwUnit, Entries, Kind, OfType, Partial}
 use Rattle.dwz_docs.specs.Meanings.{Class, In, OfInfoEntry, OfUnitEntry, Sources, class_of}
 use Rattle.dwz_docs.specs.Trees.{End, Entry}
 use Rattle.dwz_output.specs.Alike.{Each}
-use Rattle.dwz_output.specs.Fitting.{AttrFits, EntriesFit, FitsAs, FitsInfo, FitsUnit, KindFits, NodeFits, UnitFits}
-use Rattle.dwz_output.specs.Meant.{AttrSays, EntriesSay, KindSays, NodeSays, SaysAs, UnitSays, UnitsSay, all_entry_keys, entry_keys}
+use Rattle.dwz_output.specs.Fitting.{AttrFits, EntriesFit, FitsAs, FitsInfo, FitsUnit, KindFits, UnitFits}
+use Rattle.dwz_output.specs.Meant.{AttrSays, EntriesSay, KindSays, SaysAs, UnitSays, UnitsSay, all_entry_keys, entry_keys}
 use Rattle.dwz_output.specs.Placing.{Stands, UnitStands, UnitsStand, keys, unit_keys, units_keys}
 use Rattle.dwz_output.specs.Writing.{Numbering, Shape, header_size, if_any, node_bytes, spelled, table_of, tree_bytes, unit_size}
 use Rattle.dwz_output.proofs.UnitsSpelled.{header_some, node_some, units_size}

@@ -1,5 +1,5 @@
 -- Tests that decide equality.
-use Rattle.std.proofs.Common.{◌≡◌, ℕ, ℤ, pos, negsuc, Bool, true, false, List, [], ◌∷◌, refl, sym, ap, ◌∙◌, eqb, eqb-true, eq-eqb, ◌&&◌}
+use Rattle.std.proofs.Common.{◌≡◌, ℕ, ℤ, pos, negsuc, Bool, true, false, List, [], ◌∷◌, refl, ap, ◌∙◌, eqb, eqb-true, eq-eqb, ◌&&◌}
 use Rattle.dwz_model.specs.declared.place.Pair.{Pair}
 use Rattle.dwz_docs.specs.Abbrevs.{children_byte}
 use Rattle.dwz_output.specs.Deciding.{same_by, same_int}

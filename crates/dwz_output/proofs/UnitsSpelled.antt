@@ -4,19 +4,19 @@ use Rattle.std.proofs.lemmas.List.{append-nil, length-append}
 use Rattle.dwz_bytes.specs.Spelling.{groups_in, uleb}
 use Rattle.dwz_bytes.proofs.PaddedLemmas.{padded_len}
 use Rattle.dwz_docs.specs.Documents.{Compile, DwUnit, Entries, Kind, Node, OfType, Partial}
-use Rattle.dwz_docs.specs.Entries.{Mode, SpellsEntry, SpellsFront, UnitContext, root_position}
-use Rattle.dwz_docs.specs.Trees.{End, Entry, IfChildren, SpellsForest, first_below, size}
-use Rattle.dwz_docs.specs.Units.{IsContext, SpellsHeader, SpellsTree, SpellsUnit, SpellsUnits, entry_count, root_tag}
+use Rattle.dwz_docs.specs.Entries.{Mode, SpellsFront, UnitContext, root_position}
+use Rattle.dwz_docs.specs.Trees.{End, Entry, SpellsForest, first_below, size}
+use Rattle.dwz_docs.specs.Units.{SpellsHeader, SpellsTree, SpellsUnit, SpellsUnits, entry_count, root_tag}
 use Rattle.dwz_output.specs.Alike.{Each}
-use Rattle.dwz_output.specs.Fitting.{IsRoomy, UnitFits, depth, entry_total}
-use Rattle.dwz_output.specs.Placing.{Stands, UnitStands, UnitsStand}
+use Rattle.dwz_output.specs.Fitting.{UnitFits, depth, entry_total}
+use Rattle.dwz_output.specs.Placing.{UnitStands, UnitsStand}
 use Rattle.dwz_output.specs.Sound.{SoundKind, SoundUnit}
-use Rattle.dwz_output.specs.Writing.{Numbering, Shape, abbrevs_of, attrs_bytes, coded, header_size, if_any, joined, node_bytes, shape_of, spelled, table_of, table_offset, tables_of, tree_bytes, unit_bytes, unit_size, units_bytes}
+use Rattle.dwz_output.specs.Writing.{Numbering, Shape, abbrevs_of, attrs_bytes, header_size, if_any, joined, node_bytes, shape_of, spelled, table_of, table_offset, tree_bytes, unit_bytes, unit_size, units_bytes}
 use Rattle.dwz_output.proofs.RawHeaders.{header_bytes, header_len, header_spelled, unit_len, unit_parts}
 use Rattle.dwz_output.proofs.RawSpelled.{context, entry_spelled, forest_spelled, if_spelled, size_raw}
-use Rattle.dwz_output.proofs.RawUnits.{code_of, raw_entries, raw_entry, raw_kind, raw_unit, raw_units}
+use Rattle.dwz_output.proofs.RawUnits.{raw_entries, raw_entry, raw_kind, raw_unit, raw_units}
 use Rattle.dwz_output.proofs.WriteCodes.{Covers, Has, is_table}
-use Rattle.dwz_output.proofs.WriteTables.{HasTable, HasTables, table_inside, tables_there, unit_table}
+use Rattle.dwz_output.proofs.WriteTables.{HasTable, HasTables, table_inside, unit_table}
 
 -- ---- each entry has a byte at least
 

@@ -1,11 +1,11 @@
 -- Sameness sees neither the forms of attributes nor the numbers that they store.
-use Rattle.std.proofs.Common.{◌≡◌, ◌↔◌, ℕ, pos, ◌⊎◌, List, [], ◌∷◌, ◌++◌, map, refl, sym, ap, subst, ◌∙◌}
+use Rattle.std.proofs.Common.{◌≡◌, ℕ, pos, List, [], ◌∷◌, ◌++◌, map, refl, sym, ap, subst, ◌∙◌}
 use Rattle.std.proofs.Math.Logic.{inl, inr}
-use Rattle.dwz_docs.specs.Documents.{Attr, DwUnit, Entries, Kind, Node, Partial, attr_map, entries_map, kind_map, node_map, ref, unit_map}
+use Rattle.dwz_docs.specs.Documents.{Attr, DwUnit, Entries, Node, attr_map, entries_map, kind_map, node_map, ref, unit_map}
 use Rattle.dwz_docs.specs.Meanings.{In}
 use Rattle.dwz_docs.specs.Trees.{End, Entry}
 use Rattle.dwz_output.specs.Meant.{placed_attr, placed_entries, placed_node, placed_unit, placed_units}
-use Rattle.dwz_output.specs.Same.{EntriesSame, Expands, IsChild, IsImport, IsPartial, Named, Seen, UnitSame, UnitsSame, heads, named_map, named_value, see, seen, seen_below}
+use Rattle.dwz_output.specs.Same.{EntriesSame, Expands, IsChild, IsImport, IsPartial, Named, Seen, UnitsSame, heads, named_value, see, seen, seen_below}
 use Rattle.dwz_output.specs.Writing.{Numbering}
 use Rattle.dwz_output.proofs.WriteLists.{in_map}
 
@@ -95,13 +95,16 @@ module _ {P : Type 0} where
       let w = o.0 in
       let kind : v.kind ≡ w.kind = sym (ap (λ (x : DwUnit P). x.kind) o.2) in
       let at : v.root.at ≡ w.root.at = sym (ap (λ (x : DwUnit P). x.root.at) o.2) in
-      let names : In (record { name = 0x18; value = ref v.root.at }) (map named_value e.attrs) = subst (In _) (bare_named e.attrs) is.names in
-      (w, record {
-        unit = o.1;
-        partial = subst IsPartial kind is.partial;
-        tag = is.tag;
-        names = subst (λ (p : P). In (record { name = 0x18; value = ref p }) (map named_value e.attrs)) at names;
-      }, o.2)
+      let names : In (record { name = 0x18; value = ref v.root.at }) (map named_value e.attrs) = subst (In _) (bare_named e.attrs) is.names in (
+        w,
+        record {
+          unit = o.1;
+          partial = subst IsPartial kind is.partial;
+          tag = is.tag;
+          names = subst (λ (p : P). In (record { name = 0x18; value = ref p }) (map named_value e.attrs)) at names;
+        },
+        o.2,
+      )
 
   expands_bare : (units : List (DwUnit P)) (u : DwUnit P) (p : P) → Expands units u p → Expands (bare_units units) (bare_unit u) p
   expands_bare units u p is = elim is [
@@ -130,15 +133,17 @@ module _ {P Q : Type 0} (f : P → Q) (before : List (DwUnit P)) where
   same_bare after same u is =
       let o = same u is in
       let v = o.0 in
-      let s = o.1 in
-      (bare_unit v, record {
-        there = in_map bare_unit v after s.there;
-        kind = s.kind;
-        at = s.at;
-        tag = s.tag;
-        attrs = bare_named v.root.attrs ∙ s.attrs;
-        children = λ q. (λ e. (s.children q).0 (bare_expands after v q e), λ i. expands_bare after v q ((s.children q).1 i));
-      })
+      let s = o.1 in (
+        bare_unit v,
+        record {
+          there = in_map bare_unit v after s.there;
+          kind = s.kind;
+          at = s.at;
+          tag = s.tag;
+          attrs = bare_named v.root.attrs ∙ s.attrs;
+          children = λ q. (λ e. (s.children q).0 (bare_expands after v q e), λ i. expands_bare after v q ((s.children q).1 i));
+        },
+      )
 
   bare_same : (after : List (DwUnit Q)) → UnitsSame f before (bare_units after) → UnitsSame f before after
   bare_same after same u is =
@@ -149,18 +154,20 @@ module _ {P Q : Type 0} (f : P → Q) (before : List (DwUnit P)) where
       let kind : v.kind ≡ o.0.kind = ap (λ (x : DwUnit Q). x.kind) m.2 in
       let at : v.root.at ≡ o.0.root.at = ap (λ (x : DwUnit Q). x.root.at) m.2 in
       let tag : v.root.tag ≡ o.0.root.tag = ap (λ (x : DwUnit Q). x.root.tag) m.2 in
-      let attrs : map named_value v.root.attrs ≡ map named_value o.0.root.attrs = sym (bare_named v.root.attrs) ∙ ap (λ (x : DwUnit Q). map named_value x.root.attrs) m.2 in
-      (v, record {
-        there = m.1;
-        kind = kind ∙ s.kind;
-        at = at ∙ s.at;
-        tag = tag ∙ s.tag;
-        attrs = attrs ∙ s.attrs;
-        children = λ q. (
-          λ e. (s.children q).0 (subst (λ (x : DwUnit Q). Expands (bare_units after) x q) m.2 (expands_bare after v q e)),
-          λ i. bare_expands after v q (subst (λ (x : DwUnit Q). Expands (bare_units after) x q) (sym m.2) ((s.children q).1 i)),
-        );
-      })
+      let attrs : map named_value v.root.attrs ≡ map named_value o.0.root.attrs = sym (bare_named v.root.attrs) ∙ ap (λ (x : DwUnit Q). map named_value x.root.attrs) m.2 in (
+        v,
+        record {
+          there = m.1;
+          kind = kind ∙ s.kind;
+          at = at ∙ s.at;
+          tag = tag ∙ s.tag;
+          attrs = attrs ∙ s.attrs;
+          children = λ q. (
+            λ e. (s.children q).0 (subst (λ (x : DwUnit Q). Expands (bare_units after) x q) m.2 (expands_bare after v q e)),
+            λ i. bare_expands after v q (subst (λ (x : DwUnit Q). Expands (bare_units after) x q) (sym m.2) ((s.children q).1 i)),
+          );
+        },
+      )
 
   pub units_same : (after others : List (DwUnit Q)) → bare_units after ≡ bare_units others → UnitsSame f before after → UnitsSame f before others
   units_same after others e same = bare_same others (subst (UnitsSame f before) e (same_bare after same))

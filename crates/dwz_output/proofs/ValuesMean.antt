@@ -1,14 +1,14 @@
 -- What an attribute stores means its value, form by form.
-use Rattle.std.proofs.Common.{◌≡◌, ℕ, ℤ, pos, ◌+◌, ◌-◌, ◌≤◌, Bool, true, false, List, [], ◌∷◌, map, refl, sym, ap, subst, ◌∙◌, arith, eqb, ◌||◌, not}
+use Rattle.std.proofs.Common.{◌≡◌, ℕ, ℤ, ◌+◌, ◌-◌, Bool, true, false, List, [], ◌∷◌, map, sym, ap, subst, ◌∙◌, arith, eqb, ◌||◌, not}
 use Rattle.dwz_bytes.specs.Spelling.{reach}
-use Rattle.dwz_docs.specs.Documents.{Addr, Attr, Block, Flag, Index, Num, Plain, Sec, Sig, Text, Value, attr_map, only, ref, value_map}
+use Rattle.dwz_docs.specs.Documents.{Addr, Attr, Block, Flag, Index, Num, Plain, Sec, Sig, Text, Value, only, ref, value_map}
 use Rattle.dwz_docs.specs.Entries.{RawAttr}
-use Rattle.dwz_docs.specs.Meanings.{Class, IfSo, In, IsEntryAmong, IsTextIn, MeansAs, OfAddress, OfBlock, OfConstant, OfExpression, OfFlag, OfIndex, OfInfoEntry, OfListIndex, OfOffset, OfSignature, OfText, OfTextBySlot, OfTextInLineStr, OfTextInStr, OfUnitEntry, Scope, Sources, Unread, bytes_of, class_of, constant_value, flag_value, kept_width, names_file, names_list, number_of, offset_of}
+use Rattle.dwz_docs.specs.Meanings.{Class, IfSo, In, IsEntryAmong, IsTextIn, MeansAs, OfAddress, OfBlock, OfConstant, OfExpression, OfFlag, OfIndex, OfInfoEntry, OfListIndex, OfOffset, OfSignature, OfText, OfTextBySlot, OfTextInLineStr, OfTextInStr, OfUnitEntry, Scope, Sources, Unread, bytes_of, class_of, kept_width, names_file, names_list, number_of}
 use Rattle.dwz_docs.specs.Texts.{IsTextAt}
 use Rattle.dwz_output.specs.Alike.{Each}
 use Rattle.dwz_output.specs.Fitting.{FitsAs, FitsUnit}
 use Rattle.dwz_output.specs.Meant.{SaysAs, WasRead}
-use Rattle.dwz_output.specs.Sound.{IsBuiltAs, NamesEntry, StoresAs}
+use Rattle.dwz_output.specs.Sound.{IsBuiltAs, StoresAs}
 use Rattle.dwz_output.specs.Writing.{Numbering, block_in, first_place, pair_of, stored_as, text_in}
 use Rattle.dwz_output.proofs.WriteLists.{in_map}
 

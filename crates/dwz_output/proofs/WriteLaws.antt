@@ -1,6 +1,6 @@
 -- What the two sections say of units that can be written.
-use Rattle.std.proofs.Common.{◌≡◌, ℕ, suc, ◌+◌, ◌-◌, ◌<◌, ◌≤◌, ◌^◌, max, List, [], ◌∷◌, length, map, refl, arith}
-use Rattle.dwz_docs.specs.Documents.{DwUnit, Entries}
+use Rattle.std.proofs.Common.{ℕ, suc, ◌-◌, ◌<◌, ◌≤◌, ◌^◌, List, [], ◌∷◌, map, refl, arith}
+use Rattle.dwz_docs.specs.Documents.{DwUnit}
 use Rattle.dwz_docs.specs.Entries.{Mode}
 use Rattle.dwz_docs.specs.Meanings.{Sources}
 use Rattle.dwz_docs.specs.Units.{SpellsUnits}
@@ -11,7 +11,7 @@ use Rattle.dwz_output.specs.Placing.{UnitsStand, sections, units_keys}
 use Rattle.dwz_output.specs.Sound.{SoundUnit}
 use Rattle.dwz_output.specs.Spots.{Spot, same_spot}
 use Rattle.dwz_output.specs.Standing.{NoneTwice}
-use Rattle.dwz_output.specs.Writing.{joined, tables_of, units_bytes}
+use Rattle.dwz_output.specs.Writing.{tables_of}
 use Rattle.dwz_output.proofs.Places.{numbering_stands}
 use Rattle.dwz_output.proofs.RawUnits.{raw_units}
 use Rattle.dwz_output.proofs.Rising.{units_fit}

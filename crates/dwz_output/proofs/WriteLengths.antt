@@ -1,8 +1,7 @@
 -- No length depends on the numbers that are written.
-use Rattle.std.proofs.Common.{◌≡◌, ℕ, ℤ, zero, suc, ◌+◌, ◌-◌, ◌/◌, List, [], ◌∷◌, ◌++◌, length, Option, Some, None, refl, sym, ap, ◌∙◌, Bool, true, false, arith}
+use Rattle.std.proofs.Common.{◌≡◌, ℕ, ℤ, zero, suc, ◌/◌, List, [], ◌∷◌, length, refl, sym, ap, ◌∙◌, Bool, true, false, arith}
 use Rattle.std.proofs.lemmas.List.{length-append}
-use Rattle.dwz_model.specs.declared.place.Base.{Base}
-use Rattle.dwz_bytes.specs.Spelling.{group_count, le_bytes, padded, reach, uleb}
+use Rattle.dwz_bytes.specs.Spelling.{group_count, le_bytes, reach, uleb}
 use Rattle.dwz_bytes.proofs.PaddedLemmas.{padded_len}
 use Rattle.dwz_codes.specs.declared.shape.Shape.{Shape}
 use Rattle.dwz_codes.specs.declared.shape.Shape.TheVariants.{Fixed16, ZeroEnded, Block1, Block2, Block4, BlockUleb}
@@ -10,10 +9,10 @@ use Rattle.dwz_codes.specs.Forms.{form_rows}
 use Rattle.dwz_docs.specs.Documents.{Attr, Compile, DwUnit, Entries, Expr, Kind, Node, OfType, Operand, Part, Partial, Plain, Same}
 use Rattle.dwz_docs.specs.Meanings.{Class, OfExpression, OfInfoEntry, OfUnitEntry, class_of}
 use Rattle.dwz_docs.specs.Trees.{End, Entry}
-use Rattle.dwz_docs.specs.Values.{Bytes, Number, Raw, run_bytes, shape_of, value_bytes, written_rows}
+use Rattle.dwz_docs.specs.Values.{Bytes, Number, run_bytes, shape_of, value_bytes, written_rows}
 use Rattle.dwz_output.specs.Alike.{Each}
-use Rattle.dwz_output.specs.Sound.{SoundAttr, SoundEntries, SoundNode, SoundUnit, StoresAs}
-use Rattle.dwz_output.specs.Writing.{Numbering, Shape as TableShape, attrs_bytes, code_bytes, code_in, expr_bytes, if_any, kind_bytes, node_bytes, operand_bytes, parts_bytes, shape_of as entry_shape, spelled, stored, stored_as, table_of, tree_bytes, unit_size}
+use Rattle.dwz_output.specs.Sound.{SoundAttr, SoundEntries, SoundUnit, StoresAs}
+use Rattle.dwz_output.specs.Writing.{Numbering, Shape as TableShape, attrs_bytes, expr_bytes, if_any, kind_bytes, node_bytes, operand_bytes, parts_bytes, spelled, stored, stored_as, table_of, tree_bytes, unit_size}
 
 pub le_len : (k n : ℕ) → length (le_bytes k n) ≡ k
 unfolding le_bytes

@@ -1,9 +1,8 @@
 -- Facts of each item, and of items that are among others.
-use Rattle.std.proofs.Common.{◌≡◌, ℕ, ◌⊎◌, Bool, true, false, List, [], ◌∷◌, ◌++◌, map, refl, sym, ap, subst, ◌∙◌}
+use Rattle.std.proofs.Common.{◌⊎◌, List, [], ◌∷◌, ◌++◌, map, refl, ap, subst}
 use Rattle.std.proofs.Math.Logic.{inl, inr}
 use Rattle.dwz_docs.specs.Meanings.{In}
 use Rattle.dwz_output.specs.Alike.{Each}
-use Rattle.dwz_output.specs.Standing.{NoneTwice}
 
 module _ {X : Type 0} (P : X → Type 0) where
   pub each_append : (xs ys : List X) → Each P xs → Each P ys → Each P (xs ++ ys)

@@ -1,5 +1,5 @@
 -- Small units meet all that the laws ask, so these speak of something: a partial unit with a type, and a unit that imports it.
-use Rattle.std.proofs.Common.{◌≡◌, ℕ, ◌<◌, ◌≤◌, pos, Bool, true, false, List, [], ◌∷◌, length, map, refl, sym, ap, subst, ◌∙◌, arith, cond, eqb}
+use Rattle.std.proofs.Common.{◌≡◌, ℕ, ◌<◌, pos, Bool, true, false, List, [], ◌∷◌, map, refl, sym, ap, subst, ◌∙◌, arith, cond, eqb}
 use Rattle.std.specs.Prelude.{MatchBool}
 use Rattle.std.proofs.Math.Logic.{inl, inr}
 use Rattle.dwz_model.specs.declared.place.Pair.{Pair}
@@ -7,7 +7,7 @@ use Rattle.dwz_bytes.specs.Spelling.{SpellsSleb, SpellsUleb, groups_in, le_bytes
 use Rattle.dwz_bytes.proofs.PaddedLemmas.{uleb_small, uleb_spells}
 use Rattle.dwz_codes.specs.Forms.{form_rows}
 use Rattle.dwz_docs.specs.Abbrevs.{SpellsPair, pairs_bytes, table_bytes}
-use Rattle.dwz_docs.specs.Documents.{Attr, Compile, DwUnit, Entries, Node, Num, Partial, Text, Value, only, ref}
+use Rattle.dwz_docs.specs.Documents.{Attr, Compile, DwUnit, Node, Num, Partial, Text, Value, only, ref}
 use Rattle.dwz_docs.specs.Meanings.{In, Scope, Sources, class_in, class_rows, has}
 use Rattle.dwz_docs.specs.Trees.{End, Entry}
 use Rattle.dwz_docs.specs.Values.{Bytes, Number, value_bytes}
@@ -20,7 +20,7 @@ use Rattle.dwz_output.specs.Out.{FitsSections}
 use Rattle.dwz_output.specs.Placing.{UnitSections, fit, fit_unit, has_key, keys, number_in, placed, sections, unit_keys, units_keys, units_placed}
 use Rattle.dwz_output.specs.Plan.{import_of, partial_root}
 use Rattle.dwz_output.specs.Same.{Closed, Named, Seen, all_seen, heads, seen, seen_below, seen_roots}
-use Rattle.dwz_output.specs.Spots.{Import, PartialOf, PartialRoot, RootOf, Spot, UnitOf, Within, same_numbers, same_spot}
+use Rattle.dwz_output.specs.Spots.{PartialOf, PartialRoot, RootOf, Spot, UnitOf, Within, same_numbers, same_spot}
 use Rattle.dwz_output.specs.Standing.{NoneTwice}
 use Rattle.dwz_output.specs.Writing.{attrs_bytes, code_in, coded, joined, node_bytes, same_shape, shapes_in, spelled, table_in, tables_of, tree_bytes, unit_bytes, units_bytes, with_shape, with_table}
 use Rattle.dwz_output.proofs.Chosen.{fit_units_keys, has_in, units_say, units_sound}
@@ -285,7 +285,7 @@ units_are =
       kind = Partial;
       root = record { at = 0x0c; tag = 0x3c; attrs = [] };
       below = Entry (record { at = 0x0d; tag = 0x24; attrs = read_attr 0x03 0x08 0 (only (Text (0x69 ∷ 0x6e ∷ 0x74 ∷ []))) ∷ read_attr 0x0b 0x0b 4 (only (Num 0 (pos 4))) ∷ read_attr 0x3e 0x0b 5 (only (Num 0 (pos 5))) ∷ [] }) End
-      (Entry (record { at = 0x14; tag = 0x27; attrs = read_attr 0x49 0x13 0x0d (ref 0x0d) ∷ [] }) End End);
+          (Entry (record { at = 0x14; tag = 0x27; attrs = read_attr 0x49 0x13 0x0d (ref 0x0d) ∷ [] }) End End);
     }
     ∷ record {
       at = 0x1a;

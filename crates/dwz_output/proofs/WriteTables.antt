@@ -3,16 +3,16 @@ use Rattle.std.proofs.Common.{◌≡◌, ℕ, ℤ, pos, suc, ◌+◌, ◌<◌, �
 use Rattle.std.specs.Prelude.{MatchBool}
 use Rattle.std.proofs.Math.Logic.{inl, inr}
 use Rattle.std.proofs.lemmas.Bool.{ltb-true}
-use Rattle.std.proofs.lemmas.List.{append-nil, length-append}
+use Rattle.std.proofs.lemmas.List.{length-append}
 use Rattle.dwz_model.specs.declared.place.Pair.{Pair}
 use Rattle.dwz_bytes.specs.Spelling.{SpellsSleb, SpellsUleb, fits_i64, sleb, uleb}
 use Rattle.dwz_bytes.proofs.PaddedLemmas.{uleb_spells}
 use Rattle.dwz_bytes.proofs.SignedLemmas.{sleb_spells}
-use Rattle.dwz_docs.specs.Abbrevs.{Declaration, EndsPairs, EndsTable, IsDeclared, IsPair, SpellsConstant, SpellsDeclaration, SpellsPair, SpellsTable, constant_bytes, declaration_bytes, find_decl, pair_bytes, pairs_bytes, table_bytes}
+use Rattle.dwz_docs.specs.Abbrevs.{Declaration, EndsPairs, EndsTable, IsDeclared, IsPair, SpellsDeclaration, SpellsPair, SpellsTable, constant_bytes, declaration_bytes, find_decl, pair_bytes, pairs_bytes, table_bytes}
 use Rattle.dwz_docs.specs.Documents.{Attr, DwUnit, Entries, Node}
 use Rattle.dwz_docs.specs.Lists.{SpellsItems}
 use Rattle.dwz_docs.specs.Meanings.{Class, ClassRow, Unread, class_in, class_rows}
-use Rattle.dwz_docs.specs.Parts.{StandsAt, Then}
+use Rattle.dwz_docs.specs.Parts.{StandsAt}
 use Rattle.dwz_docs.specs.Trees.{End, Entry, size}
 use Rattle.dwz_output.specs.Alike.{Each}
 use Rattle.dwz_output.specs.Sound.{IsBuilt, IsBuiltAs, SoundAttr, SoundEntries, SoundNode, SoundUnit}

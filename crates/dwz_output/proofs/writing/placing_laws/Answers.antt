@@ -1,5 +1,4 @@
-use Rattle.std.proofs.Common.{sym, arith}
-use Rattle.dwz_output.specs.Sound.{SoundUnit}
+use Rattle.std.proofs.Common.{arith}
 use Rattle.dwz_output.specs.Spots.{same_spot}
 use Rattle.dwz_output.proofs.Places.{stands_numbering}
 use Rattle.dwz_output.proofs.Rising.{place_one, place_within}

@@ -17,4 +17,5 @@ pub mod WriteLaws
 pub mod Unnumbered
 pub mod Carrying
 pub mod Chosen
+pub mod ReadAgain
 mod WriteRows

@@ -51,3 +51,15 @@ pub record CarriedUnit {K : Type 0} (sources : Sources) (u : DwUnit K) : Type 0 
   pub main : KindSays (entry_keys u) u.kind
   pub root : CarriedNode sources u.root
   pub below : CarriedEntries sources u.below
+
+-- ---- what is read is carried, where its attributes are among those that are written
+
+abbrev pub BuiltAttr : {K : Type 0} → Attr K → Type 0
+BuiltAttr a = IsBuilt a.form a.name
+
+abbrev pub BuiltEntries : {K : Type 0} → Entries K → Type 0
+BuiltEntries End = Unit {0}
+BuiltEntries (Entry e children next) = Each BuiltAttr e.attrs × BuiltEntries children × BuiltEntries next
+
+abbrev pub BuiltUnit : {K : Type 0} → DwUnit K → Type 0
+BuiltUnit u = Each BuiltAttr u.root.attrs × BuiltEntries u.below

@@ -7,3 +7,8 @@ pub mod Placing
 pub mod Out
 pub mod Same
 pub mod ReadBack
+pub mod Sound
+pub mod Standing
+pub mod Fitting
+pub mod Meant
+pub mod Carried

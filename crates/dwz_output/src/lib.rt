@@ -6,3 +6,6 @@
 mod alike;
 
 pub use alike::alike_laws;
+mod writing;
+
+pub use writing::{bytes_laws, form_laws, length_laws, placing_laws, seen_laws};

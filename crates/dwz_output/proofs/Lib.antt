@@ -1,2 +1,11 @@
 mod Larger
 mod Rows
+pub mod Members
+pub mod Targets
+pub mod Relations
+pub mod AlikeTops
+pub mod Tops
+pub mod UserLemmas
+pub mod HomeLemmas
+pub mod ImageLemmas
+pub mod StandLemmas

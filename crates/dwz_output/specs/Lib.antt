@@ -2,6 +2,7 @@ pub mod Spots
 pub mod Alike
 pub mod Deciding
 pub mod Plan
+pub mod IsPlan
 pub mod Writing
 pub mod Placing
 pub mod Out

@@ -9,3 +9,5 @@ pub mod UserLemmas
 pub mod HomeLemmas
 pub mod ImageLemmas
 pub mod StandLemmas
+pub mod PlanLemmas
+pub mod KeptLemmas

@@ -87,12 +87,12 @@ pub record HasRep (alike : Test) (units : List (FileUnit Spot)) (parts : List Pa
   pub holds : In top part.tops
   pub is_rep : top.number ≡ rep alike units t.number
 
-abbrev first_number : List Top → ℕ
+abbrev pub first_number : List Top → ℕ
 first_number [] = 0
 first_number (t ∷ tops) = t.number
 
 -- the common file, and then files by their numbers
-abbrev rank : Home → ℕ
+abbrev pub rank : Home → ℕ
 rank Common = 0
 rank (Local file) = suc file
 rank Stay = 0

@@ -11,3 +11,8 @@ pub mod ImageLemmas
 pub mod StandLemmas
 pub mod PlanLemmas
 pub mod KeptLemmas
+pub mod SeenLemmas
+pub mod OutLemmas
+pub mod EntryLemmas
+pub mod OldLemmas
+pub mod ExpandLemmas

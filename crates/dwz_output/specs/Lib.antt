@@ -8,3 +8,4 @@ pub mod Placing
 pub mod Out
 pub mod Same
 pub mod ReadBack
+pub mod SameLaws

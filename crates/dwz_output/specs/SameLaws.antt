@@ -1,0 +1,51 @@
+-- What is asked of the units before, and what then holds of those after; by names alone.
+use Rattle.std.specs.Prelude.{◌⊎◌, ◌≡◌, ℕ, List, []}
+use Rattle.dwz_docs.specs.Documents.{Compile, DwUnit, Entries, Kind, OfType, Partial}
+use Rattle.dwz_docs.specs.Meanings.{In}
+use Rattle.dwz_output.specs.Deciding.{Test}
+use Rattle.dwz_output.specs.IsPlan.{Nth}
+use Rattle.dwz_output.specs.Plan.{PartialUnit, image, kept_unit, partial_unit}
+use Rattle.dwz_output.specs.Same.{Closed, units_in}
+use Rattle.dwz_output.specs.Spots.{FileUnit, InType, Labelled, LabelledTop, RootOf, Spot, Top, UnitOf, tops_of}
+
+-- ---- before
+
+-- the children of a compile unit's root are tops; the entries of a type unit are at their own names; no unit is a partial unit
+abbrev pub IsNamedBelow : ℕ → Kind Spot → Entries Spot → Type 0
+IsNamedBelow i Compile below = Unit {0}
+IsNamedBelow i (OfType signature main) below = Labelled (InType i) [] 0 below
+IsNamedBelow i Partial below = ⊥
+
+-- a unit with that number is at its own name, with all in it but its tops
+pub record IsNamedUnit (i : ℕ) (u : DwUnit Spot) : Type 0 where
+  pub unit : u.at ≡ UnitOf i
+  pub root : u.root.at ≡ RootOf i
+  pub below : IsNamedBelow i u.kind u.below
+
+-- all is at its own name, and each reference names an entry
+pub record AreOld (units : List (FileUnit Spot)) : Type 0 where
+  pub units_named : (i : ℕ) (u : FileUnit Spot) → Nth 0 units i u → IsNamedUnit i u.unit
+  pub tops_named : (t : Top) → In t (tops_of units) → LabelledTop t
+  pub closed : Closed (units_in units)
+
+-- ---- after
+
+-- it is a partial unit, by its number
+pub record IsNewUnit (alike : Test) (units : List (FileUnit Spot)) (parts : List PartialUnit) (v : DwUnit Spot) : Type 0 where
+  pub number : ℕ
+  pub part : PartialUnit
+  pub nth : Nth 0 parts number part
+  pub is : partial_unit (image alike units) number part ≡ v
+
+-- it is an old unit that is kept
+pub record IsKeptUnit (alike : Test) (units : List (FileUnit Spot)) (parts : List PartialUnit) (v : DwUnit Spot) : Type 0 where
+  pub number : ℕ
+  pub unit : FileUnit Spot
+  pub nth : Nth 0 units number unit
+  pub is : kept_unit alike units parts number unit.unit ≡ v
+
+-- These are all that stand after, in whichever files: each partial unit and each old unit, and no other.
+pub record AreAfter (alike : Test) (units : List (FileUnit Spot)) (parts : List PartialUnit) (outs : List (DwUnit Spot)) : Type 0 where
+  pub new : (n : ℕ) (part : PartialUnit) → Nth 0 parts n part → In (partial_unit (image alike units) n part) outs
+  pub kept : (i : ℕ) (u : FileUnit Spot) → Nth 0 units i u → In (kept_unit alike units parts i u.unit) outs
+  pub from : (v : DwUnit Spot) → In v outs → IsNewUnit alike units parts v ⊎ IsKeptUnit alike units parts v

@@ -16,3 +16,5 @@ pub mod OutLemmas
 pub mod EntryLemmas
 pub mod OldLemmas
 pub mod ExpandLemmas
+pub mod OneImageLemmas
+pub mod ClosedLemmas

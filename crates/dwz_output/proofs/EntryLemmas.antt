@@ -10,7 +10,7 @@ use Rattle.dwz_output.specs.Plan.{PartialUnit, chain, image, imports, kept, kept
 use Rattle.dwz_output.specs.Same.{EntriesSame, Seen, seen, seen_below, seen_map, units_in}
 use Rattle.dwz_output.specs.SameLaws.{AreAfter, AreOld, IsNamedBelow}
 use Rattle.dwz_output.specs.Spots.{FileUnit, Spot, Top, tops_of}
-use Rattle.dwz_output.proofs.AlikeTops.{alike_per}
+use Rattle.dwz_output.proofs.AlikePer.{alike_per}
 use Rattle.dwz_output.proofs.ImageLemmas.{seen_top}
 use Rattle.dwz_output.proofs.KeptLemmas.{in_kept}
 use Rattle.dwz_output.proofs.Members.{each_in, in_left, in_map, in_nth, in_right}

@@ -10,7 +10,7 @@ use Rattle.dwz_output.specs.Plan.{PartialUnit, chain, image, image_by, import_of
 use Rattle.dwz_output.specs.Same.{Expands, IsChild, IsImport, Named, Seen, UnitSame, UnitsSame, heads, named_value, see, seen, units_in}
 use Rattle.dwz_output.specs.SameLaws.{AreAfter, AreOld, IsNamedBelow}
 use Rattle.dwz_output.specs.Spots.{FileUnit, LabelledTop, PartialRoot, Spot, Top, Within, tops_in, tops_of}
-use Rattle.dwz_output.proofs.AlikeTops.{alike_per}
+use Rattle.dwz_output.proofs.AlikePer.{alike_per}
 use Rattle.dwz_output.proofs.EntryLemmas.{kept_compile, kept_type}
 use Rattle.dwz_output.proofs.KeptLemmas.{are_imports, in_kept, kept_is}
 use Rattle.dwz_output.proofs.Members.{each_in, in_map, in_map_from, in_nth, in_right, nth_in, nth_one}

@@ -6,7 +6,7 @@ use Rattle.dwz_output.specs.Deciding.{Test}
 use Rattle.dwz_output.specs.IsPlan.{AreUsers, HasAlike, IsHome, IsRep, Nth, Rising}
 use Rattle.dwz_output.specs.Plan.{Common, Home, Local, file_of, home, home_in, in_two_files, rep, users}
 use Rattle.dwz_output.specs.Spots.{FileUnit, Spot, Top, tops_of}
-use Rattle.dwz_output.proofs.AlikeTops.{alike_own, alike_per, scope_file}
+use Rattle.dwz_output.proofs.AlikePer.{alike_own, alike_per, scope_file}
 use Rattle.dwz_output.proofs.Members.{any_false, any_from, in_map, in_map_from, nth_from}
 use Rattle.dwz_output.proofs.Tops.{top_of, tops_rise}
 use Rattle.dwz_output.proofs.UserLemmas.{rep_is, used, used_by, user_unit, users_rise}

@@ -3,7 +3,7 @@ mod Rows
 pub mod Members
 pub mod Targets
 pub mod Relations
-pub mod AlikeTops
+pub mod AlikePer
 pub mod Tops
 pub mod UserLemmas
 pub mod HomeLemmas
@@ -18,3 +18,5 @@ pub mod OldLemmas
 pub mod ExpandLemmas
 pub mod OneImageLemmas
 pub mod ClosedLemmas
+pub mod ApartLemmas
+pub mod ApartUnits

@@ -6,7 +6,7 @@ use Rattle.dwz_output.specs.Deciding.{Test}
 use Rattle.dwz_output.specs.Plan.{image, image_by, moves, stand_in}
 use Rattle.dwz_output.specs.Same.{OneImage}
 use Rattle.dwz_output.specs.Spots.{FileUnit, Spot, Top, Within, tops_of}
-use Rattle.dwz_output.proofs.AlikeTops.{IsPer, alike_per, scope_file}
+use Rattle.dwz_output.proofs.AlikePer.{IsPer, alike_per, scope_file}
 use Rattle.dwz_output.proofs.Tops.{one_file, one_top}
 use Rattle.dwz_output.proofs.UserLemmas.{leads, move_stand, moves_same, stands_same, stay_fixed, two_move}
 

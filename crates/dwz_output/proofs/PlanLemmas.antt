@@ -5,10 +5,10 @@ use Rattle.std.specs.List.{filter}
 use Rattle.dwz_docs.specs.Meanings.{In}
 use Rattle.dwz_output.specs.Alike.{Each, IsAlike, Scope}
 use Rattle.dwz_output.specs.Deciding.{Test}
-use Rattle.dwz_output.specs.IsPlan.{AllDifferent, BelongsTo, EachPair, HasRep, IsPart, IsPlan, Nth, Precedes, Rising, first_number, rank}
+use Rattle.dwz_output.specs.IsPlan.{BelongsTo, EachPair, HasRep, IsPart, IsPlan, Nth, Precedes, Rising, first_number, rank}
 use Rattle.dwz_output.specs.Plan.{Common, Home, Local, PartialUnit, Stay, distinct, home, is_home, local_partials, moves, partial_with, partials, partials_at, rep, representatives, same_home, stands_for, users, users_of}
 use Rattle.dwz_output.specs.Spots.{FileUnit, Spot, Top, same_numbers, tops_of}
-use Rattle.dwz_output.proofs.AlikeTops.{IsPer, alike_per}
+use Rattle.dwz_output.proofs.AlikePer.{IsPer, alike_per}
 use Rattle.dwz_output.proofs.HomeLemmas.{home_file}
 use Rattle.dwz_output.proofs.Members.{each_append, each_in, each_of, in_cases, in_filter, in_filter_from, in_left, in_map, in_map_from, in_right, nth_in, nth_pair, pair_append, pair_filter, pair_map, pair_more}
 use Rattle.dwz_output.proofs.Tops.{tops_rise}
@@ -65,7 +65,7 @@ in_distinct us (vs ∷ others) (inr r) = go (in_distinct us others r) (same_numb
   go more true q = inl (numbers_true vs us q)
   go more false q = inr (in_filter (λ ws. not (same_numbers vs ws)) us (distinct others) more (ap not q))
 
-distinct_apart : (others : List (List ℕ)) → AllDifferent (distinct others)
+distinct_apart : (others : List (List ℕ)) → EachPair (λ us vs. us ≢ vs) (distinct others)
 unfolding distinct
 distinct_apart [] = tt
 distinct_apart (vs ∷ others) = (

@@ -5,7 +5,7 @@ use Rattle.dwz_output.specs.Alike.{IsAlike, SameTop, Scope}
 use Rattle.dwz_output.specs.Deciding.{Test}
 use Rattle.dwz_output.specs.Plan.{image_by, moves, stand_in}
 use Rattle.dwz_output.specs.Spots.{FileUnit, LabelledTop, Spot, Top, tops_of}
-use Rattle.dwz_output.proofs.AlikeTops.{alike_per, alike_step}
+use Rattle.dwz_output.proofs.AlikePer.{alike_per, alike_step}
 use Rattle.dwz_output.proofs.ImageLemmas.{seen_top, top_same}
 use Rattle.dwz_output.proofs.Relations.{step_top, tells_top}
 use Rattle.dwz_output.proofs.Targets.{Inside, RefsOfTop, inside}

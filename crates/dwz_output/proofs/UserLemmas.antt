@@ -7,7 +7,7 @@ use Rattle.dwz_output.specs.Deciding.{Test}
 use Rattle.dwz_output.specs.IsPlan.{EachPair, Nth, Rising}
 use Rattle.dwz_output.specs.Plan.{Common, Home, Local, file_of, first_alike, home, home_in, in_two_files, is_home, moves, numbers_from, rep, stand_in, users, uses}
 use Rattle.dwz_output.specs.Spots.{FileUnit, Spot, Top, tops_of}
-use Rattle.dwz_output.proofs.AlikeTops.{IsPer}
+use Rattle.dwz_output.proofs.AlikePer.{IsPer}
 use Rattle.dwz_output.proofs.Members.{any_from, any_true, each_in, each_of, filter_same, in_filter, in_filter_from, pair_filter}
 use Rattle.dwz_output.proofs.Tops.{top_of}
 

@@ -19,10 +19,6 @@ EachPair R (x ∷ xs) = Each (R x) xs × EachPair R xs
 abbrev pub Rising : List ℕ → Type 0
 Rising ns = EachPair (λ m n. m < n) ns
 
--- no two are one
-abbrev pub AllDifferent : {X : Type 0} → List X → Type 0
-AllDifferent xs = EachPair (λ x y. x ≢ y) xs
-
 -- x is the n-th of them, where the first is the s-th
 abbrev pub Nth : {X : Type 0} → ℕ → List X → ℕ → X → Type 0
 Nth s [] n x = ⊥

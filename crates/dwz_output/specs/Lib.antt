@@ -8,4 +8,5 @@ pub mod Placing
 pub mod Out
 pub mod Same
 pub mod ReadBack
+pub mod Standing
 pub mod SameLaws

@@ -20,3 +20,5 @@ pub mod OneImageLemmas
 pub mod ClosedLemmas
 pub mod ApartLemmas
 pub mod ApartUnits
+pub mod PlaceLemmas
+pub mod NamedLemmas

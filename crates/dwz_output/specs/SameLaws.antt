@@ -1,11 +1,12 @@
 -- What is asked of the units before, and what then holds of those after; by names alone.
-use Rattle.std.specs.Prelude.{◌⊎◌, ◌≡◌, ℕ, List, []}
-use Rattle.dwz_docs.specs.Documents.{Compile, DwUnit, Entries, Kind, OfType, Partial}
+use Rattle.std.specs.Prelude.{◌⊎◌, ◌≡◌, ℕ, List, [], ◌∷◌, map}
+use Rattle.dwz_docs.specs.Documents.{Compile, DwUnit, Entries, Kind, Node, OfType, Partial, kind_map}
 use Rattle.dwz_docs.specs.Meanings.{In}
+use Rattle.dwz_docs.specs.Trees.{End, Entry}
 use Rattle.dwz_output.specs.Deciding.{Test}
 use Rattle.dwz_output.specs.IsPlan.{Nth}
 use Rattle.dwz_output.specs.Plan.{PartialUnit, image, kept_unit, partial_unit}
-use Rattle.dwz_output.specs.Same.{Closed, units_in}
+use Rattle.dwz_output.specs.Same.{Closed, named_map, named_value, units_in}
 use Rattle.dwz_output.specs.Spots.{FileUnit, InType, Labelled, LabelledTop, RootOf, Spot, Top, UnitOf, tops_of}
 
 -- ---- before
@@ -49,3 +50,27 @@ pub record AreAfter (alike : Test) (units : List (FileUnit Spot)) (parts : List 
   pub new : (n : ℕ) (part : PartialUnit) → Nth 0 parts n part → In (partial_unit (image alike units) n part) outs
   pub kept : (i : ℕ) (u : FileUnit Spot) → Nth 0 units i u → In (kept_unit alike units parts i u.unit) outs
   pub from : (v : DwUnit Spot) → In v outs → IsNewUnit alike units parts v ⊎ IsKeptUnit alike units parts v
+
+-- ---- with other places
+
+-- the same entry with each place replaced; forms and stored numbers aren't looked at
+pub record IsShown {P Q : Type 0} (g : P → Q) (e : Node P) (d : Node Q) : Type 0 where
+  pub at : d.at ≡ g e.at
+  pub tag : d.tag ≡ e.tag
+  pub attrs : map named_value d.attrs ≡ map (named_map g) (map named_value e.attrs)
+
+abbrev pub AreShown : {P Q : Type 0} → (P → Q) → Entries P → Entries Q → Type 0
+AreShown g End End = Unit {0}
+AreShown g (Entry e f k) (Entry d f' k') = IsShown g e d × AreShown g f f' × AreShown g k k'
+AreShown g _ _ = ⊥
+
+pub record IsShownUnit {P Q : Type 0} (g : P → Q) (u : DwUnit P) (v : DwUnit Q) : Type 0 where
+  pub kind : v.kind ≡ kind_map g u.kind
+  pub root : IsShown g u.root v.root
+  pub below : AreShown g u.below v.below
+
+-- the same units in order, with each place replaced
+abbrev pub UnitsShown : {P Q : Type 0} → (P → Q) → List (DwUnit P) → List (DwUnit Q) → Type 0
+UnitsShown g [] [] = Unit {0}
+UnitsShown g (u ∷ units) (v ∷ others) = IsShownUnit g u v × UnitsShown g units others
+UnitsShown g _ _ = ⊥

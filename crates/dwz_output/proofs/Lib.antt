@@ -22,3 +22,4 @@ pub mod ApartLemmas
 pub mod ApartUnits
 pub mod PlaceLemmas
 pub mod NamedLemmas
+pub mod OldNames

@@ -5,9 +5,11 @@ use Rattle.dwz_docs.specs.Meanings.{In}
 use Rattle.dwz_docs.specs.Trees.{End, Entry}
 use Rattle.dwz_output.specs.Deciding.{Test}
 use Rattle.dwz_output.specs.IsPlan.{Nth}
+use Rattle.dwz_output.specs.Placing.{units_keys}
 use Rattle.dwz_output.specs.Plan.{PartialUnit, image, kept_unit, partial_unit}
-use Rattle.dwz_output.specs.Same.{Closed, named_map, named_value, units_in}
+use Rattle.dwz_output.specs.Same.{Closed, IsPartial, named_map, named_value, units_in}
 use Rattle.dwz_output.specs.Spots.{FileUnit, InType, Labelled, LabelledTop, RootOf, Spot, Top, UnitOf, tops_of}
+use Rattle.dwz_output.specs.Standing.{NoneTwice}
 
 -- ---- before
 
@@ -74,3 +76,11 @@ abbrev pub UnitsShown : {P Q : Type 0} → (P → Q) → List (DwUnit P) → Lis
 UnitsShown g [] [] = Unit {0}
 UnitsShown g (u ∷ units) (v ∷ others) = IsShownUnit g u v × UnitsShown g units others
 UnitsShown g _ _ = ⊥
+
+-- ---- places before
+
+-- no two units or entries stand at one place, no unit is a partial unit, and each reference names an entry
+pub record ArePlaced (units : List (DwUnit ℕ)) : Type 0 where
+  pub apart : NoneTwice (units_keys units)
+  pub kinds : (u : DwUnit ℕ) → In u units → IsPartial u.kind → ⊥
+  pub closed : Closed units

@@ -69,16 +69,16 @@ child_map f e End h = absurd h
 child_map f e (Entry d g k) (inl x) = (d, inl refl, x)
 child_map f e (Entry d g k) (inr r) = let o = child_map f e k r in (o.0, inr o.1, o.2)
 
-head_child : (p : Spot) (g : Entries Spot) → In p (heads g) → (e : Node Spot) × IsChild e g × (e.at ≡ p)
+pub head_child : {P : Type 0} (p : P) (g : Entries P) → In p (heads g) → (e : Node P) × IsChild e g × (e.at ≡ p)
 unfolding heads
 head_child p End h = absurd h
 head_child p (Entry d g k) (inl x) = (d, inl refl, x)
 head_child p (Entry d g k) (inr r) = let o = head_child p k r in (o.0, inr o.1, o.2)
 
-pub child_head : (e : Node Spot) (g : Entries Spot) → IsChild e g → In e.at (heads g)
+pub child_head : {P : Type 0} (e : Node P) (g : Entries P) → IsChild e g → In e.at (heads g)
 unfolding heads
 child_head e End h = absurd h
-child_head e (Entry d g k) (inl x) = inl (ap (λ (w : Node Spot). w.at) x)
+child_head {P} e (Entry d g k) (inl x) = inl (ap (λ (w : Node P). w.at) x)
 child_head e (Entry d g k) (inr r) = inr (child_head e k r)
 
 -- a child is seen with its attributes

@@ -23,3 +23,4 @@ pub mod ApartUnits
 pub mod PlaceLemmas
 pub mod NamedLemmas
 pub mod OldNames
+pub mod FileLemmas

@@ -231,10 +231,10 @@ files_units file unit top (doc ∷ docs) p i u h =
 
 -- ---- references
 
-units_append : (xs ys : List (FileUnit Spot)) → units_in (xs ++ ys) ≡ units_in xs ++ units_in ys
+pub units_append : (xs ys : List (FileUnit Spot)) → units_in (xs ++ ys) ≡ units_in xs ++ units_in ys
 units_append xs ys = map-append (λ f. f.unit) xs ys
 
-filed_units : (file : ℕ) (units : List (DwUnit Spot)) → units_in (map (in_file file) units) ≡ units
+pub filed_units : (file : ℕ) (units : List (DwUnit Spot)) → units_in (map (in_file file) units) ≡ units
 filed_units file [] = refl
 filed_units file (u ∷ units) = ap (λ (w : List (DwUnit Spot)). u ∷ w) (filed_units file units)
 

@@ -6,7 +6,7 @@ use Rattle.dwz_docs.specs.Meanings.{In}
 use Rattle.dwz_docs.specs.Trees.{End, Entry}
 use Rattle.dwz_output.specs.Placing.{keys, unit_keys, units_keys}
 use Rattle.dwz_output.specs.Same.{Closed, EntriesSame, Expands, IsChild, IsImport, IsPartial, Named, Seen, UnitsSame, all_seen, heads, named_map, named_value, see, seen, seen_below, seen_map, seen_roots}
-use Rattle.dwz_output.specs.SameLaws.{AreShown, IsShown, IsShownUnit, UnitsShown}
+use Rattle.dwz_output.specs.SameLaws.{AreShown, IsShown, IsShownUnit, OnePlace, UnitsShown}
 use Rattle.dwz_output.proofs.ClosedLemmas.{attr_from}
 use Rattle.dwz_output.proofs.Members.{in_cases, in_left, in_map, in_map_from, in_right}
 use Rattle.dwz_output.proofs.SeenLemmas.{entry_seen, root_from, seen_from}
@@ -89,13 +89,18 @@ module _ {P Q : Type 0} (g : P → Q) where
 
   -- ---- references
 
+  closed_from : (units : List (DwUnit P)) (others : List (DwUnit Q)) → all_seen others ≡ map (seen_map g) (all_seen units) → Closed units → (d : Seen P) → In d (all_seen units) → (a : Named P) → In a d.attrs → (p : P) → In p a.value.refs → (q : Q) → g p ≡ q
+      → (e : Seen Q) × In e (all_seen others) × (e.at ≡ q)
+  closed_from units others all closed d there a attr p ref q same =
+      let t = closed d a p there attr ref in
+      (seen_map g t.0, subst (In (seen_map g t.0)) (sym all) (in_map (seen_map g) t.0 (all_seen units) t.1), ap g t.2 ∙ same)
+
   pub closed_shown : (units : List (DwUnit P)) (others : List (DwUnit Q)) → UnitsShown g units others → Closed units → Closed others
   closed_shown units others h closed = λ e a q is attr ref.
       let all = all_shown units others h in
       let d = in_map_from (seen_map g) e (all_seen units) (subst (In e) all is) in
       let o = attr_from g d.source.attrs a q (subst (λ (w : Seen Q). In a w.attrs) (sym d.is) attr) ref in
-      let t = closed d.source o.attr o.place d.there o.there o.refs in
-      (seen_map g t.0, subst (In (seen_map g t.0)) (sym all) (in_map (seen_map g) t.0 (all_seen units) t.1), ap g t.2 ∙ o.image_is)
+      closed_from units others all closed d.source d.there o.attr o.there o.place o.refs q o.image_is
 
 -- ---- the keys of entries
 
@@ -122,6 +127,12 @@ entry_key {K} units d h = elim (in_cases d (seen_roots units) (seen_below units)
   | inr b ↦ (let o = seen_from units d b in unit_key units o.unit d.at o.there (inr (inr (seen_key o.unit.below d o.is))))
 ]
 
+-- what a reference names has a key
+ref_key : {K : Type 0} (units : List (DwUnit K)) → Closed units → (d : Seen K) → In d (all_seen units) → (a : Named K) → In a d.attrs → (p : K) → In p a.value.refs → In p (units_keys units)
+ref_key {K} units closed d there a attr p ref =
+    let t = closed d a p there attr ref in
+    subst (λ (x : K). In x (units_keys units)) t.2 (entry_key units t.0 t.1)
+
 -- ---- one after the other
 
 pub map_then : {A B C : Type 0} (f : A → B) (g : B → C) (xs : List A) → map g (map f xs) ≡ map (λ x. g (f x)) xs
@@ -147,10 +158,6 @@ entries_placed {A} {K} {P} g f before after placed shown h = λ e is.
     (subst (λ (w : Seen P). In w (map (seen_map g) (seen_below after))) (seen_then f g e) (in_map (seen_map g) (seen_map f e) (seen_below after) (h e is)))
 
 -- ---- imports, where one place is of one name
-
--- no two names of the units have one place
-abbrev pub OnePlace : {K P : Type 0} → (K → P) → List (DwUnit K) → Type 0
-OnePlace {K} g units = (x y : K) → In x (units_keys units) → In y (units_keys units) → g x ≡ g y → x ≡ y
 
 abbrev named_ref : {K : Type 0} → ℕ → K → Named K
 named_ref name p = record { name = name; value = ref p }
@@ -202,8 +209,7 @@ module _ {K P : Type 0} (g : K → P) (units : List (DwUnit K)) (placed : List (
       let names = subst (λ (q : P). In (named_ref 0x18 q) (map named_value d.attrs)) s.root.at im.names in
       let a = attr_from g (map named_value e.attrs) (named_ref 0x18 (g w.root.at)) (g w.root.at) (subst (In (named_ref 0x18 (g w.root.at))) h.attrs names) (inl refl) in
       let c = child_seen e u.below child in
-      let known = closed c.0 a.attr a.place (entry_seen units u c.0 is c.1) (subst (In a.attr) (sym c.2) a.there) a.refs in
-      let key = subst (λ (x : K). In x (units_keys units)) known.2 (entry_key units known.0 known.1) in
+      let key = ref_key units closed c.0 (entry_seen units u c.0 is c.1) a.attr (subst (In a.attr) (sym c.2) a.there) a.place a.refs in
       let same = one a.place w.root.at key (root_key units w there) a.image_is in
       let single_attr : a.attr ≡ named_ref 0x18 a.place = single g a.attr 0x18 (g w.root.at) a.place a.is a.refs in
       record {

@@ -132,3 +132,15 @@ pub record AreImports (unit : ℕ) (parts : List PartialUnit) (entries : Entries
   pub rising : Rising parts_imported
   pub are : (n : ℕ) → In n parts_imported ↔ ((part : PartialUnit) × Nth 0 parts n part × In unit part.users)
   pub entries_are : entries ≡ row (map (import_of unit) parts_imported)
+
+-- ---- alike tops
+
+-- they have the same users, one representative, and one home
+pub record ShareAll (alike : Test) (units : List (FileUnit Spot)) (m n : ℕ) : Type 0 where
+  pub users : users alike units m ≡ users alike units n
+  pub rep : rep alike units m ≡ rep alike units n
+  pub home : home alike units m ≡ home alike units n
+
+-- each unit is of one of these files
+abbrev pub AreFilesOf : List (FileUnit Spot) → List ℕ → Type 0
+AreFilesOf units files = (i : ℕ) (u : FileUnit Spot) → Nth 0 units i u → In u.file files

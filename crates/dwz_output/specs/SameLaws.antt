@@ -1,14 +1,16 @@
 -- What is asked of the units before, and what then holds of those after; by names alone.
 use Rattle.std.specs.Prelude.{◌⊎◌, ◌≡◌, ℕ, List, [], ◌∷◌, map}
-use Rattle.dwz_docs.specs.Documents.{Compile, DwUnit, Entries, Kind, Node, OfType, Partial, kind_map}
+use Rattle.dwz_docs.specs.Documents.{Compile, Doc, DwUnit, Entries, Kind, Node, OfType, Partial, kind_map}
 use Rattle.dwz_docs.specs.Meanings.{In}
 use Rattle.dwz_docs.specs.Trees.{End, Entry}
+use Rattle.dwz_output.specs.Alike.{IsAlike, Scope}
 use Rattle.dwz_output.specs.Deciding.{Test}
-use Rattle.dwz_output.specs.IsPlan.{Nth}
+use Rattle.dwz_output.specs.IsPlan.{AreFilesOf, Nth}
+use Rattle.dwz_output.specs.Out.{one_file}
 use Rattle.dwz_output.specs.Placing.{units_keys}
-use Rattle.dwz_output.specs.Plan.{PartialUnit, image, kept_unit, partial_unit}
-use Rattle.dwz_output.specs.Same.{Closed, IsPartial, named_map, named_value, units_in}
-use Rattle.dwz_output.specs.Spots.{FileUnit, InType, Labelled, LabelledTop, RootOf, Spot, Top, UnitOf, tops_of}
+use Rattle.dwz_output.specs.Plan.{PartialUnit, image, kept_unit, partial_unit, partials}
+use Rattle.dwz_output.specs.Same.{Closed, EntriesSame, IsPartial, UnitsSame, named_map, named_value, units_in}
+use Rattle.dwz_output.specs.Spots.{FileUnit, InType, Labelled, LabelledTop, RootOf, Spot, Top, UnitOf, spot_in, spots_from, tops_of}
 use Rattle.dwz_output.specs.Standing.{NoneTwice}
 
 -- ---- before
@@ -53,6 +55,21 @@ pub record AreAfter (alike : Test) (units : List (FileUnit Spot)) (parts : List 
   pub kept : (i : ℕ) (u : FileUnit Spot) → Nth 0 units i u → In (kept_unit alike units parts i u.unit) outs
   pub from : (v : DwUnit Spot) → In v outs → IsNewUnit alike units parts v ⊎ IsKeptUnit alike units parts v
 
+-- These units stand in place of those before: tops are alike as a test says, all is at its own name, and these are all units after.
+pub record Replaces (scope : Scope) (units : List (FileUnit Spot)) (alike : Test) (files : List ℕ) (outs : List (DwUnit Spot)) : Type 0 where
+  pub alike_is : IsAlike scope units alike
+  pub old : AreOld units
+  pub files_are : AreFilesOf units files
+  pub after : AreAfter alike units (partials alike units files) outs
+
+abbrev pub AllOfFile : ℕ → List (FileUnit Spot) → Type 0
+AllOfFile file units = (i : ℕ) (u : FileUnit Spot) → Nth 0 units i u → u.file ≡ file
+
+-- the two halves of sameness along a function of places
+pub record SameAlong {P Q : Type 0} (f : P → Q) (before : List (DwUnit P)) (after : List (DwUnit Q)) : Type 0 where
+  pub entries : EntriesSame f before after
+  pub units : UnitsSame f before after
+
 -- ---- with other places
 
 -- the same entry with each place replaced; forms and stored numbers aren't looked at
@@ -77,6 +94,10 @@ UnitsShown g [] [] = Unit {0}
 UnitsShown g (u ∷ units) (v ∷ others) = IsShownUnit g u v × UnitsShown g units others
 UnitsShown g _ _ = ⊥
 
+-- no two names of units and entries have one place
+abbrev pub OnePlace : {P Q : Type 0} → (P → Q) → List (DwUnit P) → Type 0
+OnePlace {P} g units = (x y : P) → In x (units_keys units) → In y (units_keys units) → g x ≡ g y → x ≡ y
+
 -- ---- places before
 
 -- no two units or entries stand at one place, no unit is a partial unit, and each reference names an entry
@@ -84,3 +105,7 @@ pub record ArePlaced (units : List (DwUnit ℕ)) : Type 0 where
   pub apart : NoneTwice (units_keys units)
   pub kinds : (u : DwUnit ℕ) → In u units → IsPartial u.kind → ⊥
   pub closed : Closed units
+
+-- the place of the image of what stands at a place in one file, where names have these places
+abbrev pub place_after : Test → Doc ℕ → (Spot → ℕ) → ℕ → ℕ
+place_after alike doc g place = g (image alike (one_file doc) (spot_in (spots_from 0 0 doc.units) place))

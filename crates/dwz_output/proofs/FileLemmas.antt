@@ -10,7 +10,7 @@ use Rattle.dwz_output.specs.Out.{file_numbers, fitted, one_file, units_of}
 use Rattle.dwz_output.specs.Placing.{fit_unit, units_keys}
 use Rattle.dwz_output.specs.Plan.{image, moves, out_units, partials}
 use Rattle.dwz_output.specs.Same.{Closed, Expands, IsPartial, Named, OneImage, Seen, all_seen, heads, named_map, named_value, seen_below, seen_map, units_in}
-use Rattle.dwz_output.specs.SameLaws.{AllOfFile, AreAfter, ArePlaced, OnePlace, Replaces, SameAlong, UnitsShown, place_after}
+use Rattle.dwz_output.specs.SameLaws.{AllOfFile, AreAfter, ArePlaced, FileSame, OnePlace, Replaces, SameAlong, UnitsShown, place_after}
 use Rattle.dwz_output.specs.Spots.{FileUnit, Spot, in_file, named, named_files, same_spot, spot_in, spots_from, tops_among}
 use Rattle.dwz_output.specs.Standing.{NoneTwice}
 use Rattle.dwz_output.proofs.ApartUnits.{out_apart}
@@ -45,6 +45,9 @@ module _ (scope : Scope) (units : List (FileUnit Spot)) (alike : Test) (files : 
       let e = image_there scope units alike r.alike_is r.old files r.files_are outs r.after d h in
       subst (λ (s : Spot). In s (units_keys outs)) e.2 (entry_key outs e.0 e.1)
 
+  pub one_places : (g : Spot → ℕ) → OnePlace g outs → OneImage scope units (λ n. moves alike units n ≡ true) (λ s. g (image alike units s))
+  one_places g one = one_placed scope units (λ n. moves alike units n ≡ true) (image alike units) g (λ d e x y same. one (image alike units d.at) (image alike units e.at) (image_key d x) (image_key e y) same) one_names
+
   module _ (g : Spot → ℕ) (placed : List (DwUnit ℕ)) (shown : UnitsShown g outs placed) (one : OnePlace g outs) where
     pub same_places : SameAlong (λ s. g (image alike units s)) (units_in units) placed
     same_places = record {
@@ -54,9 +57,6 @@ module _ (scope : Scope) (units : List (FileUnit Spot)) (alike : Test) (files : 
 
     pub closed_places : Closed placed
     closed_places = closed_shown g outs placed shown closed_names
-
-    pub one_places : OneImage scope units (λ n. moves alike units n ≡ true) (λ s. g (image alike units s))
-    one_places = one_placed scope units (λ n. moves alike units n ≡ true) (image alike units) g (λ d e x y same. one (image alike units d.at) (image alike units e.at) (image_key d x) (image_key e y) same) one_names
 
 -- ---- the files of named units
 
@@ -122,14 +122,14 @@ module _ (doc : Doc ℕ) (alike : Test) (apart : ArePlaced doc.units) (is : IsAl
   unfolding fitted
   file_closed = closed_shown (λ s. s) outs (map (fit_unit same_spot) outs) (fitted_shown same_spot outs) (closed_names Apart (one_file doc) alike (0 ∷ []) outs file_replaces)
 
+  outs_one : (g : Spot → ℕ) → OnePlace g (fitted alike (one_file doc) (0 ∷ []) 0) → OnePlace g outs
+  unfolding fitted
+  outs_one g one = λ x y a b e. one x y (subst (In x) (sym (fitted_keys same_spot outs)) a) (subst (In y) (sym (fitted_keys same_spot outs)) b) e
+
   module _ (g : Spot → ℕ) (placed : List (DwUnit ℕ)) (shown : UnitsShown g (fitted alike (one_file doc) (0 ∷ []) 0) placed) (one : OnePlace g (fitted alike (one_file doc) (0 ∷ []) 0)) where
     outs_shown : UnitsShown g outs placed
     unfolding fitted
     outs_shown = shown_then (λ s. s) g outs (map (fit_unit same_spot) outs) placed (fitted_shown same_spot outs) shown
-
-    outs_one : OnePlace g outs
-    unfolding fitted
-    outs_one = λ x y a b e. one x y (subst (In x) (sym (fitted_keys same_spot outs)) a) (subst (In y) (sym (fitted_keys same_spot outs)) b) e
 
     abbrev name : ℕ → Spot
     name = spot_in (spots_from 0 0 doc.units)
@@ -139,15 +139,18 @@ module _ (doc : Doc ℕ) (alike : Test) (apart : ArePlaced doc.units) (is : IsAl
 
     pub file_same : SameAlong (place_after alike doc g) doc.units placed
     file_same =
-        let same = same_places Apart (one_file doc) alike (0 ∷ []) outs file_replaces g placed outs_shown outs_one in
+        let same = same_places Apart (one_file doc) alike (0 ∷ []) outs file_replaces g placed outs_shown (outs_one g one) in
         let names : SameAlong where_after (map (unit_map name) doc.units) placed = subst (λ (w : List (DwUnit Spot)). SameAlong where_after w placed) (one_units doc) same in
         record {
           entries = entries_named name where_after doc.units (map (unit_map name) doc.units) placed (map_shown name doc.units) names.entries;
           units = units_named name where_after doc.units (map (unit_map name) doc.units) placed (map_shown name doc.units) names.units;
         }
 
-    pub file_images : OneImage Apart (one_file doc) (λ n. moves alike (one_file doc) n ≡ true) (λ s. g (image alike (one_file doc) s))
-    file_images = one_places Apart (one_file doc) alike (0 ∷ []) outs file_replaces g placed outs_shown outs_one
+  file_images : (g : Spot → ℕ) → OnePlace g (fitted alike (one_file doc) (0 ∷ []) 0) → OneImage Apart (one_file doc) (λ n. moves alike (one_file doc) n ≡ true) (λ s. g (image alike (one_file doc) s))
+  file_images g one = one_places Apart (one_file doc) alike (0 ∷ []) outs file_replaces g (outs_one g one)
+
+  pub file_is_same : FileSame doc alike
+  file_is_same = record { apart = file_apart; closed = file_closed; same = file_same; images = file_images }
 
 -- ---- nothing moves
 

@@ -24,3 +24,4 @@ pub mod PlaceLemmas
 pub mod NamedLemmas
 pub mod OldNames
 pub mod FileLemmas
+pub mod LawLemmas

@@ -1,12 +1,13 @@
 -- The targets of references in the trees of tops; those of a movable top stay in its unit, in movable tops.
 use Rattle.std.proofs.Common.{◌≡◌, ℕ, suc, ◌⊎◌, ◌==◌, ◌||◌, not, Bool, true, false, List, [], ◌∷◌, Option, Some, None, refl, ap, subst, ◌∙◌, inl, inr, eqb-true, eq-eqb}
+use Rattle.std.proofs.lemmas.Bool.{or_cases}
 use Rattle.std.specs.List.{list_any}
 use Rattle.dwz_docs.specs.Documents.{Attr, Entries, Node}
 use Rattle.dwz_docs.specs.Meanings.{In, has}
 use Rattle.dwz_docs.specs.Trees.{End, Entry}
 use Rattle.dwz_output.specs.Alike.{Bound, Each, Movable, any_attr, any_entry, any_in, attr_binds, binding_forms, binds_itself, entry_binds, has_address, has_operand, is_in, is_named, is_number, leaves, refers_to, unit_in}
 use Rattle.dwz_output.specs.Spots.{FileUnit, Spot, Top, Within, tops_of}
-use Rattle.dwz_output.proofs.Members.{any_false, any_true, each_in, each_of}
+use Rattle.dwz_output.proofs.Members.{any_false, any_from, any_true, each_in, each_of}
 
 -- ---- what holds of the top of each target
 
@@ -168,3 +169,47 @@ inside_one units t is m _ stands refers = absurd stands
 pub inside : (units : List (FileUnit Spot)) (t : Top) → In t (tops_of units) → Movable units t.number → RefsOfTop (Inside units t.unit) t
 inside units t is m = refs_of_top (Inside units t.unit) t (λ e node. each_of (RefsOfAttr (Inside units t.unit)) e.attrs (λ a attr. each_of (RefTo (Inside units t.unit)) a.value.refs (λ s ref.
     inside_one units t is m s (stays_in units t is m e node a attr s ref) (λ n path same. refers_in t e node a attr n path (subst (λ (w : Spot). In w a.value.refs) same ref)))))
+
+-- ---- from all targets to one
+
+pub record NodeWith (test : Node Spot → Bool) (f : Entries Spot) : Type 0 where
+  pub node : Node Spot
+  pub there : NodeIn node f
+  pub passes : test node ≡ true
+
+entry_from : (test : Node Spot → Bool) (f : Entries Spot) → any_entry test f ≡ true → NodeWith test f
+unfolding any_entry
+entry_from test End e = absurd cc
+entry_from test (Entry d f g) e = elim (or_cases (test d) (any_entry test f || any_entry test g) e) [
+  | inl a ↦ record { node = d; there = inl refl; passes = a }
+  | inr r ↦ (elim (or_cases (any_entry test f) (any_entry test g) r) [
+      | inl b ↦ (let o = entry_from test f b in record { node = o.node; there = inr (inl o.there); passes = o.passes })
+      | inr c ↦ (let o = entry_from test g c in record { node = o.node; there = inr (inr o.there); passes = o.passes })
+    ])
+]
+
+refs_in : (P : ℕ → Type 0) (f : Entries Spot) → RefsOf P f → (e : Node Spot) → NodeIn e f → RefsOfNode P e
+refs_in P End h e is = absurd is
+refs_in P (Entry d f g) h e (inl x) = subst (RefsOfNode P) x h.0
+refs_in P (Entry d f g) h e (inr (inl a)) = refs_in P f h.1 e a
+refs_in P (Entry d f g) h e (inr (inr b)) = refs_in P g h.2 e b
+
+node_refers : (P : ℕ → Type 0) (m : ℕ) (e : Node Spot) → RefsOfNode P e → any_attr (λ a. list_any (is_in m) a.value.refs) e ≡ true → P m
+node_refers P m e h refers =
+    let a = any_from (λ b. list_any (is_in m) b.value.refs) e.attrs refers in
+    let s = any_from (is_in m) a.one.value.refs a.passes in
+    go s.one (each_in (RefTo P) s.one a.one.value.refs (each_in (RefsOfAttr P) a.one e.attrs h a.there) s.there) s.passes
+    where
+    go : (s : Spot) → RefTo P s → is_in m s ≡ true → P m
+    go (Within t path) holds is = subst P (eqb-true t m is) holds
+    go _ holds is = absurd holds
+
+-- what holds of all targets holds of one
+pub refers_one : (P : ℕ → Type 0) (t : Top) → RefsOfTop P t → (m : ℕ) → refers_to m t ≡ true → P m
+refers_one P t h m refers = elim (or_cases (test t.node) (any_entry test t.below) refers) [
+  | inl a ↦ node_refers P m t.node h.0 a
+  | inr b ↦ (let o = entry_from test t.below b in node_refers P m o.node (refs_in P t.below h.1 o.node o.there) o.passes)
+]
+  where
+  test : Node Spot → Bool
+  test e = any_attr (λ a. list_any (is_in m) a.value.refs) e

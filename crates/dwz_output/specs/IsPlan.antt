@@ -141,6 +141,11 @@ pub record ShareAll (alike : Test) (units : List (FileUnit Spot)) (m n : ℕ) : 
   pub rep : rep alike units m ≡ rep alike units n
   pub home : home alike units m ≡ home alike units n
 
+-- a top that the other refers to moves too, and has each of its users
+pub record MovesAlong (alike : Test) (units : List (FileUnit Spot)) (t : Top) (target : ℕ) : Type 0 where
+  pub moves : moves alike units target ≡ true
+  pub users : (unit : ℕ) → In unit (users alike units t.number) → In unit (users alike units target)
+
 -- each unit is of one of these files
 abbrev pub AreFilesOf : List (FileUnit Spot) → List ℕ → Type 0
 AreFilesOf units files = (i : ℕ) (u : FileUnit Spot) → Nth 0 units i u → In u.file files

@@ -1,15 +1,15 @@
 -- What is asked of the units before, and what then holds of those after; by names alone.
-use Rattle.std.specs.Prelude.{◌⊎◌, ◌≡◌, ℕ, List, [], ◌∷◌, map}
+use Rattle.std.specs.Prelude.{◌⊎◌, ◌≡◌, ℕ, true, List, [], ◌∷◌, map}
 use Rattle.dwz_docs.specs.Documents.{Compile, Doc, DwUnit, Entries, Kind, Node, OfType, Partial, kind_map}
 use Rattle.dwz_docs.specs.Meanings.{In}
 use Rattle.dwz_docs.specs.Trees.{End, Entry}
-use Rattle.dwz_output.specs.Alike.{IsAlike, Scope}
+use Rattle.dwz_output.specs.Alike.{Apart, IsAlike, Scope}
 use Rattle.dwz_output.specs.Deciding.{Test}
 use Rattle.dwz_output.specs.IsPlan.{AreFilesOf, Nth}
-use Rattle.dwz_output.specs.Out.{one_file}
+use Rattle.dwz_output.specs.Out.{fitted, one_file}
 use Rattle.dwz_output.specs.Placing.{units_keys}
-use Rattle.dwz_output.specs.Plan.{PartialUnit, image, kept_unit, partial_unit, partials}
-use Rattle.dwz_output.specs.Same.{Closed, EntriesSame, IsPartial, UnitsSame, named_map, named_value, units_in}
+use Rattle.dwz_output.specs.Plan.{PartialUnit, image, kept_unit, moves, partial_unit, partials}
+use Rattle.dwz_output.specs.Same.{Closed, EntriesSame, IsPartial, OneImage, UnitsSame, named_map, named_value, units_in}
 use Rattle.dwz_output.specs.Spots.{FileUnit, InType, Labelled, LabelledTop, RootOf, Spot, Top, UnitOf, spot_in, spots_from, tops_of}
 use Rattle.dwz_output.specs.Standing.{NoneTwice}
 
@@ -109,3 +109,11 @@ pub record ArePlaced (units : List (DwUnit ℕ)) : Type 0 where
 -- the place of the image of what stands at a place in one file, where names have these places
 abbrev pub place_after : Test → Doc ℕ → (Spot → ℕ) → ℕ → ℕ
 place_after alike doc g place = g (image alike (one_file doc) (spot_in (spots_from 0 0 doc.units) place))
+
+-- Of one file by itself that is changed: no name stands twice among its units after, and each reference there names an entry. Read
+-- back at places, one for each name, they are the same as before, and just what nothing tells apart has one place.
+pub record FileSame (doc : Doc ℕ) (alike : Test) : Type 0 where
+  pub apart : NoneTwice (units_keys (fitted alike (one_file doc) (0 ∷ []) 0))
+  pub closed : Closed (fitted alike (one_file doc) (0 ∷ []) 0)
+  pub same : (g : Spot → ℕ) (placed : List (DwUnit ℕ)) → UnitsShown g (fitted alike (one_file doc) (0 ∷ []) 0) placed → OnePlace g (fitted alike (one_file doc) (0 ∷ []) 0) → SameAlong (place_after alike doc g) doc.units placed
+  pub images : (g : Spot → ℕ) → OnePlace g (fitted alike (one_file doc) (0 ∷ []) 0) → OneImage Apart (one_file doc) (λ n. moves alike (one_file doc) n ≡ true) (λ s. g (image alike (one_file doc) s))

@@ -294,6 +294,10 @@ module _ (units : List (FileUnit Spot)) (alike : Test) (old : AreOld units) (fil
         omega (arith, e, o.from))
     go more false = more
 
+  -- no name stands twice among the partial units of a home
+  pub news_apart : (h : Home) → NoneTwice (units_keys (partial_units f h 0 parts))
+  news_apart h = news_none h 0 parts (λ n x nth. nth)
+
   -- no name stands twice among the units of a file after
   pub out_apart : (file : ℕ) → NoneTwice (units_keys (out_units alike units files file))
   unfolding out_units

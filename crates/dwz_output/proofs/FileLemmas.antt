@@ -1,16 +1,17 @@
 -- All of it together: what replaces the units before, and one file by itself.
-use Rattle.std.proofs.Common.{◌≡◌, ◌↔◌, ℕ, suc, ◌+◌, ◌<◌, ◌≤◌, true, List, [], ◌∷◌, length, map, refl, sym, ap, subst, ◌∙◌, arith, inl, inr}
+use Rattle.std.proofs.Common.{◌≡◌, ◌↔◌, ℕ, Bool, suc, ◌+◌, ◌<◌, ◌≤◌, true, false, List, [], ◌∷◌, length, map, refl, sym, ap, subst, ◌∙◌, arith, inl, inr}
 use Rattle.std.proofs.lemmas.List.{append-nil}
 use Rattle.dwz_docs.specs.Documents.{Compile, Doc, DwUnit, Kind, OfType, Partial, kind_map, unit_map}
-use Rattle.dwz_docs.specs.Meanings.{In}
+use Rattle.dwz_docs.specs.Meanings.{IfSo, In}
 use Rattle.dwz_output.specs.Alike.{Apart, IsAlike, Scope}
 use Rattle.dwz_output.specs.Deciding.{Test}
 use Rattle.dwz_output.specs.IsPlan.{AreFilesOf, Rising}
-use Rattle.dwz_output.specs.Out.{file_numbers, fitted, one_file, units_of}
+use Rattle.dwz_output.specs.Out.{alike_in, file_numbers, fitted, has_changes, image_in, image_place, one_file, units_of}
 use Rattle.dwz_output.specs.Placing.{fit_unit, units_keys}
 use Rattle.dwz_output.specs.Plan.{image, moves, out_units, partials}
+use Rattle.dwz_output.specs.ReadBack.{HasOneImage}
 use Rattle.dwz_output.specs.Same.{Closed, Expands, IsPartial, Named, OneImage, Seen, all_seen, heads, named_map, named_value, seen_below, seen_map, units_in}
-use Rattle.dwz_output.specs.SameLaws.{AllOfFile, AreAfter, ArePlaced, FileSame, OnePlace, Replaces, SameAlong, UnitsShown, place_after}
+use Rattle.dwz_output.specs.SameLaws.{AllOfFile, AreAfter, ArePlaced, FileSame, OnePlace, Replaces, SameAlong, StandFor, UnitsShown, one_fitted, one_place_of, place_after}
 use Rattle.dwz_output.specs.Spots.{FileUnit, Spot, in_file, named, named_files, same_spot, spot_in, spots_from, tops_among}
 use Rattle.dwz_output.specs.Standing.{NoneTwice}
 use Rattle.dwz_output.proofs.ApartUnits.{out_apart}
@@ -195,3 +196,22 @@ same_own units none = record {
     },
   );
 }
+
+-- ---- the file that stands for another
+
+module _ (doc : Doc ℕ) (apart : ArePlaced doc.units) (is : IsAlike Apart (one_file doc) (alike_in doc)) where
+  abbrev image_if : Bool → ℕ → ℕ
+  image_if b place = elim b as (λ _. ℕ) [
+    | true ↦ image_place (alike_in doc) (one_file doc) (0 ∷ []) 0 (spot_in (spots_from 0 0 doc.units) place)
+    | false ↦ place
+  ]
+
+  stands_if : (b : Bool) (units : List (DwUnit ℕ)) → IfSo b (UnitsShown (one_place_of doc) (one_fitted doc) units × OnePlace (one_place_of doc) (one_fitted doc)) (units ≡ doc.units) → SameAlong (image_if b) doc.units units
+  stands_if true units h = file_same doc (alike_in doc) apart is (one_place_of doc) units h.0 h.1
+  stands_if false units h = subst (SameAlong (λ p. p) doc.units) (sym h) (same_own doc.units apart.kinds)
+
+  pub stands_same : (units : List (DwUnit ℕ)) → StandFor doc units → SameAlong (image_in doc) doc.units units
+  stands_same units h = stands_if (has_changes doc) units h
+
+  pub has_one_image : OnePlace (one_place_of doc) (one_fitted doc) → HasOneImage doc
+  has_one_image one = λ changes. (file_is_same doc (alike_in doc) apart is).images (one_place_of doc) one

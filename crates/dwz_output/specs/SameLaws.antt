@@ -1,12 +1,12 @@
 -- What is asked of the units before, and what then holds of those after; by names alone.
 use Rattle.std.specs.Prelude.{◌⊎◌, ◌≡◌, ℕ, true, List, [], ◌∷◌, map}
 use Rattle.dwz_docs.specs.Documents.{Compile, Doc, DwUnit, Entries, Kind, Node, OfType, Partial, kind_map}
-use Rattle.dwz_docs.specs.Meanings.{In}
+use Rattle.dwz_docs.specs.Meanings.{IfSo, In}
 use Rattle.dwz_docs.specs.Trees.{End, Entry}
 use Rattle.dwz_output.specs.Alike.{Apart, IsAlike, Scope}
 use Rattle.dwz_output.specs.Deciding.{Test}
 use Rattle.dwz_output.specs.IsPlan.{AreFilesOf, Nth}
-use Rattle.dwz_output.specs.Out.{fitted, one_file}
+use Rattle.dwz_output.specs.Out.{alike_in, fitted, has_changes, one_file, place_of}
 use Rattle.dwz_output.specs.Placing.{units_keys}
 use Rattle.dwz_output.specs.Plan.{PartialUnit, image, kept_unit, moves, partial_unit, partials}
 use Rattle.dwz_output.specs.Same.{Closed, EntriesSame, IsPartial, OneImage, UnitsSame, named_map, named_value, units_in}
@@ -117,3 +117,15 @@ pub record FileSame (doc : Doc ℕ) (alike : Test) : Type 0 where
   pub closed : Closed (fitted alike (one_file doc) (0 ∷ []) 0)
   pub same : (g : Spot → ℕ) (placed : List (DwUnit ℕ)) → UnitsShown g (fitted alike (one_file doc) (0 ∷ []) 0) placed → OnePlace g (fitted alike (one_file doc) (0 ∷ []) 0) → SameAlong (place_after alike doc g) doc.units placed
   pub images : (g : Spot → ℕ) → OnePlace g (fitted alike (one_file doc) (0 ∷ []) 0) → OneImage Apart (one_file doc) (λ n. moves alike (one_file doc) n ≡ true) (λ s. g (image alike (one_file doc) s))
+
+-- where names stand in the one file that is written
+abbrev pub one_place_of : Doc ℕ → Spot → ℕ
+one_place_of doc = place_of (alike_in doc) (one_file doc) (0 ∷ []) 0
+
+abbrev pub one_fitted : Doc ℕ → List (DwUnit Spot)
+one_fitted doc = fitted (alike_in doc) (one_file doc) (0 ∷ []) 0
+
+-- These are the units of the file that stands for one that says this: those that were written, at their places, which differ; or
+-- where nothing moves those that were read.
+abbrev pub StandFor : Doc ℕ → List (DwUnit ℕ) → Type 0
+StandFor doc units = IfSo (has_changes doc) (UnitsShown (one_place_of doc) (one_fitted doc) units × OnePlace (one_place_of doc) (one_fitted doc)) (units ≡ doc.units)

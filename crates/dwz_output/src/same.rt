@@ -6,11 +6,12 @@ ghost use Rattle.dwz_docs.specs.Meanings.{In};
 ghost use Rattle.dwz_output.specs.Alike.{Apart, Each, IsAlike, Scope};
 ghost use Rattle.dwz_output.specs.Deciding.{Test};
 ghost use Rattle.dwz_output.specs.IsPlan.{AreFilesOf, Rising};
-ghost use Rattle.dwz_output.specs.Out.{file_numbers, one_file, units_of};
+ghost use Rattle.dwz_output.specs.Out.{alike_in, file_numbers, image_in, one_file, units_of};
 ghost use Rattle.dwz_output.specs.Placing.{units_keys};
 ghost use Rattle.dwz_output.specs.Plan.{image, moves, out_units, partials};
+ghost use Rattle.dwz_output.specs.ReadBack.{HasOneImage};
 ghost use Rattle.dwz_output.specs.Same.{Closed, IsPartial, OneImage, units_in};
-ghost use Rattle.dwz_output.specs.SameLaws.{AllOfFile, AreAfter, AreOld, ArePlaced, FileSame, OnePlace, Replaces, SameAlong, UnitsShown};
+ghost use Rattle.dwz_output.specs.SameLaws.{AllOfFile, AreAfter, AreOld, ArePlaced, FileSame, OnePlace, Replaces, SameAlong, StandFor, UnitsShown, one_fitted, one_place_of};
 ghost use Rattle.dwz_output.specs.Spots.{FileUnit, Spot};
 ghost use Rattle.dwz_output.specs.Standing.{NoneTwice};
 
@@ -21,8 +22,8 @@ ghost use Rattle.dwz_output.specs.Standing.{NoneTwice};
 /// after what it was before, and each unit has, its imports expanded, the images of its children; each reference names an entry;
 /// and two entries have one image exactly where nothing tells them apart.
 ///
-/// All of that holds also of places that are put for names, one for each name. `file` says it of one file by itself; where
-/// nothing moves, units are the same as they are.
+/// All of that holds also of places that are put for names, one for each name. `file` says it of one file by itself, and `read`
+/// and `one` say it of the places where its units are written; where nothing moves, units are the same as they are.
 pub fn same_laws()
     ensures names { (docs : List (Doc ℕ)) → Each (λ doc. ArePlaced doc.units) docs → AreOld (units_of docs) }
     ensures files { (docs : List (Doc ℕ)) → AreFilesOf (units_of docs) (file_numbers 0 docs) }
@@ -33,5 +34,7 @@ pub fn same_laws()
     ensures images { (scope : Scope) (units : List (FileUnit Spot)) (alike : Test) → IsAlike scope units alike → OneImage scope units (λ n. moves alike units n ≡ true) (image alike units) }
     ensures placed { (scope : Scope) (units : List (FileUnit Spot)) (alike : Test) (files : List ℕ) (outs : List (DwUnit Spot)) → Replaces scope units alike files outs → (g : Spot → ℕ) (placed : List (DwUnit ℕ)) → UnitsShown g outs placed → OnePlace g outs → SameAlong (λ s. g (image alike units s)) (units_in units) placed }
     ensures file { (doc : Doc ℕ) (alike : Test) → ArePlaced doc.units → IsAlike Apart (one_file doc) alike → FileSame doc alike }
+    ensures read { (doc : Doc ℕ) (units : List (DwUnit ℕ)) → ArePlaced doc.units → IsAlike Apart (one_file doc) (alike_in doc) → StandFor doc units → SameAlong (image_in doc) doc.units units }
+    ensures one { (doc : Doc ℕ) → ArePlaced doc.units → IsAlike Apart (one_file doc) (alike_in doc) → OnePlace (one_place_of doc) (one_fitted doc) → HasOneImage doc }
     ensures unmoved { (units : List (DwUnit ℕ)) → ((u : DwUnit ℕ) → In u units → IsPartial u.kind → ⊥) → SameAlong (λ p. p) units units }
 {}

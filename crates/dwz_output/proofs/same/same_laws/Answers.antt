@@ -1,5 +1,5 @@
 use Rattle.dwz_output.proofs.ApartUnits.{out_apart}
-use Rattle.dwz_output.proofs.FileLemmas.{closed_names, file_is_same, file_outs, files_are, same_names, same_own, same_places}
+use Rattle.dwz_output.proofs.FileLemmas.{closed_names, file_is_same, file_outs, files_are, has_one_image, same_names, same_own, same_places, stands_same}
 use Rattle.dwz_output.proofs.OldNames.{files_old}
 use Rattle.dwz_output.proofs.OneImageLemmas.{one_image}
 use Rattle.dwz_output.proofs.same.same_laws.Goals as goal
@@ -30,6 +30,12 @@ returns-clause-placed c = same_places
 
 pub returns-clause-file : goal.returns-clause-file
 returns-clause-file c = file_is_same
+
+pub returns-clause-read : goal.returns-clause-read
+returns-clause-read c doc units apart is = stands_same doc apart is units
+
+pub returns-clause-one : goal.returns-clause-one
+returns-clause-one c = has_one_image
 
 pub returns-clause-unmoved : goal.returns-clause-unmoved
 returns-clause-unmoved c = same_own

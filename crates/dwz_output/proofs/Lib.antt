@@ -25,3 +25,4 @@ pub mod NamedLemmas
 pub mod OldNames
 pub mod FileLemmas
 pub mod LawLemmas
+pub mod NodeLemmas

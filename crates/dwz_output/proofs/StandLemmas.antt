@@ -63,6 +63,7 @@ module _ (scope : Scope) (units : List (FileUnit Spot)) (alike : Test) (is : IsA
 
   -- a reference of what moves
   pub target_moves : (t : Top) → In t (tops_of units) → moves alike units t.number ≡ true → (m : ℕ) → refers_to m t ≡ true → (moves alike units m ≡ true) × ((unit : ℕ) → In unit (users alike units t.number) → In unit (users alike units m))
-  target_moves t there mv m refers =
-      ((refers_one (Target t.unit) t (targets_move t there mv) m refers).1,
-       λ unit user. refers_one (λ n. In unit (users alike units n)) t (targets_used t there unit user) m refers)
+  target_moves t there mv m refers = (
+    (refers_one (Target t.unit) t (targets_move t there mv) m refers).1,
+    λ unit user. refers_one (λ n. In unit (users alike units n)) t (targets_used t there unit user) m refers,
+  )

@@ -183,9 +183,9 @@ entry_from test End e = absurd cc
 entry_from test (Entry d f g) e = elim (or_cases (test d) (any_entry test f || any_entry test g) e) [
   | inl a ↦ record { node = d; there = inl refl; passes = a }
   | inr r ↦ (elim (or_cases (any_entry test f) (any_entry test g) r) [
-      | inl b ↦ (let o = entry_from test f b in record { node = o.node; there = inr (inl o.there); passes = o.passes })
-      | inr c ↦ (let o = entry_from test g c in record { node = o.node; there = inr (inr o.there); passes = o.passes })
-    ])
+    | inl b ↦ (let o = entry_from test f b in record { node = o.node; there = inr (inl o.there); passes = o.passes })
+    | inr c ↦ (let o = entry_from test g c in record { node = o.node; there = inr (inr o.there); passes = o.passes })
+  ])
 ]
 
 refs_in : (P : ℕ → Type 0) (f : Entries Spot) → RefsOf P f → (e : Node Spot) → NodeIn e f → RefsOfNode P e
@@ -199,7 +199,7 @@ node_refers P m e h refers =
     let a = any_from (λ b. list_any (is_in m) b.value.refs) e.attrs refers in
     let s = any_from (is_in m) a.one.value.refs a.passes in
     go s.one (each_in (RefTo P) s.one a.one.value.refs (each_in (RefsOfAttr P) a.one e.attrs h a.there) s.there) s.passes
-    where
+  where
     go : (s : Spot) → RefTo P s → is_in m s ≡ true → P m
     go (Within t path) holds is = subst P (eqb-true t m is) holds
     go _ holds is = absurd holds
@@ -211,5 +211,5 @@ refers_one P t h m refers = elim (or_cases (test t.node) (any_entry test t.below
   | inr b ↦ (let o = entry_from test t.below b in node_refers P m o.node (refs_in P t.below h.1 o.node o.there) o.passes)
 ]
   where
-  test : Node Spot → Bool
-  test e = any_attr (λ a. list_any (is_in m) a.value.refs) e
+    test : Node Spot → Bool
+    test e = any_attr (λ a. list_any (is_in m) a.value.refs) e

@@ -1,6 +1,6 @@
 -- What is asked of the units before, and what then holds of those after; by names alone.
 use Rattle.std.specs.Prelude.{◌⊎◌, ◌≡◌, ℕ, true, List, [], ◌∷◌, map}
-use Rattle.dwz_docs.specs.Documents.{Compile, Doc, DwUnit, Entries, Kind, Node, OfType, Partial, kind_map}
+use Rattle.dwz_docs.specs.Documents.{Compile, Doc, DwUnit, Entries, Kind, Node, OfType, Partial, kind_map, node_map}
 use Rattle.dwz_docs.specs.Meanings.{IfSo, In}
 use Rattle.dwz_docs.specs.Trees.{End, Entry}
 use Rattle.dwz_output.specs.Alike.{Apart, IsAlike, Scope}
@@ -8,7 +8,7 @@ use Rattle.dwz_output.specs.Deciding.{Test}
 use Rattle.dwz_output.specs.IsPlan.{AreFilesOf, Nth}
 use Rattle.dwz_output.specs.Out.{alike_in, fitted, has_changes, one_file, place_of}
 use Rattle.dwz_output.specs.Placing.{units_keys}
-use Rattle.dwz_output.specs.Plan.{PartialUnit, image, kept_unit, moves, partial_unit, partials}
+use Rattle.dwz_output.specs.Plan.{PartialUnit, image, import_of, kept_unit, moves, partial_root, partial_unit, partials}
 use Rattle.dwz_output.specs.Same.{Closed, EntriesSame, IsPartial, OneImage, UnitsSame, named_map, named_value, units_in}
 use Rattle.dwz_output.specs.Spots.{FileUnit, InType, Labelled, LabelledTop, RootOf, Spot, Top, UnitOf, spot_in, spots_from, tops_of}
 use Rattle.dwz_output.specs.Standing.{NoneTwice}
@@ -64,6 +64,20 @@ pub record Replaces (scope : Scope) (units : List (FileUnit Spot)) (alike : Test
 
 abbrev pub AllOfFile : ℕ → List (FileUnit Spot) → Type 0
 AllOfFile file units = (i : ℕ) (u : FileUnit Spot) → Nth 0 units i u → u.file ≡ file
+
+-- an entry of a unit: its root, or one below it
+abbrev pub IsBelow : {P : Type 0} → Node P → Entries P → Type 0
+IsBelow e End = ⊥
+IsBelow e (Entry d children next) = (d ≡ e) ⊎ (IsBelow e children ⊎ IsBelow e next)
+
+abbrev pub IsEntryOf : {P : Type 0} → Node P → DwUnit P → Type 0
+IsEntryOf e u = (u.root ≡ e) ⊎ IsBelow e u.below
+
+-- An entry after is an old entry with its places replaced by their images, or an import, or the root of a partial unit.
+pub data ComesFrom (alike : Test) (units : List (FileUnit Spot)) (e : Node Spot) : Type 0 where
+  OldEntry : (u : DwUnit Spot) → In u (units_in units) → (d : Node Spot) → IsEntryOf d u → e ≡ node_map (image alike units) d → ComesFrom alike units e
+  NewImport : (unit part : ℕ) → e ≡ import_of unit part → ComesFrom alike units e
+  NewRoot : (part : ℕ) → e ≡ partial_root part → ComesFrom alike units e
 
 -- the two halves of sameness along a function of places
 pub record SameAlong {P Q : Type 0} (f : P → Q) (before : List (DwUnit P)) (after : List (DwUnit Q)) : Type 0 where

@@ -2,6 +2,7 @@ pub mod Spots
 pub mod Alike
 pub mod Deciding
 pub mod Plan
+pub mod IsPlan
 pub mod Writing
 pub mod Placing
 pub mod Out
@@ -12,3 +13,4 @@ pub mod Standing
 pub mod Fitting
 pub mod Meant
 pub mod Carried
+pub mod SameLaws

@@ -4,8 +4,11 @@
 #![tactic(auto)]
 
 mod alike;
-
-pub use alike::alike_laws;
+mod plan;
+mod same;
 mod writing;
 
+pub use alike::alike_laws;
+pub use plan::plan_laws;
+pub use same::same_laws;
 pub use writing::{bytes_laws, form_laws, length_laws, placing_laws, seen_laws};

@@ -14,3 +14,4 @@ pub mod Fitting
 pub mod Meant
 pub mod Carried
 pub mod SameLaws
+pub mod ElfRebuilt

@@ -1,0 +1,180 @@
+-- Sections that are the same but for where they stand: they have the same codes, and no fault that the others haven't.
+use Rattle.std.proofs.Common.{◌≡◌, ◌≢◌, ◌⊎◌, inl, inr, ℕ, zero, suc, ◌+◌, ◌-◌, ◌*◌, ◌^◌, ◌<◌, ◌≤◌, Bool, true, false, cond, eqb, ltb, List, [], ◌∷◌, ◌++◌, length, map, take, drop, Option, Some, None, refl, sym, ap, subst, ◌∙◌, arith}
+use Rattle.std.specs.Prelude.{◌&&◌, ◌||◌, not, slice_get, is_some}
+use Rattle.std.specs.Option.{unwrap_or}
+use Rattle.std.specs.Int.{is_power_of_two}
+use Rattle.std.specs.List.{AllZip, list_any}
+use Rattle.std.proofs.lemmas.Bool.{and_parts, cond-false, eqb-true, ne_eqb, or_from, or_parts}
+use Rattle.std.proofs.lemmas.List.Elements.{AllZip-push, length_all_zip}
+use Rattle.dwz_model.specs.declared.fault.Fault.{Fault}
+use Rattle.dwz_model.specs.declared.fault.Reason.{Reason}
+use Rattle.dwz_docs.specs.declared.elf.Header.{Header}
+use Rattle.dwz_docs.specs.declared.elf.Moved.{Moved}
+use Rattle.dwz_docs.specs.declared.elf.Name.{Name}
+use Rattle.dwz_docs.specs.declared.elf.NewContent.{NewContent}
+use Rattle.dwz_docs.specs.declared.elf.Section.{Section}
+use Rattle.dwz_docs.specs.ElfHeaders.{content, has_relocations, is_compressed, is_there}
+use Rattle.dwz_docs.specs.ElfLayout.{Changes, content_for, moved_in, replacement}
+use Rattle.dwz_docs.specs.ElfReading.{◌or◌, fault_if, first_in, has_code, header_fault, is_misaligned, is_misnamed, is_misplaced, is_rewritten, missing_fault, range_in, unkept_fault}
+use Rattle.dwz_docs.specs.Files.{bytes_in}
+use Rattle.dwz_docs.proofs.PartLemmas.{chosen}
+use Rattle.dwz_output.proofs.ElfTables.{moved_sections, moved_to}
+
+-- ---- no fault
+
+pub or_none : (one other : Option Fault) → (one or other) ≡ None → (one ≡ None) × (other ≡ None)
+or_none None other is = (refl, is)
+or_none (Some f) other is = absurd cc
+
+pub none_or : (one other : Option Fault) → one ≡ None → other ≡ None → (one or other) ≡ None
+none_or None other is other_is = other_is
+none_or (Some f) other is other_is = absurd cc
+
+pub test_false : (test : Bool) (reason : Reason) (at : ℕ) → fault_if test reason at ≡ None → test ≡ false
+test_false true reason at is = absurd cc
+test_false false reason at is = refl
+
+pub no_fault : (test : Bool) (reason : Reason) (at : ℕ) → test ≡ false → fault_if test reason at ≡ None
+no_fault true reason at is = absurd cc
+no_fault false reason at is = refl
+
+-- no item has a fault where none of others has
+first_none : {X : Type 0} (R : X → X → Type 0) (f g : List X → X → Option Fault) → ((before others : List X) (x y : X) → AllZip R before others → R x y → f before x ≡ None → g others y ≡ None) → (before others xs ys : List X) → AllZip R before others → AllZip R xs ys → first_in f before xs ≡ None → first_in g others ys ≡ None
+unfolding first_in
+first_none R f g each before others [] [] so_far are is = refl
+first_none R f g each before others [] (y ∷ ys) so_far are is = absurd are
+first_none R f g each before others (x ∷ xs) [] so_far are is = absurd are
+first_none R f g each before others (x ∷ xs) (y ∷ ys) so_far are is =
+    let parts = or_none (f before x) (first_in f (before ++ x ∷ []) xs) is in
+    let here : g others y ≡ None = each before others x y so_far are.0 parts.0 in
+    let rest : first_in g (others ++ y ∷ []) ys ≡ None = first_none R f g each (before ++ x ∷ []) (others ++ y ∷ []) xs ys (AllZip-push R before others x y so_far are.0) are.1 parts.1 in
+    none_or (g others y) (first_in g (others ++ y ∷ []) ys) here rest
+
+-- ---- sections of the old file and of the new one
+
+-- the section of the new file is that of the old one: its bytes lie in the file, and are the new content or the old
+pub record IsMade (input out : List ℕ) (changes : Changes) (old new : Section) : Type 0 where
+  pub name : new.name ≡ old.name
+  pub kind : new.header.kind ≡ old.header.kind
+  pub flags : new.header.flags ≡ old.header.flags
+  pub info : new.header.info ≡ old.header.info
+  pub align : new.header.align ≡ old.header.align
+  pub placed : is_misplaced (length out) new.header ≡ false
+  pub holds : is_there old.header ≡ true → content out new.header ≡ unwrap_or (replacement changes old) (content input old.header)
+
+-- a range of the new file has the new content, or the bytes of a range of the old one
+abbrev SameBytes : List ℕ → List ℕ → Option (List ℕ) → Option (ℕ × ℕ) → Option (ℕ × ℕ) → Type 0
+SameBytes input out new range old = bytes_in out range ≡ unwrap_or new (bytes_in input old)
+
+module _ (input out : List ℕ) (changes : Changes) where
+  same_there : (x y : Section) → IsMade input out changes x y → is_there y.header ≡ is_there x.header
+  same_there x y is = ap (λ k. not (eqb k 0) && not (eqb k 8)) is.kind
+
+  same_code : (code : ℕ) (x y : Section) → IsMade input out changes x y → has_code code y ≡ has_code code x
+  same_code code x y is = ap (λ (b : Bool). b && eqb y.name.code code) (same_there x y is) ∙ ap (λ (n : Name). is_there x.header && eqb n.code code) is.name
+
+  pub same_codes : (code : ℕ) (xs ys : List Section) → AllZip (IsMade input out changes) xs ys → list_any (has_code code) ys ≡ list_any (has_code code) xs
+  same_codes code [] [] are = refl
+  same_codes code [] (y ∷ ys) are = absurd are
+  same_codes code (x ∷ xs) [] are = absurd are
+  same_codes code (x ∷ xs) (y ∷ ys) are =
+      let here = same_code code x y are.0 in
+      let rest = same_codes code xs ys are.1 in
+      cc
+
+  same_rewritten : (i : ℕ) (xs ys : List Section) → AllZip (IsMade input out changes) xs ys → is_rewritten (slice_get ys i) ≡ is_rewritten (slice_get xs i)
+  same_rewritten i [] [] are = refl
+  same_rewritten i [] (y ∷ ys) are = absurd are
+  same_rewritten i (x ∷ xs) [] are = absurd are
+  same_rewritten zero (x ∷ xs) (y ∷ ys) are =
+      ap (λ (b : Bool). b && not (eqb y.name.code 0) && ltb y.name.code 9) (same_there x y are.0) ∙ ap (λ (n : Name). is_there x.header && not (eqb n.code 0) && ltb n.code 9) are.0.name
+  same_rewritten (suc i) (x ∷ xs) (y ∷ ys) are = same_rewritten i xs ys are.1
+
+  -- ---- each section header by itself
+
+  same_header : (len names : ℕ) (before others : List Section) (x y : Section) → AllZip (IsMade input out changes) before others → IsMade input out changes x y → header_fault len names before x ≡ None → header_fault (length out) names others y ≡ None
+  unfolding header_fault
+  same_header len names before others x y so_far is none =
+      let wrong = test_false _ _ _ none in
+      let parts = or_parts (is_misaligned x.header) (is_misplaced len x.header || (not x.name.ends || is_misnamed names before x)) wrong in
+      let more = or_parts (is_misplaced len x.header) (not x.name.ends || is_misnamed names before x) parts.1 in
+      let last = or_parts (not x.name.ends) (is_misnamed names before x) more.1 in
+      let aligned : is_misaligned y.header ≡ false = ap (λ a. not (eqb a 0) && not (is_power_of_two a)) is.align ∙ parts.0 in
+      let ends : not y.name.ends ≡ false = ap (λ (n : Name). not n.ends) is.name ∙ last.0 in
+      let there = same_there x y is in
+      let code : y.name.code ≡ x.name.code = ap (λ (n : Name). n.code) is.name in
+      let codes = same_codes x.name.code before others so_far in
+      let count : length others ≡ length before = sym (length_all_zip (IsMade input out changes) before others so_far) in
+      let named : is_misnamed names others y ≡ is_misnamed names before x = rw (code, there, codes, count) refl in
+      no_fault _ _ _ (or_from (is_misaligned y.header) _ aligned (or_from (is_misplaced (length out) y.header) _ is.placed (or_from (not y.name.ends) (is_misnamed names others y) ends (named ∙ last.1))))
+
+  pub same_headers : (len names : ℕ) (xs ys : List Section) → AllZip (IsMade input out changes) xs ys → first_in (header_fault len names) [] xs ≡ None → first_in (header_fault (length out) names) [] ys ≡ None
+  same_headers len names xs ys are = first_none (IsMade input out changes) (header_fault len names) (header_fault (length out) names) (same_header len names) [] [] xs ys tt are
+
+  -- ---- sections that can't be kept, or read
+
+  same_kept : (xs ys : List Section) → AllZip (IsMade input out changes) xs ys → (x y : Section) → IsMade input out changes x y → unkept_fault xs x ≡ None → unkept_fault ys y ≡ None
+  unfolding unkept_fault
+  same_kept xs ys are x y is none =
+      let there = same_there x y is in
+      let parts = or_none _ _ none in
+      let index = test_false _ _ _ parts.0 in
+      let compressed = test_false _ _ _ parts.1 in
+      let rewritten : is_rewritten (slice_get ys y.header.info) ≡ is_rewritten (slice_get xs x.header.info) = ap (λ i. is_rewritten (slice_get ys i)) is.info ∙ same_rewritten x.header.info xs ys are in
+      let relocations : has_relocations y.header ≡ has_relocations x.header = ap (λ k. eqb k 4 || eqb k 9) is.kind in
+      let is_index : y.name.is_index ≡ x.name.is_index = ap (λ (n : Name). n.is_index) is.name in
+      let is_debug : y.name.is_debug ≡ x.name.is_debug = ap (λ (n : Name). n.is_debug) is.name in
+      let packed : is_compressed y.header ≡ is_compressed x.header = ap (λ f. is_compressed (record x.header { flags = f })) is.flags in
+      none_or _ _ (no_fault _ _ _ (rw (there, is_index, relocations, rewritten) index)) (no_fault _ _ _ (rw (there, is_debug, packed) compressed))
+
+  pub all_kept : (xs ys : List Section) → AllZip (IsMade input out changes) xs ys → first_in (λ before. unkept_fault xs) [] xs ≡ None → first_in (λ before. unkept_fault ys) [] ys ≡ None
+  all_kept xs ys are = first_none (IsMade input out changes) (λ before. unkept_fault xs) (λ before. unkept_fault ys) (λ before others x y so_far. same_kept xs ys are x y) [] [] xs ys tt are
+
+  pub same_debug : (xs ys : List Section) → AllZip (IsMade input out changes) xs ys → missing_fault xs ≡ None → missing_fault ys ≡ None
+  unfolding missing_fault
+  same_debug xs ys are none =
+      let info = same_codes 1 xs ys are in
+      let abbrevs = same_codes 2 xs ys are in
+      rw (info, abbrevs) none
+
+  -- ---- contents
+
+  pub same_range : (code : ℕ) (xs ys : List Section) → AllZip (IsMade input out changes) xs ys → is_some (range_in ys code) ≡ is_some (range_in xs code)
+  same_range code [] [] are = refl
+  same_range code [] (y ∷ ys) are = absurd are
+  same_range code (x ∷ xs) [] are = absurd are
+  same_range code (x ∷ xs) (y ∷ ys) are =
+      let here = same_code code x y are.0 in
+      let rest = same_range code xs ys are.1 in
+      rw here (elim (has_code code x) as (λ b. is_some (cond b (Some (y.header.offset, y.header.size)) (range_in ys code)) ≡ is_some (cond b (Some (x.header.offset, x.header.size)) (range_in xs code))) [ true ↦ refl | false ↦ rest ])
+
+  -- the section of a code has its new content, or the old one
+  pub same_contents : (code : ℕ) → code ≢ 0 → (xs ys : List Section) → AllZip (IsMade input out changes) xs ys → (list_any (has_code code) xs ≡ false → content_for changes.new code ≡ None) → bytes_in out (range_in ys code) ≡ unwrap_or (content_for changes.new code) (bytes_in input (range_in xs code))
+  same_contents code coded [] [] are none = rw (none refl) refl
+  same_contents code coded [] (y ∷ ys) are none = absurd are
+  same_contents code coded (x ∷ xs) [] are none = absurd are
+  same_contents code coded (x ∷ xs) (y ∷ ys) are none =
+      rw (same_code code x y are.0) (by (same_contents code coded xs ys are.1) (has_code code x) refl none) where
+        by : ((list_any (has_code code) xs ≡ false → content_for changes.new code ≡ None) → SameBytes input out (content_for changes.new code) (range_in ys code) (range_in xs code)) → (b : Bool) → has_code code x ≡ b → ((b || list_any (has_code code) xs) ≡ false → content_for changes.new code ≡ None)
+            → SameBytes input out (content_for changes.new code) (cond b (Some (y.header.offset, y.header.size)) (range_in ys code)) (cond b (Some (x.header.offset, x.header.size)) (range_in xs code))
+        by rest false here more = rest more
+        by rest true here more =
+            let parts = and_parts (is_there x.header) (eqb x.name.code code) here in
+            let is_code : x.name.code ≡ code = eqb-true x.name.code code parts.1 in
+            let some : eqb x.name.code 0 ≡ false = ne_eqb x.name.code 0 (λ zero_code. coded (sym is_code ∙ zero_code)) in
+            let new : replacement changes x ≡ content_for changes.new code = cond-false (eqb x.name.code 0) None (content_for changes.new x.name.code) some ∙ ap (content_for changes.new) is_code in
+            are.0.holds parts.0 ∙ ap (λ o. unwrap_or o (content input x.header)) new
+
+-- ---- the sections one by one
+
+pub all_made : (input out : List ℕ) (changes : Changes) (placed : List Moved) (at index : ℕ) (xs : List Section) → ((k place : ℕ) (s : Section) → slice_get xs k ≡ Some s → IsMade input out changes s (record { header = moved_to place (moved_in placed (index + k)) s.header; name = s.name })) → AllZip (IsMade input out changes) xs (moved_sections placed at index xs)
+unfolding moved_sections
+all_made input out changes placed at index [] each = tt
+all_made input out changes placed at index (s ∷ xs) each =
+    let here : index + 0 ≡ index = omega arith in (
+      subst (λ (n : ℕ). IsMade input out changes s (record { header = moved_to at (moved_in placed n) s.header; name = s.name })) here (each 0 at s refl),
+      all_made input out changes placed (at + 64) (index + 1) xs
+          (λ k place t is.
+          let next : index + suc k ≡ index + 1 + k = omega arith in
+          subst (λ (n : ℕ). IsMade input out changes t (record { header = moved_to place (moved_in placed n) t.header; name = t.name })) next (each (suc k) place t is)),
+    )

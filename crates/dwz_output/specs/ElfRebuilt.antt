@@ -1,0 +1,41 @@
+-- An ELF file that is made from another reads back: what is asked of the changes, and what stays (ElfLayout).
+use Rattle.std.specs.Prelude.{◌≡◌, ◌≢◌, ◌⊎◌, ℕ, ◌+◌, ◌<◌, ◌≤◌, List, [], true, None, All, Any}
+use Rattle.dwz_docs.specs.declared.elf.FileHeader.{FileHeader}
+use Rattle.dwz_docs.specs.declared.elf.NewContent.{NewContent}
+use Rattle.dwz_docs.specs.declared.elf.Section.{Section}
+use Rattle.dwz_docs.specs.ElfHeaders.{is_loaded, is_there}
+use Rattle.dwz_docs.specs.ElfLayout.{Changes, IsOrder, layout_fault, rebuilt, rebuilt_length, too_large}
+use Rattle.dwz_docs.specs.ElfNames.{sections_in}
+use Rattle.dwz_docs.specs.ElfReading.{elf_fault, elf_of}
+
+-- The section is there, has the code of a new content, and can be given it. A loaded section stays where it is, and so one that
+-- has no bytes can get none.
+abbrev pub CanBeGiven : NewContent → Section → Type 0
+CanBeGiven n s =
+    (is_there s.header ≡ true) × (s.name.code ≡ n.code) × (is_loaded s.header ≡ true → s.header.size ≡ 0 → n.bytes ≡ [])
+
+-- nothing is added, and each new content can be given to a section
+pub record CanChange (sections : List Section) (changes : Changes) : Type 0 where
+  pub none_added : changes.sup ≡ None
+  pub coded : All (λ n. n.code ≢ 0) changes.new
+  pub given : All (λ n. Any (CanBeGiven n) sections) changes.new
+
+-- a file without a fault can be laid out with these changes, its moved sections in that order, and isn't too large then
+pub record CanBeMade (input : List ℕ) (changes : Changes) (order : List (ℕ × ℕ)) : Type 0 where
+  pub reads : elf_fault input ≡ None
+  pub can_change : CanChange (sections_in input) changes
+  pub fits : layout_fault (elf_of input) changes ≡ None
+  pub is_order : IsOrder (elf_of input) order
+  pub small : rebuilt_length (elf_of input) changes input order < too_large
+
+-- the file that is made
+abbrev pub made : List ℕ → Changes → List (ℕ × ℕ) → List ℕ
+made input changes order = rebuilt (elf_of input) changes input order
+
+-- the same file header, but for where the section header table is
+abbrev pub IsSameFile : FileHeader → FileHeader → Type 0
+IsSameFile old new = new ≡ record old { headers_at = new.headers_at }
+
+-- the places of e_shoff and e_shnum, which say where the section header table is and how many headers it has
+abbrev pub SaysTable : ℕ → Type 0
+SaysTable at = ((40 ≤ at) × (at < 48)) ⊎ ((60 ≤ at) × (at < 62))

@@ -18,4 +18,5 @@ pub mod Unnumbered
 pub mod Carrying
 pub mod Chosen
 pub mod ReadAgain
+pub mod CarriedMaps
 mod WriteRows

@@ -1,18 +1,18 @@
 -- What is read of a file is carried: its attributes are stored there, and mean what was read.
-use Rattle.std.proofs.Common.{◌≡◌, ◌≢◌, ℕ, zero, suc, ◌+◌, ◌<◌, ◌≤◌, ◌^◌, Bool, true, false, List, [], ◌∷◌, ◌++◌, length, take, drop, map, Option, Some, None, refl, sym, ap, subst, ◌∙◌, arith, cond, eqb}
+use Rattle.std.proofs.Common.{◌≡◌, ◌≢◌, ℕ, zero, suc, ◌+◌, ◌<◌, ◌≤◌, ◌^◌, Bool, true, false, List, [], ◌∷◌, ◌++◌, length, take, drop, map, Some, refl, sym, ap, subst, ◌∙◌, arith, cond, eqb}
 use Rattle.std.proofs.lemmas.Bool.{eqb-false}
-use Rattle.std.proofs.Math.Logic.{inl, inr}
+use Rattle.std.proofs.Math.Logic.{inl}
 use Rattle.std.proofs.lemmas.List.{length-drop, length-take}
 use Rattle.dwz_model.specs.declared.place.Pair.{Pair}
 use Rattle.dwz_bytes.specs.Spelling.{le_value}
 use Rattle.dwz_codes.specs.Forms.{form_rows}
 use Rattle.dwz_docs.specs.Abbrevs.{Declaration, EndsPairs, EndsTable, IsDeclared, IsPair, SpellsDeclaration, SpellsPair, SpellsTable, find_decl}
-use Rattle.dwz_docs.specs.Documents.{Attr, Compile, DwUnit, Entries, Kind, Node, OfType, Partial, attr_map}
+use Rattle.dwz_docs.specs.Documents.{Attr, DwUnit, Entries, Kind, Node, attr_map}
 use Rattle.dwz_docs.specs.Entries.{Mode, RawAttr, RawEntry, SpellsAttrs, SpellsEntry, SpellsFront, UnitContext}
 use Rattle.dwz_docs.specs.Lists.{SpellsItems}
-use Rattle.dwz_docs.specs.Meanings.{In, MeanAttrs, MeanEntries, MeanUnits, MeansAttr, MeansKind, MeansNode, MeansUnit, Scope, Sources, places_in, places_of, scope_of, without_siblings}
+use Rattle.dwz_docs.specs.Meanings.{MeanAttrs, MeanEntries, MeanUnits, MeansKind, MeansNode, MeansUnit, Scope, Sources, places_in, scope_of, without_siblings}
 use Rattle.dwz_docs.specs.Trees.{End, Entry, Forest, IfChildren, Position, SpellsForest}
-use Rattle.dwz_docs.specs.Units.{CompileUnit, PartialUnit, RawKind, RawUnit, SpellsHeader, SpellsTree, SpellsUnit, SpellsUnits, TypeUnit, header_size, kind_by, root_tag}
+use Rattle.dwz_docs.specs.Units.{CompileUnit, PartialUnit, RawKind, RawUnit, SpellsUnit, SpellsUnits, TypeUnit, header_size, kind_by, root_tag}
 use Rattle.dwz_docs.specs.Values.{AreBytes, SpellsValue}
 use Rattle.dwz_docs.proofs.WrittenLemmas.{drop_bytes, front_bytes, le_value-less}
 use Rattle.dwz_output.specs.Alike.{Each}
@@ -66,13 +66,15 @@ are_held (p ∷ pairs) [] start bytes is have are = absurd is
 are_held (p ∷ pairs) (a ∷ attrs) start bytes is have are =
     let all = subst AreBytes is.parts are in
     let first = is.first in
-    let same = first.same in
-    (record {
-      has_pair = subst HasPair (sym same) have.0;
-      bytes = is.first_bytes;
-      are_bytes = front_bytes is.first_bytes is.second_bytes all;
-      spelled = subst (λ (q : Pair). SpellsValue form_rows q is.first_bytes a.raw) (sym same) first.value;
-    }, are_held pairs attrs (start + length is.first_bytes) is.second_bytes is.second have.1 (back_bytes is.first_bytes is.second_bytes all))
+    let same = first.same in (
+      record {
+        has_pair = subst HasPair (sym same) have.0;
+        bytes = is.first_bytes;
+        are_bytes = front_bytes is.first_bytes is.second_bytes all;
+        spelled = subst (λ (q : Pair). SpellsValue form_rows q is.first_bytes a.raw) (sym same) first.value;
+      },
+      are_held pairs attrs (start + length is.first_bytes) is.second_bytes is.second have.1 (back_bytes is.first_bytes is.second_bytes all),
+    )
 
 stored_of : (a : RawAttr) → IsHeld a → a.pair.name ≢ 0x01 → IsStored a
 stored_of a h other = record { pair_bytes = h.has_pair.0; pair = h.has_pair.1; no_sibling = other; bytes = h.bytes; are_bytes = h.are_bytes; spelled = h.spelled }
@@ -133,10 +135,11 @@ module _ (sources : Sources) (s : Scope) (same : s.sources ≡ sources) (c : Uni
   entries_carried (Entry e children next) End p start bytes is means are built = absurd means
   entries_carried (Entry e children next) (Entry d below others) p start bytes is means are built =
       let all = subst AreBytes is.parts are in
-      let rest = back_bytes is.first_bytes (is.second_bytes ++ is.third_bytes) all in
-      (node_carried p e d start is.first_bytes is.first means.0 (front_bytes is.first_bytes _ all) built.0,
-      if_carried e.children children below is.second_bytes _ is.second (λ q. entries_carried children below _ _ is.second_bytes q means.1 (front_bytes is.second_bytes is.third_bytes rest) built.1) means.1,
-      entries_carried next others _ _ is.third_bytes is.third means.2 (back_bytes is.second_bytes is.third_bytes rest) built.2)
+      let rest = back_bytes is.first_bytes (is.second_bytes ++ is.third_bytes) all in (
+        node_carried p e d start is.first_bytes is.first means.0 (front_bytes is.first_bytes _ all) built.0,
+        if_carried e.children children below is.second_bytes _ is.second (λ q. entries_carried children below _ _ is.second_bytes q means.1 (front_bytes is.second_bytes is.third_bytes rest) built.1) means.1,
+        entries_carried next others _ _ is.third_bytes is.third means.2 (back_bytes is.second_bytes is.third_bytes rest) built.2,
+      )
 
 -- ---- units
 
@@ -191,7 +194,7 @@ module _ (abbrevs : List ℕ) (mode : Mode) (sources : Sources) (all : List ℕ)
       let h = is.is_header in
       let tag : v.root.tag ≡ root_tag u.kind = means.root.tag ∙ first.tag ∙ first.stands.root refl ∙ at.same_root in
       let fits : (signature offset : ℕ) → u.kind ≡ TypeUnit signature offset → signature < 2 ^ 64 = λ signature offset e.
-          signature_fits signature offset _ _ is.header head (h.size ∙ ap header_size e) (sym e ∙ h.of_kind) in
+      signature_fits signature offset _ _ is.header head (h.size ∙ ap header_size e) (sym e ∙ h.of_kind) in
       let own : s.own ≡ entry_keys v = ap (λ (n : ℕ). n ∷ places_in u.below) (sym means.root.place) ∙ ap (λ (w : List ℕ). v.root.at ∷ w) (sym (keys_read s u.below v.below means.below)) in
       record {
         kind = kind_sound s u.kind v.kind v.root.tag means.kind tag fits;
@@ -205,6 +208,7 @@ module _ (abbrevs : List ℕ) (mode : Mode) (sources : Sources) (all : List ℕ)
   units_carried [] (v ∷ units) before start bytes is means are built = absurd means
   units_carried (u ∷ raw) [] before start bytes is means are built = absurd means
   units_carried (u ∷ raw) (v ∷ units) before start bytes is means are built =
-      let parts = subst AreBytes is.parts are in
-      (unit_carried u v before start is.first_bytes is.first means.0 (front_bytes is.first_bytes is.second_bytes parts) built.0,
-       units_carried raw units _ _ is.second_bytes is.second means.1 (back_bytes is.first_bytes is.second_bytes parts) built.1)
+      let parts = subst AreBytes is.parts are in (
+        unit_carried u v before start is.first_bytes is.first means.0 (front_bytes is.first_bytes is.second_bytes parts) built.0,
+        units_carried raw units _ _ is.second_bytes is.second means.1 (back_bytes is.first_bytes is.second_bytes parts) built.1,
+      )

@@ -5,4 +5,4 @@
 
 mod writing;
 
-pub use writing::{bytes_laws, form_laws, length_laws, placing_laws, seen_laws};
+pub use writing::{bytes_laws, carried_laws, form_laws, length_laws, placing_laws, seen_laws};

@@ -27,6 +27,7 @@ pub mod Unnumbered
 pub mod Carrying
 pub mod Chosen
 pub mod ReadAgain
+pub mod CarriedMaps
 mod WriteRows
 pub mod Members
 pub mod Targets

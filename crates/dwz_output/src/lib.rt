@@ -13,4 +13,4 @@ pub use alike::alike_laws;
 pub use elf_rebuilt::rebuilt_laws;
 pub use plan::plan_laws;
 pub use same::same_laws;
-pub use writing::{bytes_laws, form_laws, length_laws, placing_laws, seen_laws};
+pub use writing::{bytes_laws, carried_laws, form_laws, length_laws, placing_laws, seen_laws};

@@ -1,11 +1,13 @@
 //! What holds of the bytes of units: their lengths, where things stand, and what they say.
 
 ghost use Rattle.std.specs.Prelude.{◌≡◌, ◌<◌, ℕ, List, length, map};
-ghost use Rattle.dwz_docs.specs.Documents.{Attr, DwUnit, Entries, Kind, Node, unit_map};
+ghost use Rattle.dwz_docs.specs.Documents.{Attr, DwUnit, Entries, Kind, Node, entries_map, node_map, unit_map};
 ghost use Rattle.dwz_docs.specs.Entries.{Mode};
-ghost use Rattle.dwz_docs.specs.Meanings.{In, Sources};
+ghost use Rattle.dwz_docs.specs.Meanings.{In, MeanUnits, Sources, all_places};
+ghost use Rattle.dwz_docs.specs.Units.{RawUnit, SpellsUnits};
+ghost use Rattle.dwz_docs.specs.Values.{AreBytes};
 ghost use Rattle.dwz_output.specs.Alike.{Each};
-ghost use Rattle.dwz_output.specs.Carried.{CarriedUnit};
+ghost use Rattle.dwz_output.specs.Carried.{BuiltUnit, CarriedEntries, CarriedNode, CarriedUnit};
 ghost use Rattle.dwz_output.specs.Fitting.{AreWritable, IsRoomy, UnitFits, mode_for, places};
 ghost use Rattle.dwz_output.specs.Meant.{Says, Spells, UnitsSay, all_entry_keys, placed_units};
 ghost use Rattle.dwz_output.specs.Placing.{UnitsStand, fit_unit, sections, units_keys};
@@ -54,6 +56,18 @@ pub fn form_laws()
     ensures sound { (sources : Sources) (units : List (DwUnit Spot)) → Each (CarriedUnit sources) units → Each SoundUnit (map (fit_unit same_spot) units) }
     ensures says { (sources : Sources) (units : List (DwUnit Spot)) → Each (CarriedUnit sources) units → Closed units → NoneTwice (units_keys units) → UnitsSay sources (map (fit_unit same_spot) units) }
     ensures keys { (units : List (DwUnit Spot)) → units_keys (map (fit_unit same_spot) units) ≡ units_keys units }
+{}
+
+/// What is carried. Units that are read are, where the forms and names of their attributes are among those that are written; and
+/// units, entries and lists of entries stay so where places get names, or names others.
+pub fn carried_laws()
+    ensures read { (abbrevs info : List ℕ) (mode : Mode) (raw : List RawUnit) (sources : Sources) (units : List (DwUnit ℕ))
+        → SpellsUnits abbrevs mode 0 raw 0 info → MeanUnits sources (all_places raw) raw units → AreBytes info → Each BuiltUnit units → Each (CarriedUnit sources) units }
+
+    ensures named { (sources : Sources) (f : ℕ → Spot) (u : DwUnit ℕ) → CarriedUnit sources u → CarriedUnit sources (unit_map f u) }
+    ensures unit { (sources : Sources) (f : Spot → Spot) (u : DwUnit Spot) → CarriedUnit sources u → CarriedUnit sources (unit_map f u) }
+    ensures entry { (sources : Sources) (f : Spot → Spot) (e : Node Spot) → CarriedNode sources e → CarriedNode sources (node_map f e) }
+    ensures entries { (sources : Sources) (f : Spot → Spot) (entries : Entries Spot) → CarriedEntries sources entries → CarriedEntries sources (entries_map f entries) }
 {}
 
 /// Sameness sees neither the forms of attributes nor the numbers that they store: what is the same as the units with places for

@@ -72,7 +72,7 @@ tree_kept (Ok t) unit rows new e =
 -- ---- the bytes of a unit
 
 -- behind a header, up to the unit's end
-behind_is : (info : List ℕ) (at len size : ℕ) → drop (at + len) (take (at + size) info) ≡ drop len (take size (drop at info))
+pub behind_is : (info : List ℕ) (at len size : ℕ) → drop (at + len) (take (at + size) info) ≡ drop len (take size (drop at info))
 behind_is info at len size = sym (drop-drop len at (take (at + size) info)) ∙ ap (drop len) (drop-take at size info)
 
 -- what reading the tree of a unit needs, by its header
@@ -103,7 +103,7 @@ entries_fail (Refused f) section info at room unit table rows h is read t =
 
 -- ---- a unit that is kept
 
-past_is : (info : List ℕ) (at size : ℕ) → past size (input info at) ≡ input info (at + size)
+pub past_is : (info : List ℕ) (at size : ℕ) → past size (input info at) ≡ input info (at + size)
 past_is info at size = ap (λ (w : List ℕ). record { at = at + size; rest = w }) (drop-drop size at info)
 
 -- what is shown of a unit by its header

@@ -7,3 +7,5 @@ mod ShortLemmas
 mod KeepLemmas
 mod ShownLemmas
 mod ReadLemmas
+mod AgainLemmas
+mod ThereLemmas

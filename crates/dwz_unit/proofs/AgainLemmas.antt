@@ -10,7 +10,7 @@ use Rattle.dwz_bytes.specs.declared.error.ByteErr.{ByteErr}
 use Rattle.dwz_bytes.specs.Input.{Input, input, past}
 use Rattle.dwz_bytes.specs.Reading.{◌>>=◌, uleb_at}
 use Rattle.dwz_docs.specs.Abbrevs.{Declaration, find_decl, table_at}
-use Rattle.dwz_docs.specs.Entries.{IsReadAgain, RawAttr, RawEntry, UnitContext, after_code, after_decl, after_zero, attrs_at, coded, declared_at, deepest, entry_of, front_at, is_wrong_root, root_position, unless_so}
+use Rattle.dwz_docs.specs.Entries.{IsReadAgain, RawAttr, RawEntry, UnitContext, after_code, after_decl, after_zero, attrs_at, coded, declared_at, entry_of, front_at, given, is_wrong_root, root_position, unless_so}
 use Rattle.dwz_docs.specs.Faults.{info_fault}
 use Rattle.dwz_docs.specs.Trees.{EachEntry, End, Entry, Forest, Position, behind, first_below}
 use Rattle.dwz_docs.specs.Units.{EachEntryOf, RawUnit, context_of, entry_count, unit_at, unit_size, units_at, with_unit}
@@ -67,9 +67,9 @@ entry_or d _ = d
 -- the values of an entry whose declaration is known
 values_of : (c : UnitContext) (p : Position) (at : ℕ) (i j : Input) (d : Declaration) (e : RawEntry) → after_decl c p at i d ≡ Ok (Some e, j) → attrs_at at d.pairs i ≡ Ok (e.attrs, j)
 values_of c p at i j d e h =
-    let a = bind_ok (unless_so (is_wrong_root c p d) (info_fault at BadRoot)) (λ root. unless_so (ltb deepest p.depth) (info_fault at TooDeep) >>= λ depth. unless_so (ltb c.room (p.before + 1)) (info_fault at TooMany) >>= λ room. attrs_at at d.pairs i >>= entry_of at d) (Some e, j) h in
-    let b = bind_ok (unless_so (ltb deepest p.depth) (info_fault at TooDeep)) (λ depth. unless_so (ltb c.room (p.before + 1)) (info_fault at TooMany) >>= λ room. attrs_at at d.pairs i >>= entry_of at d) (Some e, j) a.2 in
-    let r = bind_ok (unless_so (ltb c.room (p.before + 1)) (info_fault at TooMany)) (λ room. attrs_at at d.pairs i >>= entry_of at d) (Some e, j) b.2 in
+    let a = bind_ok (unless_so (is_wrong_root c p d) (info_fault at BadRoot)) (λ root. unless_so (ltb c.mode.depth p.depth) (info_fault at TooDeep) >>= λ depth. unless_so (ltb c.mode.entries (p.before + 1)) (info_fault at TooMany) >>= λ room. attrs_at at d.pairs i >>= entry_of at d) (Some e, j) h in
+    let b = bind_ok (unless_so (ltb c.mode.depth p.depth) (info_fault at TooDeep)) (λ depth. unless_so (ltb c.mode.entries (p.before + 1)) (info_fault at TooMany) >>= λ room. attrs_at at d.pairs i >>= entry_of at d) (Some e, j) a.2 in
+    let r = bind_ok (unless_so (ltb c.mode.entries (p.before + 1)) (info_fault at TooMany)) (λ room. attrs_at at d.pairs i >>= entry_of at d) (Some e, j) b.2 in
     let v = bind_ok (attrs_at at d.pairs i) (entry_of at d) (Some e, j) r.2 in
     let made : RawEntry = record { at = at; tag = d.tag; children = d.children; attrs = v.0.0 } in
     let same : made ≡ e = ap (entry_or made) (same_value (Some made) (Some e) v.0.1 j (entry_of at d v.0) refl v.2) in
@@ -131,33 +131,33 @@ each_row (Entry x children next) P unit p (suc k) row each e =
 -- the first of units that were read, and those behind it
 pub record FirstRead (section : List ℕ) (room before : ℕ) (i : Input) (u : RawUnit) (units : List RawUnit) : Type 0 where
   pub behind : Input
-  pub first : unit_at section room before i ≡ Ok (u, behind)
-  pub others : units_at section room (before + entry_count u) behind ≡ Ok units
+  pub first : unit_at section (given room) before i ≡ Ok (u, behind)
+  pub others : units_at section (given room) (before + entry_count u) behind ≡ Ok units
 
 abbrev units_or : List RawUnit → Result (List RawUnit) Fault → List RawUnit
 units_or d (Ok units) = units
 units_or d (Err f) = d
 
-some_bytes : (section : List ℕ) (room before : ℕ) (i : Input) (u : RawUnit) (units : List RawUnit) → units_at section room before i ≡ Ok (u ∷ units) → 0 < length i.rest
+some_bytes : (section : List ℕ) (room before : ℕ) (i : Input) (u : RawUnit) (units : List RawUnit) → units_at section (given room) before i ≡ Ok (u ∷ units) → 0 < length i.rest
 some_bytes section room before i u units e = by i.rest refl where
   by : (rest : List ℕ) → i.rest ≡ rest → 0 < length i.rest
-  by [] is = let never = sym (units_none section room before i is) ∙ e in absurd cc
+  by [] is = let never = sym (units_none section (given room) before i is) ∙ e in absurd cc
   by (b ∷ rest) is = omega (arith, ap length is)
 
 tail_is : (u v : RawUnit) (units others : List RawUnit) → u ∷ units ≡ v ∷ others → (u ≡ v) × (units ≡ others)
 tail_is u v units others e = (cc, cc)
 
-first_read : (section : List ℕ) (room before : ℕ) (i : Input) (u : RawUnit) (units : List RawUnit) → units_at section room before i ≡ Ok (u ∷ units) → FirstRead section room before i u units
+first_read : (section : List ℕ) (room before : ℕ) (i : Input) (u : RawUnit) (units : List RawUnit) → units_at section (given room) before i ≡ Ok (u ∷ units) → FirstRead section room before i u units
 first_read section room before i u units e =
     let some = some_bytes section room before i u units e in
-    let a = bind_ok (unit_at section room before i) (λ x. units_at section room (before + entry_count x.0) x.1 >>= with_unit x.0) (u ∷ units) (sym (units_some section room before i some) ∙ e) in
-    let b = bind_ok (units_at section room (before + entry_count a.0.0) a.0.1) (with_unit a.0.0) (u ∷ units) a.2 in
+    let a = bind_ok (unit_at section (given room) before i) (λ x. units_at section (given room) (before + entry_count x.0) x.1 >>= with_unit x.0) (u ∷ units) (sym (units_some section (given room) before i some) ∙ e) in
+    let b = bind_ok (units_at section (given room) (before + entry_count a.0.0) a.0.1) (with_unit a.0.0) (u ∷ units) a.2 in
     let whole : a.0.0 ∷ b.0 ≡ u ∷ units = ap (units_or (a.0.0 ∷ b.0)) b.2 in
     let same = tail_is a.0.0 u b.0 units whole in
     record {
       behind = a.0.1;
       first = a.1 ∙ ap (λ (w : RawUnit). Ok (w, a.0.1)) same.0;
-      others = ap (λ (w : RawUnit). units_at section room (before + entry_count w) a.0.1) (sym same.0) ∙ b.1 ∙ ap (λ (w : List RawUnit). Ok w) same.1;
+      others = ap (λ (w : RawUnit). units_at section (given room) (before + entry_count w) a.0.1) (sym same.0) ∙ b.1 ∙ ap (λ (w : List RawUnit). Ok w) same.1;
     }
 
 -- ---- each row of units that were read
@@ -181,28 +181,28 @@ from_section info at size c p e is =
     ap (λ (w : List ℕ). front_at c p (record { at = e.at; rest = w })) same ∙ is.read
 
 -- what the parts of a unit say of its end
-unit_end : (section info : List ℕ) (room before at : ℕ) (u : RawUnit) (j : Input) → UnitParts section room before (input info at) u j → (u.end ≡ at + unit_size (drop at info)) × (j ≡ input info u.end)
+unit_end : (section info : List ℕ) (room before at : ℕ) (u : RawUnit) (j : Input) → UnitParts section (given room) before (input info at) u j → (u.end ≡ at + unit_size (drop at info)) × (j ≡ input info u.end)
 unit_end section info room before at u j parts =
     let end : at + unit_size (drop at info) ≡ u.end = ap (λ (w : RawUnit). w.end) parts.unit_is in
     (sym end, sym parts.next_is ∙ past_is info at (unit_size (drop at info)) ∙ ap (input info) end)
 
 -- the units end in the section, since each has as many bytes as its length says
-unit_within : (section info : List ℕ) (room before at : ℕ) (u : RawUnit) (j : Input) → unit_at section room before (input info at) ≡ Ok (u, j) → at ≤ length info → u.end ≤ length info
+unit_within : (section info : List ℕ) (room before at : ℕ) (u : RawUnit) (j : Input) → unit_at section (given room) before (input info at) ≡ Ok (u, j) → at ≤ length info → u.end ≤ length info
 unit_within section info room before at u j e le =
-    let parts = unit_parts section room before (input info at) u j e in
+    let parts = unit_parts section (given room) before (input info at) u j e in
     let ends = unit_end section info room before at u j parts in
-    let fits = (header_passed (drop at info) parts.header).within in
+    let fits = (header_passed (given room) (drop at info) parts.header).within in
     omega (arith, ends.0, fits, length-drop at info)
 
-row_of_first : (section info : List ℕ) (room before at number : ℕ) (u : RawUnit) (units : List RawUnit) (j : Input) (k : ℕ) (row : EntryRow) → unit_at section room before (input info at) ≡ Ok (u, j) → at ≤ length info
+row_of_first : (section info : List ℕ) (room before at number : ℕ) (u : RawUnit) (units : List RawUnit) (j : Input) (k : ℕ) (row : EntryRow) → unit_at section (given room) before (input info at) ≡ Ok (u, j) → at ≤ length info
     → (table : List Declaration) → table_at section u.table_offset ≡ Ok table → slice_get (rows_in u number before) k ≡ Some row → RowRead info section room number (u ∷ units) row
 row_of_first section info room before at number u units j k row e le table is_table found =
-    let parts = unit_parts section room before (input info at) u j e in
+    let parts = unit_parts section (given room) before (input info at) u j e in
     let ends = unit_end section info room before at u j parts in
     let size = unit_size (drop at info) in
     let bytes = take size (drop at info) in
-    let each = entry_reads section room before (input info at) j u table e is_table in
-    let h = each_row (Entry u.root u.below End) (IsReadAgain (context_of (input info at) room table) at bytes) number (root_position before) k row (each.0, each.1, tt) found in
+    let each = entry_reads section (given room) before (input info at) j u table e is_table in
+    let h = each_row (Entry u.root u.below End) (IsReadAgain (context_of (input info at) (given room) table) at bytes) number (root_position before) k row (each.0, each.1, tt) found in
     let within = unit_within section info room before at u j e le in
     let to = h.holds.to in
     record {
@@ -214,8 +214,8 @@ row_of_first section info room before at number u units j k row e le table is_ta
       place = omega (arith, ends.0, length-take size (drop at info));
       again = λ other is_other.
           let same : table ≡ other = ap (table_or table) (sym is_table ∙ is_other) in
-          let read = from_section info at size (context_of (input info at) room table) h.position row.entry h.holds in
-          (context_of (input info at) room table, h.position, h.holds.behind, same, ap (λ (n : ℕ). front_at (context_of (input info at) room table) h.position (input (take n info) row.entry.at)) ends.0 ∙ read);
+          let read = from_section info at size (context_of (input info at) (given room) table) h.position row.entry h.holds in
+          (context_of (input info at) (given room) table, h.position, h.holds.behind, same, ap (λ (n : ℕ). front_at (context_of (input info at) (given room) table) h.position (input (take n info) row.entry.at)) ends.0 ∙ read);
     } where
   table_or : List Declaration → Result (List Declaration) Fault → List Declaration
   table_or d (Ok w) = w
@@ -232,17 +232,17 @@ later info section room number u units row r = record {
   again = r.again;
 }
 
-pub rows_read : (units : List RawUnit) (section info : List ℕ) (room before at number : ℕ) (k : ℕ) (row : EntryRow) → units_at section room before (input info at) ≡ Ok units → at ≤ length info → slice_get (rows_from units number before) k ≡ Some row
+pub rows_read : (units : List RawUnit) (section info : List ℕ) (room before at number : ℕ) (k : ℕ) (row : EntryRow) → units_at section (given room) before (input info at) ≡ Ok units → at ≤ length info → slice_get (rows_from units number before) k ≡ Some row
     → RowRead info section room number units row
 unfolding rows_from
 rows_read [] section info room before at number k row e le found = absurd cc
 rows_read (u ∷ units) section info room before at number k row e le found =
     let f = first_read section room before (input info at) u units e in
-    let parts = unit_parts section room before (input info at) u f.behind f.first in
+    let parts = unit_parts section (given room) before (input info at) u f.behind f.first in
     let ends = unit_end section info room before at u f.behind parts in
     let table : table_at section u.table_offset ≡ Ok parts.table = ap (λ (w : RawUnit). table_at section w.table_offset) (sym parts.unit_is) ∙ parts.table_is in
     elim (slice_get-cases (rows_in u number before) (rows_from units (number + 1) (before + entry_count u)) k row found) [
       | inl h ↦ row_of_first section info room before at number u units f.behind k row f.first le parts.table table h
       | inr h ↦ later info section room number u units row
-        (rows_read units section info room (before + entry_count u) u.end (number + 1) h.0 row (ap (units_at section room (before + entry_count u)) (sym ends.1) ∙ f.others) (unit_within section info room before at u f.behind f.first le) h.1)
+        (rows_read units section info room (before + entry_count u) u.end (number + 1) h.0 row (ap (units_at section (given room) (before + entry_count u)) (sym ends.1) ∙ f.others) (unit_within section info room before at u f.behind f.first le) h.1)
     ]

@@ -8,7 +8,7 @@ use Rattle.dwz_model.specs.declared.fault.ReadErr.TheVariants.{NoMemory, Refused
 use Rattle.dwz_bytes.specs.Input.{Input, input, past}
 use Rattle.dwz_bytes.specs.Reading.{◌>>=◌}
 use Rattle.dwz_docs.specs.Abbrevs.{Declaration, table_at}
-use Rattle.dwz_docs.specs.Entries.{UnitContext, root_position}
+use Rattle.dwz_docs.specs.Entries.{UnitContext, given, root_position}
 use Rattle.dwz_docs.specs.Faults.{Fails}
 use Rattle.dwz_docs.specs.Trees.{End, Entry}
 use Rattle.dwz_docs.specs.Units.{RawUnit, Tree, after_header, after_table, after_tree, behind_header, context_of, debug_abbrev_offset, header_at, header_reason, header_size, kind_of, root_tag, tree_at, unit_at, unit_of, unit_size, zeros_at}
@@ -25,21 +25,21 @@ use Rattle.dwz_unit.specs.Tables.{HasTable, Stored}
 -- ---- faults
 
 -- a fault of the header is the unit's
-pub header_fails : (e : ReadErr) (section info : List ℕ) (at room before : ℕ) → Fails e (header_at (input info at) (header_reason (input info at).rest)) → Fails e (unit_at section room before (input info at))
-unfolding unit_at
+pub header_fails : (e : ReadErr) (section info : List ℕ) (at room before : ℕ) → Fails e (header_at (input info at) (header_reason (given 0) (input info at).rest)) → Fails e (unit_at section (given room) before (input info at))
+unfolding unit_at header_reason
 header_fails NoMemory section info at room before h = tt
-header_fails (Refused f) section info at room before h = ap (λ (r : Result (Unit {0}) Fault). r >>= after_header section room before (input info at)) h
+header_fails (Refused f) section info at room before h = ap (λ (r : Result (Unit {0}) Fault). r >>= after_header section (given room) before (input info at)) h
 
-behind : (section : List ℕ) (room before : ℕ) (i : Input) → header_reason i.rest ≡ None → unit_at section room before i ≡ (table_at section (debug_abbrev_offset i.rest) >>= after_table room before i)
-unfolding unit_at
-behind section room before i h = ap (λ (o : Option Reason). header_at i o >>= after_header section room before i) h
+behind : (section : List ℕ) (room before : ℕ) (i : Input) → header_reason (given 0) i.rest ≡ None → unit_at section (given room) before i ≡ (table_at section (debug_abbrev_offset i.rest) >>= after_table (given room) before i)
+unfolding unit_at header_reason
+behind section room before i h = ap (λ (o : Option Reason). header_at i o >>= after_header section (given room) before i) h
 
 -- a fault of the table too
-pub table_fails : (e : ReadErr) (section info : List ℕ) (at room before : ℕ) (h : Header) → FindsHeader (drop at info) (Ok h) → Fails e (table_at section h.table) → Fails e (unit_at section room before (input info at))
+pub table_fails : (e : ReadErr) (section info : List ℕ) (at room before : ℕ) (h : Header) → FindsHeader (drop at info) (Ok h) → Fails e (table_at section h.table) → Fails e (unit_at section (given room) before (input info at))
 table_fails NoMemory section info at room before h is t = tt
 table_fails (Refused f) section info at room before h is t =
     let i = input info at in
-    behind section room before i is.0 ∙ ap (λ (n : ℕ). table_at section n >>= after_table room before i) (ap (λ (w : Header). w.table) (sym is.1)) ∙ ap (λ (r : Result (List Declaration) Fault). r >>= after_table room before i) t
+    behind section room before i is.0 ∙ ap (λ (n : ℕ). table_at section n >>= after_table (given room) before i) (ap (λ (w : Header). w.table) (sym is.1)) ∙ ap (λ (r : Result (List Declaration) Fault). r >>= after_table (given room) before i) t
 
 -- ---- the tree and what follows it
 
@@ -77,29 +77,29 @@ behind_is info at len size = sym (drop-drop len at (take (at + size) info)) ∙ 
 
 -- what reading the tree of a unit needs, by its header
 abbrev pub context_by : Header → ℕ → ℕ → List Declaration → UnitContext
-context_by h at room table = record { table = table; root_tag = h.root_tag; end = at + h.size; room = room }
+context_by h at room table = record { table = table; root_tag = h.root_tag; end = at + h.size; mode = given room }
 
 abbrev pub rows_by : Header → ℕ → ℕ → ℕ → List Declaration → List ℕ → List Row → Result (List Row) Fault
 rows_by h at room unit table info rows = unit_rows (context_by h at room table) unit rows (input (take (at + h.size) info) (at + h.len))
 
 rows_are : (info : List ℕ) (at room unit : ℕ) (table : List Declaration) (rows : List Row) (h : Header) → h ≡ header_in (drop at info)
-    → rows_by h at room unit table info rows ≡ unit_rows (context_of (input info at) room table) unit rows (behind_header (input info at))
+    → rows_by h at room unit table info rows ≡ unit_rows (context_of (input info at) (given room) table) unit rows (behind_header (input info at))
 rows_are info at room unit table rows h is =
     let i = input info at in
     let bytes = drop at info in
     ap (λ (w : Header). rows_by w at room unit table info rows) is
-    ∙ ap (λ (w : List ℕ). unit_rows (context_of i room table) unit rows (record { at = at + header_size (kind_of bytes); rest = w })) (behind_is info at (header_size (kind_of bytes)) (unit_size bytes))
+    ∙ ap (λ (w : List ℕ). unit_rows (context_of i (given room) table) unit rows (record { at = at + header_size (kind_of bytes); rest = w })) (behind_is info at (header_size (kind_of bytes)) (unit_size bytes))
 
 -- a fault of the entries, or of what follows them, is the unit's
 pub entries_fail : (e : ReadErr) (section info : List ℕ) (at room unit : ℕ) (table : List Declaration) (rows : List Row) (h : Header) → FindsHeader (drop at info) (Ok h) → table_at section h.table ≡ Ok table
-    → Fails e (rows_by h at room unit table info rows) → Fails e (unit_at section room (length rows) (input info at))
+    → Fails e (rows_by h at room unit table info rows) → Fails e (unit_at section (given room) (length rows) (input info at))
 entries_fail NoMemory section info at room unit table rows h is read t = tt
 entries_fail (Refused f) section info at room unit table rows h is read t =
     let i = input info at in
     let fault = sym (rows_are info at room unit table rows h is.1) ∙ t in
     let there : table_at section (debug_abbrev_offset i.rest) ≡ Ok table = ap (λ (w : Header). table_at section w.table) (sym is.1) ∙ read in
-    behind section room (length rows) i is.0 ∙ ap (λ (r : Result (List Declaration) Fault). r >>= after_table room (length rows) i) there
-    ∙ tree_fails (tree_at (context_of i room table) (length rows) (behind_header i)) unit rows i f fault
+    behind section room (length rows) i is.0 ∙ ap (λ (r : Result (List Declaration) Fault). r >>= after_table (given room) (length rows) i) there
+    ∙ tree_fails (tree_at (context_of i (given room) table) (length rows) (behind_header i)) unit rows i f fault
 
 -- ---- a unit that is kept
 
@@ -112,16 +112,17 @@ shown_by h at first = record { at = at; end = at + h.size; «abbrev» = h.table;
 
 pub unit_kept : (info : List ℕ) (at room unit number first : ℕ) (s : Stored) (table : List Declaration) (rows new : List Row) (h : Header) → at ≤ length info → first ≡ length rows → FindsHeader (drop at info) (Ok h) → Fits (drop at info) h → HasTable s h.table number
     → table_at s.section h.table ≡ Ok table → rows_by h at room unit table info rows ≡ Ok new → KeepsUnit info at room unit s rows new (record { shown = shown_by h at first; table = number })
+unfolding header_reason
 unit_kept info at room unit number first s table rows new h le first_is is fits has read e =
     let i = input info at in
     let bytes = drop at info in
     let size : h.size ≡ unit_size bytes = ap (λ (w : Header). w.size) is.1 in
-    let k = tree_kept (tree_at (context_of i room table) (length rows) (behind_header i)) unit rows new (sym (rows_are info at room unit table rows h is.1) ∙ e) in
+    let k = tree_kept (tree_at (context_of i (given room) table) (length rows) (behind_header i)) unit rows new (sym (rows_are info at room unit table rows h is.1) ∙ e) in
     let there : table_at s.section (debug_abbrev_offset bytes) ≡ Ok table = ap (λ (w : Header). table_at s.section w.table) (sym is.1) ∙ read in
     let next : past (unit_size bytes) i ≡ input info (at + h.size) = past_is info at (unit_size bytes) ∙ ap (λ (n : ℕ). input info (at + n)) (sym size) in
     record {
       unit = unit_from i k.tree;
-      read = parts_unit s.section room (length rows) i (unit_from i k.tree) (input info (at + h.size)) (record {
+      read = parts_unit s.section (given room) (length rows) i (unit_from i k.tree) (input info (at + h.size)) (record {
         header = is.0;
         table = table;
         table_is = there;

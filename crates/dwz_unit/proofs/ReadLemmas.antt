@@ -17,6 +17,7 @@ use Rattle.dwz_unit.specs.Rows.{EntryRow, Source, entry_shown, or_none, rows_fro
 use Rattle.dwz_unit.specs.Tables.{Grows, Stored}
 use Rattle.dwz_unit.proofs.NumberLemmas.{still_has}
 use Rattle.dwz_unit.proofs.ShownLemmas.{kept-length, shown_entries-length, units_few}
+use Rattle.dwz_docs.specs.Entries.{given}
 
 -- ---- one unit more
 
@@ -74,7 +75,7 @@ behind_units units more = Ok (units ++ more)
 pub record ReadSoFar (info abbrevs : List ℕ) (room at : ℕ) (s : Stored) (kept : List UnitOfCode) (rows : List Row) : Type 0 where
   pub units : List RawUnit
   pub section : s.section ≡ abbrevs
-  pub so_far : units_at abbrevs room 0 (input info 0) ≡ (units_at abbrevs room (entries_in units) (input info at) >>= behind_units units)
+  pub so_far : units_at abbrevs (given room) 0 (input info 0) ≡ (units_at abbrevs (given room) (entries_in units) (input info at) >>= behind_units units)
   pub shown : ShowAll s 0 units kept
   pub entries : rows ≡ shown_entries units
   pub few : length rows ≤ room
@@ -89,7 +90,7 @@ unfolding entries_in rows_from
 none_yet info abbrevs room = record {
   units = [];
   section = refl;
-  so_far = behind_none (units_at abbrevs room 0 (input info 0));
+  so_far = behind_none (units_at abbrevs (given room) 0 (input info 0));
   shown = tt;
   entries = refl;
   few = omega arith;
@@ -114,17 +115,17 @@ one_more info abbrevs room at number old new kept all k rows more r count is gro
     let section : new.section ≡ abbrevs = grows.section ∙ r.section in
     let many = so_many info abbrevs room at old kept rows r in
     let j = input info k.shown.end in
-    let here : unit_at abbrevs room (entries_in r.units) (input info at) ≡ Ok (is.unit, j) =
-    ap (λ (w : List ℕ). unit_at w room (entries_in r.units) (input info at)) (sym section) ∙ ap (λ (n : ℕ). unit_at new.section room n (input info at)) (sym many) ∙ is.read in
+    let here : unit_at abbrevs (given room) (entries_in r.units) (input info at) ≡ Ok (is.unit, j) =
+    ap (λ (w : List ℕ). unit_at w (given room) (entries_in r.units) (input info at)) (sym section) ∙ ap (λ (n : ℕ). unit_at new.section (given room) n (input info at)) (sym many) ∙ is.read in
     let shows : Shows new (0 + entries_in r.units) is.unit k = let place : length rows ≡ 0 + entries_in r.units = omega (arith, many) in subst (λ (n : ℕ). Shows new n is.unit k) place is.shows in
     let of_units : number ≡ length r.units = count ∙ kept-length r.units kept old 0 r.shown in
     record {
       units = r.units ++ is.unit ∷ [];
       section = section;
       so_far =
-          r.so_far ∙ ap (λ (w : Result (List RawUnit) Fault). w >>= behind_units r.units) (units_more abbrevs room (entries_in r.units) (input info at) j is.unit here)
-          ∙ behind_more (units_at abbrevs room (entries_in r.units + entry_count is.unit) j) r.units is.unit
-          ∙ ap (λ (n : ℕ). units_at abbrevs room n j >>= behind_units (r.units ++ is.unit ∷ [])) (sym (entries_in-push r.units is.unit));
+          r.so_far ∙ ap (λ (w : Result (List RawUnit) Fault). w >>= behind_units r.units) (units_more abbrevs (given room) (entries_in r.units) (input info at) j is.unit here)
+          ∙ behind_more (units_at abbrevs (given room) (entries_in r.units + entry_count is.unit) j) r.units is.unit
+          ∙ ap (λ (n : ℕ). units_at abbrevs (given room) n j >>= behind_units (r.units ++ is.unit ∷ [])) (sym (entries_in-push r.units is.unit));
       shown = subst (ShowAll new 0 (r.units ++ is.unit ∷ [])) (sym pushed) (ShowAll-push r.units kept new 0 is.unit k (still_all r.units kept old new 0 grows r.shown) shows);
       entries =
           is.rows ∙ ap (λ (w : List Row). w ++ map entry_shown (rows_in is.unit number (length rows))) r.entries
@@ -137,28 +138,28 @@ one_more info abbrevs room at number old new kept all k rows more r count is gro
 -- a unit takes a byte at least
 pub nearer : (info : List ℕ) (at room number : ℕ) (s : Stored) (k : UnitOfCode) (rows more : List Row) → at < length info → KeepsUnit info at room number s rows more k → length info - k.shown.end < length info - at
 nearer info at room number s k rows more lt is =
-    let moves = unit_moves s.section room (length rows) (input info at) is.unit (input info k.shown.end) is.read in
+    let moves = unit_moves s.section (given room) (length rows) (input info at) is.unit (input info k.shown.end) is.read in
     omega (arith, moves, length-drop k.shown.end info, length-drop at info)
 
 -- the first unit that can't be read
-pub unit_fails : (e : ReadErr) (info abbrevs : List ℕ) (room at : ℕ) (s : Stored) (kept : List UnitOfCode) (rows : List Row) → ReadSoFar info abbrevs room at s kept rows → at < length info → Fails e (unit_at s.section room (length rows) (input info at))
-    → Fails e (units_at abbrevs room 0 (input info 0))
+pub unit_fails : (e : ReadErr) (info abbrevs : List ℕ) (room at : ℕ) (s : Stored) (kept : List UnitOfCode) (rows : List Row) → ReadSoFar info abbrevs room at s kept rows → at < length info → Fails e (unit_at s.section (given room) (length rows) (input info at))
+    → Fails e (units_at abbrevs (given room) 0 (input info 0))
 unit_fails NoMemory info abbrevs room at s kept rows r lt fails = tt
 unit_fails (Refused f) info abbrevs room at s kept rows r lt fails =
     let many = so_many info abbrevs room at s kept rows r in
-    let here : unit_at abbrevs room (entries_in r.units) (input info at) ≡ Err f =
-    ap (λ (w : List ℕ). unit_at w room (entries_in r.units) (input info at)) (sym r.section) ∙ ap (λ (n : ℕ). unit_at s.section room n (input info at)) (sym many) ∙ fails in
+    let here : unit_at abbrevs (given room) (entries_in r.units) (input info at) ≡ Err f =
+    ap (λ (w : List ℕ). unit_at w (given room) (entries_in r.units) (input info at)) (sym r.section) ∙ ap (λ (n : ℕ). unit_at s.section (given room) n (input info at)) (sym many) ∙ fails in
     let some : 0 < length (drop at info) = omega (arith, length-drop at info) in
-    r.so_far ∙ ap (λ (w : Result (List RawUnit) Fault). w >>= behind_units r.units) (units_fail abbrevs room (entries_in r.units) (input info at) f some here)
+    r.so_far ∙ ap (λ (w : Result (List RawUnit) Fault). w >>= behind_units r.units) (units_fail abbrevs (given room) (entries_in r.units) (input info at) f some here)
 
 -- ---- all units
 
-all_read : (info abbrevs : List ℕ) (room at : ℕ) (s : Stored) (kept : List UnitOfCode) (rows : List Row) (r : ReadSoFar info abbrevs room at s kept rows) → length info ≤ at → units_at s.section room 0 (input info 0) ≡ Ok r.units
+all_read : (info abbrevs : List ℕ) (room at : ℕ) (s : Stored) (kept : List UnitOfCode) (rows : List Row) (r : ReadSoFar info abbrevs room at s kept rows) → length info ≤ at → units_at s.section (given room) 0 (input info 0) ≡ Ok r.units
 all_read info abbrevs room at s kept rows r le =
-    let none = units_none abbrevs room (entries_in r.units) (input info at) (drop_of_length-le info le) in
-    ap (λ (w : List ℕ). units_at w room 0 (input info 0)) r.section ∙ r.so_far ∙ ap (λ (w : Result (List RawUnit) Fault). w >>= behind_units r.units) none ∙ ap (λ (w : List RawUnit). Ok w) (append-nil r.units)
+    let none = units_none abbrevs (given room) (entries_in r.units) (input info at) (drop_of_length-le info le) in
+    ap (λ (w : List ℕ). units_at w (given room) 0 (input info 0)) r.section ∙ r.so_far ∙ ap (λ (w : Result (List RawUnit) Fault). w >>= behind_units r.units) none ∙ ap (λ (w : List RawUnit). Ok w) (append-nil r.units)
 
-units_so : (info : List ℕ) (room : ℕ) (s : Stored) (units : List RawUnit) → units_at s.section room 0 (input info 0) ≡ Ok units → units_of (source_of info s room) ≡ units
+units_so : (info : List ℕ) (room : ℕ) (s : Stored) (units : List RawUnit) → units_at s.section (given room) 0 (input info 0) ≡ Ok units → units_of (source_of info s room) ≡ units
 unfolding units_of
 units_so info room s units e = ap or_none e
 
@@ -177,7 +178,7 @@ all_kept info abbrevs room at s kept rows r le narrow short =
 pub same_source : (info abbrevs : List ℕ) (room at : ℕ) (s : Stored) (kept : List UnitOfCode) (rows : List Row) → ReadSoFar info abbrevs room at s kept rows → source_of info s room ≡ record { info = info; abbrevs = abbrevs; room = room }
 same_source info abbrevs room at s kept rows r = ap (λ (w : List ℕ). record { info = info; abbrevs = w; room = room }) r.section
 
-pub answered : (info abbrevs : List ℕ) (room at : ℕ) (s : Stored) (kept : List UnitOfCode) (rows : List Row) → ReadSoFar info abbrevs room at s kept rows → length info ≤ at → units_at abbrevs room 0 (input info 0) ≡ Ok (units_of (source_of info s room))
+pub answered : (info abbrevs : List ℕ) (room at : ℕ) (s : Stored) (kept : List UnitOfCode) (rows : List Row) → ReadSoFar info abbrevs room at s kept rows → length info ≤ at → units_at abbrevs (given room) 0 (input info 0) ≡ Ok (units_of (source_of info s room))
 answered info abbrevs room at s kept rows r le =
     let read = all_read info abbrevs room at s kept rows r le in
-    ap (λ (w : List ℕ). units_at w room 0 (input info 0)) (sym r.section) ∙ read ∙ ap (λ (w : List RawUnit). Ok w) (sym (units_so info room s r.units read))
+    ap (λ (w : List ℕ). units_at w (given room) 0 (input info 0)) (sym r.section) ∙ read ∙ ap (λ (w : List RawUnit). Ok w) (sym (units_so info room s r.units read))

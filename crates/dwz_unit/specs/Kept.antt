@@ -8,6 +8,7 @@ use Rattle.dwz_unit.specs.declared.rows.RawEntry.{RawEntry as Row}
 use Rattle.dwz_unit.specs.declared.unit.Unit.{Unit as UnitOfCode}
 use Rattle.dwz_unit.specs.Rows.{Source, entry_shown, rows_in, shown_entries, unit_shown, units_of}
 use Rattle.dwz_unit.specs.Tables.{Grows, HasTable, Stored}
+use Rattle.dwz_docs.specs.Entries.{given}
 
 -- what is kept shows the unit, whose root has that number, and names its table
 pub record Shows (s : Stored) (first : ℕ) (u : RawUnit) (kept : UnitOfCode) : Type 0 where
@@ -23,21 +24,21 @@ ShowAll s first _ _ = ⊥
 -- the unit with that number stands at the place, behind the rows, and was read and kept
 pub record KeepsUnit (info : List ℕ) (at room number : ℕ) (s : Stored) (old new : List Row) (kept : UnitOfCode) : Type 0 where
   pub unit : RawUnit
-  pub read : unit_at s.section room (length old) (input info at) ≡ Ok (unit, input info kept.shown.end)
+  pub read : unit_at s.section (given room) (length old) (input info at) ≡ Ok (unit, input info kept.shown.end)
   pub within : kept.shown.end ≤ length info
   pub shows : Shows s (length old) unit kept
   pub rows : new ≡ old ++ map entry_shown (rows_in unit number (length old))
 
 abbrev pub FindsUnit : List ℕ → ℕ → ℕ → ℕ → Stored → Stored → List Row → List Row → Result UnitOfCode ReadErr → Type 0
 FindsUnit info at room number before after old new (Ok kept) = KeepsUnit info at room number after old new kept × Grows before after
-FindsUnit info at room number before after old new (Err e) = Fails e (unit_at before.section room (length old) (input info at))
+FindsUnit info at room number before after old new (Err e) = Fails e (unit_at before.section (given room) (length old) (input info at))
 
 abbrev pub source_of : List ℕ → Stored → ℕ → Source
 source_of info s room = record { info = info; abbrevs = s.section; room = room }
 
 -- all units were read and kept
 pub record AreKept (info : List ℕ) (room : ℕ) (s : Stored) (kept : List UnitOfCode) (rows : List Row) : Type 0 where
-  pub read : units_at s.section room 0 (input info 0) ≡ Ok (units_of (source_of info s room))
+  pub read : units_at s.section (given room) 0 (input info 0) ≡ Ok (units_of (source_of info s room))
   pub units : ShowAll s 0 (units_of (source_of info s room)) kept
   pub entries : rows ≡ shown_entries (units_of (source_of info s room))
   pub few : length rows < 2 ^ 32

@@ -2,9 +2,9 @@
 use Rattle.std.specs.Prelude.{ℕ, ◌+◌, List, [], ◌∷◌, ◌++◌, length, map, Option, Result, Ok, Err, slice_get}
 use Rattle.std.specs.Option.{option_and_then, option_map_or}
 use Rattle.dwz_bytes.specs.Input.{input}
-use Rattle.dwz_docs.specs.Entries.{RawAttr, RawEntry, root_position}
+use Rattle.dwz_docs.specs.Entries.{RawAttr, RawEntry, given, root_position}
 use Rattle.dwz_docs.specs.Trees.{End, Entry, Forest, Position, behind, first_below}
-use Rattle.dwz_docs.specs.Units.{CompileUnit, RawKind, RawUnit, TypeUnit, entry_count, units_at}
+use Rattle.dwz_docs.specs.Units.{CompileUnit, PartialUnit, RawKind, RawUnit, TypeUnit, entry_count, units_at}
 use Rattle.dwz_forms.specs.RawValues.{raw_view}
 use Rattle.dwz_model.specs.declared.fault.Fault.{Fault}
 use Rattle.dwz_unit.specs.declared.rows.RawAttr.{RawAttr as RawAttrOfCode}
@@ -23,7 +23,7 @@ or_none (Err f) = []
 
 -- the units that are read, or none where there is a fault
 unfoldable pub units_of : Source → List RawUnit
-units_of s = or_none (units_at s.abbrevs s.room 0 (input s.info 0))
+units_of s = or_none (units_at s.abbrevs (given s.room) 0 (input s.info 0))
 
 -- ---- entries in preorder
 
@@ -59,14 +59,17 @@ rows_of units = rows_from units 0 0
 abbrev pub kind_number : RawKind → ℕ
 kind_number CompileUnit = 1
 kind_number (TypeUnit signature type_offset) = 2
+kind_number PartialUnit = 3
 
 abbrev pub signature_of : RawKind → ℕ
 signature_of CompileUnit = 0
 signature_of (TypeUnit signature type_offset) = signature
+signature_of PartialUnit = 0
 
 abbrev pub type_offset_of : RawKind → ℕ
 type_offset_of CompileUnit = 0
 type_offset_of (TypeUnit signature type_offset) = type_offset
+type_offset_of PartialUnit = 0
 
 -- a unit whose root has that number
 abbrev pub unit_shown : ℕ → RawUnit → RawUnitOfCode

@@ -15,6 +15,7 @@ use dwz_bytes::Cursor;
 use dwz_model::ReadErr;
 use std::alloc::Global;
 use std::marker::Model;
+ghost use Rattle.dwz_docs.specs.Entries.{given};
 
 /// All units of `.debug_info` (DWARF 5, 7.5.1), and their entries in preorder. Clauses see what they were read from.
 #[derive(Drop)]
@@ -48,7 +49,7 @@ impl<'a> Units<'a> {
     ) -> Result<Units<'a>, ReadErr>
         requires info { length info.now < 2 ^ 32 }
         requires abbrevs { length abbrevs.now < 2 ^ 32 }
-        ensures answers { Answers units_of result (units_at abbrevs.now room 0 (input info.now 0)) }
+        ensures answers { Answers units_of result (units_at abbrevs.now (given room) 0 (input info.now 0)) }
         ensures source { IfOk result (λ units. units ≡ record { info = info.now; abbrevs = abbrevs.now; room = room }) }
     {
         let mut tables = Tables::new(alloc, abbrevs);

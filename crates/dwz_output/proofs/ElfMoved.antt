@@ -1,17 +1,16 @@
 -- Each section of the new file, one by one: it lies in the file, and has its new content or the old one.
-use Rattle.std.proofs.Common.{◌≡◌, ◌≢◌, ◌⊎◌, inl, inr, ℕ, zero, suc, ◌+◌, ◌-◌, ◌*◌, ◌^◌, ◌<◌, ◌≤◌, max, Bool, true, false, cond, eqb, ltb, List, [], ◌∷◌, ◌++◌, length, take, drop, get_or, Option, Some, None, refl, sym, ap, subst, ◌∙◌, arith}
+use Rattle.std.proofs.Common.{◌≡◌, inl, inr, ℕ, zero, suc, ◌+◌, ◌<◌, ◌≤◌, Bool, true, false, cond, eqb, ltb, List, [], ◌++◌, length, take, drop, get_or, Option, Some, None, refl, sym, ap, subst, ◌∙◌, arith}
 use Rattle.std.specs.Prelude.{◌&&◌, ◌||◌, not, slice_get, is_some}
 use Rattle.std.specs.Option.{unwrap_or}
-use Rattle.std.specs.List.{list_any}
-use Rattle.std.proofs.lemmas.Bool.{and_cases, and_from, and_left, and_parts, and_right, cases_Bool, cases_lt, eq-eqb, eqb-true, le-ltb, lt-ltb, ltb-false, ltb-true, not-false, not-true, or_from, or_parts}
+use Rattle.std.proofs.lemmas.Bool.{and_cases, and_from, and_left, and_right, cases_Bool, cases_lt, le-ltb, lt-ltb, ltb-false, not-false, or_from, or_parts}
 use Rattle.std.proofs.lemmas.List.{append-nil}
 use Rattle.dwz_docs.specs.declared.elf.Header.{Header}
 use Rattle.dwz_docs.specs.declared.elf.Moved.{Moved}
 use Rattle.dwz_docs.specs.declared.elf.Section.{Section}
 use Rattle.dwz_docs.specs.ElfHeaders.{content, end_of, is_loaded, is_there}
-use Rattle.dwz_docs.specs.ElfLayout.{Changes, IsOrder, added_name, content_at, is_changed, is_inside, is_moving, keep_end, loaded_end, moved_in, new_content, placed_end, placed_from, replacement}
+use Rattle.dwz_docs.specs.ElfLayout.{Changes, IsOrder, added_name, content_at, is_changed, is_inside, is_moving, keep_end, moved_in, new_content, placed_from, replacement}
 use Rattle.dwz_docs.specs.ElfReading.{ElfView, is_misplaced}
-use Rattle.dwz_output.proofs.ElfBytes.{Has, has_part, same_part}
+use Rattle.dwz_output.proofs.ElfBytes.{has_part, same_part}
 use Rattle.dwz_output.proofs.ElfPlaces.{IsPlaced, moves_there, stays_there}
 use Rattle.dwz_output.proofs.ElfSections.{IsMade}
 use Rattle.dwz_output.proofs.ElfTables.{moved_to}

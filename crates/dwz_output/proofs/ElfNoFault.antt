@@ -1,17 +1,16 @@
 -- A file without a fault, row by row.
-use Rattle.std.proofs.Common.{◌≡◌, ◌≢◌, ◌⊎◌, inl, inr, ℕ, zero, suc, ◌+◌, ◌-◌, ◌*◌, ◌^◌, ◌<◌, ◌≤◌, Bool, true, false, cond, eqb, ltb, List, [], ◌∷◌, ◌++◌, length, map, take, drop, get_or, Option, Some, None, refl, sym, ap, subst, ◌∙◌, arith}
-use Rattle.std.specs.Prelude.{◌&&◌, ◌||◌, not, slice_get}
+use Rattle.std.proofs.Common.{◌≡◌, ◌≢◌, inl, inr, ℕ, suc, ◌+◌, ◌<◌, ◌≤◌, Bool, true, false, cond, eqb, ltb, List, [], ◌∷◌, length, map, drop, get_or, Some, None, refl, ap, ◌∙◌, arith}
+use Rattle.std.specs.Prelude.{◌&&◌, ◌||◌, not}
 use Rattle.std.proofs.lemmas.Bool.{and_cases, eqb-false, eqb-true, le-ltb, lt-ltb, ltb-false, ltb-true, ne_eqb, not-false, or_from, or_parts}
 use Rattle.std.proofs.lemmas.List.{drop_all}
-use Rattle.dwz_model.specs.declared.fault.Fault.{Fault}
-use Rattle.dwz_model.specs.declared.fault.Reason.TheVariants.{NotElf, FileType, SectionTable}
+use Rattle.dwz_model.specs.declared.fault.Reason.TheVariants.{FileType, SectionTable}
 use Rattle.dwz_docs.specs.declared.elf.FileHeader.{FileHeader}
 use Rattle.dwz_docs.specs.declared.elf.Header.{Header}
 use Rattle.dwz_docs.specs.declared.elf.Section.{Section}
 use Rattle.dwz_docs.specs.ElfFaults.{identification}
 use Rattle.dwz_docs.specs.ElfHeaders.{end_of, file_header, headers_end, is_there, program_headers_end}
-use Rattle.dwz_docs.specs.ElfNames.{known_name, name_at, name_in, name_table, names_header, section_of, sections_in}
-use Rattle.dwz_docs.specs.ElfReading.{◌or◌, elf_fault, fault_if, field_fault, first_in, first_other, header_fault, identification_fault, is_misaligned, is_misnamed, is_misplaced, missing_fault, names_fault, unkept_fault, wrong_byte}
+use Rattle.dwz_docs.specs.ElfNames.{known_name, name_at, name_in, names_header, section_of, sections_in}
+use Rattle.dwz_docs.specs.ElfReading.{elf_fault, fault_if, field_fault, first_in, first_other, header_fault, identification_fault, is_misaligned, is_misnamed, is_misplaced, missing_fault, names_fault, unkept_fault, wrong_byte}
 use Rattle.dwz_output.proofs.ElfSections.{no_fault, none_or, or_none, test_false}
 
 pub record HasNoFault (bytes : List ℕ) : Type 0 where

@@ -1,5 +1,5 @@
 -- Sections that are the same but for where they stand: they have the same codes, and no fault that the others haven't.
-use Rattle.std.proofs.Common.{◌≡◌, ◌≢◌, ◌⊎◌, inl, inr, ℕ, zero, suc, ◌+◌, ◌-◌, ◌*◌, ◌^◌, ◌<◌, ◌≤◌, Bool, true, false, cond, eqb, ltb, List, [], ◌∷◌, ◌++◌, length, map, take, drop, Option, Some, None, refl, sym, ap, subst, ◌∙◌, arith}
+use Rattle.std.proofs.Common.{◌≡◌, ◌≢◌, ℕ, zero, suc, ◌+◌, Bool, true, false, cond, eqb, ltb, List, [], ◌∷◌, ◌++◌, length, Option, Some, None, refl, sym, ap, subst, ◌∙◌, arith}
 use Rattle.std.specs.Prelude.{◌&&◌, ◌||◌, not, slice_get, is_some}
 use Rattle.std.specs.Option.{unwrap_or}
 use Rattle.std.specs.Int.{is_power_of_two}
@@ -8,16 +8,13 @@ use Rattle.std.proofs.lemmas.Bool.{and_parts, cond-false, eqb-true, ne_eqb, or_f
 use Rattle.std.proofs.lemmas.List.Elements.{AllZip-push, length_all_zip}
 use Rattle.dwz_model.specs.declared.fault.Fault.{Fault}
 use Rattle.dwz_model.specs.declared.fault.Reason.{Reason}
-use Rattle.dwz_docs.specs.declared.elf.Header.{Header}
 use Rattle.dwz_docs.specs.declared.elf.Moved.{Moved}
 use Rattle.dwz_docs.specs.declared.elf.Name.{Name}
-use Rattle.dwz_docs.specs.declared.elf.NewContent.{NewContent}
 use Rattle.dwz_docs.specs.declared.elf.Section.{Section}
 use Rattle.dwz_docs.specs.ElfHeaders.{content, has_relocations, is_compressed, is_there}
 use Rattle.dwz_docs.specs.ElfLayout.{Changes, content_for, moved_in, replacement}
 use Rattle.dwz_docs.specs.ElfReading.{◌or◌, fault_if, first_in, has_code, header_fault, is_misaligned, is_misnamed, is_misplaced, is_rewritten, missing_fault, range_in, unkept_fault}
 use Rattle.dwz_docs.specs.Files.{bytes_in}
-use Rattle.dwz_docs.proofs.PartLemmas.{chosen}
 use Rattle.dwz_output.proofs.ElfTables.{moved_sections, moved_to}
 
 -- ---- no fault

@@ -1,15 +1,13 @@
 -- The new file as its parts: how long it is, what stands where, and that the kept bytes are the old ones.
-use Rattle.std.proofs.Common.{◌≡◌, ◌≢◌, ◌⊎◌, inl, inr, ℕ, zero, suc, ◌+◌, ◌-◌, ◌*◌, ◌^◌, ◌<◌, ◌≤◌, List, [], ◌∷◌, ◌++◌, length, take, drop, get_or, replicate, Option, Some, None, refl, sym, ap, subst, ◌∙◌, append_assoc, arith}
-use Rattle.std.specs.Prelude.{slice_get}
+use Rattle.std.proofs.Common.{◌≡◌, ◌⊎◌, inr, ℕ, ◌+◌, ◌-◌, ◌*◌, ◌^◌, ◌<◌, ◌≤◌, List, [], ◌++◌, length, get_or, replicate, Option, Some, None, refl, sym, ap, subst, ◌∙◌, append_assoc, arith}
 use Rattle.std.specs.Int.{next_multiple_of}
 use Rattle.std.proofs.lemmas.List.{get_or_append_left, length-append, length-replicate}
 use Rattle.dwz_bytes.specs.Spelling.{le_bytes}
 use Rattle.dwz_docs.specs.declared.elf.Moved.{Moved}
-use Rattle.dwz_docs.specs.declared.elf.Section.{Section}
 use Rattle.dwz_docs.specs.ElfHeaders.{number_at}
 use Rattle.dwz_docs.specs.ElfLayout.{Changes, content_at, keep_end, moved_in, new_count, new_front, new_headers, new_headers_at, new_length, placed_end, placed_from, rebuilt, rebuilt_length, spread, sup_bytes, sup_header, too_large}
 use Rattle.dwz_docs.specs.ElfReading.{ElfView}
-use Rattle.dwz_output.proofs.ElfBytes.{Has, front_has_count, front_has_place, front_same, has_in, has_middle, length_front, number_written}
+use Rattle.dwz_output.proofs.ElfBytes.{Has, front_has_count, front_has_place, front_same, has_middle, length_front, number_written}
 use Rattle.dwz_output.proofs.ElfMoved.{IsNew}
 use Rattle.dwz_output.proofs.ElfOld.{keep_some}
 use Rattle.dwz_output.proofs.ElfPlaces.{IsPlaced, length-spread, placed_end-least, placed_there}

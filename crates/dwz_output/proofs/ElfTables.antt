@@ -1,5 +1,5 @@
 -- The section headers of the new file, and what they are read as.
-use Rattle.std.proofs.Common.{◌≡◌, ◌≢◌, ◌⊎◌, inl, inr, ℕ, zero, suc, ◌+◌, ◌-◌, ◌*◌, ◌^◌, ◌<◌, ◌≤◌, List, [], ◌∷◌, ◌++◌, length, map, take, drop, get_or, Option, Some, None, refl, sym, ap, subst, ◌∙◌, arith}
+use Rattle.std.proofs.Common.{◌≡◌, ◌⊎◌, inl, inr, ℕ, zero, suc, ◌+◌, ◌-◌, ◌*◌, ◌^◌, ◌<◌, ◌≤◌, List, [], ◌∷◌, ◌++◌, length, map, take, drop, get_or, Option, Some, None, refl, sym, ap, subst, ◌∙◌, arith}
 use Rattle.std.specs.Prelude.{slice_get}
 use Rattle.std.proofs.lemmas.List.{get_or-append_right, get_or_append_left, length-append, length-drop, length-take}
 use Rattle.dwz_bytes.specs.Spelling.{le_bytes}
@@ -7,7 +7,7 @@ use Rattle.dwz_docs.specs.declared.elf.Header.{Header}
 use Rattle.dwz_docs.specs.declared.elf.Moved.{Moved}
 use Rattle.dwz_docs.specs.declared.elf.Section.{Section}
 use Rattle.dwz_docs.specs.ElfHeaders.{header_at, headers_from, number_at}
-use Rattle.dwz_docs.specs.ElfLayout.{moved_header, moved_in, new_headers, over}
+use Rattle.dwz_docs.specs.ElfLayout.{moved_header, moved_in, new_headers}
 use Rattle.dwz_docs.specs.ElfNames.{section_of}
 use Rattle.dwz_output.proofs.ElfBytes.{Has, has_number, has_over, has_taken, length_of_number, length_over, number_written, over_other, same_number}
 

@@ -64,3 +64,5 @@ pub mod ElfShape
 pub mod ElfSections
 pub mod ElfNoFault
 pub mod ElfRebuiltLemmas
+pub mod ElfGiven
+mod ElfRebuiltRows

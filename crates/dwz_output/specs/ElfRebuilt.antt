@@ -1,5 +1,5 @@
 -- An ELF file that is made from another reads back: what is asked of the changes, and what stays (ElfLayout).
-use Rattle.std.specs.Prelude.{◌≡◌, ◌≢◌, ◌⊎◌, ℕ, ◌+◌, ◌<◌, ◌≤◌, List, [], true, None, All, Any}
+use Rattle.std.specs.Prelude.{◌≡◌, ◌≢◌, ◌⊎◌, ℕ, ◌<◌, ◌≤◌, List, [], true, None, All, Any}
 use Rattle.dwz_docs.specs.declared.elf.FileHeader.{FileHeader}
 use Rattle.dwz_docs.specs.declared.elf.NewContent.{NewContent}
 use Rattle.dwz_docs.specs.declared.elf.Section.{Section}
@@ -29,13 +29,13 @@ pub record CanBeMade (input : List ℕ) (changes : Changes) (order : List (ℕ �
   pub small : rebuilt_length (elf_of input) changes input order < too_large
 
 -- the file that is made
-abbrev pub made : List ℕ → Changes → List (ℕ × ℕ) → List ℕ
-made input changes order = rebuilt (elf_of input) changes input order
+abbrev pub new_file : List ℕ → Changes → List (ℕ × ℕ) → List ℕ
+new_file input changes order = rebuilt (elf_of input) changes input order
 
 -- the same file header, but for where the section header table is
-abbrev pub IsSameFile : FileHeader → FileHeader → Type 0
-IsSameFile old new = new ≡ record old { headers_at = new.headers_at }
+abbrev pub HasSameFields : FileHeader → FileHeader → Type 0
+HasSameFields old new = new ≡ record old { headers_at = new.headers_at }
 
 -- the places of e_shoff and e_shnum, which say where the section header table is and how many headers it has
-abbrev pub SaysTable : ℕ → Type 0
-SaysTable at = ((40 ≤ at) × (at < 48)) ⊎ ((60 ≤ at) × (at < 62))
+abbrev pub IsTableField : ℕ → Type 0
+IsTableField at = ((40 ≤ at) × (at < 48)) ⊎ ((60 ≤ at) × (at < 62))

@@ -5,7 +5,7 @@ ghost use Rattle.dwz_docs.specs.ElfHeaders.{file_header};
 ghost use Rattle.dwz_docs.specs.ElfLayout.{Changes, content_for, keep_end, rebuilt_length};
 ghost use Rattle.dwz_docs.specs.ElfNames.{sections_in};
 ghost use Rattle.dwz_docs.specs.ElfReading.{elf_fault, elf_of, section_range};
-ghost use Rattle.dwz_output.specs.ElfRebuilt.{CanBeMade, IsSameFile, SaysTable, made};
+ghost use Rattle.dwz_output.specs.ElfRebuilt.{CanBeMade, HasSameFields, IsTableField, new_file};
 ghost use Rattle.dwz_docs.specs.Files.{section_of};
 
 /// The file that is made from one without a fault, with new contents for some of its sections. It has the length that its
@@ -13,11 +13,11 @@ ghost use Rattle.dwz_docs.specs.Files.{section_of};
 /// content, or else its old one, and none with a code is added or lost; and the bytes that are kept are the old ones, but for
 /// two fields of the file header.
 pub fn rebuilt_laws()
-    ensures length { (input : List ℕ) (changes : Changes) (order : List (ℕ × ℕ)) → CanBeMade input changes order → length (made input changes order) ≡ rebuilt_length (elf_of input) changes input order }
-    ensures reads { (input : List ℕ) (changes : Changes) (order : List (ℕ × ℕ)) → CanBeMade input changes order → elf_fault (made input changes order) ≡ None }
-    ensures fields { (input : List ℕ) (changes : Changes) (order : List (ℕ × ℕ)) → CanBeMade input changes order → IsSameFile (file_header input) (file_header (made input changes order)) }
+    ensures length { (input : List ℕ) (changes : Changes) (order : List (ℕ × ℕ)) → CanBeMade input changes order → length (new_file input changes order) ≡ rebuilt_length (elf_of input) changes input order }
+    ensures reads { (input : List ℕ) (changes : Changes) (order : List (ℕ × ℕ)) → CanBeMade input changes order → elf_fault (new_file input changes order) ≡ None }
+    ensures fields { (input : List ℕ) (changes : Changes) (order : List (ℕ × ℕ)) → CanBeMade input changes order → HasSameFields (file_header input) (file_header (new_file input changes order)) }
 
-    ensures contents { (input : List ℕ) (changes : Changes) (order : List (ℕ × ℕ)) → CanBeMade input changes order → (code : ℕ) → section_of (made input changes order) code ≡ unwrap_or (content_for changes.new code) (section_of input code) }
-    ensures there { (input : List ℕ) (changes : Changes) (order : List (ℕ × ℕ)) → CanBeMade input changes order → (code : ℕ) → is_some (section_range (sections_in (made input changes order)) code) ≡ is_some (section_range (sections_in input) code) }
-    ensures loaded { (input : List ℕ) (changes : Changes) (order : List (ℕ × ℕ)) → CanBeMade input changes order → (at : ℕ) → at < keep_end (elf_of input) → ¬ SaysTable at → slice_index (made input changes order) at ≡ slice_index input at }
+    ensures contents { (input : List ℕ) (changes : Changes) (order : List (ℕ × ℕ)) → CanBeMade input changes order → (code : ℕ) → section_of (new_file input changes order) code ≡ unwrap_or (content_for changes.new code) (section_of input code) }
+    ensures there { (input : List ℕ) (changes : Changes) (order : List (ℕ × ℕ)) → CanBeMade input changes order → (code : ℕ) → is_some (section_range (sections_in (new_file input changes order)) code) ≡ is_some (section_range (sections_in input) code) }
+    ensures loaded { (input : List ℕ) (changes : Changes) (order : List (ℕ × ℕ)) → CanBeMade input changes order → (at : ℕ) → at < keep_end (elf_of input) → ¬ IsTableField at → slice_index (new_file input changes order) at ≡ slice_index input at }
 {}

@@ -18,11 +18,15 @@ fn report(rt: &impl Print, name: &str, answer: Result<Counts, ReadErr>) -> anyho
         Ok(Counts { units, entries }) => {
             println!(rt; "{name}: {units} units, {entries} entries")?;
         }
-        Err(ReadErr::Refused(Fault {
-            section,
-            at,
-            reason,
-        })) => {
+        Err(
+            ReadErr::Refused(
+                Fault {
+                    section,
+                    at,
+                    reason,
+                },
+            ),
+        ) => {
             println!(rt; "{name}: section {section} at {at}: {reason:?}")?;
         }
         Err(ReadErr::NoMemory) => println!(rt; "{name}: out of memory")?,
@@ -32,8 +36,7 @@ fn report(rt: &impl Print, name: &str, answer: Result<Counts, ReadErr>) -> anyho
 
 fn run<R: Env + Files + Print + AllocGlobal>(rt: &R, alloc: Global) -> anyhow::Result<()> {
     for name in env::args(rt)?.skip(1) {
-        let bytes = fs::read(rt, name.as_str())
-            .context(format_args!("reading {name}"))?;
+        let bytes = fs::read(rt, name.as_str()).context(format_args!("reading {name}"))?;
         report(rt, name.as_str(), walk(alloc, &bytes))?;
     }
     Ok(())

@@ -68,7 +68,7 @@ impl Table {
     }
 
     /// The least code under which the table declares this tag, with or without children, and these pairs. None exactly where
-    /// it doesn't declare them.
+    /// it doesn't declare them. A table made by `new` finds them by a hash; one that was read is looked through.
     pub fn code_of(&self, tag: u16, children: bool, pairs: &Pairs) -> Option<u64>
         ensures { result ≡ code_in (record { tag = tag; children = children; pairs = pairs.now }) self.now }
     {

@@ -1,7 +1,7 @@
 //! Tables spelled by hand, by the standard's section 7.5.3.
 
-ghost use Rattle.std.specs.Prelude.{◌≢◌, ◌<◌, All, IfOk};
-ghost use Rattle.dwz_docs.specs.Abbrevs.{IsPlainPair};
+ghost use Rattle.std.specs.Prelude.{◌<◌, All, IfOk};
+ghost use Rattle.dwz_docs.specs.Abbrevs.{IsCounted, IsPlainPair};
 
 use crate::Table;
 use dwz_model::{Fault, NoMemory, Pair, Pairs, ReadErr, Reason};
@@ -97,20 +97,41 @@ fn pairs(alloc: Global, name: u16, form: u64) -> Result<Pairs, NoMemory>
     Ok(Pairs::new(pairs))
 }
 
-#[test]
-fn makes_a_table(rt: HostRuntime) -> Result<(), Fail> {
-    let alloc = rt.alloc();
+// A table of three declarations, two of which differ in whether there are children.
+fn three(alloc: Global) -> Result<Table, NoMemory>
+    ensures { IfOk result IsCounted }
+{
     let mut table = Table::new(alloc);
-    assert_eq!(rt; table.add(0x11, true, pairs(alloc, 0x03, 0x08)?)?, 1);
+    table.add(0x11, true, pairs(alloc, 0x03, 0x08)?)?;
+    table.add(0x24, false, pairs(alloc, 0x0b, 0x0b)?)?;
+    table.add(0x11, false, pairs(alloc, 0x03, 0x08)?)?;
+    Ok(table)
+}
+
+#[test]
+fn adds_what_is_new(rt: HostRuntime) -> Result<(), Fail> {
+    let alloc = rt.alloc();
+    let mut table = three(alloc)?;
     assert_eq!(rt; table.add(0x24, false, pairs(alloc, 0x0b, 0x0b)?)?, 2);
-    assert_eq!(rt; table.add(0x11, false, pairs(alloc, 0x03, 0x08)?)?, 3);
-    assert_eq!(rt; table.add(0x11, true, pairs(alloc, 0x03, 0x08)?)?, 1);
-    assert_eq!(rt; table.add(0x24, false, pairs(alloc, 0x0b, 0x0b)?)?, 2);
-    let name = pairs(alloc, 0x03, 0x08)?;
+    assert_eq!(rt; table.add(0x24, true, pairs(alloc, 0x0b, 0x0b)?)?, 4);
+    assert_eq!(rt; table.decl(4).ok_or("no code 4")?.tag, 0x24);
+    Ok(())
+}
+
+#[test]
+fn finds_the_code_of_a_shape(rt: HostRuntime) -> Result<(), Fail> {
+    let table = three(rt.alloc())?;
+    let name = pairs(rt.alloc(), 0x03, 0x08)?;
+    assert_eq!(rt; table.code_of(0x11, true, &name), Some(1));
     assert_eq!(rt; table.code_of(0x11, false, &name), Some(3));
     assert_eq!(rt; table.code_of(0x24, false, &name), None);
-    assert_eq!(rt; table.decl(2).ok_or("no code 2")?.tag, 0x24);
-    let mut out = [7].to_vec(alloc)?;
+    Ok(())
+}
+
+#[test]
+fn writes_what_it_made(rt: HostRuntime) -> Result<(), Fail> {
+    let table = three(rt.alloc())?;
+    let mut out = [7].to_vec(rt.alloc())?;
     table.write(&mut out)?;
     let bytes = [
         7, 1, 0x11, 1, 0x03, 0x08, 0, 0, 2, 0x24, 0, 0x0b, 0x0b, 0, 0, 3, 0x11, 0, 0x03, 0x08, 0,

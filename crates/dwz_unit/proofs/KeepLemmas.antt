@@ -1,5 +1,5 @@
 -- A unit that is read and kept.
-use Rattle.std.proofs.Common.{◌≡◌, ℕ, ◌+◌, ◌<◌, ◌≤◌, List, ◌++◌, length, take, drop, Option, Some, None, Result, Ok, Err, refl, sym, ap, subst, ◌∙◌, arith}
+use Rattle.std.proofs.Common.{◌≡◌, ℕ, ◌+◌, ◌≤◌, List, ◌++◌, length, take, drop, Option, None, Result, Ok, Err, refl, sym, ap, subst, ◌∙◌, arith}
 use Rattle.std.proofs.lemmas.List.{drop-drop, drop-take, length-drop}
 use Rattle.dwz_model.specs.declared.fault.Fault.{Fault}
 use Rattle.dwz_model.specs.declared.fault.Reason.{Reason}
@@ -11,7 +11,7 @@ use Rattle.dwz_docs.specs.Abbrevs.{Declaration, table_at}
 use Rattle.dwz_docs.specs.Entries.{UnitContext, root_position}
 use Rattle.dwz_docs.specs.Faults.{Fails}
 use Rattle.dwz_docs.specs.Trees.{End, Entry}
-use Rattle.dwz_docs.specs.Units.{RawUnit, Tree, after_header, after_table, after_tree, behind_header, context_of, debug_abbrev_offset, header_at, header_reason, header_size, kind_of, root_tag, tree_at, unit_at, unit_of, unit_size, zeros_at}
+use Rattle.dwz_docs.specs.Units.{Tree, after_header, after_table, after_tree, behind_header, context_of, debug_abbrev_offset, header_at, header_reason, header_size, kind_of, tree_at, unit_at, unit_of, unit_size, zeros_at}
 use Rattle.dwz_docs.proofs.PartLemmas.{bind_ok}
 use Rattle.dwz_docs.proofs.UnitLemmas.{parts_unit, unit_from}
 use Rattle.dwz_unit.specs.declared.header.Header.{Header}

@@ -5,7 +5,7 @@ use Rattle.std.proofs.lemmas.List.{append-nil, length-drop, map-append}
 use Rattle.dwz_model.specs.declared.fault.Fault.{Fault}
 use Rattle.dwz_model.specs.declared.fault.ReadErr.{ReadErr}
 use Rattle.dwz_model.specs.declared.fault.ReadErr.TheVariants.{NoMemory, Refused}
-use Rattle.dwz_bytes.specs.Input.{Input, input}
+use Rattle.dwz_bytes.specs.Input.{input}
 use Rattle.dwz_bytes.specs.Reading.{◌>>=◌}
 use Rattle.dwz_docs.specs.Faults.{Fails}
 use Rattle.dwz_docs.specs.Units.{RawUnit, entries_in, entry_count, unit_at, units_at, with_unit}
@@ -13,7 +13,7 @@ use Rattle.dwz_docs.proofs.UnitListLemmas.{unit_moves, units_fail, units_more, u
 use Rattle.dwz_unit.specs.declared.rows.RawEntry.{RawEntry as Row}
 use Rattle.dwz_unit.specs.declared.unit.Unit.{Unit as UnitOfCode}
 use Rattle.dwz_unit.specs.Kept.{AreKept, KeepsUnit, ShowAll, Shows, source_of}
-use Rattle.dwz_unit.specs.Rows.{EntryRow, Source, entry_shown, or_none, rows_from, rows_in, shown_entries, units_of}
+use Rattle.dwz_unit.specs.Rows.{EntryRow, entry_shown, or_none, rows_from, rows_in, shown_entries, units_of}
 use Rattle.dwz_unit.specs.Tables.{Grows, Stored}
 use Rattle.dwz_unit.proofs.NumberLemmas.{still_has}
 use Rattle.dwz_unit.proofs.ShownLemmas.{kept-length, shown_entries-length, units_few}

@@ -1,7 +1,7 @@
 //! A place in bytes, from which numbers are read.
 
 ghost use Rattle.std.specs.Prelude.{◌≡◌, ◌≤◌, length, drop, take};
-ghost use Rattle.dwz_bytes.specs.Input.{Input};
+ghost use Rattle.dwz_bytes.specs.Input.{Input, input};
 ghost use Rattle.dwz_bytes.specs.Reading.{Gives, fixed_at, uleb_at, sleb_at, take_at};
 ghost use Rattle.dwz_bytes.specs.Spelling.{le_value};
 
@@ -55,6 +55,15 @@ impl<'a> Cursor<'a> {
         ensures { result ≡ self.now.at }
     {
         self.at
+    }
+
+    /// The bytes in which it stands, whole.
+    #[inline(always)]
+    pub fn bytes(&self) -> &'a [u8]
+        ensures here { input result.now self.now.at ≡ self.now }
+        ensures within { self.now.at ≤ length result.now }
+    {
+        self.bytes
     }
 
     /// A byte. Short exactly where none is left.

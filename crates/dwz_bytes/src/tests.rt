@@ -83,6 +83,7 @@ fn reads_bytes_and_fixed_numbers(rt: HostRuntime) {
     assert_eq!(rt; cursor.u64(), Ok(0x0f0e0d0c0b0a0908));
     assert_eq!(rt; cursor.take(3), Err(ByteErr::Short { at: 15 }));
     assert_eq!(rt; cursor.take(2), Ok([16, 17].as_slice()));
+    assert_eq!(rt; cursor.bytes(), bytes.as_slice());
 }
 
 #[test]

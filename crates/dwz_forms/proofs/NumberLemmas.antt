@@ -1,15 +1,15 @@
 -- Numbers that are written: that the casts keep them, their low bytes, and lengths.
-use Rattle.std.proofs.Common.{◌≡◌, ℕ, zero, suc, ◌+◌, ◌*◌, ◌/◌, ◌%◌, ◌^◌, ◌<◌, ◌≤◌, ◌-◌, List, [], ◌∷◌, ◌++◌, length, take, refl, sym, ap, subst, ◌∙◌, arith, true}
+use Rattle.std.proofs.Common.{◌≡◌, ℕ, zero, suc, ◌+◌, ◌/◌, ◌%◌, ◌^◌, ◌<◌, ◌≤◌, ◌-◌, List, [], ◌∷◌, ◌++◌, length, take, refl, sym, ap, subst, ◌∙◌, arith, true}
 use Rattle.std.specs.Prelude.{ℤ, pos}
-use Rattle.std.specs.Int.{byte_at, bytes_low_first, to_le_bytes, w64}
+use Rattle.std.specs.Int.{bytes_low_first, to_le_bytes, w64}
 use Rattle.std.proofs.Math.Nat.{div-div-eq-div-mul, div-one, pow-suc}
 use Rattle.std.proofs.lemmas.Bool.{ltb-true}
 use Rattle.std.proofs.lemmas.List.{length-append}
-use Rattle.dwz_bytes.specs.Spelling.{fits_i64, le_bytes, sleb, uleb}
+use Rattle.dwz_bytes.specs.Spelling.{fits_i64, le_bytes, uleb}
 use Rattle.dwz_bytes.proofs.PaddedLemmas.{padded_len}
 use Rattle.dwz_codes.specs.declared.shape.Shape.{Shape}
-use Rattle.dwz_codes.specs.declared.shape.Shape.TheVariants.{Nothing, Refused, Fixed1, Fixed2, Fixed3, Fixed4, Fixed8, Fixed16, Uleb, Sleb, ZeroEnded, Block1, Block2, Block4, BlockUleb, Address}
-use Rattle.dwz_docs.specs.Values.{AreBytes, HasSpelling, Number, Raw, SpellsShape, constant_of, number_bytes, run_bytes, shape_of, unsigned, written_rows}
+use Rattle.dwz_codes.specs.declared.shape.Shape.TheVariants.{Fixed1, Fixed2, Fixed3, Fixed4, Fixed8, Fixed16, Uleb, Sleb, ZeroEnded, Block1, Block2, Block4, BlockUleb, Address}
+use Rattle.dwz_docs.specs.Values.{AreBytes, HasSpelling, Number, SpellsShape, constant_of, number_bytes, run_bytes, shape_of, unsigned, written_rows}
 use Rattle.dwz_docs.proofs.WrittenLemmas.{fixed_less}
 use Rattle.dwz_forms.specs.Numbers.{FitsNumber, IsUnsigned}
 use Rattle.dwz_forms.specs.Sizes.{number_len, run_len}

@@ -11,5 +11,5 @@ mod tests;
 mod writing;
 
 pub use raw::Raw;
-pub use reading::value_in;
+pub use reading::read_value;
 pub use writing::{size_of_value, write_value};

@@ -1,8 +1,7 @@
 //! Values that are read.
 
-ghost use Rattle.std.specs.Prelude.{◌≡◌, ◌<◌, ◌≤◌, ◌==◌, length, position, take, IfOk, IfSome};
+ghost use Rattle.std.specs.Prelude.{◌≡◌, ◌<◌, length, take, IfOk, IfSome};
 ghost use Rattle.std.specs.Option.{option_map};
-ghost use Rattle.dwz_bytes.specs.Input.{input};
 ghost use Rattle.dwz_bytes.specs.Reading.{fixed_at};
 ghost use Rattle.dwz_bytes.specs.Spelling.{le_value};
 ghost use Rattle.dwz_codes.specs.Forms.{form_rows};
@@ -10,13 +9,14 @@ ghost use Rattle.dwz_docs.specs.Parts.{Gives, Leaves};
 ghost use Rattle.dwz_docs.specs.Texts.{text_in, zero_ended_at};
 ghost use Rattle.dwz_docs.specs.Values;
 ghost use Rattle.dwz_docs.specs.Values.{HasSpelling};
-ghost use Rattle.dwz_forms.specs.RawValues.{FindsIn, raw_view};
+ghost use Rattle.dwz_forms.specs.RawValues.{raw_view};
 
 use crate::raw::Raw;
 use crate::shapes::shape_of;
 use dwz_bytes::{ByteErr, Cursor};
 use dwz_codes::Shape;
 use dwz_model::{Fault, Pair, Reason};
+use memchr::memchr;
 
 // The form whose value stands in its declaration.
 const IMPLICIT_CONST: u64 = 0x21;
@@ -70,52 +70,35 @@ fn three<'a>(cursor: &mut Cursor<'a>) -> Result<u32, ByteErr>
     Ok(three_bytes(bytes))
 }
 
-// The index of the first zero byte.
-#[inline(always)]
-fn zero_at(bytes: &[u8]) -> Option<usize>
-    ensures { result ≡ position (λ byte. byte == 0) bytes.now }
-{
-    bytes.iter().position(|byte| *byte == 0)
-}
-
 // How many bytes stand before the first zero byte.
 #[inline(always)]
 fn text_len(bytes: &[u8]) -> Option<usize>
     ensures text { option_map (λ len. take len bytes.now) result ≡ text_in bytes.now }
     ensures within { IfSome result (λ len. len < length bytes.now) }
 {
-    zero_at(bytes)
+    memchr(0, bytes)
 }
 
-// The text at the cursor, which stands in these bytes. The cursor is left behind the zero byte.
+// The text at the cursor, which is left behind the zero byte.
 #[inline(always)]
-fn text<'a>(bytes: &'a [u8], cursor: &mut Cursor<'a>) -> Result<&'a [u8], ByteErr>
-    requires here { cursor.old ≡ input bytes.now cursor.old.at }
-    requires within { cursor.old.at ≤ length bytes.now }
+fn text<'a>(cursor: &mut Cursor<'a>) -> Result<&'a [u8], ByteErr>
     ensures { Gives (λ t. t.now) cursor.old cursor.new result (zero_ended_at cursor.old) }
 {
     let at = cursor.at();
-    let rest = &bytes[at..];
+    let rest = &cursor.bytes()[at..];
     match text_len(rest) {
         None => Err(ByteErr::Short { at }),
         Some(len) => {
-            *cursor = Cursor::new(bytes, at + len + 1);
+            cursor.take(len + 1)?;
             Ok(&rest[..len])
         }
     }
 }
 
-// The value at the cursor, which stands in these bytes, by its shape.
+// The value at the cursor by its shape.
 #[inline(always)]
 #[tactic(auto, unfolding(dwz_docs::specs::Values::shaped_at))]
-fn shaped<'a>(
-    bytes: &'a [u8],
-    cursor: &mut Cursor<'a>,
-    shape: Shape,
-    pair: &Pair,
-) -> Result<Raw<'a>, Fault>
-    requires here { cursor.old ≡ input bytes.now cursor.old.at }
-    requires within { cursor.old.at ≤ length bytes.now }
+fn shaped<'a>(cursor: &mut Cursor<'a>, shape: Shape, pair: &Pair) -> Result<Raw<'a>, Fault>
     ensures { Leaves raw_view cursor.new result (Values.shaped_at shape pair.now cursor.old) }
 {
     let place = cursor.at() as u64;
@@ -130,7 +113,7 @@ fn shaped<'a>(
         Shape::Fixed16 => Ok(Raw::Bytes(cursor.take(16).map_err(fault)?)),
         Shape::Uleb => Ok(Raw::Number(cursor.uleb().map_err(fault)? as i128)),
         Shape::Sleb => Ok(Raw::Number(cursor.sleb().map_err(fault)? as i128)),
-        Shape::ZeroEnded => Ok(Raw::Bytes(text(bytes, cursor).map_err(fault)?)),
+        Shape::ZeroEnded => Ok(Raw::Bytes(text(cursor).map_err(fault)?)),
         Shape::Block1 => {
             let count = cursor.u8().map_err(fault)?;
             Ok(Raw::Bytes(cursor.take(count as usize).map_err(fault)?))
@@ -155,16 +138,18 @@ fn shaped<'a>(
     }
 }
 
-/// The value of the pair's form at a place in `.debug_info`, whose bytes end where the unit does, and the place behind it.
-/// A form that isn't read, a value that the bytes end in, and a LEB128 number that is too wide are faults at the value's
-/// place.
+/// The value of the pair's form at the cursor, which stands in `.debug_info` and whose bytes end where the unit does.
+///
+/// A form that isn't read (`UnsupportedForm`), a value that the bytes end in (`Truncated`) and a LEB128 number that is too
+/// wide (`BadNumber`) are faults at the value's place, and leave the cursor there.
 #[inline(always)]
-pub fn value_in<'a>(bytes: &'a [u8], at: usize, pair: &Pair) -> Result<(Raw<'a>, usize), Fault>
-    requires { at ≤ length bytes.now }
-    ensures value { FindsIn raw_view bytes.now result (Values.value_at form_rows pair.now (input bytes.now at)) }
-    ensures writable { IfOk result (λ found. HasSpelling pair.now.form (raw_view found.0)) }
+pub fn read_value<'a>(cursor: &mut Cursor<'a>, pair: &Pair) -> Result<Raw<'a>, Fault>
+    ensures value { Gives raw_view cursor.old cursor.new result (Values.value_at form_rows pair.now cursor.old) }
+    ensures writable { IfOk result (λ raw. HasSpelling pair.now.form (raw_view raw)) }
 {
-    let mut cursor = Cursor::new(bytes, at);
-    let raw = shaped(bytes, &mut cursor, shape_of(pair.form), pair)?;
-    Ok((raw, cursor.at()))
+    let bytes = cursor.bytes();
+    let mut ahead = Cursor::new(bytes, cursor.at());
+    let raw = shaped(&mut ahead, shape_of(pair.form), pair)?;
+    *cursor = ahead;
+    Ok(raw)
 }

@@ -2,7 +2,8 @@
 
 ghost use Rattle.std.specs.Prelude.{◌≡◌};
 
-use crate::{Raw, size_of_value, value_in, write_value};
+use crate::{Raw, read_value, size_of_value, write_value};
+use dwz_bytes::Cursor;
 use dwz_model::{Fault, Pair, Reason};
 use std::alloc::Global;
 use std::process::Abort;
@@ -20,9 +21,10 @@ fn pair(form: u64) -> Pair
 
 // The bytes read as the value, and the value is written as the bytes.
 fn check(rt: &impl Abort, alloc: Global, form: u16, bytes: &[u8], raw: Raw) -> Result<(), Fail> {
-    let (found, next) = value_in(bytes, 0, &pair(form as u64)).map_err(|fault| fault.at)?;
+    let mut cursor = Cursor::new(bytes, 0);
+    let found = read_value(&mut cursor, &pair(form as u64)).map_err(|fault| fault.at)?;
     assert_eq!(rt; found, raw, "form {form}");
-    assert_eq!(rt; next, bytes.len(), "form {form}");
+    assert_eq!(rt; cursor.at(), bytes.len(), "form {form}");
     assert_eq!(rt;
         size_of_value(form, &found),
         bytes.len() as u64,
@@ -125,8 +127,9 @@ fn stands_behind_a_padded_number(rt: HostRuntime) {
     ];
     for (form, bytes) in table {
         assert!(rt; !bytes.is_empty());
-        let found = value_in(bytes, 1, &pair(form)).ok();
-        assert_eq!(rt; found.map(|value| value.1), Some(4), "form {form}");
+        let mut cursor = Cursor::new(bytes, 1);
+        assert!(rt; read_value(&mut cursor, &pair(form)).is_ok(), "form {form}");
+        assert_eq!(rt; cursor.at(), 4, "form {form}");
     }
 }
 
@@ -166,6 +169,9 @@ fn places_each_fault_at_the_value(rt: HostRuntime) {
             at: 1,
             reason,
         };
-        assert_eq!(rt; value_in(bytes, 1, &pair(form)), Err(fault), "form {form}");
+        let mut cursor = Cursor::new(bytes, 1);
+        let found = read_value(&mut cursor, &pair(form));
+        assert_eq!(rt; found, Err(fault), "form {form}");
+        assert_eq!(rt; cursor.at(), 1, "form {form}");
     }
 }

@@ -1,0 +1,185 @@
+//! Files that are read and written again.
+
+use crate::elf::plain;
+use dwz_model::{Fault, ReadErr, Reason};
+use dwz_run::one_file;
+use std::test::Fail;
+
+// The table of most files here: a root without attributes, and a base type with a name, a size and an encoding.
+pub(crate) const ABBREV: &str = "011101000002240003080b0b3e0b000000";
+
+// The tables of what is written: of a partial unit with base types, and of units that import.
+pub(crate) const NEW_ABBREV: &str = "013c01000002240003080b0b3e0b0000000111010000023d001810000000";
+
+// Two units that both hold `int`.
+pub(crate) const TWO: &str =
+    "1100000005000108000000000102696e74000405001100000005000108000000000102696e7400040500";
+
+pub(crate) const NEW_TWO: &str =
+    "1100000005000308000000000102696e74000405000f000000050001081100000001020c000000000f000000050001081100000001020c00000000";
+
+// Two units that hold X and Y, and one that holds X alone.
+const USERS: &str =
+    "43000000050001080000000001026c6f6e67206c6f6e6720756e7369676e656420696e7400080702657874656e6465642073686f727420756e7369676e656420696e740002070043000000050001080000000001026c6f6e67206c6f6e6720756e7369676e656420696e7400080702657874656e6465642073686f727420756e7369676e656420696e740002070024000000050001080000000001026c6f6e67206c6f6e6720756e7369676e656420696e7400080700";
+
+const NEW_USERS: &str =
+    "24000000050003080000000001026c6f6e67206c6f6e6720756e7369676e656420696e74000807002900000005000308000000000102657874656e6465642073686f727420756e7369676e656420696e740002070014000000050001081100000001020c00000002340000000014000000050001081100000001020c0000000234000000000f000000050001081100000001020c00000000";
+
+// Named units with structures that have members, one of which stands twice in a unit.
+const NESTED: &str =
+    "2d0000000500010800000000016f6e650002730008036100000362000400027400080002730008036100000362000400002000000005000108000000000174776f00027400080002730008036100000362000400001d0000000500010800000000017468726565000273000803610000036200040000";
+
+const NESTED_ABBREV: &str = "0111010308000002130103080b0b0000030d000308380b000000";
+
+const NEW_NESTED: &str =
+    "1700000005000308000000000102730008036100000362000400000e0000000500030818000000010274000800180000000500010827000000016f6e6500020c0000000227000000001800000005000108270000000174776f00020c00000002270000000015000000050001082700000001746872656500020c00000000";
+
+const NEW_NESTED_ABBREV: &str =
+    "013c01000002130103080b0b0000030d000308380b000000013c01000002130003080b0b00000001110103080000023d001810000000";
+
+#[test]
+fn repeated_tops_are_stored_once(rt: HostRuntime) -> Result<(), Fail> {
+    let table = [
+        (TWO, ABBREV, NEW_TWO, NEW_ABBREV),
+        (USERS, ABBREV, NEW_USERS, NEW_ABBREV),
+        (NESTED, NESTED_ABBREV, NEW_NESTED, NEW_NESTED_ABBREV),
+    ];
+    let alloc = rt.alloc();
+    for (info, abbrev, new_info, new_abbrev) in table {
+        let old = plain(
+            alloc,
+            &hex::decode(alloc, info)?,
+            &hex::decode(alloc, abbrev)?,
+        )?;
+        let new = plain(
+            alloc,
+            &hex::decode(alloc, new_info)?,
+            &hex::decode(alloc, new_abbrev)?,
+        )?;
+        let Ok(written) = one_file(alloc, &old) else {
+            assert!(rt; false, "refused: {info}");
+            return Ok(());
+        };
+        assert!(rt; written.as_slice() == new.as_slice(), "of {info}");
+    }
+    Ok(())
+}
+
+#[test]
+fn a_file_of_which_nothing_moves_stands_for_itself(rt: HostRuntime) -> Result<(), Fail> {
+    let table = [
+        ("", ""),
+        ("1100000005000108000000000102696e7400040500", ABBREV),
+    ];
+    let alloc = rt.alloc();
+    for (info, abbrev) in table {
+        let old = plain(
+            alloc,
+            &hex::decode(alloc, info)?,
+            &hex::decode(alloc, abbrev)?,
+        )?;
+        let written = one_file(alloc, &old);
+        assert!(rt;
+            written.is_ok_and(|written| written.as_slice() == old.as_slice()),
+            "of {info}"
+        );
+    }
+    Ok(())
+}
+
+#[test]
+fn faults_stand_at_their_places(rt: HostRuntime) -> Result<(), Fail> {
+    let truncated = |at| Fault {
+        section: 1,
+        at,
+        reason: Reason::Truncated,
+    };
+    let not_built = Fault {
+        section: 0,
+        at: 0,
+        reason: Reason::NotBuilt,
+    };
+    let table = [
+        // A second unit that is longer than what is left, and a first one.
+        (
+            "1100000005000108000000000102696e74000405001200000005000108000000000102696e7400040500",
+            ABBREV,
+            truncated(0x15),
+        ),
+        (
+            "2700000005000108000000000102696e74000405001100000005000108000000000102696e7400040500",
+            ABBREV,
+            truncated(0),
+        ),
+        // A unit that ends inside its tree, and one that ends inside a text.
+        (
+            "1000000005000108000000000102696e74000405",
+            ABBREV,
+            truncated(0x14),
+        ),
+        ("0c00000005000108000000000102696e", ABBREV, truncated(0xe)),
+        // Indirect, which isn't read; a number of 2 bytes, which isn't built.
+        (
+            TWO,
+            "011101000002240003080b163e0b000000",
+            Fault {
+                section: 1,
+                at: 0xd,
+                reason: Reason::UnsupportedForm { form: 0x16 },
+            },
+        ),
+        (TWO, "011101000002240003080b053e0b000000", not_built),
+        // A code that isn't declared, and version 4.
+        (
+            "1100000005000108000000000103696e7400040500",
+            ABBREV,
+            not_built,
+        ),
+        (
+            "1100000004000108000000000102696e7400040500",
+            ABBREV,
+            not_built,
+        ),
+    ];
+    let alloc = rt.alloc();
+    for (info, abbrev, fault) in table {
+        let file = plain(
+            alloc,
+            &hex::decode(alloc, info)?,
+            &hex::decode(alloc, abbrev)?,
+        )?;
+        let answer = one_file(alloc, &file);
+        assert!(rt;
+            answer.is_err_and(|error| error == ReadErr::Refused(fault)),
+            "of {info} {abbrev}"
+        );
+    }
+    Ok(())
+}
+
+#[test]
+fn what_is_no_elf_file_is_refused(rt: HostRuntime) -> Result<(), Fail> {
+    let alloc = rt.alloc();
+    let whole = plain(
+        alloc,
+        &hex::decode(alloc, TWO)?,
+        &hex::decode(alloc, ABBREV)?,
+    )?;
+    let big_endian = [0x7f, 0x45, 0x4c, 0x46, 2, 2, 1];
+    let table = [
+        (whole.get(..0), 0),
+        (Some(big_endian.as_slice()), 5),
+        (whole.get(..7), 7),
+        (whole.get(..63), 63),
+    ];
+    for (file, at) in table {
+        let refused = ReadErr::Refused(Fault {
+            section: 0,
+            at,
+            reason: Reason::NotElf,
+        });
+        let answer = one_file(alloc, file.unwrap_or(&[]));
+        assert!(rt; answer.is_err_and(|error| error == refused), "at {at}");
+    }
+    Ok(())
+}

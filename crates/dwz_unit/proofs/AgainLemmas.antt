@@ -1,30 +1,23 @@
 -- An entry is read again from its place.
-use Rattle.std.proofs.Common.{◌≡◌, ℕ, zero, suc, ◌+◌, ◌-◌, ◌^◌, ◌<◌, ◌≤◌, ◌⊎◌, inl, inr, Bool, true, false, cond, eqb, ltb, List, [], ◌∷◌, ◌++◌, length, map, get_or, take, drop, Option, Some, None, Result, Ok, Err, refl, sym, ap, subst, ◌∙◌, arith}
+use Rattle.std.proofs.Common.{◌≡◌, ℕ, zero, suc, ◌+◌, ◌-◌, ◌<◌, ◌≤◌, ◌⊎◌, inl, inr, eqb, ltb, List, [], ◌∷◌, ◌++◌, length, take, drop, Option, Some, None, Result, Ok, Err, refl, sym, ap, subst, ◌∙◌, arith}
 use Rattle.std.specs.List.{slice_get}
-use Rattle.std.specs.Option.{option_and_then}
-use Rattle.std.proofs.lemmas.List.{length-append, length-drop, length-map, length-take}
-use Rattle.std.proofs.lemmas.Option.{slice_get-get_or, slice_get_within}
+use Rattle.std.proofs.lemmas.List.{length-drop, length-take}
 use Rattle.dwz_model.specs.declared.fault.Fault.{Fault}
 use Rattle.dwz_model.specs.declared.fault.Reason.TheVariants.{BadRoot, TooDeep, TooMany}
 use Rattle.dwz_bytes.specs.declared.error.ByteErr.{ByteErr}
-use Rattle.dwz_bytes.specs.Input.{Input, input, past}
+use Rattle.dwz_bytes.specs.Input.{Input, input}
 use Rattle.dwz_bytes.specs.Reading.{◌>>=◌, uleb_at}
 use Rattle.dwz_docs.specs.Abbrevs.{Declaration, find_decl, table_at}
-use Rattle.dwz_docs.specs.Entries.{IsReadAgain, RawAttr, RawEntry, UnitContext, after_code, after_decl, after_zero, attrs_at, coded, declared_at, entry_of, front_at, given, is_wrong_root, root_position, unless_so}
+use Rattle.dwz_docs.specs.Entries.{IsReadAgain, RawEntry, UnitContext, after_code, after_decl, after_zero, attrs_at, coded, declared_at, entry_of, front_at, given, is_wrong_root, root_position, unless_so}
 use Rattle.dwz_docs.specs.Faults.{info_fault}
 use Rattle.dwz_docs.specs.Trees.{EachEntry, End, Entry, Forest, Position, behind, first_below}
-use Rattle.dwz_docs.specs.Units.{EachEntryOf, RawUnit, context_of, entry_count, unit_at, unit_size, units_at, with_unit}
+use Rattle.dwz_docs.specs.Units.{RawUnit, context_of, entry_count, unit_at, unit_size, units_at, with_unit}
 use Rattle.dwz_docs.proofs.HeaderLemmas.{header_passed}
 use Rattle.dwz_docs.proofs.PartLemmas.{bind_ok, chosen, same_input, same_value}
-use Rattle.dwz_docs.proofs.ReadLemmas.{uleb_reads}
 use Rattle.dwz_docs.proofs.UnitLemmas.{UnitParts, unit_parts}
 use Rattle.dwz_docs.proofs.UnitListLemmas.{units_none, units_some}
 use Rattle.dwz_docs.proofs.UnitReads.{entry_reads}
-use Rattle.dwz_unit.specs.declared.rows.RawEntry.{RawEntry as Row}
-use Rattle.dwz_unit.specs.declared.unit.Unit.{Unit as UnitOfCode}
-use Rattle.dwz_unit.specs.Kept.{AreKept, ShowAll, Shows, source_of}
-use Rattle.dwz_unit.specs.Rows.{EntryRow, Source, attr_of, entry_shown, rows_below, rows_from, rows_in, rows_of, units_of}
-use Rattle.dwz_unit.specs.Tables.{HasTable, Stored}
+use Rattle.dwz_unit.specs.Rows.{EntryRow, rows_below, rows_from, rows_in}
 use Rattle.dwz_unit.proofs.KeepLemmas.{behind_is, past_is}
 
 -- ---- the parts of a front
@@ -217,9 +210,9 @@ row_of_first section info room before at number u units j k row e le table is_ta
           let read = from_section info at size (context_of (input info at) (given room) table) h.position row.entry h.holds in
           (context_of (input info at) (given room) table, h.position, h.holds.behind, same, ap (λ (n : ℕ). front_at (context_of (input info at) (given room) table) h.position (input (take n info) row.entry.at)) ends.0 ∙ read);
     } where
-  table_or : List Declaration → Result (List Declaration) Fault → List Declaration
-  table_or d (Ok w) = w
-  table_or d (Err f) = d
+      table_or : List Declaration → Result (List Declaration) Fault → List Declaration
+      table_or d (Ok w) = w
+      table_or d (Err f) = d
 
 later : (info section : List ℕ) (room number : ℕ) (u : RawUnit) (units : List RawUnit) (row : EntryRow) → RowRead info section room (number + 1) units row → RowRead info section room number (u ∷ units) row
 later info section room number u units row r = record {
@@ -244,5 +237,5 @@ rows_read (u ∷ units) section info room before at number k row e le found =
     elim (slice_get-cases (rows_in u number before) (rows_from units (number + 1) (before + entry_count u)) k row found) [
       | inl h ↦ row_of_first section info room before at number u units f.behind k row f.first le parts.table table h
       | inr h ↦ later info section room number u units row
-        (rows_read units section info room (before + entry_count u) u.end (number + 1) h.0 row (ap (units_at section (given room) (before + entry_count u)) (sym ends.1) ∙ f.others) (unit_within section info room before at u f.behind f.first le) h.1)
+          (rows_read units section info room (before + entry_count u) u.end (number + 1) h.0 row (ap (units_at section (given room) (before + entry_count u)) (sym ends.1) ∙ f.others) (unit_within section info room before at u f.behind f.first le) h.1)
     ]

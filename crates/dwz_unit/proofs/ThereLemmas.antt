@@ -1,10 +1,10 @@
 -- The values of an entry, read again by what is kept.
-use Rattle.std.proofs.Common.{◌≡◌, ℕ, zero, suc, ◌+◌, ◌^◌, ◌<◌, ◌≤◌, List, [], ◌∷◌, length, map, get_or, take, drop, Option, Some, None, Result, Ok, Err, refl, sym, ap, subst, ◌∙◌, arith}
+use Rattle.std.proofs.Common.{◌≡◌, ℕ, zero, suc, ◌+◌, ◌^◌, ◌<◌, ◌≤◌, List, [], ◌∷◌, length, map, get_or, take, Option, Some, None, Result, Ok, Err, refl, sym, ap, subst, ◌∙◌, arith}
 use Rattle.std.specs.List.{slice_get}
 use Rattle.std.specs.Option.{option_and_then, option_map_or}
 use Rattle.std.specs.Result.{IfOk, IsOk}
-use Rattle.std.proofs.lemmas.List.{get_or-map, length-append, length-drop, length-map, length-take}
-use Rattle.std.proofs.lemmas.Option.{slice_get-get_or, slice_get_within}
+use Rattle.std.proofs.lemmas.List.{length-append, length-drop, length-map, length-take}
+use Rattle.std.proofs.lemmas.Option.{slice_get_within}
 use Rattle.dwz_model.specs.declared.fault.Fault.{Fault}
 use Rattle.dwz_model.specs.declared.place.Pair.{Pair}
 use Rattle.dwz_bytes.specs.declared.error.ByteErr.{ByteErr}
@@ -20,7 +20,7 @@ use Rattle.dwz_unit.specs.declared.unit.Unit.{Unit as UnitOfCode}
 use Rattle.dwz_unit.specs.Kept.{AreKept, ShowAll, Shows, source_of}
 use Rattle.dwz_unit.specs.Rows.{EntryRow, Source, attr_count, attr_of, entry_shown, rows_of, units_of}
 use Rattle.dwz_unit.specs.Tables.{HasTable, Stored}
-use Rattle.dwz_unit.proofs.AgainLemmas.{FrontParts, RowRead, front_parts, rows_read}
+use Rattle.dwz_unit.proofs.AgainLemmas.{FrontParts, front_parts, rows_read}
 use Rattle.dwz_unit.proofs.FrontLemmas.{attrs_count}
 use Rattle.dwz_unit.proofs.NumberLemmas.{table_there}
 use Rattle.dwz_unit.proofs.ShownLemmas.{kept-length}
@@ -103,7 +103,6 @@ entry_there info room s kept rows source are view i x lt is =
 -- ---- with the row of its unit
 
 module _ (info : List ℕ) (room : ℕ) (s : Stored) (kept : List UnitOfCode) (source : Source) (i : ℕ) (x : Row) (there : EntryThere info room s kept source i x) (k : UnitOfCode) (k_is : k ≡ get_or kept x.unit k) where
-
   pub end_is : k.shown.end ≡ there.unit.end
   end_is = ap (λ (w : UnitOfCode). w.shown.end) k_is ∙ ap (λ w. w.end) (there.shows k).1.shown
 

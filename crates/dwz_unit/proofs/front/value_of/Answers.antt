@@ -1,4 +1,4 @@
-use Rattle.std.proofs.Common.{◌≡◌, ◌<◌, ◌^◌, Some, length, ap, sym, ◌∙◌, arith}
+use Rattle.std.proofs.Common.{arith}
 use Rattle.dwz_unit.proofs.AttrLemmas.{attr_is, ends_there, never_fails, value_there}
 use Rattle.dwz_unit.proofs.front.value_of.Goals as goal
 

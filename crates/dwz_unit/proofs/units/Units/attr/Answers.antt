@@ -1,6 +1,6 @@
-use Rattle.std.proofs.Common.{◌≡◌, ◌<◌, ◌≤◌, Some, None, Ok, length, take, ap, sym, ◌∙◌, arith}
+use Rattle.std.proofs.Common.{ap, sym, ◌∙◌, arith}
 use Rattle.std.proofs.lemmas.List.{length-take}
-use Rattle.dwz_bytes.specs.Input.{Input, input}
+use Rattle.dwz_bytes.specs.Input.{Input}
 use Rattle.dwz_bytes.specs.Reading.{uleb_at}
 use Rattle.dwz_abbrev.specs.Views.{decl_view}
 use Rattle.dwz_unit.proofs.NumberLemmas.{number_within}

@@ -1,4 +1,4 @@
-use Rattle.std.proofs.Common.{◌≡◌, ◌<◌, Some, length, ap, sym, ◌∙◌, arith}
+use Rattle.std.proofs.Common.{Some, ap, sym, ◌∙◌, arith}
 use Rattle.dwz_unit.specs.declared.rows.RawEntry.{RawEntry}
 use Rattle.dwz_unit.proofs.ShownLemmas.{attrs_at, entries_are, entry_at}
 use Rattle.dwz_unit.proofs.units.Units.entry.Goals as goal

@@ -26,3 +26,4 @@ pub mod OldNames
 pub mod FileLemmas
 pub mod LawLemmas
 pub mod NodeLemmas
+mod PlanRows

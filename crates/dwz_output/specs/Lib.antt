@@ -9,4 +9,6 @@ pub mod Out
 pub mod Same
 pub mod ReadBack
 pub mod Standing
+pub mod After
+pub mod PlanLaws
 pub mod SameLaws

@@ -9,8 +9,8 @@ use Rattle.dwz_output.specs.IsPlan.{AreFilesOf, Nth}
 use Rattle.dwz_output.specs.Out.{alike_in, fitted, has_changes, one_file, place_of}
 use Rattle.dwz_output.specs.Placing.{units_keys}
 use Rattle.dwz_output.specs.Plan.{PartialUnit, image, import_of, kept_unit, moves, partial_root, partial_unit, partials}
-use Rattle.dwz_output.specs.Same.{Closed, EntriesSame, IsPartial, OneImage, UnitsSame, named_map, named_value, units_in}
-use Rattle.dwz_output.specs.Spots.{FileUnit, InType, Labelled, LabelledTop, RootOf, Spot, Top, UnitOf, spot_in, spots_from, tops_of}
+use Rattle.dwz_output.specs.Same.{Closed, EntriesSame, IsPartial, OneImage, Seen, UnitsSame, all_seen, named_map, named_value, see, seen_map, seen_roots, units_in}
+use Rattle.dwz_output.specs.Spots.{FileUnit, InType, Labelled, LabelledTop, RootOf, Spot, Top, UnitOf, Within, spot_in, spots_from, tops_of}
 use Rattle.dwz_output.specs.Standing.{NoneTwice}
 
 -- ---- before
@@ -79,10 +79,26 @@ pub data ComesFrom (alike : Test) (units : List (FileUnit Spot)) (e : Node Spot)
   NewImport : (unit part : ℕ) → e ≡ import_of unit part → ComesFrom alike units e
   NewRoot : (part : ℕ) → e ≡ partial_root part → ComesFrom alike units e
 
--- the two halves of sameness along a function of places
+-- the root at the image of a type unit's root is this root with each place replaced, its children in order
+abbrev pub TypesSame : {P Q : Type 0} → (P → Q) → List (DwUnit P) → List (DwUnit Q) → Type 0
+TypesSame {P} f before after =
+    (u : DwUnit P) (signature : ℕ) (main : P) → In u before → u.kind ≡ OfType signature main → In (seen_map f (see u.root u.below)) (seen_roots after)
+
+-- what sameness along a function of places says of entries, of units, and of the roots of type units
 pub record SameAlong {P Q : Type 0} (f : P → Q) (before : List (DwUnit P)) (after : List (DwUnit Q)) : Type 0 where
   pub entries : EntriesSame f before after
   pub units : UnitsSame f before after
+  pub types : TypesSame f before after
+
+-- the name is of no entry of a top
+abbrev pub InNoTop : Spot → Type 0
+InNoTop (Within t path) = ⊥
+InNoTop _ = Unit {0}
+
+-- an entry in no top shares its image with no other
+abbrev pub IsAlone : List (FileUnit Spot) → {Q : Type 0} → (Spot → Q) → Type 0
+IsAlone units f =
+    (d e : Seen Spot) → In d (all_seen (units_in units)) → In e (all_seen (units_in units)) → InNoTop d.at → f d.at ≡ f e.at → d.at ≡ e.at
 
 -- ---- with other places
 
@@ -130,6 +146,7 @@ pub record FileSame (doc : Doc ℕ) (alike : Test) : Type 0 where
   pub apart : NoneTwice (units_keys (fitted alike (one_file doc) (0 ∷ []) 0))
   pub closed : Closed (fitted alike (one_file doc) (0 ∷ []) 0)
   pub same : (g : Spot → ℕ) (placed : List (DwUnit ℕ)) → UnitsShown g (fitted alike (one_file doc) (0 ∷ []) 0) placed → OnePlace g (fitted alike (one_file doc) (0 ∷ []) 0) → SameAlong (place_after alike doc g) doc.units placed
+  pub alone : (g : Spot → ℕ) → OnePlace g (fitted alike (one_file doc) (0 ∷ []) 0) → IsAlone (one_file doc) (λ s. g (image alike (one_file doc) s))
   pub images : (g : Spot → ℕ) → OnePlace g (fitted alike (one_file doc) (0 ∷ []) 0) → OneImage Apart (one_file doc) (λ n. moves alike (one_file doc) n ≡ true) (λ s. g (image alike (one_file doc) s))
 
 -- where names stand in the one file that is written

@@ -2,7 +2,7 @@
 use Rattle.std.specs.Prelude.{◌≡◌, ℕ, true, List, [], ◌∷◌, map}
 use Rattle.dwz_docs.specs.Documents.{Doc, DwUnit, Node, OfType, unit_map}
 use Rattle.dwz_docs.specs.Meanings.{In}
-use Rattle.dwz_output.specs.After.{AllOfFile, AreAfter, AreOld, ArePlaced, ComesFrom, FileSame, IsEntryOf, OnePlace, Replaces, SameAlong, StandFor, UnitsShown, one_fitted, one_place_of}
+use Rattle.dwz_output.specs.After.{AllOfFile, AreAfter, AreOld, ArePlaced, ComesFrom, FileSame, IsAlone, IsEntryOf, OnePlace, Replaces, SameAlong, StandFor, UnitsShown, one_fitted, one_place_of}
 use Rattle.dwz_output.specs.Alike.{Apart, Each, IsAlike, Scope}
 use Rattle.dwz_output.specs.Deciding.{Test}
 use Rattle.dwz_output.specs.IsPlan.{AreFilesOf, Nth, Rising}
@@ -64,6 +64,10 @@ abbrev pub ImagesLaw : Type 0
 ImagesLaw =
     (scope : Scope) (units : List (FileUnit Spot)) (alike : Test) → IsAlike scope units alike
     → OneImage scope units (λ n. moves alike units n ≡ true) (image alike units)
+
+-- and an entry in no top shares its image with no other
+abbrev pub AloneLaw : Type 0
+AloneLaw = (units : List (FileUnit Spot)) (alike : Test) → IsAlone units (image alike units)
 
 -- ---- with places for names
 

@@ -1,6 +1,6 @@
 //! What stands after says the same as what stood before.
 
-ghost use Rattle.dwz_output.specs.SameLaws.{AfterLaw, ApartLaw, ClosedLaw, EntriesLaw, FileLaw, FilesLaw, ImagesLaw, NamesLaw, OneLaw, PlacedLaw, ReadLaw, SameLaw, ShownLaw, TypesLaw, UnmovedLaw};
+ghost use Rattle.dwz_output.specs.SameLaws.{AfterLaw, AloneLaw, ApartLaw, ClosedLaw, EntriesLaw, FileLaw, FilesLaw, ImagesLaw, NamesLaw, OneLaw, PlacedLaw, ReadLaw, SameLaw, ShownLaw, TypesLaw, UnmovedLaw};
 
 /// Laws on units with names, before and after, for any test that finds tops alike exactly where they are.
 ///
@@ -9,7 +9,8 @@ ghost use Rattle.dwz_output.specs.SameLaws.{AfterLaw, ApartLaw, ClosedLaw, Entri
 /// places replaced by their images, or an import, or the root of a partial unit; and type units are kept as they are.
 ///
 /// Along images each entry that is no root is after what it was before, and each unit has, its imports expanded, the images of
-/// its children; each reference names an entry; and two entries have one image exactly where nothing tells them apart.
+/// its children; each reference names an entry; and two entries have one image exactly where nothing tells them apart. An entry
+/// in no top shares its image with no other.
 ///
 /// All of that holds also of places that are put for names, one for each name. `file` says it of one file by itself, and `read`
 /// and `one` say it of the places where its units are written; where nothing moves, units are the same as they are.
@@ -23,6 +24,7 @@ pub fn same_laws()
     ensures same { SameLaw }
     ensures closed { ClosedLaw }
     ensures images { ImagesLaw }
+    ensures alone { AloneLaw }
     ensures shown { ShownLaw }
     ensures placed { PlacedLaw }
     ensures file { FileLaw }

@@ -62,14 +62,16 @@ pub record Replaces (scope : Scope) (units : List (FileUnit Spot)) (alike : Test
   pub files_are : AreFilesOf units files
   pub after : AreAfter alike units (partials alike units files) outs
 
+-- all units are of that file
 abbrev pub AllOfFile : ℕ → List (FileUnit Spot) → Type 0
 AllOfFile file units = (i : ℕ) (u : FileUnit Spot) → Nth 0 units i u → u.file ≡ file
 
--- an entry of a unit: its root, or one below it
+-- one of these entries, or one below them
 abbrev pub IsBelow : {P : Type 0} → Node P → Entries P → Type 0
 IsBelow e End = ⊥
 IsBelow e (Entry d children next) = (d ≡ e) ⊎ (IsBelow e children ⊎ IsBelow e next)
 
+-- an entry of a unit: its root, or one below it
 abbrev pub IsEntryOf : {P : Type 0} → Node P → DwUnit P → Type 0
 IsEntryOf e u = (u.root ≡ e) ⊎ IsBelow e u.below
 
@@ -108,11 +110,13 @@ pub record IsShown {P Q : Type 0} (g : P → Q) (e : Node P) (d : Node Q) : Type
   pub tag : d.tag ≡ e.tag
   pub attrs : map named_value d.attrs ≡ map (named_map g) (map named_value e.attrs)
 
+-- and so with all entries of a list, in order
 abbrev pub AreShown : {P Q : Type 0} → (P → Q) → Entries P → Entries Q → Type 0
 AreShown g End End = Unit {0}
 AreShown g (Entry e f k) (Entry d f' k') = IsShown g e d × AreShown g f f' × AreShown g k k'
 AreShown g _ _ = ⊥
 
+-- and with a unit, its kind, its root and all below
 pub record IsShownUnit {P Q : Type 0} (g : P → Q) (u : DwUnit P) (v : DwUnit Q) : Type 0 where
   pub kind : v.kind ≡ kind_map g u.kind
   pub root : IsShown g u.root v.root
@@ -153,6 +157,7 @@ pub record FileSame (doc : Doc ℕ) (alike : Test) : Type 0 where
 abbrev pub one_place_of : Doc ℕ → Spot → ℕ
 one_place_of doc = place_of (alike_in doc) (one_file doc) (0 ∷ []) 0
 
+-- the units of that file after, with the forms of their references
 abbrev pub one_fitted : Doc ℕ → List (DwUnit Spot)
 one_fitted doc = fitted (alike_in doc) (one_file doc) (0 ∷ []) 0
 

@@ -20,6 +20,7 @@ use Rattle.dwz_output.specs.Standing.{NoneTwice}
 abbrev pub NamesLaw : Type 0
 NamesLaw = (docs : List (Doc ℕ)) → Each (λ doc. ArePlaced doc.units) docs → AreOld (units_of docs)
 
+-- and are of the files that are counted
 abbrev pub FilesLaw : Type 0
 FilesLaw = (docs : List (Doc ℕ)) → AreFilesOf (units_of docs) (file_numbers 0 docs)
 
@@ -71,6 +72,7 @@ AloneLaw = (units : List (FileUnit Spot)) (alike : Test) → IsAlone units (imag
 
 -- ---- with places for names
 
+-- units with places put for names are shown so
 abbrev pub ShownLaw : Type 0
 ShownLaw = (g : Spot → ℕ) (units : List (DwUnit Spot)) → UnitsShown g units (map (unit_map g) units)
 
@@ -82,6 +84,7 @@ PlacedLaw =
 
 -- ---- one file by itself
 
+-- what is said of one file by itself holds, where its places differ and the test of alike tops is right
 abbrev pub FileLaw : Type 0
 FileLaw = (doc : Doc ℕ) (alike : Test) → ArePlaced doc.units → IsAlike Apart (one_file doc) alike → FileSame doc alike
 

@@ -26,4 +26,5 @@ pub mod OldNames
 pub mod FileLemmas
 pub mod LawLemmas
 pub mod NodeLemmas
+pub mod ReadPlaces
 mod PlanRows

@@ -1,7 +1,9 @@
 -- Laws on units with names, before and after.
-use Rattle.std.specs.Prelude.{◌≡◌, ℕ, true, List, [], ◌∷◌, map}
+use Rattle.std.specs.Prelude.{◌≡◌, ℕ, false, true, List, [], ◌∷◌, map}
 use Rattle.dwz_docs.specs.Documents.{Doc, DwUnit, Node, OfType, unit_map}
-use Rattle.dwz_docs.specs.Meanings.{In}
+use Rattle.dwz_docs.specs.Entries.{Mode}
+use Rattle.dwz_docs.specs.Meanings.{In, MeanUnits, Sources, all_places}
+use Rattle.dwz_docs.specs.Units.{RawUnit, SpellsUnits}
 use Rattle.dwz_output.specs.After.{AllOfFile, AreAfter, AreOld, ArePlaced, ComesFrom, FileSame, IsAlone, IsEntryOf, OnePlace, Replaces, SameAlong, StandFor, UnitsShown, one_fitted, one_place_of}
 use Rattle.dwz_output.specs.Alike.{Apart, Each, IsAlike, Scope}
 use Rattle.dwz_output.specs.Deciding.{Test}
@@ -14,7 +16,13 @@ use Rattle.dwz_output.specs.Same.{Closed, IsPartial, OneImage, units_in}
 use Rattle.dwz_output.specs.Spots.{FileUnit, Spot}
 use Rattle.dwz_output.specs.Standing.{NoneTwice}
 
--- ---- names
+-- ---- places and names
+
+-- of units that are read without partial units the places differ, and each reference names an entry
+abbrev pub PlacesLaw : Type 0
+PlacesLaw =
+    (abbrevs info : List ℕ) (mode : Mode) (raw : List RawUnit) (sources : Sources) (units : List (DwUnit ℕ)) → SpellsUnits abbrevs mode 0 raw 0 info
+    → MeanUnits sources (all_places raw) raw units → mode.partial ≡ false → ArePlaced units
 
 -- units whose places differ are at their names
 abbrev pub NamesLaw : Type 0

@@ -1,10 +1,10 @@
 //! What stands after says the same as what stood before.
 
-ghost use Rattle.dwz_output.specs.SameLaws.{AfterLaw, AloneLaw, ApartLaw, ClosedLaw, EntriesLaw, FileLaw, FilesLaw, ImagesLaw, NamesLaw, OneLaw, PlacedLaw, ReadLaw, SameLaw, ShownLaw, TypesLaw, UnmovedLaw};
+ghost use Rattle.dwz_output.specs.SameLaws.{AfterLaw, AloneLaw, ApartLaw, ClosedLaw, EntriesLaw, FileLaw, FilesLaw, ImagesLaw, NamesLaw, OneLaw, PlacedLaw, PlacesLaw, ReadLaw, SameLaw, ShownLaw, TypesLaw, UnmovedLaw};
 
 /// Laws on units with names, before and after, for any test that finds tops alike exactly where they are.
 ///
-/// Units whose places differ are at their names. Where all units are of one file and each file is a scope, the units of that
+/// The places of units that are read differ, and units whose places differ are at their names. Where all units are of one file and each file is a scope, the units of that
 /// file are all that stand after. No name stands twice among the units of a file. Each entry there is an old one with its
 /// places replaced by their images, or an import, or the root of a partial unit; and type units are kept as they are.
 ///
@@ -15,6 +15,7 @@ ghost use Rattle.dwz_output.specs.SameLaws.{AfterLaw, AloneLaw, ApartLaw, Closed
 /// All of that holds also of places that are put for names, one for each name. `file` says it of one file by itself, and `read`
 /// and `one` say it of the places where its units are written; where nothing moves, units are the same as they are.
 pub fn same_laws()
+    ensures places { PlacesLaw }
     ensures names { NamesLaw }
     ensures files { FilesLaw }
     ensures after { AfterLaw }

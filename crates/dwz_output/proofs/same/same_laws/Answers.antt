@@ -4,7 +4,11 @@ use Rattle.dwz_output.proofs.NamedLemmas.{map_shown}
 use Rattle.dwz_output.proofs.NodeLemmas.{comes_from, type_kept}
 use Rattle.dwz_output.proofs.OldNames.{files_old}
 use Rattle.dwz_output.proofs.OneImageLemmas.{alone_names, one_image}
+use Rattle.dwz_output.proofs.ReadPlaces.{read_placed}
 use Rattle.dwz_output.proofs.same.same_laws.Goals as goal
+
+pub returns-clause-places : goal.returns-clause-places
+returns-clause-places c = read_placed
 
 pub returns-clause-names : goal.returns-clause-names
 returns-clause-names c = files_old

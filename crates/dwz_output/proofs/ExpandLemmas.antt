@@ -7,8 +7,8 @@ use Rattle.dwz_output.specs.Alike.{IsAlike, Scope}
 use Rattle.dwz_output.specs.Deciding.{Test}
 use Rattle.dwz_output.specs.IsPlan.{IsPart, Nth, row}
 use Rattle.dwz_output.specs.Plan.{PartialUnit, chain, image, image_by, import_of, imports, is_home, kept, kept_unit, moves, partial_unit, partials, stand_in, users}
-use Rattle.dwz_output.specs.Same.{Expands, IsChild, IsImport, Named, Seen, UnitSame, UnitsSame, heads, named_value, see, seen, units_in}
-use Rattle.dwz_output.specs.SameLaws.{AreAfter, AreOld, IsNamedBelow}
+use Rattle.dwz_output.specs.Same.{Expands, IsChild, IsImport, Named, Seen, UnitSame, UnitsSame, heads, named_value, see, seen, seen_map, seen_roots, units_in}
+use Rattle.dwz_output.specs.After.{TypesSame, AreAfter, AreOld, IsNamedBelow}
 use Rattle.dwz_output.specs.Spots.{FileUnit, LabelledTop, PartialRoot, Spot, Top, Within, tops_in, tops_of}
 use Rattle.dwz_output.proofs.AlikePer.{alike_per}
 use Rattle.dwz_output.proofs.EntryLemmas.{kept_compile, kept_type}
@@ -16,7 +16,7 @@ use Rattle.dwz_output.proofs.KeptLemmas.{are_imports, in_kept, kept_is}
 use Rattle.dwz_output.proofs.Members.{each_in, in_map, in_map_from, in_nth, in_right, nth_in, nth_one}
 use Rattle.dwz_output.proofs.OldLemmas.{OldAttrs, no_import, partial_is_new}
 use Rattle.dwz_output.proofs.PlanLemmas.{are_parts, has_rep}
-use Rattle.dwz_output.proofs.SeenLemmas.{entry_seen, in_units, names_map, unit_at}
+use Rattle.dwz_output.proofs.SeenLemmas.{entry_seen, in_units, names_map, root_in, see_map, unit_at}
 use Rattle.dwz_output.proofs.Tops.{top_of, tops_are}
 use Rattle.dwz_output.proofs.UserLemmas.{moves_self, rep_is, stands_same, used, used_by}
 
@@ -288,3 +288,16 @@ module _ (scope : Scope) (units : List (FileUnit Spot)) (alike : Test) (is : IsA
   units_same = λ u there.
       let n = unit_at 0 units u there in
       (kept_unit alike units parts n.number n.unit.unit, subst (λ (w : DwUnit Spot). UnitSame f outs w (kept_unit alike units parts n.number n.unit.unit)) n.is (kept_same n.number n.unit n.nth))
+
+  -- the root of a type unit
+  type_root : (i : ℕ) (u : FileUnit Spot) → Nth 0 units i u → (signature : ℕ) (main : Spot) → u.unit.kind ≡ OfType signature main → In (seen_map f (see u.unit.root u.unit.below)) (seen_roots outs)
+  type_root i u nth signature main kind =
+      let v = kept_unit alike units parts i u.unit in
+      let below = kept_type alike units parts i u.unit signature main kind in
+      let is : see v.root v.below ≡ seen_map f (see u.unit.root u.unit.below) = ap (λ (w : Entries Spot). see v.root w) below ∙ see_map f u.unit.root u.unit.below in
+      subst (λ (w : Seen Spot). In w (seen_roots outs)) is (root_in outs v (after.kept i u nth))
+
+  pub types_same : TypesSame (image alike units) (units_in units) outs
+  types_same = λ u signature main there kind.
+      let n = unit_at 0 units u there in
+      subst (λ (w : DwUnit Spot). In (seen_map f (see w.root w.below)) (seen_roots outs)) n.is (type_root n.number n.unit n.nth signature main (ap (λ (w : DwUnit Spot). w.kind) n.is ∙ kind))

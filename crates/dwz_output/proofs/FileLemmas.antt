@@ -10,20 +10,21 @@ use Rattle.dwz_output.specs.Out.{alike_in, file_numbers, fitted, has_changes, im
 use Rattle.dwz_output.specs.Placing.{fit_unit, units_keys}
 use Rattle.dwz_output.specs.Plan.{image, moves, out_units, partials}
 use Rattle.dwz_output.specs.ReadBack.{HasOneImage}
-use Rattle.dwz_output.specs.Same.{Closed, Expands, IsPartial, Named, OneImage, Seen, all_seen, heads, named_map, named_value, seen_below, seen_map, units_in}
-use Rattle.dwz_output.specs.SameLaws.{AllOfFile, AreAfter, ArePlaced, FileSame, OnePlace, Replaces, SameAlong, StandFor, UnitsShown, one_fitted, one_place_of, place_after}
+use Rattle.dwz_output.specs.Same.{Closed, Expands, IsPartial, Named, OneImage, Seen, all_seen, heads, named_map, named_value, see, seen_below, seen_map, seen_roots, units_in}
+use Rattle.dwz_output.specs.After.{AllOfFile, AreAfter, ArePlaced, FileSame, IsAlone, OnePlace, Replaces, SameAlong, StandFor, UnitsShown, one_fitted, one_place_of, place_after}
 use Rattle.dwz_output.specs.Spots.{FileUnit, Spot, in_file, named, named_files, same_spot, spot_in, spots_from, tops_among}
 use Rattle.dwz_output.specs.Standing.{NoneTwice}
 use Rattle.dwz_output.proofs.ApartUnits.{out_apart}
 use Rattle.dwz_output.proofs.ClosedLemmas.{image_there, out_closed}
 use Rattle.dwz_output.proofs.EntryLemmas.{entries_same}
-use Rattle.dwz_output.proofs.ExpandLemmas.{child_head, head_child, units_same}
+use Rattle.dwz_output.proofs.ExpandLemmas.{child_head, head_child, types_same, units_same}
 use Rattle.dwz_output.proofs.Members.{each_of, in_cases, in_map_from, nth_in}
-use Rattle.dwz_output.proofs.NamedLemmas.{entries_named, fitted_keys, fitted_shown, map_shown, one_placed, shown_then, units_named}
+use Rattle.dwz_output.proofs.NamedLemmas.{entries_named, fitted_keys, fitted_shown, map_shown, one_placed, shown_then, types_named, units_named}
 use Rattle.dwz_output.proofs.OldNames.{files_old, filed_units, units_append}
-use Rattle.dwz_output.proofs.OneImageLemmas.{one_image}
+use Rattle.dwz_output.proofs.OneImageLemmas.{alone_names, one_image}
 use Rattle.dwz_output.proofs.OutLemmas.{one_file_outs}
-use Rattle.dwz_output.proofs.PlaceLemmas.{closed_shown, entries_placed, entry_key, units_placed}
+use Rattle.dwz_output.proofs.PlaceLemmas.{closed_shown, entries_placed, entry_key, types_placed, units_placed}
+use Rattle.dwz_output.proofs.SeenLemmas.{root_in}
 
 -- ---- what replaces the units before
 
@@ -32,6 +33,7 @@ module _ (scope : Scope) (units : List (FileUnit Spot)) (alike : Test) (files : 
   same_names = record {
     entries = entries_same scope units alike r.alike_is r.old files r.files_are outs r.after;
     units = units_same scope units alike r.alike_is r.old files r.files_are outs r.after;
+    types = types_same scope units alike r.alike_is r.old files r.files_are outs r.after;
   }
 
   pub closed_names : Closed outs
@@ -49,11 +51,15 @@ module _ (scope : Scope) (units : List (FileUnit Spot)) (alike : Test) (files : 
   pub one_places : (g : Spot → ℕ) → OnePlace g outs → OneImage scope units (λ n. moves alike units n ≡ true) (λ s. g (image alike units s))
   one_places g one = one_placed scope units (λ n. moves alike units n ≡ true) (image alike units) g (λ d e x y same. one (image alike units d.at) (image alike units e.at) (image_key d x) (image_key e y) same) one_names
 
+  pub alone_places : (g : Spot → ℕ) → OnePlace g outs → IsAlone units (λ s. g (image alike units s))
+  alone_places g one = λ d e x y h same. alone_names units alike d e x y h (one (image alike units d.at) (image alike units e.at) (image_key d x) (image_key e y) same)
+
   module _ (g : Spot → ℕ) (placed : List (DwUnit ℕ)) (shown : UnitsShown g outs placed) (one : OnePlace g outs) where
     pub same_places : SameAlong (λ s. g (image alike units s)) (units_in units) placed
     same_places = record {
       entries = entries_placed g (image alike units) (units_in units) outs placed shown same_names.entries;
       units = units_placed g (image alike units) (units_in units) outs placed shown closed_names one same_names.units;
+      types = types_placed g (image alike units) (units_in units) outs placed shown same_names.types;
     }
 
     pub closed_places : Closed placed
@@ -92,7 +98,7 @@ pub all_of_one : (doc : Doc ℕ) → AllOfFile 0 (one_file doc)
 unfolding file_numbers
 all_of_one doc = λ i u h. elim (files_are (doc ∷ []) i u h) [ inl e ↦ sym e | inr r ↦ absurd r ]
 
-one_units : (doc : Doc ℕ) → units_in (one_file doc) ≡ map (unit_map (spot_in (spots_from 0 0 doc.units))) doc.units
+pub one_units : (doc : Doc ℕ) → units_in (one_file doc) ≡ map (unit_map (spot_in (spots_from 0 0 doc.units))) doc.units
 unfolding named_files
 one_units doc =
     let names = named 0 0 doc.units in
@@ -145,13 +151,20 @@ module _ (doc : Doc ℕ) (alike : Test) (apart : ArePlaced doc.units) (is : IsAl
         record {
           entries = entries_named name where_after doc.units (map (unit_map name) doc.units) placed (map_shown name doc.units) names.entries;
           units = units_named name where_after doc.units (map (unit_map name) doc.units) placed (map_shown name doc.units) names.units;
+          types = types_named name where_after doc.units (map (unit_map name) doc.units) placed (map_shown name doc.units) names.types;
         }
 
   file_images : (g : Spot → ℕ) → OnePlace g (fitted alike (one_file doc) (0 ∷ []) 0) → OneImage Apart (one_file doc) (λ n. moves alike (one_file doc) n ≡ true) (λ s. g (image alike (one_file doc) s))
   file_images g one = one_places Apart (one_file doc) alike (0 ∷ []) outs file_replaces g (outs_one g one)
 
   pub file_is_same : FileSame doc alike
-  file_is_same = record { apart = file_apart; closed = file_closed; same = file_same; images = file_images }
+  file_is_same = record {
+    apart = file_apart;
+    closed = file_closed;
+    same = file_same;
+    alone = λ g one. alone_places Apart (one_file doc) alike (0 ∷ []) outs file_replaces g (outs_one g one);
+    images = file_images;
+  }
 
 -- ---- nothing moves
 
@@ -195,6 +208,7 @@ same_own units none = record {
       children = own_children units none u is;
     },
   );
+  types = λ u signature main is kind. subst (λ (w : Seen ℕ). In w (seen_roots units)) (sym (seen_own (see u.root u.below))) (root_in units u is);
 }
 
 -- ---- the file that stands for another

@@ -66,3 +66,5 @@ pub mod ElfNoFault
 pub mod ElfRebuiltLemmas
 pub mod ElfGiven
 mod ElfRebuiltRows
+pub mod ReadPlaces
+mod PlanRows

@@ -5,11 +5,11 @@ use Rattle.dwz_docs.specs.Meanings.{In}
 use Rattle.dwz_docs.specs.Trees.{End, Entry}
 use Rattle.dwz_output.specs.Alike.{Scope}
 use Rattle.dwz_output.specs.Placing.{fit, fit_attr, fit_unit, keys, unit_keys, units_keys}
-use Rattle.dwz_output.specs.Same.{EntriesSame, IsEntry, Named, OneImage, Seen, UnitsSame, all_seen, heads, named_map, named_value, seen_below, seen_map, units_in}
-use Rattle.dwz_output.specs.SameLaws.{AreShown, IsShown, UnitsShown}
+use Rattle.dwz_output.specs.Same.{EntriesSame, IsEntry, Named, OneImage, Seen, UnitsSame, all_seen, heads, named_map, named_value, see, seen_below, seen_map, seen_roots, units_in}
+use Rattle.dwz_output.specs.After.{AreShown, IsShown, TypesSame, UnitsShown}
 use Rattle.dwz_output.specs.Spots.{FileUnit, Spot, Top, Within}
 use Rattle.dwz_output.proofs.Members.{in_map}
-use Rattle.dwz_output.proofs.PlaceLemmas.{below_shown, heads_shown, kind_then, map_then, names_then, seen_then, shown_in}
+use Rattle.dwz_output.proofs.PlaceLemmas.{below_shown, heads_shown, kind_then, map_then, names_then, see_shown, seen_then, shown_in}
 use Rattle.dwz_output.proofs.SeenLemmas.{names_map}
 
 -- ---- the same with other places is shown
@@ -119,6 +119,13 @@ units_named {A} {K} {P} name f before named after shown h = λ u is.
         children = λ q. ((λ x. subst (In q) kids ((s.children q).0 x)), (λ x. (s.children q).1 (subst (In q) (sym kids) x)));
       },
     )
+
+pub types_named : {A K P : Type 0} (name : A → K) (f : K → P) (before : List (DwUnit A)) (named : List (DwUnit K)) (after : List (DwUnit P)) → UnitsShown name before named → TypesSame f named after → TypesSame (λ x. f (name x)) before after
+types_named {A} {K} {P} name f before named after shown h = λ u signature main is kind.
+    let v = shown_in name before named shown u is in
+    let there = h v.unit signature (name main) v.there (v.shown.kind ∙ ap (kind_map name) kind) in
+    let same = see_shown name u.root v.unit.root u.below v.unit.below v.shown.root v.shown.below in
+    subst (λ (w : Seen P). In w (seen_roots after)) (ap (seen_map f) same ∙ seen_then name f (see u.root u.below)) there
 
 -- ---- one image
 

@@ -1,6 +1,7 @@
 -- Which entries have one image.
 use Rattle.std.proofs.Common.{◌≡◌, ℕ, ◌⊎◌, Bool, true, false, List, refl, sym, ap, ◌∙◌, inl, inr}
 use Rattle.dwz_docs.specs.Meanings.{In}
+use Rattle.dwz_output.specs.After.{InNoTop, IsAlone}
 use Rattle.dwz_output.specs.Alike.{IsAlike, Scope}
 use Rattle.dwz_output.specs.Deciding.{Test}
 use Rattle.dwz_output.specs.Plan.{image, image_by, moves, stand_in}
@@ -68,3 +69,13 @@ one_image scope units alike is =
         ])),
       );
     }
+
+-- ---- entries in no top
+
+alone_image : (stand : ℕ → ℕ) (s t : Spot) → InNoTop s → image_by stand s ≡ image_by stand t → s ≡ t
+alone_image stand (Within m p) t h e = absurd h
+alone_image stand s (Within n q) h e = absurd cc
+alone_image stand s t h e = e
+
+pub alone_names : (units : List (FileUnit Spot)) (alike : Test) → IsAlone units (image alike units)
+alone_names units alike = λ d e x y h same. alone_image (stand_in alike units) d.at e.at h same

@@ -6,7 +6,7 @@ use Rattle.dwz_docs.specs.Meanings.{In}
 use Rattle.dwz_docs.specs.Trees.{End, Entry}
 use Rattle.dwz_output.specs.Placing.{keys, unit_keys, units_keys}
 use Rattle.dwz_output.specs.Same.{Closed, EntriesSame, Expands, IsChild, IsImport, IsPartial, Named, Seen, UnitsSame, all_seen, heads, named_map, named_value, see, seen, seen_below, seen_map, seen_roots}
-use Rattle.dwz_output.specs.SameLaws.{AreShown, IsShown, IsShownUnit, OnePlace, UnitsShown}
+use Rattle.dwz_output.specs.After.{AreShown, IsShown, IsShownUnit, OnePlace, TypesSame, UnitsShown}
 use Rattle.dwz_output.proofs.ClosedLemmas.{attr_from}
 use Rattle.dwz_output.proofs.Members.{in_cases, in_left, in_map, in_map_from, in_right}
 use Rattle.dwz_output.proofs.SeenLemmas.{entry_seen, root_from, seen_from}
@@ -23,7 +23,7 @@ module _ {P Q : Type 0} (g : P → Q) where
   heads_shown (Entry e f k) (Entry d f' k') h = ap (λ (w : Q). w ∷ heads k') h.0.at ∙ ap (λ (w : List Q). g e.at ∷ w) (heads_shown k k' h.2)
   heads_shown _ _ h = absurd h
 
-  see_shown : (e : Node P) (d : Node Q) (f : Entries P) (f' : Entries Q) → IsShown g e d → AreShown g f f' → see d f' ≡ seen_map g (see e f)
+  pub see_shown : (e : Node P) (d : Node Q) (f : Entries P) (f' : Entries Q) → IsShown g e d → AreShown g f f' → see d f' ≡ seen_map g (see e f)
   see_shown e d f f' h k = entry_by _ _ _ _ _ _ _ _ h.at h.tag h.attrs (heads_shown f f' k)
 
   seen_shown : (f : Entries P) (f' : Entries Q) → AreShown g f f' → seen f' ≡ map (seen_map g) (seen f)
@@ -42,7 +42,7 @@ module _ {P Q : Type 0} (g : P → Q) where
   below_shown (u ∷ units) (v ∷ others) h = rw (map-append (seen_map g) (seen u.below) (seen_below units), seen_shown u.below v.below h.0.below, below_shown units others h.1) refl
   below_shown _ _ h = absurd h
 
-  roots_shown : (units : List (DwUnit P)) (others : List (DwUnit Q)) → UnitsShown g units others → seen_roots others ≡ map (seen_map g) (seen_roots units)
+  pub roots_shown : (units : List (DwUnit P)) (others : List (DwUnit Q)) → UnitsShown g units others → seen_roots others ≡ map (seen_map g) (seen_roots units)
   unfolding seen_roots
   roots_shown [] [] h = refl
   roots_shown (u ∷ units) (v ∷ others) h = rw (see_shown u.root v.root u.below v.below h.0.root h.0.below, roots_shown units others h.1) refl
@@ -156,6 +156,13 @@ pub entries_placed : {A K P : Type 0} (g : K → P) (f : A → K) (before : List
 entries_placed {A} {K} {P} g f before after placed shown h = λ e is.
     subst (In (seen_map (λ x. g (f x)) e)) (sym (below_shown g after placed shown))
     (subst (λ (w : Seen P). In w (map (seen_map g) (seen_below after))) (seen_then f g e) (in_map (seen_map g) (seen_map f e) (seen_below after) (h e is)))
+
+-- and so are the roots of type units
+pub types_placed : {A K P : Type 0} (g : K → P) (f : A → K) (before : List (DwUnit A)) (after : List (DwUnit K)) (placed : List (DwUnit P)) → UnitsShown g after placed → TypesSame f before after → TypesSame (λ x. g (f x)) before placed
+types_placed {A} {K} {P} g f before after placed shown h = λ u signature main is kind.
+    let e = see u.root u.below in
+    subst (In (seen_map (λ x. g (f x)) e)) (sym (roots_shown g after placed shown))
+    (subst (λ (w : Seen P). In w (map (seen_map g) (seen_roots after))) (seen_then f g e) (in_map (seen_map g) (seen_map f e) (seen_roots after) (h u signature main is kind)))
 
 -- ---- imports, where one place is of one name
 

@@ -24,6 +24,7 @@ abbrev pub Nth : {X : Type 0} → ℕ → List X → ℕ → X → Type 0
 Nth s [] n x = ⊥
 Nth s (y ∷ ys) n x = ((s ≡ n) × (y ≡ x)) ⊎ Nth (suc s) ys n x
 
+-- the numbers of tops
 abbrev pub numbers : List Top → List ℕ
 numbers tops = map (λ t. t.number) tops
 
@@ -83,6 +84,7 @@ pub record HasRep (alike : Test) (units : List (FileUnit Spot)) (parts : List Pa
   pub holds : In top part.tops
   pub is_rep : top.number ≡ rep alike units t.number
 
+-- the number of the first of them
 abbrev pub first_number : List Top → ℕ
 first_number [] = 0
 first_number (t ∷ tops) = t.number
@@ -107,6 +109,7 @@ pub record IsPlan (alike : Test) (units : List (FileUnit Spot)) (parts : List Pa
 
 -- ---- what is kept
 
+-- a top of the unit, which doesn't move
 abbrev pub Stays : Test → List (FileUnit Spot) → ℕ → Top → Type 0
 Stays alike units unit t = In t (tops_of units) × (t.unit ≡ unit) × (moves alike units t.number ≡ false)
 

@@ -3,8 +3,12 @@ use Rattle.dwz_output.proofs.FileLemmas.{closed_names, file_is_same, file_outs, 
 use Rattle.dwz_output.proofs.NamedLemmas.{map_shown}
 use Rattle.dwz_output.proofs.NodeLemmas.{comes_from, type_kept}
 use Rattle.dwz_output.proofs.OldNames.{files_old}
-use Rattle.dwz_output.proofs.OneImageLemmas.{one_image}
+use Rattle.dwz_output.proofs.OneImageLemmas.{alone_names, one_image}
+use Rattle.dwz_output.proofs.ReadPlaces.{read_placed}
 use Rattle.dwz_output.proofs.same.same_laws.Goals as goal
+
+pub returns-clause-places : goal.returns-clause-places
+returns-clause-places c = read_placed
 
 pub returns-clause-names : goal.returns-clause-names
 returns-clause-names c = files_old
@@ -32,6 +36,9 @@ returns-clause-closed c = closed_names
 
 pub returns-clause-images : goal.returns-clause-images
 returns-clause-images c = one_image
+
+pub returns-clause-alone : goal.returns-clause-alone
+returns-clause-alone c = alone_names
 
 pub returns-clause-shown : goal.returns-clause-shown
 returns-clause-shown c = map_shown

@@ -8,7 +8,7 @@ use Rattle.dwz_output.specs.Deciding.{Test}
 use Rattle.dwz_output.specs.IsPlan.{BelongsTo, IsPart, Nth, Rising, numbers}
 use Rattle.dwz_output.specs.Placing.{keys, unit_keys, units_keys}
 use Rattle.dwz_output.specs.Plan.{Home, Local, PartialUnit, chain, image, imports, is_home, is_pinned, kept, kept_unit, kept_units, moves, out_units, partial_unit, partial_units, partials, same_home, stand_in}
-use Rattle.dwz_output.specs.SameLaws.{AreOld, IsNamedBelow}
+use Rattle.dwz_output.specs.After.{AreOld, IsNamedBelow}
 use Rattle.dwz_output.specs.Spots.{FileUnit, Import, InType, Labelled, PartialOf, PartialRoot, RootOf, Spot, Top, UnitOf, Within, tops_of}
 use Rattle.dwz_output.specs.Standing.{NoneTwice}
 use Rattle.dwz_output.proofs.ApartLemmas.{Fixed, IsWithin, behind, chain_key, chain_none, import_key, imports_none, labelled_map, none_append, none_below, rising_none, type_path}

@@ -8,7 +8,7 @@ use Rattle.dwz_output.specs.Deciding.{Test}
 use Rattle.dwz_output.specs.IsPlan.{IsPart, Nth, row}
 use Rattle.dwz_output.specs.Plan.{PartialUnit, chain, image, import_of, imports, kept, kept_unit, partial_unit, partials}
 use Rattle.dwz_output.specs.Same.{Closed, Named, Seen, all_seen, named_map, named_value, see, seen, seen_below, seen_map, seen_roots, units_in}
-use Rattle.dwz_output.specs.SameLaws.{AreAfter, AreOld, IsNamedBelow}
+use Rattle.dwz_output.specs.After.{AreAfter, AreOld, IsNamedBelow}
 use Rattle.dwz_output.specs.Spots.{FileUnit, PartialRoot, Spot, Top, tops_of}
 use Rattle.dwz_output.proofs.EntryLemmas.{entries_same, kept_compile, kept_type, seen_top_map}
 use Rattle.dwz_output.proofs.ImageLemmas.{seen_top}

@@ -8,7 +8,7 @@ use Rattle.dwz_output.specs.Deciding.{Test}
 use Rattle.dwz_output.specs.IsPlan.{IsPart, Nth}
 use Rattle.dwz_output.specs.Plan.{PartialUnit, chain, image, imports, kept, kept_below, kept_unit, moves, partial_unit, partials}
 use Rattle.dwz_output.specs.Same.{EntriesSame, Seen, seen, seen_below, seen_map, units_in}
-use Rattle.dwz_output.specs.SameLaws.{AreAfter, AreOld, IsNamedBelow}
+use Rattle.dwz_output.specs.After.{AreAfter, AreOld, IsNamedBelow}
 use Rattle.dwz_output.specs.Spots.{FileUnit, Spot, Top, tops_of}
 use Rattle.dwz_output.proofs.AlikePer.{alike_per}
 use Rattle.dwz_output.proofs.ImageLemmas.{seen_top}

@@ -8,7 +8,7 @@ use Rattle.dwz_output.specs.Deciding.{Test}
 use Rattle.dwz_output.specs.IsPlan.{IsPart, Nth, row}
 use Rattle.dwz_output.specs.Plan.{PartialUnit, chain, image, image_by, import_of, imports, is_home, kept, kept_unit, moves, partial_unit, partials, stand_in, users}
 use Rattle.dwz_output.specs.Same.{Expands, IsChild, IsImport, Named, Seen, UnitSame, UnitsSame, heads, named_value, see, seen, units_in}
-use Rattle.dwz_output.specs.SameLaws.{AreAfter, AreOld, IsNamedBelow}
+use Rattle.dwz_output.specs.After.{AreAfter, AreOld, IsNamedBelow}
 use Rattle.dwz_output.specs.Spots.{FileUnit, LabelledTop, PartialRoot, Spot, Top, Within, tops_in, tops_of}
 use Rattle.dwz_output.proofs.AlikePer.{alike_per}
 use Rattle.dwz_output.proofs.EntryLemmas.{kept_compile, kept_type}

@@ -11,7 +11,7 @@ use Rattle.dwz_output.specs.Placing.{fit_unit, units_keys}
 use Rattle.dwz_output.specs.Plan.{image, moves, out_units, partials}
 use Rattle.dwz_output.specs.ReadBack.{HasOneImage}
 use Rattle.dwz_output.specs.Same.{Closed, Expands, IsPartial, Named, OneImage, Seen, all_seen, heads, named_map, named_value, seen_below, seen_map, units_in}
-use Rattle.dwz_output.specs.SameLaws.{AllOfFile, AreAfter, ArePlaced, FileSame, OnePlace, Replaces, SameAlong, StandFor, UnitsShown, one_fitted, one_place_of, place_after}
+use Rattle.dwz_output.specs.After.{AllOfFile, AreAfter, ArePlaced, FileSame, OnePlace, Replaces, SameAlong, StandFor, UnitsShown, one_fitted, one_place_of, place_after}
 use Rattle.dwz_output.specs.Spots.{FileUnit, Spot, in_file, named, named_files, same_spot, spot_in, spots_from, tops_among}
 use Rattle.dwz_output.specs.Standing.{NoneTwice}
 use Rattle.dwz_output.proofs.ApartUnits.{out_apart}

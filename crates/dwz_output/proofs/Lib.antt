@@ -64,3 +64,4 @@ pub mod ElfShape
 pub mod ElfSections
 pub mod ElfNoFault
 pub mod ElfRebuiltLemmas
+mod PlanRows

@@ -6,7 +6,7 @@ use Rattle.dwz_docs.specs.Trees.{End, Entry}
 use Rattle.dwz_output.specs.Alike.{Scope}
 use Rattle.dwz_output.specs.Placing.{fit, fit_attr, fit_unit, keys, unit_keys, units_keys}
 use Rattle.dwz_output.specs.Same.{EntriesSame, IsEntry, Named, OneImage, Seen, UnitsSame, all_seen, heads, named_map, named_value, seen_below, seen_map, units_in}
-use Rattle.dwz_output.specs.SameLaws.{AreShown, IsShown, UnitsShown}
+use Rattle.dwz_output.specs.After.{AreShown, IsShown, UnitsShown}
 use Rattle.dwz_output.specs.Spots.{FileUnit, Spot, Top, Within}
 use Rattle.dwz_output.proofs.Members.{in_map}
 use Rattle.dwz_output.proofs.PlaceLemmas.{below_shown, heads_shown, kind_then, map_then, names_then, seen_then, shown_in}

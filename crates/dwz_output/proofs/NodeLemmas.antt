@@ -6,7 +6,7 @@ use Rattle.dwz_docs.specs.Trees.{End, Entry}
 use Rattle.dwz_output.specs.Deciding.{Test}
 use Rattle.dwz_output.specs.IsPlan.{IsPart, Nth, row}
 use Rattle.dwz_output.specs.Plan.{PartialUnit, chain, image, import_of, imports, kept, kept_below, kept_unit, partial_unit, partials}
-use Rattle.dwz_output.specs.SameLaws.{AreAfter, AreOld, ComesFrom, IsBelow, IsEntryOf, NewImport, NewRoot, OldEntry}
+use Rattle.dwz_output.specs.After.{AreAfter, AreOld, ComesFrom, IsBelow, IsEntryOf, NewImport, NewRoot, OldEntry}
 use Rattle.dwz_output.specs.Spots.{FileUnit, Spot, Top, tops_in, tops_of}
 use Rattle.dwz_output.proofs.EntryLemmas.{kept_type}
 use Rattle.dwz_output.proofs.KeptLemmas.{are_imports, kept_is}

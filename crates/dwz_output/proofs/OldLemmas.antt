@@ -7,7 +7,7 @@ use Rattle.dwz_output.specs.Deciding.{Test}
 use Rattle.dwz_output.specs.IsPlan.{Nth}
 use Rattle.dwz_output.specs.Plan.{PartialUnit, image, image_by, stand_in}
 use Rattle.dwz_output.specs.Same.{IsImport, IsPartial, Named, Seen, all_seen, named_value, seen, seen_below, seen_roots, units_in}
-use Rattle.dwz_output.specs.SameLaws.{AreAfter, AreOld, IsNamedBelow, IsNewUnit}
+use Rattle.dwz_output.specs.After.{AreAfter, AreOld, IsNamedBelow, IsNewUnit}
 use Rattle.dwz_output.specs.Spots.{FileUnit, Import, InType, Labelled, LabelledTop, PartialOf, PartialRoot, RootOf, Spot, Top, UnitOf, Within}
 use Rattle.dwz_output.proofs.Members.{in_cases, in_map, in_map_from}
 use Rattle.dwz_output.proofs.SeenLemmas.{raw_top, root_from, seen_from, seen_in_top, unit_at}

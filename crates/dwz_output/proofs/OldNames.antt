@@ -8,7 +8,7 @@ use Rattle.dwz_output.specs.Alike.{Each}
 use Rattle.dwz_output.specs.IsPlan.{Nth}
 use Rattle.dwz_output.specs.Placing.{keys, unit_keys, units_keys}
 use Rattle.dwz_output.specs.Same.{Closed, IsPartial, Seen, all_seen, seen_below, seen_roots, units_in}
-use Rattle.dwz_output.specs.SameLaws.{AreOld, ArePlaced, IsNamedBelow, IsNamedUnit}
+use Rattle.dwz_output.specs.After.{AreOld, ArePlaced, IsNamedBelow, IsNamedUnit}
 use Rattle.dwz_output.specs.Spots.{FileUnit, InType, Labelled, LabelledTop, RootOf, Spot, Top, UnitOf, Within, below_spots, entry_spots, in_file, named_files, named_in, row_length, spot_in, spots_from, top_count, top_spots, tops_among, tops_below, tops_from, tops_in}
 use Rattle.dwz_output.specs.Standing.{NoneTwice}
 use Rattle.dwz_output.proofs.Members.{in_cases, in_left, in_right}

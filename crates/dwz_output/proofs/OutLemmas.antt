@@ -6,7 +6,7 @@ use Rattle.dwz_output.specs.Alike.{Apart, IsAlike}
 use Rattle.dwz_output.specs.Deciding.{Test}
 use Rattle.dwz_output.specs.IsPlan.{IsPart, Nth}
 use Rattle.dwz_output.specs.Plan.{Common, Home, Local, PartialUnit, Stay, home, image, is_home, kept_unit, kept_units, out_units, partial_unit, partial_units, partials, same_home}
-use Rattle.dwz_output.specs.SameLaws.{AreAfter, IsKeptUnit, IsNewUnit}
+use Rattle.dwz_output.specs.After.{AreAfter, IsKeptUnit, IsNewUnit}
 use Rattle.dwz_output.specs.Spots.{FileUnit, Spot}
 use Rattle.dwz_output.proofs.HomeLemmas.{home_file, not_common}
 use Rattle.dwz_output.proofs.Members.{each_in, in_cases, in_left, in_right, nth_in}

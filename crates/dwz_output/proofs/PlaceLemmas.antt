@@ -6,7 +6,7 @@ use Rattle.dwz_docs.specs.Meanings.{In}
 use Rattle.dwz_docs.specs.Trees.{End, Entry}
 use Rattle.dwz_output.specs.Placing.{keys, unit_keys, units_keys}
 use Rattle.dwz_output.specs.Same.{Closed, EntriesSame, Expands, IsChild, IsImport, IsPartial, Named, Seen, UnitsSame, all_seen, heads, named_map, named_value, see, seen, seen_below, seen_map, seen_roots}
-use Rattle.dwz_output.specs.SameLaws.{AreShown, IsShown, IsShownUnit, OnePlace, UnitsShown}
+use Rattle.dwz_output.specs.After.{AreShown, IsShown, IsShownUnit, OnePlace, UnitsShown}
 use Rattle.dwz_output.proofs.ClosedLemmas.{attr_from}
 use Rattle.dwz_output.proofs.Members.{in_cases, in_left, in_map, in_map_from, in_right}
 use Rattle.dwz_output.proofs.SeenLemmas.{entry_seen, root_from, seen_from}

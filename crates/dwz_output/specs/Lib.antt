@@ -13,5 +13,7 @@ pub mod Standing
 pub mod Fitting
 pub mod Meant
 pub mod Carried
+pub mod After
+pub mod PlanLaws
 pub mod SameLaws
 pub mod ElfRebuilt

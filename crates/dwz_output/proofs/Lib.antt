@@ -65,3 +65,6 @@ pub mod ElfSections
 pub mod ElfNoFault
 pub mod ElfRebuiltLemmas
 mod PlanRows
+pub mod ReadPlaces
+pub mod ReadClosed
+pub mod ReadMode

@@ -159,7 +159,7 @@ signature_fits signature offset true p bytes are len e =
     let less' : le_value (take 8 (drop 12 bytes)) < 256 ^ 8 = subst (λ (k : ℕ). le_value (take 8 (drop 12 bytes)) < 256 ^ k) eight less in
     omega (arith, same, less')
 
-keys_read : (s : Scope) (f : Forest RawEntry) (g : Entries ℕ) → MeanEntries s f g → keys g ≡ places_in f
+pub keys_read : (s : Scope) (f : Forest RawEntry) (g : Entries ℕ) → MeanEntries s f g → keys g ≡ places_in f
 unfolding keys places_in
 keys_read s End End means = refl
 keys_read s End (Entry d h k) means = absurd means

@@ -68,3 +68,5 @@ mod PlanRows
 pub mod ReadPlaces
 pub mod ReadClosed
 pub mod ReadMode
+pub mod ReadFile
+pub mod ReadCarried

@@ -92,7 +92,7 @@ pub all_of_one : (doc : Doc ℕ) → AllOfFile 0 (one_file doc)
 unfolding file_numbers
 all_of_one doc = λ i u h. elim (files_are (doc ∷ []) i u h) [ inl e ↦ sym e | inr r ↦ absurd r ]
 
-one_units : (doc : Doc ℕ) → units_in (one_file doc) ≡ map (unit_map (spot_in (spots_from 0 0 doc.units))) doc.units
+pub one_units : (doc : Doc ℕ) → units_in (one_file doc) ≡ map (unit_map (spot_in (spots_from 0 0 doc.units))) doc.units
 unfolding named_files
 one_units doc =
     let names = named 0 0 doc.units in

@@ -70,3 +70,4 @@ pub mod ReadClosed
 pub mod ReadMode
 pub mod ReadFile
 pub mod ReadCarried
+pub mod ReadBackLemmas

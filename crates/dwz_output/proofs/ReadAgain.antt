@@ -143,7 +143,7 @@ module _ (sources : Sources) (s : Scope) (same : s.sources ≡ sources) (c : Uni
 
 -- ---- units
 
-take_bytes : (n : ℕ) (bytes : List ℕ) → AreBytes bytes → AreBytes (take n bytes)
+pub take_bytes : (n : ℕ) (bytes : List ℕ) → AreBytes bytes → AreBytes (take n bytes)
 take_bytes zero bytes are = tt
 take_bytes (suc n) [] are = tt
 take_bytes (suc n) (b ∷ bytes) are = (are.0, take_bytes n bytes are.1)

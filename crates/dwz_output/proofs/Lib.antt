@@ -71,3 +71,4 @@ pub mod ReadMode
 pub mod ReadFile
 pub mod ReadCarried
 pub mod ReadBackLemmas
+pub mod ReadFixed

@@ -28,16 +28,19 @@ use Rattle.dwz_output.proofs.AlikeLaws.{alike_decides}
 use Rattle.dwz_output.proofs.Chosen.{units_say, units_sound}
 use Rattle.dwz_output.proofs.FileLemmas.{closed_names, file_apart, file_replaces, has_one_image, one_units, stands_same}
 use Rattle.dwz_output.proofs.NamedLemmas.{fitted_keys, map_shown}
+use Rattle.dwz_output.proofs.Places.{numbering_stands}
 use Rattle.dwz_output.proofs.ReadAgain.{take_bytes, units_carried}
 use Rattle.dwz_output.proofs.ReadCarried.{named_carried, outs_carried, units_built}
 use Rattle.dwz_output.proofs.ReadClosed.{read_closed}
 use Rattle.dwz_output.proofs.ReadFile.{SaysNew, can_change, no_fault, says_new, some_bytes, some_units}
+use Rattle.dwz_output.proofs.ReadFixed.{ReferIn, outs_refer, units_fixed, units_map, units_refer}
 use Rattle.dwz_output.proofs.ReadMode.{units_again, with_partial}
 use Rattle.dwz_output.proofs.ReadPlaces.{none_partial, units_once}
 use Rattle.dwz_output.proofs.Rising.{place_one}
 use Rattle.dwz_output.proofs.SameLemmas.{spots_same}
 use Rattle.dwz_output.proofs.Unnumbered.{bare_placed, entries_same, units_same}
-use Rattle.dwz_output.proofs.WriteLaws.{is_roomy, means, stands}
+use Rattle.dwz_output.proofs.WriteLaws.{is_roomy, means}
+use Rattle.dwz_output.proofs.WriteLengths.{FixedUnit}
 
 -- ---- bytes
 
@@ -65,10 +68,27 @@ module _ (l : Limits) (input : List ℕ) (raw : List RawUnit) (doc : Doc ℕ) (r
   decides : IsAlike Apart (one_file doc) (alike_in doc)
   decides = alike_decides Apart (one_file doc)
 
-  module _ (can : CanReadBack input doc) where
-    abbrev outs : List (DwUnit Spot)
-    outs = out_units (alike_in doc) (one_file doc) (0 ∷ []) 0
+  abbrev outs : List (DwUnit Spot)
+  outs = out_units (alike_in doc) (one_file doc) (0 ∷ []) 0
 
+  fitted_fixed : Each FixedUnit (one_fitted doc)
+  unfolding fitted
+  fitted_fixed =
+      let r = file_replaces doc (alike_in doc) all_placed decides in
+      let named = units_map (spot_in (spots_from 0 0 doc.units)) doc.units (units_refer sources (all_places raw) raw doc.units reads.means) in
+      units_fixed same_spot outs (outs_refer (one_file doc) (subst (Each ReferIn) (sym (one_units doc)) named) (alike_in doc) (0 ∷ []) outs r.after)
+
+  fitted_once : NoneTwice (units_keys (one_fitted doc))
+  fitted_once = file_apart doc (alike_in doc) all_placed decides
+
+  one_place : OnePlace (one_place_of doc) (one_fitted doc)
+  one_place x y a b e = place_one (places (one_fitted doc)) (one_fitted doc) (numbering_stands same_spot spots_same (one_fitted doc) fitted_fixed fitted_once) x y a b e
+
+  -- entries share an image exactly where nothing tells them apart
+  pub one_image_holds : HasOneImage doc
+  one_image_holds = has_one_image doc all_placed decides one_place
+
+  module _ (can : CanReadBack input doc) where
     all_carried : Each (CarriedUnit sources) doc.units
     all_carried = units_carried (debug_abbrev input) (given l.entries) sources (all_places raw) raw doc.units 0 0 (debug_info input) reads.spelled reads.means
         (section_bytes input 1 can.are_bytes) (units_built sources (all_places raw) raw doc.units reads.means can.no_slots)
@@ -83,9 +103,6 @@ module _ (l : Limits) (input : List ℕ) (raw : List RawUnit) (doc : Doc ℕ) (r
     unfolding fitted
     fitted_sound = units_sound same_spot sources outs outs_are
 
-    fitted_once : NoneTwice (units_keys (one_fitted doc))
-    fitted_once = file_apart doc (alike_in doc) all_placed decides
-
     outs_once : NoneTwice (units_keys outs)
     unfolding fitted
     outs_once = subst NoneTwice (fitted_keys same_spot outs) fitted_once
@@ -93,13 +110,6 @@ module _ (l : Limits) (input : List ℕ) (raw : List RawUnit) (doc : Doc ℕ) (r
     fitted_say : UnitsSay sources (one_fitted doc)
     unfolding fitted
     fitted_say = units_say same_spot spots_same sources outs outs_are (closed_names Apart (one_file doc) (alike_in doc) (0 ∷ []) outs (file_replaces doc (alike_in doc) all_placed decides)) outs_once
-
-    one_place : OnePlace (one_place_of doc) (one_fitted doc)
-    one_place x y a b e = place_one (places (one_fitted doc)) (one_fitted doc) (stands (one_fitted doc) fitted_sound fitted_once) x y a b e
-
-    -- entries share an image exactly where nothing tells them apart
-    pub one_image_holds : HasOneImage doc
-    one_image_holds = has_one_image doc all_placed decides one_place
 
     -- ---- where something moves
 

@@ -63,6 +63,6 @@ BackLaw =
     (l : Limits) (input : List ℕ) (raw : List RawUnit) (doc : Doc ℕ) (out : List ℕ) → Reads l input raw doc → CanReadBack input doc
     → IsOut input doc out → ReadsBack doc out
 
--- and where something moves, entries share an image exactly where nothing tells them apart
+-- of a file that reads, where something of it moves, entries share an image exactly where nothing tells them apart
 abbrev pub OneImageLaw : Type 0
-OneImageLaw = (l : Limits) (input : List ℕ) (raw : List RawUnit) (doc : Doc ℕ) → Reads l input raw doc → CanReadBack input doc → HasOneImage doc
+OneImageLaw = (l : Limits) (input : List ℕ) (raw : List RawUnit) (doc : Doc ℕ) → Reads l input raw doc → HasOneImage doc

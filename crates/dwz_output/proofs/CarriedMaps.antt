@@ -63,7 +63,7 @@ module _ {K L : Type 0} (sources : Sources) (f : K → L) where
       ∙ ap (λ (w : List L). f e.at ∷ (map f (keys children) ++ w)) (keys_map next)
       ∙ ap (λ (w : List L). f e.at ∷ w) (sym (map-append f (keys children) (keys next)))
 
-  kind_carried : (k : Kind K) (tag : ℕ) → SoundKind k tag → SoundKind (kind_map f k) tag
+  pub kind_carried : (k : Kind K) (tag : ℕ) → SoundKind k tag → SoundKind (kind_map f k) tag
   kind_carried Compile tag is = is
   kind_carried (OfType signature main) tag is = is
   kind_carried Partial tag is = is

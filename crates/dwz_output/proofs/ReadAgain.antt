@@ -143,7 +143,7 @@ module _ (sources : Sources) (s : Scope) (same : s.sources ≡ sources) (c : Uni
 
 -- ---- units
 
-take_bytes : (n : ℕ) (bytes : List ℕ) → AreBytes bytes → AreBytes (take n bytes)
+pub take_bytes : (n : ℕ) (bytes : List ℕ) → AreBytes bytes → AreBytes (take n bytes)
 take_bytes zero bytes are = tt
 take_bytes (suc n) [] are = tt
 take_bytes (suc n) (b ∷ bytes) are = (are.0, take_bytes n bytes are.1)
@@ -159,7 +159,7 @@ signature_fits signature offset true p bytes are len e =
     let less' : le_value (take 8 (drop 12 bytes)) < 256 ^ 8 = subst (λ (k : ℕ). le_value (take 8 (drop 12 bytes)) < 256 ^ k) eight less in
     omega (arith, same, less')
 
-keys_read : (s : Scope) (f : Forest RawEntry) (g : Entries ℕ) → MeanEntries s f g → keys g ≡ places_in f
+pub keys_read : (s : Scope) (f : Forest RawEntry) (g : Entries ℕ) → MeanEntries s f g → keys g ≡ places_in f
 unfolding keys places_in
 keys_read s End End means = refl
 keys_read s End (Entry d h k) means = absurd means

@@ -4,8 +4,9 @@ use Rattle.std.proofs.Math.Logic.{inl, inr}
 use Rattle.dwz_docs.specs.Documents.{Attr, DwUnit, Entries, Node, attr_map, entries_map, kind_map, node_map, ref, unit_map}
 use Rattle.dwz_docs.specs.Meanings.{In}
 use Rattle.dwz_docs.specs.Trees.{End, Entry}
+use Rattle.dwz_output.specs.After.{TypesSame}
 use Rattle.dwz_output.specs.Meant.{placed_attr, placed_entries, placed_node, placed_unit, placed_units}
-use Rattle.dwz_output.specs.Same.{EntriesSame, Expands, IsChild, IsImport, IsPartial, Named, Seen, UnitsSame, heads, named_value, see, seen, seen_below}
+use Rattle.dwz_output.specs.Same.{EntriesSame, Expands, IsChild, IsImport, IsPartial, Named, Seen, UnitsSame, heads, named_value, see, seen, seen_below, seen_roots}
 use Rattle.dwz_output.specs.Writing.{Numbering}
 use Rattle.dwz_output.proofs.WriteLists.{in_map}
 
@@ -56,6 +57,13 @@ module _ {P : Type 0} where
   bare_seen_below (u ∷ units) =
       ap (λ (w : List (Seen P)). w ++ seen_below (bare_units units)) (bare_seen u.below)
       ∙ ap (λ (w : List (Seen P)). seen u.below ++ w) (bare_seen_below units)
+
+  bare_seen_roots : (units : List (DwUnit P)) → seen_roots (bare_units units) ≡ seen_roots units
+  unfolding seen_roots
+  bare_seen_roots [] = refl
+  bare_seen_roots (u ∷ units) =
+      ap (λ (w : Seen P). w ∷ seen_roots (bare_units units)) (bare_see u.root u.below)
+      ∙ ap (λ (w : List (Seen P)). see u.root u.below ∷ w) (bare_seen_roots units)
 
 -- ---- imports expanded
 
@@ -176,6 +184,11 @@ module _ {P Q : Type 0} (f : P → Q) (before : List (DwUnit P)) where
   entries_same after others e same =
       let seen_same : seen_below after ≡ seen_below others = sym (bare_seen_below after) ∙ ap seen_below e ∙ bare_seen_below others in
       λ s is. subst (In _) seen_same (same s is)
+
+  pub types_same : (after others : List (DwUnit Q)) → bare_units after ≡ bare_units others → TypesSame f before after → TypesSame f before others
+  types_same after others e same =
+      let seen_same : seen_roots after ≡ seen_roots others = sym (bare_seen_roots after) ∙ ap seen_roots e ∙ bare_seen_roots others in
+      λ u signature main there kind. subst (In _) seen_same (same u signature main there kind)
 
 -- ---- units with places for keys
 

@@ -1,13 +1,16 @@
 -- What was written, read back with imports expanded, is what was read.
-use Rattle.std.specs.Prelude.{◌≡◌, ℕ, true, List, [], ◌∷◌}
-use Rattle.dwz_docs.specs.Documents.{Doc, DwUnit}
+use Rattle.std.specs.Prelude.{◌≡◌, ◌≢◌, ℕ, true, List, [], ◌∷◌}
+use Rattle.dwz_docs.specs.Documents.{Attr, Doc, DwUnit, Entries}
 use Rattle.dwz_docs.specs.ElfFaults.{IsElfFault}
 use Rattle.dwz_docs.specs.Entries.{Mode}
-use Rattle.dwz_docs.specs.Files.{debug_abbrev, debug_info, machine_of, sources_of}
-use Rattle.dwz_docs.specs.Meanings.{MeanUnits, all_places}
+use Rattle.dwz_docs.specs.Files.{Limits, Reads, debug_abbrev, debug_info, machine_of, sources_of}
+use Rattle.dwz_docs.specs.Meanings.{MeanUnits, OfTextBySlot, all_places, class_of}
+use Rattle.dwz_docs.specs.Trees.{End, Entry}
 use Rattle.dwz_docs.specs.Units.{RawUnit, SpellsUnits}
-use Rattle.dwz_output.specs.Alike.{Apart}
-use Rattle.dwz_output.specs.Out.{alike_in, has_changes, image_place, one_file}
+use Rattle.dwz_docs.specs.Values.{AreBytes}
+use Rattle.dwz_output.specs.After.{TypesSame}
+use Rattle.dwz_output.specs.Alike.{Apart, Each}
+use Rattle.dwz_output.specs.Out.{IsOut, alike_in, has_changes, image_place, one_file}
 use Rattle.dwz_output.specs.Out as out
 use Rattle.dwz_output.specs.Plan.{moves}
 use Rattle.dwz_output.specs.Same.{EntriesSame, OneImage, UnitsSame}
@@ -29,8 +32,39 @@ pub record ReadsBack (doc : Doc ℕ) (bytes : List ℕ) : Type 0 where
   pub back : Back bytes units
   pub entries : EntriesSame (out.image_in doc) doc.units units
   pub same : UnitsSame (out.image_in doc) doc.units units
+  pub types : TypesSame (out.image_in doc) doc.units units
 
 -- and entries share an image exactly where nothing tells them apart
 abbrev pub HasOneImage : Doc ℕ → Type 0
 HasOneImage doc =
     has_changes doc ≡ true → OneImage Apart (one_file doc) (λ n. moves (alike_in doc) (one_file doc) n ≡ true) (image_place (alike_in doc) (one_file doc) (0 ∷ []) 0)
+
+-- ---- what is asked of the file, besides that it reads
+
+-- no text of the attribute stands in a slot (DWARF 5, 7.26): a partial unit has no base for slots yet
+abbrev pub IsNoSlot : Attr ℕ → Type 0
+IsNoSlot a = class_of a.form ≢ OfTextBySlot
+
+abbrev pub AreWithoutSlots : Entries ℕ → Type 0
+AreWithoutSlots End = Unit {0}
+AreWithoutSlots (Entry e children next) = Each IsNoSlot e.attrs × AreWithoutSlots children × AreWithoutSlots next
+
+abbrev pub IsWithoutSlots : DwUnit ℕ → Type 0
+IsWithoutSlots u = Each IsNoSlot u.root.attrs × AreWithoutSlots u.below
+
+-- it is a list of bytes, and none of its texts stands in a slot
+pub record CanReadBack (input : List ℕ) (doc : Doc ℕ) : Type 0 where
+  pub are_bytes : AreBytes input
+  pub no_slots : Each IsWithoutSlots doc.units
+
+-- ---- laws
+
+-- the file that stands for one that reads, reads back as the same
+abbrev pub BackLaw : Type 0
+BackLaw =
+    (l : Limits) (input : List ℕ) (raw : List RawUnit) (doc : Doc ℕ) (out : List ℕ) → Reads l input raw doc → CanReadBack input doc
+    → IsOut input doc out → ReadsBack doc out
+
+-- of a file that reads, where something of it moves, entries share an image exactly where nothing tells them apart
+abbrev pub OneImageLaw : Type 0
+OneImageLaw = (l : Limits) (input : List ℕ) (raw : List RawUnit) (doc : Doc ℕ) → Reads l input raw doc → HasOneImage doc

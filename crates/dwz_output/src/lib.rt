@@ -6,11 +6,13 @@
 mod alike;
 mod elf_rebuilt;
 mod plan;
+mod read_back;
 mod same;
 mod writing;
 
 pub use alike::alike_laws;
 pub use elf_rebuilt::rebuilt_laws;
 pub use plan::plan_laws;
+pub use read_back::read_back_laws;
 pub use same::same_laws;
 pub use writing::{bytes_laws, carried_laws, form_laws, length_laws, placing_laws, seen_laws};

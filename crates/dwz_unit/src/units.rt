@@ -5,6 +5,7 @@ ghost use Rattle.dwz_bytes.specs.Input.{input};
 ghost use Rattle.dwz_docs.specs.Faults.{Answers};
 ghost use Rattle.dwz_docs.specs.Units.{entries_in, units_at};
 ghost use Rattle.dwz_unit.specs.Rows.{attr_count, attr_of, attr_view, shown_entries, shown_units, units_of};
+ghost use Rattle.dwz_docs.specs.Entries.{given};
 
 use crate::front::value_of;
 use crate::reading::unit_of;
@@ -15,7 +16,6 @@ use dwz_bytes::Cursor;
 use dwz_model::ReadErr;
 use std::alloc::Global;
 use std::marker::Model;
-ghost use Rattle.dwz_docs.specs.Entries.{given};
 
 /// All units of `.debug_info` (DWARF 5, 7.5.1), and their entries in preorder. Clauses see what they were read from.
 #[derive(Drop)]

@@ -28,10 +28,12 @@ pub record KeepsUnit (info : List ℕ) (at room number : ℕ) (s : Stored) (old 
   pub shows : Shows s (length old) unit kept
   pub rows : new ≡ old ++ map entry_shown (rows_in unit number (length old))
 
+-- the same, or the unit has that fault
 abbrev pub FindsUnit : List ℕ → ℕ → ℕ → ℕ → Stored → Stored → List Row → List Row → Result UnitOfCode ReadErr → Type 0
 FindsUnit info at room number before after old new (Ok kept) = KeepsUnit info at room number after old new kept × Grows before after
 FindsUnit info at room number before after old new (Err e) = Fails e (unit_at before.section room (length old) (input info at))
 
+-- what the units were read from
 abbrev pub source_of : List ℕ → Stored → ℕ → Source
 source_of info s room = record { info = info; abbrevs = s.section; room = room }
 

@@ -17,6 +17,7 @@ pub record Source : Type 0 where
   pub abbrevs : List ℕ
   pub room : ℕ
 
+-- what was read, or nothing
 abbrev pub or_none : Result (List RawUnit) Fault → List RawUnit
 or_none (Ok units) = units
 or_none (Err f) = []
@@ -56,14 +57,17 @@ rows_of units = rows_from units 0 0
 
 -- ---- what is shown of units, entries and values
 
+-- the type of a unit (DWARF 5, 7.5.1)
 abbrev pub kind_number : RawKind → ℕ
 kind_number CompileUnit = 1
 kind_number (TypeUnit signature type_offset) = 2
 
+-- the signature of a type unit (7.5.1.3), and else 0
 abbrev pub signature_of : RawKind → ℕ
 signature_of CompileUnit = 0
 signature_of (TypeUnit signature type_offset) = signature
 
+-- where the type of a type unit is described, and else 0
 abbrev pub type_offset_of : RawKind → ℕ
 type_offset_of CompileUnit = 0
 type_offset_of (TypeUnit signature type_offset) = type_offset
@@ -80,6 +84,7 @@ unit_shown first u = record {
   first = first;
 }
 
+-- units, of which the first has a root with that number
 unfoldable pub shown_from : List RawUnit → ℕ → List RawUnitOfCode
 shown_from [] first = []
 shown_from (u ∷ units) first = unit_shown first u ∷ shown_from units (first + entry_count u)
@@ -88,6 +93,7 @@ shown_from (u ∷ units) first = unit_shown first u ∷ shown_from units (first 
 abbrev pub shown_units : List RawUnit → List RawUnitOfCode
 shown_units units = shown_from units 0
 
+-- an entry in its row
 abbrev pub entry_shown : EntryRow → RawEntryOfCode
 entry_shown row = record { at = row.entry.at; tag = row.entry.tag; unit = row.unit; depth = row.depth; end = row.end; attrs = length row.entry.attrs }
 
@@ -95,6 +101,7 @@ entry_shown row = record { at = row.entry.at; tag = row.entry.tag; unit = row.un
 abbrev pub shown_entries : List RawUnit → List RawEntryOfCode
 shown_entries units = map entry_shown (rows_of units)
 
+-- a value, as the definitions see it
 abbrev pub attr_view : RawAttrOfCode → RawAttr
 attr_view a = record { at = a.at; pair = a.pair; raw = raw_view a.raw }
 

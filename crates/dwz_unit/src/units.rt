@@ -40,7 +40,20 @@ impl<'a> Model for Units<'a> {
 }
 
 impl<'a> Units<'a> {
-    /// Reads all units. `room` is how many entries there may be.
+    /// Reads all units, of which `.debug_info` is a row without gaps. `room` is how many entries there may be in all of them.
+    /// Refused with the first fault. Units come in order, and in a unit the faults come in this order:
+    ///
+    /// - At the unit, of its header (7.5.1): `Truncated`, where fewer than four bytes are left; `DwarfFormat`; `Truncated`, where
+    ///   the unit ends past the section, or is shorter than a header; `Version`; `UnitType`; `AddressSize`; and `Truncated`, where
+    ///   a type unit is shorter than its header.
+    /// - `BadAbbrev`, of its table, placed in `.debug_abbrev` (7.5.3).
+    /// - Of each entry in order, at the entry: `BadNumber` and `NoSuchCode`, of its code (7.5.2); `BadRoot`, where a root is
+    ///   missing or has another tag than its unit asks for; `TooDeep`, below depth 256; `TooMany`. Then of its values in order:
+    ///   `UnsupportedForm`, at the entry; `Truncated` and `BadNumber`, at the value.
+    /// - `Truncated`, at the unit's end, where the unit ends inside the tree.
+    /// - `BadRoot`, at a byte behind the tree that isn't 0.
+    ///
+    /// Places are in bytes from the first of the section. No other call takes memory.
     pub fn read(
         alloc: Global,
         info: &'a [u8],

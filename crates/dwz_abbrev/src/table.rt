@@ -1,6 +1,6 @@
 //! Tables that are looked up and made.
 
-ghost use Rattle.std.specs.Prelude.{◌≡◌, ◌<◌, [], All, IfOk, OnErr, OnOk, length};
+ghost use Rattle.std.specs.Prelude.{◌≡◌, ◌==◌, ◌<◌, ◌^◌, [], All, IfOk, OnErr, OnOk, length};
 ghost use Rattle.std.specs.Option.{option_copied, option_map};
 ghost use Rattle.dwz_docs.specs.Abbrevs.{IsCounted, IsPlainPair, added, code_in, find_decl};
 ghost use Rattle.dwz_abbrev.specs.Shapes.{HasPlace, Notes};
@@ -57,6 +57,22 @@ impl Table {
             rows: Rows::new(alloc),
             firsts: Some(BTreeMap::new(alloc)),
         }
+    }
+
+    /// How many declarations there are.
+    #[inline(always)]
+    pub fn len(&self) -> usize
+        ensures len { result ≡ length self.now }
+        ensures small { result < 2 ^ 63 }
+    {
+        self.rows.len()
+    }
+
+    /// Whether there is no declaration.
+    pub fn is_empty(&self) -> bool
+        ensures { result ≡ (length self.now == 0) }
+    {
+        self.len() == 0
     }
 
     /// The declaration with a code. None exactly where the table has none.

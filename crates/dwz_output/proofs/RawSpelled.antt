@@ -63,11 +63,11 @@ unfolding form_rows value_bytes
 ref_addr_spelled number x lt = record { content = x; spelled = four_spelled x lt; value = refl }
 
 module _ {K : Type 0} (n : Numbering K) (unit : ℕ) where
-  first_unit : (refs : List K) → Each (FitsUnit n unit) refs → first_place n refs - unit < 2 ^ 32
+  pub first_unit : (refs : List K) → Each (FitsUnit n unit) refs → first_place n refs - unit < 2 ^ 32
   first_unit [] fits = omega arith
   first_unit (k ∷ refs) fits = fits.0.1
 
-  first_info : (refs : List K) → Each (FitsInfo n) refs → first_place n refs < 2 ^ 32
+  pub first_info : (refs : List K) → Each (FitsInfo n) refs → first_place n refs < 2 ^ 32
   first_info [] fits = omega arith
   first_info (k ∷ refs) fits = fits.0
 

@@ -55,7 +55,7 @@ code_grows n (t ∷ table) more s c e =
       | inr p ↦ rw (p.0, code_in) (code_grows (suc n) table more s c p.1)
     ]
 
-code_last : (n : ℕ) (table : List Shape) (s : Shape) → code_in n table s ≡ None → code_in n (table ++ s ∷ []) s ≡ Some (n + length table)
+pub code_last : (n : ℕ) (table : List Shape) (s : Shape) → code_in n table s ≡ None → code_in n (table ++ s ∷ []) s ≡ Some (n + length table)
 unfolding code_in
 code_last n [] s e = rw (same_shape-same s, code_in) (ap Some (omega arith))
 code_last n (t ∷ table) s e =

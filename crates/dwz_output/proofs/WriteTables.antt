@@ -148,7 +148,7 @@ table_found (u ∷ tables) at t o e =
           )
     ]
 
-table_grows : (at : ℕ) (tables more : List (List ℕ)) (t : List ℕ) (o : ℕ) → table_in at tables t ≡ Some o → table_in at (tables ++ more) t ≡ Some o
+pub table_grows : (at : ℕ) (tables more : List (List ℕ)) (t : List ℕ) (o : ℕ) → table_in at tables t ≡ Some o → table_in at (tables ++ more) t ≡ Some o
 unfolding table_in
 table_grows at [] more t o e = absurd cc
 table_grows at (u ∷ tables) more t o e =
@@ -174,14 +174,14 @@ with_has : (tables : List (List ℕ)) (t : List ℕ) (o : Option ℕ) → table_
 with_has tables t (Some n) e = (record { offset = n; is = e }, Grown-same tables)
 with_has tables t None e = (let o = table_last tables 0 t in (record { offset = o.0; is = o.1 }, record { more = t ∷ []; is = refl }))
 
-with_table-has : (tables : List (List ℕ)) (t : List ℕ) → HasTable (with_table tables t) t × Grown tables (with_table tables t)
+pub with_table-has : (tables : List (List ℕ)) (t : List ℕ) → HasTable (with_table tables t) t × Grown tables (with_table tables t)
 unfolding with_table
 with_table-has tables t = with_has tables t (table_in 0 tables t) refl
 
 abbrev pub HasTables : {K : Type 0} → List (List ℕ) → List (DwUnit K) → Type 0
 HasTables tables units = Each (λ u. HasTable tables (abbrevs_of u)) units
 
-tables_have : {K : Type 0} (units : List (DwUnit K)) (tables : List (List ℕ)) → HasTables (tables_of tables units) units × Grown tables (tables_of tables units)
+pub tables_have : {K : Type 0} (units : List (DwUnit K)) (tables : List (List ℕ)) → HasTables (tables_of tables units) units × Grown tables (tables_of tables units)
 unfolding tables_of
 tables_have [] tables = (tt, Grown-same tables)
 tables_have (u ∷ units) tables =
@@ -233,7 +233,7 @@ class_range (r ∷ rows) form e =
       go t rest true e = let same = eqb-true r.form form e in inr (omega (arith, ltb-true 0 r.form t.0), omega (arith, ltb-true r.form 0x10000 t.1))
       go t rest false e = rest
 
-form_range : (form name : ℕ) → IsBuilt form name → (0 < form) × (form ≤ 0xffff)
+pub form_range : (form name : ℕ) → IsBuilt form name → (0 < form) × (form ≤ 0xffff)
 form_range form name built = elim (class_range class_rows form rows_in_range) [
   | inl e ↦ absurd (subst (λ (c : Class). IsBuiltAs c name) e built)
   | inr h ↦ h

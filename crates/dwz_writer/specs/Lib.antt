@@ -1,0 +1,4 @@
+pub mod Attributes
+pub mod Written
+pub mod Events
+pub mod Stored

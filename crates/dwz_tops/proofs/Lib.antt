@@ -1,0 +1,17 @@
+pub mod Said
+pub mod SaidTops
+pub mod FreeLemmas
+pub mod ShownLemmas
+pub mod RowLemmas
+pub mod PlainLemmas
+pub mod SpanLemmas
+pub mod TopLemmas
+pub mod WordLemmas
+pub mod PartLemmas
+pub mod SeenLemmas
+pub mod RootLemmas
+pub mod LabelLemmas
+pub mod SpelledLemmas
+pub mod TreeWords
+pub mod SameWords
+pub mod LeastLemmas

@@ -1,0 +1,17 @@
+pub mod DistinctLemmas
+pub mod GroupLemmas
+pub mod HomeLemmas
+pub mod KeptLemmas
+pub mod LedLemmas
+pub mod ListFacts
+pub mod ListingLemmas
+pub mod MadeLemmas
+pub mod MoverLemmas
+pub mod PartLemmas
+pub mod PartialLemmas
+pub mod PlaceLemmas
+pub mod RepeatLemmas
+pub mod RowLemmas
+pub mod StepLemmas
+pub mod TurnedLemmas
+pub mod UserLemmas

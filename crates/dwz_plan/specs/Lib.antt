@@ -1,0 +1,6 @@
+pub mod Classes
+pub mod Groups
+pub mod Parts
+pub mod Planned
+pub mod Rows
+pub mod Steps

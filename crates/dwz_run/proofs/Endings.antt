@@ -5,8 +5,8 @@ use Rattle.dwz_outside.specs.Store.{Store, got, put_in}
 use Rattle.dwz_model.specs.declared.fault.Fault.{Fault}
 use Rattle.dwz_model.specs.declared.fault.ReadErr.{ReadErr}
 use Rattle.dwz_model.specs.declared.fault.ReadErr.TheVariants.{NoMemory, Refused}
-use Rattle.dwz_run.specs.Ends.{MayBeRefused, Wrote}
-use Rattle.dwz_run.specs.Files.{IsTaken, StandsForItself}
+use Rattle.dwz_run.specs.Ends.{WasRefused, Wrote}
+use Rattle.dwz_run.specs.Files.{IsTaken, MayBeRefused, StandsForItself}
 
 pub wrote : (old mid new : Option Store) (out file input seen output name bytes : List ℕ) → mid ≡ old → seen ≡ input
     → IfSome old (λ store. got store file ≡ Some input) → IsTaken seen → (StandsForItself seen → output ≡ seen) → name ≡ out → bytes ≡ output
@@ -24,7 +24,13 @@ wrote (Some store) mid new out file input seen output name bytes same is_input h
     }
 
 pub refused : (old : Option Store) (file input seen : List ℕ) (f : Fault) → seen ≡ input → IfSome old (λ store. got store file ≡ Some input)
-    → (StandsForItself seen → Refused f ≡ NoMemory) → IfSome old (MayBeRefused file)
-refused None file input seen f is_input held lasts = tt
-refused (Some store) file input seen f is_input held lasts =
-    record { input = input; was_held = held; other = λ itself. absurd let no : Refused f ≡ NoMemory = lasts (subst StandsForItself (sym is_input) itself) in cc }
+    → MayBeRefused seen f → (StandsForItself seen → Refused f ≡ NoMemory) → IfSome old (WasRefused file)
+refused None file input seen f is_input held why lasts = tt
+refused (Some store) file input seen f is_input held why lasts =
+    record {
+      input = input;
+      was_held = held;
+      fault = f;
+      why = subst (λ (bs : List ℕ). MayBeRefused bs f) is_input why;
+      other = λ itself. absurd let no : Refused f ≡ NoMemory = lasts (subst StandsForItself (sym is_input) itself) in cc;
+    }

@@ -1,2 +1,4 @@
+pub mod FewUnits
+pub mod FileSteps
+pub mod Answering
 pub mod Endings
-pub mod Readings

@@ -1,4 +1,4 @@
 pub mod Words
+pub mod Profile
 pub mod Files
 pub mod Ends
-pub mod Profile

@@ -1,6 +1,6 @@
 //! Tops, and which are alike.
 
-use crate::reading::Row;
+use crate::rows::Row;
 use dwz_model::NoMemory;
 use indexmap::IndexMap;
 use std::alloc::Global;

@@ -1,29 +1,59 @@
-//! Why a file is refused.
+//! Why a file isn't read or written.
+
+ghost use Rattle.std.specs.Prelude.{◌≡◌};
+ghost use Rattle.dwz_docs.specs.ElfFaults.{file_fault};
+ghost use Rattle.dwz_model.specs.declared.fault.Reason.TheVariants.{FileSize, NotBuilt};
+ghost use Rattle.dwz_model.specs.declared.fault.ReadErr.TheVariants.{Refused};
+ghost use Rattle.dwz_run.specs.declared.faults.WriteErr.TheVariants.{NoMemory as no_memory_to_write};
 
 use dwz_model::{Fault, ReadErr, Reason};
+use std::alloc::{AllocError, AllocFailed};
 
-// The code of `.debug_info`.
-const INFO: u8 = 1;
-
-/// A file that isn't read as long as the tool is being built.
-pub(crate) fn not_built() -> ReadErr {
-    refused(0, 0, Reason::NotBuilt)
+/// A file that isn't handled as long as the tool is being built.
+pub(crate) fn not_built() -> ReadErr
+    ensures { result ≡ Refused (file_fault NotBuilt 0) }
+{
+    of_file(Reason::NotBuilt)
 }
 
-/// Bytes of `.debug_info` that end too early: at the unit, the value or the unit's end.
-pub(crate) fn truncated(at: usize) -> ReadErr {
-    refused(INFO, at as u64, Reason::Truncated)
+/// A file that is too long.
+pub(crate) fn too_long_file() -> ReadErr
+    ensures { result ≡ Refused (file_fault FileSize 0) }
+{
+    of_file(Reason::FileSize)
 }
 
-/// An entry with a form that isn't read.
-pub(crate) fn unsupported_form(at: usize, form: u64) -> ReadErr {
-    refused(INFO, at as u64, Reason::UnsupportedForm { form })
-}
-
-fn refused(section: u8, at: u64, reason: Reason) -> ReadErr {
+// A fault at the file's first byte.
+fn of_file(reason: Reason) -> ReadErr
+    ensures { result ≡ Refused (file_fault reason 0) }
+{
     ReadErr::Refused(Fault {
-        section,
-        at,
+        section: 0,
+        at: 0,
         reason,
     })
+}
+
+/// Why nothing is written for a file.
+#[derive(Clone, Copy, Debug, PartialEq, Eq)]
+pub(crate) enum WriteErr {
+    /// A section or the file would have 2^24 bytes or more.
+    TooLong,
+    NoMemory,
+}
+
+impl From<AllocError> for WriteErr {
+    ghost from_gives = { λ _ e. e ≡ no_memory_to_write };
+
+    fn from(_error: AllocError) -> WriteErr {
+        WriteErr::NoMemory
+    }
+}
+
+impl<T: Drop> From<AllocFailed<T>> for WriteErr {
+    ghost from_gives = { λ _ e. e ≡ no_memory_to_write };
+
+    fn from(_error: AllocFailed<T>) -> WriteErr {
+        WriteErr::NoMemory
+    }
 }

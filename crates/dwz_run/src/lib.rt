@@ -4,11 +4,11 @@
 mod alike;
 mod faults;
 mod file;
+mod made;
 mod plan;
-mod reading;
+mod rows;
 mod running;
 mod status;
-mod tables;
 mod words;
 mod writing;
 

@@ -1,7 +1,7 @@
 //! Which tops move, and into which partial units.
 
 use crate::alike::Classes;
-use crate::reading::Row;
+use crate::rows::Row;
 use dwz_model::NoMemory;
 use indexmap::IndexMap;
 use std::alloc::Global;

@@ -1,10 +1,9 @@
 //! The bytes of units and of their abbreviation tables.
 
-use crate::faults::not_built;
-use crate::reading::Row;
-use crate::tables::Spec;
+use crate::faults::WriteErr;
+use crate::rows::{Row, Spec};
 use dwz_bytes::put_uleb;
-use dwz_model::{NoMemory, ReadErr};
+use dwz_model::NoMemory;
 use indexmap::IndexMap;
 use std::alloc::Global;
 
@@ -36,12 +35,12 @@ impl Output {
     }
 
     // Where a table stands, which is written if it wasn't before.
-    fn place_of(&mut self, table: Vec<u8>) -> Result<u32, ReadErr> {
+    fn place_of(&mut self, table: Vec<u8>) -> Result<u32, WriteErr> {
         if let Some(place) = self.tables.get(table.as_slice()) {
             return Ok(*place);
         }
         if self.abbrev.len() >= LONGEST {
-            return Err(not_built());
+            return Err(WriteErr::TooLong);
         }
         let place = self.abbrev.len() as u32;
         self.abbrev.extend_from_slice(&table)?;
@@ -56,11 +55,11 @@ impl Output {
         alloc: Global,
         kind: u8,
         entries: Entries,
-    ) -> Result<u32, ReadErr> {
+    ) -> Result<u32, WriteErr> {
         let Entries { decls, bytes } = entries;
         let abbrev = self.place_of(table_of(alloc, &decls)?)?;
         if self.info.len() >= LONGEST || bytes.len() >= LONGEST {
-            return Err(not_built());
+            return Err(WriteErr::TooLong);
         }
         let length = bytes.len() as u32 + 8;
         self.info.extend_from_slice(&length.to_le_bytes())?;

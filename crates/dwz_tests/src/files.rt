@@ -3,6 +3,7 @@
 use crate::elf::plain;
 use dwz_model::{Fault, ReadErr, Reason};
 use dwz_run::one_file;
+use std::alloc::Global;
 use std::test::Fail;
 
 // The table of most files here: a root without attributes, and a base type with a name, a size and an encoding.
@@ -87,70 +88,118 @@ fn a_file_of_which_nothing_moves_stands_for_itself(rt: HostRuntime) -> Result<()
     Ok(())
 }
 
-#[test]
-fn faults_stand_at_their_places(rt: HostRuntime) -> Result<(), Fail> {
-    let truncated = |at| Fault {
-        section: 1,
+// A fault at a place of a section.
+const fn fault(section: u8, at: u64, reason: Reason) -> Fault {
+    Fault {
+        section,
         at,
-        reason: Reason::Truncated,
-    };
-    let not_built = Fault {
-        section: 0,
-        at: 0,
-        reason: Reason::NotBuilt,
-    };
+        reason,
+    }
+}
+
+const INFO: u8 = 1;
+
+const TABLES: u8 = 2;
+
+#[test]
+fn the_first_fault_is_named(rt: HostRuntime) -> Result<(), Fail> {
     let table = [
         // A second unit that is longer than what is left, and a first one.
         (
             "1100000005000108000000000102696e74000405001200000005000108000000000102696e7400040500",
             ABBREV,
-            truncated(0x15),
+            fault(INFO, 0x15, Reason::Truncated),
         ),
         (
             "2700000005000108000000000102696e74000405001100000005000108000000000102696e7400040500",
             ABBREV,
-            truncated(0),
+            fault(INFO, 0, Reason::Truncated),
         ),
-        // A unit that ends inside its tree, and one that ends inside a text.
+        // A first unit that is one byte too long: alone, and before another, whose first byte is no padding then.
+        (
+            "1200000005000108000000000102696e7400040500",
+            ABBREV,
+            fault(INFO, 0, Reason::Truncated),
+        ),
+        (
+            "1200000005000108000000000102696e74000405001100000005000108000000000102696e7400040500",
+            ABBREV,
+            fault(INFO, 0x15, Reason::BadRoot),
+        ),
+        // A unit that ends inside its tree, one that ends inside a text, and one that ends so because a number has 2 bytes.
         (
             "1000000005000108000000000102696e74000405",
             ABBREV,
-            truncated(0x14),
+            fault(INFO, 0x14, Reason::Truncated),
         ),
-        ("0c00000005000108000000000102696e", ABBREV, truncated(0xe)),
-        // Indirect, which isn't read; a number of 2 bytes, which isn't built.
+        (
+            "0c00000005000108000000000102696e",
+            ABBREV,
+            fault(INFO, 0xe, Reason::Truncated),
+        ),
+        (
+            TWO,
+            "011101000002240003080b053e0b000000",
+            fault(INFO, 0x15, Reason::Truncated),
+        ),
+        // A second unit that is too long, behind one that isn't handled.
+        (
+            "1200000005000108000000000102696e7400040005001300000005000108000000000102696e740004000500",
+            "011101000002240003080b053e0b000000",
+            fault(INFO, 0x16, Reason::Truncated),
+        ),
+        // The form `DW_FORM_indirect`, and a code that isn't declared.
         (
             TWO,
             "011101000002240003080b163e0b000000",
-            Fault {
-                section: 1,
-                at: 0xd,
-                reason: Reason::UnsupportedForm { form: 0x16 },
-            },
+            fault(INFO, 0xd, Reason::UnsupportedForm { form: 0x16 }),
         ),
-        (TWO, "011101000002240003080b053e0b000000", not_built),
-        // A code that isn't declared, and version 4.
         (
             "1100000005000108000000000103696e7400040500",
             ABBREV,
-            not_built,
+            fault(INFO, 0xd, Reason::NoSuchCode),
         ),
+        // Headers: version 4, the 64-bit format, a partial unit, addresses of 4 bytes.
         (
             "1100000004000108000000000102696e7400040500",
             ABBREV,
-            not_built,
+            fault(INFO, 0, Reason::Version),
+        ),
+        (
+            "ffffffff05000108000000000102696e7400040500",
+            ABBREV,
+            fault(INFO, 0, Reason::DwarfFormat),
+        ),
+        (
+            "1100000005000308000000000102696e7400040500",
+            ABBREV,
+            fault(INFO, 0, Reason::UnitType),
+        ),
+        (
+            "1100000005000104000000000102696e7400040500",
+            ABBREV,
+            fault(INFO, 0, Reason::AddressSize),
+        ),
+        // A root that is a base type, a table that isn't there, and one without its end.
+        (
+            "1100000005000108000000000202696e7400040500",
+            ABBREV,
+            fault(INFO, 0xc, Reason::BadRoot),
+        ),
+        (
+            "1100000005000108200000000102696e7400040500",
+            ABBREV,
+            fault(TABLES, 0x20, Reason::BadAbbrev),
+        ),
+        (
+            "1100000005000108000000000102696e7400040500",
+            "011101000002240003080b0b3e0b0000",
+            fault(TABLES, 0x10, Reason::BadAbbrev),
         ),
     ];
-    let alloc = rt.alloc();
-    for (info, abbrev, fault) in table {
-        let file = plain(
-            alloc,
-            &hex::decode(alloc, info)?,
-            &hex::decode(alloc, abbrev)?,
-        )?;
-        let answer = one_file(alloc, &file);
+    for (info, abbrev, first) in table {
         assert!(rt;
-            answer.is_err_and(|error| error == ReadErr::Refused(fault)),
+            is_refused(rt.alloc(), info, abbrev, first)?,
             "of {info} {abbrev}"
         );
     }
@@ -158,28 +207,66 @@ fn faults_stand_at_their_places(rt: HostRuntime) -> Result<(), Fail> {
 }
 
 #[test]
+fn what_is_not_built_yet_is_refused_so(rt: HostRuntime) -> Result<(), Fail> {
+    let table = [
+        // A number of 2 bytes, and a reference, which names no entry.
+        (
+            "1200000005000108000000000102696e740004000500",
+            "011101000002240003080b053e0b000000",
+        ),
+        (
+            "1400000005000108000000000102696e7400ff0000000500",
+            "011101000002240003080b133e0b000000",
+        ),
+    ];
+    let not_built = fault(0, 0, Reason::NotBuilt);
+    for (info, abbrev) in table {
+        assert!(rt;
+            is_refused(rt.alloc(), info, abbrev, not_built)?,
+            "of {info} {abbrev}"
+        );
+    }
+    Ok(())
+}
+
+// Whether the plain file with these sections is refused for a fault.
+fn is_refused(alloc: Global, info: &str, abbrev: &str, fault: Fault) -> Result<bool, Fail> {
+    let file = plain(
+        alloc,
+        &hex::decode(alloc, info)?,
+        &hex::decode(alloc, abbrev)?,
+    )?;
+    Ok(one_file(alloc, &file).is_err_and(|error| error == ReadErr::Refused(fault)))
+}
+
+#[test]
 fn what_is_no_elf_file_is_refused(rt: HostRuntime) -> Result<(), Fail> {
+    let big_endian = [0x7f, 0x45, 0x4c, 0x46, 2, 2, 1];
+    let refused = ReadErr::Refused(fault(0, 5, Reason::NotElf));
+    let answer = one_file(rt.alloc(), &big_endian);
+    assert!(rt; answer.is_err_and(|error| error == refused));
+    Ok(())
+}
+
+// The section headers are the last of the file's 416 bytes, and the place of the first is in the file header at 0x28.
+#[test]
+fn a_file_that_is_cut_off_is_refused(rt: HostRuntime) -> Result<(), Fail> {
     let alloc = rt.alloc();
     let whole = plain(
         alloc,
         &hex::decode(alloc, TWO)?,
         &hex::decode(alloc, ABBREV)?,
     )?;
-    let big_endian = [0x7f, 0x45, 0x4c, 0x46, 2, 2, 1];
-    let table = [
-        (whole.get(..0), 0),
-        (Some(big_endian.as_slice()), 5),
-        (whole.get(..7), 7),
-        (whole.get(..63), 63),
-    ];
-    for (file, at) in table {
-        let refused = ReadErr::Refused(Fault {
-            section: 0,
-            at,
-            reason: Reason::NotElf,
-        });
-        let answer = one_file(alloc, file.unwrap_or(&[]));
-        assert!(rt; answer.is_err_and(|error| error == refused), "at {at}");
+    assert_eq!(rt; whole.len(), 416);
+    for (n, _) in whole.iter().enumerate() {
+        let first = if n < 64 {
+            fault(0, n as u64, Reason::NotElf)
+        } else {
+            fault(0, 0x28, Reason::SectionTable)
+        };
+        let answer = one_file(alloc, whole.get(..n).unwrap_or(&[]));
+        let refused = ReadErr::Refused(first);
+        assert!(rt; answer.is_err_and(|error| error == refused), "of {n} bytes");
     }
     Ok(())
 }

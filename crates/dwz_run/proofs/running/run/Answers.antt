@@ -16,7 +16,7 @@ pub returns-in-Err-Refused-clause-ends : goal.returns-in-Err-Refused-clause-ends
 returns-in-Err-Refused-clause-ends g c = (
   record { out = c.in-Some.asked.out.now; file = c.in-Some.asked.file.now; lawful = c.in-Some.ensures.lawful },
   refused _ _ _ _ c.in-Err-Refused.field-0-0 c.deref.ensures.value c.in-Ok.ensures.content
-      (rw c.in-Err-Refused.field-0-is at c.in-Err-Refused.ensures.lasts),
+      (rw c.in-Err-Refused.field-0-is at c.in-Err-Refused.ensures.refused) (rw c.in-Err-Refused.field-0-is at c.in-Err-Refused.ensures.lasts),
   c.get.ensures.held,
 )
 

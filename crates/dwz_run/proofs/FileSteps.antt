@@ -1,0 +1,168 @@
+-- A file is read step by step: its length, its sections, its units, what they mean.
+use Rattle.std.proofs.Common.{◌≡◌, ℕ, ◌<◌, ◌≤◌, ◌^◌, List, [], length, Option, Some, None, Result, Ok, Err, refl, sym, ap, ◌∙◌, true, false, Bool, ltb, ◌||◌, ⊎_elim, inl, inr, map, arith}
+use Rattle.std.proofs.lemmas.Bool.{le-ltb, lt-ltb}
+use Rattle.dwz_model.specs.declared.fault.Fault.{Fault}
+use Rattle.dwz_model.specs.declared.fault.ReadErr.{ReadErr}
+use Rattle.dwz_model.specs.declared.fault.ReadErr.TheVariants.{NoMemory, Refused}
+use Rattle.dwz_model.specs.declared.fault.Reason.TheVariants.{FileSize, Machine, NotBuilt}
+use Rattle.dwz_bytes.specs.Input.{input}
+use Rattle.dwz_bytes.specs.Reading.{◌>>=◌}
+use Rattle.dwz_docs.specs.Documents.{Doc, DwUnit}
+use Rattle.dwz_docs.specs.ElfFaults.{file_fault}
+use Rattle.dwz_docs.specs.ElfReading.{ElfView, elf_fault, elf_of, section_range}
+use Rattle.dwz_docs.specs.Entries.{given, unless_so}
+use Rattle.dwz_docs.specs.Faults.{Fails}
+use Rattle.dwz_docs.specs.Files.{HasMeaningFault, IsFileFault, Reads, bytes_in, debug_abbrev, debug_info, doc_with, ends_at, file_meaning, is_other_machine, is_too_long, longest_file, longest_files, machine_at, machine_of, most_entries, no_files_before, section_of, sources_of}
+use Rattle.dwz_docs.specs.Meanings.{all_places, units_meaning}
+use Rattle.dwz_docs.specs.Units.{RawUnit, units_at}
+use Rattle.dwz_docs.proofs.FileLemmas.{file_agrees}
+use Rattle.dwz_docs.proofs.MeaningLemmas.{units_agree}
+use Rattle.dwz_docs.proofs.PartLemmas.{bind_err, bind_ok}
+use Rattle.dwz_docs.proofs.UnitListLemmas.{units_found}
+use Rattle.dwz_elf.specs.Plain.{IsPlain}
+use Rattle.dwz_elf.specs.Reads.{Gives}
+use Rattle.dwz_run.specs.Files.{HasUnits, IsAnswer}
+use Rattle.dwz_tops.specs.Plain.{are_plain_units}
+use Rattle.dwz_tops.proofs.Said.{same, unit_said, units_mean}
+
+-- ---- the steps, by their names
+
+abbrev Meant : Type 0
+Meant = Result (List RawUnit × Doc ℕ) Fault
+
+abbrev pub meant : List ℕ → List RawUnit → Meant
+meant bytes units = units_meaning (sources_of bytes) (all_places units) units >>= doc_with bytes units
+
+abbrev pub after_machine : List ℕ → Meant
+after_machine bytes = units_at (debug_abbrev bytes) (given most_entries) 0 (input (debug_info bytes) 0) >>= meant bytes
+
+abbrev after_elf : List ℕ → Unit {0} → Meant
+after_elf bytes elf = unless_so (is_other_machine None (machine_of bytes)) (file_fault Machine machine_at) >>= λ machine. after_machine bytes
+
+abbrev after_size : List ℕ → Unit {0} → Meant
+after_size bytes size = ends_at (elf_fault bytes) >>= after_elf bytes
+
+abbrev after : List ℕ → Bool → Meant
+after bytes long = unless_so long (file_fault FileSize 0) >>= after_size bytes
+
+in_steps : (bytes : List ℕ) → file_meaning no_files_before bytes ≡ after bytes (is_too_long no_files_before bytes)
+unfolding file_meaning
+in_steps bytes = refl
+
+too_long : (bytes : List ℕ) → 2 ^ 28 < length bytes → file_meaning no_files_before bytes ≡ Err (file_fault FileSize 0)
+unfolding longest_file
+too_long bytes lt =
+    let test : ltb (2 ^ 28) (length bytes) ≡ true = lt-ltb (2 ^ 28) (length bytes) lt in
+    in_steps bytes ∙ ap (λ (b : Bool). after bytes (b || ltb longest_files (length bytes))) test
+
+short_file : (bytes : List ℕ) → length bytes ≤ 2 ^ 28 → file_meaning no_files_before bytes ≡ after_size bytes tt
+unfolding longest_file longest_files
+short_file bytes le =
+    let first : ltb (2 ^ 28) (length bytes) ≡ false = le-ltb (2 ^ 28) (length bytes) le in
+    let second : ltb (2 ^ 29) (length bytes) ≡ false = le-ltb (2 ^ 29) (length bytes) (omega arith) in
+    in_steps bytes ∙ ap (λ (b : Bool). after bytes (b || ltb (2 ^ 29) (length bytes))) first ∙ ap (after bytes) second
+
+elf_said : (bytes : List ℕ) → length bytes ≤ 2 ^ 28 → file_meaning no_files_before bytes ≡ ends_at (elf_fault bytes) >>= after_elf bytes
+elf_said bytes le = short_file bytes le
+
+elf_reads : (bytes : List ℕ) → length bytes ≤ 2 ^ 28 → elf_fault bytes ≡ None → file_meaning no_files_before bytes ≡ after_machine bytes
+elf_reads bytes le is = elf_said bytes le ∙ ap (λ (o : Option Fault). ends_at o >>= after_elf bytes) is
+
+abbrev units_of_file : List ℕ → Result (List RawUnit) Fault
+units_of_file bytes = units_at (debug_abbrev bytes) (given most_entries) 0 (input (debug_info bytes) 0)
+
+abbrev raw_in : Meant → List RawUnit
+raw_in (Ok x) = x.0
+raw_in (Err f) = []
+
+-- ---- faults
+
+pub size_fault : (bytes : List ℕ) → 2 ^ 28 < length bytes → IsFileFault no_files_before bytes (file_fault FileSize 0)
+size_fault bytes lt = ((file_agrees no_files_before bytes).err (file_fault FileSize 0)).0 (too_long bytes lt)
+
+pub elf_fault_stands : (bytes : List ℕ) (f : Fault) → length bytes ≤ 2 ^ 28 → elf_fault bytes ≡ Some f → IsFileFault no_files_before bytes f
+elf_fault_stands bytes f le is = ((file_agrees no_files_before bytes).err f).0 (elf_said bytes le ∙ ap (λ (o : Option Fault). ends_at o >>= after_elf bytes) is)
+
+-- the bytes of a section, as code shows them
+pub content_is : (bytes shown : List ℕ) (elf : ElfView) (code : ℕ) → elf ≡ elf_of bytes → shown ≡ bytes_in bytes (section_range elf.sections code) → shown ≡ section_of bytes code
+unfolding section_of elf_of
+content_is bytes shown elf code is e = e ∙ ap (λ (v : ElfView). bytes_in bytes (section_range v.sections code)) is
+
+in_sections : (bytes info abbrevs : List ℕ) → info ≡ debug_info bytes → abbrevs ≡ debug_abbrev bytes → units_of_file bytes ≡ units_at abbrevs (given 16777216) 0 (input info 0)
+unfolding most_entries
+in_sections bytes info abbrevs is_info is_abbrevs =
+    ap (λ (w : List ℕ). units_at w (given 16777216) 0 (input (debug_info bytes) 0)) (sym is_abbrevs)
+    ∙ ap (λ (w : List ℕ). units_at abbrevs (given 16777216) 0 (input w 0)) (sym is_info)
+
+pub units_fault_stands : (bytes info abbrevs : List ℕ) (f : Fault) → length bytes ≤ 2 ^ 28 → elf_fault bytes ≡ None → info ≡ debug_info bytes → abbrevs ≡ debug_abbrev bytes
+    → units_at abbrevs (given 16777216) 0 (input info 0) ≡ Err f → IsFileFault no_files_before bytes f
+units_fault_stands bytes info abbrevs f le none is_info is_abbrevs is =
+    ((file_agrees no_files_before bytes).err f).0 (elf_reads bytes le none ∙ ap (λ (r : Result (List RawUnit) Fault). r >>= meant bytes) (in_sections bytes info abbrevs is_info is_abbrevs ∙ is))
+
+-- ---- a file whose units are read
+
+small : (bytes : List ℕ) → length bytes ≤ longest_file → length bytes ≤ 2 ^ 28
+unfolding longest_file
+small bytes le = le
+
+said : (bytes : List ℕ) (raw : List RawUnit) → HasUnits bytes raw → file_meaning no_files_before bytes ≡ meant bytes raw
+said bytes raw h = elf_reads bytes (small bytes h.size) h.elf ∙ ap (λ (r : Result (List RawUnit) Fault). r >>= meant bytes) h.units
+
+-- as code reads it
+pub read_file : (bytes info abbrevs : List ℕ) (elf : ElfView) (raw : List RawUnit) → length bytes ≤ 2 ^ 28 → (elf_fault bytes ≡ None) × (elf ≡ elf_of bytes)
+    → info ≡ bytes_in bytes (section_range elf.sections 1) → abbrevs ≡ bytes_in bytes (section_range elf.sections 2)
+    → units_at abbrevs (given 16777216) 0 (input info 0) ≡ Ok raw → HasUnits bytes raw
+unfolding longest_file most_entries
+read_file bytes info abbrevs elf raw le is_elf is_info is_abbrevs read = record {
+  size = le;
+  elf = is_elf.0;
+  units = in_sections bytes info abbrevs (content_is bytes info elf 1 is_elf.1 is_info) (content_is bytes abbrevs elf 2 is_elf.1 is_abbrevs) ∙ read;
+}
+
+-- plain units mean something
+pub reads_plain : (bytes : List ℕ) (raw : List RawUnit) → HasUnits bytes raw → are_plain_units raw ≡ true → (doc : Doc ℕ) × Reads no_files_before bytes raw doc
+reads_plain bytes raw h plain =
+    let units = map (unit_said same) raw in
+    let means : units_meaning (sources_of bytes) (all_places raw) raw ≡ Ok units = ((units_agree (sources_of bytes) (all_places raw) raw).ok units).1 (units_mean (sources_of bytes) (all_places raw) raw plain) in
+    let doc : Doc ℕ = record { machine = machine_of bytes; units = units } in
+    (doc, ((file_agrees no_files_before bytes).ok (raw, doc)).0 (said bytes raw h ∙ ap (λ (r : Result (List (DwUnit ℕ)) Fault). r >>= doc_with bytes raw) means))
+
+-- and are the only ones that the file reads as
+pub same_raw : (bytes : List ℕ) (raw other : List RawUnit) (doc : Doc ℕ) → HasUnits bytes raw → Reads no_files_before bytes other doc → other ≡ raw
+same_raw bytes raw other doc h reads =
+    let is : file_meaning no_files_before bytes ≡ Ok (other, doc) = ((file_agrees no_files_before bytes).ok (other, doc)).1 reads in
+    let m = bind_ok (units_meaning (sources_of bytes) (all_places raw) raw) (doc_with bytes raw) (other, doc) (sym (said bytes raw h) ∙ is) in
+    sym (ap raw_in m.2)
+
+-- what is wrong with it is what a value means
+pub meaning_fault : (bytes : List ℕ) (raw : List RawUnit) (f : Fault) → HasUnits bytes raw → IsFileFault no_files_before bytes f → HasMeaningFault no_files_before bytes f
+meaning_fault bytes raw f h fault =
+    let is : file_meaning no_files_before bytes ≡ Err f = ((file_agrees no_files_before bytes).err f).1 fault in
+    ⊎_elim
+    (λ (e : units_meaning (sources_of bytes) (all_places raw) raw ≡ Err f). record {
+      units = raw;
+      spelled = units_found (debug_abbrev bytes) (given most_entries) 0 (input (debug_info bytes) 0) raw h.units;
+      fault = ((units_agree (sources_of bytes) (all_places raw) raw).err f).0 e;
+    })
+    (λ (m : (x : List (DwUnit ℕ)) × (units_meaning (sources_of bytes) (all_places raw) raw ≡ Ok x) × (doc_with bytes raw x ≡ Err f)). absurd let no = m.2 in cc)
+    (bind_err (units_meaning (sources_of bytes) (all_places raw) raw) (doc_with bytes raw) f (sym (said bytes raw h) ∙ is))
+
+-- ---- how it ends
+
+pub elf_fails : {A : Type 0} (items : A → List ℕ) (e : ReadErr) (bytes : List ℕ) (elf : ElfView) → length bytes ≤ 2 ^ 28 → Gives (Err e) (elf_fault bytes) elf → IsAnswer items bytes (Err e)
+elf_fails items NoMemory bytes elf le is = tt
+elf_fails items (Refused f) bytes elf le is = inl (elf_fault_stands bytes f le is)
+
+pub units_fail : {A : Type 0} (items : A → List ℕ) (e : ReadErr) (bytes info abbrevs : List ℕ) (elf : ElfView) → length bytes ≤ 2 ^ 28 → (elf_fault bytes ≡ None) × (elf ≡ elf_of bytes)
+    → info ≡ bytes_in bytes (section_range elf.sections 1) → abbrevs ≡ bytes_in bytes (section_range elf.sections 2)
+    → Fails e (units_at abbrevs (given 16777216) 0 (input info 0)) → IsAnswer items bytes (Err e)
+units_fail items NoMemory bytes info abbrevs elf le is_elf is_info is_abbrevs is = tt
+units_fail items (Refused f) bytes info abbrevs elf le is_elf is_info is_abbrevs is =
+    inl (units_fault_stands bytes info abbrevs f le is_elf.0 (content_is bytes info elf 1 is_elf.1 is_info) (content_is bytes abbrevs elf 2 is_elf.1 is_abbrevs) is)
+
+pub size_fails : {A : Type 0} (items : A → List ℕ) (e : ReadErr) (bytes : List ℕ) → e ≡ Refused (file_fault FileSize 0) → 2 ^ 28 < length bytes → IsAnswer items bytes (Err e)
+size_fails items e bytes is lt = rw is (inl (size_fault bytes lt))
+
+pub not_built : {A : Type 0} (items : A → List ℕ) (e : ReadErr) (bytes : List ℕ) (raw : List RawUnit) → e ≡ Refused (file_fault NotBuilt 0) → HasUnits bytes raw
+    → (IsPlain (elf_of bytes) → are_plain_units raw ≡ true → length raw < 2 → 2 ^ 24 ≤ length bytes) → IsAnswer items bytes (Err e)
+not_built items e bytes raw is read other = rw is (inr (record { fault = refl; raw = raw; read = read; other = other }))

@@ -60,7 +60,7 @@ distinct_join (us ∷ xs) ys h =
 pub has_from : (us : List ℕ) (lists : List (List ℕ)) → In us lists → has_list us lists ≡ true
 has_from us lists is = any_yes (same_numbers us) lists us is (same_refl us)
 
-get_in : {X : Type 0} (xs : List X) (i : ℕ) (d : X) → i < length xs → In (get_or xs i d) xs
+pub get_in : {X : Type 0} (xs : List X) (i : ℕ) (d : X) → i < length xs → In (get_or xs i d) xs
 get_in [] i d l = absurd (omega arith)
 get_in (x ∷ xs) zero d l = inl refl
 get_in (x ∷ xs) (suc i) d l = inr (get_in xs i d (omega arith))

@@ -1,3 +1,4 @@
+pub mod BridgeLemmas
 pub mod DistinctLemmas
 pub mod GroupLemmas
 pub mod HomeLemmas
@@ -12,6 +13,7 @@ pub mod PartialLemmas
 pub mod PlaceLemmas
 pub mod RepeatLemmas
 pub mod RowLemmas
+pub mod ShownLemmas
 pub mod StepLemmas
 pub mod TurnedLemmas
 pub mod UserLemmas

@@ -119,7 +119,7 @@ filter_true {X} (x ∷ xs) = ap (λ (ys : List X). x ∷ ys) (filter_true xs)
 pub listed_is : (ls : List (List ℕ)) → listed ls ≡ distinct ls
 listed_is ls = listed_from [] ls ∙ filter_true (distinct ls)
 
-position_found : {X : Type 0} (p : X → Bool) (xs : List X) → list_any p xs ≡ true → position_or_len p xs < length xs
+pub position_found : {X : Type 0} (p : X → Bool) (xs : List X) → list_any p xs ≡ true → position_or_len p xs < length xs
 position_found p [] h = absurd cc
 position_found {X} p (x ∷ xs) h = by (p x) h (position_found p xs)
   where

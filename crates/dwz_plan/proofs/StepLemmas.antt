@@ -18,10 +18,11 @@ use Rattle.dwz_plan.specs.Planned.{alike, home, home_of, moves, number_in, numbe
 use Rattle.dwz_plan.specs.Rows.{Given, Row, given, rows_from}
 use Rattle.dwz_plan.specs.Steps.{all_keys, is_in_unit, keys_under, lists_of, movers_by, number_of, numbered, pair, partial_of, partials_of, parts_by, placed, placed_by, stander, unit_pairs, users_at}
 use Rattle.dwz_plan.specs.declared.groups.Pair.{Pair}
-use Rattle.dwz_plan.proofs.DistinctLemmas.{distinct_apart, in_distinct, number_is, zip_range}
+use Rattle.dwz_plan.proofs.DistinctLemmas.{distinct_apart, has_from, in_distinct, number_is, zip_range}
 use Rattle.dwz_plan.proofs.HomeLemmas.{local_low}
-use Rattle.dwz_plan.proofs.LedLemmas.{Counted, Stood, counted_below, counted_from, numbers_counted, rows_counted, same_row, stood, stood_leads}
+use Rattle.dwz_plan.proofs.LedLemmas.{Counted, Stood, counted_below, counted_from, numbers_counted, row_in, row_number, rows_counted, same_row, stood, stood_leads}
 use Rattle.dwz_plan.proofs.ListFacts.{all_from_in, filter_in, in_filter, in_filter_from, in_left, in_map, in_map_from, in_range, in_right, map_in, map_map, range_there}
+use Rattle.dwz_plan.proofs.ListingLemmas.{position_found, same_refl, same_true}
 use Rattle.dwz_plan.proofs.MoverLemmas.{led_lists, movers_are, movers_of}
 use Rattle.dwz_plan.proofs.PartialLemmas.{Homed, Represents, all_homes, homed, movers_split, part_among, partials_among, tops_with}
 use Rattle.dwz_plan.proofs.RowLemmas.{alike_same, length-rows_from, rep_stays}
@@ -292,3 +293,51 @@ module _ (scope : Scope) (tops : Tops) (least : List ℕ) where
   pub users_are : length least ≡ length tops.rows → (rows : List TopRow) (reps : List ℕ) (units : ℕ) (users' : List (List ℕ)) → rows ≡ tops.rows → reps ≡ reps_of the → units ≡ length tops.files_of_units
       → users' ≡ all_keys (length rows) units (unit_pairs rows reps) → users' ≡ lists
   users_are len rows reps units users' rows_are reps_are units_are is = is ∙ ((λ i. all_keys (length (rows_are i)) (units_are i) (unit_pairs (rows_are i) (reps_are i))) ∙ led_lists scope tops least len)
+
+  -- ---- the partial unit of what moves
+
+  -- the partial unit of that number has the row's users, and the top that stands for it
+  pub record PartOf (a : Row) : Type 0 where
+    pub low : number_in (partials the) (users the a) < length (partials the)
+    pub is : (d : Partial) → get_or (partials the) (number_in (partials the) (users the a)) d ≡ part_among the (movers_of the) (users the a)
+    pub holds : In (rep the a) (tops_with the (movers_of the) (users the a))
+
+  pub part_of : All (λ f. f < tops.files) tops.files_of_units → (a : Row) → In a the_rows → (home the a ≡ Stay → ⊥) → PartOf a
+  part_of low a is other = record { low = below; is = at; holds = standing }
+    where
+      l : Leader the a
+      l = leader the a is
+
+      there : In l.row (movers_of the)
+      there = moves_there low l.row l.there l.leads (λ e. other (ap (home_of tops.files_of_units) (sym l.same_users) ∙ e))
+
+      listed_there : In (users the a) user_lists
+      listed_there = subst (λ (us : List ℕ). In us user_lists) l.same_users (in_lists l.row there)
+
+      found : number_of user_lists (users the a) < length user_lists
+      found = position_found (same_numbers (users the a)) user_lists (has_from (users the a) user_lists listed_there)
+
+      long : length (partials the) ≡ length user_lists
+      long = ap (λ (ps : List Partial). length ps) (sym (partials_among the)) ∙ length-map user_lists (part_among the (movers_of the))
+
+      below : number_in (partials the) (users the a) < length (partials the)
+      below = omega (arith, number_is_in (users the a), found, long)
+
+      same_list : users the a ≡ get_or user_lists (number_of user_lists (users the a)) []
+      same_list =
+          same_true (users the a) (get_or user_lists (number_of user_lists (users the a)) [])
+          (sym (number_is user_lists (users the a) (number_of user_lists (users the a)) (distinct_apart (map (users the) (movers_of the))) listed_there found) ∙ eq-eqb (number_of user_lists (users the a)) (number_of user_lists (users the a)) refl)
+
+      at : (d : Partial) → get_or (partials the) (number_in (partials the) (users the a)) d ≡ part_among the (movers_of the) (users the a)
+      at d =
+          (λ i. get_or (sym (partials_among the) i) (number_is_in (users the a) i) d)
+          ∙ (get_or-map (part_among the (movers_of the)) user_lists (number_of user_lists (users the a)) [] d found ∙ ap (part_among the (movers_of the)) (sym same_list))
+
+      standing : In (rep the a) (tops_with the (movers_of the) (users the a))
+      standing =
+          subst (λ n. In n (tops_with the (movers_of the) (users the a))) (sym l.number)
+          (in_map (λ (b : Row). b.number) l.row (filter (λ b. same_numbers (users the b) (users the a)) (movers_of the)) (in_filter (λ b. same_numbers (users the b) (users the a)) l.row (movers_of the) there (ap (λ (us : List ℕ). same_numbers us (users the a)) l.same_users ∙ same_refl (users the a))))
+
+  -- the row of a number
+  pub row_of_number : (n : ℕ) (d : Row) → n < length the_rows → In (get_or the_rows n d) the_rows × ((get_or the_rows n d).number ≡ n)
+  row_of_number n d l = (row_in 0 the_rows n d l, omega (arith, row_number 0 the_rows n d counted l))

@@ -3,4 +3,5 @@ pub mod Groups
 pub mod Parts
 pub mod Planned
 pub mod Rows
+pub mod Shows
 pub mod Steps

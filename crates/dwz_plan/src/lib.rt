@@ -3,6 +3,7 @@
 
 mod groups;
 mod homes;
+mod laws;
 mod parted;
 mod parts;
 mod plan;
@@ -10,4 +11,5 @@ mod reps;
 mod units;
 mod users;
 
+pub use laws::plan_shows;
 pub use plan::{Home, Partial, Plan, Scope};

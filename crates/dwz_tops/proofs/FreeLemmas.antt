@@ -1,26 +1,26 @@
 -- The tops of what plain units say may move, none is pinned, and they are alike where they are the same.
-use Rattle.std.proofs.Common.{◌≡◌, ◌↔◌, ◌⊎◌, ℕ, ℤ, zero, suc, Bool, true, false, List, [], ◌∷◌, ◌++◌, map, ◌==◌, ◌&&◌, ◌||◌, cond, Decides, refl, sym, ap, subst, ◌∙◌, inl, inr, ⊎_elim}
+use Rattle.std.proofs.Common.{◌≡◌, ◌⊎◌, ℕ, ℤ, zero, suc, Bool, true, false, List, [], ◌∷◌, ◌++◌, map, ◌==◌, ◌&&◌, cond, refl, sym, ap, subst, ◌∙◌, inl, inr, ⊎_elim}
 use Rattle.std.specs.List.{list_all, list_any}
 use Rattle.std.proofs.lemmas.Bool.{and_parts, false≢true, not-true, or_from}
-use Rattle.dwz_docs.specs.Documents.{Attr, Compile, Doc, Entries, Node, Num, Plain, Text}
+use Rattle.dwz_docs.specs.Documents.{Attr, Doc, Num, Text}
 use Rattle.dwz_docs.specs.Entries.{RawAttr, RawEntry}
 use Rattle.dwz_docs.specs.Meanings.{In, bytes_of, has, kept_width, number_of, offset_of}
 use Rattle.dwz_docs.specs.Trees.{End, Entry, Forest}
 use Rattle.dwz_docs.specs.Units.{CompileUnit, PartialUnit, RawKind, RawUnit, TypeUnit}
-use Rattle.dwz_output.specs.Alike.{Alike, Apart, Bound, Each, Look, Movable, SameTop, any_attr, any_entry, any_in, attr_binds, binding_forms, binds_itself, entry_binds, has_operand, is_in, is_named, leaves, names_in_unit, operand_names, refers_to}
-use Rattle.dwz_output.specs.Deciding.{alike_test, is_movable}
-use Rattle.dwz_output.specs.Out.{alike_in, one_file}
-use Rattle.dwz_output.specs.Plan.{is_pinned, parts_of, pinned_in, pins, uleb_targets}
-use Rattle.dwz_output.specs.Spots.{FileUnit, Spot, Top, in_file, tops_of}
+use Rattle.dwz_output.specs.Alike.{Apart, Bound, Look, Movable, SameTop, any_attr, any_entry, attr_binds, binding_forms, binds_itself, entry_binds, has_operand, is_in, is_named, operand_names, refers_to}
+use Rattle.dwz_output.specs.Deciding.{is_movable}
+use Rattle.dwz_output.specs.Out.{one_file}
+use Rattle.dwz_output.specs.Plan.{is_pinned, parts_of, pins, uleb_targets}
+use Rattle.dwz_output.specs.Spots.{FileUnit, Spot, Top, tops_of}
 use Rattle.dwz_output.proofs.AlikeBound.{movable_decides}
 use Rattle.dwz_output.proofs.AlikeLaws.{test_decides}
 use Rattle.dwz_output.proofs.AlikeLooks.{look_in, look_out}
 use Rattle.dwz_output.proofs.AlikeTops.{AttrsIn, EntriesIn, TopIn, top_gives}
 use Rattle.dwz_output.proofs.TopNumbers.{Numbered, tops_numbers}
 use Rattle.dwz_tops.specs.Laws.{AlikeIfSame, MeanPlain, NoTarget}
-use Rattle.dwz_tops.specs.Plain.{are_plain, are_plain_units, is_compile, is_plain_attr, is_plain_entry}
+use Rattle.dwz_tops.specs.Plain.{are_plain, are_plain_units, is_plain_attr, is_plain_entry}
 use Rattle.dwz_tops.specs.Tops.{RawTop, tops_below, tops_from, tops_in}
-use Rattle.dwz_tops.proofs.Said.{IsPlainAttr, attr_said, entries_said, node_said, plain_attr, plain_of, unit_said}
+use Rattle.dwz_tops.proofs.Said.{IsPlainAttr, attr_said, entries_said, node_said, plain_attr, plain_of}
 use Rattle.dwz_tops.proofs.SaidTops.{file_said, files_said, names, said_tops, top_said, tops_said}
 
 -- ---- a test that no attribute passes

@@ -1,5 +1,5 @@
 -- Labels one behind the other.
-use Rattle.std.proofs.Common.{◌≡◌, ℕ, zero, suc, ◌+◌, ◌<◌, ◌≤◌, List, [], ◌∷◌, ◌++◌, length, map, take, Some, None, slice_get, refl, sym, ap, subst, ◌∙◌, ⊎_elim, arith}
+use Rattle.std.proofs.Common.{◌≡◌, ℕ, ◌+◌, ◌<◌, ◌≤◌, List, [], ◌∷◌, ◌++◌, length, map, take, Some, slice_get, refl, sym, ap, subst, ◌∙◌, ⊎_elim, arith}
 use Rattle.std.proofs.lemmas.Bool.{cases_lt}
 use Rattle.std.proofs.lemmas.List.{length-append, length-map, map-append, take_all}
 use Rattle.std.proofs.lemmas.Option.{slice_get_within}
@@ -10,8 +10,8 @@ use Rattle.dwz_output.specs.Alike.{Each}
 use Rattle.dwz_tops.specs.declared.spans.Span.{Span}
 use Rattle.dwz_tops.specs.Labels.{Appends, AreLabels, AreWords, spelled, words_at}
 use Rattle.dwz_tops.specs.Parts.{Rise, parts_of}
-use Rattle.dwz_tops.specs.Spans.{all_spans, span, spans_below, spans_from, spans_in}
-use Rattle.dwz_tops.proofs.PartLemmas.{Rise-push, length-parts_of, parts_of-push}
+use Rattle.dwz_tops.specs.Spans.{all_spans, spans_below, spans_from, spans_in}
+use Rattle.dwz_tops.proofs.PartLemmas.{Rise-push, parts_of-push}
 use Rattle.dwz_tops.proofs.RowLemmas.{take_here}
 use Rattle.dwz_tops.proofs.SpanLemmas.{each_append, each_at}
 

@@ -12,13 +12,12 @@ use Rattle.dwz_output.specs.Out.{alike_in, one_file}
 use Rattle.dwz_output.specs.Plan.{first_alike}
 use Rattle.dwz_output.specs.Spots.{Spot, Top, tops_of}
 use Rattle.dwz_output.proofs.TopNumbers.{Numbered, tops_numbers}
-use Rattle.dwz_tops.specs.declared.spans.Span.{Span}
-use Rattle.dwz_tops.specs.Firsts.{AreFirsts, IsFirst, label_at}
+use Rattle.dwz_tops.specs.Firsts.{AreFirsts, label_at}
 use Rattle.dwz_tops.specs.Labels.{AreLabels, AreWords, spelled, words_at}
 use Rattle.dwz_tops.specs.Laws.{MeanPlain}
 use Rattle.dwz_tops.specs.Spans.{all_spans}
 use Rattle.dwz_tops.specs.Tops.{IsLeast, RawTop, tops_from}
-use Rattle.dwz_tops.proofs.FreeLemmas.{IsPlainTop, alike_if_same, plain_tops}
+use Rattle.dwz_tops.proofs.FreeLemmas.{alike_if_same, plain_tops}
 use Rattle.dwz_tops.proofs.LabelLemmas.{label_of}
 use Rattle.dwz_tops.proofs.RowLemmas.{found_in_map, there}
 use Rattle.dwz_tops.proofs.SaidTops.{names, said_tops, top_said, tops_said}

@@ -1,10 +1,10 @@
 -- What plain units say: their one meaning, as a function.
-use Rattle.std.proofs.Common.{◌≡◌, ◌⊎◌, ℕ, ℤ, Bool, true, false, List, [], ◌∷◌, ◌++◌, map, Option, Some, None, Ok, ◌==◌, not, arith, cond, refl, sym, ap, subst, ◌∙◌, inl, inr, ⊎_elim}
+use Rattle.std.proofs.Common.{◌≡◌, ◌⊎◌, ℕ, Bool, true, false, List, [], ◌∷◌, map, ◌==◌, arith, cond, refl, sym, ap, subst, ◌∙◌, inl, inr, ⊎_elim}
 use Rattle.std.specs.List.{list_all}
 use Rattle.std.proofs.lemmas.Bool.{and_parts, cond-false, cond-true, eq-eqb, not-true, or_from, ne_eqb}
-use Rattle.dwz_docs.specs.Documents.{Attr, Compile, Doc, DwUnit, Entries, Kind, Node, Num, Plain, Text, Value, only}
+use Rattle.dwz_docs.specs.Documents.{Attr, Compile, Doc, DwUnit, Entries, Node, Num, Plain, Text, only}
 use Rattle.dwz_docs.specs.Entries.{RawAttr, RawEntry}
-use Rattle.dwz_docs.specs.Meanings.{In, IfSo, OfConstant, OfText, IsFileNumber, MeanAttrs, MeanEntries, MeanUnits, MeansAs, MeansAttr, MeansKind, MeansNode, MeansUnit, MeansValue, Scope, Sources, bytes_of, class_of, constant_value, class_in, class_rows, has, kept_width, names_file, number_of, offset_of, scope_of, without_siblings, units_meaning}
+use Rattle.dwz_docs.specs.Meanings.{In, IfSo, OfConstant, OfText, IsFileNumber, MeanAttrs, MeanEntries, MeanUnits, MeansAs, MeansAttr, MeansKind, MeansNode, MeansUnit, MeansValue, Scope, Sources, bytes_of, class_of, constant_value, class_in, class_rows, has, kept_width, names_file, number_of, offset_of, scope_of, without_siblings}
 use Rattle.dwz_docs.specs.Trees.{End, Entry, Forest}
 use Rattle.dwz_docs.specs.Units.{CompileUnit, PartialUnit, RawKind, RawUnit, TypeUnit}
 use Rattle.dwz_docs.proofs.MeaningLemmas.{has_in, not_in, units_agree}

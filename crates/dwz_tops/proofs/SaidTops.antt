@@ -1,18 +1,18 @@
 -- The tops of what plain units say.
-use Rattle.std.proofs.Common.{◌≡◌, ℕ, ℤ, suc, ◌+◌, Bool, true, false, List, [], ◌∷◌, ◌++◌, length, map, Option, Some, None, ◌==◌, cond, refl, sym, ap, subst, ◌∙◌, arith}
+use Rattle.std.proofs.Common.{◌≡◌, ℕ, ℤ, suc, ◌+◌, Bool, true, false, List, [], ◌∷◌, ◌++◌, length, map, Option, Some, None, ◌==◌, cond, refl, sym, ap, ◌∙◌, arith}
 use Rattle.std.proofs.lemmas.Bool.{and_parts}
 use Rattle.std.proofs.lemmas.List.{append-nil}
-use Rattle.dwz_docs.specs.Documents.{Attr, Compile, Doc, DwUnit, Entries, Kind, Node, Num, Plain, Text, attr_map, entries_map, first_named, language, node_map, number_in, number_of_attr, unit_map}
+use Rattle.dwz_docs.specs.Documents.{Attr, Compile, Doc, DwUnit, Entries, Node, Num, Text, attr_map, entries_map, first_named, language, node_map, number_in, number_of_attr, unit_map}
 use Rattle.dwz_docs.specs.Entries.{RawAttr, RawEntry}
 use Rattle.dwz_docs.specs.Meanings.{bytes_of, first_raw, kept_width, number_of, offset_of}
 use Rattle.dwz_docs.specs.Trees.{End, Entry, Forest}
 use Rattle.dwz_docs.specs.Units.{CompileUnit, PartialUnit, RawKind, RawUnit, TypeUnit}
 use Rattle.dwz_output.specs.Out.{one_file}
-use Rattle.dwz_output.specs.Spots.{FileUnit, Spot, Top, in_file, named, named_files, named_in, row_length, spot_in, spots_from, top_count, tops_below as doc_tops_below, tops_from as doc_tops_from, tops_in as doc_tops_in, tops_of}
+use Rattle.dwz_output.specs.Spots.{FileUnit, Spot, Top, in_file, named_files, row_length, spot_in, spots_from, tops_below as doc_tops_below, tops_from as doc_tops_from, tops_in as doc_tops_in, tops_of}
 use Rattle.dwz_tops.specs.Laws.{MeanPlain}
 use Rattle.dwz_tops.specs.Plain.{are_plain_units, is_compile}
 use Rattle.dwz_tops.specs.Tops.{RawTop, language_of, number_in as raw_number, tops_below, tops_from, tops_in}
-use Rattle.dwz_tops.proofs.Said.{attr_said, entries_said, node_said, plain_of, said, same, unit_said}
+use Rattle.dwz_tops.proofs.Said.{attr_said, entries_said, node_said, said, same, unit_said}
 
 -- ---- the same with names
 

@@ -1,12 +1,12 @@
 -- The rows of tops show the tops of what plain units say.
-use Rattle.std.proofs.Common.{◌≡◌, ℕ, suc, Bool, true, false, List, [], ◌∷◌, length, map, refl, sym, ap, subst, ◌∙◌, inl, inr, replicate}
+use Rattle.std.proofs.Common.{◌≡◌, ℕ, suc, true, false, List, [], ◌∷◌, length, map, refl, sym, ap, subst, ◌∙◌, inl, inr, replicate}
 use Rattle.dwz_docs.specs.Documents.{Doc}
 use Rattle.dwz_docs.specs.Meanings.{In}
 use Rattle.dwz_docs.specs.Units.{RawUnit}
 use Rattle.dwz_output.specs.Deciding.{is_movable}
 use Rattle.dwz_output.specs.Out.{one_file}
 use Rattle.dwz_output.specs.Plan.{is_pinned}
-use Rattle.dwz_output.specs.Spots.{FileUnit, Spot, Top, tops_of}
+use Rattle.dwz_output.specs.Spots.{FileUnit, Spot, Top}
 use Rattle.dwz_tops.specs.Laws.{MeanPlain}
 use Rattle.dwz_tops.specs.Tops.{RawTop, ShowEach, ShowsTops, row_of, shown_tops, tops_from}
 use Rattle.dwz_tops.proofs.FreeLemmas.{is_movable_top, is_pinned_top}

@@ -1,18 +1,18 @@
 -- The tops are found among the rows of entries.
-use Rattle.std.proofs.Common.{◌≡◌, ◌≢◌, ℕ, zero, suc, ◌+◌, ◌<◌, ◌≤◌, Bool, true, false, List, [], ◌∷◌, ◌++◌, ◌&&◌, ◌==◌, cond, length, drop, map, Option, Some, None, slice_get, refl, sym, ap, subst, ◌∙◌, arith}
+use Rattle.std.proofs.Common.{◌≡◌, ◌≢◌, ℕ, zero, suc, ◌+◌, ◌<◌, ◌≤◌, Bool, true, false, List, [], ◌∷◌, ◌++◌, ◌&&◌, ◌==◌, cond, length, drop, Option, Some, slice_get, refl, sym, ap, subst, ◌∙◌, arith}
 use Rattle.std.specs.Option.{option_map_or}
 use Rattle.std.proofs.lemmas.Bool.{and_from, and_left, and_right, cond-false, cond-true, eq-eqb, ne_eqb}
-use Rattle.std.proofs.lemmas.List.{append-nil, append_assoc, drop_all, length-append}
+use Rattle.std.proofs.lemmas.List.{append-nil, append_assoc, drop_all}
 use Rattle.dwz_docs.specs.Entries.{RawEntry, root_position}
 use Rattle.dwz_docs.specs.Trees.{End, Entry, Forest, Position, behind, first_below, size}
 use Rattle.dwz_docs.specs.Units.{CompileUnit, PartialUnit, RawKind, RawUnit, TypeUnit, entries_in, entry_count}
 use Rattle.dwz_output.specs.Alike.{Each}
 use Rattle.dwz_unit.specs.declared.rows.RawEntry.{RawEntry as EntryOfCode}
 use Rattle.dwz_unit.specs.declared.rows.RawUnit.{RawUnit as UnitOfCode}
-use Rattle.dwz_unit.specs.Rows.{EntryRow, entry_shown, kind_number, rows_below, rows_from, rows_in, rows_of, shown_entries, shown_units, unit_shown}
+use Rattle.dwz_unit.specs.Rows.{EntryRow, kind_number, rows_below, rows_from, rows_in, rows_of, shown_entries, shown_units}
 use Rattle.dwz_tops.specs.declared.spans.Span.{Span}
-use Rattle.dwz_tops.specs.Spans.{all_spans, row_at, span, spans_below, spans_from, spans_in}
-use Rattle.dwz_tops.proofs.RowLemmas.{below-length, drop_here, entry_row, in-length, row_there, rows-length, unit_there}
+use Rattle.dwz_tops.specs.Spans.{all_spans, span, spans_below, spans_from, spans_in}
+use Rattle.dwz_tops.proofs.RowLemmas.{below-length, drop_here, entry_row, in-length, rows-length, unit_there}
 
 -- ---- each row
 

@@ -1,7 +1,7 @@
 -- Words are told apart by their bytes.
-use Rattle.std.proofs.Common.{◌≡◌, ℕ, ◌<◌, ◌^◌, List, [], ◌∷◌, ◌++◌, refl, sym, ap, subst, ◌∙◌}
+use Rattle.std.proofs.Common.{◌≡◌, ℕ, List, [], ◌∷◌, ◌++◌, refl, sym, ap, ◌∙◌}
 use Rattle.std.proofs.lemmas.List.{append_cancel_left}
-use Rattle.dwz_bytes.specs.Spelling.{IsGroups, SpellsUleb, fits_u64, groups_value, uleb}
+use Rattle.dwz_bytes.specs.Spelling.{IsGroups, fits_u64, groups_value, uleb}
 use Rattle.dwz_bytes.proofs.LebLemmas.{leb_one}
 use Rattle.dwz_bytes.proofs.PaddedLemmas.{uleb_spells}
 use Rattle.dwz_tops.specs.Labels.{AreWords, spelled}

@@ -1,11 +1,10 @@
 -- What is compared of tops, as words of their trees.
-use Rattle.std.proofs.Common.{◌≡◌, ℕ, ℤ, zero, suc, ◌+◌, ◌-◌, List, [], ◌∷◌, ◌++◌, length, map, take, drop, slice_range, Option, Some, None, slice_get, refl, sym, ap, subst, ◌∙◌, arith}
-use Rattle.std.specs.List.{flat_map}
+use Rattle.std.proofs.Common.{◌≡◌, ℕ, ℤ, suc, ◌+◌, ◌-◌, List, [], ◌∷◌, ◌++◌, length, map, take, slice_range, Option, None, slice_get, refl, sym, ap, ◌∙◌, arith}
 use Rattle.std.specs.Option.{option_map_or}
 use Rattle.std.proofs.lemmas.List.{append-nil, append_assoc, drop_at, length-append, map-append, take_at}
 use Rattle.std.proofs.lemmas.List.Concat.{flat_map-append}
-use Rattle.dwz_docs.specs.Entries.{RawAttr, RawEntry, root_position}
-use Rattle.dwz_docs.specs.Trees.{End, Entry, Forest, Position, behind, first_below, size}
+use Rattle.dwz_docs.specs.Entries.{RawEntry, root_position}
+use Rattle.dwz_docs.specs.Trees.{End, Entry, Forest, Position, behind, first_below}
 use Rattle.dwz_docs.specs.Units.{CompileUnit, PartialUnit, RawKind, RawUnit, TypeUnit, entry_count}
 use Rattle.dwz_unit.specs.Rows.{EntryRow, rows_below, rows_from, rows_in, rows_of}
 use Rattle.dwz_tops.specs.declared.spans.Span.{Span}

@@ -1,5 +1,5 @@
 -- The tops of units that are read, and how they show the tops of a document.
-use Rattle.std.specs.Prelude.{◌≡◌, ◌↔◌, ℕ, ℤ, suc, ◌<◌, Bool, true, false, List, [], ◌∷◌, ◌++◌, length, map, Option, Some, None, ◌==◌, if◌then◌else◌, replicate, slice_index}
+use Rattle.std.specs.Prelude.{◌≡◌, ◌↔◌, ℕ, ℤ, suc, ◌<◌, true, false, List, [], ◌∷◌, ◌++◌, length, map, Option, Some, None, ◌==◌, if◌then◌else◌, replicate, slice_index}
 use Rattle.dwz_model.specs.declared.tops.TopRow.{TopRow}
 use Rattle.dwz_model.specs.declared.tops.Tops.{Tops}
 use Rattle.dwz_docs.specs.Documents.{Doc}

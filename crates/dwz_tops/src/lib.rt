@@ -6,6 +6,8 @@ mod laws;
 mod least;
 mod plain;
 mod spans;
+#[cfg(test)]
+mod tests;
 mod tops;
 mod words;
 

@@ -1,4 +1,4 @@
-use Rattle.std.proofs.Common.{◌≡◌, ◌≤◌, length, refl, sym, ap, ◌∙◌, arith}
+use Rattle.std.proofs.Common.{◌≡◌, length, refl, sym, ap, ◌∙◌, arith}
 use Rattle.dwz_unit.specs.declared.rows.RawEntry.{RawEntry as EntryOfCode}
 use Rattle.dwz_unit.specs.Rows.{attr_view, units_of}
 use Rattle.dwz_tops.specs.Tops.{number_in}

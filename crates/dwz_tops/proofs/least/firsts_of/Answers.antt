@@ -1,5 +1,5 @@
 use Rattle.std.proofs.Common.{◌≡◌, ℕ, ◌+◌, ◌<◌, List, [], ◌∷◌, ◌++◌, length, get_or, sym, ap, subst, ◌∙◌, arith, length-append}
-use Rattle.dwz_tops.specs.Firsts.{IsFirst, IsFound, label_at, look}
+use Rattle.dwz_tops.specs.Firsts.{IsFirst, IsFound, look}
 use Rattle.dwz_tops.proofs.SeenLemmas.{first-step, firsts-more, seen-step}
 use Rattle.dwz_tops.proofs.least.firsts_of.Goals as goal
 

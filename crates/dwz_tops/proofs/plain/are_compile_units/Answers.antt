@@ -1,6 +1,5 @@
-use Rattle.std.proofs.Common.{◌≡◌, refl, sym, ap, ◌∙◌, arith}
+use Rattle.std.proofs.Common.{refl, arith}
 use Rattle.dwz_docs.specs.Units.{RawUnit}
-use Rattle.dwz_unit.specs.declared.rows.RawUnit.{RawUnit as UnitOfCode}
 use Rattle.dwz_unit.specs.Rows.{units_of}
 use Rattle.dwz_tops.specs.Plain.{is_compile}
 use Rattle.dwz_tops.proofs.PlainLemmas.{compile_by_number, other_by_number}

@@ -1,4 +1,4 @@
-use Rattle.std.proofs.Common.{◌≡◌, ◌+◌, List, [], ◌∷◌, ◌++◌, length, sym, subst, ap, ◌∙◌, rules, arith}
+use Rattle.std.proofs.Common.{◌≡◌, ◌+◌, List, [], ◌∷◌, ◌++◌, length, sym, subst, ap, rules, arith}
 use Rattle.dwz_unit.specs.Rows.{units_of}
 use Rattle.dwz_tops.specs.declared.spans.Span.{Span}
 use Rattle.dwz_tops.proofs.SpanLemmas.{FoundSo, entry_unit, found_whole, none_found, not_found_deep, not_found_other, one_found}

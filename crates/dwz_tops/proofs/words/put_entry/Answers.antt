@@ -1,4 +1,4 @@
-use Rattle.std.proofs.Common.{◌≡◌, ◌≤◌, List, ◌∷◌, length, ℕ, subst, ap, arith}
+use Rattle.std.proofs.Common.{◌≡◌, List, ◌∷◌, length, subst, ap, arith}
 use Rattle.std.proofs.lemmas.List.{take_all}
 use Rattle.dwz_docs.specs.Entries.{RawAttr}
 use Rattle.dwz_unit.specs.declared.rows.RawEntry.{RawEntry as EntryOfCode}

@@ -1,4 +1,4 @@
-use Rattle.std.proofs.Common.{◌≡◌, ◌∷◌, ◌++◌, length, Some, take, slice_get}
+use Rattle.std.proofs.Common.{◌≡◌, ◌∷◌, length, Some, take, slice_get}
 use Rattle.dwz_unit.specs.Rows.{EntryRow, rows_of, units_of}
 use Rattle.dwz_tops.specs.Labels.{Appends, attrs_words}
 use Rattle.dwz_tops.proofs.words.put_entry.Given as goal

@@ -31,7 +31,7 @@ rows_from unit before (u ∷ units) =
     ∙ sym (map-append row_of (tops_below unit u.kind u.root u.below) (tops_from (suc unit) units))
 
 -- their rows are those of the tops
-rows_are : (units : List RawUnit) → map row_at (all_spans units) ≡ map row_of (tops_from 0 units)
+pub rows_are : (units : List RawUnit) → map row_at (all_spans units) ≡ map row_of (tops_from 0 units)
 rows_are units = rows_from 0 0 units
 
 pub tops_made : (units : List RawUnit) (spans : List Span) (rows : List TopRow) (files : List ℕ) → spans ≡ all_spans units → rows ≡ map row_at spans → files ≡ replicate (length units) 0

@@ -38,7 +38,7 @@ below_words (Entry e c d) unit p =
 -- ---- the rows of a top
 
 -- a run of rows among others
-run_at : (rows before run after : List EntryRow) (first end : ℕ) → rows ≡ before ++ (run ++ after) → length before ≡ first → end ≡ first + length run → slice_range rows first end ≡ run
+pub run_at : (rows before run after : List EntryRow) (first end : ℕ) → rows ≡ before ++ (run ++ after) → length before ≡ first → end ≡ first + length run → slice_range rows first end ≡ run
 run_at rows before run after first end e at to =
     let count : end - first ≡ length run = omega arith in
     ap (λ (w : List EntryRow). slice_range w first end) e
@@ -48,15 +48,15 @@ run_at rows before run after first end e at to =
 abbrev words_in : List RawUnit → List EntryRow → Span → List ℕ
 words_in units rows s = language_words (language_at units s.unit) ++ rows_words (slice_range rows s.first s.end)
 
-abbrev row_with : ℕ → Position → RawEntry → Forest RawEntry → EntryRow
+abbrev pub row_with : ℕ → Position → RawEntry → Forest RawEntry → EntryRow
 row_with unit p e c = record { entry = e; unit = unit; depth = p.depth; end = (behind p c).before }
 
 -- the rows of a list stand there
-abbrev StandThere : List EntryRow → List EntryRow → List EntryRow → ℕ → Position → Forest RawEntry → Type 0
+abbrev pub StandThere : List EntryRow → List EntryRow → List EntryRow → ℕ → Position → Forest RawEntry → Type 0
 StandThere rows before after unit p f = (rows ≡ before ++ (rows_below f unit p ++ after)) × (length before ≡ p.before)
 
 -- those behind an entry
-next_there : (rows before after : List EntryRow) (unit : ℕ) (p : Position) (e : RawEntry) (c d : Forest RawEntry) → StandThere rows before after unit p (Entry e c d)
+pub next_there : (rows before after : List EntryRow) (unit : ℕ) (p : Position) (e : RawEntry) (c d : Forest RawEntry) → StandThere rows before after unit p (Entry e c d)
     → StandThere rows (before ++ (row_with unit p e c ∷ rows_below c unit (first_below p))) after unit (behind p c) d
 unfolding rows_below
 next_there rows before after unit p e c d h =

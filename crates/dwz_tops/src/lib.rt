@@ -14,4 +14,5 @@ mod words;
 pub use laws::plain_laws;
 pub use least::least_of;
 pub use plain::is_plain;
+pub use spans::{Span, spans_of};
 pub use tops::tops_of;

@@ -13,20 +13,20 @@ use std::alloc::Global;
 const TOP: u32 = 2;
 
 /// Where a top stands.
-#[derive(Clone, Copy)]
-pub(crate) struct Span {
+#[derive(Clone, Copy, Debug, PartialEq, Eq)]
+pub struct Span {
     /// The number of its unit.
-    pub(crate) unit: u32,
+    pub unit: u32,
     /// Where it begins, in bytes from the first of `.debug_info`.
-    pub(crate) at: u32,
+    pub at: u32,
     /// The number of its entry.
-    pub(crate) first: u32,
+    pub first: u32,
     /// The number behind that of its last descendant.
-    pub(crate) end: u32,
+    pub end: u32,
 }
 
-/// Where the tops of all units stand, in order.
-pub(crate) fn spans_of(alloc: Global, units: &Units) -> Result<Vec<Span>, NoMemory>
+/// Where the tops of all units stand, in order: the children of the roots of compile units, with all below them.
+pub fn spans_of(alloc: Global, units: &Units) -> Result<Vec<Span>, NoMemory>
     ensures spans { IfOk result (λ spans. spans.items ≡ all_spans (units_of units.now)) }
     ensures few { IfOk result (λ spans. length spans.items < 2 ^ 32) }
 {

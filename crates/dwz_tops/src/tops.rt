@@ -1,6 +1,6 @@
 //! The tops of units.
 
-ghost use Rattle.std.specs.Prelude.{◌≡◌, IfOk, length, map, replicate};
+ghost use Rattle.std.specs.Prelude.{◌≡◌, ◌<◌, ◌^◌, IfOk, length, map, replicate};
 ghost use Rattle.dwz_unit.specs.Rows.{units_of};
 ghost use Rattle.dwz_tops.specs.Tops.{shown_tops};
 ghost use Rattle.dwz_tops.specs.Spans.{row_at};
@@ -34,7 +34,8 @@ fn rows_of(alloc: Global, spans: &[Span]) -> Result<Vec<TopRow>, NoMemory>
 
 // For each unit the number of its file.
 fn files_of(alloc: Global, units: &Units) -> Result<Vec<u32>, NoMemory>
-    ensures { IfOk result (λ files. files.items ≡ replicate (length (units_of units.now)) 0) }
+    ensures files { IfOk result (λ files. files.items ≡ replicate (length (units_of units.now)) 0) }
+    ensures few { IfOk result (λ files. length files.items < 2 ^ 32) }
 {
     let files = vec![in alloc; 0u32; units.len() as usize]?;
     Ok(files)
@@ -43,7 +44,9 @@ fn files_of(alloc: Global, units: &Units) -> Result<Vec<u32>, NoMemory>
 /// The tops of all units: a row for each child of the root of a compile unit, in order. The units are those of one file, which
 /// has the number 0. Each top may move, and none is pinned, as it is where units are plain.
 pub fn tops_of(alloc: Global, units: &Units) -> Result<Tops, NoMemory>
-    ensures { IfOk result (λ tops. tops ≡ shown_tops (units_of units.now)) }
+    ensures tops { IfOk result (λ tops. tops ≡ shown_tops (units_of units.now)) }
+    ensures few_tops { IfOk result (λ tops. length tops.rows < 2 ^ 32) }
+    ensures few_units { IfOk result (λ tops. length tops.files_of_units < 2 ^ 32) }
 {
     let spans = spans_of(alloc, units)?;
     let rows = rows_of(alloc, spans.as_slice())?;

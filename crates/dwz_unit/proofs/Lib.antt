@@ -8,4 +8,5 @@ mod KeepLemmas
 mod ShownLemmas
 mod ReadLemmas
 mod AgainLemmas
+mod PlainLemmas
 mod ThereLemmas

@@ -1,11 +1,12 @@
 //! The front of an entry: its code and its values.
 
-ghost use Rattle.std.specs.Prelude.{◌≡◌, ◌+◌, ◌<◌, ◌^◌, length, slice_get, IfOk, IsOk, Ok, Some};
+ghost use Rattle.std.specs.Prelude.{◌≡◌, ◌+◌, ◌<◌, ◌^◌, All, length, slice_get, IfOk, IsOk, Ok, Some};
 ghost use Rattle.dwz_bytes.specs.Reading.{uleb_at};
 ghost use Rattle.dwz_codes.specs.Forms.{form_rows};
+ghost use Rattle.dwz_docs.specs.Abbrevs.{IsPlainPair};
 ghost use Rattle.dwz_docs.specs.Entries.{attrs_at, coded};
 ghost use Rattle.dwz_docs.specs.Parts.{Leaves};
-ghost use Rattle.dwz_docs.specs.Values.{value_at};
+ghost use Rattle.dwz_docs.specs.Values.{HasSpelling, value_at};
 ghost use Rattle.dwz_forms.specs.RawValues.{raw_view};
 ghost use Rattle.dwz_unit.specs.Contexts.{context_view};
 ghost use Rattle.dwz_unit.specs.Fronts.{attrs_passed, front_passed, value_passed};
@@ -111,7 +112,8 @@ pub(crate) fn pass_front(
 #[inline(always)]
 fn known_value<'a>(cursor: &mut Cursor<'a>, pair: &Pair) -> Raw<'a>
     requires { IsOk (value_at form_rows pair.now cursor.old) }
-    ensures { value_at form_rows pair.now cursor.old ≡ Ok (raw_view result, cursor.new) }
+    ensures value { value_at form_rows pair.now cursor.old ≡ Ok (raw_view result, cursor.new) }
+    ensures writable { HasSpelling pair.now.form (raw_view result) }
 {
     match read_value(cursor, pair) {
         Ok(raw) => raw,
@@ -130,7 +132,10 @@ pub(crate) fn value_of<'a>(
     requires number { number < length pairs.now }
     requires read { IsOk (attrs_at entry pairs.now cursor.old) }
     requires short { cursor.old.at + length cursor.old.rest < 2 ^ 32 }
-    ensures { IfOk (attrs_at entry pairs.now cursor.old) (λ x. slice_get x.0 number ≡ Some (attr_view result)) }
+    requires plain { All IsPlainPair pairs.now }
+    ensures attr { IfOk (attrs_at entry pairs.now cursor.old) (λ x. slice_get x.0 number ≡ Some (attr_view result)) }
+    ensures pair { IsPlainPair result.pair }
+    ensures writable { HasSpelling result.pair.form (raw_view result.raw) }
 {
     let Ok(()) = pass_values(entry, &pairs[..number], cursor) else {
         unreachable!()

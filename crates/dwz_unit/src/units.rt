@@ -2,10 +2,13 @@
 
 ghost use Rattle.std.specs.Prelude.{◌≡◌, ◌<◌, ◌≤◌, ◌^◌, Some, length, slice_get, IfOk};
 ghost use Rattle.dwz_bytes.specs.Input.{input};
+ghost use Rattle.dwz_docs.specs.Abbrevs.{IsPlainPair};
 ghost use Rattle.dwz_docs.specs.Faults.{Answers};
 ghost use Rattle.dwz_docs.specs.Units.{entries_in, units_at};
 ghost use Rattle.dwz_unit.specs.Rows.{attr_count, attr_of, attr_view, shown_entries, shown_units, units_of};
 ghost use Rattle.dwz_docs.specs.Entries.{given};
+ghost use Rattle.dwz_docs.specs.Values.{HasSpelling};
+ghost use Rattle.dwz_forms.specs.RawValues.{raw_view};
 
 use crate::front::value_of;
 use crate::reading::unit_of;
@@ -113,21 +116,24 @@ impl<'a> Units<'a> {
         self.units[n as usize].shown
     }
 
-    /// The entry with a number.
+    /// The entry with a number. Its tag isn't 0.
     #[inline(always)]
     pub fn entry(&self, i: u32) -> RawEntry
         requires { i < entries_in (units_of self.now) }
         ensures entry { slice_get (shown_entries (units_of self.now)) i ≡ Some result }
         ensures attrs { attr_count (units_of self.now) i ≡ result.attrs }
+        ensures tag { 0 < result.tag }
     {
         self.entries[i as usize]
     }
 
-    /// The k-th value of the entry with a number.
+    /// The k-th value of the entry with a number. It can be written again as it is.
     #[inline(always)]
     pub fn attr(&self, i: u32, k: u32) -> RawAttr<'a>
         requires { k < attr_count (units_of self.now) i }
-        ensures { attr_of (units_of self.now) i k ≡ Some (attr_view result) }
+        ensures attr { attr_of (units_of self.now) i k ≡ Some (attr_view result) }
+        ensures pair { IsPlainPair result.pair }
+        ensures writable { HasSpelling result.pair.form (raw_view result.raw) }
     {
         let entry = self.entries[i as usize];
         let unit = self.units[entry.unit as usize];

@@ -11,12 +11,12 @@ loop-k-init c = λ row found. refl
 
 pub returns-then-attr-eq-LANGUAGE : goal.returns-then-attr-eq-LANGUAGE
 returns-then-attr-eq-LANGUAGE c = λ row found. (
-    let there = attr_there (units_of c.args.units.now) c.args.root c.loop-k.k row (attr_view c.attr-attr.result) found c.attr-attr.ensures in
+    let there = attr_there (units_of c.args.units.now) c.args.root c.loop-k.k row (attr_view c.attr-attr.result) found c.attr-attr.ensures.attr in
     c.number_in.ensures ∙ ap number_in (sym (first_here 0x13 row.entry.attrs c.loop-k.k (attr_view c.attr-attr.result) there c.if-attr-eq-LANGUAGE.true (c.loop-k.invariant row found))))
 
 pub loop-k-preserved : goal.loop-k-preserved
 loop-k-preserved c = λ row found. (
-    let there = attr_there (units_of c.args.units.now) c.args.root c.loop-k.k row (attr_view c.attr-attr.result) found c.attr-attr.ensures in
+    let there = attr_there (units_of c.args.units.now) c.args.root c.loop-k.k row (attr_view c.attr-attr.result) found c.attr-attr.ensures.attr in
     first_later 0x13 row.entry.attrs c.loop-k.k (attr_view c.attr-attr.result) there c.if-attr-eq-LANGUAGE.false (c.loop-k.invariant row found))
 
 pub returns : goal.returns

@@ -11,12 +11,12 @@ loop-k-init c = λ row found. refl
 
 pub returns-then-not-is_plain_attr : goal.returns-then-not-is_plain_attr
 returns-then-not-is_plain_attr c = λ row found. (
-    let there = attr_there (units_of c.args.units.now) c.args.i c.loop-k.k row (attr_view c.attr.result) found c.attr.ensures in
+    let there = attr_there (units_of c.args.units.now) c.args.i c.loop-k.k row (attr_view c.attr.result) found c.attr.ensures.attr in
     sym (and_right _ _ (sym (all_fails is_plain_attr row.entry.attrs c.loop-k.k (attr_view c.attr.result) there (sym c.is_plain_attr.ensures ∙ c.if-not-is_plain_attr.true) (c.loop-k.invariant row found)))))
 
 pub loop-k-preserved : goal.loop-k-preserved
 loop-k-preserved c = λ row found. (
-    let there = attr_there (units_of c.args.units.now) c.args.i c.loop-k.k row (attr_view c.attr.result) found c.attr.ensures in
+    let there = attr_there (units_of c.args.units.now) c.args.i c.loop-k.k row (attr_view c.attr.result) found c.attr.ensures.attr in
     all_more is_plain_attr row.entry.attrs c.loop-k.k (attr_view c.attr.result) there (sym c.is_plain_attr.ensures ∙ c.if-not-is_plain_attr.false) (c.loop-k.invariant row found))
 
 pub returns : goal.returns

@@ -16,7 +16,7 @@ loop-k-init c = λ row found. (
 
 pub loop-k-preserved : goal.loop-k-preserved
 loop-k-preserved c = λ row found. (
-    let there = attr_there (units_of c.args.units.now) c.args.i c.loop-k.k row (attr_view c.attr.result) found c.attr.ensures in
+    let there = attr_there (units_of c.args.units.now) c.args.i c.loop-k.k row (attr_view c.attr.result) found c.attr.ensures.attr in
     attr_put c.args.bytes.now.items c.loop-k.bytes.items c.put_attr.new.bytes.items row.depth row.entry.tag (length row.entry.attrs) row.entry.attrs c.loop-k.k (attr_view c.attr.result) there (c.loop-k.invariant row found) c.in_ok-put_attr.ensures)
 
 pub returns : goal.returns

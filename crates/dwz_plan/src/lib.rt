@@ -13,3 +13,6 @@ mod users;
 
 pub use laws::plan_shows;
 pub use plan::{Home, Partial, Plan, Scope};
+
+#[cfg(test)]
+mod tests;

@@ -1,0 +1,12 @@
+pub mod EncodeLemmas
+pub mod EventLemmas
+pub mod PenCalls
+pub mod PenPlain
+pub mod PenRows
+pub mod PlanFacts
+pub mod PlannedLemmas
+pub mod RowCalls
+pub mod UnitGrowth
+pub mod UnitLoops
+pub mod UnitRuns
+pub mod WrittenFacts

@@ -1,78 +1,43 @@
 -- What follows of an answer that comes by the steps of reading.
-use Rattle.std.proofs.Common.{◌≡◌, ◌⊎◌, ℕ, ◌<◌, ◌≤◌, ◌^◌, List, length, Result, Ok, Err, refl, sym, subst, ap, ◌∙◌, inl, inr, ⊎_elim, true, arith}
+use Rattle.std.proofs.Common.{◌≡◌, ◌⊎◌, ℕ, List, Result, Ok, Err, refl, ap, subst, inl, inr, ⊎_elim}
 use Rattle.std.specs.Prelude.{IfErr, IfOk}
-use Rattle.std.proofs.lemmas.Bool.{cases_lt}
 use Rattle.dwz_docs.specs.Documents.{Doc}
-use Rattle.dwz_docs.specs.ElfReading.{elf_of}
-use Rattle.dwz_docs.specs.Files.{HasMeaningFault, IsFileFault, Reads, no_files_before, sources_of}
-use Rattle.dwz_docs.specs.Meanings.{all_places}
+use Rattle.dwz_docs.specs.Files.{HasMeaningFault, IsFileFault, Reads, no_files_before}
 use Rattle.dwz_docs.specs.Units.{RawUnit}
-use Rattle.dwz_docs.proofs.AgreeLemmas.{never_both, same_fault}
+use Rattle.dwz_docs.proofs.AgreeLemmas.{never_both, same_fault, same_meaning}
 use Rattle.dwz_docs.proofs.FileLemmas.{file_agrees}
-use Rattle.dwz_elf.specs.Plain.{IsPlain}
 use Rattle.dwz_model.specs.declared.fault.Fault.{Fault}
 use Rattle.dwz_model.specs.declared.fault.ReadErr.{ReadErr}
 use Rattle.dwz_model.specs.declared.fault.ReadErr.TheVariants.{NoMemory, Refused}
-use Rattle.dwz_run.specs.Files.{EndsFor, HasUnits, IsAnswer, IsMade, IsNotBuilt, IsTaken, MayBeRefused, Names, StandsForItself}
-use Rattle.dwz_run.specs.Profile.{InProfile, longest_out}
-use Rattle.dwz_run.proofs.FewUnits.{is_out}
-use Rattle.dwz_run.proofs.FileSteps.{meaning_fault, reads_plain, same_raw}
-use Rattle.dwz_tops.specs.Plain.{are_plain_units}
+use Rattle.dwz_output.specs.Out.{IsOut}
+use Rattle.dwz_run.specs.Files.{EndsFor, IsAnswer, IsNotBuilt, IsWritten, Names}
+use Rattle.dwz_run.specs.Profile.{InProfile}
+use Rattle.dwz_run.proofs.Outs.{same_out}
+use Rattle.dwz_run.proofs.FileSteps.{meaning_fault}
 
-not_both : (bytes : List ℕ) (raw : List RawUnit) (doc : Doc ℕ) (f : Fault) → Reads no_files_before bytes raw doc → IsFileFault no_files_before bytes f → ⊥
+-- a file that reads has no fault
+pub not_both : (bytes : List ℕ) (raw : List RawUnit) (doc : Doc ℕ) (f : Fault) → Reads no_files_before bytes raw doc → IsFileFault no_files_before bytes f → ⊥
 not_both bytes raw doc f reads fault = never_both (file_agrees no_files_before bytes) (raw, doc) f reads fault
 
-taken_of : (bytes out : List ℕ) → IsMade bytes out → IsTaken bytes
-taken_of bytes out m =
-    let r = reads_plain bytes m.raw m.read m.units in
-    record { raw = m.raw; doc = r.0; reads = r.1; sections = m.sections; units = m.units }
+pub written : {A : Type 0} (items : A → List ℕ) (bytes : List ℕ) (r : Result A ReadErr) → IsAnswer items bytes r → IfOk r (λ out. IsWritten bytes (items out))
+written items bytes (Ok out) is = is
+written items bytes (Err e) is = tt
 
-pub taken : {A : Type 0} (items : A → List ℕ) (bytes : List ℕ) (r : Result A ReadErr) → IsAnswer items bytes r → IfOk r (λ out. IsTaken bytes)
-taken items bytes (Ok out) is = taken_of bytes (items out) is
-taken items bytes (Err e) is = tt
+never_refused : (bytes : List ℕ) (f : Fault) → IsFileFault no_files_before bytes f ⊎ IsNotBuilt bytes f → InProfile bytes → ⊥
+never_refused bytes f why p = ⊎_elim
+    (λ (fault : IsFileFault no_files_before bytes f). not_both bytes p.raw p.doc f p.reads fault)
+    (λ (n : IsNotBuilt bytes f). n.other p) why
 
-few_of : (bytes : List ℕ) (raw : List RawUnit) → HasUnits bytes raw → (s : StandsForItself bytes) → s.taken.raw ≡ raw
-few_of bytes raw h s = same_raw bytes raw s.taken.raw s.taken.doc h s.taken.reads
-
-pub itself : {A : Type 0} (items : A → List ℕ) (bytes : List ℕ) (r : Result A ReadErr) → IsAnswer items bytes r → StandsForItself bytes → IfOk r (λ out. items out ≡ bytes)
-itself items bytes (Ok out) is s = is.itself (subst (λ (raw : List RawUnit). length raw < 2) (few_of bytes is.raw is.read s) s.few)
-itself items bytes (Err e) is s = tt
-
-too_few : (bytes : List ℕ) (f : Fault) → IsNotBuilt bytes f → StandsForItself bytes → ⊥
-too_few bytes f n s =
-    let same = few_of bytes n.raw n.read s in
-    let long : 2 ^ 24 ≤ length bytes = n.other s.taken.sections (subst (λ (raw : List RawUnit). are_plain_units raw ≡ true) same s.taken.units) (subst (λ (raw : List RawUnit). length raw < 2) same s.few) in
-    omega (arith, long, s.short)
-
-never_refused : (bytes : List ℕ) (f : Fault) → IsFileFault no_files_before bytes f ⊎ IsNotBuilt bytes f → StandsForItself bytes → ⊥
-never_refused bytes f why s = ⊎_elim
-    (λ (fault : IsFileFault no_files_before bytes f). not_both bytes s.taken.raw s.taken.doc f s.taken.reads fault)
-    (λ (n : IsNotBuilt bytes f). too_few bytes f n s) why
-
-pub lasts : {A : Type 0} (items : A → List ℕ) (bytes : List ℕ) (r : Result A ReadErr) → IsAnswer items bytes r → StandsForItself bytes → IfErr r (λ e. e ≡ NoMemory)
-lasts items bytes (Ok out) is s = tt
-lasts items bytes (Err (Refused f)) is s = absurd (never_refused bytes f is s)
-lasts items bytes (Err NoMemory) is s = refl
-
--- a file in the profile that hasn't two units is short
-is_short : (bytes : List ℕ) (p : InProfile bytes) → length p.raw < 2 → length bytes < 2 ^ 24
-unfolding longest_out
-is_short bytes p few = p.short bytes (is_out (sources_of bytes) (all_places p.raw) p.raw p.doc bytes p.reads.means few)
-
-two_of : (bytes : List ℕ) (f : Fault) → IsNotBuilt bytes f → (p : InProfile bytes) → 2 ≤ length p.raw
-two_of bytes f n p = ⊎_elim
-    (λ (few : length p.raw < 2).
-    let same = same_raw bytes n.raw p.raw p.doc n.read p.reads in
-    let long : 2 ^ 24 ≤ length bytes = n.other p.sections (subst (λ (raw : List RawUnit). are_plain_units raw ≡ true) same p.units) (subst (λ (raw : List RawUnit). length raw < 2) same few) in
-    absurd (omega (arith, long, is_short bytes p few)))
-    (λ (two : 2 ≤ length p.raw). two)
-    (cases_lt (length p.raw) 2)
+pub lasts : {A : Type 0} (items : A → List ℕ) (bytes : List ℕ) (r : Result A ReadErr) → IsAnswer items bytes r → InProfile bytes → IfErr r (λ e. e ≡ NoMemory)
+lasts items bytes (Ok out) is p = tt
+lasts items bytes (Err (Refused f)) is p = absurd (never_refused bytes f is p)
+lasts items bytes (Err NoMemory) is p = refl
 
 pub refused : {A : Type 0} (items : A → List ℕ) (bytes : List ℕ) (r : Result A ReadErr) → IsAnswer items bytes r → IfErr r (EndsFor bytes)
 refused items bytes (Ok out) is = tt
 refused items bytes (Err (Refused f)) is = ⊎_elim
     (λ (fault : IsFileFault no_files_before bytes f). inl fault)
-    (λ (n : IsNotBuilt bytes f). inr (n.fault, two_of bytes f n)) is
+    (λ (n : IsNotBuilt bytes f). inr (n.fault, n.other)) is
 refused items bytes (Err NoMemory) is = tt
 
 -- the first fault, unless it is one of what values mean
@@ -82,6 +47,20 @@ the_fault bytes f g why fault meant = ⊎_elim
     (λ (n : IsNotBuilt bytes g). absurd (meant (meaning_fault bytes n.raw f n.read fault))) why
 
 pub faulty : {A : Type 0} (items : A → List ℕ) (bytes : List ℕ) (r : Result A ReadErr) (f : Fault) → IsAnswer items bytes r → IsFileFault no_files_before bytes f → ¬ (HasMeaningFault no_files_before bytes f) → Names r f
-faulty items bytes (Ok out) f is fault meant = let t = taken_of bytes (items out) is in not_both bytes t.raw t.doc f t.reads fault
+faulty items bytes (Ok out) f is fault meant = not_both bytes is.raw is.doc f is.reads fault
 faulty items bytes (Err (Refused g)) f is fault meant = the_fault bytes f g is fault meant
 faulty items bytes (Err NoMemory) f is fault meant = tt
+
+-- ---- one file at most is written
+
+same_doc : (bytes : List ℕ) (one other : List RawUnit) (a b : Doc ℕ) → Reads no_files_before bytes one a → Reads no_files_before bytes other b → a ≡ b
+same_doc bytes one other a b reads too = ap (λ (x : List RawUnit × Doc ℕ). x.1) (same_meaning (file_agrees no_files_before bytes) (one, a) (other, b) reads too)
+
+same_written : (bytes a b : List ℕ) → IsWritten bytes a → IsWritten bytes b → a ≡ b
+same_written bytes a b one other =
+    let doc = same_doc bytes one.raw other.raw one.doc other.doc one.reads other.reads in
+    same_out bytes other.doc a b (subst (λ (d : Doc ℕ). IsOut bytes d a) doc one.is_out) other.is_out
+
+pub alone : {A : Type 0} (items : A → List ℕ) (bytes : List ℕ) (r : Result A ReadErr) → IsAnswer items bytes r → IfOk r (λ out. (other : List ℕ) → IsWritten bytes other → other ≡ items out)
+alone items bytes (Ok out) is = λ other too. same_written bytes other (items out) too is
+alone items bytes (Err e) is = tt

@@ -1,5 +1,5 @@
 -- A file is read step by step: its length, its sections, its units, what they mean.
-use Rattle.std.proofs.Common.{◌≡◌, ℕ, ◌<◌, ◌≤◌, ◌^◌, List, [], length, Option, Some, None, Result, Ok, Err, refl, sym, ap, ◌∙◌, true, false, Bool, ltb, ◌||◌, ⊎_elim, inl, inr, map, arith}
+use Rattle.std.proofs.Common.{◌≡◌, ℕ, ◌<◌, ◌≤◌, ◌^◌, List, [], length, Option, Some, None, Result, Ok, Err, refl, sym, ap, subst, ◌∙◌, true, false, Bool, ltb, ◌||◌, ⊎_elim, inl, inr, map, arith}
 use Rattle.std.proofs.lemmas.Bool.{le-ltb, lt-ltb}
 use Rattle.dwz_model.specs.declared.fault.Fault.{Fault}
 use Rattle.dwz_model.specs.declared.fault.ReadErr.{ReadErr}
@@ -21,8 +21,12 @@ use Rattle.dwz_docs.proofs.PartLemmas.{bind_err, bind_ok}
 use Rattle.dwz_docs.proofs.UnitListLemmas.{units_found}
 use Rattle.dwz_elf.specs.Plain.{IsPlain}
 use Rattle.dwz_elf.specs.Reads.{Gives}
-use Rattle.dwz_run.specs.Files.{HasUnits, IsAnswer}
+use Rattle.dwz_encode.specs.Encoded.{MeansDoc}
+use Rattle.dwz_output.specs.Out.{IsOut}
+use Rattle.dwz_run.specs.Files.{HasUnits, IsAnswer, IsWritten}
+use Rattle.dwz_run.specs.Profile.{InProfile, longest_out}
 use Rattle.dwz_tops.specs.Plain.{are_plain_units}
+use Rattle.dwz_unit.specs.Rows.{Source, units_of}
 use Rattle.dwz_tops.proofs.Said.{same, unit_said, units_mean}
 
 -- ---- the steps, by their names
@@ -108,16 +112,30 @@ small bytes le = le
 said : (bytes : List ℕ) (raw : List RawUnit) → HasUnits bytes raw → file_meaning no_files_before bytes ≡ meant bytes raw
 said bytes raw h = elf_reads bytes (small bytes h.size) h.elf ∙ ap (λ (r : Result (List RawUnit) Fault). r >>= meant bytes) h.units
 
+-- what units of a file are read from
+abbrev source_in : List ℕ → Source
+source_in bytes = record { info = debug_info bytes; abbrevs = debug_abbrev bytes; room = most_entries }
+
+-- the units were read from the file
+pub record AreOf (bytes : List ℕ) (source : Source) : Type 0 where
+  pub read : HasUnits bytes (units_of source)
+  pub same : source ≡ source_in bytes
+
+same_source : (info abbrevs here there : List ℕ) (room : ℕ) → info ≡ here → abbrevs ≡ there → (let s : Source = record { info = info; abbrevs = abbrevs; room = room } in let t : Source = record { info = here; abbrevs = there; room = room } in s ≡ t)
+same_source info abbrevs here there room one other = cc
+
 -- as code reads it
-pub read_file : (bytes info abbrevs : List ℕ) (elf : ElfView) (raw : List RawUnit) → length bytes ≤ 2 ^ 28 → (elf_fault bytes ≡ None) × (elf ≡ elf_of bytes)
+pub read_file : (bytes info abbrevs : List ℕ) (elf : ElfView) (source : Source) → length bytes ≤ 2 ^ 28 → (elf_fault bytes ≡ None) × (elf ≡ elf_of bytes)
     → info ≡ bytes_in bytes (section_range elf.sections 1) → abbrevs ≡ bytes_in bytes (section_range elf.sections 2)
-    → units_at abbrevs (given 16777216) 0 (input info 0) ≡ Ok raw → HasUnits bytes raw
+    → source ≡ record { info = info; abbrevs = abbrevs; room = 16777216 } → units_at abbrevs (given 16777216) 0 (input info 0) ≡ Ok (units_of source) → AreOf bytes source
 unfolding longest_file most_entries
-read_file bytes info abbrevs elf raw le is_elf is_info is_abbrevs read = record {
-  size = le;
-  elf = is_elf.0;
-  units = in_sections bytes info abbrevs (content_is bytes info elf 1 is_elf.1 is_info) (content_is bytes abbrevs elf 2 is_elf.1 is_abbrevs) ∙ read;
-}
+read_file bytes info abbrevs elf source le is_elf is_info is_abbrevs is read =
+    let first = content_is bytes info elf 1 is_elf.1 is_info in
+    let second = content_is bytes abbrevs elf 2 is_elf.1 is_abbrevs in
+    record {
+      read = record { size = le; elf = is_elf.0; units = in_sections bytes info abbrevs first second ∙ read };
+      same = is ∙ same_source info abbrevs (debug_info bytes) (debug_abbrev bytes) 16777216 first second;
+    }
 
 -- plain units mean something
 pub reads_plain : (bytes : List ℕ) (raw : List RawUnit) → HasUnits bytes raw → are_plain_units raw ≡ true → (doc : Doc ℕ) × Reads no_files_before bytes raw doc
@@ -163,6 +181,39 @@ units_fail items (Refused f) bytes info abbrevs elf le is_elf is_info is_abbrevs
 pub size_fails : {A : Type 0} (items : A → List ℕ) (e : ReadErr) (bytes : List ℕ) → e ≡ Refused (file_fault FileSize 0) → 2 ^ 28 < length bytes → IsAnswer items bytes (Err e)
 size_fails items e bytes is lt = rw is (inl (size_fault bytes lt))
 
-pub not_built : {A : Type 0} (items : A → List ℕ) (e : ReadErr) (bytes : List ℕ) (raw : List RawUnit) → e ≡ Refused (file_fault NotBuilt 0) → HasUnits bytes raw
-    → (IsPlain (elf_of bytes) → are_plain_units raw ≡ true → length raw < 2 → 2 ^ 24 ≤ length bytes) → IsAnswer items bytes (Err e)
+pub not_built : {A : Type 0} (items : A → List ℕ) (e : ReadErr) (bytes : List ℕ) (raw : List RawUnit) → e ≡ Refused (file_fault NotBuilt 0) → HasUnits bytes raw → (InProfile bytes → ⊥) → IsAnswer items bytes (Err e)
 not_built items e bytes raw is read other = rw is (inr (record { fault = refl; raw = raw; read = read; other = other }))
+
+-- ---- what the units of a file mean is what is asked of the encoder
+
+means_there : (bytes : List ℕ) (doc : Doc ℕ) → Reads no_files_before bytes (units_of (source_in bytes)) doc → MeansDoc (source_in bytes) doc
+means_there bytes doc reads = record { spelled = reads.spelled; sources = sources_of bytes; means = reads.means }
+
+means_doc : (bytes : List ℕ) (source : Source) (doc : Doc ℕ) → source ≡ source_in bytes → Reads no_files_before bytes (units_of source) doc → MeansDoc source doc
+means_doc bytes source doc is = subst (λ (s : Source). Reads no_files_before bytes (units_of s) doc → MeansDoc s doc) (sym is) (means_there bytes doc)
+
+-- what is written for what the units mean is written for the file
+pub as_written : (bytes file : List ℕ) (source : Source) → AreOf bytes source → IsPlain (elf_of bytes) → are_plain_units (units_of source) ≡ true
+    → ((doc : Doc ℕ) → MeansDoc source doc → IsOut bytes doc file × (length file < longest_out)) → IsWritten bytes file
+as_written bytes file source of sections plain writes =
+    let r = reads_plain bytes (units_of source) of.read plain in
+    let w = writes r.0 (means_doc bytes source r.0 of.same r.1) in
+    record { raw = units_of source; doc = r.0; reads = r.1; sections = sections; units = plain; is_out = w.0; short = w.1 }
+
+-- if whatever stands for what the units mean is too long, then the file isn't in the profile
+pub too_long_for : (bytes : List ℕ) (source : Source) → AreOf bytes source → ((doc : Doc ℕ) → MeansDoc source doc → (out : List ℕ) → IsOut bytes doc out → longest_out ≤ length out)
+    → InProfile bytes → ⊥
+too_long_for bytes source of long p =
+    let same : p.raw ≡ units_of source = same_raw bytes (units_of source) p.raw p.doc of.read p.reads in
+    let reads = subst (λ (raw : List RawUnit). Reads no_files_before bytes raw p.doc) same p.reads in
+    absurd (omega (arith, p.short, long p.doc (means_doc bytes source p.doc of.same reads) p.out p.is_out))
+
+-- nor if its sections or its units aren't plain
+pub other_sections : (bytes : List ℕ) → ¬ (IsPlain (elf_of bytes)) → InProfile bytes → ⊥
+other_sections bytes other p = other p.sections
+
+pub other_units : (bytes : List ℕ) (source : Source) → AreOf bytes source → are_plain_units (units_of source) ≡ false → InProfile bytes → ⊥
+other_units bytes source of other p =
+    let same : p.raw ≡ units_of source = same_raw bytes (units_of source) p.raw p.doc of.read p.reads in
+    let units = subst (λ (raw : List RawUnit). are_plain_units raw ≡ true) same p.units in
+    absurd cc

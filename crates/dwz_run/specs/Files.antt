@@ -1,5 +1,5 @@
--- Files that are taken as long as the tool is being built, and why others are refused.
-use Rattle.std.specs.Prelude.{◌≡◌, ◌⊎◌, ℕ, ◌<◌, ◌≤◌, ◌^◌, true, List, length, None, Result, Ok, Err}
+-- What is written for a file, and why others are refused.
+use Rattle.std.specs.Prelude.{◌≡◌, ◌⊎◌, ℕ, ◌<◌, ◌≤◌, true, List, length, None, Result, Ok, Err}
 use Rattle.dwz_bytes.specs.Input.{input}
 use Rattle.dwz_docs.specs.Documents.{Doc}
 use Rattle.dwz_docs.specs.ElfFaults.{file_fault}
@@ -12,27 +12,31 @@ use Rattle.dwz_model.specs.declared.fault.Fault.{Fault}
 use Rattle.dwz_model.specs.declared.fault.Reason.TheVariants.{NotBuilt}
 use Rattle.dwz_model.specs.declared.fault.ReadErr.{ReadErr}
 use Rattle.dwz_model.specs.declared.fault.ReadErr.TheVariants.{NoMemory, Refused}
-use Rattle.dwz_run.specs.Profile.{InProfile}
+use Rattle.dwz_output.specs.Out.{IsOut}
+use Rattle.dwz_output.specs.ReadBack.{HasOneImage, ReadsBack}
+use Rattle.dwz_run.specs.declared.faults.WriteErr.{WriteErr}
+use Rattle.dwz_run.specs.declared.faults.WriteErr.TheVariants.{TooLong, NoMemory as NoMemoryToWrite}
+use Rattle.dwz_run.specs.Profile.{InProfile, longest_out}
 use Rattle.dwz_tops.specs.Plain.{are_plain_units}
 
--- the file reads as a document, and its sections and its units are plain ones
-pub record IsTaken (bytes : List ℕ) : Type 0 where
+-- The file reads as a document, its sections and its units are plain ones, and what is written stands for it and is short.
+pub record IsWritten (bytes out : List ℕ) : Type 0 where
   pub raw : List RawUnit
   pub doc : Doc ℕ
   pub reads : Reads no_files_before bytes raw doc
   pub sections : IsPlain (elf_of bytes)
   pub units : are_plain_units raw ≡ true
+  pub is_out : IsOut bytes doc out
+  pub short : length out < longest_out
 
--- a file in which nothing can move, since it has no two units
-pub record StandsForItself (bytes : List ℕ) : Type 0 where
-  pub taken : IsTaken bytes
-  pub few : length taken.raw < 2
-  pub short : length bytes < 2 ^ 24
+-- Whatever the file reads as, what is written reads back as the same, along images and with imports expanded; and entries share an
+-- image there exactly where nothing tells them apart.
+abbrev pub IsReadBack : List ℕ → List ℕ → Type 0
+IsReadBack bytes out = (raw : List RawUnit) (doc : Doc ℕ) → Reads no_files_before bytes raw doc → ReadsBack doc out × HasOneImage doc
 
--- A file is refused for its first fault; or with NotBuilt, if it isn't in the profile, or has two units or more: of such files
--- it isn't shown yet that what is written for them is as long as the profile says.
+-- a file is refused for its first fault; or with NotBuilt, since it isn't in the profile
 abbrev pub MayBeRefused : List ℕ → Fault → Type 0
-MayBeRefused bytes f = IsFileFault no_files_before bytes f ⊎ ((f ≡ file_fault NotBuilt 0) × ((p : InProfile bytes) → 2 ≤ length p.raw))
+MayBeRefused bytes f = IsFileFault no_files_before bytes f ⊎ ((f ≡ file_fault NotBuilt 0) × (InProfile bytes → ⊥))
 
 -- the answer is this refusal, unless memory ran out
 abbrev pub Names : {A : Type 0} → Result A ReadErr → Fault → Type 0
@@ -53,23 +57,21 @@ pub record HasUnits (bytes : List ℕ) (raw : List RawUnit) : Type 0 where
   pub elf : elf_fault bytes ≡ None
   pub units : units_at (debug_abbrev bytes) (given most_entries) 0 (input (debug_info bytes) 0) ≡ Ok raw
 
--- the file was read, and is a plain one; of one that has no two units the answer is the file itself
-pub record IsMade (bytes out : List ℕ) : Type 0 where
-  pub raw : List RawUnit
-  pub read : HasUnits bytes raw
-  pub sections : IsPlain (elf_of bytes)
-  pub units : are_plain_units raw ≡ true
-  pub itself : length raw < 2 → out ≡ bytes
+-- What is written has the property, and is short; or whatever has it is too long. Want of memory is always an answer.
+abbrev pub Writes : {A : Type 0} → (A → List ℕ) → (List ℕ → Type 0) → Result A WriteErr → Type 0
+Writes items Is (Ok out) = Is (items out) × (length (items out) < longest_out)
+Writes items Is (Err TooLong) = (out : List ℕ) → Is out → longest_out ≤ length out
+Writes items Is (Err NoMemoryToWrite) = Unit {0}
 
--- the file was read, and isn't a plain one; or it has two units or more, or 2^24 bytes or more
+-- the units were read, and the file isn't in the profile
 pub record IsNotBuilt (bytes : List ℕ) (f : Fault) : Type 0 where
   pub fault : f ≡ file_fault NotBuilt 0
   pub raw : List RawUnit
   pub read : HasUnits bytes raw
-  pub other : IsPlain (elf_of bytes) → are_plain_units raw ≡ true → length raw < 2 → 2 ^ 24 ≤ length bytes
+  pub other : InProfile bytes → ⊥
 
 -- what is answered by the steps of reading
 abbrev pub IsAnswer : {A : Type 0} → (A → List ℕ) → List ℕ → Result A ReadErr → Type 0
-IsAnswer items bytes (Ok out) = IsMade bytes (items out)
+IsAnswer items bytes (Ok out) = IsWritten bytes (items out)
 IsAnswer items bytes (Err (Refused f)) = IsFileFault no_files_before bytes f ⊎ IsNotBuilt bytes f
 IsAnswer items bytes (Err NoMemory) = Unit {0}

@@ -7,7 +7,7 @@ ghost use Rattle.dwz_model.specs.declared.fault.ReadErr.TheVariants.{Refused};
 ghost use Rattle.dwz_run.specs.declared.faults.WriteErr.TheVariants.{NoMemory as no_memory_to_write};
 
 use dwz_model::{Fault, ReadErr, Reason};
-use std::alloc::{AllocError, AllocFailed};
+use std::alloc::AllocError;
 
 /// A file that isn't handled as long as the tool is being built.
 pub(crate) fn not_built() -> ReadErr
@@ -37,7 +37,7 @@ fn of_file(reason: Reason) -> ReadErr
 /// Why nothing is written for a file.
 #[derive(Clone, Copy, Debug, PartialEq, Eq)]
 pub(crate) enum WriteErr {
-    /// A section or the file would have 2^24 bytes or more.
+    /// No file stands for it, or that one has 2^24 bytes or more.
     TooLong,
     NoMemory,
 }
@@ -46,14 +46,6 @@ impl From<AllocError> for WriteErr {
     ghost from_gives = { λ _ e. e ≡ no_memory_to_write };
 
     fn from(_error: AllocError) -> WriteErr {
-        WriteErr::NoMemory
-    }
-}
-
-impl<T: Drop> From<AllocFailed<T>> for WriteErr {
-    ghost from_gives = { λ _ e. e ≡ no_memory_to_write };
-
-    fn from(_error: AllocFailed<T>) -> WriteErr {
         WriteErr::NoMemory
     }
 }

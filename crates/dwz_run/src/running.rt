@@ -1,7 +1,7 @@
 //! The whole run.
 
 ghost use Rattle.std.specs.Prelude.{◌≡◌, map};
-ghost use Rattle.dwz_run.specs.Ends.{Ends};
+ghost use Rattle.dwz_run.specs.Ends.{Complete, Ends, Refuses};
 
 use crate::file::one_file;
 use crate::status::Status;
@@ -12,7 +12,8 @@ use std::alloc::Global;
 use std::thread::Threads;
 
 /// Does what the words ask for: `-o`, the name of the file to write, and the name of the one to read. The file that is
-/// written is the one that was read, with repeated entries stored once.
+/// written is the one that was read, with repeated entries stored once. It is written if the one that was read is in the
+/// profile (`InProfile`), and else refused, unless the files fail or memory runs out.
 ///
 /// The file is got once, and all memory is taken before the one put. Nothing is written on the console as long as the
 /// tool is being built, and `ConsoleFault` doesn't come.
@@ -26,7 +27,22 @@ pub fn run<Rt: Threads + Sync, F: Files, C: Console>(
     ensures ends { Ends (map (λ w. w.items) words.now)
         (record { held = F.held files.old; read_faults = F.read_faults files.old; write_faults = F.write_faults files.old; last_read = F.last_read files.old; last_write = F.last_write files.old })
         (record { held = F.held files.new; read_faults = F.read_faults files.new; write_faults = F.write_faults files.new; last_read = F.last_read files.new; last_write = F.last_write files.new }) result }
+    ensures complete { Complete (map (λ w. w.items) words.now)
+        (record { held = F.held files.old; read_faults = F.read_faults files.old; write_faults = F.write_faults files.old; last_read = F.last_read files.old; last_write = F.last_write files.old })
+        (record { held = F.held files.new; read_faults = F.read_faults files.new; write_faults = F.write_faults files.new; last_read = F.last_read files.new; last_write = F.last_write files.new }) result }
+    ensures refuses { Refuses (map (λ w. w.items) words.now)
+        (record { held = F.held files.old; read_faults = F.read_faults files.old; write_faults = F.write_faults files.old; last_read = F.last_read files.old; last_write = F.last_write files.old })
+        (record { held = F.held files.new; read_faults = F.read_faults files.new; write_faults = F.write_faults files.new; last_read = F.last_read files.new; last_write = F.last_write files.new }) result }
     ensures silent { console.new ≡ console.old }
+{
+    handled(alloc, words, files)
+}
+
+// What a run does, beside the console.
+fn handled<F: Files>(alloc: Global, words: &[Vec<u8>], files: &mut F) -> Status
+    ensures { Ends (map (λ w. w.items) words.now)
+        (record { held = F.held files.old; read_faults = F.read_faults files.old; write_faults = F.write_faults files.old; last_read = F.last_read files.old; last_write = F.last_write files.old })
+        (record { held = F.held files.new; read_faults = F.read_faults files.new; write_faults = F.write_faults files.new; last_read = F.last_read files.new; last_write = F.last_write files.new }) result }
 {
     let Some(asked) = lawful_request(words) else {
         return Status::Usage;

@@ -19,11 +19,21 @@ pub(crate) const TWO: &str =
 pub(crate) const NEW_TWO: &str =
     "1100000005000308000000000102696e74000405000f000000050001081100000001020c000000000f000000050001081100000001020c00000000";
 
+// The table with DW_FORM_indirect for the size.
+pub(crate) const INDIRECT: &str = "011101000002240003080b163e0b000000";
+
+// A second unit that is longer than what is left, and a first one.
+pub(crate) const SECOND_TOO_LONG: &str =
+    "1100000005000108000000000102696e74000405001200000005000108000000000102696e7400040500";
+
+pub(crate) const FIRST_TOO_LONG: &str =
+    "2700000005000108000000000102696e74000405001100000005000108000000000102696e7400040500";
+
 // Two units that hold X and Y, and one that holds X alone.
-const USERS: &str =
+pub(crate) const USERS: &str =
     "43000000050001080000000001026c6f6e67206c6f6e6720756e7369676e656420696e7400080702657874656e6465642073686f727420756e7369676e656420696e740002070043000000050001080000000001026c6f6e67206c6f6e6720756e7369676e656420696e7400080702657874656e6465642073686f727420756e7369676e656420696e740002070024000000050001080000000001026c6f6e67206c6f6e6720756e7369676e656420696e7400080700";
 
-const NEW_USERS: &str =
+pub(crate) const NEW_USERS: &str =
     "24000000050003080000000001026c6f6e67206c6f6e6720756e7369676e656420696e74000807002900000005000308000000000102657874656e6465642073686f727420756e7369676e656420696e740002070014000000050001081100000001020c00000002340000000014000000050001081100000001020c0000000234000000000f000000050001081100000001020c00000000";
 
 // Named units with structures that have members, one of which stands twice in a unit.
@@ -104,17 +114,12 @@ const TABLES: u8 = 2;
 #[test]
 fn the_first_fault_is_named(rt: HostRuntime) -> Result<(), Fail> {
     let table = [
-        // A second unit that is longer than what is left, and a first one.
         (
-            "1100000005000108000000000102696e74000405001200000005000108000000000102696e7400040500",
+            SECOND_TOO_LONG,
             ABBREV,
             fault(INFO, 0x15, Reason::Truncated),
         ),
-        (
-            "2700000005000108000000000102696e74000405001100000005000108000000000102696e7400040500",
-            ABBREV,
-            fault(INFO, 0, Reason::Truncated),
-        ),
+        (FIRST_TOO_LONG, ABBREV, fault(INFO, 0, Reason::Truncated)),
         // A first unit that is one byte too long: alone, and before another, whose first byte is no padding then.
         (
             "1200000005000108000000000102696e7400040500",
@@ -151,7 +156,7 @@ fn the_first_fault_is_named(rt: HostRuntime) -> Result<(), Fail> {
         // The form `DW_FORM_indirect`, and a code that isn't declared.
         (
             TWO,
-            "011101000002240003080b163e0b000000",
+            INDIRECT,
             fault(INFO, 0xd, Reason::UnsupportedForm { form: 0x16 }),
         ),
         (

@@ -1,7 +1,9 @@
 //! Whole runs over files in memory.
 
 use crate::elf::plain;
-use crate::files::{ABBREV, NEW_ABBREV, NEW_TWO, TWO};
+use crate::files::{
+    ABBREV, FIRST_TOO_LONG, INDIRECT, NEW_ABBREV, NEW_TWO, NEW_USERS, SECOND_TOO_LONG, TWO, USERS,
+};
 use dwz_outside::{MemConsole, MemFiles};
 use dwz_run::{Status, run};
 use std::alloc::Global;
@@ -10,24 +12,31 @@ use std::thread::Threads;
 
 const LAWFUL: &[&[u8]] = &[b"-o", b"out", b"a"];
 
-fn old_file(alloc: Global) -> Result<Vec<u8>, Fail> {
-    let info = hex::decode(alloc, TWO)?;
-    let abbrev = hex::decode(alloc, ABBREV)?;
+// The file with these sections.
+fn file(alloc: Global, info: &str, abbrev: &str) -> Result<Vec<u8>, Fail> {
+    let info = hex::decode(alloc, info)?;
+    let abbrev = hex::decode(alloc, abbrev)?;
     Ok(plain(alloc, &info, &abbrev)?)
+}
+
+fn old_file(alloc: Global) -> Result<Vec<u8>, Fail> {
+    file(alloc, TWO, ABBREV)
 }
 
 fn new_file(alloc: Global) -> Result<Vec<u8>, Fail> {
-    let info = hex::decode(alloc, NEW_TWO)?;
-    let abbrev = hex::decode(alloc, NEW_ABBREV)?;
-    Ok(plain(alloc, &info, &abbrev)?)
+    file(alloc, NEW_TWO, NEW_ABBREV)
 }
 
-// Files that hold `a`, with ample room.
-fn files(alloc: Global) -> Result<MemFiles, Fail> {
+// Files that hold this as `a`, with ample room.
+fn files_with(alloc: Global, file: &[u8]) -> Result<MemFiles, Fail> {
     let mut files = MemFiles::new(alloc)?;
-    files.add(b"a", &old_file(alloc)?)?;
+    files.add(b"a", file)?;
     files.reserve(8, 100_000)?;
     Ok(files)
+}
+
+fn files(alloc: Global) -> Result<MemFiles, Fail> {
+    files_with(alloc, &old_file(alloc)?)
 }
 
 // How a run with these words ends.
@@ -63,6 +72,41 @@ fn the_file_is_written_elsewhere(rt: HostRuntime) -> Result<(), Fail> {
     assert_eq!(rt; ends, Status::Done);
     assert!(rt; is_done(alloc, &files)?);
     assert_eq!(rt; console.text(), b"".as_slice());
+    Ok(())
+}
+
+#[test]
+fn tops_with_other_users_are_kept_apart(rt: HostRuntime) -> Result<(), Fail> {
+    let alloc = rt.alloc();
+    let mut files = files_with(alloc, &file(alloc, USERS, ABBREV)?)?;
+    let mut console = MemConsole::new(alloc)?;
+    let ends = status(&rt, alloc, LAWFUL, &mut files, &mut console)?;
+    assert_eq!(rt; ends, Status::Done);
+    let new = file(alloc, NEW_USERS, NEW_ABBREV)?;
+    assert!(rt; files.content(b"out") == Some(new.as_slice()));
+    Ok(())
+}
+
+#[test]
+fn files_with_faults_put_nothing(rt: HostRuntime) -> Result<(), Fail> {
+    let alloc = rt.alloc();
+    let table = [
+        (SECOND_TOO_LONG, ABBREV),
+        (FIRST_TOO_LONG, ABBREV),
+        (TWO, INDIRECT),
+    ];
+    for (info, abbrev) in table {
+        let old = file(alloc, info, abbrev)?;
+        let mut files = files_with(alloc, &old)?;
+        let mut console = MemConsole::new(alloc)?;
+        let ends = status(&rt, alloc, LAWFUL, &mut files, &mut console)?;
+        assert_eq!(rt; ends, Status::Refused, "of {info} {abbrev}");
+        assert!(rt; files.content(b"out").is_none(), "of {info} {abbrev}");
+        assert!(rt;
+            files.content(b"a") == Some(old.as_slice()),
+            "of {info} {abbrev}"
+        );
+    }
     Ok(())
 }
 

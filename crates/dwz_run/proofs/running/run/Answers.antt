@@ -1,37 +1,8 @@
-use Rattle.std.proofs.Common.{ℕ, List, Option, Some, Err, Ok, IfErr, IfOk, refl, subst, sym, ap, ◌∙◌}
-use Rattle.dwz_outside.specs.Counts.{Rose}
-use Rattle.dwz_run.specs.Files.{StandsForItself}
-use Rattle.dwz_run.proofs.Endings.{refused, wrote}
+use Rattle.dwz_run.proofs.Completeness.{complete, refuses}
 use Rattle.dwz_run.proofs.running.run.Goals as goal
 
-abbrev some_name : List ℕ → Option (List ℕ)
-some_name n = Some n
+pub returns-clause-complete : goal.returns-clause-complete
+returns-clause-complete g c = complete _ _ _ _ c.handled.ensures
 
-pub returns-in-Err-Failed-clause-ends : goal.returns-in-Err-Failed-clause-ends
-returns-in-Err-Failed-clause-ends g c =
-    let why = (rw c.in-Err-Failed.field-0-is at c.in-Err-Failed.ensures.failed) refl in
-    (record { out = c.in-Some.asked.out.now; file = c.in-Some.asked.file.now; lawful = c.in-Some.ensures.lawful }, why.0, why.1, c.get.ensures.held)
-
-pub returns-in-Err-Refused-clause-ends : goal.returns-in-Err-Refused-clause-ends
-returns-in-Err-Refused-clause-ends g c = (
-  record { out = c.in-Some.asked.out.now; file = c.in-Some.asked.file.now; lawful = c.in-Some.ensures.lawful },
-  refused _ _ _ _ c.in-Err-Refused.field-0-0 c.deref.ensures.value c.in-Ok.ensures.content
-      (rw c.in-Err-Refused.field-0-is at c.in-Err-Refused.ensures.refused) (rw c.in-Err-Refused.field-0-is at c.in-Err-Refused.ensures.lasts),
-  c.get.ensures.held,
-)
-
-pub returns-in-Ok-put-clause-ends : goal.returns-in-Ok-put-clause-ends
-returns-in-Ok-put-clause-ends g c = (
-  record { out = c.in-Some.asked.out.now; file = c.in-Some.asked.file.now; lawful = c.in-Some.ensures.lawful },
-  wrote _ _ _ _ _ c.in-Ok.input.items c.deref.result.now c.in-Ok-one_file.output.items _ _ c.get.ensures.held c.deref.ensures.value c.in-Ok.ensures.content
-      c.in-Ok-one_file.ensures.taken c.in-Ok-one_file.ensures.itself
-      c.in-Ok-from_slice.ensures.items c.deref-2.ensures.value c.in-Ok-put.ensures.done,
-)
-
-pub returns-clause-ends : goal.returns-clause-ends
-returns-clause-ends g c = (
-  record { out = c.in-Some.asked.out.now; file = c.in-Some.asked.file.now; lawful = c.in-Some.ensures.lawful },
-  subst (λ (n : ℕ). Rose n (g.F.Files.write_faults c.put.new.self)) c.get.ensures.writes.0 c.in-Err.ensures.failed.0,
-  c.in-Err.ensures.failed.1 ∙ ap some_name c.in-Ok-from_slice.ensures.items,
-  c.in-Err.ensures.not_done ∙ c.get.ensures.held,
-)
+pub returns-clause-refuses : goal.returns-clause-refuses
+returns-clause-refuses g c = refuses _ _ _ _ c.handled.ensures

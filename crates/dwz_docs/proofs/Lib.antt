@@ -15,12 +15,6 @@ pub mod HeaderLemmas
 pub mod UnitLemmas
 pub mod UnitListLemmas
 pub mod UnitReads
-pub mod AgreeLemmas
-pub mod MeaningLemmas
-pub mod ClassLemmas
-pub mod FileLemmas
-mod MeaningRows
-mod FileRows
 mod UnitRows
 pub mod FitLemmas
 pub mod OrderLemmas

@@ -12,6 +12,3 @@ pub mod Trees
 pub mod ElfLayout
 pub mod Entries
 pub mod Units
-pub mod Documents
-pub mod Meanings
-pub mod Files

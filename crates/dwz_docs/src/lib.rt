@@ -1,5 +1,5 @@
-//! What files mean: how their parts are spelled (DWARF 5, chapter 7; ELF-64 Object File Format), what reading them gives,
-//! and where it stops.
+//! How the parts of files are spelled (DWARF 5, chapter 7; ELF-64 Object File Format), what reading them gives, and where it
+//! stops. What is said by what was read is another matter: it stands in `dwz_meanings`.
 //!
 //! There is no running code here. The definitions stand in `specs/`; here are the records that they speak of, and laws,
 //! which are functions without a body.
@@ -9,8 +9,6 @@ mod abbrevs;
 mod elf;
 mod elf_faults;
 mod entries;
-mod files;
-mod meanings;
 mod texts;
 mod trees;
 mod units;
@@ -20,8 +18,6 @@ pub use abbrevs::{code_laws, order_laws, table_laws};
 pub use elf::{FileHeader, Header, Moved, Name, NewContent, Section};
 pub use elf_faults::elf_fault_laws;
 pub use entries::{attrs_laws, entry_laws};
-pub use files::file_laws;
-pub use meanings::meaning_laws;
 pub use texts::{slot_laws, text_laws};
 pub use trees::tree_laws;
 pub use units::unit_laws;

@@ -3,8 +3,7 @@
 ghost use Rattle.std.specs.Prelude.{◌≡◌, ◌≤◌, ◌<◌, ◌↔◌, All, Err, IsTrue, IfNone, IfOk, Some, length, map, drop, take};
 ghost use Rattle.dwz_docs.specs.ElfHeaders;
 ghost use Rattle.dwz_docs.specs.ElfNames;
-ghost use Rattle.dwz_docs.specs.Files.{bytes_in};
-ghost use Rattle.dwz_docs.specs.ElfReading.{elf_fault, elf_of, range_in, section_range};
+ghost use Rattle.dwz_docs.specs.ElfReading.{bytes_in, elf_fault, elf_of, range_in, section_range};
 ghost use Rattle.dwz_elf.specs.Plain.{IsPlain, IsPlainSection};
 ghost use Rattle.dwz_elf.specs.Reads.{Gives, IsWhole, front_fault_of, rest_fault_of};
 ghost use Rattle.dwz_model.specs.declared.fault.Fault.{Fault};

@@ -1,6 +1,6 @@
 -- What is answered for a document that the units mean.
 use Rattle.std.proofs.Common.{◌≡◌, ℕ, suc, eqb-true, arith, true, false, List, [], ◌∷◌, length, ◌==◌, refl, sym, ap, subst, ◌∙◌}
-use Rattle.dwz_docs.specs.Documents.{Doc}
+use Rattle.dwz_meanings.specs.Documents.{Doc}
 use Rattle.dwz_output.specs.Out.{FitsSections, has_changes, sections_of as out_sections}
 use Rattle.dwz_output.specs.Placing.{UnitSections}
 use Rattle.dwz_output.specs.Writing.{joined}

@@ -3,9 +3,10 @@ use Rattle.std.proofs.Common.{◌≡◌, ℕ, ℤ, zero, suc, pos, ◌+◌, Bool
 use Rattle.std.specs.List.{list_all}
 use Rattle.std.specs.Option.{option_map_or}
 use Rattle.std.proofs.lemmas.Bool.{and_parts}
-use Rattle.dwz_docs.specs.Documents.{Attr, Doc, Entries, Node, Num, Text, attr_map, entries_map, node_map, only, ref}
+use Rattle.dwz_meanings.specs.Documents.{Attr, Doc, Entries, Node, Num, Text, attr_map, entries_map, node_map, only, ref}
 use Rattle.dwz_docs.specs.Entries.{RawAttr, RawEntry}
-use Rattle.dwz_docs.specs.Meanings.{In, bytes_of, class_in, class_rows, kept_width, number_of, offset_of}
+use Rattle.dwz_meanings.specs.Meanings.{bytes_of, class_in, class_rows, kept_width, number_of, offset_of}
+use Rattle.dwz_docs.specs.Lists.{In}
 use Rattle.dwz_docs.specs.Trees.{End, Entry, Forest}
 use Rattle.dwz_docs.specs.Units.{CompileUnit, PartialUnit as OfPartialUnit, RawKind, RawUnit, TypeUnit}
 use Rattle.dwz_docs.specs.Values.{Bytes, Number}

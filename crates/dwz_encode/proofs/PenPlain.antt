@@ -8,7 +8,7 @@ use Rattle.std.proofs.lemmas.List.Elements.{All-push}
 use Rattle.dwz_codes.specs.Forms.{form_rows}
 use Rattle.dwz_docs.specs.Abbrevs.{IsPlainPair}
 use Rattle.dwz_docs.specs.Entries.{RawAttr}
-use Rattle.dwz_docs.specs.Meanings.{bytes_of, number_of}
+use Rattle.dwz_meanings.specs.Meanings.{bytes_of, number_of}
 use Rattle.dwz_docs.specs.Units.{RawUnit}
 use Rattle.dwz_docs.specs.Values.{Bytes, HasSpelling, Number, Raw, SpellsShape, constant_of, shape_of, written_rows}
 use Rattle.dwz_model.specs.declared.tops.TopRow.{TopRow}

@@ -4,8 +4,8 @@ use Rattle.std.specs.Prelude.{slice_index_or}
 use Rattle.std.specs.List.{flat_map, range_with_len}
 use Rattle.std.proofs.lemmas.List.{length-map, length-replicate}
 use Rattle.std.proofs.lemmas.List.Elements.{All-cons, All-nil}
-use Rattle.dwz_docs.specs.Documents.{Doc}
-use Rattle.dwz_docs.specs.Meanings.{In, has}
+use Rattle.dwz_meanings.specs.Documents.{Doc}
+use Rattle.dwz_docs.specs.Lists.{In, has}
 use Rattle.dwz_docs.specs.Units.{RawUnit}
 use Rattle.dwz_model.specs.declared.tops.TopRow.{TopRow}
 use Rattle.dwz_output.specs.Out.{alike_in, one_file}

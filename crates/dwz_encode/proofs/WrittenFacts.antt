@@ -4,9 +4,10 @@ use Rattle.std.specs.Prelude.{slice_index, slice_index_or}
 use Rattle.std.proofs.lemmas.Bool.{and_from, and_parts, cases_lt, eq-eqb}
 use Rattle.std.proofs.lemmas.List.{length-map, map-append}
 use Rattle.std.proofs.lemmas.Option.{slice_get_within}
-use Rattle.dwz_docs.specs.Documents.{Doc, DwUnit}
+use Rattle.dwz_meanings.specs.Documents.{Doc, DwUnit}
 use Rattle.dwz_docs.specs.Entries.{given as given_room}
-use Rattle.dwz_docs.specs.Meanings.{In, all_places}
+use Rattle.dwz_meanings.specs.Meanings.{all_places}
+use Rattle.dwz_docs.specs.Lists.{In}
 use Rattle.dwz_docs.specs.Units.{RawUnit}
 use Rattle.dwz_output.specs.After.{ArePlaced, one_fitted}
 use Rattle.dwz_output.specs.Alike.{Apart, Each, IsAlike}

@@ -3,7 +3,7 @@ use Rattle.std.specs.Prelude.{ℕ, pos, suc, ◌+◌, Bool, true, false, List, [
 use Rattle.std.specs.List.{flat_map}
 use Rattle.std.specs.Option.{option_map_or}
 use Rattle.dwz_docs.specs.Entries.{RawAttr, RawEntry}
-use Rattle.dwz_docs.specs.Meanings.{bytes_of, number_of}
+use Rattle.dwz_meanings.specs.Meanings.{bytes_of, number_of}
 use Rattle.dwz_docs.specs.Trees.{End, Entry, Forest}
 use Rattle.dwz_docs.specs.Units.{RawUnit}
 use Rattle.dwz_docs.specs.Values.{Bytes, Number, Raw}

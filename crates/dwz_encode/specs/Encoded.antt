@@ -1,8 +1,8 @@
 -- What is made for units that are read.
 use Rattle.std.specs.Prelude.{◌≡◌, ℕ, false, true, Option, Some, None}
-use Rattle.dwz_docs.specs.Documents.{Doc}
+use Rattle.dwz_meanings.specs.Documents.{Doc}
 use Rattle.dwz_docs.specs.Entries.{given}
-use Rattle.dwz_docs.specs.Meanings.{MeanUnits, Sources, all_places}
+use Rattle.dwz_meanings.specs.Meanings.{MeanUnits, Sources, all_places}
 use Rattle.dwz_docs.specs.Units.{SpellsUnits}
 use Rattle.dwz_encode.specs.declared.error.EncodeErr.{EncodeErr}
 use Rattle.dwz_encode.specs.declared.error.EncodeErr.TheVariants.{NoMemory, TooLarge}

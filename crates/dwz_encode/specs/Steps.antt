@@ -1,6 +1,6 @@
 -- What is asked of a plan, and how entries are gone over.
 use Rattle.std.specs.Prelude.{◌≡◌, ℕ, ◌-◌, ◌<◌, All, List, [], ◌∷◌, ◌++◌, length, nat_lt, replicate}
-use Rattle.dwz_docs.specs.Documents.{Doc}
+use Rattle.dwz_meanings.specs.Documents.{Doc}
 use Rattle.dwz_docs.specs.Units.{RawUnit}
 use Rattle.dwz_encode.specs.declared.error.EncodeErr.{EncodeErr}
 use Rattle.dwz_encode.specs.declared.error.EncodeErr.TheVariants.{NoMemory, TooLarge}

@@ -1,7 +1,7 @@
 //! Both sections.
 
 ghost use Rattle.std.specs.Prelude.{◌≡◌, ℕ, true, IfErr, IfOk};
-ghost use Rattle.dwz_docs.specs.Documents.{Doc};
+ghost use Rattle.dwz_meanings.specs.Documents.{Doc};
 ghost use Rattle.dwz_tops.specs.Plain.{are_plain_units};
 ghost use Rattle.dwz_unit.specs.Rows.{units_of};
 ghost use Rattle.dwz_writer.specs.Written.{sections_of};

@@ -3,8 +3,8 @@ use Rattle.std.proofs.Common.{◌≡◌, ◌⊎◌, ℕ, zero, suc, ◌+◌, ◌
 use Rattle.std.proofs.lemmas.Bool.{cases_Bool, eq-eqb, eqb-true, false≢true, not_from_false, or_left, or_right}
 use Rattle.std.proofs.lemmas.Bool.Decides.{Decides-like, Decides-not}
 use Rattle.std.specs.List.{list_any}
-use Rattle.dwz_docs.specs.Documents.{Attr, Entries, Node}
-use Rattle.dwz_docs.specs.Meanings.{In, has}
+use Rattle.dwz_meanings.specs.Documents.{Attr, Entries, Node}
+use Rattle.dwz_docs.specs.Lists.{In, has}
 use Rattle.dwz_docs.specs.Trees.{End, Entry}
 use Rattle.dwz_output.specs.Alike.{Bound, Each, Movable, any_attr, any_entry, any_in, attr_binds, binding_forms, binds_itself, entry_binds, has_address, has_operand, is_in, is_named, is_number, leaves, refers_to, unit_in}
 use Rattle.dwz_output.specs.Deciding.{bound_test, is_movable}

@@ -1,6 +1,6 @@
 -- A look as deep as there are tops decides the looks of every depth.
 use Rattle.std.proofs.Common.{◌≡◌, ℕ, suc, ◌+◌, ◌-◌, ◌≤◌, List, length, subst, arith}
-use Rattle.dwz_docs.specs.Meanings.{In}
+use Rattle.dwz_docs.specs.Lists.{In}
 use Rattle.dwz_output.specs.Alike.{Look}
 use Rattle.dwz_output.specs.Deciding.{look_test}
 use Rattle.dwz_output.specs.Spots.{Top}

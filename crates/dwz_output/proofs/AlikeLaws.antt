@@ -2,7 +2,7 @@
 use Rattle.std.proofs.Common.{◌≡◌, ◌⊎◌, ℕ, suc, ◌≤◌, Bool, true, false, List, [], ◌∷◌, length, Option, Some, None, Decides, refl, sym, ap, subst, ◌∙◌, inl, inr, ⊎_elim, arith}
 use Rattle.std.proofs.lemmas.Bool.{false≢true}
 use Rattle.std.proofs.lemmas.Bool.Decides.{Decides-at, Decides-eqb, Decides-like}
-use Rattle.dwz_docs.specs.Meanings.{In}
+use Rattle.dwz_docs.specs.Lists.{In}
 use Rattle.dwz_output.specs.Alike.{Alike, Apart, InScope, IsAlike, Look, Movable, Scope, Together}
 use Rattle.dwz_output.specs.Deciding.{alike_test, alike_tops, in_scope, is_movable, look_test, on_tops, top_in}
 use Rattle.dwz_output.specs.Spots.{FileUnit, Spot, Top, tops_of}

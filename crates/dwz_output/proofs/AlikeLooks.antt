@@ -1,7 +1,7 @@
 -- Looks of one depth, among tops whose references go to each other.
 use Rattle.std.proofs.Common.{◌≡◌, ℕ, zero, suc, ◌+◌, ◌<◌, List, length, Some, Decides, refl, sym, ap, subst, ◌∙◌, arith}
 use Rattle.std.proofs.lemmas.Bool.Decides.{Decides-at, Decides-like}
-use Rattle.dwz_docs.specs.Meanings.{In}
+use Rattle.dwz_docs.specs.Lists.{In}
 use Rattle.dwz_output.specs.Alike.{Look, SameTop}
 use Rattle.dwz_output.specs.Deciding.{look_test, on_tops, same_top, top_in}
 use Rattle.dwz_output.specs.Spots.{Top}

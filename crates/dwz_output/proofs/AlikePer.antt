@@ -1,6 +1,6 @@
 -- A test that finds tops alike exactly where they are is symmetric and transitive, and finds the targets of alike tops alike.
 use Rattle.std.proofs.Common.{◌≡◌, ℕ, zero, suc, true, List, refl, sym, subst, ◌∙◌}
-use Rattle.dwz_docs.specs.Meanings.{In}
+use Rattle.dwz_docs.specs.Lists.{In}
 use Rattle.dwz_output.specs.Alike.{Alike, Apart, InScope, IsAlike, Look, Movable, SameTop, Scope, Together}
 use Rattle.dwz_output.specs.Deciding.{Test}
 use Rattle.dwz_output.specs.Spots.{FileUnit, Spot, Top, tops_of}

@@ -1,7 +1,7 @@
 -- Small documents: what is movable and alike in them, by computing.
 use Rattle.std.proofs.Common.{◌≡◌, ℕ, ◌+◌, pos, Bool, true, false, List, [], ◌∷◌, map, refl}
-use Rattle.dwz_docs.specs.Documents.{Addr, Attr, Compile, DwUnit, Entries, Node, Num, Text, entries_map, first_named, only, ref}
-use Rattle.dwz_docs.specs.Meanings.{has}
+use Rattle.dwz_meanings.specs.Documents.{Addr, Attr, Compile, DwUnit, Entries, Node, Num, Text, entries_map, first_named, only, ref}
+use Rattle.dwz_docs.specs.Lists.{has}
 use Rattle.dwz_docs.specs.Trees.{End, Entry}
 use Rattle.dwz_output.specs.Alike.{Apart, Together, any_entry, unit_in}
 use Rattle.dwz_output.specs.Deciding.{alike_test, bound_test, is_movable, look_test, same_by, same_entries, same_int, same_part, same_plain, top_in}

@@ -4,7 +4,7 @@ use Rattle.std.proofs.lemmas.Bool.{false≢true}
 use Rattle.std.proofs.lemmas.Bool.Decides.{Decides-eqb, Decides-like}
 use Rattle.dwz_model.specs.declared.place.Base.{Base}
 use Rattle.dwz_model.specs.declared.place.Base.TheVariants.{Unit as FromUnit, Info as FromInfo}
-use Rattle.dwz_docs.specs.Documents.{Addr, Block, Expr, File, Flag, Index, Loc, Num, Operand, Part, Plain, Ref, Same, Sec, Sig, Text}
+use Rattle.dwz_meanings.specs.Documents.{Addr, Block, Expr, File, Flag, Index, Loc, Num, Operand, Part, Plain, Ref, Same, Sec, Sig, Text}
 use Rattle.dwz_output.specs.Deciding.{same_base, same_bool, same_by, same_int, same_option, same_part, same_plain}
 use Rattle.dwz_output.specs.Spots.{same_numbers}
 

@@ -1,7 +1,7 @@
 -- Equal bare trees, where a relation holds of the tops of their targets.
 use Rattle.std.proofs.Common.{ℕ, List, [], ◌∷◌, Decides, ◌==◌, refl, sym, ◌∙◌}
 use Rattle.std.proofs.lemmas.Bool.Decides.{Decides-eqb, Decides-like}
-use Rattle.dwz_docs.specs.Documents.{Attr, Entries, Node, Value}
+use Rattle.dwz_meanings.specs.Documents.{Attr, Entries, Node, Value}
 use Rattle.dwz_docs.specs.Trees.{End, Entry}
 use Rattle.dwz_output.specs.Alike.{Each, SameAttrs, SameEntries, SameNode, SameRefs, SameTarget, SameTop, SameValue}
 use Rattle.dwz_output.specs.Deciding.{Test, same_attr, same_by, same_entries, same_int, same_node, same_option, same_plain, same_target, same_top, same_value}

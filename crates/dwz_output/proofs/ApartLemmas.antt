@@ -1,8 +1,8 @@
 -- No name stands twice among the units of a file after.
 use Rattle.std.proofs.Common.{◌≡◌, ℕ, suc, ◌<◌, ◌≤◌, ◌⊎◌, List, [], ◌∷◌, ◌++◌, length, map, refl, sym, ap, subst, ◌∙◌, arith, inl, inr, append_assoc}
 use Rattle.std.proofs.lemmas.List.{length-append}
-use Rattle.dwz_docs.specs.Documents.{Entries, Node, entries_map}
-use Rattle.dwz_docs.specs.Meanings.{In}
+use Rattle.dwz_meanings.specs.Documents.{Entries, Node, entries_map}
+use Rattle.dwz_docs.specs.Lists.{In}
 use Rattle.dwz_docs.specs.Trees.{End, Entry}
 use Rattle.dwz_output.specs.IsPlan.{Rising, numbers, row}
 use Rattle.dwz_output.specs.Placing.{keys}

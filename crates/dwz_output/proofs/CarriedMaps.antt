@@ -2,8 +2,8 @@
 use Rattle.std.proofs.Common.{◌≡◌, ℕ, List, [], ◌∷◌, ◌++◌, map, refl, sym, ap, subst, ◌∙◌}
 use Rattle.std.proofs.Math.Logic.{inl, inr}
 use Rattle.std.proofs.lemmas.List.{map-append}
-use Rattle.dwz_docs.specs.Documents.{Attr, Compile, DwUnit, Entries, Kind, Node, OfType, Partial, Value, attr_map, entries_map, kind_map, node_map, unit_map, value_map}
-use Rattle.dwz_docs.specs.Meanings.{Sources}
+use Rattle.dwz_meanings.specs.Documents.{Attr, Compile, DwUnit, Entries, Kind, Node, OfType, Partial, Value, attr_map, entries_map, kind_map, node_map, unit_map, value_map}
+use Rattle.dwz_meanings.specs.Meanings.{Sources}
 use Rattle.dwz_docs.specs.Trees.{End, Entry}
 use Rattle.dwz_output.specs.Alike.{Each}
 use Rattle.dwz_output.specs.Carried.{CameFrom, CarriedAttr, CarriedEntries, CarriedNode, CarriedUnit, Imports}

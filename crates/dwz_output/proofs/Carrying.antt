@@ -8,9 +8,9 @@ use Rattle.dwz_codes.specs.declared.shape.Shape.{Shape}
 use Rattle.dwz_codes.specs.declared.shape.Shape.TheVariants.{Nothing, Fixed1, Fixed2, Fixed3, Fixed4, Fixed8, Fixed16, Uleb, Sleb, ZeroEnded, Block1, Block2, Block4, BlockUleb, Address}
 use Rattle.dwz_codes.specs.Forms.{form_rows}
 use Rattle.dwz_docs.specs.Abbrevs.{SpellsPair}
-use Rattle.dwz_docs.specs.Documents.{Attr, Plain, Value, only, ref, value_map}
+use Rattle.dwz_meanings.specs.Documents.{Attr, Plain, Value, only, ref, value_map}
 use Rattle.dwz_docs.specs.Entries.{RawAttr}
-use Rattle.dwz_docs.specs.Meanings.{Class, ClassRow, MeansAs, OfAddress, OfBlock, OfConstant, OfExpression, OfFlag, OfIndex, OfInfoEntry, OfListIndex, OfOffset, OfSignature, OfText, OfTextBySlot, OfTextInLineStr, OfTextInStr, OfUnitEntry, Sources, Unread, bytes_of, class_in, class_of, class_rows, names_file, names_list, number_of}
+use Rattle.dwz_meanings.specs.Meanings.{Class, ClassRow, MeansAs, OfAddress, OfBlock, OfConstant, OfExpression, OfFlag, OfIndex, OfInfoEntry, OfListIndex, OfOffset, OfSignature, OfText, OfTextBySlot, OfTextInLineStr, OfTextInStr, OfUnitEntry, Sources, Unread, bytes_of, class_in, class_of, class_rows, names_file, names_list, number_of}
 use Rattle.dwz_docs.specs.Values.{Bytes, Number, Raw, SpellsShape, constant_of, shape_of}
 use Rattle.dwz_output.specs.Carried.{CameFrom, CarriedAttr, Imports}
 use Rattle.dwz_output.specs.Meant.{AttrSays, SaysAs, WasRead}

@@ -1,8 +1,9 @@
 -- Units whose references have their forms are sound, and each reference names what its form says.
 use Rattle.std.proofs.Common.{◌≡◌, ℕ, Bool, true, false, List, [], ◌∷◌, ◌++◌, map, refl, sym, ap, subst, ◌∙◌, arith}
 use Rattle.std.proofs.Math.Logic.{inl, inr}
-use Rattle.dwz_docs.specs.Documents.{Attr, DwUnit, Entries, Node, Value}
-use Rattle.dwz_docs.specs.Meanings.{Class, In, OfInfoEntry, OfUnitEntry, Sources, class_in, class_of, class_rows}
+use Rattle.dwz_meanings.specs.Documents.{Attr, DwUnit, Entries, Node, Value}
+use Rattle.dwz_meanings.specs.Meanings.{Class, OfInfoEntry, OfUnitEntry, Sources, class_in, class_of, class_rows}
+use Rattle.dwz_docs.specs.Lists.{In}
 use Rattle.dwz_docs.specs.Trees.{End, Entry}
 use Rattle.dwz_output.specs.Alike.{Each}
 use Rattle.dwz_output.specs.Carried.{CarriedAttr, CarriedEntries, CarriedNode, CarriedUnit}

@@ -16,7 +16,8 @@ use Rattle.dwz_docs.specs.ElfNames.{name_table, names_header, sections_in}
 use Rattle.dwz_docs.specs.ElfNames
 use Rattle.dwz_docs.specs.ElfReading.{elf_fault, elf_of, field_fault, first_in, header_fault, missing_fault, names_fault, range_in, section_range, unkept_fault}
 use Rattle.dwz_output.specs.ElfRebuilt.{CanBeMade, HasSameFields, IsTableField, new_file}
-use Rattle.dwz_docs.specs.Files.{bytes_in, section_of}
+use Rattle.dwz_meanings.specs.Files.{section_of}
+use Rattle.dwz_docs.specs.ElfReading.{bytes_in}
 use Rattle.dwz_output.proofs.ElfBytes.{has_in, same_number}
 use Rattle.dwz_output.proofs.ElfMoved.{made_one, placed_bytes}
 use Rattle.dwz_output.proofs.ElfNoFault.{HasGoodFields, HasNoFault, fields_good, good_fields, is_faultless, long_enough, names_good, names_there, no_faults, same_identification, table_some}

@@ -14,7 +14,7 @@ use Rattle.dwz_docs.specs.ElfLayout.{Changes, align_at, content_at, inside_fault
 use Rattle.dwz_docs.specs.ElfNames.{name_in, sections_in}
 use Rattle.dwz_docs.specs.ElfReading.{elf_fault, elf_of, field_fault, first_in, first_other, header_fault, identification_fault, missing_fault, names_fault, section_range, unkept_fault}
 use Rattle.dwz_output.specs.ElfRebuilt.{CanBeGiven, CanBeMade, CanChange, new_file}
-use Rattle.dwz_docs.specs.Files.{section_of}
+use Rattle.dwz_meanings.specs.Files.{section_of}
 
 -- ---- files of four sections and their five headers: `.debug_info`, `.debug_abbrev` and `.debug_str` from byte 64 on, and the names
 

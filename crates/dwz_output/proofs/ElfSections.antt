@@ -14,7 +14,7 @@ use Rattle.dwz_docs.specs.declared.elf.Section.{Section}
 use Rattle.dwz_docs.specs.ElfHeaders.{content, has_relocations, is_compressed, is_there}
 use Rattle.dwz_docs.specs.ElfLayout.{Changes, content_for, moved_in, replacement}
 use Rattle.dwz_docs.specs.ElfReading.{◌or◌, fault_if, first_in, has_code, header_fault, is_misaligned, is_misnamed, is_misplaced, is_rewritten, missing_fault, range_in, unkept_fault}
-use Rattle.dwz_docs.specs.Files.{bytes_in}
+use Rattle.dwz_docs.specs.ElfReading.{bytes_in}
 use Rattle.dwz_output.proofs.ElfTables.{moved_sections, moved_to}
 
 -- ---- no fault

@@ -1,7 +1,7 @@
 -- The entry at an entry's image is the entry with each place replaced by its image.
 use Rattle.std.proofs.Common.{◌≡◌, ℕ, Bool, true, false, List, [], ◌∷◌, map, refl, sym, ap, subst, ◌∙◌, inl, inr}
-use Rattle.dwz_docs.specs.Documents.{Compile, DwUnit, Entries, Kind, OfType, Partial, entries_map, language}
-use Rattle.dwz_docs.specs.Meanings.{In}
+use Rattle.dwz_meanings.specs.Documents.{Compile, DwUnit, Entries, Kind, OfType, Partial, entries_map, language}
+use Rattle.dwz_docs.specs.Lists.{In}
 use Rattle.dwz_docs.specs.Trees.{End}
 use Rattle.dwz_output.specs.Alike.{IsAlike, Scope}
 use Rattle.dwz_output.specs.Deciding.{Test}

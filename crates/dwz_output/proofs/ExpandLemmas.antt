@@ -1,7 +1,7 @@
 -- A kept unit, its imports expanded, has the images of the unit's children.
 use Rattle.std.proofs.Common.{◌≡◌, ◌↔◌, ℕ, ℤ, suc, ◌⊎◌, Bool, true, false, List, [], ◌∷◌, Option, map, refl, sym, ap, subst, ◌∙◌, inl, inr}
-use Rattle.dwz_docs.specs.Documents.{Compile, DwUnit, Entries, Kind, Node, OfType, Partial, entries_map, language, node_map, ref}
-use Rattle.dwz_docs.specs.Meanings.{In}
+use Rattle.dwz_meanings.specs.Documents.{Compile, DwUnit, Entries, Kind, Node, OfType, Partial, entries_map, language, node_map, ref}
+use Rattle.dwz_docs.specs.Lists.{In}
 use Rattle.dwz_docs.specs.Trees.{End, Entry}
 use Rattle.dwz_output.specs.Alike.{IsAlike, Scope}
 use Rattle.dwz_output.specs.Deciding.{Test}

@@ -1,8 +1,9 @@
 -- All of it together: what replaces the units before, and one file by itself.
 use Rattle.std.proofs.Common.{◌≡◌, ◌↔◌, ℕ, Bool, suc, ◌+◌, ◌<◌, ◌≤◌, true, false, List, [], ◌∷◌, length, map, refl, sym, ap, subst, ◌∙◌, arith, inl, inr}
 use Rattle.std.proofs.lemmas.List.{append-nil}
-use Rattle.dwz_docs.specs.Documents.{Compile, Doc, DwUnit, Kind, OfType, Partial, kind_map, unit_map}
-use Rattle.dwz_docs.specs.Meanings.{IfSo, In}
+use Rattle.dwz_meanings.specs.Documents.{Compile, Doc, DwUnit, Kind, OfType, Partial, kind_map, unit_map}
+use Rattle.dwz_meanings.specs.Meanings.{IfSo}
+use Rattle.dwz_docs.specs.Lists.{In}
 use Rattle.dwz_output.specs.Alike.{Apart, IsAlike, Scope}
 use Rattle.dwz_output.specs.Deciding.{Test}
 use Rattle.dwz_output.specs.IsPlan.{AreFilesOf, Rising}

@@ -1,6 +1,6 @@
 -- Trees are seen equal, once each place is replaced by its image, where the targets of each two references have one stand-in.
 use Rattle.std.proofs.Common.{◌≡◌, ℕ, suc, List, [], ◌∷◌, map, refl, sym, ap, ◌∙◌}
-use Rattle.dwz_docs.specs.Documents.{Attr, Entries, Plain, attr_map, entries_map, node_map, value_map}
+use Rattle.dwz_meanings.specs.Documents.{Attr, Entries, Plain, attr_map, entries_map, node_map, value_map}
 use Rattle.dwz_docs.specs.Trees.{End, Entry}
 use Rattle.dwz_output.specs.Alike.{Each, SameAttrs, SameEntries, SameRefs, SameTarget, SameTop}
 use Rattle.dwz_output.specs.Plan.{image_by}

@@ -3,9 +3,9 @@ use Rattle.std.specs.Prelude.{ℕ, Bool, List, [], ◌∷◌, length, Result, Ok
 use Rattle.dwz_model.specs.declared.fault.Fault.{Fault}
 use Rattle.dwz_bytes.specs.Input.{input}
 use Rattle.dwz_bytes.specs.Reading.{◌>>=◌}
-use Rattle.dwz_docs.specs.Documents.{DwUnit}
+use Rattle.dwz_meanings.specs.Documents.{DwUnit}
 use Rattle.dwz_docs.specs.Entries.{given}
-use Rattle.dwz_docs.specs.Meanings.{Sources, all_places, units_meaning}
+use Rattle.dwz_meanings.specs.Meanings.{Sources, all_places, units_meaning}
 use Rattle.dwz_docs.specs.Units.{units_at}
 use Rattle.dwz_output.specs.Alike.{Apart}
 use Rattle.dwz_output.specs.Deciding.{alike_test}

@@ -1,6 +1,6 @@
 -- What alike tops share, and what the target of a moving one has, as records.
 use Rattle.std.proofs.Common.{◌≡◌, ℕ, true, List, ap, ◌∙◌}
-use Rattle.dwz_docs.specs.Meanings.{In}
+use Rattle.dwz_docs.specs.Lists.{In}
 use Rattle.dwz_output.specs.Alike.{IsAlike, Scope, refers_to}
 use Rattle.dwz_output.specs.Deciding.{Test}
 use Rattle.dwz_output.specs.IsPlan.{MovesAlong, ShareAll}

@@ -1,7 +1,7 @@
 -- The names of units before: none of them is of a partial unit, so no old entry imports one.
 use Rattle.std.proofs.Common.{◌≡◌, ℕ, suc, List, [], ◌∷◌, map, refl, sym, ap, subst, ◌∙◌, inl, inr}
-use Rattle.dwz_docs.specs.Documents.{Attr, Compile, DwUnit, Entries, Kind, Node, OfType, Partial, attr_map, kind_map, language, node_map, ref}
-use Rattle.dwz_docs.specs.Meanings.{In}
+use Rattle.dwz_meanings.specs.Documents.{Attr, Compile, DwUnit, Entries, Kind, Node, OfType, Partial, attr_map, kind_map, language, node_map, ref}
+use Rattle.dwz_docs.specs.Lists.{In}
 use Rattle.dwz_docs.specs.Trees.{End, Entry}
 use Rattle.dwz_output.specs.Deciding.{Test}
 use Rattle.dwz_output.specs.IsPlan.{Nth}

@@ -1,8 +1,8 @@
 -- The names that stand for places are as they are asked for.
 use Rattle.std.proofs.Common.{◌≡◌, ℕ, ℤ, suc, ◌+◌, ◌⊎◌, ◌==◌, Bool, true, false, List, [], ◌∷◌, ◌++◌, Option, length, map, refl, sym, ap, subst, ◌∙◌, arith, inl, inr, eqb-true, eq-eqb, append_assoc}
 use Rattle.std.proofs.lemmas.List.{map-append}
-use Rattle.dwz_docs.specs.Documents.{Compile, Doc, DwUnit, Entries, Kind, OfType, Partial, entries_map, kind_map, language, node_map, unit_map}
-use Rattle.dwz_docs.specs.Meanings.{In}
+use Rattle.dwz_meanings.specs.Documents.{Compile, Doc, DwUnit, Entries, Kind, OfType, Partial, entries_map, kind_map, language, node_map, unit_map}
+use Rattle.dwz_docs.specs.Lists.{In}
 use Rattle.dwz_docs.specs.Trees.{End, Entry}
 use Rattle.dwz_output.specs.Alike.{Each}
 use Rattle.dwz_output.specs.IsPlan.{Nth}

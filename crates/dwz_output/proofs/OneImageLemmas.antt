@@ -1,6 +1,6 @@
 -- Which entries have one image.
 use Rattle.std.proofs.Common.{◌≡◌, ℕ, ◌⊎◌, Bool, true, false, List, refl, sym, ap, ◌∙◌, inl, inr}
-use Rattle.dwz_docs.specs.Meanings.{In}
+use Rattle.dwz_docs.specs.Lists.{In}
 use Rattle.dwz_output.specs.After.{InNoTop, IsAlone}
 use Rattle.dwz_output.specs.Alike.{IsAlike, Scope}
 use Rattle.dwz_output.specs.Deciding.{Test}

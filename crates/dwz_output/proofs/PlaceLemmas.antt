@@ -1,8 +1,8 @@
 -- What holds of units by names holds of them by places, where no two names have one place.
 use Rattle.std.proofs.Common.{◌≡◌, ℕ, List, [], ◌∷◌, map, refl, sym, ap, subst, ◌∙◌, inl, inr}
 use Rattle.std.proofs.lemmas.List.{map-append}
-use Rattle.dwz_docs.specs.Documents.{Compile, DwUnit, Entries, Kind, Node, OfType, Partial, Plain, Ref, kind_map, ref}
-use Rattle.dwz_docs.specs.Meanings.{In}
+use Rattle.dwz_meanings.specs.Documents.{Compile, DwUnit, Entries, Kind, Node, OfType, Partial, Plain, Ref, kind_map, ref}
+use Rattle.dwz_docs.specs.Lists.{In}
 use Rattle.dwz_docs.specs.Trees.{End, Entry}
 use Rattle.dwz_output.specs.Placing.{keys, unit_keys, units_keys}
 use Rattle.dwz_output.specs.Same.{Closed, EntriesSame, Expands, IsChild, IsImport, IsPartial, Named, Seen, UnitsSame, all_seen, heads, named_map, named_value, see, seen, seen_below, seen_map, seen_roots}

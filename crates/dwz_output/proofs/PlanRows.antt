@@ -1,8 +1,8 @@
 -- A small file: its places are as the laws ask, and this is its plan.
 use Rattle.std.proofs.Common.{◌≡◌, ℕ, List, [], ◌∷◌, map, refl, sym, subst, inl, inr, arith}
 use Rattle.std.specs.Prelude.{pos}
-use Rattle.dwz_docs.specs.Documents.{Compile, Doc, DwUnit, Entries, Node, Text, entries_map, first_named, only}
-use Rattle.dwz_docs.specs.Meanings.{In, has}
+use Rattle.dwz_meanings.specs.Documents.{Compile, Doc, DwUnit, Entries, Node, Text, entries_map, first_named, only}
+use Rattle.dwz_docs.specs.Lists.{In, has}
 use Rattle.dwz_docs.specs.Trees.{End, Entry}
 use Rattle.dwz_output.specs.After.{ArePlaced}
 use Rattle.dwz_output.specs.Alike.{Each, any_entry, unit_in}

@@ -3,7 +3,7 @@ use Rattle.std.proofs.Common.{◌≡◌, ℕ, ◌-◌, ◌<◌, ◌≤◌, ◌^�
 use Rattle.std.proofs.lemmas.List.{length-append}
 use Rattle.dwz_bytes.specs.Spelling.{le_bytes, le_value}
 use Rattle.dwz_bytes.proofs.FixedLemmas.{fixed_written}
-use Rattle.dwz_docs.specs.Documents.{Compile, DwUnit, Kind, OfType, Partial}
+use Rattle.dwz_meanings.specs.Documents.{Compile, DwUnit, Kind, OfType, Partial}
 use Rattle.dwz_docs.specs.Entries.{Mode}
 use Rattle.dwz_docs.specs.Units.{CompileUnit, PartialUnit, SpellsHeader, TypeUnit}
 use Rattle.dwz_output.specs.Fitting.{KindFits}

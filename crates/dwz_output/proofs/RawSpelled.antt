@@ -8,9 +8,9 @@ use Rattle.dwz_bytes.proofs.PaddedLemmas.{uleb_spells}
 use Rattle.dwz_codes.specs.declared.shape.Shape.{Shape}
 use Rattle.dwz_codes.specs.declared.shape.Shape.TheVariants.{Refused}
 use Rattle.dwz_codes.specs.Forms.{form_rows}
-use Rattle.dwz_docs.specs.Documents.{Attr, Entries, Node}
+use Rattle.dwz_meanings.specs.Documents.{Attr, Entries, Node}
 use Rattle.dwz_docs.specs.Entries.{Mode, SpellsAttrs, SpellsCode, SpellsEntry, SpellsFront, UnitContext}
-use Rattle.dwz_docs.specs.Meanings.{Class, OfExpression, OfInfoEntry, OfUnitEntry, class_of}
+use Rattle.dwz_meanings.specs.Meanings.{Class, OfExpression, OfInfoEntry, OfUnitEntry, class_of}
 use Rattle.dwz_docs.specs.Trees.{End, Entry, IfChildren, Position, SpellsForest, behind, first_below, size}
 use Rattle.dwz_docs.specs.Values.{Number, Raw, SpellsShape, SpellsValue, constant_of, shape_bytes, shape_of, value_bytes, written_rows}
 use Rattle.dwz_docs.proofs.WrittenLemmas.{shape_written}

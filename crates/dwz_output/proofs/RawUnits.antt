@@ -1,6 +1,6 @@
 -- The units that are written, as they are stored.
 use Rattle.std.proofs.Common.{ℕ, ◌+◌, ◌-◌, List, [], ◌∷◌, length}
-use Rattle.dwz_docs.specs.Documents.{Attr, Compile, DwUnit, Entries, Kind, Node, OfType, Partial}
+use Rattle.dwz_meanings.specs.Documents.{Attr, Compile, DwUnit, Entries, Kind, Node, OfType, Partial}
 use Rattle.dwz_docs.specs.Entries.{RawAttr, RawEntry}
 use Rattle.dwz_docs.specs.Trees.{End, Entry, Forest}
 use Rattle.dwz_docs.specs.Units.{CompileUnit, PartialUnit, RawKind, RawUnit, TypeUnit}

@@ -7,10 +7,10 @@ use Rattle.dwz_model.specs.declared.place.Pair.{Pair}
 use Rattle.dwz_bytes.specs.Spelling.{le_value}
 use Rattle.dwz_codes.specs.Forms.{form_rows}
 use Rattle.dwz_docs.specs.Abbrevs.{Declaration, EndsPairs, EndsTable, IsDeclared, IsPair, SpellsDeclaration, SpellsPair, SpellsTable, find_decl}
-use Rattle.dwz_docs.specs.Documents.{Attr, DwUnit, Entries, Kind, Node, attr_map}
+use Rattle.dwz_meanings.specs.Documents.{Attr, DwUnit, Entries, Kind, Node, attr_map}
 use Rattle.dwz_docs.specs.Entries.{Mode, RawAttr, RawEntry, SpellsAttrs, SpellsEntry, SpellsFront, UnitContext}
 use Rattle.dwz_docs.specs.Lists.{SpellsItems}
-use Rattle.dwz_docs.specs.Meanings.{MeanAttrs, MeanEntries, MeanUnits, MeansKind, MeansNode, MeansUnit, Scope, Sources, places_in, scope_of, without_siblings}
+use Rattle.dwz_meanings.specs.Meanings.{MeanAttrs, MeanEntries, MeanUnits, MeansKind, MeansNode, MeansUnit, Scope, Sources, places_in, scope_of, without_siblings}
 use Rattle.dwz_docs.specs.Trees.{End, Entry, Forest, IfChildren, Position, SpellsForest}
 use Rattle.dwz_docs.specs.Units.{CompileUnit, PartialUnit, RawKind, RawUnit, SpellsUnit, SpellsUnits, TypeUnit, header_size, kind_by, root_tag}
 use Rattle.dwz_docs.specs.Values.{AreBytes, SpellsValue}

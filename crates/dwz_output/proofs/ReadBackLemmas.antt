@@ -1,11 +1,13 @@
 -- What was written, read back with imports expanded, is what was read.
 use Rattle.std.proofs.Common.{◌≡◌, ℕ, ◌<◌, Bool, true, false, List, [], ◌∷◌, length, take, drop, map, Option, Some, None, refl, sym, ap, subst, ◌∙◌}
-use Rattle.dwz_docs.specs.Documents.{Doc, DwUnit, unit_map}
+use Rattle.dwz_meanings.specs.Documents.{Doc, DwUnit, unit_map}
 use Rattle.dwz_docs.specs.ElfNames.{sections_in}
 use Rattle.dwz_docs.specs.ElfReading.{section_range}
 use Rattle.dwz_docs.specs.Entries.{Mode, given}
-use Rattle.dwz_docs.specs.Files.{Limits, Reads, bytes_in, debug_abbrev, debug_info, section_of, sources_of}
-use Rattle.dwz_docs.specs.Meanings.{IfSo, In, MeanUnits, Sources, all_places}
+use Rattle.dwz_meanings.specs.Files.{Limits, Reads, debug_abbrev, debug_info, section_of, sources_of}
+use Rattle.dwz_docs.specs.ElfReading.{bytes_in}
+use Rattle.dwz_meanings.specs.Meanings.{IfSo, MeanUnits, Sources, all_places}
+use Rattle.dwz_docs.specs.Lists.{In}
 use Rattle.dwz_docs.specs.Units.{RawUnit, SpellsUnits}
 use Rattle.dwz_docs.specs.Values.{AreBytes}
 use Rattle.dwz_docs.proofs.WrittenLemmas.{drop_bytes}

@@ -1,8 +1,9 @@
 -- The units that are written of a file that was read are carried.
 use Rattle.std.proofs.Common.{◌≡◌, ◌≢◌, ℕ, ℤ, suc, ◌≤◌, Bool, true, false, List, [], ◌∷◌, Option, map, refl, sym, ap, subst, ◌∙◌, arith, inl, inr}
-use Rattle.dwz_docs.specs.Documents.{Attr, Compile, DwUnit, Entries, Kind, Node, OfType, Partial, Plain, Value, entries_map, kind_map, language, node_map, unit_map}
+use Rattle.dwz_meanings.specs.Documents.{Attr, Compile, DwUnit, Entries, Kind, Node, OfType, Partial, Plain, Value, entries_map, kind_map, language, node_map, unit_map}
 use Rattle.dwz_docs.specs.Entries.{RawAttr, RawEntry}
-use Rattle.dwz_docs.specs.Meanings.{Class, IfSo, In, MeanAttrs, MeanEntries, MeanUnits, MeansAs, MeansAttr, OfAddress, OfBlock, OfConstant, OfExpression, OfFlag, OfIndex, OfInfoEntry, OfListIndex, OfOffset, OfSignature, OfText, OfTextBySlot, OfTextInLineStr, OfTextInStr, OfUnitEntry, Scope, Sources, Unread, class_of, has, names_file, names_list, scope_of, without_siblings}
+use Rattle.dwz_meanings.specs.Meanings.{Class, IfSo, MeanAttrs, MeanEntries, MeanUnits, MeansAs, MeansAttr, OfAddress, OfBlock, OfConstant, OfExpression, OfFlag, OfIndex, OfInfoEntry, OfListIndex, OfOffset, OfSignature, OfText, OfTextBySlot, OfTextInLineStr, OfTextInStr, OfUnitEntry, Scope, Sources, Unread, class_of, names_file, names_list, scope_of, without_siblings}
+use Rattle.dwz_docs.specs.Lists.{In, has}
 use Rattle.dwz_docs.specs.Trees.{End, Entry, Forest}
 use Rattle.dwz_docs.specs.Units.{RawUnit}
 use Rattle.dwz_output.specs.After.{AreAfter, AreOld, IsNamedBelow}

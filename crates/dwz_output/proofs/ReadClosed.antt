@@ -1,8 +1,9 @@
 -- Each reference that is read names an entry that is read.
 use Rattle.std.proofs.Common.{◌≡◌, ℕ, ◌+◌, ◌⊎◌, Bool, true, false, List, [], ◌∷◌, ◌++◌, map, refl, sym, ap, subst, ◌∙◌, inl, inr}
-use Rattle.dwz_docs.specs.Documents.{Attr, DwUnit, Entries, Plain, Value, only, ref}
+use Rattle.dwz_meanings.specs.Documents.{Attr, DwUnit, Entries, Plain, Value, only, ref}
 use Rattle.dwz_docs.specs.Entries.{RawAttr, RawEntry}
-use Rattle.dwz_docs.specs.Meanings.{Class, IfSo, In, IsEntryAmong, IsFileNumber, IsList, MeanAttrs, MeanEntries, MeanUnits, MeansAs, MeansUnit, OfAddress, OfBlock, OfConstant, OfExpression, OfFlag, OfIndex, OfInfoEntry, OfListIndex, OfOffset, OfSignature, OfText, OfTextBySlot, OfTextInLineStr, OfTextInStr, OfUnitEntry, Scope, Sources, Unread, all_places, class_of, constant_value, names_file, names_list, offset_of, places_in, places_of, scope_of, without_siblings}
+use Rattle.dwz_meanings.specs.Meanings.{Class, IfSo, IsEntryAmong, IsFileNumber, IsList, MeanAttrs, MeanEntries, MeanUnits, MeansAs, MeansUnit, OfAddress, OfBlock, OfConstant, OfExpression, OfFlag, OfIndex, OfInfoEntry, OfListIndex, OfOffset, OfSignature, OfText, OfTextBySlot, OfTextInLineStr, OfTextInStr, OfUnitEntry, Scope, Sources, Unread, all_places, class_of, constant_value, names_file, names_list, offset_of, places_in, places_of, scope_of, without_siblings}
+use Rattle.dwz_docs.specs.Lists.{In}
 use Rattle.dwz_docs.specs.Trees.{End, Entry, Forest}
 use Rattle.dwz_docs.specs.Units.{RawUnit}
 use Rattle.dwz_output.specs.Placing.{keys}

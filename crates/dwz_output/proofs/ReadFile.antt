@@ -13,19 +13,20 @@ use Rattle.dwz_docs.specs.declared.elf.FileHeader.{FileHeader}
 use Rattle.dwz_docs.specs.declared.elf.NewContent.{NewContent}
 use Rattle.dwz_docs.specs.declared.elf.Section.{Section}
 use Rattle.dwz_docs.specs.Abbrevs.{Declaration, EndsTable, IsDeclared}
-use Rattle.dwz_docs.specs.Documents.{Doc, DwUnit}
+use Rattle.dwz_meanings.specs.Documents.{Doc, DwUnit}
 use Rattle.dwz_docs.specs.ElfFaults.{IsElfFault, file_fault}
 use Rattle.dwz_docs.specs.ElfHeaders.{file_header, is_there}
 use Rattle.dwz_docs.specs.ElfLayout.{IsOrder, layout_fault, rebuilt_length, too_large}
 use Rattle.dwz_docs.specs.ElfNames.{sections_in}
 use Rattle.dwz_docs.specs.ElfReading.{elf_fault, elf_of, has_code, range_in, section_range}
 use Rattle.dwz_docs.specs.Entries.{Mode, unless_so}
-use Rattle.dwz_docs.specs.Files.{Limits, Reads, bytes_in, debug_abbrev, debug_info, ends_at, file_meaning, is_too_long, machine_of, section_of, sources_of}
+use Rattle.dwz_meanings.specs.Files.{Limits, Reads, debug_abbrev, debug_info, ends_at, file_meaning, is_too_long, machine_of, section_of, sources_of}
+use Rattle.dwz_docs.specs.ElfReading.{bytes_in}
 use Rattle.dwz_docs.specs.Lists.{SpellsItems}
-use Rattle.dwz_docs.specs.Meanings.{MeanUnits, Sources}
+use Rattle.dwz_meanings.specs.Meanings.{MeanUnits, Sources}
 use Rattle.dwz_docs.specs.Units.{RawUnit, SpellsUnits}
 use Rattle.dwz_docs.proofs.ElfFaultLemmas.{elf_is_sound}
-use Rattle.dwz_docs.proofs.FileLemmas.{file_agrees}
+use Rattle.dwz_meanings.proofs.FileLemmas.{file_agrees}
 use Rattle.dwz_docs.proofs.PartLemmas.{bind_ok}
 use Rattle.dwz_docs.proofs.UnitListLemmas.{some_unit}
 use Rattle.dwz_output.specs.ElfRebuilt.{CanBeGiven, CanBeMade, CanChange, HasSameFields, new_file}

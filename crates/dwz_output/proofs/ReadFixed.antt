@@ -1,8 +1,9 @@
 -- What is written of a file that was read has fixed lengths, since each reference is an entry and gets one of the two forms.
 use Rattle.std.proofs.Common.{◌≡◌, ℕ, ℤ, suc, Bool, true, false, List, [], ◌∷◌, Option, map, refl, sym, ap, subst, ◌∙◌, inl, inr}
-use Rattle.dwz_docs.specs.Documents.{Attr, Compile, DwUnit, Entries, Kind, Node, OfType, Partial, Plain, Ref, Value, attr_map, entries_map, language, node_map, ref, unit_map, value_map}
+use Rattle.dwz_meanings.specs.Documents.{Attr, Compile, DwUnit, Entries, Kind, Node, OfType, Partial, Plain, Ref, Value, attr_map, entries_map, language, node_map, ref, unit_map, value_map}
 use Rattle.dwz_docs.specs.Entries.{RawAttr, RawEntry}
-use Rattle.dwz_docs.specs.Meanings.{Class, In, MeanAttrs, MeanEntries, MeanUnits, MeansAs, MeansAttr, OfInfoEntry, OfUnitEntry, Scope, Sources, class_in, class_of, class_rows, has, scope_of, without_siblings}
+use Rattle.dwz_meanings.specs.Meanings.{Class, MeanAttrs, MeanEntries, MeanUnits, MeansAs, MeansAttr, OfInfoEntry, OfUnitEntry, Scope, Sources, class_in, class_of, class_rows, scope_of, without_siblings}
+use Rattle.dwz_docs.specs.Lists.{In, has}
 use Rattle.dwz_docs.specs.Trees.{End, Entry, Forest}
 use Rattle.dwz_docs.specs.Units.{RawUnit}
 use Rattle.dwz_output.specs.After.{AreAfter}

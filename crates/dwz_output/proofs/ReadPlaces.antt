@@ -3,9 +3,10 @@ use Rattle.std.proofs.Common.{◌≡◌, ℕ, suc, ◌+◌, ◌<◌, ◌≤◌, 
 use Rattle.std.proofs.lemmas.Bool.{or_cases}
 use Rattle.std.proofs.lemmas.List.{length-append}
 use Rattle.dwz_bytes.specs.Spelling.{IsGroups}
-use Rattle.dwz_docs.specs.Documents.{Attr, DwUnit, Entries, Kind, Plain, Value, only, ref}
+use Rattle.dwz_meanings.specs.Documents.{Attr, DwUnit, Entries, Kind, Plain, Value, only, ref}
 use Rattle.dwz_docs.specs.Entries.{Mode, RawAttr, RawEntry, SpellsEntry, SpellsFront, UnitContext, root_position}
-use Rattle.dwz_docs.specs.Meanings.{Class, IfSo, In, MeanAttrs, MeanEntries, MeanUnits, MeansAs, MeansKind, MeansUnit, OfAddress, OfBlock, OfConstant, OfExpression, OfFlag, OfIndex, OfInfoEntry, OfListIndex, OfOffset, OfSignature, OfText, OfTextBySlot, OfTextInLineStr, OfTextInStr, OfUnitEntry, Scope, Sources, Unread, all_places, class_of, names_file, names_list, places_in, places_of, scope_of, without_siblings}
+use Rattle.dwz_meanings.specs.Meanings.{Class, IfSo, MeanAttrs, MeanEntries, MeanUnits, MeansAs, MeansKind, MeansUnit, OfAddress, OfBlock, OfConstant, OfExpression, OfFlag, OfIndex, OfInfoEntry, OfListIndex, OfOffset, OfSignature, OfText, OfTextBySlot, OfTextInLineStr, OfTextInStr, OfUnitEntry, Scope, Sources, Unread, all_places, class_of, names_file, names_list, places_in, places_of, scope_of, without_siblings}
+use Rattle.dwz_docs.specs.Lists.{In}
 use Rattle.dwz_docs.specs.Trees.{End, Entry, Forest, IfChildren, Position, SpellsForest, behind, first_below}
 use Rattle.dwz_docs.specs.Units.{CompileUnit, PartialUnit, RawKind, RawUnit, SpellsTree, SpellsUnit, SpellsUnits, TypeUnit, entry_count, header_size, is_read, kind_by, unit_type}
 use Rattle.dwz_output.specs.After.{ArePlaced}

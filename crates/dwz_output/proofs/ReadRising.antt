@@ -2,9 +2,10 @@
 use Rattle.std.proofs.Common.{◌≡◌, ℕ, suc, ◌+◌, ◌<◌, ◌≤◌, Bool, true, false, List, [], ◌∷◌, ◌++◌, length, Some, refl, sym, ap, subst, ◌∙◌, arith, eqb, eqb-true, inl, inr}
 use Rattle.std.specs.Prelude.{◌==◌, ◌&&◌, ◌||◌}
 use Rattle.std.proofs.lemmas.List.{length-append}
-use Rattle.dwz_docs.specs.Documents.{Compile, DwUnit, Entries, Kind, OfType, Partial}
+use Rattle.dwz_meanings.specs.Documents.{Compile, DwUnit, Entries, Kind, OfType, Partial}
 use Rattle.dwz_docs.specs.Entries.{Mode, RawEntry, SpellsFront, UnitContext, root_position}
-use Rattle.dwz_docs.specs.Meanings.{In, MeanUnits, MeansKind, MeansUnit, Scope, Sources, places_in, scope_of}
+use Rattle.dwz_meanings.specs.Meanings.{MeanUnits, MeansKind, MeansUnit, Scope, Sources, places_in, scope_of}
+use Rattle.dwz_docs.specs.Lists.{In}
 use Rattle.dwz_docs.specs.Trees.{End, Entry, Forest, IfChildren, Position, SpellsForest}
 use Rattle.dwz_docs.specs.Units.{CompileUnit, PartialUnit, RawKind, RawUnit, SpellsHeader, SpellsUnit, SpellsUnits, TypeUnit, header_size, is_read, kind_by, unit_type}
 use Rattle.dwz_docs.proofs.EntryLemmas.{some_front}

@@ -1,6 +1,6 @@
 -- What holds of two trees where a relation holds of the tops of the targets of each two references.
 use Rattle.std.proofs.Common.{ℕ, List, [], ◌∷◌, refl, sym, ◌∙◌}
-use Rattle.dwz_docs.specs.Documents.{Attr, Entries}
+use Rattle.dwz_meanings.specs.Documents.{Attr, Entries}
 use Rattle.dwz_docs.specs.Trees.{End, Entry}
 use Rattle.dwz_output.specs.Alike.{Each, SameAttrs, SameEntries, SameRefs, SameTarget, SameTop}
 use Rattle.dwz_output.specs.Spots.{Spot, Top, Within}

@@ -2,8 +2,9 @@
 use Rattle.std.proofs.Common.{◌≡◌, ℕ, ◌+◌, ◌^◌, ◌<◌, ◌≤◌, List, [], ◌∷◌, ◌++◌, length, sym, ap, subst, ◌∙◌, arith}
 use Rattle.std.proofs.Math.Logic.{inl, inr}
 use Rattle.std.proofs.lemmas.List.{length-append}
-use Rattle.dwz_docs.specs.Documents.{Attr, Compile, DwUnit, Entries, Kind, OfType, Partial}
-use Rattle.dwz_docs.specs.Meanings.{Class, In, OfInfoEntry, OfUnitEntry, Sources, class_of}
+use Rattle.dwz_meanings.specs.Documents.{Attr, Compile, DwUnit, Entries, Kind, OfType, Partial}
+use Rattle.dwz_meanings.specs.Meanings.{Class, OfInfoEntry, OfUnitEntry, Sources, class_of}
+use Rattle.dwz_docs.specs.Lists.{In}
 use Rattle.dwz_docs.specs.Trees.{End, Entry}
 use Rattle.dwz_output.specs.Alike.{Each}
 use Rattle.dwz_output.specs.Fitting.{AttrFits, EntriesFit, FitsAs, FitsInfo, FitsUnit, KindFits, UnitFits}

@@ -5,10 +5,11 @@ use Rattle.dwz_bytes.specs.Reading.{groups_at, sleb_at, uleb_at}
 use Rattle.dwz_bytes.specs.Spelling.{groups_in, le_bytes, padded}
 use Rattle.dwz_codes.specs.Forms.{form_rows}
 use Rattle.dwz_docs.specs.Abbrevs.{declaration_at, pair_at, pairs_bytes, table_at, table_bytes}
-use Rattle.dwz_docs.specs.Documents.{entries_map, first_named}
+use Rattle.dwz_meanings.specs.Documents.{entries_map, first_named}
 use Rattle.dwz_docs.specs.Entries.{attrs_at, front_at}
 use Rattle.dwz_docs.specs.Lists.{items_at, items_from}
-use Rattle.dwz_docs.specs.Meanings.{all_places, attrs_meaning, class_in, class_rows, entries_meaning, first_raw, has, meaning, places_in, units_meaning, without_siblings}
+use Rattle.dwz_meanings.specs.Meanings.{all_places, attrs_meaning, class_in, class_rows, entries_meaning, first_raw, meaning, places_in, units_meaning, without_siblings}
+use Rattle.dwz_docs.specs.Lists.{has}
 use Rattle.dwz_docs.specs.Texts.{text_in}
 use Rattle.dwz_docs.specs.Trees.{forest_at, siblings_at}
 use Rattle.dwz_docs.specs.Units.{entries_in, header_reason, tree_at, unit_at, units_at, units_from, zero_count}

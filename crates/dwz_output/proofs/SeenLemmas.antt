@@ -1,8 +1,8 @@
 -- What is seen of entries whose places are replaced, and of the entries of units.
 use Rattle.std.proofs.Common.{◌≡◌, ℕ, ℤ, suc, List, [], ◌∷◌, Option, map, refl, sym, ap, subst, inl, inr}
 use Rattle.std.proofs.lemmas.List.{map-append}
-use Rattle.dwz_docs.specs.Documents.{Attr, DwUnit, Entries, Node, attr_map, entries_map, node_map, value_map}
-use Rattle.dwz_docs.specs.Meanings.{In}
+use Rattle.dwz_meanings.specs.Documents.{Attr, DwUnit, Entries, Node, attr_map, entries_map, node_map, value_map}
+use Rattle.dwz_docs.specs.Lists.{In}
 use Rattle.dwz_docs.specs.Trees.{End, Entry}
 use Rattle.dwz_output.specs.IsPlan.{Nth}
 use Rattle.dwz_output.specs.Same.{Named, Seen, all_seen, heads, named_map, named_value, see, seen, seen_below, seen_map, seen_roots, units_in}

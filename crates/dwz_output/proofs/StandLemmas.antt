@@ -1,6 +1,6 @@
 -- What moves refers only to what moves; so it is seen equal to what stands for it.
 use Rattle.std.proofs.Common.{◌≡◌, ◌≢◌, ℕ, true, List, refl, sym, ap, subst, ◌∙◌}
-use Rattle.dwz_docs.specs.Meanings.{In}
+use Rattle.dwz_docs.specs.Lists.{In}
 use Rattle.dwz_output.specs.Alike.{IsAlike, SameTop, Scope, refers_to}
 use Rattle.dwz_output.specs.Deciding.{Test}
 use Rattle.dwz_output.specs.Plan.{image_by, moves, stand_in, users}

@@ -2,8 +2,8 @@
 use Rattle.std.proofs.Common.{◌≡◌, ℕ, suc, ◌⊎◌, ◌==◌, ◌||◌, not, Bool, true, false, List, [], ◌∷◌, Option, Some, None, refl, ap, subst, ◌∙◌, inl, inr, eqb-true, eq-eqb}
 use Rattle.std.proofs.lemmas.Bool.{or_cases}
 use Rattle.std.specs.List.{list_any}
-use Rattle.dwz_docs.specs.Documents.{Attr, Entries, Node}
-use Rattle.dwz_docs.specs.Meanings.{In, has}
+use Rattle.dwz_meanings.specs.Documents.{Attr, Entries, Node}
+use Rattle.dwz_docs.specs.Lists.{In, has}
 use Rattle.dwz_docs.specs.Trees.{End, Entry}
 use Rattle.dwz_output.specs.Alike.{Bound, Each, Movable, any_attr, any_entry, any_in, attr_binds, binding_forms, binds_itself, entry_binds, has_address, has_operand, is_in, is_named, is_number, leaves, refers_to, unit_in}
 use Rattle.dwz_output.specs.Spots.{FileUnit, Spot, Top, Within, tops_of}

@@ -1,9 +1,10 @@
 -- The units that are written, as they are stored, mean the same units with places for keys.
 use Rattle.std.proofs.Common.{◌≡◌, ℕ, ◌+◌, ◌-◌, Bool, false, List, [], ◌∷◌, ◌++◌, length, map, refl, sym, ap, subst, ◌∙◌, arith, cond, eqb, ne_eqb}
 use Rattle.std.proofs.lemmas.List.{map-append}
-use Rattle.dwz_docs.specs.Documents.{Attr, Compile, DwUnit, Entries, Kind, Node, OfType, Partial, kind_map}
+use Rattle.dwz_meanings.specs.Documents.{Attr, Compile, DwUnit, Entries, Kind, Node, OfType, Partial, kind_map}
 use Rattle.dwz_docs.specs.Entries.{RawAttr}
-use Rattle.dwz_docs.specs.Meanings.{In, MeanAttrs, MeanEntries, MeanUnits, MeansAttr, MeansKind, MeansNode, MeansUnit, Scope, Sources, all_places, class_of, places_in, places_of, scope_of, without_siblings}
+use Rattle.dwz_meanings.specs.Meanings.{MeanAttrs, MeanEntries, MeanUnits, MeansAttr, MeansKind, MeansNode, MeansUnit, Scope, Sources, all_places, class_of, places_in, places_of, scope_of, without_siblings}
+use Rattle.dwz_docs.specs.Lists.{In}
 use Rattle.dwz_docs.specs.Trees.{End, Entry}
 use Rattle.dwz_docs.specs.Values.{value_bytes}
 use Rattle.dwz_output.specs.Alike.{Each}

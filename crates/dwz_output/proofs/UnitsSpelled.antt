@@ -3,7 +3,7 @@ use Rattle.std.proofs.Common.{◌≡◌, ℕ, suc, ◌+◌, ◌-◌, ◌<◌, �
 use Rattle.std.proofs.lemmas.List.{append-nil, length-append}
 use Rattle.dwz_bytes.specs.Spelling.{groups_in, uleb}
 use Rattle.dwz_bytes.proofs.PaddedLemmas.{padded_len}
-use Rattle.dwz_docs.specs.Documents.{Compile, DwUnit, Entries, Kind, Node, OfType, Partial}
+use Rattle.dwz_meanings.specs.Documents.{Compile, DwUnit, Entries, Kind, Node, OfType, Partial}
 use Rattle.dwz_docs.specs.Entries.{Mode, SpellsFront, UnitContext, root_position}
 use Rattle.dwz_docs.specs.Trees.{End, Entry, SpellsForest, first_below, size}
 use Rattle.dwz_docs.specs.Units.{SpellsHeader, SpellsTree, SpellsUnit, SpellsUnits, entry_count, root_tag}

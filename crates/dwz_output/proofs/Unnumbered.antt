@@ -1,8 +1,8 @@
 -- Sameness sees neither the forms of attributes nor the numbers that they store.
 use Rattle.std.proofs.Common.{◌≡◌, ℕ, pos, List, [], ◌∷◌, ◌++◌, map, refl, sym, ap, subst, ◌∙◌}
 use Rattle.std.proofs.Math.Logic.{inl, inr}
-use Rattle.dwz_docs.specs.Documents.{Attr, DwUnit, Entries, Node, attr_map, entries_map, kind_map, node_map, ref, unit_map}
-use Rattle.dwz_docs.specs.Meanings.{In}
+use Rattle.dwz_meanings.specs.Documents.{Attr, DwUnit, Entries, Node, attr_map, entries_map, kind_map, node_map, ref, unit_map}
+use Rattle.dwz_docs.specs.Lists.{In}
 use Rattle.dwz_docs.specs.Trees.{End, Entry}
 use Rattle.dwz_output.specs.After.{TypesSame}
 use Rattle.dwz_output.specs.Meant.{placed_attr, placed_entries, placed_node, placed_unit, placed_units}

@@ -2,7 +2,7 @@
 use Rattle.std.proofs.Common.{◌≡◌, ◌≢◌, ℕ, suc, ◌<◌, ◌≤◌, ◌==◌, ◌&&◌, Bool, true, false, List, [], ◌∷◌, map, refl, sym, ap, ◌∙◌, arith, inl, inr, eqb-true, eq-eqb}
 use Rattle.std.proofs.lemmas.Bool.{and_parts, cases_eq}
 use Rattle.std.specs.List.{list_any}
-use Rattle.dwz_docs.specs.Meanings.{In}
+use Rattle.dwz_docs.specs.Lists.{In}
 use Rattle.dwz_output.specs.Deciding.{Test}
 use Rattle.dwz_output.specs.IsPlan.{EachPair, Nth, Rising}
 use Rattle.dwz_output.specs.Plan.{Common, Home, Local, file_of, first_alike, home, home_in, in_two_files, is_home, moves, numbers_from, rep, stand_in, users, uses}

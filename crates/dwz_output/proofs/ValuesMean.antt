@@ -1,9 +1,10 @@
 -- What an attribute stores means its value, form by form.
 use Rattle.std.proofs.Common.{◌≡◌, ℕ, ℤ, ◌+◌, ◌-◌, Bool, true, false, List, [], ◌∷◌, map, sym, ap, subst, ◌∙◌, arith, eqb, ◌||◌, not}
 use Rattle.dwz_bytes.specs.Spelling.{reach}
-use Rattle.dwz_docs.specs.Documents.{Addr, Attr, Block, Flag, Index, Num, Plain, Sec, Sig, Text, Value, only, ref, value_map}
+use Rattle.dwz_meanings.specs.Documents.{Addr, Attr, Block, Flag, Index, Num, Plain, Sec, Sig, Text, Value, only, ref, value_map}
 use Rattle.dwz_docs.specs.Entries.{RawAttr}
-use Rattle.dwz_docs.specs.Meanings.{Class, IfSo, In, IsEntryAmong, IsTextIn, MeansAs, OfAddress, OfBlock, OfConstant, OfExpression, OfFlag, OfIndex, OfInfoEntry, OfListIndex, OfOffset, OfSignature, OfText, OfTextBySlot, OfTextInLineStr, OfTextInStr, OfUnitEntry, Scope, Sources, Unread, bytes_of, class_of, kept_width, names_file, names_list, number_of}
+use Rattle.dwz_meanings.specs.Meanings.{Class, IfSo, IsEntryAmong, IsTextIn, MeansAs, OfAddress, OfBlock, OfConstant, OfExpression, OfFlag, OfIndex, OfInfoEntry, OfListIndex, OfOffset, OfSignature, OfText, OfTextBySlot, OfTextInLineStr, OfTextInStr, OfUnitEntry, Scope, Sources, Unread, bytes_of, class_of, kept_width, names_file, names_list, number_of}
+use Rattle.dwz_docs.specs.Lists.{In}
 use Rattle.dwz_docs.specs.Texts.{IsTextAt}
 use Rattle.dwz_output.specs.Alike.{Each}
 use Rattle.dwz_output.specs.Fitting.{FitsAs, FitsUnit}

@@ -3,7 +3,7 @@ use Rattle.std.proofs.Common.{◌≡◌, ℕ, suc, ◌+◌, ◌<◌, ◌≤◌, 
 use Rattle.std.proofs.Math.Logic.{inl, inr}
 use Rattle.std.proofs.lemmas.List.{append-nil, length-append}
 use Rattle.dwz_docs.specs.Abbrevs.{Declaration, find_decl}
-use Rattle.dwz_docs.specs.Documents.{DwUnit, Entries}
+use Rattle.dwz_meanings.specs.Documents.{DwUnit, Entries}
 use Rattle.dwz_docs.specs.Trees.{End, Entry, size}
 use Rattle.dwz_output.specs.Alike.{Each}
 use Rattle.dwz_output.specs.Writing.{Shape, add_if, code_in, coded, declaration_of, same_shape, shape_of, shapes_in, table_of, with_shape}

@@ -1,8 +1,8 @@
 -- What the two sections say of units that can be written.
 use Rattle.std.proofs.Common.{ℕ, suc, ◌-◌, ◌<◌, ◌≤◌, ◌^◌, List, [], ◌∷◌, map, refl, arith}
-use Rattle.dwz_docs.specs.Documents.{DwUnit}
+use Rattle.dwz_meanings.specs.Documents.{DwUnit}
 use Rattle.dwz_docs.specs.Entries.{Mode}
-use Rattle.dwz_docs.specs.Meanings.{Sources}
+use Rattle.dwz_meanings.specs.Meanings.{Sources}
 use Rattle.dwz_docs.specs.Units.{SpellsUnits}
 use Rattle.dwz_output.specs.Alike.{Each}
 use Rattle.dwz_output.specs.Fitting.{AreWritable, IsRoomy, UnitFits, deepest, depth, mode_for, places}

@@ -6,8 +6,8 @@ use Rattle.dwz_bytes.proofs.PaddedLemmas.{padded_len}
 use Rattle.dwz_codes.specs.declared.shape.Shape.{Shape}
 use Rattle.dwz_codes.specs.declared.shape.Shape.TheVariants.{Fixed16, ZeroEnded, Block1, Block2, Block4, BlockUleb}
 use Rattle.dwz_codes.specs.Forms.{form_rows}
-use Rattle.dwz_docs.specs.Documents.{Attr, Compile, DwUnit, Entries, Expr, Kind, Node, OfType, Operand, Part, Partial, Plain, Same}
-use Rattle.dwz_docs.specs.Meanings.{Class, OfExpression, OfInfoEntry, OfUnitEntry, class_of}
+use Rattle.dwz_meanings.specs.Documents.{Attr, Compile, DwUnit, Entries, Expr, Kind, Node, OfType, Operand, Part, Partial, Plain, Same}
+use Rattle.dwz_meanings.specs.Meanings.{Class, OfExpression, OfInfoEntry, OfUnitEntry, class_of}
 use Rattle.dwz_docs.specs.Trees.{End, Entry}
 use Rattle.dwz_docs.specs.Values.{Bytes, Number, run_bytes, shape_of, value_bytes, written_rows}
 use Rattle.dwz_output.specs.Alike.{Each}

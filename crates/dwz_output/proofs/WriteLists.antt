@@ -1,7 +1,7 @@
 -- Facts of each item, and of items that are among others.
 use Rattle.std.proofs.Common.{◌⊎◌, List, [], ◌∷◌, ◌++◌, map, refl, ap, subst}
 use Rattle.std.proofs.Math.Logic.{inl, inr}
-use Rattle.dwz_docs.specs.Meanings.{In}
+use Rattle.dwz_docs.specs.Lists.{In}
 use Rattle.dwz_output.specs.Alike.{Each}
 
 module _ {X : Type 0} (P : X → Type 0) where

@@ -7,8 +7,9 @@ use Rattle.dwz_bytes.specs.Spelling.{SpellsSleb, SpellsUleb, groups_in, le_bytes
 use Rattle.dwz_bytes.proofs.PaddedLemmas.{uleb_small, uleb_spells}
 use Rattle.dwz_codes.specs.Forms.{form_rows}
 use Rattle.dwz_docs.specs.Abbrevs.{SpellsPair, pairs_bytes, table_bytes}
-use Rattle.dwz_docs.specs.Documents.{Attr, Compile, DwUnit, Node, Num, Partial, Text, Value, only, ref}
-use Rattle.dwz_docs.specs.Meanings.{In, Scope, Sources, class_in, class_rows, has}
+use Rattle.dwz_meanings.specs.Documents.{Attr, Compile, DwUnit, Node, Num, Partial, Text, Value, only, ref}
+use Rattle.dwz_meanings.specs.Meanings.{Scope, Sources, class_in, class_rows}
+use Rattle.dwz_docs.specs.Lists.{In, has}
 use Rattle.dwz_docs.specs.Trees.{End, Entry}
 use Rattle.dwz_docs.specs.Values.{Bytes, Number, value_bytes}
 use Rattle.dwz_output.specs.Alike.{Each}

@@ -9,9 +9,9 @@ use Rattle.dwz_bytes.specs.Spelling.{SpellsSleb, SpellsUleb, fits_i64, sleb, ule
 use Rattle.dwz_bytes.proofs.PaddedLemmas.{uleb_spells}
 use Rattle.dwz_bytes.proofs.SignedLemmas.{sleb_spells}
 use Rattle.dwz_docs.specs.Abbrevs.{Declaration, EndsPairs, EndsTable, IsDeclared, IsPair, SpellsDeclaration, SpellsPair, SpellsTable, constant_bytes, declaration_bytes, find_decl, pair_bytes, pairs_bytes, table_bytes}
-use Rattle.dwz_docs.specs.Documents.{Attr, DwUnit, Entries, Node}
+use Rattle.dwz_meanings.specs.Documents.{Attr, DwUnit, Entries, Node}
 use Rattle.dwz_docs.specs.Lists.{SpellsItems}
-use Rattle.dwz_docs.specs.Meanings.{Class, ClassRow, Unread, class_in, class_rows}
+use Rattle.dwz_meanings.specs.Meanings.{Class, ClassRow, Unread, class_in, class_rows}
 use Rattle.dwz_docs.specs.Parts.{StandsAt}
 use Rattle.dwz_docs.specs.Trees.{End, Entry, size}
 use Rattle.dwz_output.specs.Alike.{Each}

@@ -1,7 +1,8 @@
 -- The units before, with their names, and those after: what is asked of them, and what is said of them.
 use Rattle.std.specs.Prelude.{◌⊎◌, ◌≡◌, ℕ, true, List, [], ◌∷◌, map}
-use Rattle.dwz_docs.specs.Documents.{Compile, Doc, DwUnit, Entries, Kind, Node, OfType, Partial, kind_map, node_map}
-use Rattle.dwz_docs.specs.Meanings.{IfSo, In}
+use Rattle.dwz_meanings.specs.Documents.{Compile, Doc, DwUnit, Entries, Kind, Node, OfType, Partial, kind_map, node_map}
+use Rattle.dwz_meanings.specs.Meanings.{IfSo}
+use Rattle.dwz_docs.specs.Lists.{In}
 use Rattle.dwz_docs.specs.Trees.{End, Entry}
 use Rattle.dwz_output.specs.Alike.{Apart, IsAlike, Scope}
 use Rattle.dwz_output.specs.Deciding.{Test}

@@ -1,8 +1,8 @@
 -- Which tops may move, and which are alike.
 use Rattle.std.specs.Prelude.{◌⊎◌, ◌≡◌, ℕ, zero, suc, Bool, true, false, List, [], ◌∷◌, Option, Some, None, ◌==◌, ◌&&◌, ◌||◌, not}
 use Rattle.std.specs.List.{list_any}
-use Rattle.dwz_docs.specs.Documents.{Attr, Entries, Expr, Loc, Node, Operand, Part, Plain, Same, Value}
-use Rattle.dwz_docs.specs.Meanings.{In, has}
+use Rattle.dwz_meanings.specs.Documents.{Attr, Entries, Expr, Loc, Node, Operand, Part, Plain, Same, Value}
+use Rattle.dwz_docs.specs.Lists.{In, has}
 use Rattle.dwz_docs.specs.Trees.{End, Entry}
 use Rattle.dwz_output.specs.Spots.{FileUnit, Spot, Top, Within, tops_of}
 

@@ -2,9 +2,9 @@
 use Rattle.std.specs.Prelude.{◌≡◌, ◌≢◌, ◌⊎◌, ℕ, ◌<◌, ◌≤◌, List}
 use Rattle.dwz_codes.specs.Forms.{form_rows}
 use Rattle.dwz_docs.specs.Abbrevs.{SpellsPair}
-use Rattle.dwz_docs.specs.Documents.{Attr, DwUnit, Entries, Node, ref}
+use Rattle.dwz_meanings.specs.Documents.{Attr, DwUnit, Entries, Node, ref}
 use Rattle.dwz_docs.specs.Entries.{RawAttr}
-use Rattle.dwz_docs.specs.Meanings.{Sources}
+use Rattle.dwz_meanings.specs.Meanings.{Sources}
 use Rattle.dwz_docs.specs.Trees.{End, Entry}
 use Rattle.dwz_docs.specs.Values.{AreBytes, SpellsValue}
 use Rattle.dwz_output.specs.Alike.{Each}

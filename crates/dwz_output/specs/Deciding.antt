@@ -3,7 +3,7 @@ use Rattle.std.specs.Prelude.{ℕ, ℤ, pos, negsuc, zero, suc, Bool, true, fals
 use Rattle.std.specs.List.{list_any}
 use Rattle.dwz_model.specs.declared.place.Base.{Base}
 use Rattle.dwz_model.specs.declared.place.Base.TheVariants.{Unit as FromUnit, Info as FromInfo}
-use Rattle.dwz_docs.specs.Documents.{Addr, Attr, Block, Entries, Expr, File, Flag, Index, Loc, Node, Num, Operand, Part, Plain, Ref, Same, Sec, Sig, Text, Value}
+use Rattle.dwz_meanings.specs.Documents.{Addr, Attr, Block, Entries, Expr, File, Flag, Index, Loc, Node, Num, Operand, Part, Plain, Ref, Same, Sec, Sig, Text, Value}
 use Rattle.dwz_docs.specs.Trees.{End, Entry}
 use Rattle.dwz_output.specs.Alike.{Apart, Scope, Together, binds_itself, refers_to}
 use Rattle.dwz_output.specs.Spots.{FileUnit, Spot, Top, Within, same_numbers, tops_of}

@@ -1,8 +1,8 @@
 -- Whether numbers and places fit where they are written.
 use Rattle.std.specs.Prelude.{◌≡◌, ℕ, suc, ◌+◌, ◌-◌, ◌<◌, ◌≤◌, ◌^◌, max, true, List, [], ◌∷◌}
-use Rattle.dwz_docs.specs.Documents.{Attr, Compile, DwUnit, Entries, Kind, Node, OfType, Partial}
+use Rattle.dwz_meanings.specs.Documents.{Attr, Compile, DwUnit, Entries, Kind, Node, OfType, Partial}
 use Rattle.dwz_docs.specs.Entries.{Mode}
-use Rattle.dwz_docs.specs.Meanings.{Class, OfInfoEntry, OfUnitEntry, class_of}
+use Rattle.dwz_meanings.specs.Meanings.{Class, OfInfoEntry, OfUnitEntry, class_of}
 use Rattle.dwz_docs.specs.Trees.{End, Entry, size}
 use Rattle.dwz_output.specs.Alike.{Each}
 use Rattle.dwz_output.specs.Out.{FitsSections}

@@ -1,7 +1,7 @@
 -- What is asked of users, representatives, homes, partial units and what is kept; the functions of Plan meet it.
 use Rattle.std.specs.Prelude.{◌⊎◌, ◌≡◌, ◌≢◌, ◌↔◌, ℕ, suc, ◌<◌, ◌≤◌, true, false, List, [], ◌∷◌, ◌++◌, map}
-use Rattle.dwz_docs.specs.Documents.{Entries, Node}
-use Rattle.dwz_docs.specs.Meanings.{In}
+use Rattle.dwz_meanings.specs.Documents.{Entries, Node}
+use Rattle.dwz_docs.specs.Lists.{In}
 use Rattle.dwz_docs.specs.Trees.{End, Entry}
 use Rattle.dwz_output.specs.Alike.{Alike, Each, InScope, Scope}
 use Rattle.dwz_output.specs.Deciding.{Test}

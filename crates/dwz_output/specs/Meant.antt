@@ -1,8 +1,9 @@
 -- What the units that are written mean: the same units, with places for keys.
 use Rattle.std.specs.Prelude.{◌≡◌, ℕ, List, [], ◌∷◌, ◌++◌, map}
-use Rattle.dwz_docs.specs.Documents.{Attr, Compile, DwUnit, Entries, Kind, Node, OfType, Partial, attr_map, kind_map, value_map}
+use Rattle.dwz_meanings.specs.Documents.{Attr, Compile, DwUnit, Entries, Kind, Node, OfType, Partial, attr_map, kind_map, value_map}
 use Rattle.dwz_docs.specs.Entries.{Mode, RawAttr}
-use Rattle.dwz_docs.specs.Meanings.{Class, In, MeanUnits, MeansAttr, OfInfoEntry, OfUnitEntry, Scope, Sources, all_places, class_of, number_of}
+use Rattle.dwz_meanings.specs.Meanings.{Class, MeanUnits, MeansAttr, OfInfoEntry, OfUnitEntry, Scope, Sources, all_places, class_of, number_of}
+use Rattle.dwz_docs.specs.Lists.{In}
 use Rattle.dwz_docs.specs.Trees.{End, Entry}
 use Rattle.dwz_docs.specs.Units.{RawUnit, SpellsUnits}
 use Rattle.dwz_output.specs.Alike.{Each}

@@ -2,11 +2,11 @@
 use Rattle.std.specs.Prelude.{◌≡◌, ◌⊎◌, ℕ, suc, ◌<◌, ◌≤◌, Bool, true, false, List, [], ◌∷◌, length, map, Some, None}
 use Rattle.dwz_model.specs.declared.fault.Fault.{Fault}
 use Rattle.dwz_model.specs.declared.fault.Reason.TheVariants.{TooLarge}
-use Rattle.dwz_docs.specs.Documents.{Doc, DwUnit}
+use Rattle.dwz_meanings.specs.Documents.{Doc, DwUnit}
 use Rattle.dwz_docs.specs.ElfFaults.{file_fault}
 use Rattle.dwz_docs.specs.ElfLayout.{Changes, IsOrder, layout_fault, rebuilt, rebuilt_length, too_large}
 use Rattle.dwz_docs.specs.ElfReading.{elf_of}
-use Rattle.dwz_docs.specs.Meanings.{IfSo}
+use Rattle.dwz_meanings.specs.Meanings.{IfSo}
 use Rattle.dwz_output.specs.Alike.{Apart}
 use Rattle.dwz_output.specs.Deciding.{Test, alike_test}
 use Rattle.dwz_output.specs.Placing.{UnitSections, fit_unit, numbering, sections}

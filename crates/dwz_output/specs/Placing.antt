@@ -1,6 +1,6 @@
 -- Where each key stands: where the bytes before it end. No length depends on the numbers that are written, so there is one placement.
 use Rattle.std.specs.Prelude.{◌≡◌, ℕ, ◌+◌, Bool, true, false, List, [], ◌∷◌, ◌++◌, length, map}
-use Rattle.dwz_docs.specs.Documents.{Attr, DwUnit, Entries, Node, Plain, Ref}
+use Rattle.dwz_meanings.specs.Documents.{Attr, DwUnit, Entries, Node, Plain, Ref}
 use Rattle.dwz_docs.specs.Trees.{End, Entry}
 use Rattle.dwz_output.specs.Writing.{Numbering, Shape, header_size, if_any, joined, node_bytes, spelled, table_of, tables_of, unit_size, units_bytes}
 

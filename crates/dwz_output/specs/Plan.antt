@@ -1,8 +1,8 @@
 -- Where tops go, and the units that stand after.
 use Rattle.std.specs.Prelude.{ℕ, zero, suc, Bool, true, false, List, [], ◌∷◌, ◌++◌, map, ◌==◌, ◌&&◌, ◌||◌, not, pos}
 use Rattle.std.specs.List.{filter, list_any}
-use Rattle.dwz_docs.specs.Documents.{Attr, Compile, DwUnit, Entries, Expr, Kind, Loc, Node, Operand, OfType, Part, Partial, Plain, Same, entries_map, kind_map, node_map, ref}
-use Rattle.dwz_docs.specs.Meanings.{has}
+use Rattle.dwz_meanings.specs.Documents.{Attr, Compile, DwUnit, Entries, Expr, Kind, Loc, Node, Operand, OfType, Part, Partial, Plain, Same, entries_map, kind_map, node_map, ref}
+use Rattle.dwz_docs.specs.Lists.{has}
 use Rattle.dwz_docs.specs.Trees.{End, Entry}
 use Rattle.dwz_output.specs.Alike.{any_attr, any_entry, is_in}
 use Rattle.dwz_output.specs.Deciding.{Test}

@@ -1,6 +1,6 @@
 -- Laws on users, representatives, homes, partial units and what is kept.
 use Rattle.std.specs.Prelude.{◌≡◌, ℕ, true, List}
-use Rattle.dwz_docs.specs.Meanings.{In}
+use Rattle.dwz_docs.specs.Lists.{In}
 use Rattle.dwz_output.specs.Alike.{IsAlike, Movable, Scope, refers_to}
 use Rattle.dwz_output.specs.Deciding.{Test}
 use Rattle.dwz_output.specs.IsPlan.{AreFilesOf, AreImports, AreKept, AreUsers, IsHome, IsPlan, IsRep, MovesAlong, Rising, ShareAll}

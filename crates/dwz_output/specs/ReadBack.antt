@@ -1,10 +1,10 @@
 -- What was written, read back with imports expanded, is what was read.
 use Rattle.std.specs.Prelude.{◌≡◌, ◌≢◌, ℕ, true, List, [], ◌∷◌}
-use Rattle.dwz_docs.specs.Documents.{Attr, Doc, DwUnit, Entries}
+use Rattle.dwz_meanings.specs.Documents.{Attr, Doc, DwUnit, Entries}
 use Rattle.dwz_docs.specs.ElfFaults.{IsElfFault}
 use Rattle.dwz_docs.specs.Entries.{Mode}
-use Rattle.dwz_docs.specs.Files.{Limits, Reads, debug_abbrev, debug_info, machine_of, sources_of}
-use Rattle.dwz_docs.specs.Meanings.{MeanUnits, OfTextBySlot, all_places, class_of}
+use Rattle.dwz_meanings.specs.Files.{Limits, Reads, debug_abbrev, debug_info, machine_of, sources_of}
+use Rattle.dwz_meanings.specs.Meanings.{MeanUnits, OfTextBySlot, all_places, class_of}
 use Rattle.dwz_docs.specs.Trees.{End, Entry}
 use Rattle.dwz_docs.specs.Units.{RawUnit, SpellsUnits}
 use Rattle.dwz_docs.specs.Values.{AreBytes}

@@ -1,7 +1,7 @@
 -- What stands after, against what stood before.
 use Rattle.std.specs.Prelude.{◌⊎◌, ◌≡◌, ◌≢◌, ◌↔◌, ℕ, List, [], ◌∷◌, ◌++◌, map}
-use Rattle.dwz_docs.specs.Documents.{DwUnit, Entries, Kind, Node, Partial, Attr, Value, kind_map, ref, value_map}
-use Rattle.dwz_docs.specs.Meanings.{In}
+use Rattle.dwz_meanings.specs.Documents.{DwUnit, Entries, Kind, Node, Partial, Attr, Value, kind_map, ref, value_map}
+use Rattle.dwz_docs.specs.Lists.{In}
 use Rattle.dwz_docs.specs.Trees.{End, Entry}
 use Rattle.dwz_output.specs.Alike.{Alike, InScope, Scope}
 use Rattle.dwz_output.specs.Spots.{FileUnit, Spot, Top, Within, tops_of}

@@ -1,8 +1,9 @@
 -- Laws on units with names, before and after.
 use Rattle.std.specs.Prelude.{◌≡◌, ℕ, false, true, List, [], ◌∷◌, map}
-use Rattle.dwz_docs.specs.Documents.{Doc, DwUnit, Node, OfType, unit_map}
+use Rattle.dwz_meanings.specs.Documents.{Doc, DwUnit, Node, OfType, unit_map}
 use Rattle.dwz_docs.specs.Entries.{Mode}
-use Rattle.dwz_docs.specs.Meanings.{In, MeanUnits, Sources, all_places}
+use Rattle.dwz_meanings.specs.Meanings.{MeanUnits, Sources, all_places}
+use Rattle.dwz_docs.specs.Lists.{In}
 use Rattle.dwz_docs.specs.Units.{RawUnit, SpellsUnits}
 use Rattle.dwz_output.specs.After.{AllOfFile, AreAfter, AreOld, ArePlaced, ComesFrom, FileSame, IsAlone, IsEntryOf, OnePlace, Replaces, SameAlong, StandFor, UnitsShown, one_fitted, one_place_of}
 use Rattle.dwz_output.specs.Alike.{Apart, Each, IsAlike, Scope}

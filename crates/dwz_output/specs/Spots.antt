@@ -1,6 +1,6 @@
 -- Names for the units and entries of files, before and after: what stands where is counted, and no offset is named.
 use Rattle.std.specs.Prelude.{◌≡◌, ℕ, ℤ, suc, ◌+◌, Bool, true, false, List, [], ◌∷◌, ◌++◌, length, map, Option, ◌==◌, ◌&&◌}
-use Rattle.dwz_docs.specs.Documents.{Compile, Doc, DwUnit, Entries, Kind, Node, OfType, Partial, language, unit_map}
+use Rattle.dwz_meanings.specs.Documents.{Compile, Doc, DwUnit, Entries, Kind, Node, OfType, Partial, language, unit_map}
 use Rattle.dwz_docs.specs.Trees.{End, Entry}
 
 -- Units are counted over all files, tops (the children of compile units' roots) over all units, partial units over all that are

@@ -1,6 +1,6 @@
 -- No length depends on numbers, and no key has two places.
 use Rattle.std.specs.Prelude.{◌≡◌, ℕ, List, [], ◌∷◌, length}
-use Rattle.dwz_docs.specs.Meanings.{In}
+use Rattle.dwz_docs.specs.Lists.{In}
 use Rattle.dwz_output.specs.Spots.{Spot}
 use Rattle.dwz_output.specs.Writing.{Numbering}
 

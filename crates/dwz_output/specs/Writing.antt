@@ -5,8 +5,8 @@ use Rattle.dwz_model.specs.declared.place.Base.TheVariants.{Unit as FromUnit, In
 use Rattle.dwz_model.specs.declared.place.Pair.{Pair}
 use Rattle.dwz_bytes.specs.Spelling.{le_bytes, padded, uleb}
 use Rattle.dwz_docs.specs.Abbrevs.{Declaration, children_byte, table_bytes}
-use Rattle.dwz_docs.specs.Documents.{Attr, Block, Compile, DwUnit, Entries, Expr, Kind, Node, OfType, Operand, Part, Partial, Plain, Same, Text}
-use Rattle.dwz_docs.specs.Meanings.{Class, OfBlock, OfExpression, OfInfoEntry, OfText, OfUnitEntry, class_of}
+use Rattle.dwz_meanings.specs.Documents.{Attr, Block, Compile, DwUnit, Entries, Expr, Kind, Node, OfType, Operand, Part, Partial, Plain, Same, Text}
+use Rattle.dwz_meanings.specs.Meanings.{Class, OfBlock, OfExpression, OfInfoEntry, OfText, OfUnitEntry, class_of}
 use Rattle.dwz_docs.specs.Trees.{End, Entry}
 use Rattle.dwz_docs.specs.Values.{Bytes, Number, Raw, value_bytes}
 use Rattle.dwz_output.specs.Deciding.{same_by, same_int}

@@ -1,7 +1,7 @@
 //! What holds of tops that may move, of looks at them, and of tops that are alike.
 
 ghost use Rattle.std.specs.Prelude.{◌≡◌, ◌↔◌, ℕ, true, List, length};
-ghost use Rattle.dwz_docs.specs.Meanings.{In};
+ghost use Rattle.dwz_docs.specs.Lists.{In};
 ghost use Rattle.dwz_output.specs.Alike.{Alike, Bound, IsAlike, Look, Movable, Scope};
 ghost use Rattle.dwz_output.specs.Deciding.{alike_test, bound_test, is_movable, look_test};
 ghost use Rattle.dwz_output.specs.Spots.{FileUnit, Spot, Top, tops_of};

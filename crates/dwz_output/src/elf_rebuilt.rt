@@ -6,7 +6,7 @@ ghost use Rattle.dwz_docs.specs.ElfLayout.{Changes, content_for, keep_end, rebui
 ghost use Rattle.dwz_docs.specs.ElfNames.{sections_in};
 ghost use Rattle.dwz_docs.specs.ElfReading.{elf_fault, elf_of, section_range};
 ghost use Rattle.dwz_output.specs.ElfRebuilt.{CanBeMade, HasSameFields, IsTableField, new_file};
-ghost use Rattle.dwz_docs.specs.Files.{section_of};
+ghost use Rattle.dwz_meanings.specs.Files.{section_of};
 
 /// The file that is made from one without a fault, with new contents for some of its sections. It has the length that its
 /// layout says; it has no fault; its file header is the same, but for where the section headers are; each section has its new

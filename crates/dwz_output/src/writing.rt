@@ -1,9 +1,10 @@
 //! What holds of the bytes of units: their lengths, where things stand, and what they say.
 
 ghost use Rattle.std.specs.Prelude.{◌≡◌, ◌<◌, ℕ, List, length, map};
-ghost use Rattle.dwz_docs.specs.Documents.{Attr, DwUnit, Entries, Kind, Node, entries_map, node_map, unit_map};
+ghost use Rattle.dwz_meanings.specs.Documents.{Attr, DwUnit, Entries, Kind, Node, entries_map, node_map, unit_map};
 ghost use Rattle.dwz_docs.specs.Entries.{Mode};
-ghost use Rattle.dwz_docs.specs.Meanings.{In, MeanUnits, Sources, all_places};
+ghost use Rattle.dwz_meanings.specs.Meanings.{MeanUnits, Sources, all_places};
+ghost use Rattle.dwz_docs.specs.Lists.{In};
 ghost use Rattle.dwz_docs.specs.Units.{RawUnit, SpellsUnits};
 ghost use Rattle.dwz_docs.specs.Values.{AreBytes};
 ghost use Rattle.dwz_output.specs.Alike.{Each};

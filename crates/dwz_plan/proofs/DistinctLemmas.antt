@@ -3,7 +3,7 @@ use Rattle.std.proofs.Common.{◌≡◌, ℕ, zero, suc, ◌+◌, ◌<◌, ◌�
 use Rattle.std.specs.List.{position_or_len, range_with_len, zip}
 use Rattle.std.proofs.lemmas.Bool.{both_ways, cases_eq, ne_eqb, not-true}
 use Rattle.std.proofs.lemmas.List.Elements.{filter-append}
-use Rattle.dwz_docs.specs.Meanings.{In}
+use Rattle.dwz_docs.specs.Lists.{In}
 use Rattle.dwz_output.specs.Plan.{distinct}
 use Rattle.dwz_output.specs.Spots.{same_numbers}
 use Rattle.dwz_plan.specs.Steps.{number_of}

@@ -3,7 +3,7 @@ use Rattle.std.proofs.Common.{◌≡◌, ℕ, zero, suc, ◌+◌, ◌<◌, ◌�
 use Rattle.std.specs.List.{flat_map, list_any, range_with_len}
 use Rattle.std.proofs.lemmas.Bool.{cases_eq, ne_eqb}
 use Rattle.std.proofs.lemmas.List.{map-append}
-use Rattle.dwz_docs.specs.Meanings.{In, has}
+use Rattle.dwz_docs.specs.Lists.{In, has}
 use Rattle.dwz_model.specs.declared.tops.TopRow.{TopRow}
 use Rattle.dwz_model.specs.declared.tops.Tops.{Tops}
 use Rattle.dwz_output.specs.Plan.{Common, Home, Local, Stay, distinct, is_home}

@@ -3,7 +3,7 @@ use Rattle.std.proofs.Common.{◌≡◌, ℕ, zero, suc, ◌+◌, ◌<◌, ◌�
 use Rattle.std.specs.List.{concat, flat_map, range_with_len}
 use Rattle.std.proofs.lemmas.Bool.{cases_eq, ne_eqb}
 use Rattle.std.proofs.lemmas.List.{map-append}
-use Rattle.dwz_docs.specs.Meanings.{In}
+use Rattle.dwz_docs.specs.Lists.{In}
 use Rattle.dwz_model.specs.declared.tops.Tops.{Tops}
 use Rattle.dwz_output.specs.Plan.{Common, Home, Local, Stay, same_home}
 use Rattle.dwz_plan.specs.declared.plan.Scope.{Scope}

@@ -5,7 +5,7 @@ use Rattle.std.proofs.lemmas.Bool.{and_parts, both_ways, false_from_ne_true}
 use Rattle.std.proofs.lemmas.List.{append-nil, get_or-map, map-append}
 use Rattle.std.proofs.lemmas.List.Elements.{filter-append}
 use Rattle.std.proofs.lemmas.List.Folds.{flat_map-map}
-use Rattle.dwz_docs.specs.Meanings.{In}
+use Rattle.dwz_docs.specs.Lists.{In}
 use Rattle.dwz_model.specs.declared.tops.Tops.{Tops}
 use Rattle.dwz_output.specs.Plan.{Common, Home, Local, Stay, distinct, same_home}
 use Rattle.dwz_output.specs.Spots.{same_numbers}

@@ -2,7 +2,7 @@
 use Rattle.std.specs.Prelude.{ℕ, suc, Bool, true, List, [], ◌∷◌, ◌++◌, ◌==◌, ◌&&◌, not, filter, find, length, map, slice_index, if◌then◌else◌}
 use Rattle.std.specs.Option.{option_map_or}
 use Rattle.std.specs.List.{flat_map, list_any, position_or_len, range_with_len}
-use Rattle.dwz_docs.specs.Meanings.{has}
+use Rattle.dwz_docs.specs.Lists.{has}
 use Rattle.dwz_output.specs.Plan.{Common, Home, Local, Stay, distinct, home_in, is_home, same_home}
 use Rattle.dwz_output.specs.Spots.{same_numbers}
 use Rattle.dwz_plan.specs.declared.plan.Home.{Home as Place}

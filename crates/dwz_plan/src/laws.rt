@@ -1,7 +1,7 @@
 //! What the plan of rows says of units, if the rows show the units' tops.
 ghost use Rattle.std.specs.Prelude.{◌≡◌, ℕ, ◌<◌, List, [], length, map, slice_index, slice_index_or};
 ghost use Rattle.std.specs.List.{range_with_len};
-ghost use Rattle.dwz_docs.specs.Documents.{Doc};
+ghost use Rattle.dwz_meanings.specs.Documents.{Doc};
 ghost use Rattle.dwz_model.specs.declared.tops.Tops.{Tops};
 ghost use Rattle.dwz_output.specs.Out.{file_numbers};
 ghost use Rattle.dwz_output.specs.Plan.{imports, kept, partials, stand_in};

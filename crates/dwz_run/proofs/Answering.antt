@@ -1,11 +1,11 @@
 -- What follows of an answer that comes by the steps of reading.
 use Rattle.std.proofs.Common.{◌≡◌, ◌⊎◌, ℕ, List, Result, Ok, Err, refl, ap, subst, inl, inr, ⊎_elim}
 use Rattle.std.specs.Prelude.{IfErr, IfOk}
-use Rattle.dwz_docs.specs.Documents.{Doc}
-use Rattle.dwz_docs.specs.Files.{HasMeaningFault, IsFileFault, Reads, no_files_before}
+use Rattle.dwz_meanings.specs.Documents.{Doc}
+use Rattle.dwz_meanings.specs.Files.{HasMeaningFault, IsFileFault, Reads, no_files_before}
 use Rattle.dwz_docs.specs.Units.{RawUnit}
-use Rattle.dwz_docs.proofs.AgreeLemmas.{never_both, same_fault, same_meaning}
-use Rattle.dwz_docs.proofs.FileLemmas.{file_agrees}
+use Rattle.dwz_meanings.proofs.AgreeLemmas.{never_both, same_fault, same_meaning}
+use Rattle.dwz_meanings.proofs.FileLemmas.{file_agrees}
 use Rattle.dwz_model.specs.declared.fault.Fault.{Fault}
 use Rattle.dwz_model.specs.declared.fault.ReadErr.{ReadErr}
 use Rattle.dwz_model.specs.declared.fault.ReadErr.TheVariants.{NoMemory, Refused}

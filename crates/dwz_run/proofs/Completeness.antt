@@ -3,7 +3,7 @@ use Rattle.std.proofs.Common.{◌≡◌, subst, refl, inl, inr, ⊎_elim, ℕ, L
 use Rattle.std.specs.Prelude.{IfSome}
 use Rattle.dwz_outside.specs.Store.{Store, got}
 use Rattle.dwz_docs.specs.ElfFaults.{file_fault}
-use Rattle.dwz_docs.specs.Files.{IsFileFault, no_files_before}
+use Rattle.dwz_meanings.specs.Files.{IsFileFault, no_files_before}
 use Rattle.dwz_model.specs.declared.fault.Fault.{Fault}
 use Rattle.dwz_model.specs.declared.fault.Reason.TheVariants.{NotBuilt}
 use Rattle.dwz_run.specs.declared.status.Status.{Status}

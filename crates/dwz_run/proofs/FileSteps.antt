@@ -7,16 +7,17 @@ use Rattle.dwz_model.specs.declared.fault.ReadErr.TheVariants.{NoMemory, Refused
 use Rattle.dwz_model.specs.declared.fault.Reason.TheVariants.{FileSize, Machine, NotBuilt}
 use Rattle.dwz_bytes.specs.Input.{input}
 use Rattle.dwz_bytes.specs.Reading.{◌>>=◌}
-use Rattle.dwz_docs.specs.Documents.{Doc, DwUnit}
+use Rattle.dwz_meanings.specs.Documents.{Doc, DwUnit}
 use Rattle.dwz_docs.specs.ElfFaults.{file_fault}
 use Rattle.dwz_docs.specs.ElfReading.{ElfView, elf_fault, elf_of, section_range}
 use Rattle.dwz_docs.specs.Entries.{given, unless_so}
 use Rattle.dwz_docs.specs.Faults.{Fails}
-use Rattle.dwz_docs.specs.Files.{HasMeaningFault, IsFileFault, Reads, bytes_in, debug_abbrev, debug_info, doc_with, ends_at, file_meaning, is_other_machine, is_too_long, longest_file, longest_files, machine_at, machine_of, most_entries, no_files_before, section_of, sources_of}
-use Rattle.dwz_docs.specs.Meanings.{all_places, units_meaning}
+use Rattle.dwz_meanings.specs.Files.{HasMeaningFault, IsFileFault, Reads, debug_abbrev, debug_info, doc_with, ends_at, file_meaning, is_other_machine, is_too_long, longest_file, longest_files, machine_at, machine_of, most_entries, no_files_before, section_of, sources_of}
+use Rattle.dwz_docs.specs.ElfReading.{bytes_in}
+use Rattle.dwz_meanings.specs.Meanings.{all_places, units_meaning}
 use Rattle.dwz_docs.specs.Units.{RawUnit, units_at}
-use Rattle.dwz_docs.proofs.FileLemmas.{file_agrees}
-use Rattle.dwz_docs.proofs.MeaningLemmas.{units_agree}
+use Rattle.dwz_meanings.proofs.FileLemmas.{file_agrees}
+use Rattle.dwz_meanings.proofs.MeaningLemmas.{units_agree}
 use Rattle.dwz_docs.proofs.PartLemmas.{bind_err, bind_ok}
 use Rattle.dwz_docs.proofs.UnitListLemmas.{units_found}
 use Rattle.dwz_elf.specs.Plain.{IsPlain}

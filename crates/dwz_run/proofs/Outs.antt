@@ -1,9 +1,9 @@
 -- One file at most stands for another one.
 use Rattle.std.proofs.Common.{◌≡◌, ℕ, Bool, true, false, List, sym, ap, ◌∙◌}
-use Rattle.dwz_docs.specs.Documents.{Doc}
+use Rattle.dwz_meanings.specs.Documents.{Doc}
 use Rattle.dwz_docs.specs.ElfLayout.{rebuilt}
 use Rattle.dwz_docs.specs.ElfReading.{elf_of}
-use Rattle.dwz_docs.specs.Meanings.{IfSo}
+use Rattle.dwz_meanings.specs.Meanings.{IfSo}
 use Rattle.dwz_output.specs.Out.{FitsSections, IsOut, Rebuilds, changes_of, has_changes, sections_of}
 use Rattle.dwz_output.specs.Placing.{UnitSections}
 use Rattle.dwz_run.proofs.Orders.{same_order}

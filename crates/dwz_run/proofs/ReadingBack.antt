@@ -1,11 +1,11 @@
 -- What is written for a file reads back as the file.
 use Rattle.std.proofs.Common.{◌≡◌, ℕ, ◌<◌, List, get_or, Result, Ok, Err, sym, ap, subst, ◌∙◌}
 use Rattle.std.specs.Prelude.{IfOk}
-use Rattle.dwz_docs.specs.Documents.{Doc}
-use Rattle.dwz_docs.specs.Files.{Reads, file_meaning, no_files_before, sources_of}
-use Rattle.dwz_docs.specs.Meanings.{all_places}
+use Rattle.dwz_meanings.specs.Documents.{Doc}
+use Rattle.dwz_meanings.specs.Files.{Reads, file_meaning, no_files_before, sources_of}
+use Rattle.dwz_meanings.specs.Meanings.{all_places}
 use Rattle.dwz_docs.specs.Units.{RawUnit}
-use Rattle.dwz_docs.proofs.FileLemmas.{file_agrees}
+use Rattle.dwz_meanings.proofs.FileLemmas.{file_agrees}
 use Rattle.dwz_docs.proofs.WrittenLemmas.{bytes_fit}
 use Rattle.dwz_model.specs.declared.fault.Fault.{Fault}
 use Rattle.dwz_model.specs.declared.fault.ReadErr.{ReadErr}

@@ -1,11 +1,11 @@
 -- What is written for a file, and why others are refused.
 use Rattle.std.specs.Prelude.{◌≡◌, ◌⊎◌, ℕ, ◌<◌, ◌≤◌, true, List, length, None, Result, Ok, Err}
 use Rattle.dwz_bytes.specs.Input.{input}
-use Rattle.dwz_docs.specs.Documents.{Doc}
+use Rattle.dwz_meanings.specs.Documents.{Doc}
 use Rattle.dwz_docs.specs.ElfFaults.{file_fault}
 use Rattle.dwz_docs.specs.ElfReading.{elf_fault, elf_of}
 use Rattle.dwz_docs.specs.Entries.{given}
-use Rattle.dwz_docs.specs.Files.{IsFileFault, Reads, debug_abbrev, debug_info, longest_file, most_entries, no_files_before}
+use Rattle.dwz_meanings.specs.Files.{IsFileFault, Reads, debug_abbrev, debug_info, longest_file, most_entries, no_files_before}
 use Rattle.dwz_docs.specs.Units.{RawUnit, units_at}
 use Rattle.dwz_elf.specs.Plain.{IsPlain}
 use Rattle.dwz_model.specs.declared.fault.Fault.{Fault}

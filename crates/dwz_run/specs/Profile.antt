@@ -1,8 +1,8 @@
 -- Files that are handled as long as the tool is being built.
 use Rattle.std.specs.Prelude.{◌≡◌, ℕ, ◌<◌, ◌^◌, true, List, length}
-use Rattle.dwz_docs.specs.Documents.{Doc}
+use Rattle.dwz_meanings.specs.Documents.{Doc}
 use Rattle.dwz_docs.specs.ElfReading.{elf_of}
-use Rattle.dwz_docs.specs.Files.{Reads, no_files_before}
+use Rattle.dwz_meanings.specs.Files.{Reads, no_files_before}
 use Rattle.dwz_docs.specs.Units.{RawUnit}
 use Rattle.dwz_elf.specs.Plain.{IsPlain}
 use Rattle.dwz_output.specs.Out.{IsOut}

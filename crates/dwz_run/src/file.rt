@@ -2,7 +2,7 @@
 
 ghost use Rattle.std.specs.Prelude.{◌≡◌, ℕ, ◌<◌, ◌≤◌, ◌^◌, Err, IfErr, IfOk, List, Some, length};
 ghost use Rattle.dwz_docs.specs.ElfFaults.{file_fault};
-ghost use Rattle.dwz_docs.specs.Files.{HasMeaningFault, IsFileFault, no_files_before};
+ghost use Rattle.dwz_meanings.specs.Files.{HasMeaningFault, IsFileFault, no_files_before};
 ghost use Rattle.dwz_elf.specs.Reads.{front_fault_of};
 ghost use Rattle.dwz_model.specs.declared.fault.Fault.{Fault};
 ghost use Rattle.dwz_model.specs.declared.fault.Reason.TheVariants.{FileSize};

@@ -1,7 +1,7 @@
 //! The file that stands for another one.
 
 ghost use Rattle.std.specs.Prelude.{◌≡◌, ℕ, None, true};
-ghost use Rattle.dwz_docs.specs.Documents.{Doc};
+ghost use Rattle.dwz_meanings.specs.Documents.{Doc};
 ghost use Rattle.dwz_docs.specs.ElfReading.{elf_fault, elf_of};
 ghost use Rattle.dwz_encode.specs.Encoded.{MeansDoc, sections_view};
 ghost use Rattle.dwz_output.specs.Out.{IsOut, Rebuilds};

@@ -2,9 +2,10 @@
 use Rattle.std.proofs.Common.{◌≡◌, ◌⊎◌, ℕ, ℤ, zero, suc, Bool, true, false, List, [], ◌∷◌, ◌++◌, map, ◌==◌, ◌&&◌, cond, refl, sym, ap, subst, ◌∙◌, inl, inr, ⊎_elim}
 use Rattle.std.specs.List.{list_all, list_any}
 use Rattle.std.proofs.lemmas.Bool.{and_parts, false≢true, not-true, or_from}
-use Rattle.dwz_docs.specs.Documents.{Attr, Doc, Num, Text}
+use Rattle.dwz_meanings.specs.Documents.{Attr, Doc, Num, Text}
 use Rattle.dwz_docs.specs.Entries.{RawAttr, RawEntry}
-use Rattle.dwz_docs.specs.Meanings.{In, bytes_of, has, kept_width, number_of, offset_of}
+use Rattle.dwz_meanings.specs.Meanings.{bytes_of, kept_width, number_of, offset_of}
+use Rattle.dwz_docs.specs.Lists.{In, has}
 use Rattle.dwz_docs.specs.Trees.{End, Entry, Forest}
 use Rattle.dwz_docs.specs.Units.{CompileUnit, PartialUnit, RawKind, RawUnit, TypeUnit}
 use Rattle.dwz_output.specs.Alike.{Apart, Bound, Look, Movable, SameTop, any_attr, any_entry, attr_binds, binding_forms, binds_itself, entry_binds, has_operand, is_in, is_named, operand_names, refers_to}

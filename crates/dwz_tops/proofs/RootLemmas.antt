@@ -5,7 +5,7 @@ use Rattle.std.proofs.lemmas.Bool.{cond-false, cond-true, eq-eqb, ne_eqb}
 use Rattle.std.proofs.lemmas.List.{drop_all, map-append}
 use Rattle.std.proofs.lemmas.Option.{get_or_from_slice_get, slice_get-map, slice_get_within}
 use Rattle.dwz_docs.specs.Entries.{RawAttr}
-use Rattle.dwz_docs.specs.Meanings.{first_raw}
+use Rattle.dwz_meanings.specs.Meanings.{first_raw}
 use Rattle.dwz_docs.specs.Units.{RawUnit, entries_in, entry_count}
 use Rattle.dwz_unit.specs.declared.rows.RawUnit.{RawUnit as UnitOfCode}
 use Rattle.dwz_unit.specs.Rows.{EntryRow, rows_below, rows_from, rows_in, rows_of, shown_from, shown_units, unit_shown}

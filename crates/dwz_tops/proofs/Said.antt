@@ -2,13 +2,14 @@
 use Rattle.std.proofs.Common.{◌≡◌, ◌⊎◌, ℕ, Bool, true, false, List, [], ◌∷◌, map, ◌==◌, arith, cond, refl, sym, ap, subst, ◌∙◌, inl, inr, ⊎_elim}
 use Rattle.std.specs.List.{list_all}
 use Rattle.std.proofs.lemmas.Bool.{and_parts, cond-false, cond-true, eq-eqb, not-true, or_from, ne_eqb}
-use Rattle.dwz_docs.specs.Documents.{Attr, Compile, Doc, DwUnit, Entries, Node, Num, Plain, Text, only}
+use Rattle.dwz_meanings.specs.Documents.{Attr, Compile, Doc, DwUnit, Entries, Node, Num, Plain, Text, only}
 use Rattle.dwz_docs.specs.Entries.{RawAttr, RawEntry}
-use Rattle.dwz_docs.specs.Meanings.{In, IfSo, OfConstant, OfText, IsFileNumber, MeanAttrs, MeanEntries, MeanUnits, MeansAs, MeansAttr, MeansKind, MeansNode, MeansUnit, MeansValue, Scope, Sources, bytes_of, class_of, constant_value, class_in, class_rows, has, kept_width, names_file, number_of, offset_of, scope_of, without_siblings}
+use Rattle.dwz_meanings.specs.Meanings.{IfSo, OfConstant, OfText, IsFileNumber, MeanAttrs, MeanEntries, MeanUnits, MeansAs, MeansAttr, MeansKind, MeansNode, MeansUnit, MeansValue, Scope, Sources, bytes_of, class_of, constant_value, class_in, class_rows, kept_width, names_file, number_of, offset_of, scope_of, without_siblings}
+use Rattle.dwz_docs.specs.Lists.{In, has}
 use Rattle.dwz_docs.specs.Trees.{End, Entry, Forest}
 use Rattle.dwz_docs.specs.Units.{CompileUnit, PartialUnit, RawKind, RawUnit, TypeUnit}
-use Rattle.dwz_docs.proofs.MeaningLemmas.{has_in, not_in, units_agree}
-use Rattle.dwz_docs.proofs.AgreeLemmas.{same_meaning}
+use Rattle.dwz_meanings.proofs.MeaningLemmas.{has_in, not_in, units_agree}
+use Rattle.dwz_meanings.proofs.AgreeLemmas.{same_meaning}
 use Rattle.dwz_tops.specs.Laws.{MeanPlain}
 use Rattle.dwz_tops.specs.Plain.{are_plain, are_plain_units, is_compile, is_plain_attr, is_plain_entry, is_plain_unit, other_names, plain_forms}
 

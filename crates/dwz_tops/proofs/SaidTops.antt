@@ -2,9 +2,9 @@
 use Rattle.std.proofs.Common.{◌≡◌, ℕ, ℤ, suc, ◌+◌, Bool, true, false, List, [], ◌∷◌, ◌++◌, length, map, Option, Some, None, ◌==◌, cond, refl, sym, ap, ◌∙◌, arith}
 use Rattle.std.proofs.lemmas.Bool.{and_parts}
 use Rattle.std.proofs.lemmas.List.{append-nil}
-use Rattle.dwz_docs.specs.Documents.{Attr, Compile, Doc, DwUnit, Entries, Node, Num, Text, attr_map, entries_map, first_named, language, node_map, number_in, number_of_attr, unit_map}
+use Rattle.dwz_meanings.specs.Documents.{Attr, Compile, Doc, DwUnit, Entries, Node, Num, Text, attr_map, entries_map, first_named, language, node_map, number_in, number_of_attr, unit_map}
 use Rattle.dwz_docs.specs.Entries.{RawAttr, RawEntry}
-use Rattle.dwz_docs.specs.Meanings.{bytes_of, first_raw, kept_width, number_of, offset_of}
+use Rattle.dwz_meanings.specs.Meanings.{bytes_of, first_raw, kept_width, number_of, offset_of}
 use Rattle.dwz_docs.specs.Trees.{End, Entry, Forest}
 use Rattle.dwz_docs.specs.Units.{CompileUnit, PartialUnit, RawKind, RawUnit, TypeUnit}
 use Rattle.dwz_output.specs.Out.{one_file}

@@ -4,9 +4,9 @@ use Rattle.std.specs.List.{list_all}
 use Rattle.std.proofs.lemmas.Bool.{and_from, and_parts, cond-false, cond-true, eq-eqb, ne_eqb}
 use Rattle.std.proofs.lemmas.List.{append-nil, append_assoc}
 use Rattle.std.proofs.Math.Nat.{div-add-mod}
-use Rattle.dwz_docs.specs.Documents.{Num, Plain, Text}
+use Rattle.dwz_meanings.specs.Documents.{Num, Plain, Text}
 use Rattle.dwz_docs.specs.Entries.{RawAttr, RawEntry}
-use Rattle.dwz_docs.specs.Meanings.{bytes_of, kept_width, number_of}
+use Rattle.dwz_meanings.specs.Meanings.{bytes_of, kept_width, number_of}
 use Rattle.dwz_bytes.specs.Spelling.{reach}
 use Rattle.dwz_docs.specs.Trees.{End, Entry, Forest}
 use Rattle.dwz_output.specs.Alike.{SameAttrs, SameEntries, SameNode, SameTop}

@@ -4,7 +4,7 @@ use Rattle.std.specs.List.{flat_map}
 use Rattle.std.specs.Option.{option_map_or}
 use Rattle.dwz_bytes.specs.Spelling.{uleb}
 use Rattle.dwz_docs.specs.Entries.{RawAttr}
-use Rattle.dwz_docs.specs.Meanings.{bytes_of, number_of}
+use Rattle.dwz_meanings.specs.Meanings.{bytes_of, number_of}
 use Rattle.dwz_docs.specs.Units.{RawUnit}
 use Rattle.dwz_unit.specs.Rows.{EntryRow, rows_of}
 use Rattle.dwz_tops.specs.declared.spans.Span.{Span}

@@ -1,7 +1,8 @@
 -- What is said of plain units and what they mean.
 use Rattle.std.specs.Prelude.{◌≡◌, ◌↔◌, ℕ, true, List}
-use Rattle.dwz_docs.specs.Documents.{Doc}
-use Rattle.dwz_docs.specs.Meanings.{In, MeanUnits, Sources}
+use Rattle.dwz_meanings.specs.Documents.{Doc}
+use Rattle.dwz_meanings.specs.Meanings.{MeanUnits, Sources}
+use Rattle.dwz_docs.specs.Lists.{In}
 use Rattle.dwz_docs.specs.Units.{RawUnit}
 use Rattle.dwz_output.specs.Alike.{SameTop}
 use Rattle.dwz_output.specs.Out.{alike_in, one_file}

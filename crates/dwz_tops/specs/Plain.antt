@@ -2,7 +2,7 @@
 use Rattle.std.specs.Prelude.{ℕ, Bool, true, false, List, [], ◌∷◌, ◌==◌, ◌&&◌, not}
 use Rattle.std.specs.List.{list_all}
 use Rattle.dwz_docs.specs.Entries.{RawAttr, RawEntry}
-use Rattle.dwz_docs.specs.Meanings.{has}
+use Rattle.dwz_docs.specs.Lists.{has}
 use Rattle.dwz_docs.specs.Trees.{End, Entry, Forest}
 use Rattle.dwz_docs.specs.Units.{CompileUnit, PartialUnit, RawKind, RawUnit, TypeUnit}
 

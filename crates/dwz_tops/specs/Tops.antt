@@ -2,9 +2,9 @@
 use Rattle.std.specs.Prelude.{◌≡◌, ◌↔◌, ℕ, ℤ, suc, ◌<◌, true, false, List, [], ◌∷◌, ◌++◌, length, map, Option, Some, None, ◌==◌, if◌then◌else◌, replicate, slice_index}
 use Rattle.dwz_model.specs.declared.tops.TopRow.{TopRow}
 use Rattle.dwz_model.specs.declared.tops.Tops.{Tops}
-use Rattle.dwz_docs.specs.Documents.{Doc}
+use Rattle.dwz_meanings.specs.Documents.{Doc}
 use Rattle.dwz_docs.specs.Entries.{RawAttr, RawEntry}
-use Rattle.dwz_docs.specs.Meanings.{first_raw, number_of}
+use Rattle.dwz_meanings.specs.Meanings.{first_raw, number_of}
 use Rattle.dwz_docs.specs.Trees.{End, Entry, Forest}
 use Rattle.dwz_docs.specs.Units.{CompileUnit, PartialUnit, RawKind, RawUnit, TypeUnit}
 use Rattle.dwz_output.specs.Deciding.{is_movable}

@@ -1,8 +1,9 @@
 //! What plain units mean, and which of their tops are alike.
 
 ghost use Rattle.std.specs.Prelude.{◌≡◌, ℕ, true, List};
-ghost use Rattle.dwz_docs.specs.Documents.{Doc, DwUnit};
-ghost use Rattle.dwz_docs.specs.Meanings.{In, MeanUnits, Sources};
+ghost use Rattle.dwz_meanings.specs.Documents.{Doc, DwUnit};
+ghost use Rattle.dwz_meanings.specs.Meanings.{MeanUnits, Sources};
+ghost use Rattle.dwz_docs.specs.Lists.{In};
 ghost use Rattle.dwz_docs.specs.Units.{RawUnit};
 ghost use Rattle.dwz_output.specs.Alike.{Movable};
 ghost use Rattle.dwz_output.specs.Out.{one_file};

@@ -1,7 +1,7 @@
 //! The first of tops that are alike.
 
 ghost use Rattle.std.specs.Prelude.{◌≡◌, ℕ, ◌<◌, ◌^◌, true, List, length, IfOk};
-ghost use Rattle.dwz_docs.specs.Documents.{Doc};
+ghost use Rattle.dwz_meanings.specs.Documents.{Doc};
 ghost use Rattle.dwz_unit.specs.Rows.{units_of};
 ghost use Rattle.dwz_tops.specs.Firsts.{AreFirsts, IsFound, look};
 ghost use Rattle.dwz_tops.specs.Laws.{MeanPlain};

@@ -2,7 +2,7 @@
 
 ghost use Rattle.std.specs.Prelude.{◌≡◌, ◌<◌, Some, slice_get};
 ghost use Rattle.std.specs.List.{list_all};
-ghost use Rattle.dwz_docs.specs.Meanings.{has};
+ghost use Rattle.dwz_docs.specs.Lists.{has};
 ghost use Rattle.dwz_docs.specs.Units.{entries_in};
 ghost use Rattle.dwz_unit.specs.Rows.{EntryRow, attr_view, rows_of, units_of};
 ghost use Rattle.dwz_tops.specs.Plain.{are_plain_units, is_compile, is_plain_attr, is_plain_entry, other_names, plain_forms};
@@ -30,7 +30,7 @@ const DECL_FILE: u16 = 0x3a;
 const CALL_FILE: u16 = 0x58;
 
 #[inline(always)]
-#[tactic(auto, unfolding(dwz_docs::specs::Meanings::has))]
+#[tactic(auto, unfolding(dwz_docs::specs::Lists::has))]
 fn is_plain_form(form: u64) -> bool
     ensures { result ≡ has form plain_forms }
 {
@@ -38,7 +38,7 @@ fn is_plain_form(form: u64) -> bool
 }
 
 #[inline(always)]
-#[tactic(auto, unfolding(dwz_docs::specs::Meanings::has))]
+#[tactic(auto, unfolding(dwz_docs::specs::Lists::has))]
 fn is_other_name(name: u16) -> bool
     ensures { result ≡ has name other_names }
 {

@@ -1,7 +1,7 @@
 //! What is compared of entries, as numbers in a row of bytes.
 
 ghost use Rattle.std.specs.Prelude.{◌≡◌, ◌<◌, Some, slice_get, OnOk};
-ghost use Rattle.dwz_docs.specs.Meanings.{bytes_of, number_of};
+ghost use Rattle.dwz_meanings.specs.Meanings.{bytes_of, number_of};
 ghost use Rattle.dwz_docs.specs.Units.{entries_in};
 ghost use Rattle.dwz_forms.specs.RawValues.{raw_view};
 ghost use Rattle.dwz_unit.specs.Rows.{EntryRow, attr_view, rows_of, units_of};

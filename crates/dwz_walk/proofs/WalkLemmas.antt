@@ -11,7 +11,8 @@ use Rattle.dwz_docs.specs.ElfFaults.{file_fault}
 use Rattle.dwz_docs.specs.ElfReading.{ElfView, elf_fault, elf_of, section_range}
 use Rattle.dwz_docs.specs.Entries.{given, unless_so}
 use Rattle.dwz_docs.specs.Faults.{Fails}
-use Rattle.dwz_docs.specs.Files.{bytes_in, debug_abbrev, debug_info, ends_at, is_too_long, longest_file, longest_files, most_entries, no_files_before, section_of}
+use Rattle.dwz_meanings.specs.Files.{debug_abbrev, debug_info, ends_at, is_too_long, longest_file, longest_files, most_entries, no_files_before, section_of}
+use Rattle.dwz_docs.specs.ElfReading.{bytes_in}
 use Rattle.dwz_docs.specs.Units.{RawUnit, units_at}
 use Rattle.dwz_elf.specs.Reads.{Gives}
 use Rattle.dwz_walk.specs.Walk.{after_elf, after_size, walk}

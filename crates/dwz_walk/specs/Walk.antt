@@ -7,7 +7,7 @@ use Rattle.dwz_bytes.specs.Reading.{◌>>=◌}
 use Rattle.dwz_docs.specs.ElfFaults.{file_fault}
 use Rattle.dwz_docs.specs.ElfReading.{elf_fault}
 use Rattle.dwz_docs.specs.Entries.{given, unless_so}
-use Rattle.dwz_docs.specs.Files.{debug_abbrev, debug_info, ends_at, is_too_long, most_entries, no_files_before}
+use Rattle.dwz_meanings.specs.Files.{debug_abbrev, debug_info, ends_at, is_too_long, most_entries, no_files_before}
 use Rattle.dwz_docs.specs.Units.{RawUnit, units_at}
 
 abbrev pub after_elf : List ℕ → Unit {0} → Result (List RawUnit) Fault

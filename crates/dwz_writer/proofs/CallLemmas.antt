@@ -6,8 +6,8 @@ use Rattle.dwz_bytes.specs.Spelling.{le_bytes}
 use Rattle.dwz_bytes.proofs.FixedLemmas.{fixed_written}
 use Rattle.dwz_codes.specs.Forms.{form_rows}
 use Rattle.dwz_docs.specs.Abbrevs.{IsPlainPair}
-use Rattle.dwz_docs.specs.Documents.{Attr, DwUnit, Entries, Node}
-use Rattle.dwz_docs.specs.Meanings.{Class, OfExpression, OfInfoEntry, OfUnitEntry, class_of}
+use Rattle.dwz_meanings.specs.Documents.{Attr, DwUnit, Entries, Node}
+use Rattle.dwz_meanings.specs.Meanings.{Class, OfExpression, OfInfoEntry, OfUnitEntry, class_of}
 use Rattle.dwz_docs.specs.Trees.{End, Entry}
 use Rattle.dwz_docs.specs.Values.{AreBytes, HasSpelling, Number}
 use Rattle.dwz_docs.proofs.WrittenLemmas.{read_writable}

@@ -1,6 +1,6 @@
 -- The calls that write units, and what they leave.
 use Rattle.std.specs.Prelude.{◌≡◌, ℕ, ◌<◌, All, Bool, List, [], ◌∷◌, ◌++◌, length, map}
-use Rattle.dwz_docs.specs.Documents.{Attr, Compile as OfCompile, DwUnit, Entries, Kind, Node, OfType, Partial as OfPartial}
+use Rattle.dwz_meanings.specs.Documents.{Attr, Compile as OfCompile, DwUnit, Entries, Kind, Node, OfType, Partial as OfPartial}
 use Rattle.dwz_docs.specs.Trees.{End, Entry}
 use Rattle.dwz_output.specs.Writing.{Numbering, any, pair_of, stored, table_of, tables_of, tree_bytes, units_bytes}
 use Rattle.dwz_writer.specs.declared.sort.UnitSort.TheVariants.{Compile, Partial}

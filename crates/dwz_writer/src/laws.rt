@@ -1,7 +1,7 @@
 //! What calls write, one after the other.
 
 ghost use Rattle.std.specs.Prelude.{◌≡◌, ℕ, List, map};
-ghost use Rattle.dwz_docs.specs.Documents.{DwUnit};
+ghost use Rattle.dwz_meanings.specs.Documents.{DwUnit};
 ghost use Rattle.dwz_output.specs.Alike.{Each};
 ghost use Rattle.dwz_output.specs.Fitting.{UnitFits, places};
 ghost use Rattle.dwz_output.specs.Placing.{UnitsStand, sections};

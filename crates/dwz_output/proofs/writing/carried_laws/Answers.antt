@@ -1,4 +1,4 @@
-use Rattle.dwz_docs.specs.Meanings.{all_places}
+use Rattle.dwz_meanings.specs.Meanings.{all_places}
 use Rattle.dwz_output.proofs.CarriedMaps.{entries_carried, node_carried, unit_carried}
 use Rattle.dwz_output.proofs.ReadAgain.{units_carried}
 use Rattle.dwz_output.proofs.writing.carried_laws.Goals as goal

@@ -1,4 +1,4 @@
-use Rattle.dwz_docs.specs.Documents.{unit_map}
+use Rattle.dwz_meanings.specs.Documents.{unit_map}
 use Rattle.std.proofs.Common.{map}
 use Rattle.dwz_output.specs.Meant.{placed_units}
 use Rattle.dwz_output.proofs.Unnumbered.{bare_placed, entries_same, units_same}

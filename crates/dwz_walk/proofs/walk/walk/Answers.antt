@@ -1,7 +1,7 @@
 use Rattle.std.proofs.Common.{◌≡◌, ◌≤◌, ◌^◌, ◌∙◌, length, None, arith, rules, sym}
 use Rattle.std.proofs.lemmas.Result.{err_from_is_err_and}
 use Rattle.dwz_docs.specs.ElfReading.{elf_fault}
-use Rattle.dwz_docs.specs.Files.{debug_abbrev, debug_info}
+use Rattle.dwz_meanings.specs.Files.{debug_abbrev, debug_info}
 use Rattle.dwz_unit.specs.Rows.{units_of}
 use Rattle.dwz_walk.proofs.WalkLemmas.{content_is, elf_fails, too_long, units_are, units_fail}
 use Rattle.dwz_walk.proofs.walk.walk.Goals as goal

@@ -2,16 +2,16 @@
 use Rattle.std.proofs.Common.{◌≡◌, ℕ, ℤ, pos, negsuc, ◌+◌, true, false, List, [], ◌∷◌, ◌++◌, Some, None, Result, Ok, Err, refl}
 use Rattle.std.specs.Prelude.{codes}
 use Rattle.dwz_model.specs.declared.fault.Fault.{Fault}
-use Rattle.dwz_model.specs.declared.fault.Reason.TheVariants.{BadReference, BadString}
+use Rattle.dwz_model.specs.declared.fault.Reason.TheVariants.{BadFile, BadList, BadReference, BadString}
 use Rattle.dwz_bytes.specs.Input.{input}
 use Rattle.dwz_bytes.specs.Reading.{◌>>=◌, groups_at, uleb_at}
 use Rattle.dwz_codes.specs.Forms.{form_rows}
 use Rattle.dwz_docs.specs.Abbrevs.{declaration_at, pair_at, table_at}
-use Rattle.dwz_docs.specs.Documents.{Addr, Attr, Block, Compile, DwUnit, Flag, Index, Num, OfType, Sec, Sig, Text, Value, first_named, language, only, ref}
+use Rattle.dwz_meanings.specs.Documents.{Addr, Attr, Block, Compile, DwUnit, File, Flag, Index, Num, OfType, Sec, Sig, Text, Value, first_named, language, only, ref}
 use Rattle.dwz_docs.specs.Entries.{RawAttr, attrs_at, front_at, given}
 use Rattle.dwz_docs.specs.Faults.{info_fault}
 use Rattle.dwz_docs.specs.Lists.{items_at, items_from}
-use Rattle.dwz_docs.specs.Meanings.{Scope, Sources, all_places, attrs_meaning, class_in, class_rows, entries_meaning, first_raw, has, kind_meaning, meaning, not_built, places_in, units_meaning, without_siblings}
+use Rattle.dwz_meanings.specs.Meanings.{Scope, Sources, all_places, alone, attrs_meaning, class_in, class_rows, entries_meaning, first_raw, has, kind_meaning, meaning, places_in, units_meaning, without_siblings}
 use Rattle.dwz_docs.specs.Texts.{text_in}
 use Rattle.dwz_docs.specs.Trees.{End, Entry, forest_at, siblings_at}
 use Rattle.dwz_docs.specs.Units.{TypeUnit, header_reason, tree_at, unit_at, units_at, units_from, zero_count}
@@ -39,7 +39,7 @@ a_unit type =
     ∷ 0 ∷ []
 
 abbrev nothing_else : Sources
-nothing_else = record { strs = []; line_strs = []; offsets = [] }
+nothing_else = record { strs = []; line_strs = []; offsets = []; line = []; lists = [] }
 
 abbrev attr : ℕ → ℕ → ℤ → Value ℕ → Attr ℕ
 attr name form raw value = record { name = name; form = form; raw = raw; value = value }
@@ -65,7 +65,7 @@ unit_said at = record {
 -- what bytes of `.debug_info` say; whatever unfolds this unfolds all that is read with
 said_by : List ℕ → Result (List (DwUnit ℕ)) Fault
 unfolding units_at units_from unit_at header_reason tree_at zero_count front_at attrs_at siblings_at forest_at table_at declaration_at pair_at items_at items_from uleb_at groups_at shaped_at text_in form_rows units_meaning entries_meaning attrs_meaning meaning class_in class_rows without_siblings all_places places_in has first_raw
-said_by bytes = units_at table (given 12) 0 (input bytes 0) >>= λ units. units_meaning nothing_else (all_places units) units
+said_by bytes = units_at table (given 12) 0 (input bytes 0) >>= λ units. units_meaning (alone nothing_else units) units
 
 cycle : said_by (a_unit 0x1d ++ (a_unit 0x1d ++ a_unit 0x1d)) ≡ Ok (unit_said 0 ∷ unit_said 0x24 ∷ unit_said 0x48 ∷ [])
 unfolding said_by
@@ -90,7 +90,7 @@ later_fault = refl
 
 -- an attribute at 0x40 of `.debug_info`
 abbrev stored : ℕ → ℕ → Raw → RawAttr
-stored name form raw = record { at = 0x40; pair = record { name = name; form = form; constant = pos 0 }; raw = raw }
+stored name form raw = record { at = 0x40; end = 0x50; pair = record { name = name; form = form; constant = pos 0 }; raw = raw }
 
 abbrev number : ℕ → Raw
 number n = Number (pos n)
@@ -101,16 +101,17 @@ sources = record {
   strs = codes "long int" ++ 0 ∷ codes "int" ++ 0 ∷ [];
   line_strs = codes "a.c" ++ 0 ∷ [];
   offsets = 0x0c ∷ 0 ∷ 0 ∷ 0 ∷ 5 ∷ 0 ∷ 0 ∷ 0 ∷ 5 ∷ 0 ∷ 0 ∷ 0 ∷ 9 ∷ 0 ∷ 0 ∷ 0 ∷ [];
+  line = [];
+  lists = [];
 }
 
 -- a unit at 0x24 that has entries at 0x30 and 0x31, in a file with entries at 0x0c and 0x0d before them
-abbrev scope : List RawAttr → Scope
+abbrev scope : List RawAttr → Scope ℕ
 scope attrs = record {
-  sources = sources;
+  around = record { sources = sources; all = 0x0c ∷ 0x0d ∷ 0x30 ∷ 0x31 ∷ []; place = λ n. n; common = None };
   unit = 0x24;
   root = record { at = 0x30; tag = 0x11; children = true; attrs = attrs };
   own = 0x30 ∷ 0x31 ∷ [];
-  all = 0x0c ∷ 0x0d ∷ 0x30 ∷ 0x31 ∷ [];
 }
 
 -- what a stored value means in a unit whose root has these attributes
@@ -268,20 +269,21 @@ addr : means [] 0x11 0x01 (number 0x401000) ≡ Ok (only (Addr 0x401000))
 unfolding means
 addr = refl
 
--- file numbers, expressions and location lists aren't handled as long as the tool is being built
-decl_file : means [] 0x3a 0x0b (number 1) ≡ Err not_built
+-- in a unit without a line table 0 is no file, and no other number is one
+no_file : means [] 0x3a 0x0b (number 0) ≡ Ok (only (File None))
+unfolding means
+no_file = refl
+
+decl_file : means [] 0x3a 0x0b (number 1) ≡ Err (info_fault 0x40 BadFile)
 unfolding means
 decl_file = refl
 
-exprloc : means [] 0x02 0x18 (Bytes (0x9c ∷ [])) ≡ Err not_built
-unfolding means
-exprloc = refl
-
-location_list : means [] 0x02 0x17 (number 12) ≡ Err not_built
+-- a location list outside of the section, and one by a slot in a unit without a base
+location_list : means [] 0x02 0x17 (number 12) ≡ Err (info_fault 0x40 BadList)
 unfolding means
 location_list = refl
 
-loclistx : means [] 0x02 0x22 (number 0) ≡ Err not_built
+loclistx : means [] 0x02 0x22 (number 0) ≡ Err (info_fault 0x40 BadList)
 unfolding means
 loclistx = refl
 
@@ -297,7 +299,7 @@ unfolding attrs_mean
 sibling = refl
 
 -- the first of two faults
-first_of_two : attrs_mean (stored 0x03 0x0e (number 13) ∷ stored 0x02 0x18 (Bytes []) ∷ []) ≡ Err (info_fault 0x40 BadString)
+first_of_two : attrs_mean (stored 0x03 0x0e (number 13) ∷ stored 0x02 0x17 (number 1) ∷ []) ≡ Err (info_fault 0x40 BadString)
 unfolding attrs_mean
 first_of_two = refl
 

@@ -7,8 +7,8 @@ use Rattle.dwz_codes.specs.declared.shape.Shape.{Shape}
 use Rattle.dwz_codes.specs.declared.shape.Shape.TheVariants.{Nothing, Fixed1, Fixed2, Fixed3, Fixed4, Fixed8, Fixed16, Uleb, Sleb, ZeroEnded, Block1, Block2, Block4, BlockUleb, Address}
 use Rattle.dwz_codes.specs.Forms.{form_rows}
 use Rattle.dwz_codes.specs.Rows.{RowView, row_of}
-use Rattle.dwz_docs.specs.Meanings.{Class, ClassRow, Unread, class_in, class_of, class_rows}
-use Rattle.dwz_docs.specs.Values.{IsUnread, shape_in, shape_of}
+use Rattle.dwz_meanings.specs.Meanings.{Class, ClassRow, Unread, class_in, class_of, class_rows}
+use Rattle.dwz_docs.specs.Values.{IsUnread, shape_in, shape_of, written_rows}
 use Rattle.dwz_docs.proofs.PartLemmas.{chosen}
 
 -- ---- as tests
@@ -71,13 +71,13 @@ class_test _ = (λ is. absurd cc, λ e. absurd cc)
 
 -- the row of a form and the form's class agree
 abbrev agrees_with : RowView → Bool
-agrees_with r = same_test (is_read r.shape) (has_class (class_of r.code))
+agrees_with r = same_test (is_read (shape_of written_rows r.code)) (has_class (class_of r.code))
 
 -- a form that has a class has a row
 abbrev has_row : ClassRow → Bool
-has_row r = is_some (row_of form_rows r.form)
+has_row r = is_some (row_of written_rows r.form)
 
-rows_agree : list_all agrees_with form_rows ≡ true
+rows_agree : list_all agrees_with written_rows ≡ true
 unfolding form_rows class_rows class_in
 rows_agree = refl
 
@@ -117,19 +117,20 @@ is_there o = is_some o
 none_is_some : (o : Option RowView) → o ≡ None → is_there o ≡ true → ⊥
 none_is_some o none some = let off : false ≡ true = sym (ap is_there none) ∙ some in cc
 
-tests_agree : (form : ℕ) → is_read (shape_of form_rows form) ≡ has_class (class_of form)
-tests_agree form = by (row_of form_rows form) refl where
-  by : (o : Option RowView) → row_of form_rows form ≡ o → is_read (shape_in o) ≡ has_class (class_of form)
+tests_agree : (form : ℕ) → is_read (shape_of written_rows form) ≡ has_class (class_of form)
+tests_agree form = by (row_of written_rows form) refl where
+  by : (o : Option RowView) → row_of written_rows form ≡ o → is_read (shape_of written_rows form) ≡ has_class (class_of form)
   by (Some r) some =
-      let h = row_checked agrees_with form_rows form r rows_agree some in
-      same_is (is_read r.shape) (has_class (class_of r.code)) h.0 ∙ ap (λ (n : ℕ). has_class (class_of n)) h.1
+      let h = row_checked agrees_with written_rows form r rows_agree some in
+      let same = same_is (is_read (shape_of written_rows r.code)) (has_class (class_of r.code)) h.0 in
+      ap (λ (n : ℕ). is_read (shape_of written_rows n)) (sym h.1) ∙ same ∙ ap (λ (n : ℕ). has_class (class_of n)) h.1
   by None none = elim (class_checked has_row class_rows form rows_are_there) [
-    | inl unread ↦ ap has_class (sym unread)
-    | inr h ↦ absurd (none_is_some (row_of form_rows form) none (ap (λ (n : ℕ). is_some (row_of form_rows n)) (sym h.2) ∙ h.1))
+    | inl unread ↦ ap (λ (o : Option RowView). is_read (shape_in o)) none ∙ ap has_class (sym unread)
+    | inr h ↦ absurd (none_is_some (row_of written_rows form) none (ap (λ (n : ℕ). is_some (row_of written_rows n)) (sym h.2) ∙ h.1))
   ]
 
-pub classes : (form : ℕ) → IsUnread (shape_of form_rows form) ↔ (class_of form ≡ Unread)
+pub classes : (form : ℕ) → IsUnread (shape_of written_rows form) ↔ (class_of form ≡ Unread)
 classes form =
-    let shape = shape_test (shape_of form_rows form) in
+    let shape = shape_test (shape_of written_rows form) in
     let class = class_test (class_of form) in
     (λ is. class.1 (sym (tests_agree form) ∙ shape.0 is), λ unread. shape.1 (tests_agree form ∙ class.0 unread))

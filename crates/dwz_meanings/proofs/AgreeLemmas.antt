@@ -1,7 +1,7 @@
 -- Functions that agree with relations: a value is answered exactly where one relation holds, and a fault exactly where another does.
 use Rattle.std.proofs.Common.{◌≡◌, ◌↔◌, ◌⊎◌, Result, Ok, Err, refl, sym, ap, ◌∙◌, inl, inr}
 use Rattle.dwz_bytes.specs.Reading.{◌>>=◌}
-use Rattle.dwz_docs.specs.Meanings.{ExactlyOne}
+use Rattle.dwz_meanings.specs.Meanings.{ExactlyOne}
 use Rattle.dwz_docs.proofs.PartLemmas.{bind_err, bind_ok, same_error}
 
 pub record Agrees {X E : Type 0} (r : Result X E) (Means : X → Type 0) (IsFault : E → Type 0) : Type 0 where
@@ -66,6 +66,26 @@ and_with {X} {Y} {E} {r} {M} {F} {N} {G} a f others = record {
     λ holds. elim holds [
       | inl d ↦ let none = (a.err e).1 d in rw none refl
       | inr p ↦ let is = (a.ok p.0).1 p.1 in rw is (((others p.0).err e).1 p.2)
+    ],
+  );
+}
+
+-- the same, where the others are known to agree only behind what the step may answer
+pub and_given : {X Y E : Type 0} {r : Result X E} {M : X → Type 0} {F : E → Type 0} {N : X → Y → Type 0} {G : X → E → Type 0}
+    → Agrees r M F → (f : X → Result Y E) → ((x : X) → M x → Agrees (f x) (N x) (G x)) → Agrees (r >>= f) (Next M N) (OrNext F M G)
+and_given {X} {Y} {E} {r} {M} {F} {N} {G} a f others = record {
+  ok = λ y. (
+    λ is. let b = bind_ok r f y is in let m = (a.ok b.0).0 b.1 in (b.0, m, ((others b.0 m).ok y).0 b.2),
+    λ holds. let e = (a.ok holds.0).1 holds.1 in rw e (((others holds.0 holds.1).ok y).1 holds.2),
+  );
+  err = λ e. (
+    λ is. elim (bind_err r f e is) [
+      | inl d ↦ inl ((a.err e).0 d)
+      | inr b ↦ let m = (a.ok b.0).0 b.1 in inr (b.0, m, ((others b.0 m).err e).0 b.2)
+    ],
+    λ holds. elim holds [
+      | inl d ↦ let none = (a.err e).1 d in rw none refl
+      | inr p ↦ let is = (a.ok p.0).1 p.1 in rw is (((others p.0 p.1).err e).1 p.2)
     ],
   );
 }

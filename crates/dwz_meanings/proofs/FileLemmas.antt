@@ -8,19 +8,24 @@ use Rattle.dwz_model.specs.declared.fault.Refusal.{Refusal}
 use Rattle.dwz_bytes.specs.Input.{input}
 use Rattle.dwz_bytes.specs.Reading.{◌>>=◌}
 use Rattle.dwz_docs.specs.declared.elf.FileHeader.{FileHeader}
-use Rattle.dwz_docs.specs.Documents.{Doc, DwUnit}
+use Rattle.dwz_meanings.specs.Documents.{Doc, DwUnit}
 use Rattle.dwz_docs.specs.ElfFaults
 use Rattle.dwz_docs.specs.ElfFaults.{Before, Either, InOrder, IsElfFault, IsFirstElfFault, file_fault}
 use Rattle.dwz_docs.specs.ElfHeaders.{file_header}
 use Rattle.dwz_docs.specs.ElfNames.{sections_in}
 use Rattle.dwz_docs.specs.ElfReading.{elf_fault}
 use Rattle.dwz_docs.specs.Entries.{Mode, given, unless_so}
-use Rattle.dwz_docs.specs.Files.{First, IsFileFault, IsForMachine, IsNotTooLong, IsOtherMachine, IsRefusal, IsTooLong, Limits, ReadAll, Reads, debug_abbrev, debug_info, doc_with, ends_at, file_meaning, files_meaning, in_file, is_other_machine, is_too_long, limits_after, longest_file, machine_at, machine_of, sources_of}
-use Rattle.dwz_docs.specs.Meanings.{HaveUnitFault, MeanUnits, all_places, units_meaning}
+use Rattle.dwz_meanings.specs.Files.{First, HaveGoodRanges, IsFileFault, IsForMachine, IsNotTooLong, IsOtherMachine, IsRefusal, IsTooLong, Limits, ReadAll, Reads, around_of, debug_abbrev, debug_aranges, debug_info, doc_with, ends_at, file_meaning, files_meaning, in_file, is_other_machine, is_place_of, is_too_long, limits_after, lists_said, longest_file, machine_at, machine_of, sets_said, units_said}
+use Rattle.dwz_meanings.specs.Meanings.{HaveUnitFault, MeanUnits}
+use Rattle.dwz_meanings.specs.NamedLists.{lists_of_units}
+use Rattle.dwz_meanings.specs.Ranges.{IsSetsFault, RangeSet, SpellsSets}
+use Rattle.dwz_meanings.specs.Shared.{IsSharedFault, NoneShared}
 use Rattle.dwz_docs.specs.Units.{IsUnitsFault, RawUnit, SpellsUnits, units_at}
-use Rattle.dwz_docs.proofs.AgreeLemmas.{Agrees, Made, Next, OrNext, agrees_err, agrees_ok, and_with, in_words, then_made}
+use Rattle.dwz_meanings.proofs.AgreeLemmas.{Agrees, Made, Next, OrNext, agrees_err, agrees_ok, and_with, in_words, then_made}
 use Rattle.dwz_docs.proofs.ElfFaultLemmas.{elf_is_sound}
-use Rattle.dwz_docs.proofs.MeaningLemmas.{units_agree}
+use Rattle.dwz_meanings.proofs.MeaningLemmas.{units_agree}
+use Rattle.dwz_meanings.proofs.RangeLemmas.{sets_agree}
+use Rattle.dwz_meanings.proofs.SharedLemmas.{shared_agrees}
 use Rattle.dwz_docs.proofs.UnitListLemmas.{units_again, units_fault, units_fault_again, units_found}
 
 -- ---- the first ELF fault is one
@@ -145,7 +150,7 @@ abbrev Spelled : Limits → List ℕ → List RawUnit → Type 0
 Spelled l bytes units = SpellsUnits (debug_abbrev bytes) (given l.entries) 0 units 0 (debug_info bytes)
 
 abbrev Mean : List ℕ → List RawUnit → List (DwUnit ℕ) → Type 0
-Mean bytes units = MeanUnits (sources_of bytes) (all_places units) units
+Mean bytes units = MeanUnits (around_of bytes units) units
 
 -- reading units agrees with how they are spelled
 units_spelled : (abbrevs : List ℕ) (mode : Mode) (bytes : List ℕ)
@@ -155,16 +160,38 @@ units_spelled abbrevs mode bytes = record {
   err = λ f. (units_fault abbrevs mode 0 (input bytes 0) f, units_fault_again abbrevs mode 0 0 bytes f);
 }
 
-abbrev in_units : List ℕ → List RawUnit → Result Read Fault
-in_units bytes units = units_meaning (sources_of bytes) (all_places units) units >>= doc_with bytes units
+-- what the sets of address ranges and the lists say
+abbrev Sets : List ℕ → List RawUnit → List RangeSet → Type 0
+Sets bytes units sets = SpellsSets (is_place_of units) sets 0 (debug_aranges bytes)
+
+abbrev Free : List ℕ → List RawUnit → Type 0
+Free bytes units = NoneShared (lists_of_units (around_of bytes units) units)
+
+sets_agreed : (bytes : List ℕ) (units : List RawUnit) → Agrees (sets_said bytes units) (Sets bytes units) (IsSetsFault (is_place_of units) 0 (debug_aranges bytes))
+sets_agreed bytes units = sets_agree (is_place_of units) (input (debug_aranges bytes) 0)
+
+-- what is behind the units
+abbrev Behind-units : List ℕ → List RawUnit → Read → Type 0
+Behind-units bytes units = Next (Mean bytes units) (λ said. Next (Sets bytes units) (λ sets. Next (λ (u : Unit {0}). Free bytes units) (λ good x. x ≡ doc_of bytes units said)))
+
+abbrev Behind-fault : List ℕ → List RawUnit → Fault → Type 0
+Behind-fault bytes units =
+    OrNext (HaveUnitFault (around_of bytes units) units) (Mean bytes units)
+    (λ said. OrNext (IsSetsFault (is_place_of units) 0 (debug_aranges bytes)) (Sets bytes units)
+    (λ sets. OrNext (IsSharedFault (lists_of_units (around_of bytes units) units)) (λ (u : Unit {0}). Free bytes units) (λ good f. ⊥)))
+
+behind_agrees : (bytes : List ℕ) (units : List RawUnit) → Agrees (units_said bytes units) (Behind-units bytes units) (Behind-fault bytes units)
+behind_agrees bytes units =
+    and_with (units_agree (around_of bytes units) units) (λ said. sets_said bytes units >>= λ sets. lists_said bytes units >>= λ good. doc_with bytes units said)
+    (λ said. and_with (sets_agreed bytes units) (λ sets. lists_said bytes units >>= λ good. doc_with bytes units said)
+    (λ sets. and_with (shared_agrees (lists_of_units (around_of bytes units) units)) (λ good. doc_with bytes units said)
+    (λ good. agrees_ok (doc_of bytes units said))))
 
 units_then : (l : Limits) (bytes : List ℕ)
-    → Agrees (units_at (debug_abbrev bytes) (given l.entries) 0 (input (debug_info bytes) 0) >>= in_units bytes)
-    (Next (Spelled l bytes) (λ units. Made (Mean bytes units) (doc_of bytes units)))
-    (OrNext (IsUnitsFault (debug_abbrev bytes) (given l.entries) 0 0 (debug_info bytes)) (Spelled l bytes) (λ units. HaveUnitFault (sources_of bytes) (all_places units) units))
-units_then l bytes =
-    and_with (units_spelled (debug_abbrev bytes) (given l.entries) (debug_info bytes)) (in_units bytes)
-    (λ units. then_made (units_agree (sources_of bytes) (all_places units) units) (doc_of bytes units))
+    → Agrees (units_at (debug_abbrev bytes) (given l.entries) 0 (input (debug_info bytes) 0) >>= units_said bytes)
+    (Next (Spelled l bytes) (Behind-units bytes))
+    (OrNext (IsUnitsFault (debug_abbrev bytes) (given l.entries) 0 0 (debug_info bytes)) (Spelled l bytes) (Behind-fault bytes))
+units_then l bytes = and_with (units_spelled (debug_abbrev bytes) (given l.entries) (debug_info bytes)) (units_said bytes) (behind_agrees bytes)
 
 pub file_agrees : (l : Limits) (bytes : List ℕ) → Agrees (file_meaning l bytes) (λ x. Reads l bytes x.0 x.1) (IsFileFault l bytes)
 unfolding file_meaning
@@ -174,30 +201,65 @@ file_agrees l bytes =
     (and_unless (machine_agrees l.machine (machine_of bytes)) after_machine (units_then l bytes))))
     means faults where
       after_machine : Unit {0} → Result Read Fault
-      after_machine machine = units_at (debug_abbrev bytes) (given l.entries) 0 (input (debug_info bytes) 0) >>= in_units bytes
+      after_machine machine = units_at (debug_abbrev bytes) (given l.entries) 0 (input (debug_info bytes) 0) >>= units_said bytes
 
       after_elf : Unit {0} → Result Read Fault
       after_elf elf = unless_so (is_other_machine l.machine (machine_of bytes)) (file_fault Machine machine_at) >>= after_machine
 
       means : (x : Read)
-          → (IsNotTooLong l bytes × (((g : Fault) → IsElfFault bytes g → ⊥) × (IsForMachine l.machine (machine_of bytes) × Next (Spelled l bytes) (λ units. Made (Mean bytes units) (doc_of bytes units)) x)))
+          → (IsNotTooLong l bytes × (((g : Fault) → IsElfFault bytes g → ⊥) × (IsForMachine l.machine (machine_of bytes) × Next (Spelled l bytes) (Behind-units bytes) x)))
           ↔ Reads l bytes x.0 x.1
       means x = (
         λ h.
             let n = h.1.1.1 in
+            let raw = n.0 in
             let m = n.2 in
-            let units : x.0 ≡ n.0 = ap (λ (y : Read). y.0) m.2 in
-            let doc : x.1 ≡ (doc_of bytes n.0 m.0).1 = ap (λ (y : Read). y.1) m.2 in
-            record {
+            let said = m.0 in
+            let sets = m.2.0 in
+            let free : Free bytes raw = m.2.2.1 in
+            let is : x ≡ doc_of bytes raw said = m.2.2.2 in
+            let reads : Reads l bytes raw (doc_of bytes raw said).1 = record {
               size = h.0;
               elf = h.1.0;
               same_machine = h.1.1.0;
-              spelled = subst (Spelled l bytes) (sym units) n.1;
-              means = subst (λ (y : Read). Mean bytes y.0 y.1.units) (sym m.2) m.1;
-              machine = ap (λ (d : Doc ℕ). d.machine) doc;
-              ranges = tt;
-            },
-        λ r. (r.size, (r.elf, (r.same_machine, (x.0, r.spelled, (x.1.units, r.means, λ i. (x.0, record { machine = r.machine i; units = x.1.units })))))),
+              spelled = n.1;
+              means = m.1;
+              machine = refl;
+              ranges = record { sets = sets; spelled = m.2.1 };
+              lists = free;
+            } in
+            subst (λ (y : Read). Reads l bytes y.0 y.1) (sym is) reads,
+        λ r. (r.size, (r.elf, (r.same_machine, (x.0, r.spelled, (x.1.units, r.means, (r.ranges.sets, r.ranges.spelled, (tt, r.lists, λ i. (x.0, record { machine = r.machine i; units = x.1.units })))))))),
+      )
+
+      -- what is behind the units, in the words of the definition
+      behind : (units : List RawUnit) (f : Fault) → Behind-fault bytes units f
+          ↔ (HaveUnitFault (around_of bytes units) units f
+          ⊎ (((said : List (DwUnit ℕ)) × MeanUnits (around_of bytes units) units said)
+          × (IsSetsFault (is_place_of units) 0 (debug_aranges bytes) f
+          ⊎ (HaveGoodRanges bytes units × IsSharedFault (lists_of_units (around_of bytes units) units) f))))
+      behind units f = (
+        λ h. elim h [
+          | inl is ↦ inl is
+          | inr p ↦ inr (
+            (p.0, p.1),
+            elim p.2 [
+              | inl is ↦ inl is
+              | inr q ↦ inr (record { sets = q.0; spelled = q.1 }, elim q.2 [ inl is ↦ is | inr r ↦ absurd r.2 ])
+            ],
+          )
+        ],
+        λ h. elim h [
+          | inl is ↦ inl is
+          | inr p ↦ inr (
+            p.0.0,
+            p.0.1,
+            elim p.1 [
+              | inl is ↦ inl is
+              | inr q ↦ inr (q.0.sets, q.0.spelled, inl q.1)
+            ],
+          )
+        ],
       )
 
       faults : (f : Fault)
@@ -207,7 +269,7 @@ file_agrees l bytes =
           ⊎ (((g : Fault) → IsElfFault bytes g → ⊥)
           × (((f ≡ file_fault Machine machine_at) × IsOtherMachine l.machine (machine_of bytes))
           ⊎ (IsForMachine l.machine (machine_of bytes)
-          × OrNext (IsUnitsFault (debug_abbrev bytes) (given l.entries) 0 0 (debug_info bytes)) (Spelled l bytes) (λ units. HaveUnitFault (sources_of bytes) (all_places units) units) f))))))
+          × OrNext (IsUnitsFault (debug_abbrev bytes) (given l.entries) 0 0 (debug_info bytes)) (Spelled l bytes) (Behind-fault bytes) f))))))
           ↔ IsFileFault l bytes f
       faults f = (
         λ h. elim h [
@@ -220,7 +282,7 @@ file_agrees l bytes =
                 q.0,
                 elim q.1 [
                   | inl is ↦ inl is
-                  | inr m ↦ inr (m.0, elim m.1 [ inl is ↦ inl is | inr u ↦ inr (inl (record { units = u.0; spelled = u.1; fault = u.2 })) ])
+                  | inr m ↦ inr (m.0, elim m.1 [ inl is ↦ inl is | inr u ↦ inr (record { units = u.0; spelled = u.1; fault = (behind u.0 f).0 u.2 }) ])
                 ],
               )
             ],
@@ -236,7 +298,7 @@ file_agrees l bytes =
                 q.0,
                 elim q.1 [
                   | inl is ↦ inl is
-                  | inr m ↦ inr (m.0, elim m.1 [ inl is ↦ inl is | inr u ↦ elim u [ inl v ↦ inr (v.units, v.spelled, v.fault) | inr none ↦ absurd none ] ])
+                  | inr m ↦ inr (m.0, elim m.1 [ inl is ↦ inl is | inr u ↦ inr (u.units, u.spelled, (behind u.units f).1 u.fault) ])
                 ],
               )
             ],

@@ -1,8 +1,8 @@
-use Rattle.dwz_docs.specs.Meanings.{units_meaning}
-use Rattle.dwz_docs.proofs.AgreeLemmas.{just_one}
-use Rattle.dwz_docs.proofs.ClassLemmas.{classes}
-use Rattle.dwz_docs.proofs.MeaningLemmas.{units_agree, value_agrees}
-use Rattle.dwz_docs.proofs.meanings.meaning_laws.Goals as goal
+use Rattle.dwz_meanings.specs.Meanings.{units_meaning}
+use Rattle.dwz_meanings.proofs.AgreeLemmas.{just_one}
+use Rattle.dwz_meanings.proofs.ClassLemmas.{classes}
+use Rattle.dwz_meanings.proofs.MeaningLemmas.{units_agree, value_agrees}
+use Rattle.dwz_meanings.proofs.meanings.meaning_laws.Goals as goal
 
 pub returns-clause-found : goal.returns-clause-found
 returns-clause-found c s a v = ((value_agrees s a).ok v).0
@@ -14,16 +14,16 @@ pub returns-clause-fault : goal.returns-clause-fault
 returns-clause-fault c s a = (value_agrees s a).err
 
 pub returns-clause-units_found : goal.returns-clause-units_found
-returns-clause-units_found c sources all units v = ((units_agree sources all units).ok v).0
+returns-clause-units_found c around units v = ((units_agree around units).ok v).0
 
 pub returns-clause-units_again : goal.returns-clause-units_again
-returns-clause-units_again c sources all units v = ((units_agree sources all units).ok v).1
+returns-clause-units_again c around units v = ((units_agree around units).ok v).1
 
 pub returns-clause-units_fault : goal.returns-clause-units_fault
-returns-clause-units_fault c sources all units = (units_agree sources all units).err
+returns-clause-units_fault c around units = (units_agree around units).err
 
 pub returns-clause-one : goal.returns-clause-one
-returns-clause-one c sources all units = just_one (units_meaning sources all units) (units_agree sources all units)
+returns-clause-one c around units = just_one (units_meaning around units) (units_agree around units)
 
 pub returns-clause-classes : goal.returns-clause-classes
 returns-clause-classes c = classes

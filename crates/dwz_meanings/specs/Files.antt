@@ -1,25 +1,24 @@
 -- Files: what the debug information of files says, or the first fault. One file after the other, and in a file the ELF faults come
 -- before those of the units, and those before the faults of meanings.
-use Rattle.std.specs.Prelude.{◌≡◌, ◌≢◌, ◌⊎◌, ℕ, suc, ◌-◌, ◌^◌, ◌<◌, ◌≤◌, Bool, false, List, [], ◌∷◌, length, take, drop, Option, Some, None, Result, Ok, Err, ◌==◌, ◌||◌, not, nat_lt}
+use Rattle.std.specs.Prelude.{◌≡◌, ◌≢◌, ◌⊎◌, ℕ, suc, ◌-◌, ◌^◌, ◌<◌, ◌≤◌, Bool, false, List, [], ◌∷◌, ◌++◌, length, take, drop, Option, Some, None, Result, Ok, Err, ◌==◌, ◌||◌, not, nat_lt}
 use Rattle.dwz_model.specs.declared.fault.Fault.{Fault}
 use Rattle.dwz_model.specs.declared.fault.Reason.TheVariants.{FileSize, Machine}
 use Rattle.dwz_model.specs.declared.fault.Refusal.{Refusal}
 use Rattle.dwz_bytes.specs.Input.{input}
 use Rattle.dwz_bytes.specs.Reading.{◌>>=◌}
-use Rattle.dwz_docs.specs.Documents.{Doc, DwUnit}
+use Rattle.dwz_meanings.specs.Documents.{Doc, DwUnit}
 use Rattle.dwz_docs.specs.ElfFaults.{IsElfFault, IsFirstElfFault, file_fault}
 use Rattle.dwz_docs.specs.ElfHeaders.{file_header}
 use Rattle.dwz_docs.specs.ElfNames.{sections_in}
-use Rattle.dwz_docs.specs.ElfReading.{elf_fault, section_range}
+use Rattle.dwz_docs.specs.ElfReading.{bytes_in, elf_fault, section_range}
 use Rattle.dwz_docs.specs.Entries.{given, unless_so}
-use Rattle.dwz_docs.specs.Meanings.{HaveUnitFault, MeanUnits, Sources, all_places, units_meaning}
-use Rattle.dwz_docs.specs.Units.{IsUnitsFault, RawUnit, SpellsUnits, entries_in, units_at}
+use Rattle.dwz_meanings.specs.Meanings.{Around, HaveUnitFault, MeanUnits, Sources, alone, has, units_meaning}
+use Rattle.dwz_meanings.specs.NamedLists.{lists_of_units}
+use Rattle.dwz_meanings.specs.Ranges.{IsSetsFault, RangeSet, SpellsSets, sets_at}
+use Rattle.dwz_meanings.specs.Shared.{IsSharedFault, NoneShared, none_shared}
+use Rattle.dwz_docs.specs.Units.{CompileUnit, IsUnitsFault, PartialUnit, RawKind, RawUnit, TypeUnit, SpellsUnits, entries_in, units_at}
 
 -- ---- the sections of a file
-
-abbrev pub bytes_in : List ℕ → Option (ℕ × ℕ) → List ℕ
-bytes_in bytes None = []
-bytes_in bytes (Some range) = take range.1 (drop range.0 bytes)
 
 -- the bytes of the section with a code; one that isn't there counts as empty
 unfoldable pub section_of : List ℕ → ℕ → List ℕ
@@ -32,7 +31,20 @@ abbrev pub debug_abbrev : List ℕ → List ℕ
 debug_abbrev bytes = section_of bytes 2
 
 abbrev pub sources_of : List ℕ → Sources
-sources_of bytes = record { strs = section_of bytes 3; line_strs = section_of bytes 4; offsets = section_of bytes 5 }
+sources_of bytes = record {
+  strs = section_of bytes 3;
+  line_strs = section_of bytes 4;
+  offsets = section_of bytes 5;
+  line = section_of bytes 6;
+  lists = section_of bytes 7;
+}
+
+abbrev pub debug_aranges : List ℕ → List ℕ
+debug_aranges bytes = section_of bytes 8
+
+-- what surrounds the units of a file
+abbrev pub around_of : List ℕ → List RawUnit → Around ℕ
+around_of bytes units = alone (sources_of bytes) units
 
 abbrev pub machine_of : List ℕ → ℕ
 machine_of bytes = (file_header bytes).machine
@@ -72,23 +84,39 @@ pub record IsNotTooLong (l : Limits) (bytes : List ℕ) : Type 0 where
   pub file : length bytes ≤ longest_file
   pub files : length bytes ≤ l.bytes
 
--- The sets of `.debug_aranges` (6.1.2) have their place here, and location lists that share operands; nothing is asked of them yet,
--- and no fault is one of theirs.
-abbrev pub HaveGoodRanges : List ℕ → Type 0
-HaveGoodRanges bytes = Unit {0}
+-- where the units begin that aren't partial
+abbrev pub place_if_whole : RawKind → ℕ → List ℕ
+place_if_whole CompileUnit at = at ∷ []
+place_if_whole (TypeUnit signature type_offset) at = at ∷ []
+place_if_whole PartialUnit at = []
 
-abbrev pub IsRangesFault : List ℕ → Fault → Type 0
-IsRangesFault bytes f = ⊥
+unfoldable pub unit_places : List RawUnit → List ℕ
+unit_places [] = []
+unit_places (u ∷ units) = place_if_whole u.kind u.at ++ unit_places units
 
--- the units are spelled, and mean those of the document
+-- it is one of them
+abbrev pub is_place_of : List RawUnit → ℕ → Bool
+is_place_of units n = has n (unit_places units)
+
+-- each set of address ranges is of one of the units
+pub record HaveGoodRanges (bytes : List ℕ) (units : List RawUnit) : Type 0 where
+  pub sets : List RangeSet
+  pub spelled : SpellsSets (is_place_of units) sets 0 (debug_aranges bytes)
+
+abbrev pub ShareNoLists : List ℕ → List RawUnit → Type 0
+ShareNoLists bytes units = NoneShared (lists_of_units (around_of bytes units) units)
+
+-- the units are spelled, and mean those of the document; each set of address ranges is of one of them; and no location list shares a
+-- byte with an operand of another
 pub record Reads (l : Limits) (bytes : List ℕ) (units : List RawUnit) (doc : Doc ℕ) : Type 0 where
   pub size : IsNotTooLong l bytes
   pub elf : (f : _) → IsElfFault bytes f → ⊥
   pub same_machine : IsForMachine l.machine (machine_of bytes)
   pub spelled : SpellsUnits (debug_abbrev bytes) (given l.entries) 0 units 0 (debug_info bytes)
-  pub means : MeanUnits (sources_of bytes) (all_places units) units doc.units
+  pub means : MeanUnits (around_of bytes units) units doc.units
   pub machine : doc.machine ≡ machine_of bytes
-  pub ranges : HaveGoodRanges bytes
+  pub ranges : HaveGoodRanges bytes units
+  pub lists : ShareNoLists bytes units
 
 -- each file says what its document does
 abbrev pub ReadAll : Limits → List (List ℕ) → List (Doc ℕ) → Type 0
@@ -116,6 +144,16 @@ is_other_machine (Some other) machine = not (machine == other)
 abbrev pub doc_with : List ℕ → List RawUnit → List (DwUnit ℕ) → Result (List RawUnit × Doc ℕ) Fault
 doc_with bytes raw units = Ok (raw, record { machine = machine_of bytes; units = units })
 
+-- the sets of address ranges come behind the meanings, and then the lists
+abbrev pub sets_said : List ℕ → List RawUnit → Result (List RangeSet) Fault
+sets_said bytes units = sets_at (is_place_of units) (input (debug_aranges bytes) 0)
+
+abbrev pub lists_said : List ℕ → List RawUnit → Result (Unit {0}) Fault
+lists_said bytes units = none_shared (lists_of_units (around_of bytes units) units)
+
+abbrev pub units_said : List ℕ → List RawUnit → Result (List RawUnit × Doc ℕ) Fault
+units_said bytes units = units_meaning (around_of bytes units) units >>= λ said. sets_said bytes units >>= λ sets. lists_said bytes units >>= λ good. doc_with bytes units said
+
 -- the units of a file as they are stored, and its document
 unfoldable pub file_meaning : Limits → List ℕ → Result (List RawUnit × Doc ℕ) Fault
 file_meaning l bytes =
@@ -123,7 +161,7 @@ file_meaning l bytes =
     >>= λ size. ends_at (elf_fault bytes)
     >>= λ elf. unless_so (is_other_machine l.machine (machine_of bytes)) (file_fault Machine machine_at)
     >>= λ machine. units_at (debug_abbrev bytes) (given l.entries) 0 (input (debug_info bytes) 0)
-    >>= λ units. units_meaning (sources_of bytes) (all_places units) units >>= doc_with bytes units
+    >>= units_said bytes
 
 abbrev pub in_file : {X : Type 0} → ℕ → Result X Fault → Result X Refusal
 in_file number (Ok x) = Ok x
@@ -148,14 +186,19 @@ abbrev pub IsOtherMachine : Option ℕ → ℕ → Type 0
 IsOtherMachine None machine = ⊥
 IsOtherMachine (Some other) machine = machine ≢ other
 
--- the units are spelled, and the first of them that means nothing has that fault
+-- the units are spelled, and the first of them that means nothing has that fault; or all mean something, and the first bad set of
+-- address ranges has it; or there is none, and it is placed at the first operand that shares a byte
 pub record HasMeaningFault (l : Limits) (bytes : List ℕ) (f : Fault) : Type 0 where
   pub units : List RawUnit
   pub spelled : SpellsUnits (debug_abbrev bytes) (given l.entries) 0 units 0 (debug_info bytes)
-  pub fault : HaveUnitFault (sources_of bytes) (all_places units) units f
+  pub fault : HaveUnitFault (around_of bytes units) units f
+      ⊎ (((said : List (DwUnit ℕ)) × MeanUnits (around_of bytes units) units said)
+      × (IsSetsFault (is_place_of units) 0 (debug_aranges bytes) f
+      ⊎ (HaveGoodRanges bytes units × IsSharedFault (lists_of_units (around_of bytes units) units) f)))
 
 -- The first fault of a file: it is too long; else the first fault of the ELF file; else it is for another machine than the files
--- before it; else the first fault of the units; else the first of their meanings; else one of the address ranges.
+-- before it; else the first fault of the units; else the first of their meanings; else that of the first bad set of address ranges;
+-- else that of the first shared list.
 abbrev pub IsFileFault : Limits → List ℕ → Fault → Type 0
 IsFileFault l bytes f =
     ((f ≡ file_fault FileSize 0) × IsTooLong l bytes)
@@ -164,7 +207,7 @@ IsFileFault l bytes f =
     ⊎ (((g : Fault) → IsElfFault bytes g → ⊥)
     × (((f ≡ file_fault Machine machine_at) × IsOtherMachine l.machine (machine_of bytes))
     ⊎ (IsForMachine l.machine (machine_of bytes)
-    × (IsUnitsFault (debug_abbrev bytes) (given l.entries) 0 0 (debug_info bytes) f ⊎ (HasMeaningFault l bytes f ⊎ IsRangesFault bytes f)))))))
+    × (IsUnitsFault (debug_abbrev bytes) (given l.entries) 0 0 (debug_info bytes) f ⊎ HasMeaningFault l bytes f))))))
 
 -- a fault of the file with that number
 pub record IsRefusal (l : Limits) (number : ℕ) (bytes : List ℕ) (r : Refusal) : Type 0 where

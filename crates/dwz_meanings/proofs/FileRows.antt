@@ -8,14 +8,17 @@ use Rattle.dwz_bytes.specs.Reading.{groups_at, uleb_at}
 use Rattle.dwz_bytes.specs.Spelling.{le_bytes}
 use Rattle.dwz_codes.specs.Forms.{form_rows}
 use Rattle.dwz_docs.specs.Abbrevs.{declaration_at, pair_at, table_at}
-use Rattle.dwz_docs.specs.Documents.{Compile, Doc, Num, Text, only, ref}
+use Rattle.dwz_meanings.specs.Documents.{Compile, Doc, Num, Text, only, ref}
 use Rattle.dwz_docs.specs.ElfHeaders.{headers_from, number_at}
 use Rattle.dwz_docs.specs.ElfNames.{name_in}
 use Rattle.dwz_docs.specs.ElfReading.{elf_fault, field_fault, first_in, first_other, header_fault, identification_fault, missing_fault, names_fault, section_range, unkept_fault}
 use Rattle.dwz_docs.specs.Entries.{attrs_at, front_at}
-use Rattle.dwz_docs.specs.Files.{Limits, file_meaning, files_meaning, longest_file, longest_files, most_entries, no_files_before, section_of}
+use Rattle.dwz_meanings.specs.Files.{Limits, file_meaning, files_meaning, longest_file, longest_files, most_entries, no_files_before, section_of, unit_places}
 use Rattle.dwz_docs.specs.Lists.{items_at, items_from}
-use Rattle.dwz_docs.specs.Meanings.{all_places, attrs_meaning, class_in, class_rows, entries_meaning, first_raw, has, meaning, places_in, units_meaning, without_siblings}
+use Rattle.dwz_meanings.specs.Meanings.{all_places, attrs_meaning, class_in, class_rows, entries_meaning, first_raw, has, meaning, places_in, units_meaning, without_siblings}
+use Rattle.dwz_meanings.specs.NamedLists.{list_of_attr, lists_of_attrs, lists_of_entries, lists_of_units}
+use Rattle.dwz_meanings.specs.Sequences.{all_at, all_from}
+use Rattle.dwz_meanings.specs.Shared.{least_place, none_shared, operands_in_lists}
 use Rattle.dwz_docs.specs.Texts.{text_in}
 use Rattle.dwz_docs.specs.Trees.{End, Entry, forest_at, siblings_at}
 use Rattle.dwz_docs.specs.Units.{entries_in, header_reason, tree_at, unit_at, units_at, units_from, zero_count}
@@ -81,7 +84,7 @@ doc_said machine = record {
 
 -- what files say behind others; whatever unfolds this unfolds all that is read with
 said_behind : Limits → List (List ℕ) → Result (List (Doc ℕ)) Refusal
-unfolding files_meaning file_meaning section_of longest_file longest_files most_entries headers_from number_at name_in elf_fault field_fault first_in first_other header_fault identification_fault missing_fault names_fault section_range unkept_fault units_at units_from unit_at entries_in header_reason tree_at zero_count front_at attrs_at siblings_at forest_at table_at declaration_at pair_at items_at items_from uleb_at groups_at shaped_at text_in form_rows units_meaning entries_meaning attrs_meaning meaning class_in class_rows without_siblings all_places places_in has first_raw file_of lib.Count.ones
+unfolding files_meaning file_meaning section_of longest_file longest_files most_entries headers_from number_at name_in elf_fault field_fault first_in first_other header_fault identification_fault missing_fault names_fault section_range unkept_fault units_at units_from unit_at entries_in header_reason tree_at zero_count front_at attrs_at siblings_at forest_at table_at declaration_at pair_at items_at items_from uleb_at groups_at shaped_at text_in form_rows units_meaning entries_meaning attrs_meaning meaning class_in class_rows without_siblings all_places places_in has first_raw file_of unit_places all_at all_from none_shared least_place operands_in_lists lists_of_units lists_of_entries lists_of_attrs list_of_attr lib.Count.ones
 said_behind l files = files_meaning l 0 files
 
 abbrev refused : ℕ → ℕ → ℕ → Reason → Result (List (Doc ℕ)) Refusal

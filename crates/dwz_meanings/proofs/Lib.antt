@@ -1,0 +1,18 @@
+pub mod AgreeLemmas
+pub mod SequenceLemmas
+pub mod FieldLemmas
+pub mod ExprLemmas
+pub mod LocListLemmas
+pub mod LineTableLemmas
+pub mod DecideLemmas
+pub mod RangeLemmas
+pub mod SharedLemmas
+pub mod PassLemmas
+pub mod MeaningLemmas
+pub mod ClassLemmas
+pub mod NamedLemmas
+pub mod WidthLemmas
+pub mod FileLemmas
+mod ExprRows
+mod MeaningRows
+mod FileRows

@@ -1,0 +1,10 @@
+pub mod Documents
+pub mod Sequences
+pub mod Exprs
+pub mod LocLists
+pub mod LineTables
+pub mod Ranges
+pub mod Shared
+pub mod Meanings
+pub mod NamedLists
+pub mod Files

@@ -1,0 +1,13 @@
+//! What holds between line tables that stand in `.debug_line`, and how they are read.
+
+ghost use Rattle.std.specs.Prelude.{◌≡◌, ◌↔◌, ℕ, List, Ok, Err};
+ghost use Rattle.dwz_model.specs.declared.fault.Fault.{Fault};
+ghost use Rattle.dwz_meanings.specs.LineTables.{FileTable, IsFileTable, IsNoFileTable, TextSections, bad_line_table, file_table_at};
+
+/// Line tables: the paths that are answered are those of the table that stands at the place; there is one fault, exactly where
+/// none stands there; and never two tables do.
+pub fn line_laws()
+    ensures read { (s : TextSections) (line : List ℕ) (place : ℕ) (t : FileTable) → (file_table_at s line place ≡ Ok t) ↔ IsFileTable s line place t }
+    ensures fault { (s : TextSections) (line : List ℕ) (place : ℕ) (f : Fault) → (file_table_at s line place ≡ Err f) ↔ ((f ≡ bad_line_table place) × IsNoFileTable s line place) }
+    ensures one { (s : TextSections) (line : List ℕ) (place : ℕ) (t u : FileTable) → IsFileTable s line place t → IsFileTable s line place u → t ≡ u }
+{}

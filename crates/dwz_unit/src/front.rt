@@ -108,9 +108,9 @@ pub(crate) fn pass_front(
     }))
 }
 
-// A value that was read before.
+/// A value that was read before.
 #[inline(always)]
-fn known_value<'a>(cursor: &mut Cursor<'a>, pair: &Pair) -> Raw<'a>
+pub fn known_value<'a>(cursor: &mut Cursor<'a>, pair: &Pair) -> Raw<'a>
     requires { IsOk (value_at form_rows pair.now cursor.old) }
     ensures value { value_at form_rows pair.now cursor.old ≡ Ok (raw_view result, cursor.new) }
     ensures writable { HasSpelling pair.now.form (raw_view result) }
@@ -130,10 +130,10 @@ pub(crate) fn value_of<'a>(
     cursor: &mut Cursor<'a>,
 ) -> RawAttr<'a>
     requires number { number < length pairs.now }
-    requires read { IsOk (attrs_at entry pairs.now cursor.old) }
+    requires read { IsOk (attrs_at form_rows entry pairs.now cursor.old) }
     requires short { cursor.old.at + length cursor.old.rest < 2 ^ 32 }
     requires plain { All IsPlainPair pairs.now }
-    ensures attr { IfOk (attrs_at entry pairs.now cursor.old) (λ x. slice_get x.0 number ≡ Some (attr_view result)) }
+    ensures attr { IfOk (attrs_at form_rows entry pairs.now cursor.old) (λ x. slice_get x.0 number ≡ Some (attr_view result)) }
     ensures pair { IsPlainPair result.pair }
     ensures writable { HasSpelling result.pair.form (raw_view result.raw) }
 {
@@ -143,5 +143,6 @@ pub(crate) fn value_of<'a>(
     let at = cursor.at() as u32;
     let pair = pairs[number];
     let raw = known_value(cursor, &pair);
-    RawAttr { at, pair, raw }
+    let end = cursor.at() as u32;
+    RawAttr { at, end, pair, raw }
 }

@@ -16,6 +16,7 @@ pub mod UnitLemmas
 pub mod UnitListLemmas
 pub mod UnitReads
 mod UnitRows
+mod ModeRows
 pub mod FitLemmas
 pub mod OrderLemmas
 pub mod CodeLemmas

@@ -12,3 +12,4 @@ pub mod Trees
 pub mod ElfLayout
 pub mod Entries
 pub mod Units
+pub mod Modes

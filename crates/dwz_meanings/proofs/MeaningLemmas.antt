@@ -11,7 +11,7 @@ use Rattle.dwz_docs.specs.Entries.{RawAttr, RawEntry}
 use Rattle.dwz_docs.specs.Faults.{info_fault}
 use Rattle.dwz_meanings.specs.Exprs.{IsExprFault}
 use Rattle.dwz_meanings.specs.LineTables.{FileTable}
-use Rattle.dwz_meanings.specs.Meanings.{Around, Class, Common, HasEntryFault, HasFault, HasFaultAs, HasFileFaultBy, HasKindFault, HasListFault, HasNodeFault, HasSlotFault, HasUnitFault, HaveFault, HaveUnitFault, IfSo, In, IsBadReference, IsBadString, IsCommonEntry, IsCommonText, IsEntryAmong, IsExpression, IsFileBy, IsListBySlot, IsLocList, IsNoCommonEntry, IsNoCommonText, IsNoSlot, IsNoText, IsTextBySlot, IsTextIn, MeanAttrs, MeanEntries, MeanUnits, MeansAs, MeansKind, MeansNode, MeansUnit, MeansValue, Scope, as_class, attr_with, attrs_meaning, bytes_of, class_of, common_entry, common_text, constant_value, content_at, entries_meaning, entry_among, expr_context, expr_meaning, expr_value, file_by, flag_value, has, is_zero, kind_meaning, list_by, list_from, list_meaning, list_read, loc_said, loc_value, loclists_base, meaning, names_file, names_list, node_meaning, not_built, number_of, offset_of, path_by, path_or, row_of_table, scope_of, stmt_list, str_offsets_base, text_by, text_from, text_or, texts_of, type_offset_at, unit_meaning, units_meaning, without_siblings}
+use Rattle.dwz_meanings.specs.Meanings.{Around, Class, Common, HasEntryFault, HasFault, HasFaultAs, HasFileFaultBy, HasKindFault, HasListFault, HasNodeFault, HasSlotFault, HasUnitFault, HaveFault, HaveUnitFault, IfSo, In, IsBadReference, IsBadString, IsCommonEntry, IsCommonText, IsEntryAmong, IsExpression, IsFileBy, IsListBySlot, IsLocList, IsNoCommonEntry, IsNoCommonText, IsNoSlot, IsNoText, IsTextBySlot, IsTextIn, MeanAttrs, MeanEntries, MeanUnits, MeansAs, MeansKind, MeansNode, MeansUnit, MeansValue, Scope, as_class, attr_with, attrs_meaning, bytes_of, class_of, common_entry, common_text, constant_value, content_at, entries_meaning, entry_among, expr_context, expr_meaning, expr_value, file_by, flag_value, has, is_zero, kind_meaning, list_by, list_from, list_meaning, list_read, loc_said, loc_value, loclists_base, meaning, names_file, names_list, node_meaning, number_of, offset_of, path_by, path_or, row_of_table, scope_of, stmt_list, str_offsets_base, text_by, text_from, text_or, texts_of, type_offset_at, unit_meaning, units_meaning, unread, without_siblings}
 use Rattle.dwz_meanings.specs.Meanings.{OfAddress, OfBlock, OfConstant, OfFlag, OfText, OfTextInStr, OfTextInLineStr, OfTextBySlot, OfUnitEntry, OfInfoEntry, OfSignature, OfOffset, OfExpression, OfListIndex, OfIndex, OfCommonEntry, OfCommonText, Unread}
 use Rattle.dwz_docs.specs.Texts.{IsSlot, slot, slot_place, text_at}
 use Rattle.dwz_docs.specs.Trees.{End, Entry, Forest}
@@ -288,7 +288,7 @@ module _ {P : Type 0} (s : Scope P) where
   class_agrees OfIndex a = agrees_ok (only (Index (offset_of a)))
   class_agrees OfCommonEntry a = common_entry_agrees a
   class_agrees OfCommonText a = common_text_agrees a
-  class_agrees Unread a = agrees_err not_built
+  class_agrees Unread a = agrees_err (unread a)
 
 pub value_agrees : {P : Type 0} (s : Scope P) (a : RawAttr) → Agrees (meaning s a) (MeansValue s a) (HasFault s a)
 unfolding meaning

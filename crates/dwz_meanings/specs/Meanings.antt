@@ -1,7 +1,7 @@
 -- What stored values mean (DWARF 5, 7.5.4 to 7.5.6): the relation, the function, and why a value means nothing.
 use Rattle.std.specs.Prelude.{◌≡◌, ◌≢◌, ◌⊎◌, ℕ, ℤ, pos, negsuc, ◌+◌, ◌-◌, ◌*◌, ◌^◌, ◌<◌, ◌≤◌, Bool, true, false, List, [], ◌∷◌, ◌++◌, length, drop, map, Option, Some, None, Result, Ok, Err, ◌==◌, ◌&&◌, ◌||◌, not, nat_lt, if◌then◌else◌}
 use Rattle.dwz_model.specs.declared.fault.Fault.{Fault}
-use Rattle.dwz_model.specs.declared.fault.Reason.TheVariants.{BadFile, BadList, BadReference, BadString, NotBuilt}
+use Rattle.dwz_model.specs.declared.fault.Reason.TheVariants.{BadFile, BadList, BadReference, BadString, UnsupportedForm}
 use Rattle.dwz_model.specs.declared.place.Base.{Base}
 use Rattle.dwz_model.specs.declared.place.Base.TheVariants.{Unit as FromUnit, Info as FromInfo}
 use Rattle.dwz_bytes.specs.Reading.{◌>>=◌}
@@ -406,9 +406,9 @@ alone sources units = record { sources = sources; all = all_places units; place 
 
 -- ---- the function: what a value means, or its fault
 
--- a form that has no class isn't read, so this is never answered
-abbrev pub not_built : Fault
-not_built = record { section = 0; at = 0; reason = NotBuilt }
+-- a form that has no class isn't read, so no value has it
+abbrev pub unread : RawAttr → Fault
+unread a = info_fault a.at (UnsupportedForm a.pair.form)
 
 abbrev pub text_or : {P : Type 0} → RawAttr → Option (List ℕ) → Result (Value P) Fault
 text_or a None = Err (info_fault a.at BadString)
@@ -490,7 +490,7 @@ as_class OfListIndex s a = list_from s a (loclists_base s)
 as_class OfIndex s a = Ok (only (Index (offset_of a)))
 as_class OfCommonEntry s a = common_entry a s.around.common
 as_class OfCommonText s a = common_text a s.around.common
-as_class Unread s a = Err not_built
+as_class Unread s a = Err (unread a)
 
 unfoldable pub meaning : {P : Type 0} → Scope P → RawAttr → Result (Value P) Fault
 meaning s a = as_class (class_of a.pair.form) s a
@@ -615,7 +615,7 @@ HasFaultAs OfExpression s a f = IsExprFault (expr_context s 1) (content_at a) (b
 HasFaultAs OfListIndex s a f = HasSlotFault s a (offset_of a) f
 HasFaultAs OfCommonEntry s a f = (f ≡ info_fault a.at BadReference) × IsNoCommonEntry s (offset_of a)
 HasFaultAs OfCommonText s a f = (f ≡ info_fault a.at BadString) × IsNoCommonText s (offset_of a)
-HasFaultAs Unread s a f = f ≡ not_built
+HasFaultAs Unread s a f = f ≡ unread a
 HasFaultAs _ s a f = ⊥
 
 abbrev pub HasFault : {P : Type 0} → Scope P → RawAttr → Fault → Type 0

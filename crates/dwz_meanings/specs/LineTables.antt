@@ -100,22 +100,23 @@ abbrev pub index_in : Raw → ℕ
 index_in (Number z) = reach z
 index_in (Bytes bytes) = 0
 
--- the first index of a directory, and 0 where there is none
+-- the index of a directory, and 0 where there is none
 abbrev pub first_index : List (Pair × Raw) → ℕ
 first_index [] = 0
 first_index (x ∷ xs) = index_in x.1
 
--- each names one of so many directories
+-- there is one at most, and it names one of so many directories
 abbrev pub are_indexes : ℕ → List (Pair × Raw) → Bool
 are_indexes dirs [] = true
-are_indexes dirs (x ∷ xs) = nat_lt (index_in x.1) dirs && are_indexes dirs xs
+are_indexes dirs (x ∷ []) = nat_lt (index_in x.1) dirs
+are_indexes dirs (x ∷ y ∷ xs) = false
 
 -- a row of directories or files: its path, and the number of its directory
 pub record PathRow : Type 0 where
   pub path : List ℕ
   pub dir : ℕ
 
--- one path, and indexes that name one of so many directories
+-- one path, and no more than one index, which names one of so many directories
 pub record SaysRow (s : TextSections) (dirs : ℕ) (formats : List Pair) (raws : List Raw) (row : PathRow) : Type 0 where
   pub named : Pair × Raw
   pub one_path : with_content 1 formats raws ≡ named ∷ []
@@ -176,16 +177,17 @@ header_length bytes = field 8 4 bytes
 abbrev pub opcode_base : List ℕ → ℕ
 opcode_base bytes = field 17 1 bytes
 
--- the length is one of the 32-bit format, and the unit is whole; version, address_size, segment_selector_size; the opcodes begin with
--- another one than 0
+-- the length is one of the 32-bit format, and the unit is whole, with its header; version, address_size, segment_selector_size; the
+-- opcodes begin with another one than 0
 abbrev pub is_header : List ℕ → Bool
 is_header bytes =
     nat_lt (line_length bytes) 0xfffffff0
     && (not (nat_lt (length bytes) (line_length bytes + 4))
+    && (not (nat_lt (line_length bytes + 4) (header_length bytes + 12))
     && (field 4 2 bytes == 5
     && (field 6 1 bytes == 8
     && (field 7 1 bytes == 0
-    && not (opcode_base bytes == 0)))))
+    && not (opcode_base bytes == 0))))))
 
 -- Behind the lengths of the standard opcodes, of which there is one less than opcode_base says, the tables stand. What the header's
 -- length says is counted from byte 12, and the unit's from byte 4.

@@ -28,8 +28,8 @@ span_at spans a = slice_index_or spans a (span 0 0)
 abbrev pub list_at : List Span → List ℕ → ℕ → List ℕ
 list_at spans row a = slice_range row (span_at spans a).start (span_at spans a).end
 
--- Each number has a span, which begins behind the places of all targets that are less. It has at most a place for each
--- time that the number was seen.
+-- Each number has a span, which begins behind a place for each target that is less. The span has at most a place for
+-- each time that the number was seen.
 pub record AreRooms (targets seen : List ℕ) (spans : List Span) : Type 0 where
   pub starts : (a : ℕ) → a < length spans → (span_at spans a).start ≡ count_below targets a
   pub rising : (a : ℕ) → a < length spans → (span_at spans a).start ≤ (span_at spans a).end

@@ -49,6 +49,8 @@ impl Back {
 
 impl Nodes {
     /// For each node the nodes that have it among their targets. Targets that are no nodes are left out.
+    ///
+    /// It goes over all targets twice. It fails only where memory runs out.
     pub fn back(&self, alloc: Global) -> Result<Back, NoMemory>
         ensures { IfOk result (λ back. AreBack self.now back) }
     {

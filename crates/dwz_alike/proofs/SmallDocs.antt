@@ -1,8 +1,8 @@
 -- Small documents, spelled by hand: entries at places of one or more files, from which rows compute what is said of them.
-use Rattle.std.proofs.Common.{ℕ, ◌+◌, pos, true, List, [], ◌∷◌}
+use Rattle.std.proofs.Common.{ℕ, ◌+◌, pos, true, List, [], ◌∷◌, map}
 use Rattle.std.specs.Prelude.{codes}
 use Rattle.dwz_model.specs.declared.place.Base.TheVariants.{Unit as FromUnit}
-use Rattle.dwz_meanings.specs.Documents.{Addr, Attr, Compile, DwUnit, Entries, Expr, Loc, Node, Num, Operand, Same, Text, only, ref}
+use Rattle.dwz_meanings.specs.Documents.{Addr, Attr, Compile, Doc, DwUnit, Entries, Expr, Loc, Node, Num, Operand, Same, Text, only, ref}
 use Rattle.dwz_docs.specs.Trees.{End, Entry}
 use Rattle.dwz_alike.specs.Spots.{FileUnit, Spot, units_of}
 
@@ -77,12 +77,16 @@ then e next = Entry e End next
 abbrev pub unit : ℕ → List (Attr ℕ) → Entries ℕ → DwUnit ℕ
 unit place attrs below = record { at = place; kind = Compile; root = entry (place + 0x0c) 0x11 attrs; below = below }
 
+-- the units of files, and of one file
+abbrev pub files_of : List (List (DwUnit ℕ)) → List (FileUnit Spot)
+files_of files = units_of (map {B = Doc ℕ} (λ units. record { machine = 62; units = units }) files)
+
 abbrev pub one : List (DwUnit ℕ) → List (FileUnit Spot)
-one units = units_of (record { machine = 62; units = units } ∷ [])
+one units = files_of (units ∷ [])
 
 -- two units, each a file of its own
 abbrev pub apart : DwUnit ℕ → DwUnit ℕ → List (FileUnit Spot)
-apart u v = units_of (record { machine = 62; units = u ∷ [] } ∷ record { machine = 62; units = v ∷ [] } ∷ [])
+apart u v = files_of ((u ∷ []) ∷ (v ∷ []) ∷ [])
 
 -- ---- files
 

@@ -2,6 +2,7 @@ pub mod AddressLemmas
 pub mod RowLemmas
 pub mod TopNumbers
 pub mod AlikeTests
+pub mod SpotLemmas
 pub mod AlikeTops
 pub mod AlikeCounts
 pub mod AlikeLooks

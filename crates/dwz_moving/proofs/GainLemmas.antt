@@ -14,7 +14,8 @@ use Rattle.dwz_alike.proofs.AlikeTests.{Decides-both}
 use Rattle.dwz_alike.proofs.Targets.{Inside, refers_one}
 use Rattle.dwz_moving.specs.Gain.{Gain, Gains, RefersInto, gain_rule, gain_test, gains_test, in_group, refers_into, saved, spent}
 use Rattle.dwz_moving.specs.Homes.{Home, IsChoice, candidate, is_home, same_home, users}
-use Rattle.dwz_moving.proofs.PlanLemmas.{home_own, home_true, numbers_same, numbers_true}
+use Rattle.dwz_alike.proofs.SpotLemmas.{numbers_same, numbers_true}
+use Rattle.dwz_moving.proofs.PlanLemmas.{home_own, home_true}
 use Rattle.dwz_moving.proofs.StandLemmas.{target_home}
 use Rattle.dwz_moving.proofs.UserLemmas.{candidate_same, moving, users_same}
 

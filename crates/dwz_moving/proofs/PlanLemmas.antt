@@ -10,6 +10,7 @@ use Rattle.dwz_moving.specs.IsPlan.{BelongsTo, HasRep, IsPart, IsPlan, Precedes,
 use Rattle.dwz_moving.specs.Homes.{Common, Home, IsChoice, Local, Rule, Stay, home, is_home, moves, rep, same_home, users}
 use Rattle.dwz_moving.specs.Plan.{PartialUnit, distinct, local_partials, partial_with, partials, partials_at, representatives, stands_for, users_of}
 use Rattle.dwz_alike.specs.Spots.{FileUnit, Spot, Top, same_numbers, tops_of}
+use Rattle.dwz_alike.proofs.SpotLemmas.{numbers_same, numbers_true}
 use Rattle.dwz_moving.proofs.HomeLemmas.{home_file}
 use Rattle.dwz_seen.proofs.Members.{each_append, each_in, each_of, in_cases, in_filter, in_filter_from, in_left, in_map, in_map_from, in_right, nth_in, nth_pair, pair_append, pair_filter, pair_map, pair_more}
 use Rattle.dwz_alike.proofs.Tops.{tops_rise}
@@ -17,21 +18,6 @@ use Rattle.dwz_moving.proofs.UserLemmas.{Fair, home_same, leads, moving, users_s
 use Rattle.dwz_moving.proofs.StandLemmas.{fair}
 
 -- ---- equal lists, equal homes
-
-pub numbers_true : (xs ys : List ℕ) → same_numbers xs ys ≡ true → xs ≡ ys
-unfolding same_numbers
-numbers_true [] [] e = refl
-numbers_true [] (y ∷ ys) e = absurd cc
-numbers_true (x ∷ xs) [] e = absurd cc
-numbers_true (x ∷ xs) (y ∷ ys) e = go (numbers_true xs ys) (x == y) refl e where
-  go : (same_numbers xs ys ≡ true → xs ≡ ys) → (b : Bool) → (x == y) ≡ b → (elim b as (λ _. Bool) [ true ↦ same_numbers xs ys | false ↦ false ]) ≡ true → (x ∷ xs) ≡ (y ∷ ys)
-  go more true q h = let a : x ≡ y = eqb-true x y q in let b = more h in cc
-  go more false q h = absurd cc
-
-pub numbers_same : (xs : List ℕ) → same_numbers xs xs ≡ true
-unfolding same_numbers
-numbers_same [] = refl
-numbers_same (x ∷ xs) = rw (eq-eqb x x refl, same_numbers) (numbers_same xs)
 
 numbers_unequal : (xs ys : List ℕ) → xs ≢ ys → same_numbers xs ys ≡ false
 numbers_unequal xs ys ne = go (same_numbers xs ys) refl where

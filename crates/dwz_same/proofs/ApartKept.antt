@@ -10,7 +10,8 @@ use Rattle.dwz_alike.specs.Deciding.{same_bool}
 use Rattle.dwz_alike.specs.Spots.{ASpace, ATop, LabelledSpaces, Nothing, Row, SpaceAt, SpaceName, Spot, Top, Within, name_of}
 use Rattle.dwz_alike.proofs.RowLemmas.{RowIs, count_space, count_top}
 use Rattle.dwz_moving.specs.Plan.{Pinned, row_part, row_pinned, row_staying}
-use Rattle.dwz_same.proofs.ApartTrees.{Behind, here_inner, here_rest, inner_rest, none_append, none_both, none_left, none_right, row_keys}
+use Rattle.dwz_same.proofs.ApartTrees.{Behind, here_inner, here_rest, inner_rest, row_keys}
+use Rattle.dwz_seen.proofs.OnceLemmas.{none_append, none_both, none_left, none_right}
 
 -- ---- the row of an old unit
 

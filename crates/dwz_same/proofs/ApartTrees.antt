@@ -1,44 +1,18 @@
 -- Where names stand once: lists, trees, and rows of tops and spaces that stand for themselves.
-use Rattle.std.proofs.Common.{◌≡◌, ℕ, suc, ◌<◌, ◌≤◌, ◌⊎◌, List, [], ◌∷◌, ◌++◌, length, map, refl, sym, ap, subst, ◌∙◌, arith, inl, inr, append_assoc}
+use Rattle.std.proofs.Common.{◌≡◌, ℕ, suc, ◌≤◌, ◌⊎◌, List, [], ◌∷◌, ◌++◌, length, refl, sym, ap, subst, ◌∙◌, arith, inl, inr, append_assoc}
 use Rattle.std.proofs.lemmas.List.{length-append}
 use Rattle.dwz_meanings.specs.Documents.{Entries, Node, entries_map}
 use Rattle.dwz_docs.specs.Lists.{In}
 use Rattle.dwz_docs.specs.Trees.{End, Entry}
-use Rattle.dwz_seen.specs.Lists.{NoneTwice, Rising}
+use Rattle.dwz_seen.specs.Lists.{NoneTwice}
 use Rattle.dwz_seen.specs.Shown.{keys}
-use Rattle.dwz_seen.proofs.Members.{each_in, in_cases, in_left, in_map_from, in_right}
+use Rattle.dwz_seen.proofs.Members.{in_cases, in_left, in_right}
 use Rattle.dwz_alike.specs.Spots.{ASpace, ATop, Import, InChain, InType, Labelled, LabelledTop, Nothing, PartialOf, PartialRoot, RootOf, Row, SpaceAt, Spot, Top, UnitOf, Within}
 use Rattle.dwz_moving.specs.IsPlan.{Has, Item, OfSpace, OfTop}
 use Rattle.dwz_moving.specs.Plan.{image_by, imports}
 use Rattle.dwz_same.specs.Units.{tree}
+use Rattle.dwz_seen.proofs.OnceLemmas.{none_append, none_both, none_left, none_right}
 use Rattle.dwz_same.specs.Held.{Kinded}
-
--- ---- lists
-
-pub none_append : {X : Type 0} (xs ys : List X) → NoneTwice xs → NoneTwice ys → ((x : X) → In x xs → In x ys → ⊥) → NoneTwice (xs ++ ys)
-none_append [] ys h k f = k
-none_append (x ∷ xs) ys h k f = ((λ is. elim (in_cases x xs ys is) [ inl a ↦ h.0 a | inr b ↦ f x (inl refl) b ]), none_append xs ys h.1 k (λ y a b. f y (inr a) b))
-
-pub none_map : {X Y : Type 0} (f : X → Y) → ((a b : X) → f a ≡ f b → a ≡ b) → (xs : List X) → NoneTwice xs → NoneTwice (map f xs)
-none_map f one [] h = tt
-none_map {X} f one (x ∷ xs) h = ((λ is. let o = in_map_from f (f x) xs is in h.0 (subst (λ (w : X). In w xs) (one o.source x o.is) o.there)), none_map f one xs h.1)
-
-pub rising_none : (ns : List ℕ) → Rising ns → NoneTwice ns
-rising_none [] h = tt
-rising_none (n ∷ ns) h = ((λ is. let lt = each_in (λ m. n < m) n ns h.0 is in omega (arith, lt)), rising_none ns h.1)
-
-pub none_left : {X : Type 0} (xs ys : List X) → NoneTwice (xs ++ ys) → NoneTwice xs
-none_left [] ys h = tt
-none_left (x ∷ xs) ys h = ((λ is. h.0 (in_left x xs ys is)), none_left xs ys h.1)
-
-pub none_right : {X : Type 0} (xs ys : List X) → NoneTwice (xs ++ ys) → NoneTwice ys
-none_right [] ys h = h
-none_right (x ∷ xs) ys h = none_right xs ys h.1
-
-pub none_both : {X : Type 0} (xs ys : List X) → NoneTwice (xs ++ ys) → (k : X) → In k xs → In k ys → ⊥
-none_both [] ys h k a b = a
-none_both {X} (x ∷ xs) ys h k (inl e) b = h.0 (in_right x xs ys (subst (λ (w : X). In w ys) (sym e) b))
-none_both (x ∷ xs) ys h k (inr r) b = none_both xs ys h.1 k r b
 
 -- ---- trees at their names
 

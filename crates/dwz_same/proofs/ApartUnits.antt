@@ -22,11 +22,12 @@ use Rattle.dwz_moving.proofs.UserLemmas.{move_stand, stay_fixed}
 use Rattle.dwz_same.specs.After.{AreOld, IsNamedBelow}
 use Rattle.dwz_same.proofs.ApartKept.{pinned_none, row_none, staying_none}
 use Rattle.dwz_same.proofs.ApartParts.{import_key, imports_none, part_none}
-use Rattle.dwz_same.proofs.ApartTrees.{Fixed, Good, IsImportSpot, IsSpaceSpot, IsWithin, behind, good_of, labelled_map, none_append, none_below, row_keys, tree_none, type_path}
+use Rattle.dwz_same.proofs.ApartTrees.{Fixed, Good, IsImportSpot, IsSpaceSpot, IsWithin, behind, good_of, labelled_map, none_below, row_keys, tree_none, type_path}
 use Rattle.dwz_same.proofs.EntryLemmas.{kept_compile, kept_still, kept_type, top_changes}
 use Rattle.dwz_same.proofs.KindLemmas.{kept_kinded, part_row_kinded, top_plain}
 use Rattle.dwz_same.proofs.OldRows.{row_kinded, space_place, tops_among}
 use Rattle.dwz_same.proofs.KeyLemmas.{FromSpaceKey, FromTopKey, LastKey, TreeKey, tree_is, tree_key}
+use Rattle.dwz_seen.proofs.OnceLemmas.{none_append}
 
 -- a unit after: a partial unit, or an old one
 pub data UnitNumber : Type 0 where

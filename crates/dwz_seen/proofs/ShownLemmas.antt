@@ -182,7 +182,7 @@ module _ {P Q : Type 0} (g : P → Q) where
 
 -- ---- the keys of entries
 
-seen_key : {K : Type 0} (f : Entries K) (d : Seen K) → In d (seen f) → In d.at (keys f)
+pub seen_key : {K : Type 0} (f : Entries K) (d : Seen K) → In d (seen f) → In d.at (keys f)
 unfolding seen keys
 seen_key End d h = absurd h
 seen_key {K} (Entry e f g) d (inl x) = inl (ap (λ (w : Seen K). w.at) x)

@@ -10,7 +10,7 @@ use Rattle.dwz_writing.specs.Carried.{CameFrom, CarriedAttr, CarriedEntries, Car
 use Rattle.dwz_writing.specs.Meant.{KindSays, entry_keys}
 use Rattle.dwz_seen.specs.Shown.{keys}
 use Rattle.dwz_writing.specs.Sound.{SoundKind}
-use Rattle.dwz_writing.proofs.WriteLists.{in_map}
+use Rattle.dwz_seen.proofs.Members.{in_map}
 
 map_twice : {P Q R : Type 0} (f : P → Q) (g : Q → R) (ps : List P) → map g (map f ps) ≡ map (λ p. g (f p)) ps
 map_twice f g [] = refl

@@ -11,7 +11,7 @@ use Rattle.dwz_seen.specs.Shown.{keys, unit_keys, units_keys}
 use Rattle.dwz_seen.specs.Lists.{NoneTwice}
 use Rattle.dwz_writing.specs.Writing.{Numbering, Shape, header_size, if_any, node_bytes, spelled, table_of, unit_size}
 use Rattle.dwz_writing.proofs.WriteLengths.{FixedEntries, FixedUnit, if_len, node_len, size_len, spelled_len}
-use Rattle.dwz_writing.proofs.WriteLists.{each_append, each_split}
+use Rattle.dwz_seen.proofs.Members.{each_append, each_split}
 
 -- ---- numbers that agree with a list of places
 

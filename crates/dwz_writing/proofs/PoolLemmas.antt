@@ -14,8 +14,8 @@ use Rattle.dwz_seen.specs.Lists.{Each}
 use Rattle.dwz_writing.specs.Carried.{AttrTexts, EntriesTexts, TextAs, UnitTexts}
 use Rattle.dwz_writing.specs.Placing.{add_unless, attrs_texts, entries_texts, has_text, text_as, text_place, texts_bytes, texts_of, with_text}
 use Rattle.dwz_writing.specs.Writing.{text_in}
-use Rattle.dwz_writing.proofs.SameLemmas.{same_numbers-same, same_numbers-true}
-use Rattle.dwz_writing.proofs.WriteLists.{in_left, in_right}
+use Rattle.dwz_alike.proofs.SpotLemmas.{numbers_same, numbers_true}
+use Rattle.dwz_seen.proofs.Members.{in_left, in_right}
 
 pub le_are : (k n : ℕ) → AreBytes (le_bytes k n)
 unfolding le_bytes
@@ -28,7 +28,7 @@ unfolding texts_bytes text_place
 pool_stands [] text there none = absurd there
 pool_stands (t ∷ texts) text there none = by (λ r. pool_stands texts text r none) (same_numbers t text) refl where
   by : (In text texts → IsTextAt (texts_bytes texts) (text_place texts text) text) → (b : Bool) → same_numbers t text ≡ b → IsTextAt (t ++ 0 ∷ texts_bytes texts) (elim b as (λ _. ℕ) [ true ↦ 0 | false ↦ length t + 1 + text_place texts text ]) text
-  by rest true e = (let same = same_numbers-true t text e in record {
+  by rest true e = (let same = numbers_true t text e in record {
     before = [];
     front = text ++ 0 ∷ [];
     after = texts_bytes texts;
@@ -37,7 +37,7 @@ pool_stands (t ∷ texts) text there none = by (λ r. pool_stands texts text r n
     parts = ap (λ (w : List ℕ). w ++ 0 ∷ texts_bytes texts) same ∙ sym (append_assoc text (0 ∷ []) (texts_bytes texts));
   })
   by rest false e = elim there [
-    | inl i ↦ absurd (let yes : same_numbers t text ≡ true = subst (λ (y : List ℕ). same_numbers t y ≡ true) i (same_numbers-same t) in cc)
+    | inl i ↦ absurd (let yes : same_numbers t text ≡ true = subst (λ (y : List ℕ). same_numbers t y ≡ true) i (numbers_same t) in cc)
     | inr r ↦
         (let s = rest r in
         record {
@@ -67,7 +67,7 @@ unfolding has_text
 text_has [] text e = absurd cc
 text_has (t ∷ texts) text e = by (λ r. text_has texts text r) (same_numbers t text) refl e where
   by : (has_text texts text ≡ true → In text texts) → (b : Bool) → same_numbers t text ≡ b → (elim b as (λ _. Bool) [ true ↦ true | false ↦ has_text texts text ]) ≡ true → In text (t ∷ texts)
-  by rest true p q = inl (same_numbers-true t text p)
+  by rest true p q = inl (numbers_true t text p)
   by rest false p q = inr (rest q)
 
 has_added : (texts : List (List ℕ)) (text : List ℕ) → In text (with_text texts text)

@@ -22,7 +22,7 @@ use Rattle.dwz_writing.specs.Carried.{BuiltAttr, BuiltEntries, BuiltUnit, Carrie
 use Rattle.dwz_writing.specs.Meant.{KindSays, entry_keys}
 use Rattle.dwz_seen.specs.Shown.{keys}
 use Rattle.dwz_writing.specs.Sound.{SoundKind}
-use Rattle.dwz_writing.proofs.WriteLists.{in_map}
+use Rattle.dwz_seen.proofs.Members.{in_map}
 
 pub back_bytes : (front back : List ℕ) → AreBytes (front ++ back) → AreBytes back
 back_bytes [] back are = are

@@ -14,7 +14,7 @@ use Rattle.dwz_seen.specs.Shown.{keys, unit_keys, units_keys}
 use Rattle.dwz_writing.specs.Writing.{Numbering, Shape, header_size, if_any, node_bytes, spelled, table_of, tree_bytes, unit_size}
 use Rattle.dwz_writing.proofs.UnitsSpelled.{header_some, node_some, units_size}
 use Rattle.dwz_writing.proofs.WriteCodes.{Covers, is_table}
-use Rattle.dwz_writing.proofs.WriteLists.{each_more, in_left, in_right, in_split}
+use Rattle.dwz_seen.proofs.Members.{each_more, in_cases, in_left, in_right}
 
 -- the places of keys rise from one place to below another
 abbrev pub Rises : {K : Type 0} → Numbering K → ℕ → List K → ℕ → Type 0
@@ -109,7 +109,7 @@ entry_is_key u k is = inr is
 pub entries_are_keys : {K : Type 0} (units : List (DwUnit K)) (k : K) → In k (all_entry_keys units) → In k (units_keys units)
 unfolding all_entry_keys units_keys
 entries_are_keys [] k is = is
-entries_are_keys (u ∷ units) k is = elim (in_split k (entry_keys u) (all_entry_keys units) is) [
+entries_are_keys (u ∷ units) k is = elim (in_cases k (entry_keys u) (all_entry_keys units) is) [
   | inl p ↦ in_left k (unit_keys u) (units_keys units) (entry_is_key u k p)
   | inr q ↦ in_right k (unit_keys u) (units_keys units) (entries_are_keys units k q)
 ]

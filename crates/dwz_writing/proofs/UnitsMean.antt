@@ -16,7 +16,7 @@ use Rattle.dwz_writing.specs.Sound.{SoundAttr, SoundEntries, SoundNode, SoundUni
 use Rattle.dwz_writing.specs.Writing.{Numbering, Shape, pair_of, stored, table_of}
 use Rattle.dwz_writing.proofs.RawUnits.{raw_attrs, raw_entries, raw_entry, raw_kind, raw_unit, raw_units}
 use Rattle.dwz_writing.proofs.ValuesMean.{IsScope, as_means}
-use Rattle.dwz_writing.proofs.WriteLists.{in_left, in_map, in_right}
+use Rattle.dwz_seen.proofs.Members.{in_left, in_map, in_right}
 
 -- ---- attributes
 

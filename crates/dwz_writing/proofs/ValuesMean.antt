@@ -11,7 +11,7 @@ use Rattle.dwz_writing.specs.Fitting.{FitsAs, FitsUnit}
 use Rattle.dwz_writing.specs.Meant.{SaysAs, Tells, TextSays, WasRead}
 use Rattle.dwz_writing.specs.Sound.{IsBuiltAs, StoresAs}
 use Rattle.dwz_writing.specs.Writing.{Numbering, block_in, first_place, pair_of, stored_as, text_in}
-use Rattle.dwz_writing.proofs.WriteLists.{in_map}
+use Rattle.dwz_seen.proofs.Members.{in_map}
 
 -- an attribute as it was read, whose form has that class
 pub record Read {K : Type 0} (c : Class) (a : Attr K) : Type 0 where

@@ -7,8 +7,9 @@ use Rattle.dwz_meanings.specs.Documents.{DwUnit, Entries}
 use Rattle.dwz_docs.specs.Trees.{End, Entry, size}
 use Rattle.dwz_seen.specs.Lists.{Each}
 use Rattle.dwz_writing.specs.Writing.{Shape, add_if, code_in, coded, declaration_of, same_shape, shape_of, shapes_in, table_of, with_shape}
-use Rattle.dwz_writing.proofs.SameLemmas.{eqb_same, same_shape-same, same_shape-true}
-use Rattle.dwz_writing.proofs.WriteLists.{each_append}
+use Rattle.dwz_alike.proofs.SpotLemmas.{eqb_same}
+use Rattle.dwz_writing.proofs.SameLemmas.{same_shape-same, same_shape-true}
+use Rattle.dwz_seen.proofs.Members.{each_append}
 
 -- ---- a code that is found
 

@@ -18,7 +18,7 @@ use Rattle.dwz_seen.specs.Lists.{Each}
 use Rattle.dwz_writing.specs.Sound.{IsBuilt, IsBuiltAs, SoundAttr, SoundEntries, SoundNode, SoundUnit}
 use Rattle.dwz_alike.specs.Spots.{same_numbers}
 use Rattle.dwz_writing.specs.Writing.{Shape, abbrevs_of, add_table, coded, declaration_of, joined, pair_of, shape_of, table_in, table_of, tables_of, with_table}
-use Rattle.dwz_writing.proofs.SameLemmas.{same_numbers-same, same_numbers-true}
+use Rattle.dwz_alike.proofs.SpotLemmas.{numbers_same, numbers_true}
 use Rattle.dwz_writing.proofs.WriteCodes.{EachShape, Grown, Grown-same, Grown-then, each_of_table, is_table, picked}
 
 -- ---- a table is spelled
@@ -133,7 +133,7 @@ unfolding table_in joined
 table_found [] at t o e = absurd cc
 table_found (u ∷ tables) at t o e =
     elim (picked (same_numbers u t) at o (table_in (at + length u) tables t) e) [
-      | inl p ↦ (0, omega (arith, p.1), record { before = []; after = joined tables; place = refl; parts = ap (λ (w : List ℕ). w ++ joined tables) (same_numbers-true u t p.0) })
+      | inl p ↦ (0, omega (arith, p.1), record { before = []; after = joined tables; place = refl; parts = ap (λ (w : List ℕ). w ++ joined tables) (numbers_true u t p.0) })
       | inr p ↦
           let r = table_found tables (at + length u) t o p.1 in
           let is = r.2 in (
@@ -164,7 +164,7 @@ pub record HasTable (tables : List (List ℕ)) (t : List ℕ) : Type 0 where
 
 table_last : (tables : List (List ℕ)) (at : ℕ) (t : List ℕ) → (o : ℕ) × (table_in at (tables ++ t ∷ []) t ≡ Some o)
 unfolding table_in
-table_last [] at t = (at, rw (same_numbers-same t, table_in) refl)
+table_last [] at t = (at, rw (numbers_same t, table_in) refl)
 table_last (u ∷ tables) at t = go (same_numbers u t) (table_last tables (at + length u) t) where
   go : (b : Bool) → ((o : ℕ) × (table_in (at + length u) (tables ++ t ∷ []) t ≡ Some o)) → (o : ℕ) × ((elim b as (λ _. Option ℕ) [ true ↦ Some at | false ↦ table_in (at + length u) (tables ++ t ∷ []) t ]) ≡ Some o)
   go true r = (at, refl)

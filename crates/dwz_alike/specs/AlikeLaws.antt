@@ -1,0 +1,11 @@
+-- Laws on which tops may move, and which are alike.
+use Rattle.std.specs.Prelude.{◌≡◌, ◌≢◌, ◌↔◌, ◌⊎◌, ℕ, true, List, []}
+use Rattle.dwz_meanings.specs.Exprs.{Expression, SpellsExpr}
+use Rattle.dwz_meanings.specs.Meanings.{Scope, expr_context, expr_value}
+use Rattle.dwz_alike.specs.Alike.{holds_place}
+
+-- the value of an expression of a unit holds a place exactly if the expression has an address, or an operand that names an entry
+abbrev pub AddressLaw : Type 0
+AddressLaw =
+    (s : Scope ℕ) (section start : ℕ) (bytes : List ℕ) (e : Expression) → SpellsExpr (expr_context s section) e start bytes
+    → (holds_place (expr_value s e).plain ≡ true) ↔ ((e.address ≡ true) ⊎ (e.operands ≢ []))

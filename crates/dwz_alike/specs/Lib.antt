@@ -1,0 +1,4 @@
+pub mod Spots
+pub mod Alike
+pub mod Deciding
+pub mod AlikeLaws

@@ -1,0 +1,10 @@
+pub mod UserLemmas
+pub mod HomeLemmas
+pub mod ImageLemmas
+pub mod StandLemmas
+pub mod GainLemmas
+pub mod PlanLemmas
+pub mod KeptLemmas
+pub mod RowParts
+pub mod LawLemmas
+mod MovingRows

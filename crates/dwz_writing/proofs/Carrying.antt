@@ -1,0 +1,295 @@
+-- What a file stores can be written again.
+use Rattle.std.proofs.Common.{◌≡◌, ◌≢◌, ℕ, ℤ, pos, ◌<◌, ◌≤◌, ◌⊎◌, Bool, true, false, List, [], ◌∷◌, refl, sym, ap, subst, ◌∙◌, arith, cond, eqb, eqb-true, eq-eqb}
+use Rattle.std.specs.Prelude.{MatchBool}
+use Rattle.std.proofs.Math.Logic.{inl, inr}
+use Rattle.dwz_model.specs.declared.place.Pair.{Pair}
+use Rattle.dwz_bytes.specs.Spelling.{SpellsSleb, fits_i64, reach}
+use Rattle.dwz_codes.specs.declared.shape.Shape.{Shape}
+use Rattle.dwz_codes.specs.declared.shape.Shape.TheVariants.{Nothing, Fixed1, Fixed2, Fixed3, Fixed4, Fixed8, Fixed16, Uleb, Sleb, ZeroEnded, Block1, Block2, Block4, BlockUleb, Address}
+use Rattle.dwz_codes.specs.Forms.{form_rows}
+use Rattle.dwz_docs.specs.Abbrevs.{SpellsPair}
+use Rattle.dwz_meanings.specs.Documents.{Attr, Plain, Text, Value, only, ref, value_map}
+use Rattle.dwz_docs.specs.Entries.{RawAttr}
+use Rattle.dwz_meanings.specs.Meanings.{Class, ClassRow, MeansAs, OfAddress, OfBlock, OfCommonEntry, OfCommonText, OfConstant, OfExpression, OfFlag, OfIndex, OfInfoEntry, OfListIndex, OfOffset, OfSignature, OfText, OfTextBySlot, OfTextInLineStr, OfTextInStr, OfUnitEntry, Sources, Unread, bytes_of, class_in, class_of, class_rows, names_file, names_list, number_of}
+use Rattle.dwz_docs.specs.Texts.{IsTextAt}
+use Rattle.dwz_docs.specs.Values.{Bytes, Number, Raw, SpellsShape, SpellsValue, constant_of, shape_of, written_rows}
+use Rattle.dwz_docs.proofs.WrittenLemmas.{same_shape}
+use Rattle.dwz_writing.specs.Carried.{AttrTexts, CameFrom, CarriedAttr, Imports, TextAs}
+use Rattle.dwz_writing.specs.Meant.{AttrSays, SaysAs, Tells, WasRead}
+use Rattle.dwz_writing.specs.Placing.{Chosen, Fit, as_entry, as_read, fit_as, fit_attr, with_form}
+use Rattle.dwz_writing.specs.Sound.{HasBytes, IsBuiltAs, SoundAttr, StoresAs}
+use Rattle.dwz_writing.specs.Writing.{block_in, pair_of, text_in}
+use Rattle.dwz_writing.proofs.ValuesMean.{not_so, plain_is}
+
+-- ---- which classes store bytes, and which a number
+
+abbrev stores_bytes : Class → Bool
+stores_bytes OfBlock = true
+stores_bytes OfText = true
+stores_bytes OfExpression = true
+stores_bytes _ = false
+
+abbrev holds_bytes : Shape → Bool
+holds_bytes Fixed16 = true
+holds_bytes ZeroEnded = true
+holds_bytes Block1 = true
+holds_bytes Block2 = true
+holds_bytes Block4 = true
+holds_bytes BlockUleb = true
+holds_bytes _ = false
+
+abbrev same_bool : Bool → Bool → Bool
+same_bool true b = b
+same_bool false true = false
+same_bool false false = true
+
+same_bool-true : (a b : Bool) → same_bool a b ≡ true → a ≡ b
+same_bool-true true b e = sym e
+same_bool-true false true e = absurd cc
+same_bool-true false false e = refl
+
+abbrev agree : List ClassRow → Bool
+agree [] = true
+agree (r ∷ rows) = cond (same_bool (stores_bytes r.class) (holds_bytes (shape_of written_rows r.form))) (agree rows) false
+
+rows_agree : agree class_rows ≡ true
+unfolding class_rows form_rows
+rows_agree = refl
+
+two_tests : (a b : Bool) → cond a b false ≡ true → (a ≡ true) × (b ≡ true)
+two_tests true b e = (refl, e)
+two_tests false b e = absurd cc
+
+class_agrees : (rows : List ClassRow) (form : ℕ) → agree rows ≡ true → (class_in rows form ≡ Unread) ⊎ (stores_bytes (class_in rows form) ≡ holds_bytes (shape_of written_rows form))
+unfolding class_in
+class_agrees [] form e = inl refl
+class_agrees (r ∷ rows) form e =
+    let t = two_tests (same_bool (stores_bytes r.class) (holds_bytes (shape_of written_rows r.form))) (agree rows) e in
+    go (same_bool-true _ _ t.0) (class_agrees rows form t.1) (eqb r.form form) refl where
+      go : stores_bytes r.class ≡ holds_bytes (shape_of written_rows r.form) → (class_in rows form ≡ Unread) ⊎ (stores_bytes (class_in rows form) ≡ holds_bytes (shape_of written_rows form)) → (b : Bool) → eqb r.form form ≡ b
+          → (cond b r.class (class_in rows form) ≡ Unread) ⊎ (stores_bytes (cond b r.class (class_in rows form)) ≡ holds_bytes (shape_of written_rows form))
+      go same rest true e = inr (same ∙ ap (λ (f : ℕ). holds_bytes (shape_of written_rows f)) (eqb-true r.form form e))
+      go same rest false e = rest
+
+module _ (number : ℤ) (bytes : List ℕ) (raw : Raw) where
+  is_bytes : (shape : Shape) → holds_bytes shape ≡ true → SpellsShape shape number bytes raw → raw ≡ Bytes (bytes_of raw)
+  is_bytes Fixed16 e is = is.value ∙ ap (λ (r : Raw). Bytes (bytes_of r)) (sym is.value)
+  is_bytes ZeroEnded e is = is.value ∙ ap (λ (r : Raw). Bytes (bytes_of r)) (sym is.value)
+  is_bytes Block1 e is = is.value ∙ ap (λ (r : Raw). Bytes (bytes_of r)) (sym is.value)
+  is_bytes Block2 e is = is.value ∙ ap (λ (r : Raw). Bytes (bytes_of r)) (sym is.value)
+  is_bytes Block4 e is = is.value ∙ ap (λ (r : Raw). Bytes (bytes_of r)) (sym is.value)
+  is_bytes BlockUleb e is = is.value ∙ ap (λ (r : Raw). Bytes (bytes_of r)) (sym is.value)
+  is_bytes _ e is = absurd cc
+
+  is_number : (shape : Shape) → holds_bytes shape ≡ false → SpellsShape shape number bytes raw → raw ≡ Number (number_of raw)
+  is_number Nothing e is = is.value ∙ ap (λ (r : Raw). Number (number_of r)) (sym is.value)
+  is_number Fixed1 e is = is.value ∙ ap (λ (r : Raw). Number (number_of r)) (sym is.value)
+  is_number Fixed2 e is = is.value ∙ ap (λ (r : Raw). Number (number_of r)) (sym is.value)
+  is_number Fixed3 e is = is.value ∙ ap (λ (r : Raw). Number (number_of r)) (sym is.value)
+  is_number Fixed4 e is = is.value ∙ ap (λ (r : Raw). Number (number_of r)) (sym is.value)
+  is_number Fixed8 e is = is.value ∙ ap (λ (r : Raw). Number (number_of r)) (sym is.value)
+  is_number Uleb e is = is.value ∙ ap (λ (r : Raw). Number (number_of r)) (sym is.value)
+  is_number Sleb e is = is.value ∙ ap (λ (r : Raw). Number (number_of r)) (sym is.value)
+  is_number Address e is = is.value ∙ ap (λ (r : Raw). Number (number_of r)) (sym is.value)
+  is_number Fixed16 e is = absurd cc
+  is_number ZeroEnded e is = absurd cc
+  is_number Block1 e is = absurd cc
+  is_number Block2 e is = absurd cc
+  is_number Block4 e is = absurd cc
+  is_number BlockUleb e is = absurd cc
+  is_number _ e is = absurd is
+
+-- ---- an attribute that came from a file
+
+implicit_is : (form : ℕ) (number : ℤ) (bytes : List ℕ) (raw : Raw) → form ≡ 0x21 → SpellsShape (shape_of written_rows form) number bytes raw → raw ≡ Number number
+unfolding form_rows
+implicit_is form number bytes raw e is = (let is' = subst (λ (f : ℕ). SpellsShape (shape_of written_rows f) number bytes raw) e is in is'.value)
+
+constant_fits : (p : Pair) (bytes : List ℕ) → SpellsPair bytes p → p.form ≡ 0x21 → fits_i64 p.constant ≡ true
+constant_fits p bytes is e = go (eqb p.form 0x21) (eq-eqb p.form 0x21 e) is.constant where
+  go : (t : Bool) → t ≡ true → MatchBool t (SpellsSleb is.constant_bytes p.constant) ((is.constant_bytes ≡ []) × (p.constant ≡ pos 0)) → fits_i64 p.constant ≡ true
+  go true r c = c.in_range
+  go false r c = absurd cc
+
+-- a reference, whose form is still to be chosen
+pub record Reference {K : Type 0} (a : Attr K) : Type 0 where
+  pub some_name : 0 < a.name
+  pub name_fits : a.name ≤ 0xffff
+  pub no_sibling : a.name ≢ 0x01
+  pub target : K
+  pub value : a.value ≡ ref target
+  pub chosen : (f : Fit K) → fit_attr f a ≡ with_form a (as_entry f a)
+
+-- a text that has a place in a section
+pub record Placed {K : Type 0} (from : Sources → Type 0) (a : Attr K) : Type 0 where
+  pub sources : Sources
+  pub file : from sources
+  pub text : List ℕ
+  pub value : a.value ≡ only (Text text)
+  pub sound : SoundAttr a
+  pub class : ((class_of a.form ≡ OfTextInStr) × IsTextAt sources.strs (reach a.raw) text) ⊎ ((class_of a.form ≡ OfTextInLineStr) × IsTextAt sources.line_strs (reach a.raw) text)
+
+-- any other attribute, whose form stays
+pub record Other {K : Type 0} (a : Attr K) : Type 0 where
+  pub stays : (f : Fit K) → fit_attr f a ≡ a
+  pub sound : SoundAttr a
+  pub says : (t : Tells K) (own : List K) → AttrSays t own a
+  pub text : (texts : List (List ℕ)) → AttrTexts texts a
+
+module _ {K : Type 0} (from : Sources → Type 0) (a : Attr K) (came : CameFrom from a) where
+  abbrev old : RawAttr
+  old = came.was_read.old
+
+  same_form : old.pair.form ≡ a.form
+  same_form = sym came.was_read.means.form ∙ sym (ap (λ (b : Attr K). b.form) came.was_read.same)
+
+  same_name : old.pair.name ≡ a.name
+  same_name = sym came.was_read.means.name ∙ sym (ap (λ (b : Attr K). b.name) came.was_read.same)
+
+  same_raw : number_of old.raw ≡ a.raw
+  same_raw = sym came.was_read.means.raw ∙ sym (ap (λ (b : Attr K). b.raw) came.was_read.same)
+
+  stored : SpellsValue written_rows old.pair came.stored.bytes old.raw
+  stored = same_shape old.pair.form (constant_of old.pair) came.stored.bytes old.raw came.stored.spelled
+
+  -- the constant of an implicit_const is the number
+  constant_is : a.form ≡ 0x21 → a.raw ≡ constant_of old.pair
+  constant_is e = sym same_raw ∙ ap number_of (implicit_is old.pair.form (constant_of old.pair) came.stored.bytes old.raw (same_form ∙ e) stored)
+
+  same_constant : constant_of old.pair ≡ constant_of (pair_of a)
+  same_constant = go (eqb a.form 0x21) refl where
+    go : (t : Bool) → eqb a.form 0x21 ≡ t → constant_of old.pair ≡ cond t (cond t a.raw (pos 0)) (pos 0)
+    go true e = sym (constant_is (eqb-true a.form 0x21 e))
+    go false e = ap (λ (t : Bool). cond t old.pair.constant (pos 0)) (ap (λ (f : ℕ). eqb f 0x21) same_form ∙ e)
+
+  has_bytes : HasBytes a old.raw
+  has_bytes = record {
+    bytes = came.stored.bytes;
+    are_bytes = came.stored.are_bytes;
+    spelled = subst (λ (z : ℤ). SpellsShape (shape_of written_rows a.form) z came.stored.bytes old.raw) same_constant (subst (λ (f : ℕ). SpellsShape (shape_of written_rows f) (constant_of old.pair) came.stored.bytes old.raw) same_form stored);
+  }
+
+  fits_constant : a.form ≡ 0x21 → fits_i64 a.raw ≡ true
+  fits_constant e =
+      let form : old.pair.form ≡ 0x21 = same_form ∙ e in
+      let known : constant_of old.pair ≡ old.pair.constant = ap (λ (t : Bool). cond t old.pair.constant (pos 0)) (eq-eqb old.pair.form 0x21 form) in
+      ap fits_i64 (constant_is e ∙ known) ∙ constant_fits old.pair came.stored.pair_bytes came.stored.pair form
+
+  some_name : 0 < a.name
+  some_name = subst (λ (n : ℕ). 0 < n) same_name came.stored.pair.some_name
+
+  name_fits : a.name ≤ 0xffff
+  name_fits = subst (λ (n : ℕ). n ≤ 0xffff) same_name came.stored.pair.name_fits
+
+  no_sibling : a.name ≢ 0x01
+  no_sibling e = came.stored.no_sibling (same_name ∙ e)
+
+  -- what was stored is what is stored
+  again_bytes : (c : Class) → class_of a.form ≡ c → stores_bytes c ≡ true → old.raw ≡ Bytes (bytes_of old.raw)
+  again_bytes c e stores =
+      elim (class_agrees class_rows a.form rows_agree) [
+        | inl u ↦ absurd (let no : stores_bytes (class_of a.form) ≡ false = ap stores_bytes u in let yes : stores_bytes (class_of a.form) ≡ true = ap stores_bytes e ∙ stores in cc)
+        | inr h ↦ is_bytes (constant_of (pair_of a)) has_bytes.bytes old.raw (shape_of written_rows a.form) (sym h ∙ ap stores_bytes e ∙ stores) has_bytes.spelled
+      ]
+
+  again_number : (c : Class) → class_of a.form ≡ c → stores_bytes c ≡ false → (c ≡ Unread → ⊥) → old.raw ≡ Number a.raw
+  again_number c e stores some =
+      elim (class_agrees class_rows a.form rows_agree) [
+        | inl u ↦ absurd (some (sym e ∙ u))
+        | inr h ↦ is_number (constant_of (pair_of a)) has_bytes.bytes old.raw (shape_of written_rows a.form) (sym h ∙ ap stores_bytes e ∙ stores) has_bytes.spelled ∙ ap Number same_raw
+      ]
+
+  -- an attribute of a class that names no entry
+  other_sound : StoresAs (class_of a.form) a → SoundAttr a
+  other_sound value = record { some_name = some_name; name_fits = name_fits; no_sibling = no_sibling; built = came.built; constant = fits_constant; value = value }
+
+  -- one whose form stays
+  other : (c : Class) → class_of a.form ≡ c → ((f : Fit K) → fit_as c f a ≡ as_read a) → (HasBytes a old.raw → StoresAs c a) → (WasRead a → (t : Tells K) (own : List K) → SaysAs c t own a)
+      → ((texts : List (List ℕ)) → TextAs c texts a) → Other a
+  other c e form stores says text = record {
+    stays = λ f. ap (λ (d : Class). with_form a (fit_as d f a)) e ∙ ap (λ (x : Chosen). with_form a x) (form f);
+    sound = other_sound (subst (λ (d : Class). StoresAs d a) (sym e) (stores has_bytes));
+    says = λ t own. subst (λ (d : Class). SaysAs d t own a) (sym e) (says came.was_read t own);
+    text = λ texts. subst (λ (d : Class). TextAs d texts a) (sym e) (text texts);
+  }
+
+  reference : (c : Class) → class_of a.form ≡ c → ((f : Fit K) → fit_as c f a ≡ as_entry f a) → ((texts : List (List ℕ)) → TextAs c texts a) → (k : K) → a.value ≡ ref k → Reference a
+  reference c e form text k value = record { some_name = some_name; name_fits = name_fits; no_sibling = no_sibling; target = k; value = value; chosen = λ f. ap (λ (d : Class). with_form a (fit_as d f a)) e ∙ ap (λ (x : Chosen). with_form a x) (form f) }
+
+  abbrev w : WasRead a
+  w = came.was_read
+
+  same_value : a.value ≡ value_map w.name w.read.value
+  same_value = ap (λ (b : Attr K). b.value) w.same
+
+  plain_of : (p : Plain) → w.read.value ≡ only p → a.value.plain ≡ p
+  plain_of p is = plain_is a w.name w.read.value p same_value is
+
+  -- one that stores a number
+  number : (c : Class) → class_of a.form ≡ c → stores_bytes c ≡ false → (c ≡ Unread → ⊥) → HasBytes a old.raw → HasBytes a (Number a.raw)
+  number c e stores some h = subst (HasBytes a) (again_number c e stores some) h
+
+  -- one that stores bytes
+  content : (c : Class) (bytes : List ℕ) → class_of a.form ≡ c → stores_bytes c ≡ true → bytes_of old.raw ≡ bytes → HasBytes a old.raw → HasBytes a (Bytes bytes)
+  content c bytes e stores same h = subst (HasBytes a) (again_bytes c e stores ∙ ap (λ (b : List ℕ). Bytes b) same) h
+
+  abbrev Kinds : Type 0
+  Kinds = Reference a ⊎ (Placed from a ⊎ Other a)
+
+  by_class : (c : Class) → class_of a.form ≡ c → IsBuiltAs c a.name → MeansAs c w.scope old w.read.value → Kinds
+  by_class OfAddress e built m = inr (inr (other OfAddress e (λ f. refl) (number OfAddress e refl (λ x. cc)) (λ r t own. r) (λ texts. tt)))
+  by_class OfBlock e built m = inr (inr (other OfBlock e (λ f. refl) (content OfBlock _ e refl (sym (ap block_in (plain_of _ m)))) (λ r t own. r) (λ texts. tt)))
+  by_class OfConstant e built m =
+      let m' = not_so (names_file old.pair.name) _ _ (ap names_file same_name ∙ built) m in
+      inr (inr (other OfConstant e (λ f. refl) (number OfConstant e refl (λ x. cc)) (λ r t own. r) (λ texts. tt)))
+  by_class OfFlag e built m = inr (inr (other OfFlag e (λ f. refl) (number OfFlag e refl (λ x. cc)) (λ r t own. r) (λ texts. tt)))
+  by_class OfText e built m = inr (inr (other OfText e (λ f. refl) (content OfText _ e refl (sym (ap text_in (plain_of _ m)))) (λ r t own. r) (λ texts. tt)))
+  by_class OfTextInStr e built m = inr (inl (record {
+    sources = w.scope.around.sources;
+    file = came.file;
+    text = m.text;
+    value = same_value ∙ ap (λ (v : Value ℕ). value_map w.name v) m.value;
+    sound = other_sound (subst (λ (d : Class). StoresAs d a) (sym e) (number OfTextInStr e refl (λ x. cc) has_bytes));
+    class = inl (e, subst (λ (z : ℤ). IsTextAt w.scope.around.sources.strs (reach z) m.text) same_raw m.stands);
+  }))
+  by_class OfTextInLineStr e built m = inr (inl (record {
+    sources = w.scope.around.sources;
+    file = came.file;
+    text = m.text;
+    value = same_value ∙ ap (λ (v : Value ℕ). value_map w.name v) m.value;
+    sound = other_sound (subst (λ (d : Class). StoresAs d a) (sym e) (number OfTextInLineStr e refl (λ x. cc) has_bytes));
+    class = inr (e, subst (λ (z : ℤ). IsTextAt w.scope.around.sources.line_strs (reach z) m.text) same_raw m.stands);
+  }))
+  by_class OfTextBySlot e built m = absurd built
+  by_class OfUnitEntry e built m = inl (reference OfUnitEntry e (λ f. refl) (λ texts. tt) _ (same_value ∙ ap (λ (v : Value ℕ). value_map w.name v) m.1))
+  by_class OfInfoEntry e built m = inl (reference OfInfoEntry e (λ f. refl) (λ texts. tt) _ (same_value ∙ ap (λ (v : Value ℕ). value_map w.name v) m.1))
+  by_class OfCommonEntry e built m = inl (reference OfCommonEntry e (λ f. refl) (λ texts. tt) _ (same_value ∙ ap (λ (v : Value ℕ). value_map w.name v) m.2.1))
+  by_class OfSignature e built m = inr (inr (other OfSignature e (λ f. refl) (number OfSignature e refl (λ x. cc)) (λ r t own. r) (λ texts. tt)))
+  by_class OfOffset e built m =
+      let m' = not_so (names_list old.pair.name) _ _ (ap names_list same_name ∙ built) m in
+      inr (inr (other OfOffset e (λ f. refl) (number OfOffset e refl (λ x. cc)) (λ r t own. r) (λ texts. tt)))
+  by_class OfExpression e built m = absurd built
+  by_class OfListIndex e built m = absurd built
+  by_class OfIndex e built m = inr (inr (other OfIndex e (λ f. refl) (number OfIndex e refl (λ x. cc)) (λ r t own. r) (λ texts. tt)))
+  by_class OfCommonText e built m = absurd built
+  by_class Unread e built m = absurd built
+
+  pub came_is : Kinds
+  came_is = by_class (class_of a.form) refl came.built (subst (λ (f : ℕ). MeansAs (class_of f) w.scope old w.read.value) same_form w.means.value)
+
+import_class : class_of 0x10 ≡ OfInfoEntry
+unfolding class_rows class_in
+import_class = refl
+
+imports_is : {K : Type 0} (a : Attr K) → Imports a → Reference a
+imports_is a is = record {
+  some_name = omega (arith, is.name);
+  name_fits = omega (arith, is.name);
+  no_sibling = λ e. omega (arith, is.name, e);
+  target = is.target;
+  value = is.value;
+  chosen = λ f. ap (λ (d : Class). with_form a (fit_as d f a)) (ap class_of is.form ∙ import_class);
+}
+
+pub carried_is : {K : Type 0} (from : Sources → Type 0) (a : Attr K) → CarriedAttr from a → Reference a ⊎ (Placed from a ⊎ Other a)
+carried_is from a is = elim is [ inl c ↦ came_is from a c | inr i ↦ inl (imports_is a i) ]

@@ -1,0 +1,118 @@
+-- What the units that are written mean: the same units, with places for keys.
+use Rattle.std.specs.Prelude.{◌≡◌, ℕ, List, [], ◌∷◌, ◌++◌, map, Some}
+use Rattle.dwz_meanings.specs.Documents.{Attr, Compile, DwUnit, Entries, Kind, Node, OfType, Partial, Text, attr_map, kind_map, only, value_map}
+use Rattle.dwz_docs.specs.Entries.{Mode, RawAttr}
+use Rattle.dwz_docs.specs.Lists.{In}
+use Rattle.dwz_meanings.specs.Meanings.{Around, Class, Common, MeanUnits, MeansAttr, OfCommonEntry, OfInfoEntry, OfTextInLineStr, OfTextInStr, OfUnitEntry, Scope, all_places, class_of, number_of}
+use Rattle.dwz_bytes.specs.Spelling.{reach}
+use Rattle.dwz_docs.specs.Texts.{IsTextAt}
+use Rattle.dwz_docs.specs.Trees.{End, Entry}
+use Rattle.dwz_docs.specs.Units.{RawUnit, SpellsUnits}
+use Rattle.dwz_seen.specs.Lists.{Each}
+use Rattle.dwz_writing.specs.Placing.{UnitSections}
+use Rattle.dwz_seen.specs.Shown.{keys, units_keys}
+use Rattle.dwz_writing.specs.Writing.{Numbering, stored}
+
+-- ---- the units with places for keys; the number of an attribute is the one that it stores there
+
+abbrev pub placed_attr : {K P : Type 0} → Numbering K → (K → P) → ℕ → Attr K → Attr P
+placed_attr n g unit a = record { name = a.name; form = a.form; raw = number_of (stored n unit a); value = value_map g a.value }
+
+abbrev pub placed_node : {K P : Type 0} → Numbering K → (K → P) → ℕ → Node K → Node P
+placed_node n g unit e = record { at = g e.at; tag = e.tag; attrs = map (placed_attr n g unit) e.attrs }
+
+unfoldable pub placed_entries : {K P : Type 0} → Numbering K → (K → P) → ℕ → Entries K → Entries P
+placed_entries n g unit End = End
+placed_entries n g unit (Entry e children next) = Entry (placed_node n g unit e) (placed_entries n g unit children) (placed_entries n g unit next)
+
+abbrev pub placed_unit : {K P : Type 0} → Numbering K → (K → P) → DwUnit K → DwUnit P
+placed_unit n g u = record { at = g u.at; kind = kind_map g u.kind; root = placed_node n g (n.place u.at) u.root; below = placed_entries n g (n.place u.at) u.below }
+
+abbrev pub placed_units : {K P : Type 0} → Numbering K → (K → P) → List (DwUnit K) → List (DwUnit P)
+placed_units n g units = map (placed_unit n g) units
+
+-- ---- what is asked of units so that they mean that
+
+-- the names of a unit's entries, and of those of all units
+abbrev pub entry_keys : {K : Type 0} → DwUnit K → List K
+entry_keys u = u.root.at ∷ keys u.below
+
+unfoldable pub all_entry_keys : {K : Type 0} → List (DwUnit K) → List K
+all_entry_keys [] = []
+all_entry_keys (u ∷ units) = entry_keys u ++ all_entry_keys units
+
+-- the attribute was read in a file, and its places have names
+pub record WasRead {K : Type 0} (a : Attr K) : Type 0 where
+  pub scope : Scope ℕ
+  pub old : RawAttr
+  pub read : Attr ℕ
+  pub means : MeansAttr scope old read
+  pub name : ℕ → K
+  pub same : a ≡ attr_map name read
+
+-- what units are written for: the sections that their texts stand in, the keys of all entries of the file, and of those of the common
+-- file
+pub record Tells (K : Type 0) : Type 0 where
+  pub strs : List ℕ
+  pub line_strs : List ℕ
+  pub all : List K
+  pub common : List K
+
+-- its text stands in the section, at the number that it stores
+pub record TextSays {K : Type 0} (section : List ℕ) (a : Attr K) : Type 0 where
+  pub text : List ℕ
+  pub stands : IsTextAt section (reach a.raw) text
+  pub value : a.value ≡ only (Text text)
+
+-- A reference names an entry of its unit, of any unit of the file, or of the common file, as its form says; a text stands where its
+-- form says; any other attribute was read.
+abbrev pub SaysAs : {K : Type 0} → Class → Tells K → List K → Attr K → Type 0
+SaysAs OfUnitEntry t own a = Each (λ k. In k own) a.value.refs
+SaysAs OfInfoEntry t own a = Each (λ k. In k t.all) a.value.refs
+SaysAs OfCommonEntry t own a = Each (λ k. In k t.common) a.value.refs
+SaysAs OfTextInStr t own a = TextSays t.strs a
+SaysAs OfTextInLineStr t own a = TextSays t.line_strs a
+SaysAs _ t own a = WasRead a
+
+abbrev pub AttrSays : {K : Type 0} → Tells K → List K → Attr K → Type 0
+AttrSays t own a = SaysAs (class_of a.form) t own a
+
+abbrev pub NodeSays : {K : Type 0} → Tells K → List K → Node K → Type 0
+NodeSays t own e = Each (AttrSays t own) e.attrs
+
+abbrev pub EntriesSay : {K : Type 0} → Tells K → List K → Entries K → Type 0
+EntriesSay t own End = Unit {0}
+EntriesSay t own (Entry e children next) = NodeSays t own e × EntriesSay t own children × EntriesSay t own next
+
+-- the type of a type unit is an entry of that unit
+abbrev pub KindSays : {K : Type 0} → List K → Kind K → Type 0
+KindSays own Compile = Unit {0}
+KindSays own (OfType signature main) = In main own
+KindSays own Partial = Unit {0}
+
+pub record UnitSays {K : Type 0} (t : Tells K) (u : DwUnit K) : Type 0 where
+  pub kind : KindSays (entry_keys u) u.kind
+  pub root : NodeSays t (entry_keys u) u.root
+  pub below : EntriesSay t (entry_keys u) u.below
+
+abbrev pub UnitsSay : {K : Type 0} → Tells K → List (DwUnit K) → Type 0
+UnitsSay t units = Each (UnitSays t) units
+
+-- ---- where they are read back
+
+-- The file's own places, and those that the common file gives, are where its keys stand; and texts stand in its sections.
+pub record IsAround {K P : Type 0} (n : Numbering K) (g : K → P) (t : Tells K) (keys : List K) (around : Around P) : Type 0 where
+  pub strs : around.sources.strs ≡ t.strs
+  pub line_strs : around.sources.line_strs ≡ t.line_strs
+  pub all : around.all ≡ map n.place t.all
+  pub place : (k : K) → In k keys → around.place (n.place k) ≡ g k
+  pub common : (k : K) → In k t.common → (c : Common P) × (around.common ≡ Some c) × In (n.place k) c.entries × (c.place (n.place k) ≡ g k)
+
+-- ---- what sections say
+
+-- they spell units that stand at the places of their keys, entry by entry, and mean the units with places for keys where these are told
+pub record Spells {K : Type 0} (n : Numbering K) (s : UnitSections) (mode : Mode) (units : List (DwUnit K)) : Type 0 where
+  pub raw : List RawUnit
+  pub spelled : SpellsUnits s.abbrevs mode 0 raw 0 s.info
+  pub places : all_places raw ≡ map n.place (all_entry_keys units)
+  pub means : (place : K → ℕ) (t : Tells K) (around : Around ℕ) → t.all ≡ all_entry_keys units → IsAround n place t (units_keys units) around → UnitsSay t units → MeanUnits around raw (placed_units n place units)

@@ -1,0 +1,234 @@
+-- Where each key stands: where the bytes before it end. No length depends on the numbers that are written, so there is one placement.
+use Rattle.std.specs.Prelude.{◌≡◌, ℕ, ℤ, pos, ◌+◌, ◌<◌, Bool, true, false, List, [], ◌∷◌, ◌++◌, length, map}
+use Rattle.dwz_docs.specs.ElfLayout.{too_large}
+use Rattle.dwz_meanings.specs.Documents.{Attr, DwUnit, Entries, Kind, Node, Partial}
+use Rattle.dwz_meanings.specs.Meanings.{Class, OfCommonEntry, OfInfoEntry, OfTextBySlot, OfTextInLineStr, OfTextInStr, OfUnitEntry, class_of}
+use Rattle.dwz_docs.specs.Trees.{End, Entry}
+use Rattle.dwz_seen.specs.Shown.{unit_keys, units_keys}
+use Rattle.dwz_alike.specs.Spots.{same_numbers}
+use Rattle.dwz_writing.specs.Writing.{Numbering, Shape, header_size, if_any, joined, node_bytes, spelled, table_of, tables_of, text_in, unit_size, units_bytes}
+
+-- all numbers are 0, which serves where only lengths are asked for
+abbrev pub zeros : {K : Type 0} → Numbering K
+zeros = record { place = λ k. 0 }
+
+-- ---- the relation: numbers agree with where things stand
+
+-- each entry of a sibling list that begins at a place has the number of the place where the bytes before it end
+abbrev pub Stands : {K : Type 0} → Numbering K → ℕ → List Shape → ℕ → Entries K → Type 0
+Stands n unit table at End = Unit {0}
+Stands n unit table at (Entry e children next) =
+    (n.place e.at ≡ at) × Stands n unit table (at + length (node_bytes n unit table e children)) children
+    × Stands n unit table (at + length (node_bytes n unit table e children) + length (if_any children (spelled n unit table children))) next
+
+pub record UnitStands {K : Type 0} (n : Numbering K) (u : DwUnit K) (at : ℕ) : Type 0 where
+  pub unit : n.place u.at ≡ at
+  pub root : n.place u.root.at ≡ at + header_size u.kind
+  pub below : Stands n at (table_of u) (at + header_size u.kind + length (node_bytes n at (table_of u) u.root u.below)) u.below
+
+-- units stand one after the other from a place on
+abbrev pub UnitsStand : {K : Type 0} → Numbering K → List (DwUnit K) → ℕ → Type 0
+UnitsStand n [] at = Unit {0}
+UnitsStand n (u ∷ units) at = UnitStands n u at × UnitsStand n units (at + unit_size n at u)
+
+-- ---- the placement
+
+unfoldable pub placed : {K : Type 0} → List Shape → ℕ → Entries K → List (K × ℕ)
+placed table at End = []
+placed table at (Entry e children next) =
+    let inner = at + length (node_bytes zeros 0 table e children) in
+    (e.at, at) ∷ placed table inner children ++ placed table (inner + length (if_any children (spelled zeros 0 table children))) next
+
+unfoldable pub units_placed : {K : Type 0} → ℕ → List (DwUnit K) → List (K × ℕ)
+units_placed at [] = []
+units_placed at (u ∷ units) =
+    (u.at, at)
+    ∷ (u.root.at, at + header_size u.kind)
+    ∷ placed (table_of u) (at + header_size u.kind + length (node_bytes zeros 0 (table_of u) u.root u.below)) u.below
+    ++ units_placed (at + unit_size zeros 0 u) units
+
+unfoldable pub number_in : {K : Type 0} → (K → K → Bool) → List (K × ℕ) → K → ℕ
+number_in same [] k = 0
+number_in same (p ∷ ps) k = elim (same p.0 k) as (λ _. ℕ) [ true ↦ p.1 | false ↦ number_in same ps k ]
+
+-- the units that stand in a file after, and the file's number
+pub record FileOut (K : Type 0) : Type 0 where
+  pub number : ℕ
+  pub units : List (DwUnit K)
+
+-- the keys of all files, in each file from 0
+unfoldable pub files_placed : {K : Type 0} → List (FileOut K) → List (K × ℕ)
+files_placed [] = []
+files_placed (f ∷ files) = units_placed 0 f.units ++ files_placed files
+
+unfoldable pub files_keys : {K : Type 0} → List (FileOut K) → List K
+files_keys [] = []
+files_keys (f ∷ files) = units_keys f.units ++ files_keys files
+
+abbrev pub numbering : {K : Type 0} → (K → K → Bool) → List (FileOut K) → Numbering K
+numbering same files = record { place = number_in same (files_placed files) }
+
+unfoldable pub has_key : {K : Type 0} → (K → K → Bool) → K → List K → Bool
+has_key same k [] = false
+has_key same k (x ∷ xs) = elim (same x k) as (λ _. Bool) [ true ↦ true | false ↦ has_key same k xs ]
+
+-- the number of the file in which a key stands
+unfoldable pub file_in : {K : Type 0} → (K → K → Bool) → List (FileOut K) → K → ℕ
+file_in same [] k = 0
+file_in same (f ∷ files) k = elim (has_key same k (units_keys f.units)) as (λ _. ℕ) [ true ↦ f.number | false ↦ file_in same files k ]
+
+-- ---- the form of each value, by where it stands
+
+-- an old unit; a partial unit of a file; a partial unit of the common file
+pub data Holder : Type 0 where
+  OldUnit : Holder
+  NewUnit : Holder
+  CommonUnit : Holder
+
+abbrev pub holder_of : {K : Type 0} → Bool → Kind K → Holder
+holder_of true kind = CommonUnit
+holder_of false Partial = NewUnit
+holder_of false _ = OldUnit
+
+-- What forms are chosen by: a test of keys; the keys of the unit and of its file; what holds the unit; and the texts of the common
+-- file, in order.
+pub record Fit (K : Type 0) : Type 0 where
+  pub same : K → K → Bool
+  pub own : List K
+  pub file : List K
+  pub holder : Holder
+  pub texts : List (List ℕ)
+
+-- where an entry stands that is named: in the same unit, in another of the file, or in the common file
+pub data Reach : Type 0 where
+  InUnit : Reach
+  InFile : Reach
+  InCommon : Reach
+
+abbrev pub reach_by : (own file : Bool) → Reach
+reach_by true _ = InUnit
+reach_by false true = InFile
+reach_by false false = InCommon
+
+-- of the first of these keys
+abbrev pub reach_of : {K : Type 0} → Fit K → List K → Reach
+reach_of f [] = InUnit
+reach_of f (k ∷ refs) = reach_by (has_key f.same k f.own) (has_key f.same k f.file)
+
+-- DW_FORM_ref4, DW_FORM_ref_addr, DW_FORM_ref_sup4
+abbrev pub ref_form : Reach → ℕ
+ref_form InUnit = 0x13
+ref_form InFile = 0x10
+ref_form InCommon = 0x1c
+
+-- the form of a value, and the number of one that is no entry
+pub record Chosen : Type 0 where
+  pub form : ℕ
+  pub raw : ℤ
+
+abbrev pub as_read : {K : Type 0} → Attr K → Chosen
+as_read a = record { form = a.form; raw = a.raw }
+
+abbrev pub as_entry : {K : Type 0} → Fit K → Attr K → Chosen
+as_entry f a = record { form = ref_form (reach_of f a.value.refs); raw = a.raw }
+
+-- the place of a text among texts that stand one after the other, each with a zero byte behind it
+unfoldable pub text_place : List (List ℕ) → List ℕ → ℕ
+text_place [] text = 0
+text_place (t ∷ texts) text = elim (same_numbers t text) as (λ _. ℕ) [ true ↦ 0 | false ↦ length t + 1 + text_place texts text ]
+
+-- a text is as it was read, or in the common file DW_FORM_strp, with its place in `.debug_str`
+abbrev pub as_text : {K : Type 0} → Holder → Fit K → Attr K → Chosen
+as_text CommonUnit f a = record { form = 0x0e; raw = pos (text_place f.texts (text_in a.value.plain)) }
+as_text _ f a = as_read a
+
+abbrev pub fit_as : {K : Type 0} → Class → Fit K → Attr K → Chosen
+fit_as OfUnitEntry f a = as_entry f a
+fit_as OfInfoEntry f a = as_entry f a
+fit_as OfCommonEntry f a = as_entry f a
+fit_as OfTextInStr f a = as_text f.holder f a
+fit_as OfTextInLineStr f a = as_text f.holder f a
+fit_as _ f a = as_read a
+
+abbrev pub with_form : {K : Type 0} → Attr K → Chosen → Attr K
+with_form a c = record { name = a.name; form = c.form; raw = c.raw; value = a.value }
+
+abbrev pub fit_attr : {K : Type 0} → Fit K → Attr K → Attr K
+fit_attr f a = with_form a (fit_as (class_of a.form) f a)
+
+abbrev pub fit_node : {K : Type 0} → Fit K → Node K → Node K
+fit_node f e = record { at = e.at; tag = e.tag; attrs = map (fit_attr f) e.attrs }
+
+unfoldable pub fit : {K : Type 0} → Fit K → Entries K → Entries K
+fit f End = End
+fit f (Entry e children next) = Entry (fit_node f e) (fit f children) (fit f next)
+
+-- what is known of a file: the keys of its units, whether it is the common file, and the texts of the common file
+pub record FileFit (K : Type 0) : Type 0 where
+  pub same : K → K → Bool
+  pub keys : List K
+  pub is_common : Bool
+  pub texts : List (List ℕ)
+
+abbrev pub unit_fit : {K : Type 0} → FileFit K → DwUnit K → Fit K
+unit_fit f u = record { same = f.same; own = unit_keys u; file = f.keys; holder = holder_of f.is_common u.kind; texts = f.texts }
+
+abbrev pub fit_unit : {K : Type 0} → FileFit K → DwUnit K → DwUnit K
+fit_unit f u = record { at = u.at; kind = u.kind; root = fit_node (unit_fit f u) u.root; below = fit (unit_fit f u) u.below }
+
+-- the units of a file
+unfoldable pub fit_units : {K : Type 0} → (K → K → Bool) → Bool → List (List ℕ) → List (DwUnit K) → List (DwUnit K)
+fit_units same is_common texts units = map (fit_unit (record { same = same; keys = units_keys units; is_common = is_common; texts = texts })) units
+
+-- ---- the texts of the common file
+
+abbrev pub add_unless : Bool → List (List ℕ) → List ℕ → List (List ℕ)
+add_unless true texts text = texts
+add_unless false texts text = texts ++ text ∷ []
+
+unfoldable pub has_text : List (List ℕ) → List ℕ → Bool
+has_text [] text = false
+has_text (t ∷ texts) text = elim (same_numbers t text) as (λ _. Bool) [ true ↦ true | false ↦ has_text texts text ]
+
+abbrev pub with_text : List (List ℕ) → List ℕ → List (List ℕ)
+with_text texts text = add_unless (has_text texts text) texts text
+
+-- with the text of an attribute that has a place in a section
+abbrev pub text_as : {K : Type 0} → Class → List (List ℕ) → Attr K → List (List ℕ)
+text_as OfTextInStr texts a = with_text texts (text_in a.value.plain)
+text_as OfTextInLineStr texts a = with_text texts (text_in a.value.plain)
+text_as OfTextBySlot texts a = with_text texts (text_in a.value.plain)
+text_as _ texts a = texts
+
+unfoldable pub attrs_texts : {K : Type 0} → List (List ℕ) → List (Attr K) → List (List ℕ)
+attrs_texts texts [] = texts
+attrs_texts texts (a ∷ attrs) = attrs_texts (text_as (class_of a.form) texts a) attrs
+
+unfoldable pub entries_texts : {K : Type 0} → List (List ℕ) → Entries K → List (List ℕ)
+entries_texts texts End = texts
+entries_texts texts (Entry e children next) = entries_texts (entries_texts (attrs_texts texts e.attrs) children) next
+
+-- the texts of units, in order of first use, each once
+unfoldable pub texts_of : {K : Type 0} → List (List ℕ) → List (DwUnit K) → List (List ℕ)
+texts_of texts [] = texts
+texts_of texts (u ∷ units) = texts_of (entries_texts (attrs_texts texts u.root.attrs) u.below) units
+
+-- `.debug_str` of the common file
+unfoldable pub texts_bytes : List (List ℕ) → List ℕ
+texts_bytes [] = []
+texts_bytes (t ∷ texts) = t ++ 0 ∷ texts_bytes texts
+
+-- ---- the sections
+
+-- `.debug_info` and `.debug_abbrev`
+pub record UnitSections : Type 0 where
+  pub info : List ℕ
+  pub abbrevs : List ℕ
+
+-- the bytes of a file's units whose values have their forms, under the places of the keys of all files
+unfoldable pub sections : {K : Type 0} → Numbering K → List (DwUnit K) → UnitSections
+sections n units = record { info = units_bytes n (tables_of [] units) units; abbrevs = joined (tables_of [] units) }
+
+-- neither section may have so many bytes
+abbrev pub FitsSections : UnitSections → Type 0
+FitsSections s = (length s.info < too_large) × (length s.abbrevs < too_large)

@@ -1,0 +1,74 @@
+-- What can be written so that it is read again: units whose references have their forms.
+use Rattle.std.specs.Prelude.{◌≡◌, ◌≢◌, ℕ, ◌<◌, ◌≤◌, ◌^◌, false, true, List}
+use Rattle.dwz_bytes.specs.Spelling.{fits_i64}
+use Rattle.dwz_meanings.specs.Documents.{Attr, Compile, DwUnit, Entries, Kind, Node, OfType, Partial, ref}
+use Rattle.dwz_meanings.specs.Meanings.{Class, OfCommonEntry, OfCommonText, OfConstant, OfExpression, OfInfoEntry, OfListIndex, OfOffset, OfTextBySlot, OfUnitEntry, Unread, class_of, names_file, names_list}
+use Rattle.dwz_docs.specs.Trees.{End, Entry}
+use Rattle.dwz_docs.specs.Values.{AreBytes, Raw, SpellsValue, written_rows}
+use Rattle.dwz_seen.specs.Lists.{Each}
+use Rattle.dwz_writing.specs.Placing.{zeros}
+use Rattle.dwz_writing.specs.Writing.{pair_of, stored_as}
+
+-- Which attributes are written. Texts by slots, expressions, location lists and the numbers of files will have their cases here.
+abbrev pub IsBuiltAs : Class → ℕ → Type 0
+IsBuiltAs OfTextBySlot name = ⊥
+IsBuiltAs OfExpression name = ⊥
+IsBuiltAs OfListIndex name = ⊥
+IsBuiltAs OfConstant name = names_file name ≡ false
+IsBuiltAs OfOffset name = names_list name ≡ false
+IsBuiltAs OfCommonText name = ⊥
+IsBuiltAs Unread name = ⊥
+IsBuiltAs _ name = Unit {0}
+
+abbrev pub IsBuilt : ℕ → ℕ → Type 0
+IsBuilt form name = IsBuiltAs (class_of form) name
+
+-- some bytes spell what the attribute stores, in its form
+pub record HasBytes {K : Type 0} (a : Attr K) (raw : Raw) : Type 0 where
+  pub bytes : List ℕ
+  pub are_bytes : AreBytes bytes
+  pub spelled : SpellsValue written_rows (pair_of a) bytes raw
+
+-- the attribute has that form, and its value is an entry
+pub record NamesEntry {K : Type 0} (f : ℕ) (a : Attr K) : Type 0 where
+  pub form : a.form ≡ f
+  pub target : K
+  pub value : a.value ≡ ref target
+
+-- A value that its form can store: an entry of the unit in DW_FORM_ref4, one of any unit in DW_FORM_ref_addr, one of the common file
+-- in DW_FORM_ref_sup4, and in any other form
+-- what has bytes; of what such a form stores no part is the number of a key.
+abbrev pub StoresAs : {K : Type 0} → Class → Attr K → Type 0
+StoresAs OfUnitEntry a = NamesEntry 0x13 a
+StoresAs OfInfoEntry a = NamesEntry 0x10 a
+StoresAs OfCommonEntry a = NamesEntry 0x1c a
+StoresAs c a = HasBytes a (stored_as c zeros 0 a)
+
+-- an attribute other than DW_AT_sibling, as a declaration and an entry hold it
+pub record SoundAttr {K : Type 0} (a : Attr K) : Type 0 where
+  pub some_name : 0 < a.name
+  pub name_fits : a.name ≤ 0xffff
+  pub no_sibling : a.name ≢ 0x01
+  pub built : IsBuilt a.form a.name
+  pub constant : a.form ≡ 0x21 → fits_i64 a.raw ≡ true
+  pub value : StoresAs (class_of a.form) a
+
+pub record SoundNode {K : Type 0} (e : Node K) : Type 0 where
+  pub some_tag : 0 < e.tag
+  pub tag_fits : e.tag ≤ 0xffff
+  pub attrs : Each SoundAttr e.attrs
+
+abbrev pub SoundEntries : {K : Type 0} → Entries K → Type 0
+SoundEntries End = Unit {0}
+SoundEntries (Entry e children next) = SoundNode e × SoundEntries children × SoundEntries next
+
+-- the tag of a root is that of its unit's kind: DW_TAG_compile_unit, DW_TAG_type_unit, DW_TAG_partial_unit
+abbrev pub SoundKind : {K : Type 0} → Kind K → ℕ → Type 0
+SoundKind Compile tag = tag ≡ 0x11
+SoundKind (OfType signature main) tag = (tag ≡ 0x41) × (signature < 2 ^ 64)
+SoundKind Partial tag = tag ≡ 0x3c
+
+pub record SoundUnit {K : Type 0} (u : DwUnit K) : Type 0 where
+  pub kind : SoundKind u.kind u.root.tag
+  pub root : SoundNode u.root
+  pub below : SoundEntries u.below

@@ -1,0 +1,73 @@
+//! What holds of the bytes of units: their lengths, where things stand, and what they say.
+
+ghost use Rattle.std.specs.Prelude.{◌≡◌, ◌<◌, ℕ, Bool, false, true, List, length, map};
+ghost use Rattle.dwz_meanings.specs.Documents.{Attr, DwUnit, Entries, Kind, Node, entries_map, node_map, unit_map};
+ghost use Rattle.dwz_docs.specs.Entries.{Mode, own_forms};
+ghost use Rattle.dwz_docs.specs.Lists.{In};
+ghost use Rattle.dwz_meanings.specs.Meanings.{Around, MeanUnits, Sources};
+ghost use Rattle.dwz_docs.specs.Units.{RawUnit, SpellsUnits};
+ghost use Rattle.dwz_docs.specs.Values.{AreBytes};
+ghost use Rattle.dwz_seen.specs.Lists.{Each};
+ghost use Rattle.dwz_writing.specs.Carried.{ApartIn, BuiltUnit, CarriedEntries, CarriedNode, CarriedUnit, ClosedIn, OfAny, OfFile, TextsStand};
+ghost use Rattle.dwz_writing.specs.Fitting.{AreWritable, IsRoomy, UnitFits, mode_for};
+ghost use Rattle.dwz_writing.specs.Meant.{Spells, Tells, UnitsSay, all_entry_keys};
+ghost use Rattle.dwz_writing.specs.Placing.{FileOut, UnitsStand, files_keys, fit_units, numbering, sections};
+ghost use Rattle.dwz_seen.specs.Shown.{units_keys};
+ghost use Rattle.dwz_writing.specs.Sound.{SoundAttr, SoundEntries, SoundNode, SoundUnit};
+ghost use Rattle.dwz_alike.specs.Spots.{Spot, same_spot};
+ghost use Rattle.dwz_seen.specs.Lists.{NoneTwice};
+ghost use Rattle.dwz_writing.specs.Standing.{SameLength};
+ghost use Rattle.dwz_writing.specs.Writing.{Numbering, Shape, attrs_bytes, kind_bytes, node_bytes, spelled, tree_bytes, unit_bytes, unit_size, units_bytes};
+
+/// No length depends on the numbers that are written, nor on where a unit begins: neither that of the attributes of an entry,
+/// of an entry's code and values, of a sibling list, of a unit's tree, of what its kind has in the header, nor its own.
+pub fn length_laws()
+    ensures attrs { (attrs : List (Attr Spot)) → Each SoundAttr attrs → SameLength (λ n unit. attrs_bytes n unit attrs) }
+    ensures entry { (table : List Shape) (e : Node Spot) (children : Entries Spot) → SoundNode e → SameLength (λ n unit. node_bytes n unit table e children) }
+    ensures entries { (table : List Shape) (entries : Entries Spot) → SoundEntries entries → SameLength (λ n unit. spelled n unit table entries) }
+    ensures tree { (u : DwUnit Spot) → SoundUnit u → SameLength (λ n unit. tree_bytes n unit u) }
+    ensures kind { (kind : Kind Spot) → SameLength (λ n unit. kind_bytes n unit kind) }
+    ensures unit { (u : DwUnit Spot) → SoundUnit u → (m n : Numbering Spot) (p q : ℕ) → unit_size m p u ≡ unit_size n q u }
+    ensures size { (n : Numbering Spot) (unit offset : ℕ) (u : DwUnit Spot) → length (unit_bytes n offset unit u) ≡ unit_size n unit u }
+{}
+
+/// Where names stand: if none stands twice in all files, the numbers from the placement agree with where things stand in each file, and
+/// any numbers that do are those. Under such numbers no two names of one file have one place, and each place is one of the section.
+pub fn placing_laws()
+    ensures stands { (files : List (FileOut Spot)) → NoneTwice (files_keys files) → (f : FileOut Spot) → In f files → Each SoundUnit f.units → UnitsStand (numbering same_spot files) f.units 0 }
+    ensures one { (n : Numbering Spot) (files : List (FileOut Spot)) (s : Spot) → ((f : FileOut Spot) → In f files → Each SoundUnit f.units × UnitsStand n f.units 0) → In s (files_keys files) → n.place s ≡ (numbering same_spot files).place s }
+    ensures apart { (n : Numbering Spot) (units : List (DwUnit Spot)) (s t : Spot) → UnitsStand n units 0 → In s (units_keys units) → In t (units_keys units) → n.place s ≡ n.place t → s ≡ t }
+    ensures within { (n : Numbering Spot) (tables : List (List ℕ)) (units : List (DwUnit Spot)) (s : Spot) → UnitsStand n units 0 → In s (units_keys units) → n.place s < length (units_bytes n tables units) }
+{}
+
+/// What the two sections of a file say of units that can be written. Where numbers fit, the sections spell units whose entries stand at
+/// the places of their names, under any limits on depth and on entries that these units meet. Where each reference names an
+/// entry of the unit, of the file, or of the common file, as its form says, numbers fit; and where each other attribute was read, and texts
+/// stand where their forms say, the units that are spelled mean those that were written, with places for names.
+pub fn bytes_laws()
+    ensures roomy { (units : List (DwUnit Spot)) → IsRoomy units (mode_for units) }
+    ensures fits { (n : Numbering Spot) (common : List Spot) (units : List (DwUnit Spot)) (t : Tells Spot) → t.all ≡ all_entry_keys units → t.common ≡ common → AreWritable n common units → UnitsSay t units → Each (UnitFits n) units }
+    ensures spelled { (n : Numbering Spot) (common : List Spot) (units : List (DwUnit Spot)) (mode : Mode) → AreWritable n common units → Each (UnitFits n) units → IsRoomy units mode → Spells n (sections n units) mode units }
+{}
+
+/// The forms of values. Units with what was read in a file are sound once these are chosen, and each value says what its form says: where
+/// each reference names an entry of the file or of the common file, and no name stands twice, and where texts stand in the file's own
+/// sections or all in those of the common file. Whatever is written has a fixed length. No name is changed.
+pub fn form_laws()
+    ensures file { (sources : Sources) (texts : List (List ℕ)) (t : Tells Spot) (units : List (DwUnit Spot)) → t.all ≡ all_entry_keys units → NoneTwice (units_keys units) → Each (CarriedUnit (OfFile sources)) units → ClosedIn t units → ApartIn t units
+        → TextsStand false (OfFile sources) texts t units → Each SoundUnit (fit_units same_spot false texts units) × UnitsSay t (fit_units same_spot false texts units) }
+    ensures common { (texts : List (List ℕ)) (t : Tells Spot) (units : List (DwUnit Spot)) → t.all ≡ all_entry_keys units → NoneTwice (units_keys units) → Each (CarriedUnit OfAny) units → ClosedIn t units → ApartIn t units
+        → TextsStand true OfAny texts t units → Each SoundUnit (fit_units same_spot true texts units) × UnitsSay t (fit_units same_spot true texts units) }
+    ensures keys { (is_common : Bool) (texts : List (List ℕ)) (units : List (DwUnit Spot)) → units_keys (fit_units same_spot is_common texts units) ≡ units_keys units }
+{}
+
+/// What is carried. Units that are read are, where the forms and names of their attributes are among those that are written; and
+/// units, entries and lists of entries stay so where places get names, or names others.
+pub fn carried_laws()
+    ensures read { (abbrevs info : List ℕ) (mode : Mode) (raw : List RawUnit) (around : Around ℕ) (units : List (DwUnit ℕ))
+        → mode.forms ≡ own_forms → SpellsUnits abbrevs mode 0 raw 0 info → MeanUnits around raw units → AreBytes info → Each BuiltUnit units → Each (CarriedUnit (OfFile around.sources)) units }
+    ensures named { (sources : Sources) (f : ℕ → Spot) (u : DwUnit ℕ) → CarriedUnit (OfFile sources) u → CarriedUnit (OfFile sources) (unit_map f u) }
+    ensures unit { (sources : Sources) (f : Spot → Spot) (u : DwUnit Spot) → CarriedUnit (OfFile sources) u → CarriedUnit (OfFile sources) (unit_map f u) }
+    ensures entry { (sources : Sources) (f : Spot → Spot) (e : Node Spot) → CarriedNode (OfFile sources) e → CarriedNode (OfFile sources) (node_map f e) }
+    ensures entries { (sources : Sources) (f : Spot → Spot) (entries : Entries Spot) → CarriedEntries (OfFile sources) entries → CarriedEntries (OfFile sources) (entries_map f entries) }
+{}

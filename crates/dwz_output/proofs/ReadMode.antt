@@ -1,8 +1,7 @@
 -- What is spelled where no unit is partial is spelled where some may be.
-use Rattle.std.proofs.Common.{◌≡◌, ℕ, ◌+◌, ◌≤◌, Bool, true, false, List, [], ◌∷◌, ◌++◌, length, Option, Some, None, refl, sym, ap, subst, ◌∙◌, arith}
+use Rattle.std.proofs.Common.{◌≡◌, ℕ, Bool, true, false, List, [], ◌∷◌, refl, ap}
 use Rattle.std.specs.Prelude.{◌==◌, ◌&&◌, ◌||◌}
-use Rattle.dwz_docs.specs.Abbrevs.{Declaration}
-use Rattle.dwz_docs.specs.Entries.{MayStand, Mode, RawEntry, SpellsEntry, SpellsFront, UnitContext}
+use Rattle.dwz_docs.specs.Entries.{Mode, RawEntry, SpellsEntry, SpellsFront, UnitContext}
 use Rattle.dwz_docs.specs.Trees.{End, Entry, Forest, IfChildren, Position, SpellsForest}
 use Rattle.dwz_docs.specs.Units.{RawUnit, SpellsTree, SpellsUnit, SpellsUnits, is_read, unit_type}
 
@@ -53,12 +52,11 @@ module _ (c : UnitContext) where
   }
 
 read_again : (mode : Mode) (type : ℕ) → is_read mode type ≡ true → is_read (with_partial mode) type ≡ true
-read_again mode type is = by (type == 1) (type == 2) (type == 3) mode.partial is where
-  by : (a b c partial : Bool) → (a || (b || (partial && c))) ≡ true → (a || (b || (true && c))) ≡ true
-  by true b c partial e = refl
-  by false true c partial e = refl
-  by false false c true e = e
-  by false false c false e = absurd cc
+read_again mode type is = by (mode.whole && (type == 1 || type == 2)) (type == 3) mode.partial is where
+  by : (a c partial : Bool) → (a || (partial && c)) ≡ true → (a || (true && c)) ≡ true
+  by true c partial e = refl
+  by false c true e = e
+  by false c false e = absurd cc
 
 module _ (abbrevs : List ℕ) (mode : Mode) where
   unit_again : (before : ℕ) (u : RawUnit) (start : ℕ) (bytes : List ℕ) → SpellsUnit abbrevs mode before u start bytes → SpellsUnit abbrevs (with_partial mode) before u start bytes

@@ -27,6 +27,7 @@ module _ {K L : Type 0} (sources : Sources) (f : K → L) where
         was_read = record {
           scope = w.scope;
           same_sources = w.same_sources;
+          own_places = w.own_places;
           old = w.old;
           read = w.read;
           means = w.means;

@@ -10,7 +10,7 @@ use Rattle.dwz_codes.specs.Forms.{form_rows}
 use Rattle.dwz_docs.specs.Abbrevs.{SpellsPair}
 use Rattle.dwz_meanings.specs.Documents.{Attr, Plain, Value, only, ref, value_map}
 use Rattle.dwz_docs.specs.Entries.{RawAttr}
-use Rattle.dwz_meanings.specs.Meanings.{Class, ClassRow, MeansAs, OfAddress, OfBlock, OfConstant, OfExpression, OfFlag, OfIndex, OfInfoEntry, OfListIndex, OfOffset, OfSignature, OfText, OfTextBySlot, OfTextInLineStr, OfTextInStr, OfUnitEntry, Sources, Unread, bytes_of, class_in, class_of, class_rows, names_file, names_list, number_of}
+use Rattle.dwz_meanings.specs.Meanings.{Class, ClassRow, MeansAs, OfAddress, OfBlock, OfCommonEntry, OfCommonText, OfConstant, OfExpression, OfFlag, OfIndex, OfInfoEntry, OfListIndex, OfOffset, OfSignature, OfText, OfTextBySlot, OfTextInLineStr, OfTextInStr, OfUnitEntry, Sources, Unread, bytes_of, class_in, class_of, class_rows, names_file, names_list, number_of}
 use Rattle.dwz_docs.specs.Values.{Bytes, Number, Raw, SpellsShape, constant_of, shape_of}
 use Rattle.dwz_output.specs.Carried.{CameFrom, CarriedAttr, Imports}
 use Rattle.dwz_output.specs.Meant.{AttrSays, SaysAs, WasRead}
@@ -236,6 +236,8 @@ module _ {K : Type 0} (sources : Sources) (a : Attr K) (came : CameFrom sources 
   by_class OfExpression e built m = absurd built
   by_class OfListIndex e built m = absurd built
   by_class OfIndex e built m = inr (other OfIndex _ e (plain_of _ m) (λ same here. refl) (number OfIndex e refl (λ x. cc)) (λ r own all. r))
+  by_class OfCommonEntry e built m = absurd built
+  by_class OfCommonText e built m = absurd built
   by_class Unread e built m = absurd built
 
   pub came_is : Reference a ⊎ Other sources a

@@ -66,12 +66,12 @@ pub mod ElfNoFault
 pub mod ElfRebuiltLemmas
 pub mod ElfGiven
 mod ElfRebuiltRows
-pub mod ReadRising
+pub mod OperandLemmas
 pub mod ReadPlaces
 mod PlanRows
-pub mod ReadClosed
 pub mod ReadMode
 pub mod ReadFile
 pub mod ReadCarried
 pub mod ReadBackLemmas
 pub mod ReadFixed
+pub mod NoLists

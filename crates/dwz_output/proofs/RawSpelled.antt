@@ -1,5 +1,5 @@
 -- The bytes of entries spell them as they are stored.
-use Rattle.std.proofs.Common.{◌≡◌, ℕ, ℤ, pos, suc, ◌+◌, ◌-◌, ◌^◌, ◌<◌, ◌≤◌, List, [], ◌∷◌, length, map, refl, sym, ap, subst, ◌∙◌, arith}
+use Rattle.std.proofs.Common.{◌≡◌, ◌==◌, Bool, ℕ, ℤ, pos, suc, ◌+◌, ◌-◌, ◌^◌, ◌<◌, ◌≤◌, List, [], ◌∷◌, length, map, refl, sym, ap, subst, ◌∙◌, arith}
 use Rattle.std.proofs.Math.Logic.{inl, inr}
 use Rattle.std.proofs.lemmas.Bool.Decides.{eqb_tells}
 use Rattle.dwz_bytes.specs.Spelling.{SpellsFixed, SpellsUleb, le_bytes}
@@ -8,8 +8,9 @@ use Rattle.dwz_bytes.proofs.PaddedLemmas.{uleb_spells}
 use Rattle.dwz_codes.specs.declared.shape.Shape.{Shape}
 use Rattle.dwz_codes.specs.declared.shape.Shape.TheVariants.{Refused}
 use Rattle.dwz_codes.specs.Forms.{form_rows}
+use Rattle.dwz_codes.specs.Rows.{RowView}
 use Rattle.dwz_meanings.specs.Documents.{Attr, Entries, Node}
-use Rattle.dwz_docs.specs.Entries.{Mode, SpellsAttrs, SpellsCode, SpellsEntry, SpellsFront, UnitContext}
+use Rattle.dwz_docs.specs.Entries.{Mode, SpellsAttrs, SpellsCode, SpellsEntry, SpellsFront, UnitContext, own_forms}
 use Rattle.dwz_meanings.specs.Meanings.{Class, OfExpression, OfInfoEntry, OfUnitEntry, class_of}
 use Rattle.dwz_docs.specs.Trees.{End, Entry, IfChildren, Position, SpellsForest, behind, first_below, size}
 use Rattle.dwz_docs.specs.Values.{Number, Raw, SpellsShape, SpellsValue, constant_of, shape_bytes, shape_of, value_bytes, written_rows}
@@ -77,12 +78,12 @@ module _ {K : Type 0} (n : Numbering K) (unit : ℕ) where
   as_spelled OfExpression a built s fits = absurd built
   as_spelled c a built s fits = has_spelled a _ s
 
-  pub attrs_spelled : (attrs : List (Attr K)) (at : ℕ) → Each SoundAttr attrs → Each (AttrFits n unit) attrs → SpellsAttrs (map pair_of attrs) (raw_attrs n unit at attrs) at (attrs_bytes n unit attrs)
+  pub attrs_spelled : (attrs : List (Attr K)) (at : ℕ) → Each SoundAttr attrs → Each (AttrFits n unit) attrs → SpellsAttrs form_rows (map pair_of attrs) (raw_attrs n unit at attrs) at (attrs_bytes n unit attrs)
   unfolding attrs_bytes raw_attrs
   attrs_spelled [] at s fits = refl
   attrs_spelled (a ∷ attrs) at s fits = record {
     first_bytes = value_bytes a.form (stored n unit a);
-    first = record { place = refl; same = refl; value = as_spelled (class_of a.form) a s.0.built s.0.value fits.0 };
+    first = record { place = refl; end = refl; same = refl; value = as_spelled (class_of a.form) a s.0.built s.0.value fits.0 };
     second_bytes = attrs_bytes n unit attrs;
     second = attrs_spelled attrs _ s.1 fits.1;
     parts = refl;
@@ -104,7 +105,7 @@ code_spelled table s h few =
     let fits : h.code < 2 ^ 64 = omega (arith, b.1, few) in
     rw h.is (record { code = h.code; spelled = uleb_spells h.code fits; some_code = omega (arith, b.0); declared = code_found 1 table s h.code h.is })
 
-module _ {K : Type 0} (n : Numbering K) (unit : ℕ) (table : List TableShape) (root_tag end : ℕ) (mode : Mode) where
+module _ {K : Type 0} (n : Numbering K) (unit : ℕ) (table : List TableShape) (root_tag end : ℕ) (mode : Mode) (forms : mode.forms ≡ own_forms) where
   pub entry_spelled : (e : Node K) (children : Entries K) (p : Position) (start : ℕ) (h : Has table (entry_shape e children)) → length table < 2 ^ 63 → SoundNode e → NodeFits n unit e → n.place e.at ≡ start
       → (p.depth ≡ 1 → e.tag ≡ root_tag) → p.depth ≤ mode.depth → p.before < mode.entries
       → SpellsEntry (context table root_tag end mode) p (raw_entry n unit table e children) start (node_bytes n unit table e children)
@@ -121,7 +122,7 @@ module _ {K : Type 0} (n : Numbering K) (unit : ℕ) (table : List TableShape) (
           first_bytes = code_of table e children;
           first = code_spelled table (entry_shape e children) h few;
           second_bytes = attrs_bytes n unit e.attrs;
-          second = attrs_spelled n unit e.attrs _ s.attrs fits;
+          second = subst (λ (f : ℕ → Bool → List RowView). SpellsAttrs (f root_tag (p.depth == 1)) (map pair_of e.attrs) (raw_attrs n unit (n.place e.at + length (code_of table e children)) e.attrs) (n.place e.at + length (code_of table e children)) (attrs_bytes n unit e.attrs)) (sym forms) (attrs_spelled n unit e.attrs _ s.attrs fits);
           parts = refl;
         };
       } in

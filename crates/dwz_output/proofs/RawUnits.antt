@@ -11,7 +11,7 @@ use Rattle.dwz_output.specs.Writing.{Numbering, Shape, any, code_bytes, code_in,
 unfoldable pub raw_attrs : {K : Type 0} → Numbering K → ℕ → ℕ → List (Attr K) → List RawAttr
 raw_attrs n unit at [] = []
 raw_attrs n unit at (a ∷ attrs) =
-    record { at = at; pair = pair_of a; raw = stored n unit a } ∷ raw_attrs n unit (at + length (value_bytes a.form (stored n unit a))) attrs
+    record { at = at; end = at + length (value_bytes a.form (stored n unit a)); pair = pair_of a; raw = stored n unit a } ∷ raw_attrs n unit (at + length (value_bytes a.form (stored n unit a))) attrs
 
 abbrev pub code_of : {K : Type 0} → List Shape → Node K → Entries K → List ℕ
 code_of table e children = code_bytes (code_in 1 table (shape_of e children))

@@ -1,14 +1,15 @@
 -- What is read of a file is carried: its attributes are stored there, and mean what was read.
-use Rattle.std.proofs.Common.{◌≡◌, ◌≢◌, ℕ, zero, suc, ◌+◌, ◌<◌, ◌≤◌, ◌^◌, Bool, true, false, List, [], ◌∷◌, ◌++◌, length, take, drop, map, Some, refl, sym, ap, subst, ◌∙◌, arith, cond, eqb}
+use Rattle.std.proofs.Common.{◌≡◌, ◌==◌, ◌≢◌, ℕ, zero, suc, ◌+◌, ◌<◌, ◌≤◌, ◌^◌, Bool, true, false, List, [], ◌∷◌, ◌++◌, length, take, drop, map, Some, refl, sym, ap, subst, ◌∙◌, arith, cond, eqb}
 use Rattle.std.proofs.lemmas.Bool.{eqb-false}
 use Rattle.std.proofs.Math.Logic.{inl}
 use Rattle.std.proofs.lemmas.List.{length-drop, length-take}
 use Rattle.dwz_model.specs.declared.place.Pair.{Pair}
 use Rattle.dwz_bytes.specs.Spelling.{le_value}
 use Rattle.dwz_codes.specs.Forms.{form_rows}
+use Rattle.dwz_codes.specs.Rows.{RowView}
 use Rattle.dwz_docs.specs.Abbrevs.{Declaration, EndsPairs, EndsTable, IsDeclared, IsPair, SpellsDeclaration, SpellsPair, SpellsTable, find_decl}
-use Rattle.dwz_meanings.specs.Documents.{Attr, DwUnit, Entries, Kind, Node, attr_map}
-use Rattle.dwz_docs.specs.Entries.{Mode, RawAttr, RawEntry, SpellsAttrs, SpellsEntry, SpellsFront, UnitContext}
+use Rattle.dwz_meanings.specs.Documents.{Attr, DwUnit, Entries, Kind, Node, OfType, attr_map}
+use Rattle.dwz_docs.specs.Entries.{Mode, RawAttr, RawEntry, SpellsAttrs, SpellsEntry, SpellsFront, UnitContext, own_forms}
 use Rattle.dwz_docs.specs.Lists.{SpellsItems}
 use Rattle.dwz_meanings.specs.Meanings.{MeanAttrs, MeanEntries, MeanUnits, MeansKind, MeansNode, MeansUnit, Scope, Sources, places_in, scope_of, without_siblings}
 use Rattle.dwz_docs.specs.Trees.{End, Entry, Forest, IfChildren, Position, SpellsForest}
@@ -17,7 +18,7 @@ use Rattle.dwz_docs.specs.Values.{AreBytes, SpellsValue}
 use Rattle.dwz_docs.proofs.WrittenLemmas.{drop_bytes, front_bytes, le_value-less}
 use Rattle.dwz_output.specs.Alike.{Each}
 use Rattle.dwz_output.specs.Carried.{BuiltAttr, BuiltEntries, BuiltUnit, CarriedAttr, CarriedEntries, CarriedNode, CarriedUnit, IsStored}
-use Rattle.dwz_output.specs.Meant.{KindSays, entry_keys}
+use Rattle.dwz_output.specs.Meant.{KindSays, by_itself, entry_keys}
 use Rattle.dwz_output.specs.Placing.{keys}
 use Rattle.dwz_output.specs.Sound.{SoundKind}
 
@@ -59,7 +60,7 @@ record IsHeld (old : RawAttr) : Type 0 where
   are_bytes : AreBytes bytes
   spelled : SpellsValue form_rows old.pair bytes old.raw
 
-are_held : (pairs : List Pair) (attrs : List RawAttr) (start : ℕ) (bytes : List ℕ) → SpellsAttrs pairs attrs start bytes → Each HasPair pairs → AreBytes bytes → Each IsHeld attrs
+are_held : (pairs : List Pair) (attrs : List RawAttr) (start : ℕ) (bytes : List ℕ) → SpellsAttrs form_rows pairs attrs start bytes → Each HasPair pairs → AreBytes bytes → Each IsHeld attrs
 are_held [] [] start bytes is have are = tt
 are_held [] (a ∷ attrs) start bytes is have are = absurd is
 are_held (p ∷ pairs) [] start bytes is have are = absurd is
@@ -94,31 +95,32 @@ map_same (p ∷ ps) = ap (λ (w : List ℕ). p ∷ w) (map_same ps)
 attr_same : (b : Attr ℕ) → b ≡ attr_map (λ p. p) b
 attr_same b = ap (λ (w : List ℕ). record { name = b.name; form = b.form; raw = b.raw; value = record { plain = b.value.plain; refs = w } }) (map_same b.value.refs)
 
-module _ (sources : Sources) (s : Scope) (same : s.sources ≡ sources) where
+module _ (sources : Sources) (s : Scope ℕ) (same : s.around.sources ≡ sources) (own : s.around.place ≡ (λ p. p)) where
   attrs_carried : (raw : List RawAttr) (attrs : List (Attr ℕ)) → MeanAttrs s raw attrs → Each IsStored raw → Each BuiltAttr attrs → Each (CarriedAttr sources) attrs
   attrs_carried [] [] means stored built = tt
   attrs_carried [] (b ∷ attrs) means stored built = absurd means
   attrs_carried (a ∷ raw) [] means stored built = absurd means
   attrs_carried (a ∷ raw) (b ∷ attrs) means stored built = (
-    inl (record { was_read = record { scope = s; same_sources = same; old = a; read = b; means = means.0; name = λ p. p; same = attr_same b }; stored = stored.0; built = built.0 }),
+    inl (record { was_read = record { scope = s; same_sources = same; own_places = own; old = a; read = b; means = means.0; name = λ p. p; same = attr_same b }; stored = stored.0; built = built.0 }),
     attrs_carried raw attrs means.1 stored.1 built.1,
   )
 
 -- ---- entries
 
-module _ (sources : Sources) (s : Scope) (same : s.sources ≡ sources) (c : UnitContext) (table_bytes : List ℕ) (table : SpellsTable table_bytes c.table) where
+module _ (sources : Sources) (s : Scope ℕ) (same : s.around.sources ≡ sources) (own : s.around.place ≡ (λ p. p)) (c : UnitContext) (forms : c.mode.forms ≡ own_forms) (table_bytes : List ℕ) (table : SpellsTable table_bytes c.table) where
   node_carried : (p : Position) (e : RawEntry) (d : Node ℕ) (start : ℕ) (bytes : List ℕ) → SpellsEntry c p e start bytes → MeansNode s e d → AreBytes bytes → Each BuiltAttr d.attrs → CarriedNode sources d
   node_carried p e d start bytes is means are built =
       let parts = is.parts in
       let code = parts.first in
       let decl = found_declaration c.table [] table_bytes code.code is.decl table code.declared in
       let all = subst AreBytes parts.parts are in
-      let held = are_held is.decl.pairs e.attrs (start + length parts.first_bytes) parts.second_bytes parts.second decl.pairs (back_bytes parts.first_bytes parts.second_bytes all) in
+      let values = subst (λ (f : ℕ → Bool → List RowView). SpellsAttrs (f c.root_tag (p.depth == 1)) is.decl.pairs e.attrs (start + length parts.first_bytes) parts.second_bytes) forms parts.second in
+      let held = are_held is.decl.pairs e.attrs (start + length parts.first_bytes) parts.second_bytes values decl.pairs (back_bytes parts.first_bytes parts.second_bytes all) in
       let tag : d.tag ≡ is.decl.tag = means.tag ∙ is.tag in
       record {
         some_tag = subst (λ (t : ℕ). 0 < t) (sym tag) decl.some_tag;
         tag_fits = subst (λ (t : ℕ). t ≤ 0xffff) (sym tag) decl.tag_fits;
-        attrs = attrs_carried sources s same (without_siblings e.attrs) d.attrs means.attrs (are_stored e.attrs held) built;
+        attrs = attrs_carried sources s same own (without_siblings e.attrs) d.attrs means.attrs (are_stored e.attrs held) built;
       }
 
   none_carried : (g : Entries ℕ) → MeanEntries s End g → CarriedEntries sources g
@@ -159,32 +161,33 @@ signature_fits signature offset true p bytes are len e =
     let less' : le_value (take 8 (drop 12 bytes)) < 256 ^ 8 = subst (λ (k : ℕ). le_value (take 8 (drop 12 bytes)) < 256 ^ k) eight less in
     omega (arith, same, less')
 
-pub keys_read : (s : Scope) (f : Forest RawEntry) (g : Entries ℕ) → MeanEntries s f g → keys g ≡ places_in f
+pub keys_read : (s : Scope ℕ) → s.around.place ≡ (λ p. p) → (f : Forest RawEntry) (g : Entries ℕ) → MeanEntries s f g → keys g ≡ places_in f
 unfolding keys places_in
-keys_read s End End means = refl
-keys_read s End (Entry d h k) means = absurd means
-keys_read s (Entry e f f') End means = absurd means
-keys_read s (Entry e f f') (Entry d h k) means =
-    ap (λ (n : ℕ). n ∷ (keys h ++ keys k)) means.0.place
-    ∙ ap (λ (w : List ℕ). e.at ∷ (w ++ keys k)) (keys_read s f h means.1)
-    ∙ ap (λ (w : List ℕ). e.at ∷ (places_in f ++ w)) (keys_read s f' k means.2)
+keys_read s own End End means = refl
+keys_read s own End (Entry d h k) means = absurd means
+keys_read s own (Entry e f f') End means = absurd means
+keys_read s own (Entry e f f') (Entry d h k) means =
+    ap (λ (n : ℕ). n ∷ (keys h ++ keys k)) (means.0.place ∙ ap (λ (g : ℕ → ℕ). g e.at) own)
+    ∙ ap (λ (w : List ℕ). e.at ∷ (w ++ keys k)) (keys_read s own f h means.1)
+    ∙ ap (λ (w : List ℕ). e.at ∷ (places_in f ++ w)) (keys_read s own f' k means.2)
 
-kind_sound : (s : Scope) (k : RawKind) (m : Kind ℕ) (tag : ℕ) → MeansKind s k m → tag ≡ root_tag k → ((signature offset : ℕ) → k ≡ TypeUnit signature offset → signature < 2 ^ 64) → SoundKind m tag
+kind_sound : (s : Scope ℕ) (k : RawKind) (m : Kind ℕ) (tag : ℕ) → MeansKind s k m → tag ≡ root_tag k → ((signature offset : ℕ) → k ≡ TypeUnit signature offset → signature < 2 ^ 64) → SoundKind m tag
 kind_sound s CompileUnit m tag means e fits = subst (λ (x : Kind ℕ). SoundKind x tag) (sym means) e
 kind_sound s PartialUnit m tag means e fits = subst (λ (x : Kind ℕ). SoundKind x tag) (sym means) e
 kind_sound s (TypeUnit signature offset) m tag means e fits = subst (λ (x : Kind ℕ). SoundKind x tag) (sym means.1) (e, fits signature offset refl)
 
-kind_says : (s : Scope) (k : RawKind) (m : Kind ℕ) → MeansKind s k m → KindSays s.own m
-kind_says s CompileUnit m means = subst (KindSays s.own) (sym means) tt
-kind_says s PartialUnit m means = subst (KindSays s.own) (sym means) tt
-kind_says s (TypeUnit signature offset) m means = subst (KindSays s.own) (sym means.1) means.0
+kind_says : (s : Scope ℕ) → s.around.place ≡ (λ p. p) → (k : RawKind) (m : Kind ℕ) → MeansKind s k m → KindSays s.own m
+kind_says s own CompileUnit m means = subst (KindSays s.own) (sym means) tt
+kind_says s own PartialUnit m means = subst (KindSays s.own) (sym means) tt
+kind_says s own (TypeUnit signature offset) m means = subst (KindSays s.own) (sym (means.1 ∙ ap (λ (g : ℕ → ℕ). OfType signature (g (s.unit + offset))) own)) means.0
 
-module _ (abbrevs : List ℕ) (mode : Mode) (sources : Sources) (all : List ℕ) where
-  unit_carried : (u : RawUnit) (v : DwUnit ℕ) (before start : ℕ) (bytes : List ℕ) → SpellsUnit abbrevs mode before u start bytes → MeansUnit sources all u v → AreBytes bytes → BuiltUnit v → CarriedUnit sources v
+module _ (abbrevs : List ℕ) (mode : Mode) (forms : mode.forms ≡ own_forms) (sources : Sources) (all : List ℕ) where
+  unit_carried : (u : RawUnit) (v : DwUnit ℕ) (before start : ℕ) (bytes : List ℕ) → SpellsUnit abbrevs mode before u start bytes → MeansUnit (by_itself sources all) u v → AreBytes bytes → BuiltUnit v → CarriedUnit sources v
   unit_carried u v before start bytes is means are built =
-      let s = scope_of sources all u in
+      let s = scope_of (by_itself sources all) u in
       let c = is.context in
       let at = is.is_context in
+      let same_forms : c.mode.forms ≡ own_forms = ap (λ (m : Mode). m.forms) at.same_mode ∙ forms in
       let parts = subst AreBytes is.parts are in
       let head = front_bytes is.header (is.tree ++ is.padding) parts in
       let tree = front_bytes is.tree is.padding (back_bytes is.header (is.tree ++ is.padding) parts) in
@@ -195,15 +198,15 @@ module _ (abbrevs : List ℕ) (mode : Mode) (sources : Sources) (all : List ℕ)
       let tag : v.root.tag ≡ root_tag u.kind = means.root.tag ∙ first.tag ∙ first.stands.root refl ∙ at.same_root in
       let fits : (signature offset : ℕ) → u.kind ≡ TypeUnit signature offset → signature < 2 ^ 64 = λ signature offset e.
       signature_fits signature offset _ _ is.header head (h.size ∙ ap header_size e) (sym e ∙ h.of_kind) in
-      let own : s.own ≡ entry_keys v = ap (λ (n : ℕ). n ∷ places_in u.below) (sym means.root.place) ∙ ap (λ (w : List ℕ). v.root.at ∷ w) (sym (keys_read s u.below v.below means.below)) in
+      let own : s.own ≡ entry_keys v = ap (λ (n : ℕ). n ∷ places_in u.below) (sym means.root.place) ∙ ap (λ (w : List ℕ). v.root.at ∷ w) (sym (keys_read s refl u.below v.below means.below)) in
       record {
         kind = kind_sound s u.kind v.kind v.root.tag means.kind tag fits;
-        main = subst (λ (w : List ℕ). KindSays w v.kind) own (kind_says s u.kind v.kind means.kind);
-        root = node_carried sources s refl c at.stands.front at.stands.spelled _ u.root v.root _ t.first_bytes first means.root (front_bytes t.first_bytes t.second_bytes in_tree) built.0;
-        below = if_carried sources s refl c at.stands.front at.stands.spelled u.root.children u.below v.below t.second_bytes _ t.second (λ q. entries_carried sources s refl c at.stands.front at.stands.spelled u.below v.below _ _ t.second_bytes q means.below (back_bytes t.first_bytes t.second_bytes in_tree) built.1) means.below;
+        main = subst (λ (w : List ℕ). KindSays w v.kind) own (kind_says s refl u.kind v.kind means.kind);
+        root = node_carried sources s refl refl c same_forms at.stands.front at.stands.spelled _ u.root v.root _ t.first_bytes first means.root (front_bytes t.first_bytes t.second_bytes in_tree) built.0;
+        below = if_carried sources s refl refl c same_forms at.stands.front at.stands.spelled u.root.children u.below v.below t.second_bytes _ t.second (λ q. entries_carried sources s refl refl c same_forms at.stands.front at.stands.spelled u.below v.below _ _ t.second_bytes q means.below (back_bytes t.first_bytes t.second_bytes in_tree) built.1) means.below;
       }
 
-  pub units_carried : (raw : List RawUnit) (units : List (DwUnit ℕ)) (before start : ℕ) (bytes : List ℕ) → SpellsUnits abbrevs mode before raw start bytes → MeanUnits sources all raw units → AreBytes bytes → Each BuiltUnit units → Each (CarriedUnit sources) units
+  pub units_carried : (raw : List RawUnit) (units : List (DwUnit ℕ)) (before start : ℕ) (bytes : List ℕ) → SpellsUnits abbrevs mode before raw start bytes → MeanUnits (by_itself sources all) raw units → AreBytes bytes → Each BuiltUnit units → Each (CarriedUnit sources) units
   units_carried [] [] before start bytes is means are built = tt
   units_carried [] (v ∷ units) before start bytes is means are built = absurd means
   units_carried (u ∷ raw) [] before start bytes is means are built = absurd means

@@ -1,43 +1,40 @@
 -- What was written, read back with imports expanded, is what was read.
-use Rattle.std.proofs.Common.{◌≡◌, ℕ, ◌<◌, Bool, true, false, List, [], ◌∷◌, length, take, drop, map, Option, Some, None, refl, sym, ap, subst, ◌∙◌}
+use Rattle.std.proofs.Common.{◌≡◌, ℕ, Bool, true, false, List, [], ◌∷◌, drop, map, Option, Some, None, refl, sym, subst, ◌∙◌}
 use Rattle.dwz_meanings.specs.Documents.{Doc, DwUnit, unit_map}
 use Rattle.dwz_docs.specs.ElfNames.{sections_in}
 use Rattle.dwz_docs.specs.ElfReading.{section_range}
-use Rattle.dwz_docs.specs.Entries.{Mode, given}
-use Rattle.dwz_meanings.specs.Files.{Limits, Reads, debug_abbrev, debug_info, section_of, sources_of}
+use Rattle.dwz_docs.specs.Entries.{given}
+use Rattle.dwz_meanings.specs.Files.{Limits, Reads, around_of, debug_abbrev, debug_info, section_of, sources_of}
 use Rattle.dwz_docs.specs.ElfReading.{bytes_in}
-use Rattle.dwz_meanings.specs.Meanings.{IfSo, MeanUnits, Sources, all_places}
-use Rattle.dwz_docs.specs.Lists.{In}
+use Rattle.dwz_meanings.specs.Meanings.{IfSo, MeanUnits, Sources, all_places, alone}
 use Rattle.dwz_docs.specs.Units.{RawUnit, SpellsUnits}
 use Rattle.dwz_docs.specs.Values.{AreBytes}
 use Rattle.dwz_docs.proofs.WrittenLemmas.{drop_bytes}
 use Rattle.dwz_output.specs.After.{ArePlaced, OnePlace, SameAlong, StandFor, UnitsShown, one_fitted, one_place_of}
 use Rattle.dwz_output.specs.Alike.{Apart, Each, IsAlike}
-use Rattle.dwz_output.specs.Carried.{CarriedUnit}
-use Rattle.dwz_output.specs.ElfRebuilt.{CanBeMade, new_file}
+use Rattle.dwz_output.specs.Carried.{BuiltUnit, CarriedUnit}
+use Rattle.dwz_output.specs.ElfRebuilt.{CanBeMade}
 use Rattle.dwz_output.specs.Fitting.{AreWritable, mode_for, places}
 use Rattle.dwz_output.specs.Meant.{Says, UnitsSay, placed_units}
 use Rattle.dwz_output.specs.Out.{FitsSections, IsOut, Rebuilds, alike_in, changes_of, fitted, has_changes, image_in, one_file, sections_of}
-use Rattle.dwz_output.specs.Placing.{UnitSections, UnitsStand, sections, units_keys}
+use Rattle.dwz_output.specs.Placing.{units_keys}
 use Rattle.dwz_output.specs.Plan.{out_units}
 use Rattle.dwz_output.specs.ReadBack.{Back, CanReadBack, HasOneImage, ReadsBack}
-use Rattle.dwz_output.specs.Same.{units_in}
 use Rattle.dwz_output.specs.Sound.{SoundUnit}
 use Rattle.dwz_output.specs.Spots.{Spot, same_spot, spot_in, spots_from}
 use Rattle.dwz_output.specs.Standing.{NoneTwice}
-use Rattle.dwz_output.specs.Writing.{Numbering}
 use Rattle.dwz_output.proofs.AlikeLaws.{alike_decides}
 use Rattle.dwz_output.proofs.Chosen.{units_say, units_sound}
 use Rattle.dwz_output.proofs.FileLemmas.{closed_names, file_apart, file_replaces, has_one_image, one_units, stands_same}
 use Rattle.dwz_output.proofs.NamedLemmas.{fitted_keys, map_shown}
+use Rattle.dwz_output.proofs.NoLists.{placed_built, share_none}
 use Rattle.dwz_output.proofs.Places.{numbering_stands}
 use Rattle.dwz_output.proofs.ReadAgain.{take_bytes, units_carried}
-use Rattle.dwz_output.proofs.ReadCarried.{named_carried, outs_carried, units_built}
-use Rattle.dwz_output.proofs.ReadClosed.{read_closed}
+use Rattle.dwz_output.proofs.ReadCarried.{named_carried, outs_carried}
 use Rattle.dwz_output.proofs.ReadFile.{SaysNew, can_change, no_fault, says_new, some_bytes, some_units}
 use Rattle.dwz_output.proofs.ReadFixed.{ReferIn, outs_refer, units_fixed, units_map, units_refer}
 use Rattle.dwz_output.proofs.ReadMode.{units_again, with_partial}
-use Rattle.dwz_output.proofs.ReadRising.{none_partial, units_once}
+use Rattle.dwz_output.proofs.ReadPlaces.{read_placed}
 use Rattle.dwz_output.proofs.Rising.{place_one}
 use Rattle.dwz_output.proofs.SameLemmas.{spots_same}
 use Rattle.dwz_output.proofs.Unnumbered.{bare_placed, entries_same, types_same, units_same}
@@ -61,11 +58,7 @@ module _ (l : Limits) (input : List ℕ) (raw : List RawUnit) (doc : Doc ℕ) (r
   sources = sources_of input
 
   all_placed : ArePlaced doc.units
-  all_placed = record {
-    apart = units_once (debug_abbrev input) (given l.entries) sources (all_places raw) raw doc.units (debug_info input) reads.spelled reads.means;
-    kinds = none_partial (debug_abbrev input) (given l.entries) refl sources (all_places raw) raw doc.units 0 0 (debug_info input) reads.spelled reads.means;
-    closed = read_closed sources raw doc.units reads.means;
-  }
+  all_placed = read_placed (debug_abbrev input) (debug_info input) (given l.entries) raw sources doc.units reads.spelled reads.means refl
 
   decides : IsAlike Apart (one_file doc) (alike_in doc)
   decides = alike_decides Apart (one_file doc)
@@ -92,8 +85,7 @@ module _ (l : Limits) (input : List ℕ) (raw : List RawUnit) (doc : Doc ℕ) (r
 
   module _ (can : CanReadBack input doc) where
     all_carried : Each (CarriedUnit sources) doc.units
-    all_carried = units_carried (debug_abbrev input) (given l.entries) sources (all_places raw) raw doc.units 0 0 (debug_info input) reads.spelled reads.means
-        (section_bytes input 1 can.are_bytes) (units_built sources (all_places raw) raw doc.units reads.means can.no_slots)
+    all_carried = units_carried (debug_abbrev input) (given l.entries) refl sources (all_places raw) raw doc.units 0 0 (debug_info input) reads.spelled reads.means (section_bytes input 1 can.are_bytes) can.built
 
     outs_are : Each (CarriedUnit sources) outs
     outs_are =
@@ -150,16 +142,26 @@ module _ (l : Limits) (input : List ℕ) (raw : List RawUnit) (doc : Doc ℕ) (r
             small = rebuilds.1.small;
           }
 
+      new_means : (out : List ℕ) → SaysNew input out (sections_of doc) → MeanUnits (around_of out said.raw) said.raw new_units
+      new_means out says = subst (λ (s : Sources). MeanUnits (alone s said.raw) said.raw new_units) (sym says.sources) said.means
+
+      new_built : Each BuiltUnit new_units
+      unfolding new_units
+      new_built = placed_built (places (one_fitted doc)) (one_fitted doc) fitted_sound
+
       says_back : (out : List ℕ) → SaysNew input out (sections_of doc) → Back out new_units
       says_back out says = record {
         elf = says.elf;
         mode = mode_for (one_fitted doc);
         partial = refl;
+        forms = refl;
         raw = said.raw;
         spelled =
             subst (λ (info : List ℕ). SpellsUnits (debug_abbrev out) (mode_for (one_fitted doc)) 0 said.raw 0 info) (sym says.info)
             (subst (λ (abbrevs : List ℕ). SpellsUnits abbrevs (mode_for (one_fitted doc)) 0 said.raw 0 (sections_of doc).info) (sym says.abbrevs) said.spelled);
-        means = subst (λ (s : Sources). MeanUnits s (all_places said.raw) said.raw new_units) (sym says.sources) said.means;
+        means = new_means out says;
+        ranges = record { sets = []; spelled = says.ranges ∙ can.no_sets };
+        lists = share_none (around_of out said.raw) said.raw new_units (new_means out says) new_built;
       }
 
       moved_back : (out : List ℕ) → Rebuilds input (sections_of doc) out → ReadsBack doc out
@@ -188,9 +190,12 @@ module _ (l : Limits) (input : List ℕ) (raw : List RawUnit) (doc : Doc ℕ) (r
             elf = reads.elf;
             mode = with_partial (given l.entries);
             partial = refl;
+            forms = refl;
             raw = raw;
             spelled = units_again (debug_abbrev input) (given l.entries) raw 0 0 (debug_info input) reads.spelled;
             means = reads.means;
+            ranges = reads.ranges;
+            lists = reads.lists;
           };
           entries = same.entries;
           same = same.units;

@@ -1,21 +1,17 @@
 -- The units that are written of a file that was read are carried.
-use Rattle.std.proofs.Common.{◌≡◌, ◌≢◌, ℕ, ℤ, suc, ◌≤◌, Bool, true, false, List, [], ◌∷◌, Option, map, refl, sym, ap, subst, ◌∙◌, arith, inl, inr}
-use Rattle.dwz_meanings.specs.Documents.{Attr, Compile, DwUnit, Entries, Kind, Node, OfType, Partial, Plain, Value, entries_map, kind_map, language, node_map, unit_map}
-use Rattle.dwz_docs.specs.Entries.{RawAttr, RawEntry}
-use Rattle.dwz_meanings.specs.Meanings.{Class, IfSo, MeanAttrs, MeanEntries, MeanUnits, MeansAs, MeansAttr, OfAddress, OfBlock, OfConstant, OfExpression, OfFlag, OfIndex, OfInfoEntry, OfListIndex, OfOffset, OfSignature, OfText, OfTextBySlot, OfTextInLineStr, OfTextInStr, OfUnitEntry, Scope, Sources, Unread, class_of, names_file, names_list, scope_of, without_siblings}
+use Rattle.std.proofs.Common.{◌≡◌, ℕ, ℤ, suc, Bool, true, false, List, [], ◌∷◌, Option, map, refl, sym, subst, arith, inl, inr}
+use Rattle.dwz_meanings.specs.Documents.{Compile, DwUnit, Entries, Kind, OfType, Partial, kind_map, language, unit_map}
+use Rattle.dwz_meanings.specs.Meanings.{Sources}
 use Rattle.dwz_docs.specs.Lists.{In, has}
-use Rattle.dwz_docs.specs.Trees.{End, Entry, Forest}
-use Rattle.dwz_docs.specs.Units.{RawUnit}
+use Rattle.dwz_docs.specs.Trees.{End, Entry}
 use Rattle.dwz_output.specs.After.{AreAfter, AreOld, IsNamedBelow}
 use Rattle.dwz_output.specs.Alike.{Each}
-use Rattle.dwz_output.specs.Carried.{BuiltAttr, BuiltEntries, BuiltUnit, CarriedAttr, CarriedEntries, CarriedNode, CarriedUnit}
+use Rattle.dwz_output.specs.Carried.{CarriedEntries, CarriedNode, CarriedUnit}
 use Rattle.dwz_output.specs.Deciding.{Test}
 use Rattle.dwz_output.specs.IsPlan.{IsPart, Nth}
 use Rattle.dwz_output.specs.Meant.{KindSays, entry_keys}
-use Rattle.dwz_output.specs.Plan.{PartialUnit, chain, image, import_attr, import_of, imports, kept, kept_below, kept_unit, partial_root, partial_unit, partials}
-use Rattle.dwz_output.specs.ReadBack.{AreWithoutSlots, IsNoSlot, IsWithoutSlots}
+use Rattle.dwz_output.specs.Plan.{PartialUnit, chain, image, import_of, imports, kept, kept_below, kept_unit, partial_unit, partials}
 use Rattle.dwz_output.specs.Same.{units_in}
-use Rattle.dwz_output.specs.Sound.{IsBuilt, IsBuiltAs}
 use Rattle.dwz_output.specs.Spots.{FileUnit, PartialRoot, Spot, Top, tops_in, tops_of}
 use Rattle.dwz_output.proofs.CarriedMaps.{entries_carried, kind_carried, node_carried, unit_carried}
 use Rattle.dwz_output.proofs.KeptLemmas.{kept_is}
@@ -24,50 +20,6 @@ use Rattle.dwz_output.proofs.NodeLemmas.{type_kept}
 use Rattle.dwz_output.proofs.PlanLemmas.{are_parts}
 use Rattle.dwz_output.proofs.SeenLemmas.{in_units}
 use Rattle.dwz_output.proofs.Tops.{top_of}
-
--- ---- what means something is written, but for texts by slots
-
-so_false : (b : Bool) (Q : Type 0) → IfSo b ⊥ Q → b ≡ false
-so_false true Q h = absurd h
-so_false false Q h = refl
-
-built_as : (s : Scope) (a : RawAttr) (v : Value ℕ) (c : Class) → MeansAs c s a v → c ≢ OfTextBySlot → IsBuiltAs c a.pair.name
-built_as s a v OfConstant h other = so_false (names_file a.pair.name) _ h
-built_as s a v OfOffset h other = so_false (names_list a.pair.name) _ h
-built_as s a v OfTextBySlot h other = absurd (other refl)
-built_as s a v OfExpression h other = h
-built_as s a v OfListIndex h other = h
-built_as s a v Unread h other = h
-built_as s a v _ h other = tt
-
-module _ (s : Scope) where
-  attr_built : (a : RawAttr) (b : Attr ℕ) → MeansAttr s a b → IsNoSlot b → BuiltAttr b
-  attr_built a b means other =
-      let built = built_as s a b.value (class_of a.pair.form) means.value (λ e. other (ap class_of means.form ∙ e)) in
-      subst (λ (form : ℕ). IsBuilt form b.name) (sym means.form) (subst (λ (name : ℕ). IsBuilt a.pair.form name) (sym means.name) built)
-
-  attrs_built : (raw : List RawAttr) (attrs : List (Attr ℕ)) → MeanAttrs s raw attrs → Each IsNoSlot attrs → Each BuiltAttr attrs
-  attrs_built [] [] means other = tt
-  attrs_built [] (b ∷ attrs) means other = absurd means
-  attrs_built (a ∷ raw) [] means other = absurd means
-  attrs_built (a ∷ raw) (b ∷ attrs) means other = (attr_built a b means.0 other.0, attrs_built raw attrs means.1 other.1)
-
-  entries_built : (f : Forest RawEntry) (g : Entries ℕ) → MeanEntries s f g → AreWithoutSlots g → BuiltEntries g
-  entries_built End End means other = tt
-  entries_built End (Entry d h k) means other = absurd means
-  entries_built (Entry e f f') End means other = absurd means
-  entries_built (Entry e f f') (Entry d h k) means other = (attrs_built (without_siblings e.attrs) d.attrs means.0.attrs other.0, entries_built f h means.1 other.1, entries_built f' k means.2 other.2)
-
-pub units_built : (sources : Sources) (all : List ℕ) (raw : List RawUnit) (units : List (DwUnit ℕ)) → MeanUnits sources all raw units → Each IsWithoutSlots units → Each BuiltUnit units
-units_built sources all [] [] means other = tt
-units_built sources all [] (v ∷ units) means other = absurd means
-units_built sources all (u ∷ raw) [] means other = absurd means
-units_built sources all (u ∷ raw) (v ∷ units) means other =
-    let s = scope_of sources all u in
-    let m = means.0 in (
-      (attrs_built s (without_siblings u.root.attrs) v.root.attrs m.root.attrs other.0.0, entries_built s u.below v.below m.below other.0.1),
-      units_built sources all raw units means.1 other.1,
-    )
 
 -- ---- units with other names
 

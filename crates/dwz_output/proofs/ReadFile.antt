@@ -1,6 +1,6 @@
 -- What the file says that is made from one that reads, by its sections.
-use Rattle.std.proofs.Common.{◌≡◌, ◌≢◌, ℕ, suc, ◌+◌, ◌<◌, ◌≤◌, Bool, true, false, List, [], ◌∷◌, ◌++◌, length, take, drop, Option, Some, None, Result, Ok, Err, refl, sym, ap, subst, ◌∙◌, arith, eqb-true}
-use Rattle.std.specs.Prelude.{◌==◌, ◌&&◌, ◌||◌, not, All, Any, if◌then◌else◌}
+use Rattle.std.proofs.Common.{◌≡◌, ◌≢◌, ℕ, ◌<◌, Bool, true, false, List, [], ◌∷◌, ◌++◌, length, drop, Option, Some, None, Ok, refl, ap, arith, eqb-true}
+use Rattle.std.specs.Prelude.{◌==◌, ◌&&◌, ◌||◌, not, Any, if◌then◌else◌}
 use Rattle.std.specs.List.{list_any}
 use Rattle.std.proofs.lemmas.Bool.{and_parts, eqb-false, not-true}
 use Rattle.std.proofs.lemmas.List.{length-append, length-take}
@@ -15,12 +15,11 @@ use Rattle.dwz_docs.specs.declared.elf.Section.{Section}
 use Rattle.dwz_docs.specs.Abbrevs.{Declaration, EndsTable, IsDeclared}
 use Rattle.dwz_meanings.specs.Documents.{Doc, DwUnit}
 use Rattle.dwz_docs.specs.ElfFaults.{IsElfFault, file_fault}
-use Rattle.dwz_docs.specs.ElfHeaders.{file_header, is_there}
-use Rattle.dwz_docs.specs.ElfLayout.{IsOrder, layout_fault, rebuilt_length, too_large}
+use Rattle.dwz_docs.specs.ElfHeaders.{is_there}
 use Rattle.dwz_docs.specs.ElfNames.{sections_in}
-use Rattle.dwz_docs.specs.ElfReading.{elf_fault, elf_of, has_code, range_in, section_range}
+use Rattle.dwz_docs.specs.ElfReading.{elf_fault, has_code, range_in, section_range}
 use Rattle.dwz_docs.specs.Entries.{Mode, unless_so}
-use Rattle.dwz_meanings.specs.Files.{Limits, Reads, debug_abbrev, debug_info, ends_at, file_meaning, is_too_long, machine_of, section_of, sources_of}
+use Rattle.dwz_meanings.specs.Files.{Limits, Reads, debug_abbrev, debug_aranges, debug_info, ends_at, file_meaning, is_too_long, machine_of, section_of, sources_of}
 use Rattle.dwz_docs.specs.ElfReading.{bytes_in}
 use Rattle.dwz_docs.specs.Lists.{SpellsItems}
 use Rattle.dwz_meanings.specs.Meanings.{MeanUnits, Sources}
@@ -29,11 +28,12 @@ use Rattle.dwz_docs.proofs.ElfFaultLemmas.{elf_is_sound}
 use Rattle.dwz_meanings.proofs.FileLemmas.{file_agrees}
 use Rattle.dwz_docs.proofs.PartLemmas.{bind_ok}
 use Rattle.dwz_docs.proofs.UnitListLemmas.{some_unit}
-use Rattle.dwz_output.specs.ElfRebuilt.{CanBeGiven, CanBeMade, CanChange, HasSameFields, new_file}
+use Rattle.dwz_output.specs.ElfRebuilt.{CanBeGiven, CanBeMade, CanChange, new_file}
+use Rattle.dwz_output.specs.Meant.{by_itself}
 use Rattle.dwz_output.specs.Out.{changes_of, has_changes, one_file}
 use Rattle.dwz_output.specs.Placing.{UnitSections}
 use Rattle.dwz_output.specs.Plan.{changes}
-use Rattle.dwz_output.specs.Spots.{Top, named_files, named_in, spots_from, tops_from, tops_of}
+use Rattle.dwz_output.specs.Spots.{named_files, tops_from, tops_of}
 use Rattle.dwz_output.proofs.ElfRebuiltLemmas.{new_contents, reads_back, same_file}
 
 -- ---- a file that reads has no fault
@@ -74,7 +74,7 @@ pub record HaveBytes (first second : List ℕ) : Type 0 where
   pub info : 0 < length first
   pub abbrevs : 0 < length second
 
-pub some_bytes : (abbrevs : List ℕ) (mode : Mode) (sources : Sources) (all : List ℕ) (raw : List RawUnit) (units : List (DwUnit ℕ)) (info : List ℕ) → SpellsUnits abbrevs mode 0 raw 0 info → MeanUnits sources all raw units → (units ≡ [] → ⊥) → HaveBytes info abbrevs
+pub some_bytes : (abbrevs : List ℕ) (mode : Mode) (sources : Sources) (all : List ℕ) (raw : List RawUnit) (units : List (DwUnit ℕ)) (info : List ℕ) → SpellsUnits abbrevs mode 0 raw 0 info → MeanUnits (by_itself sources all) raw units → (units ≡ [] → ⊥) → HaveBytes info abbrevs
 some_bytes abbrevs mode sources all [] [] info is means some = absurd (some refl)
 some_bytes abbrevs mode sources all [] (v ∷ units) info is means some = absurd means
 some_bytes abbrevs mode sources all (u ∷ raw) units info is means some =
@@ -133,11 +133,13 @@ pub record SaysNew (input out : List ℕ) (s : UnitSections) : Type 0 where
   pub info : debug_info out ≡ s.info
   pub abbrevs : debug_abbrev out ≡ s.abbrevs
   pub sources : sources_of out ≡ sources_of input
+  pub ranges : debug_aranges out ≡ debug_aranges input
   pub machine : machine_of out ≡ machine_of input
   pub elf : (f : Fault) → IsElfFault out f → ⊥
 
-sources_by : (a b c x y z : List ℕ) → a ≡ x → b ≡ y → c ≡ z → (let s : Sources = record { strs = a; line_strs = b; offsets = c } in let t : Sources = record { strs = x; line_strs = y; offsets = z } in s ≡ t)
-sources_by a b c x y z p q r = cc
+sources_by : (a b c d e v w x y z : List ℕ) → a ≡ v → b ≡ w → c ≡ x → d ≡ y → e ≡ z
+    → (let s : Sources = record { strs = a; line_strs = b; offsets = c; line = d; lists = e } in let t : Sources = record { strs = v; line_strs = w; offsets = x; line = y; lists = z } in s ≡ t)
+sources_by a b c d e v w x y z p q r s t = cc
 
 pub says_new : (input : List ℕ) (s : UnitSections) (order : List (ℕ × ℕ)) → CanBeMade input (changes_of s) order → SaysNew input (new_file input (changes_of s) order) s
 says_new input s order can =
@@ -147,7 +149,8 @@ says_new input s order can =
     record {
       info = new_contents input change order can 1;
       abbrevs = new_contents input change order can 2;
-      sources = sources_by _ _ _ _ _ _ (new_contents input change order can 3) (new_contents input change order can 4) (new_contents input change order can 5);
+      sources = sources_by _ _ _ _ _ _ _ _ _ _ (new_contents input change order can 3) (new_contents input change order can 4) (new_contents input change order can 5) (new_contents input change order can 6) (new_contents input change order can 7);
+      ranges = new_contents input change order can 8;
       machine = ap (λ (h : FileHeader). h.machine) file;
       elf = λ f is. (elf_is_sound out).none (reads_back input change order can) f is;
     }

@@ -1,8 +1,8 @@
 -- What is written of a file that was read has fixed lengths, since each reference is an entry and gets one of the two forms.
-use Rattle.std.proofs.Common.{◌≡◌, ℕ, ℤ, suc, Bool, true, false, List, [], ◌∷◌, Option, map, refl, sym, ap, subst, ◌∙◌, inl, inr}
-use Rattle.dwz_meanings.specs.Documents.{Attr, Compile, DwUnit, Entries, Kind, Node, OfType, Partial, Plain, Ref, Value, attr_map, entries_map, language, node_map, ref, unit_map, value_map}
+use Rattle.std.proofs.Common.{◌≡◌, ℕ, ℤ, suc, Bool, true, false, List, [], ◌∷◌, Option, map, refl, sym, ap, subst, inl, inr}
+use Rattle.dwz_meanings.specs.Documents.{Attr, Compile, DwUnit, Entries, Kind, OfType, Partial, Plain, Ref, Value, attr_map, entries_map, language, ref, unit_map, value_map}
 use Rattle.dwz_docs.specs.Entries.{RawAttr, RawEntry}
-use Rattle.dwz_meanings.specs.Meanings.{Class, MeanAttrs, MeanEntries, MeanUnits, MeansAs, MeansAttr, OfInfoEntry, OfUnitEntry, Scope, Sources, class_in, class_of, class_rows, scope_of, without_siblings}
+use Rattle.dwz_meanings.specs.Meanings.{Class, MeanAttrs, MeanEntries, MeanUnits, MeansAs, OfInfoEntry, OfUnitEntry, Scope, Sources, class_in, class_of, class_rows, scope_of, without_siblings}
 use Rattle.dwz_docs.specs.Lists.{In, has}
 use Rattle.dwz_docs.specs.Trees.{End, Entry, Forest}
 use Rattle.dwz_docs.specs.Units.{RawUnit}
@@ -10,8 +10,9 @@ use Rattle.dwz_output.specs.After.{AreAfter}
 use Rattle.dwz_output.specs.Alike.{Each}
 use Rattle.dwz_output.specs.Deciding.{Test}
 use Rattle.dwz_output.specs.IsPlan.{IsPart, Nth}
+use Rattle.dwz_output.specs.Meant.{by_itself}
 use Rattle.dwz_output.specs.Placing.{fit, fit_attr, fit_form, fit_unit, has_key, ref_form, unit_keys}
-use Rattle.dwz_output.specs.Plan.{PartialUnit, chain, image, import_attr, import_of, imports, kept, kept_below, kept_unit, partial_unit, partials}
+use Rattle.dwz_output.specs.Plan.{PartialUnit, chain, image, import_attr, import_of, imports, kept, kept_below, partial_unit, partials}
 use Rattle.dwz_output.specs.Same.{units_in}
 use Rattle.dwz_output.specs.Spots.{FileUnit, PartialRoot, Spot, Top, tops_in, tops_of}
 use Rattle.dwz_output.proofs.KeptLemmas.{kept_is}
@@ -40,12 +41,12 @@ ReferIn u = Each Refers u.root.attrs × ReferBelow u.below
 
 -- ---- what is read
 
-means_refers : (s : Scope) (a : RawAttr) (b : Attr ℕ) (c : Class) → MeansAs c s a b.value → RefersAs c b
+means_refers : (s : Scope ℕ) (a : RawAttr) (b : Attr ℕ) (c : Class) → MeansAs c s a b.value → RefersAs c b
 means_refers s a b OfUnitEntry h = (_, h.1)
 means_refers s a b OfInfoEntry h = (_, h.1)
 means_refers s a b _ h = tt
 
-module _ (s : Scope) where
+module _ (s : Scope ℕ) where
   attrs_refer : (raw : List RawAttr) (attrs : List (Attr ℕ)) → MeanAttrs s raw attrs → Each Refers attrs
   attrs_refer [] [] means = tt
   attrs_refer [] (b ∷ attrs) means = absurd means
@@ -58,12 +59,12 @@ module _ (s : Scope) where
   entries_refer (Entry e f f') End means = absurd means
   entries_refer (Entry e f f') (Entry d h k) means = (attrs_refer (without_siblings e.attrs) d.attrs means.0.attrs, entries_refer f h means.1, entries_refer f' k means.2)
 
-pub units_refer : (sources : Sources) (all : List ℕ) (raw : List RawUnit) (units : List (DwUnit ℕ)) → MeanUnits sources all raw units → Each ReferIn units
+pub units_refer : (sources : Sources) (all : List ℕ) (raw : List RawUnit) (units : List (DwUnit ℕ)) → MeanUnits (by_itself sources all) raw units → Each ReferIn units
 units_refer sources all [] [] means = tt
 units_refer sources all [] (v ∷ units) means = absurd means
 units_refer sources all (u ∷ raw) [] means = absurd means
 units_refer sources all (u ∷ raw) (v ∷ units) means =
-    let s = scope_of sources all u in
+    let s = scope_of (by_itself sources all) u in
     let m = means.0 in
     ((attrs_refer s (without_siblings u.root.attrs) v.root.attrs m.root.attrs, entries_refer s u.below v.below m.below), units_refer sources all raw units means.1)
 

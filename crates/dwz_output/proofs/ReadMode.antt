@@ -1,8 +1,7 @@
 -- What is spelled where no unit is partial is spelled where some may be.
-use Rattle.std.proofs.Common.{◌≡◌, ℕ, ◌+◌, ◌≤◌, Bool, true, false, List, [], ◌∷◌, ◌++◌, length, Option, Some, None, refl, sym, ap, subst, ◌∙◌, arith}
+use Rattle.std.proofs.Common.{◌≡◌, ℕ, Bool, true, false, List, [], ◌∷◌, refl, ap}
 use Rattle.std.specs.Prelude.{◌==◌, ◌&&◌, ◌||◌}
-use Rattle.dwz_docs.specs.Abbrevs.{Declaration}
-use Rattle.dwz_docs.specs.Entries.{MayStand, Mode, RawEntry, SpellsEntry, SpellsFront, UnitContext}
+use Rattle.dwz_docs.specs.Entries.{Mode, RawEntry, SpellsEntry, SpellsFront, UnitContext}
 use Rattle.dwz_docs.specs.Trees.{End, Entry, Forest, IfChildren, Position, SpellsForest}
 use Rattle.dwz_docs.specs.Units.{RawUnit, SpellsTree, SpellsUnit, SpellsUnits, is_read, unit_type}
 

@@ -1,19 +1,27 @@
 -- The places of units that are read differ, and each reference there names an entry.
-use Rattle.std.proofs.Common.{◌≡◌, ℕ, suc, ◌+◌, ◌<◌, ◌≤◌, ◌⊎◌, ◌==◌, ◌&&◌, ◌||◌, Bool, true, false, List, [], ◌∷◌, ◌++◌, length, map, refl, sym, ap, subst, ◌∙◌, arith, inl, inr, eqb-true}
+use Rattle.std.proofs.Common.{◌≡◌, ℕ, ℤ, suc, ◌+◌, ◌<◌, ◌≤◌, ◌⊎◌, ◌==◌, ◌&&◌, ◌||◌, Bool, true, false, List, [], ◌∷◌, ◌++◌, Option, Some, None, length, map, refl, sym, ap, subst, ◌∙◌, arith, inl, inr, eqb-true}
 use Rattle.std.proofs.lemmas.Bool.{or_cases}
 use Rattle.std.proofs.lemmas.List.{length-append}
 use Rattle.dwz_bytes.specs.Spelling.{IsGroups}
+use Rattle.dwz_model.specs.declared.place.Base.{Base}
+use Rattle.dwz_model.specs.declared.place.Base.TheVariants.{Unit as FromUnit, Info as FromInfo}
+use Rattle.dwz_meanings.specs.declared.exprs.Operand.{Operand}
 use Rattle.dwz_meanings.specs.Documents.{Attr, DwUnit, Entries, Kind, Plain, Value, only, ref}
 use Rattle.dwz_docs.specs.Entries.{Mode, RawAttr, RawEntry, SpellsEntry, SpellsFront, UnitContext, root_position}
-use Rattle.dwz_meanings.specs.Meanings.{Class, IfSo, MeanAttrs, MeanEntries, MeanUnits, MeansAs, MeansKind, MeansUnit, OfAddress, OfBlock, OfConstant, OfExpression, OfFlag, OfIndex, OfInfoEntry, OfListIndex, OfOffset, OfSignature, OfText, OfTextBySlot, OfTextInLineStr, OfTextInStr, OfUnitEntry, Scope, Sources, Unread, all_places, class_of, names_file, names_list, places_in, places_of, scope_of, without_siblings}
-use Rattle.dwz_docs.specs.Lists.{In}
+use Rattle.dwz_meanings.specs.Exprs.{AreNamed}
+use Rattle.dwz_meanings.specs.Meanings.{Class, IfSo, IsExpression, IsFileBy, IsLocList, MeanAttrs, MeanEntries, MeanUnits, MeansAs, MeansKind, MeansUnit, OfAddress, OfBlock, OfCommonEntry, OfCommonText, OfConstant, OfExpression, OfFlag, OfIndex, OfInfoEntry, OfListIndex, OfOffset, OfSignature, OfText, OfTextBySlot, OfTextInLineStr, OfTextInStr, OfUnitEntry, Scope, Sources, Unread, all_places, alone, bytes_of, class_of, content_at, entries_for, expr_context, names_file, names_list, number_of, offset_of, places_in, places_of, scope_of, stmt_list, target_of, targets, without_siblings}
+use Rattle.dwz_docs.specs.Lists.{In, has}
 use Rattle.dwz_docs.specs.Trees.{End, Entry, Forest, IfChildren, Position, SpellsForest, behind, first_below}
 use Rattle.dwz_docs.specs.Units.{CompileUnit, PartialUnit, RawKind, RawUnit, SpellsTree, SpellsUnit, SpellsUnits, TypeUnit, entry_count, header_size, is_read, kind_by, unit_type}
+use Rattle.dwz_meanings.specs.Shared.{operands_of}
+use Rattle.dwz_meanings.proofs.MeaningLemmas.{has_in}
 use Rattle.dwz_output.specs.After.{ArePlaced}
+use Rattle.dwz_output.specs.Meant.{by_itself}
 use Rattle.dwz_output.specs.Placing.{keys, unit_keys, units_keys}
 use Rattle.dwz_output.specs.Same.{Closed, IsPartial, Named, Seen, all_seen, named_value, see, seen, seen_below, seen_roots}
 use Rattle.dwz_output.specs.Standing.{NoneTwice}
-use Rattle.dwz_output.proofs.Members.{in_cases, in_left, in_right}
+use Rattle.dwz_output.proofs.Members.{in_cases, in_left, in_map_from, in_right}
+use Rattle.dwz_output.proofs.OperandLemmas.{expr_named, list_named, one_named}
 use Rattle.dwz_output.proofs.SeenLemmas.{entry_seen, root_from, root_seen, seen_from}
 
 -- ---- numbers that rise
@@ -121,19 +129,19 @@ units_rise abbrevs mode before (u ∷ units) start bytes is =
 
 -- ---- the same places in what they mean
 
-entries_places : (s : Scope) (f : Forest RawEntry) (g : Entries ℕ) → MeanEntries s f g → keys g ≡ places_in f
+entries_places : (s : Scope ℕ) → s.around.place ≡ (λ p. p) → (f : Forest RawEntry) (g : Entries ℕ) → MeanEntries s f g → keys g ≡ places_in f
 unfolding keys places_in
-entries_places s End End h = refl
-entries_places s (Entry e f g) (Entry d f' g') h =
-    ap (λ (w : ℕ). w ∷ keys f' ++ keys g') h.0.place ∙ ap (λ (w : List ℕ). e.at ∷ w ++ keys g') (entries_places s f f' h.1) ∙ ap (λ (w : List ℕ). e.at ∷ places_in f ++ w) (entries_places s g g' h.2)
-entries_places s _ _ h = absurd h
+entries_places s own End End h = refl
+entries_places s own (Entry e f g) (Entry d f' g') h =
+    ap (λ (w : ℕ). w ∷ keys f' ++ keys g') (h.0.place ∙ ap (λ (x : ℕ → ℕ). x e.at) own) ∙ ap (λ (w : List ℕ). e.at ∷ w ++ keys g') (entries_places s own f f' h.1) ∙ ap (λ (w : List ℕ). e.at ∷ places_in f ++ w) (entries_places s own g g' h.2)
+entries_places s own _ _ h = absurd h
 
-unit_places : (sources : Sources) (all : List ℕ) (u : RawUnit) (v : DwUnit ℕ) → MeansUnit sources all u v → unit_keys v ≡ raw_keys u
+unit_places : (sources : Sources) (all : List ℕ) (u : RawUnit) (v : DwUnit ℕ) → MeansUnit (by_itself sources all) u v → unit_keys v ≡ raw_keys u
 unfolding unit_keys
 unit_places sources all u v h =
-    ap (λ (w : ℕ). w ∷ v.root.at ∷ keys v.below) h.place ∙ ap (λ (w : ℕ). u.at ∷ w ∷ keys v.below) h.root.place ∙ ap (λ (w : List ℕ). u.at ∷ u.root.at ∷ w) (entries_places (scope_of sources all u) u.below v.below h.below)
+    ap (λ (w : ℕ). w ∷ v.root.at ∷ keys v.below) h.place ∙ ap (λ (w : ℕ). u.at ∷ w ∷ keys v.below) h.root.place ∙ ap (λ (w : List ℕ). u.at ∷ u.root.at ∷ w) (entries_places (scope_of (by_itself sources all) u) refl u.below v.below h.below)
 
-units_places : (sources : Sources) (all : List ℕ) (raw : List RawUnit) (units : List (DwUnit ℕ)) → MeanUnits sources all raw units → units_keys units ≡ all_raw_keys raw
+units_places : (sources : Sources) (all : List ℕ) (raw : List RawUnit) (units : List (DwUnit ℕ)) → MeanUnits (by_itself sources all) raw units → units_keys units ≡ all_raw_keys raw
 unfolding units_keys all_raw_keys
 units_places sources all [] [] h = refl
 units_places sources all (u ∷ raw) (v ∷ units) h = ap (λ (w : List ℕ). w ++ units_keys units) (unit_places sources all u v h.0) ∙ ap (λ (w : List ℕ). raw_keys u ++ w) (units_places sources all raw units h.1)
@@ -144,11 +152,11 @@ units_places sources all _ _ h = absurd h
 record MeansIn (sources : Sources) (all : List ℕ) (raw : List RawUnit) (v : DwUnit ℕ) : Type 0 where
   unit : RawUnit
   there : In unit raw
-  means : MeansUnit sources all unit v
+  means : MeansUnit (by_itself sources all) unit v
 
-means_in : (sources : Sources) (all : List ℕ) (raw : List RawUnit) (units : List (DwUnit ℕ)) → MeanUnits sources all raw units → (v : DwUnit ℕ) → In v units → MeansIn sources all raw v
+means_in : (sources : Sources) (all : List ℕ) (raw : List RawUnit) (units : List (DwUnit ℕ)) → MeanUnits (by_itself sources all) raw units → (v : DwUnit ℕ) → In v units → MeansIn sources all raw v
 means_in sources all [] [] h v is = absurd is
-means_in sources all (u ∷ raw) (w ∷ units) h v (inl x) = record { unit = u; there = inl refl; means = subst (MeansUnit sources all u) x h.0 }
+means_in sources all (u ∷ raw) (w ∷ units) h v (inl x) = record { unit = u; there = inl refl; means = subst (MeansUnit (by_itself sources all) u) x h.0 }
 means_in sources all (u ∷ raw) (w ∷ units) h v (inr r) = let o = means_in sources all raw units h.1 v r in record { unit = o.unit; there = inr o.there; means = o.means }
 means_in sources all _ _ h v is = absurd h
 
@@ -179,59 +187,94 @@ kind_not_partial mode none type bytes read same = elim (or_cases (type == 1) (ty
     by false true p q e same = omega (arith, e, eqb-true type 3 q)
     by false false p q e same = cc
 
-partial_only : (s : Scope) (k : RawKind) (kind : Kind ℕ) → MeansKind s k kind → IsPartial kind → k ≡ PartialUnit
+partial_only : (s : Scope ℕ) (k : RawKind) (kind : Kind ℕ) → MeansKind s k kind → IsPartial kind → k ≡ PartialUnit
 partial_only s CompileUnit kind h is = absurd (subst IsPartial h is)
 partial_only s PartialUnit kind h is = refl
 partial_only s (TypeUnit signature type_offset) kind h is = absurd (subst IsPartial h.1 is)
 
 -- ---- references name entries
 
-abbrev Known : Scope → ℕ → Type 0
-Known s p = In p s.own ⊎ In p s.all
+abbrev Known : Scope ℕ → ℕ → Type 0
+Known s p = In p s.own ⊎ In p s.around.all
 
-only_known : (s : Scope) (plain : Plain) (v : Value ℕ) → v ≡ only plain → (p : ℕ) → In p v.refs → Known s p
+only_known : (s : Scope ℕ) (plain : Plain) (v : Value ℕ) → v ≡ only plain → (p : ℕ) → In p v.refs → Known s p
 only_known s plain v e p is = absurd (subst (λ (w : Value ℕ). In p w.refs) e is)
 
-ref_known : (s : Scope) (q : ℕ) (v : Value ℕ) → v ≡ ref q → (p : ℕ) → In p v.refs → q ≡ p
+ref_known : (s : Scope ℕ) (q : ℕ) (v : Value ℕ) → v ≡ ref q → (p : ℕ) → In p v.refs → q ≡ p
 ref_known s q v e p is = elim (subst (λ (w : Value ℕ). In p w.refs) e is) [ inl x ↦ x | inr r ↦ absurd r ]
 
-if_known : (b : Bool) (s : Scope) (P Q : Type 0) → (P → ⊥) → (plain : Plain) (v : Value ℕ) → (Q → v ≡ only plain) → IfSo b P Q → (p : ℕ) → In p v.refs → Known s p
-if_known true s P Q none plain v same h p is = absurd (none h)
-if_known false s P Q none plain v same h p is = only_known s plain v (same h) p is
+-- each place stands for itself, and there is no supplementary file
+record IsAlone (s : Scope ℕ) : Type 0 where
+  places : s.around.place ≡ (λ p. p)
+  none : s.around.common ≡ None
 
-class_known : (k : Class) (s : Scope) (a : RawAttr) (v : Value ℕ) → MeansAs k s a v → (p : ℕ) → In p v.refs → Known s p
-class_known OfAddress s a v h p is = only_known s _ v h p is
-class_known OfBlock s a v h p is = only_known s _ v h p is
-class_known OfConstant s a v h p is = if_known (names_file a.pair.name) s _ _ (λ x. x) _ v (λ x. x) h p is
-class_known OfFlag s a v h p is = only_known s _ v h p is
-class_known OfText s a v h p is = only_known s _ v h p is
-class_known OfTextInStr s a v h p is = only_known s _ v h.value p is
-class_known OfTextInLineStr s a v h p is = only_known s _ v h.value p is
-class_known OfTextBySlot s a v h p is = only_known s _ v h.text.value p is
-class_known OfUnitEntry s a v h p is = inl (subst (λ (w : ℕ). In w s.own) (ref_known s _ v h.1 p is) h.0)
-class_known OfInfoEntry s a v h p is = inr (subst (λ (w : ℕ). In w s.all) (ref_known s _ v h.1 p is) h.0)
-class_known OfSignature s a v h p is = only_known s _ v h p is
-class_known OfOffset s a v h p is = if_known (names_list a.pair.name) s _ _ (λ x. x) _ v (λ x. x) h p is
-class_known OfExpression s a v h p is = absurd h
-class_known OfListIndex s a v h p is = absurd h
-class_known OfIndex s a v h p is = only_known s _ v h p is
-class_known Unread s a v h p is = absurd h
+if_known : (b : Bool) (s : Scope ℕ) (P : Type 0) (p : ℕ) (v : Value ℕ) → (P → In p v.refs → Known s p) → (plain : Plain) → IfSo b P (v ≡ only plain) → In p v.refs → Known s p
+if_known true s P p v named plain h is = named h is
+if_known false s P p v named plain h is = only_known s plain v h p is
 
-attrs_known : (s : Scope) (raw : List RawAttr) (attrs : List (Attr ℕ)) → MeanAttrs s raw attrs → (a : Named ℕ) → In a (map named_value attrs) → (p : ℕ) → In p a.value.refs → Known s p
-attrs_known s [] [] h a is p ref = absurd is
-attrs_known s (r ∷ raw) (b ∷ attrs) h a (inl x) p ref = class_known (class_of r.pair.form) s r b.value h.0.value p (subst (λ (w : Named ℕ). In p w.value.refs) (sym x) ref)
-attrs_known s (r ∷ raw) (b ∷ attrs) h a (inr y) p ref = attrs_known s raw attrs h.1 a y p ref
-attrs_known s _ _ h a is p ref = absurd h
+among_known : (s : Scope ℕ) (alone : IsAlone s) (q : ℕ) (v : Value ℕ) → v ≡ ref (s.around.place q) → (p : ℕ) → In p v.refs → q ≡ p
+among_known s alone q v e p is = sym (ap (λ (f : ℕ → ℕ). f q) alone.places) ∙ ref_known s _ v e p is
 
-seen_known : (s : Scope) (f : Forest RawEntry) (g : Entries ℕ) → MeanEntries s f g → (e : Seen ℕ) → In e (seen g) → (a : Named ℕ) → In a e.attrs → (p : ℕ) → In p a.value.refs → Known s p
+-- an operand names an entry of the unit, or of any
+operand_known : (s : Scope ℕ) (o : Operand) → has (target_of s o) (entries_for s o.base) ≡ true → Known s (target_of s o)
+operand_known s o named = by o.base (has_in (target_of s o) (entries_for s o.base) named) where
+  by : (base : Base) → In (target_of s o) (entries_for s base) → Known s (target_of s o)
+  by FromUnit there = inl there
+  by FromInfo there = inr there
+
+targets_known : (s : Scope ℕ) (alone : IsAlone s) (section : ℕ) (operands : List Operand) → AreNamed (expr_context s section).names operands → (p : ℕ) → In p (targets s operands) → Known s p
+targets_known s alone section operands named p is =
+    let from = in_map_from (λ (o : Operand). s.around.place (target_of s o)) p operands is in
+    let known = operand_known s from.source (one_named (expr_context s section).names operands named from.source from.there) in
+    subst (Known s) (sym (ap (λ (f : ℕ → ℕ). f (target_of s from.source)) alone.places) ∙ from.is) known
+
+expr_known : (s : Scope ℕ) (alone : IsAlone s) (a : RawAttr) (v : Value ℕ) → IsExpression s a v → (p : ℕ) → In p v.refs → Known s p
+expr_known s alone a v h p is =
+    targets_known s alone 1 h.expression.operands (expr_named (expr_context s 1) h.expression (content_at a) (bytes_of a.raw) h.spelled) p (subst (λ (w : Value ℕ). In p w.refs) h.value is)
+
+list_known : (s : Scope ℕ) (alone : IsAlone s) (place : ℕ) (v : Value ℕ) → IsLocList s place v → (p : ℕ) → In p v.refs → Known s p
+list_known s alone place v h p is =
+    targets_known s alone 7 (operands_of h.list.exprs) (list_named (expr_context s 7) h.list place h.stands.front h.stands.spelled) p (subst (λ (w : Value ℕ). In p w.refs) h.value is)
+
+file_known : (s : Scope ℕ) (line : Option ℕ) (number : ℤ) (v : Value ℕ) → IsFileBy line s number v → (p : ℕ) → In p v.refs → Known s p
+file_known s None number v h p is = only_known s _ v h.1 p is
+file_known s (Some place) number v h p is = only_known s _ v h.value p is
+
+class_known : (k : Class) (s : Scope ℕ) (alone : IsAlone s) (a : RawAttr) (v : Value ℕ) → MeansAs k s a v → (p : ℕ) → In p v.refs → Known s p
+class_known OfAddress s alone a v h p is = only_known s _ v h p is
+class_known OfBlock s alone a v h p is = only_known s _ v h p is
+class_known OfConstant s alone a v h p is = if_known (names_file a.pair.name) s _ p v (λ f. file_known s (stmt_list s) (number_of a.raw) v f p) _ h is
+class_known OfFlag s alone a v h p is = only_known s _ v h p is
+class_known OfText s alone a v h p is = only_known s _ v h p is
+class_known OfTextInStr s alone a v h p is = only_known s _ v h.value p is
+class_known OfTextInLineStr s alone a v h p is = only_known s _ v h.value p is
+class_known OfTextBySlot s alone a v h p is = only_known s _ v h.text.value p is
+class_known OfUnitEntry s alone a v h p is = inl (subst (λ (w : ℕ). In w s.own) (among_known s alone _ v h.1 p is) h.0)
+class_known OfInfoEntry s alone a v h p is = inr (subst (λ (w : ℕ). In w s.around.all) (among_known s alone _ v h.1 p is) h.0)
+class_known OfSignature s alone a v h p is = only_known s _ v h p is
+class_known OfOffset s alone a v h p is = if_known (names_list a.pair.name) s _ p v (λ f. list_known s alone (offset_of a) v f p) _ h is
+class_known OfExpression s alone a v h p is = expr_known s alone a v h p is
+class_known OfListIndex s alone a v h p is = list_known s alone (h.base + h.offset) v h.list p is
+class_known OfIndex s alone a v h p is = only_known s _ v h p is
+class_known OfCommonEntry s alone a v h p is = absurd (let none = sym alone.none ∙ h.1 in cc)
+class_known OfCommonText s alone a v h p is = absurd (let none = sym alone.none ∙ h.1 in cc)
+class_known Unread s alone a v h p is = absurd h
+
+attrs_known : (s : Scope ℕ) (alone : IsAlone s) (raw : List RawAttr) (attrs : List (Attr ℕ)) → MeanAttrs s raw attrs → (a : Named ℕ) → In a (map named_value attrs) → (p : ℕ) → In p a.value.refs → Known s p
+attrs_known s alone [] [] h a is p there = absurd is
+attrs_known s alone (r ∷ raw) (b ∷ attrs) h a (inl x) p there = class_known (class_of r.pair.form) s alone r b.value h.0.value p (subst (λ (w : Named ℕ). In p w.value.refs) (sym x) there)
+attrs_known s alone (r ∷ raw) (b ∷ attrs) h a (inr y) p there = attrs_known s alone raw attrs h.1 a y p there
+attrs_known s alone _ _ h a is p there = absurd h
+
+seen_known : (s : Scope ℕ) (alone : IsAlone s) (f : Forest RawEntry) (g : Entries ℕ) → MeanEntries s f g → (e : Seen ℕ) → In e (seen g) → (a : Named ℕ) → In a e.attrs → (p : ℕ) → In p a.value.refs → Known s p
 unfolding seen
-seen_known s End End h e is a attr p ref = absurd is
-seen_known s (Entry r f f') (Entry d g g') h e (inl x) a attr p ref = attrs_known s (without_siblings r.attrs) d.attrs h.0.attrs a (subst (λ (w : Seen ℕ). In a w.attrs) (sym x) attr) p ref
-seen_known s (Entry r f f') (Entry d g g') h e (inr y) a attr p ref = elim (in_cases e (seen g) (seen g') y) [
-  | inl b ↦ seen_known s f g h.1 e b a attr p ref
-  | inr c ↦ seen_known s f' g' h.2 e c a attr p ref
+seen_known s alone End End h e is a attr p there = absurd is
+seen_known s alone (Entry r f f') (Entry d g g') h e (inl x) a attr p there = attrs_known s alone (without_siblings r.attrs) d.attrs h.0.attrs a (subst (λ (w : Seen ℕ). In a w.attrs) (sym x) attr) p there
+seen_known s alone (Entry r f f') (Entry d g g') h e (inr y) a attr p there = elim (in_cases e (seen g) (seen g') y) [
+  | inl b ↦ seen_known s alone f g h.1 e b a attr p there
+  | inr c ↦ seen_known s alone f' g' h.2 e c a attr p there
 ]
-seen_known s _ _ h e is a attr p ref = absurd h
+seen_known s alone _ _ h e is a attr p there = absurd h
 
 -- ---- an entry stands at each place
 
@@ -247,13 +290,13 @@ key_seen (Entry e f g) p (inr r) = elim (in_cases p (keys f) (keys g) r) [
   | inr b ↦ (let o = key_seen g p b in (o.0, inr (in_right o.0 (seen f) (seen g) o.1), o.2))
 ]
 
-unit_stands : (sources : Sources) (all : List ℕ) (u : RawUnit) (v : DwUnit ℕ) → MeansUnit sources all u v → (units : List (DwUnit ℕ)) → In v units → (p : ℕ) → In p (places_of u) → StandsAt units p
+unit_stands : (sources : Sources) (all : List ℕ) (u : RawUnit) (v : DwUnit ℕ) → MeansUnit (by_itself sources all) u v → (units : List (DwUnit ℕ)) → In v units → (p : ℕ) → In p (places_of u) → StandsAt units p
 unit_stands sources all u v h units there p (inl x) = (see v.root v.below, root_seen units v there, h.root.place ∙ x)
 unit_stands sources all u v h units there p (inr r) =
-    let o = key_seen v.below p (subst (In p) (sym (entries_places (scope_of sources all u) u.below v.below h.below)) r) in
+    let o = key_seen v.below p (subst (In p) (sym (entries_places (scope_of (by_itself sources all) u) refl u.below v.below h.below)) r) in
     (o.0, entry_seen units v o.0 there o.1, o.2)
 
-place_stands : (sources : Sources) (all : List ℕ) (raw : List RawUnit) (units whole : List (DwUnit ℕ)) → MeanUnits sources all raw units → ((v : DwUnit ℕ) → In v units → In v whole) → (p : ℕ) → In p (all_places raw) → StandsAt whole p
+place_stands : (sources : Sources) (all : List ℕ) (raw : List RawUnit) (units whole : List (DwUnit ℕ)) → MeanUnits (by_itself sources all) raw units → ((v : DwUnit ℕ) → In v units → In v whole) → (p : ℕ) → In p (all_places raw) → StandsAt whole p
 unfolding all_places
 place_stands sources all [] [] whole h into p is = absurd is
 place_stands sources all (u ∷ raw) (v ∷ units) whole h into p is = elim (in_cases p (places_of u) (all_places raw) is) [
@@ -270,7 +313,7 @@ own_known (w ∷ raw) u (inr r) p is = in_right p (places_of w) (all_places raw)
 
 -- ---- all of it
 
-module _ (abbrevs info : List ℕ) (mode : Mode) (raw : List RawUnit) (sources : Sources) (units : List (DwUnit ℕ)) (spelled : SpellsUnits abbrevs mode 0 raw 0 info) (means : MeanUnits sources (all_places raw) raw units) where
+module _ (abbrevs info : List ℕ) (mode : Mode) (raw : List RawUnit) (sources : Sources) (units : List (DwUnit ℕ)) (spelled : SpellsUnits abbrevs mode 0 raw 0 info) (means : MeanUnits (alone sources raw) raw units) where
   read_apart : NoneTwice (units_keys units)
   read_apart = subst NoneTwice (sym (units_places sources (all_places raw) raw units means)) (rise_none 0 (all_raw_keys raw) (0 + length info) (units_rise abbrevs mode 0 raw 0 info spelled))
 
@@ -278,11 +321,11 @@ module _ (abbrevs info : List ℕ) (mode : Mode) (raw : List RawUnit) (sources :
   read_kinds none v there is =
       let m = means_in sources (all_places raw) raw units means v there in
       let s = spelled_in abbrevs mode 0 raw 0 info spelled m.unit m.there in
-      let kind = partial_only (scope_of sources (all_places raw) m.unit) m.unit.kind v.kind m.means.kind is in
+      let kind = partial_only (scope_of (alone sources raw) m.unit) m.unit.kind v.kind m.means.kind is in
       let header = s.spelled.is_header in
       kind_not_partial mode none (unit_type s.spelled.header) s.spelled.header header.unit_type (sym header.of_kind ∙ kind)
 
-  known_stands : (u : RawUnit) → In u raw → (p : ℕ) → Known (scope_of sources (all_places raw) u) p → StandsAt units p
+  known_stands : (u : RawUnit) → In u raw → (p : ℕ) → Known (scope_of (alone sources raw) u) p → StandsAt units p
   known_stands u there p (inl own) = place_stands sources (all_places raw) raw units units means (λ v is. is) p (own_known raw u there p own)
   known_stands u there p (inr all) = place_stands sources (all_places raw) raw units units means (λ v is. is) p all
 
@@ -291,13 +334,15 @@ module _ (abbrevs info : List ℕ) (mode : Mode) (raw : List RawUnit) (sources :
     | inl x ↦
         (let o = root_from units e x in
         let m = means_in sources (all_places raw) raw units means o.unit o.there in
-        let s = scope_of sources (all_places raw) m.unit in
-        known_stands m.unit m.there p (attrs_known s (without_siblings m.unit.root.attrs) o.unit.root.attrs m.means.root.attrs a (subst (λ (w : Seen ℕ). In a w.attrs) (sym o.is) attr) p ref))
+        let s = scope_of (alone sources raw) m.unit in
+        let by_it : IsAlone s = record { places = refl; none = refl } in
+        known_stands m.unit m.there p (attrs_known s by_it (without_siblings m.unit.root.attrs) o.unit.root.attrs m.means.root.attrs a (subst (λ (w : Seen ℕ). In a w.attrs) (sym o.is) attr) p ref))
     | inr y ↦
         (let o = seen_from units e y in
         let m = means_in sources (all_places raw) raw units means o.unit o.there in
-        let s = scope_of sources (all_places raw) m.unit in
-        known_stands m.unit m.there p (seen_known s m.unit.below o.unit.below m.means.below e o.is a attr p ref))
+        let s = scope_of (alone sources raw) m.unit in
+        let by_it : IsAlone s = record { places = refl; none = refl } in
+        known_stands m.unit m.there p (seen_known s by_it m.unit.below o.unit.below m.means.below e o.is a attr p ref))
   ]
 
   -- units that are read without partial units are placed

@@ -3,13 +3,13 @@ use Rattle.std.proofs.Common.{◌≡◌, ℕ, ◌+◌, ◌-◌, Bool, false, Lis
 use Rattle.std.proofs.lemmas.List.{map-append}
 use Rattle.dwz_meanings.specs.Documents.{Attr, Compile, DwUnit, Entries, Kind, Node, OfType, Partial, kind_map}
 use Rattle.dwz_docs.specs.Entries.{RawAttr}
-use Rattle.dwz_meanings.specs.Meanings.{MeanAttrs, MeanEntries, MeanUnits, MeansAttr, MeansKind, MeansNode, MeansUnit, Scope, Sources, all_places, class_of, places_in, places_of, scope_of, without_siblings}
+use Rattle.dwz_meanings.specs.Meanings.{MeanAttrs, MeanEntries, MeanUnits, MeansAttr, MeansKind, MeansNode, MeansUnit, Scope, Sources, all_places, alone, class_of, places_in, places_of, scope_of, without_siblings}
 use Rattle.dwz_docs.specs.Lists.{In}
 use Rattle.dwz_docs.specs.Trees.{End, Entry}
 use Rattle.dwz_docs.specs.Values.{value_bytes}
 use Rattle.dwz_output.specs.Alike.{Each}
 use Rattle.dwz_output.specs.Fitting.{AttrFits, EntriesFit, KindFits, NodeFits, UnitFits}
-use Rattle.dwz_output.specs.Meant.{AttrSays, EntriesSay, KindSays, NodeSays, UnitSays, UnitsSay, all_entry_keys, entry_keys, placed_attr, placed_entries, placed_node, placed_unit, placed_units}
+use Rattle.dwz_output.specs.Meant.{AttrSays, EntriesSay, KindSays, NodeSays, UnitSays, UnitsSay, all_entry_keys, by_itself, entry_keys, placed_attr, placed_entries, placed_node, placed_unit, placed_units}
 use Rattle.dwz_output.specs.Placing.{keys}
 use Rattle.dwz_output.specs.Sound.{SoundAttr, SoundEntries, SoundNode, SoundUnit}
 use Rattle.dwz_output.specs.Writing.{Numbering, Shape, pair_of, stored, table_of}
@@ -25,22 +25,22 @@ unfolding raw_attrs without_siblings
 all_stay n unit [] at sound = refl
 all_stay n unit (a ∷ attrs) at sound =
     let test : eqb a.name 0x01 ≡ false = ne_eqb a.name 0x01 sound.0.no_sibling in
-    let here : RawAttr = record { at = at; pair = pair_of a; raw = stored n unit a } in
+    let here : RawAttr = record { at = at; end = at + length (value_bytes a.form (stored n unit a)); pair = pair_of a; raw = stored n unit a } in
     let others = raw_attrs n unit (at + length (value_bytes a.form (stored n unit a))) attrs in
     ap (λ (b : Bool). cond b (without_siblings others) (here ∷ without_siblings others)) test ∙ ap (λ (w : List RawAttr). here ∷ w) (all_stay n unit attrs _ sound.1)
 
-module _ {K : Type 0} (n : Numbering K) (unit : ℕ) (sources : Sources) (own all : List K) (s : Scope) (is : IsScope n unit sources own all s) where
-  attr_means : (a : Attr K) (at : ℕ) → SoundAttr a → AttrFits n unit a → AttrSays sources own all a → MeansAttr s (record { at = at; pair = pair_of a; raw = stored n unit a }) (placed_attr n unit a)
-  attr_means a at sound fits says = record { name = refl; form = refl; raw = refl; value = as_means n unit sources own all s is (class_of a.form) a at refl sound.built sound.value fits says }
+module _ {K : Type 0} (n : Numbering K) (unit : ℕ) (sources : Sources) (own all : List K) (s : Scope ℕ) (is : IsScope n unit sources own all s) where
+  attr_means : (a : Attr K) (at end : ℕ) → SoundAttr a → AttrFits n unit a → AttrSays sources own all a → MeansAttr s (record { at = at; end = end; pair = pair_of a; raw = stored n unit a }) (placed_attr n unit a)
+  attr_means a at end sound fits says = record { name = refl; form = refl; raw = refl; value = as_means n unit sources own all s is (class_of a.form) a at end refl sound.built sound.value fits says }
 
   attrs_mean : (attrs : List (Attr K)) (at : ℕ) → Each SoundAttr attrs → Each (AttrFits n unit) attrs → Each (AttrSays sources own all) attrs → MeanAttrs s (raw_attrs n unit at attrs) (map (placed_attr n unit) attrs)
   unfolding raw_attrs
   attrs_mean [] at sound fits says = tt
-  attrs_mean (a ∷ attrs) at sound fits says = (attr_means a at sound.0 fits.0 says.0, attrs_mean attrs _ sound.1 fits.1 says.1)
+  attrs_mean (a ∷ attrs) at sound fits says = (attr_means a at _ sound.0 fits.0 says.0, attrs_mean attrs _ sound.1 fits.1 says.1)
 
   node_means : (table : List Shape) (e : Node K) (children : Entries K) → SoundNode e → NodeFits n unit e → NodeSays sources own all e → MeansNode s (raw_entry n unit table e children) (placed_node n unit e)
   node_means table e children sound fits says = record {
-    place = refl;
+    place = sym (ap (λ (f : ℕ → ℕ). f (n.place e.at)) is.own_places);
     tag = refl;
     attrs = subst (λ (w : List RawAttr). MeanAttrs s w (map (placed_attr n unit) e.attrs)) (sym (all_stay n unit e.attrs _ sound.attrs)) (attrs_mean e.attrs _ sound.attrs fits says);
   }
@@ -56,7 +56,7 @@ module _ {K : Type 0} (n : Numbering K) (unit : ℕ) (sources : Sources) (own al
   kind_means (OfType signature main) fits says =
       let place : n.place main ≡ s.unit + (n.place main - unit) = omega (arith, is.unit, fits.0) in
       let among : In (n.place main) s.own = subst (In (n.place main)) (sym is.own) (in_map n.place main own says) in
-      (subst (λ (p : ℕ). In p s.own) place among, ap (λ (p : ℕ). OfType signature p) place)
+      (subst (λ (p : ℕ). In p s.own) place among, ap (λ (p : ℕ). OfType signature p) place ∙ ap (λ (f : ℕ → ℕ). OfType signature (f (s.unit + (n.place main - unit)))) (sym is.own_places))
 
 -- ---- places
 
@@ -80,11 +80,11 @@ all_raw n tables (u ∷ units) =
 -- ---- units
 
 module _ {K : Type 0} (n : Numbering K) (tables : List (List ℕ)) (sources : Sources) (all : List K) (places : List ℕ) (same : places ≡ map n.place all) where
-  unit_means : (u : DwUnit K) → SoundUnit u → UnitFits n u → UnitSays sources all u → MeansUnit sources places (raw_unit n tables u) (placed_unit n u)
+  unit_means : (u : DwUnit K) → SoundUnit u → UnitFits n u → UnitSays sources all u → MeansUnit (by_itself sources places) (raw_unit n tables u) (placed_unit n u)
   unit_means u sound fits says =
       let unit = n.place u.at in
-      let s = scope_of sources places (raw_unit n tables u) in
-      let is : IsScope n unit sources (entry_keys u) all s = record { sources = refl; unit = refl; own = own_raw n tables u; all = same } in
+      let s = scope_of (by_itself sources places) (raw_unit n tables u) in
+      let is : IsScope n unit sources (entry_keys u) all s = record { sources = refl; own_places = refl; unit = refl; own = own_raw n tables u; all = same } in
       record {
         place = refl;
         kind = kind_means n unit sources (entry_keys u) all s is u.kind fits.kind says.kind;
@@ -92,12 +92,12 @@ module _ {K : Type 0} (n : Numbering K) (tables : List (List ℕ)) (sources : So
         below = entries_mean n unit sources (entry_keys u) all s is (table_of u) u.below sound.below fits.below says.below;
       }
 
-  each_means : (units : List (DwUnit K)) → Each SoundUnit units → Each (UnitFits n) units → Each (UnitSays sources all) units → MeanUnits sources places (raw_units n tables units) (placed_units n units)
+  each_means : (units : List (DwUnit K)) → Each SoundUnit units → Each (UnitFits n) units → Each (UnitSays sources all) units → MeanUnits (by_itself sources places) (raw_units n tables units) (placed_units n units)
   unfolding raw_units
   each_means [] sound fits says = tt
   each_means (u ∷ units) sound fits says = (unit_means u sound.0 fits.0 says.0, each_means units sound.1 fits.1 says.1)
 
 pub units_mean : {K : Type 0} (n : Numbering K) (tables : List (List ℕ)) (sources : Sources) (units : List (DwUnit K)) → Each SoundUnit units → Each (UnitFits n) units → UnitsSay sources units
-    → MeanUnits sources (all_places (raw_units n tables units)) (raw_units n tables units) (placed_units n units)
+    → MeanUnits (alone sources (raw_units n tables units)) (raw_units n tables units) (placed_units n units)
 units_mean n tables sources units sound fits says =
     each_means n tables sources (all_entry_keys units) (all_places (raw_units n tables units)) (all_raw n tables units) units sound fits says

@@ -4,7 +4,7 @@ use Rattle.std.proofs.lemmas.List.{append-nil, length-append}
 use Rattle.dwz_bytes.specs.Spelling.{groups_in, uleb}
 use Rattle.dwz_bytes.proofs.PaddedLemmas.{padded_len}
 use Rattle.dwz_meanings.specs.Documents.{Compile, DwUnit, Entries, Kind, Node, OfType, Partial}
-use Rattle.dwz_docs.specs.Entries.{Mode, SpellsFront, UnitContext, root_position}
+use Rattle.dwz_docs.specs.Entries.{Mode, SpellsFront, UnitContext, own_forms, root_position}
 use Rattle.dwz_docs.specs.Trees.{End, Entry, SpellsForest, first_below, size}
 use Rattle.dwz_docs.specs.Units.{SpellsHeader, SpellsTree, SpellsUnit, SpellsUnits, entry_count, root_tag}
 use Rattle.dwz_output.specs.Alike.{Each}
@@ -72,6 +72,7 @@ pub record Writes {K : Type 0} (n : Numbering K) (tables : List (List ℕ)) (mod
   pub sound : SoundUnit u
   pub fits : UnitFits n u
   pub partial : mode.partial ≡ true
+  pub forms : mode.forms ≡ own_forms
   pub deep : suc (depth u.below) ≤ mode.depth
   pub room : before + (size u.below + 1) ≤ mode.entries
   pub small : unit_size n (n.place u.at) u < 2 ^ 32 - 16
@@ -99,12 +100,12 @@ module _ {K : Type 0} (n : Numbering K) (tables : List (List ℕ)) (mode : Mode)
       let p = root_position before in
       let deep = w.deep in
       let room = w.room in
-      let below = forest_spelled n unit (table_of u) (root_tag (raw_kind n unit u.kind)) (unit + unit_size n unit u) mode u.below (first_below p) (unit + header_size u.kind + length front) (few_shapes w) t.below w.sound.below w.fits.below stands.below (omega arith) (omega (arith, deep)) (omega (arith, room)) in
+      let below = forest_spelled n unit (table_of u) (root_tag (raw_kind n unit u.kind)) (unit + unit_size n unit u) mode w.forms u.below (first_below p) (unit + header_size u.kind + length front) (few_shapes w) t.below w.sound.below w.fits.below stands.below (omega arith) (omega (arith, deep)) (omega (arith, room)) in
       record {
         first_bytes = front;
-        first = entry_spelled n unit (table_of u) (root_tag (raw_kind n unit u.kind)) (unit + unit_size n unit u) mode u.root u.below p (unit + header_size u.kind) t.root (few_shapes w) w.sound.root w.fits.root stands.root (λ e. root_tag_of n unit u.kind u.root.tag w.sound.kind) (omega (arith, deep)) (omega (arith, room));
+        first = entry_spelled n unit (table_of u) (root_tag (raw_kind n unit u.kind)) (unit + unit_size n unit u) mode w.forms u.root u.below p (unit + header_size u.kind) t.root (few_shapes w) w.sound.root w.fits.root stands.root (λ e. root_tag_of n unit u.kind u.root.tag w.sound.kind) (omega (arith, deep)) (omega (arith, room));
         second_bytes = if_any u.below (spelled n unit (table_of u) u.below);
-        second = if_spelled n unit (table_of u) (root_tag (raw_kind n unit u.kind)) (unit + unit_size n unit u) mode u.below (spelled n unit (table_of u) u.below) (λ b. SpellsForest (λ e. e.children) (SpellsFront c) (raw_entries n unit (table_of u) u.below) (first_below p) (unit + header_size u.kind + length front) b) below;
+        second = if_spelled n unit (table_of u) (root_tag (raw_kind n unit u.kind)) (unit + unit_size n unit u) mode w.forms u.below (spelled n unit (table_of u) u.below) (λ b. SpellsForest (λ e. e.children) (SpellsFront c) (raw_entries n unit (table_of u) u.below) (first_below p) (unit + header_size u.kind + length front) b) below;
         parts = refl;
       }
 
@@ -156,21 +157,21 @@ units_len n tables (u ∷ units) =
 
 module _ {K : Type 0} (n : Numbering K) (tables : List (List ℕ)) (mode : Mode) where
   pub units_spelled : (units : List (DwUnit K)) (at before : ℕ) → UnitsStand n units at → Each SoundUnit units → Each (UnitFits n) units → HasTables tables units
-      → mode.partial ≡ true → Each (λ u. suc (depth u.below) ≤ mode.depth) units → before + entry_total units ≤ mode.entries → units_size n units < 2 ^ 32 - 16 → length (joined tables) < 2 ^ 32
+      → mode.partial ≡ true → mode.forms ≡ own_forms → Each (λ u. suc (depth u.below) ≤ mode.depth) units → before + entry_total units ≤ mode.entries → units_size n units < 2 ^ 32 - 16 → length (joined tables) < 2 ^ 32
       → SpellsUnits (joined tables) mode before (raw_units n tables units) at (units_bytes n tables units)
   unfolding units_bytes raw_units units_size entry_total
-  units_spelled [] at before stands s fits has partial deep room small tables_small = refl
-  units_spelled (u ∷ units) at before stands s fits has partial deep room small tables_small =
+  units_spelled [] at before stands s fits has partial forms deep room small tables_small = refl
+  units_spelled (u ∷ units) at before stands s fits has partial forms deep room small tables_small =
       let unit = n.place u.at in
       let bytes = unit_bytes n (table_offset tables u) unit u in
       let place = stands.0.unit in
-      let w : Writes n tables mode before u = record { sound = s.0; fits = fits.0; partial = partial; deep = deep.0; room = omega (arith, room); small = omega (arith, small); has = has.0; tables_small = tables_small } in
+      let w : Writes n tables mode before u = record { sound = s.0; fits = fits.0; partial = partial; forms = forms; deep = deep.0; room = omega (arith, room); small = omega (arith, small); has = has.0; tables_small = tables_small } in
       let here : UnitStands n u unit = subst (UnitStands n u) (sym place) stands.0 in
       let raw = raw_unit n tables u in
       let one : SpellsUnit (joined tables) mode before raw at bytes = subst (λ (k : ℕ). SpellsUnit (joined tables) mode before raw k bytes) place (unit_spelled n tables mode before u w here) in
       let len : at + unit_size n at u ≡ at + length bytes = ap (λ (k : ℕ). at + unit_size n k u) (sym place) ∙ ap (λ (k : ℕ). at + k) (sym (unit_len n unit (table_offset tables u) u)) in
-      let count : before + (size u.below + 1) ≡ before + entry_count raw = ap (λ (k : ℕ). before + (k + 1)) (sym (size_raw n unit (table_of u) 0 0 mode u.below)) in
-      let others = units_spelled units (at + unit_size n at u) (before + (size u.below + 1)) stands.1 s.1 fits.1 has.1 partial deep.1 (omega (arith, room)) (omega (arith, small)) tables_small in
+      let count : before + (size u.below + 1) ≡ before + entry_count raw = ap (λ (k : ℕ). before + (k + 1)) (sym (size_raw n unit (table_of u) 0 0 mode forms u.below)) in
+      let others = units_spelled units (at + unit_size n at u) (before + (size u.below + 1)) stands.1 s.1 fits.1 has.1 partial forms deep.1 (omega (arith, room)) (omega (arith, small)) tables_small in
       record {
         first_bytes = bytes;
         first = one;

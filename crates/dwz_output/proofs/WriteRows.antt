@@ -16,7 +16,7 @@ use Rattle.dwz_output.specs.Alike.{Each}
 use Rattle.dwz_output.specs.Carried.{CameFrom, CarriedNode, CarriedUnit}
 use Rattle.dwz_output.specs.Deciding.{same_by, same_int}
 use Rattle.dwz_output.specs.Fitting.{AreWritable, mode_for, places}
-use Rattle.dwz_output.specs.Meant.{Says, placed_entries, placed_units}
+use Rattle.dwz_output.specs.Meant.{Says, by_itself, placed_entries, placed_units}
 use Rattle.dwz_output.specs.Out.{FitsSections}
 use Rattle.dwz_output.specs.Placing.{UnitSections, fit, fit_unit, has_key, keys, number_in, placed, sections, unit_keys, units_keys, units_placed}
 use Rattle.dwz_output.specs.Plan.{import_of, partial_root}
@@ -95,11 +95,11 @@ pair_spelled name form some lt some' lt' other = record {
 }
 
 abbrev sources : Sources
-sources = record { strs = []; line_strs = []; offsets = [] }
+sources = record { strs = []; line_strs = []; offsets = []; line = []; lists = [] }
 
 -- the file had one unit, at 0, with an entry at 0d
-abbrev scope : Scope
-scope = record { sources = sources; unit = 0; root = record { at = 0x0c; tag = 0x11; children = true; attrs = [] }; own = 0x0d ∷ []; all = 0x0d ∷ [] }
+abbrev scope : Scope ℕ
+scope = record { around = by_itself sources (0x0d ∷ []); unit = 0; root = record { at = 0x0c; tag = 0x11; children = true; attrs = [] }; own = 0x0d ∷ [] }
 
 abbrev name : ℕ → Spot
 name place = Within 0 []
@@ -113,7 +113,8 @@ name_came = record {
   was_read = record {
     scope = scope;
     same_sources = refl;
-    old = record { at = 0; pair = pair 0x03 0x08; raw = Bytes (0x69 ∷ 0x6e ∷ 0x74 ∷ []) };
+    own_places = refl;
+    old = record { at = 0; end = 4; pair = pair 0x03 0x08; raw = Bytes (0x69 ∷ 0x6e ∷ 0x74 ∷ []) };
     read = read_attr 0x03 0x08 0 (only (Text (0x69 ∷ 0x6e ∷ 0x74 ∷ [])));
     means = record { name = refl; form = refl; raw = refl; value = refl };
     name = name;
@@ -136,7 +137,8 @@ size_came = record {
   was_read = record {
     scope = scope;
     same_sources = refl;
-    old = record { at = 0; pair = pair 0x0b 0x0b; raw = Number (pos 4) };
+    own_places = refl;
+    old = record { at = 0; end = 1; pair = pair 0x0b 0x0b; raw = Number (pos 4) };
     read = read_attr 0x0b 0x0b 4 (only (Num 0 (pos 4)));
     means = record { name = refl; form = refl; raw = refl; value = refl };
     name = name;
@@ -159,7 +161,8 @@ encoding_came = record {
   was_read = record {
     scope = scope;
     same_sources = refl;
-    old = record { at = 0; pair = pair 0x3e 0x0b; raw = Number (pos 5) };
+    own_places = refl;
+    old = record { at = 0; end = 1; pair = pair 0x3e 0x0b; raw = Number (pos 5) };
     read = read_attr 0x3e 0x0b 5 (only (Num 0 (pos 5)));
     means = record { name = refl; form = refl; raw = refl; value = refl };
     name = name;
@@ -183,7 +186,8 @@ type_came = record {
   was_read = record {
     scope = scope;
     same_sources = refl;
-    old = record { at = 0; pair = pair 0x49 0x11; raw = Number (pos 0x0d) };
+    own_places = refl;
+    old = record { at = 0; end = 1; pair = pair 0x49 0x11; raw = Number (pos 0x0d) };
     read = read_attr 0x49 0x11 0x0d (ref 0x0d);
     means = record { name = refl; form = refl; raw = refl; value = (inl refl, refl) };
     name = name;

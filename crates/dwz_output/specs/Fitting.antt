@@ -1,7 +1,7 @@
 -- Whether numbers and places fit where they are written.
 use Rattle.std.specs.Prelude.{◌≡◌, ℕ, suc, ◌+◌, ◌-◌, ◌<◌, ◌≤◌, ◌^◌, max, true, List, [], ◌∷◌}
 use Rattle.dwz_meanings.specs.Documents.{Attr, Compile, DwUnit, Entries, Kind, Node, OfType, Partial}
-use Rattle.dwz_docs.specs.Entries.{Mode}
+use Rattle.dwz_docs.specs.Entries.{Mode, own_forms}
 use Rattle.dwz_meanings.specs.Meanings.{Class, OfInfoEntry, OfUnitEntry, class_of}
 use Rattle.dwz_docs.specs.Trees.{End, Entry, size}
 use Rattle.dwz_output.specs.Alike.{Each}
@@ -62,13 +62,14 @@ unfoldable pub deepest : {K : Type 0} → List (DwUnit K) → ℕ
 deepest [] = 0
 deepest (u ∷ units) = max (suc (depth u.below)) (deepest units)
 
--- just as many and as deep entries as there are
+-- just as many and as deep entries as there are, in the forms of a file by itself
 abbrev pub mode_for : {K : Type 0} → List (DwUnit K) → Mode
-mode_for units = record { entries = entry_total units; depth = deepest units; partial = true }
+mode_for units = record { entries = entry_total units; depth = deepest units; partial = true; forms = own_forms }
 
--- partial units are read, and so many and so deep entries as there are
+-- partial units are read, and so many and so deep entries as there are, in the forms of a file by itself
 pub record IsRoomy {K : Type 0} (units : List (DwUnit K)) (mode : Mode) : Type 0 where
   pub partial : mode.partial ≡ true
+  pub forms : mode.forms ≡ own_forms
   pub entries : entry_total units ≤ mode.entries
   pub depth : Each (λ u. suc (depth u.below) ≤ mode.depth) units
 

@@ -1,8 +1,8 @@
 -- What the units that are written mean: the same units, with places for keys.
-use Rattle.std.specs.Prelude.{◌≡◌, ℕ, List, [], ◌∷◌, ◌++◌, map}
+use Rattle.std.specs.Prelude.{◌≡◌, ℕ, List, [], ◌∷◌, ◌++◌, map, None}
 use Rattle.dwz_meanings.specs.Documents.{Attr, Compile, DwUnit, Entries, Kind, Node, OfType, Partial, attr_map, kind_map, value_map}
 use Rattle.dwz_docs.specs.Entries.{Mode, RawAttr}
-use Rattle.dwz_meanings.specs.Meanings.{Class, MeanUnits, MeansAttr, OfInfoEntry, OfUnitEntry, Scope, Sources, all_places, class_of, number_of}
+use Rattle.dwz_meanings.specs.Meanings.{Around, Class, MeanUnits, MeansAttr, OfInfoEntry, OfUnitEntry, Scope, Sources, all_places, alone, class_of, number_of}
 use Rattle.dwz_docs.specs.Lists.{In}
 use Rattle.dwz_docs.specs.Trees.{End, Entry}
 use Rattle.dwz_docs.specs.Units.{RawUnit, SpellsUnits}
@@ -38,10 +38,15 @@ unfoldable pub all_entry_keys : {K : Type 0} → List (DwUnit K) → List K
 all_entry_keys [] = []
 all_entry_keys (u ∷ units) = entry_keys u ++ all_entry_keys units
 
--- the attribute was read in a file with these sections, and its places have names
+-- what surrounds units of a file by itself with these sections, where these are the places of all entries
+abbrev pub by_itself : Sources → List ℕ → Around ℕ
+by_itself sources all = record { sources = sources; all = all; place = λ p. p; common = None }
+
+-- the attribute was read in a file with these sections, where each place stands for itself, and its places have names
 pub record WasRead {K : Type 0} (sources : Sources) (a : Attr K) : Type 0 where
-  pub scope : Scope
-  pub same_sources : scope.sources ≡ sources
+  pub scope : Scope ℕ
+  pub same_sources : scope.around.sources ≡ sources
+  pub own_places : scope.around.place ≡ (λ p. p)
   pub old : RawAttr
   pub read : Attr ℕ
   pub means : MeansAttr scope old read
@@ -90,4 +95,4 @@ pub record Spells (s : UnitSections) (mode : Mode) (places : List ℕ) : Type 0 
 pub record Says (sources : Sources) (s : UnitSections) (mode : Mode) (units : List (DwUnit ℕ)) : Type 0 where
   pub raw : List RawUnit
   pub spelled : SpellsUnits s.abbrevs mode 0 raw 0 s.info
-  pub means : MeanUnits sources (all_places raw) raw units
+  pub means : MeanUnits (alone sources raw) raw units

@@ -1,29 +1,33 @@
 -- What was written, read back with imports expanded, is what was read.
-use Rattle.std.specs.Prelude.{◌≡◌, ◌≢◌, ℕ, true, List, [], ◌∷◌}
-use Rattle.dwz_meanings.specs.Documents.{Attr, Doc, DwUnit, Entries}
+use Rattle.std.specs.Prelude.{◌≡◌, ℕ, true, List, [], ◌∷◌}
+use Rattle.dwz_meanings.specs.Documents.{Doc, DwUnit}
 use Rattle.dwz_docs.specs.ElfFaults.{IsElfFault}
-use Rattle.dwz_docs.specs.Entries.{Mode}
-use Rattle.dwz_meanings.specs.Files.{Limits, Reads, debug_abbrev, debug_info, machine_of, sources_of}
-use Rattle.dwz_meanings.specs.Meanings.{MeanUnits, OfTextBySlot, all_places, class_of}
-use Rattle.dwz_docs.specs.Trees.{End, Entry}
+use Rattle.dwz_docs.specs.Entries.{Mode, own_forms}
+use Rattle.dwz_meanings.specs.Files.{HaveGoodRanges, Limits, Reads, ShareNoLists, around_of, debug_abbrev, debug_aranges, debug_info, machine_of}
+use Rattle.dwz_meanings.specs.Meanings.{MeanUnits}
 use Rattle.dwz_docs.specs.Units.{RawUnit, SpellsUnits}
 use Rattle.dwz_docs.specs.Values.{AreBytes}
 use Rattle.dwz_output.specs.After.{TypesSame}
 use Rattle.dwz_output.specs.Alike.{Apart, Each}
+use Rattle.dwz_output.specs.Carried.{BuiltUnit}
 use Rattle.dwz_output.specs.Out.{IsOut, alike_in, has_changes, image_place, one_file}
 use Rattle.dwz_output.specs.Out as out
 use Rattle.dwz_output.specs.Plan.{moves}
 use Rattle.dwz_output.specs.Same.{EntriesSame, OneImage, UnitsSame}
 
--- A file that was written says these units: it has no fault of an ELF file, and its units, of which some may be partial, are spelled
--- and mean these. No limit on depth or on entries is asked of it.
+-- A file that was written says these units: it has no fault of an ELF file; its units, of which some may be partial, are spelled in
+-- the forms of a file by itself, and mean these; each set of address ranges is of one of them; and no location list shares a byte with
+-- an operand of another. No limit on depth or on entries is asked of it.
 pub record Back (bytes : List ℕ) (units : List (DwUnit ℕ)) : Type 0 where
   pub elf : (f : _) → IsElfFault bytes f → ⊥
   pub mode : Mode
   pub partial : mode.partial ≡ true
+  pub forms : mode.forms ≡ own_forms
   pub raw : List RawUnit
   pub spelled : SpellsUnits (debug_abbrev bytes) mode 0 raw 0 (debug_info bytes)
-  pub means : MeanUnits (sources_of bytes) (all_places raw) raw units
+  pub means : MeanUnits (around_of bytes raw) raw units
+  pub ranges : HaveGoodRanges bytes raw
+  pub lists : ShareNoLists bytes raw
 
 -- the file that stands for one that says this reads back as the same, along images
 pub record ReadsBack (doc : Doc ℕ) (bytes : List ℕ) : Type 0 where
@@ -41,21 +45,13 @@ HasOneImage doc =
 
 -- ---- what is asked of the file, besides that it reads
 
--- no text of the attribute stands in a slot (DWARF 5, 7.26): a partial unit has no base for slots yet
-abbrev pub IsNoSlot : Attr ℕ → Type 0
-IsNoSlot a = class_of a.form ≢ OfTextBySlot
-
-abbrev pub AreWithoutSlots : Entries ℕ → Type 0
-AreWithoutSlots End = Unit {0}
-AreWithoutSlots (Entry e children next) = Each IsNoSlot e.attrs × AreWithoutSlots children × AreWithoutSlots next
-
-abbrev pub IsWithoutSlots : DwUnit ℕ → Type 0
-IsWithoutSlots u = Each IsNoSlot u.root.attrs × AreWithoutSlots u.below
-
--- it is a list of bytes, and none of its texts stands in a slot
+-- It is a list of bytes, and has nothing that isn't written yet: each attribute is among those that are written (so no text stands in a
+-- slot, and none has an expression, a location list or the number of a file), and there is no set of address ranges (DWARF 5, 6.1.2),
+-- since these hold the places of units.
 pub record CanReadBack (input : List ℕ) (doc : Doc ℕ) : Type 0 where
   pub are_bytes : AreBytes input
-  pub no_slots : Each IsWithoutSlots doc.units
+  pub built : Each BuiltUnit doc.units
+  pub no_sets : debug_aranges input ≡ []
 
 -- ---- laws
 

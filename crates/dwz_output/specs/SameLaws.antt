@@ -2,7 +2,7 @@
 use Rattle.std.specs.Prelude.{◌≡◌, ℕ, false, true, List, [], ◌∷◌, map}
 use Rattle.dwz_meanings.specs.Documents.{Doc, DwUnit, Node, OfType, unit_map}
 use Rattle.dwz_docs.specs.Entries.{Mode}
-use Rattle.dwz_meanings.specs.Meanings.{MeanUnits, Sources, all_places}
+use Rattle.dwz_meanings.specs.Meanings.{MeanUnits, Sources, alone}
 use Rattle.dwz_docs.specs.Lists.{In}
 use Rattle.dwz_docs.specs.Units.{RawUnit, SpellsUnits}
 use Rattle.dwz_output.specs.After.{AllOfFile, AreAfter, AreOld, ArePlaced, ComesFrom, FileSame, IsAlone, IsEntryOf, OnePlace, Replaces, SameAlong, StandFor, UnitsShown, one_fitted, one_place_of}
@@ -23,7 +23,7 @@ use Rattle.dwz_output.specs.Standing.{NoneTwice}
 abbrev pub PlacesLaw : Type 0
 PlacesLaw =
     (abbrevs info : List ℕ) (mode : Mode) (raw : List RawUnit) (sources : Sources) (units : List (DwUnit ℕ)) → SpellsUnits abbrevs mode 0 raw 0 info
-    → MeanUnits sources (all_places raw) raw units → mode.partial ≡ false → ArePlaced units
+    → MeanUnits (alone sources raw) raw units → mode.partial ≡ false → ArePlaced units
 
 -- units whose places differ are at their names
 abbrev pub NamesLaw : Type 0

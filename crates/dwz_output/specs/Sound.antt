@@ -3,20 +3,23 @@ use Rattle.std.specs.Prelude.{◌≡◌, ◌≢◌, ℕ, ◌<◌, ◌≤◌, ◌
 use Rattle.dwz_bytes.specs.Spelling.{fits_i64}
 use Rattle.dwz_codes.specs.Forms.{form_rows}
 use Rattle.dwz_meanings.specs.Documents.{Attr, Compile, DwUnit, Entries, Kind, Node, OfType, Partial, ref}
-use Rattle.dwz_meanings.specs.Meanings.{Class, OfConstant, OfExpression, OfInfoEntry, OfListIndex, OfOffset, OfTextBySlot, OfUnitEntry, Unread, class_of, names_file, names_list}
+use Rattle.dwz_meanings.specs.Meanings.{Class, OfCommonEntry, OfCommonText, OfConstant, OfExpression, OfInfoEntry, OfListIndex, OfOffset, OfTextBySlot, OfUnitEntry, Unread, class_of, names_file, names_list}
 use Rattle.dwz_docs.specs.Trees.{End, Entry}
 use Rattle.dwz_docs.specs.Values.{AreBytes, Raw, SpellsValue}
 use Rattle.dwz_output.specs.Alike.{Each}
 use Rattle.dwz_output.specs.Placing.{zeros}
 use Rattle.dwz_output.specs.Writing.{pair_of, stored_as}
 
--- Which attributes are written. Texts by slots, expressions, location lists and the numbers of files will have their cases here.
+-- Which attributes are written. Texts by slots, expressions, location lists, the numbers of files, and what stands in a supplementary
+-- file will have their cases here.
 abbrev pub IsBuiltAs : Class → ℕ → Type 0
 IsBuiltAs OfTextBySlot name = ⊥
 IsBuiltAs OfExpression name = ⊥
 IsBuiltAs OfListIndex name = ⊥
 IsBuiltAs OfConstant name = names_file name ≡ false
 IsBuiltAs OfOffset name = names_list name ≡ false
+IsBuiltAs OfCommonEntry name = ⊥
+IsBuiltAs OfCommonText name = ⊥
 IsBuiltAs Unread name = ⊥
 IsBuiltAs _ name = Unit {0}
 

@@ -2,8 +2,8 @@
 
 ghost use Rattle.std.specs.Prelude.{◌≡◌, ◌<◌, ℕ, List, length, map};
 ghost use Rattle.dwz_meanings.specs.Documents.{Attr, DwUnit, Entries, Kind, Node, entries_map, node_map, unit_map};
-ghost use Rattle.dwz_docs.specs.Entries.{Mode};
-ghost use Rattle.dwz_meanings.specs.Meanings.{MeanUnits, Sources, all_places};
+ghost use Rattle.dwz_docs.specs.Entries.{Mode, own_forms};
+ghost use Rattle.dwz_meanings.specs.Meanings.{MeanUnits, Sources, alone};
 ghost use Rattle.dwz_docs.specs.Lists.{In};
 ghost use Rattle.dwz_docs.specs.Units.{RawUnit, SpellsUnits};
 ghost use Rattle.dwz_docs.specs.Values.{AreBytes};
@@ -63,7 +63,7 @@ pub fn form_laws()
 /// units, entries and lists of entries stay so where places get names, or names others.
 pub fn carried_laws()
     ensures read { (abbrevs info : List ℕ) (mode : Mode) (raw : List RawUnit) (sources : Sources) (units : List (DwUnit ℕ))
-        → SpellsUnits abbrevs mode 0 raw 0 info → MeanUnits sources (all_places raw) raw units → AreBytes info → Each BuiltUnit units → Each (CarriedUnit sources) units }
+        → SpellsUnits abbrevs mode 0 raw 0 info → mode.forms ≡ own_forms → MeanUnits (alone sources raw) raw units → AreBytes info → Each BuiltUnit units → Each (CarriedUnit sources) units }
 
     ensures named { (sources : Sources) (f : ℕ → Spot) (u : DwUnit ℕ) → CarriedUnit sources u → CarriedUnit sources (unit_map f u) }
     ensures unit { (sources : Sources) (f : Spot → Spot) (u : DwUnit Spot) → CarriedUnit sources u → CarriedUnit sources (unit_map f u) }

@@ -4,7 +4,7 @@ use Rattle.dwz_output.proofs.ReadAgain.{units_carried}
 use Rattle.dwz_output.proofs.writing.carried_laws.Goals as goal
 
 pub returns-clause-read : goal.returns-clause-read
-returns-clause-read c abbrevs info mode raw sources units is means are built = units_carried abbrevs mode sources (all_places raw) raw units 0 0 info is means are built
+returns-clause-read c abbrevs info mode raw sources units is forms means are built = units_carried abbrevs mode forms sources (all_places raw) raw units 0 0 info is means are built
 
 pub returns-clause-named : goal.returns-clause-named
 returns-clause-named c = unit_carried

@@ -52,12 +52,11 @@ module _ (c : UnitContext) where
   }
 
 read_again : (mode : Mode) (type : ℕ) → is_read mode type ≡ true → is_read (with_partial mode) type ≡ true
-read_again mode type is = by (type == 1) (type == 2) (type == 3) mode.partial is where
-  by : (a b c partial : Bool) → (a || (b || (partial && c))) ≡ true → (a || (b || (true && c))) ≡ true
-  by true b c partial e = refl
-  by false true c partial e = refl
-  by false false c true e = e
-  by false false c false e = absurd cc
+read_again mode type is = by (mode.whole && (type == 1 || type == 2)) (type == 3) mode.partial is where
+  by : (a c partial : Bool) → (a || (partial && c)) ≡ true → (a || (true && c)) ≡ true
+  by true c partial e = refl
+  by false c true e = e
+  by false c false e = absurd cc
 
 module _ (abbrevs : List ℕ) (mode : Mode) where
   unit_again : (before : ℕ) (u : RawUnit) (start : ℕ) (bytes : List ℕ) → SpellsUnit abbrevs mode before u start bytes → SpellsUnit abbrevs (with_partial mode) before u start bytes

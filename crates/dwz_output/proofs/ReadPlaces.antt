@@ -1,6 +1,5 @@
 -- The places of units that are read differ, and each reference there names an entry.
 use Rattle.std.proofs.Common.{◌≡◌, ℕ, ℤ, suc, ◌+◌, ◌<◌, ◌≤◌, ◌⊎◌, ◌==◌, ◌&&◌, ◌||◌, Bool, true, false, List, [], ◌∷◌, ◌++◌, Option, Some, None, length, map, refl, sym, ap, subst, ◌∙◌, arith, inl, inr, eqb-true}
-use Rattle.std.proofs.lemmas.Bool.{or_cases}
 use Rattle.std.proofs.lemmas.List.{length-append}
 use Rattle.dwz_bytes.specs.Spelling.{IsGroups}
 use Rattle.dwz_model.specs.declared.place.Base.{Base}
@@ -174,18 +173,15 @@ spelled_in abbrevs mode before (w ∷ raw) start bytes is u (inr r) = spelled_in
 -- ---- no partial units
 
 kind_not_partial : (mode : Mode) → mode.partial ≡ false → (type : ℕ) (bytes : List ℕ) → is_read mode type ≡ true → kind_by (type == 2) (type == 3) bytes ≡ PartialUnit → ⊥
-kind_not_partial mode none type bytes read same = elim (or_cases (type == 1) (type == 2 || (mode.partial && type == 3)) read) [
-  | inl one ↦ by (type == 2) (type == 3) refl refl (eqb-true type 1 one) same
-  | inr more ↦ (elim (or_cases (type == 2) (mode.partial && type == 3) more) [
-    | inl two ↦ (let e : kind_by (type == 2) (type == 3) bytes ≡ kind_by true (type == 3) bytes = ap (λ (b : Bool). kind_by b (type == 3) bytes) two in let f = sym e ∙ same in cc)
-    | inr three ↦ (let e : (false && (type == 3)) ≡ true = ap (λ (b : Bool). b && (type == 3)) (sym none) ∙ three in cc)
-  ])
-]
-  where
-    by : (a b : Bool) → (type == 2) ≡ a → (type == 3) ≡ b → type ≡ 1 → kind_by a b bytes ≡ PartialUnit → ⊥
-    by true b p q e same = cc
-    by false true p q e same = omega (arith, e, eqb-true type 3 q)
-    by false false p q e same = cc
+kind_not_partial mode none type bytes read same = by (type == 1) (type == 2) (type == 3) mode.whole mode.partial refl refl none read same where
+  by : (a b c whole partial : Bool) → (type == 1) ≡ a → (type == 3) ≡ c → partial ≡ false → ((whole && (a || b)) || (partial && c)) ≡ true → kind_by b c bytes ≡ PartialUnit → ⊥
+  by a true c whole partial p q n r e = cc
+  by a false false whole partial p q n r e = cc
+  by true false true whole partial p q n r e = let one = eqb-true type 1 p in let three = eqb-true type 3 q in omega (arith, one, three)
+  by false false true true true p q n r e = cc
+  by false false true true false p q n r e = cc
+  by false false true false true p q n r e = cc
+  by false false true false false p q n r e = cc
 
 partial_only : (s : Scope ℕ) (k : RawKind) (kind : Kind ℕ) → MeansKind s k kind → IsPartial kind → k ≡ PartialUnit
 partial_only s CompileUnit kind h is = absurd (subst IsPartial h is)

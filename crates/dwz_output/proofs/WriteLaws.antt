@@ -30,7 +30,7 @@ each_deep [] most le = tt
 each_deep (u ∷ units) most le = (omega (arith, le), each_deep units most (omega (arith, le)))
 
 pub is_roomy : {K : Type 0} (units : List (DwUnit K)) → IsRoomy units (mode_for units)
-is_roomy units = record { partial = refl; forms = refl; entries = omega arith; depth = each_deep units (deepest units) (omega arith) }
+is_roomy units = record { whole = refl; partial = refl; forms = refl; entries = omega arith; depth = each_deep units (deepest units) (omega arith) }
 
 -- ---- the sections
 
@@ -53,7 +53,7 @@ module _ (units : List (DwUnit Spot)) where
   unfolding sections
   raw_spelled mode w fit roomy =
       let small = w.fits.1 in
-      units_spelled (places units) (tables_of [] units) mode units 0 0 (stands w.sound w.apart) w.sound fit (tables_there units) roomy.partial roomy.forms roomy.depth (omega (arith, roomy.entries)) (size_small w) (omega (arith, small))
+      units_spelled (places units) (tables_of [] units) mode units 0 0 (stands w.sound w.apart) w.sound fit (tables_there units) roomy.whole roomy.partial roomy.forms roomy.depth (omega (arith, roomy.entries)) (size_small w) (omega (arith, small))
 
   pub spelled : (mode : Mode) → AreWritable units → Each (UnitFits (places units)) units → IsRoomy units mode → Spells (sections same_spot units) mode (map (places units).place (all_entry_keys units))
   spelled mode w fit roomy = record { raw = raw_units (places units) (tables_of [] units) units; spelled = raw_spelled mode w fit roomy; same_places = all_raw (places units) (tables_of [] units) units }

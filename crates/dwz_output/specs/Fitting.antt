@@ -64,10 +64,11 @@ deepest (u ∷ units) = max (suc (depth u.below)) (deepest units)
 
 -- just as many and as deep entries as there are, in the forms of a file by itself
 abbrev pub mode_for : {K : Type 0} → List (DwUnit K) → Mode
-mode_for units = record { entries = entry_total units; depth = deepest units; partial = true; forms = own_forms }
+mode_for units = record { entries = entry_total units; depth = deepest units; whole = true; partial = true; forms = own_forms }
 
--- partial units are read, and so many and so deep entries as there are, in the forms of a file by itself
+-- units of all types are read, and so many and so deep entries as there are, in the forms of a file by itself
 pub record IsRoomy {K : Type 0} (units : List (DwUnit K)) (mode : Mode) : Type 0 where
+  pub whole : mode.whole ≡ true
   pub partial : mode.partial ≡ true
   pub forms : mode.forms ≡ own_forms
   pub entries : entry_total units ≤ mode.entries

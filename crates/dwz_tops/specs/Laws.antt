@@ -5,6 +5,7 @@ use Rattle.dwz_meanings.specs.Meanings.{MeanUnits, Sources}
 use Rattle.dwz_docs.specs.Lists.{In}
 use Rattle.dwz_docs.specs.Units.{RawUnit}
 use Rattle.dwz_output.specs.Alike.{SameTop}
+use Rattle.dwz_output.specs.Meant.{by_itself}
 use Rattle.dwz_output.specs.Out.{alike_in, one_file}
 use Rattle.dwz_output.specs.Spots.{Top, tops_of}
 use Rattle.dwz_tops.specs.Plain.{are_plain_units}
@@ -14,7 +15,7 @@ pub record MeanPlain (raw : List RawUnit) (doc : Doc ℕ) : Type 0 where
   pub plain : are_plain_units raw ≡ true
   pub sources : Sources
   pub all : List ℕ
-  pub means : MeanUnits sources all raw doc.units
+  pub means : MeanUnits (by_itself sources all) raw doc.units
 
 -- no top is named
 abbrev pub NoTarget : ℕ → ℕ → Type 0

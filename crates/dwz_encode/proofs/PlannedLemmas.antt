@@ -27,7 +27,7 @@ use Rattle.dwz_encode.proofs.PlanFacts.{at_zero, many_tops}
 -- ---- a document that plain units mean, without any other section
 
 no_sources : Sources
-no_sources = record { strs = []; line_strs = []; offsets = [] }
+no_sources = record { strs = []; line_strs = []; offsets = []; line = []; lists = [] }
 
 abbrev pub doc_of : List RawUnit → Doc ℕ
 doc_of raw = record { machine = 0; units = map (unit_said same) raw }

@@ -28,9 +28,8 @@ use Rattle.dwz_output.proofs.Members.{any_from, any_true, each_append, in_left, 
 use Rattle.dwz_output.proofs.NamedLemmas.{fitted_keys}
 use Rattle.dwz_output.proofs.PlanLemmas.{are_parts, home_own, is_plan}
 use Rattle.dwz_output.proofs.Places.{numbering_stands}
-use Rattle.dwz_output.proofs.ReadClosed.{read_closed}
 use Rattle.dwz_output.proofs.ReadFixed.{ReferIn, outs_refer, units_fixed, units_map, units_refer}
-use Rattle.dwz_output.proofs.ReadRising.{none_partial, units_once}
+use Rattle.dwz_output.proofs.ReadPlaces.{read_placed}
 use Rattle.dwz_output.proofs.SameLemmas.{spots_same}
 use Rattle.dwz_output.proofs.WriteLengths.{FixedUnit}
 use Rattle.dwz_plan.specs.declared.plan.Partial.{Partial}
@@ -208,11 +207,7 @@ module _ (source : Source) (doc : Doc ℕ) (plan : Planned) (plain : are_plain_u
   parts = partials (alike_in doc) units (0 ∷ [])
 
   all_placed : ArePlaced doc.units
-  all_placed = record {
-    apart = units_once source.abbrevs (given_room source.room) means.sources (all_places raw) raw doc.units source.info means.spelled means.means;
-    kinds = none_partial source.abbrevs (given_room source.room) refl means.sources (all_places raw) raw doc.units 0 0 source.info means.spelled means.means;
-    closed = read_closed means.sources raw doc.units means.means;
-  }
+  all_placed = read_placed source.abbrevs source.info (given_room source.room) raw means.sources doc.units means.spelled means.means refl
 
   decides : IsAlike Apart units (alike_in doc)
   decides = alike_decides Apart units

@@ -2,7 +2,7 @@
 use Rattle.std.specs.Prelude.{◌≡◌, ℕ, false, true, Option, Some, None}
 use Rattle.dwz_meanings.specs.Documents.{Doc}
 use Rattle.dwz_docs.specs.Entries.{given}
-use Rattle.dwz_meanings.specs.Meanings.{MeanUnits, Sources, all_places}
+use Rattle.dwz_meanings.specs.Meanings.{MeanUnits, Sources, alone}
 use Rattle.dwz_docs.specs.Units.{SpellsUnits}
 use Rattle.dwz_encode.specs.declared.error.EncodeErr.{EncodeErr}
 use Rattle.dwz_encode.specs.declared.error.EncodeErr.TheVariants.{NoMemory, TooLarge}
@@ -15,7 +15,7 @@ use Rattle.dwz_unit.specs.Rows.{Source, units_of}
 pub record MeansDoc (source : Source) (doc : Doc ℕ) : Type 0 where
   pub spelled : SpellsUnits source.abbrevs (given source.room) 0 (units_of source) 0 source.info
   pub sources : Sources
-  pub means : MeanUnits sources (all_places (units_of source)) (units_of source) doc.units
+  pub means : MeanUnits (alone sources (units_of source)) (units_of source) doc.units
 
 abbrev pub sections_view : Sections → UnitSections
 sections_view s = record { info = s.info.items; abbrevs = s.abbrev.items }

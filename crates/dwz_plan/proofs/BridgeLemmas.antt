@@ -1,5 +1,5 @@
 -- The plan of rows and the plan of the units whose tops they show.
-use Rattle.std.proofs.Common.{◌≡◌, ◌↔◌, ℕ, Some, zero, suc, ◌+◌, ◌<◌, ◌≤◌, ◌==◌, ◌&&◌, ◌||◌, ◌⊎◌, inl, inr, not, cond, All, Bool, true, false, List, [], ◌∷◌, ◌++◌, length, map, filter, find, get_or, refl, sym, ap, subst, ◌∙◌, arith, eqb-true, eq-eqb}
+use Rattle.std.proofs.Common.{◌≡◌, ◌↔◌, ℕ, Some, zero, suc, ◌+◌, ◌<◌, ◌==◌, ◌&&◌, ◌||◌, inl, inr, not, cond, Bool, true, false, List, [], ◌∷◌, ◌++◌, length, map, filter, find, get_or, refl, sym, ap, subst, ◌∙◌, arith, eqb-true, eq-eqb}
 use Rattle.std.specs.Option.{option_map_or}
 use Rattle.std.specs.List.{flat_map, list_any, range_with_len}
 use Rattle.std.proofs.lemmas.Bool.{and_parts}
@@ -8,7 +8,6 @@ use Rattle.std.proofs.lemmas.Option.{slice_get-get_or}
 use Rattle.dwz_meanings.specs.Documents.{Doc, Entries}
 use Rattle.dwz_docs.specs.Lists.{In, has}
 use Rattle.dwz_docs.specs.Trees.{End, Entry}
-use Rattle.dwz_model.specs.declared.tops.TopRow.{TopRow}
 use Rattle.dwz_model.specs.declared.tops.Tops.{Tops}
 use Rattle.dwz_output.specs.Deciding.{Test}
 use Rattle.dwz_output.specs.Out.{file_numbers}
@@ -17,14 +16,14 @@ use Rattle.dwz_output.specs.Spots.{FileUnit, Spot, Top, same_numbers, tops_of}
 use Rattle.dwz_plan.specs.declared.plan.Partial.{Partial}
 use Rattle.dwz_plan.specs.declared.plan.Scope.{Scope}
 use Rattle.dwz_plan.specs.declared.plan.Scope.TheVariants.{Together, Each}
-use Rattle.dwz_plan.specs.Planned.{alike, file_of_home, home, home_of, imports_from, in_scope, kept, moves, number_in, numbers, partial_with, partials, partials_at, place, place_at, rep, representatives, stand_in, staying, units_of, users}
-use Rattle.dwz_plan.specs.Rows.{Given, Row, given, row_of, rows_from}
-use Rattle.dwz_plan.specs.Shows.{InOneScope, IsLeast, IsPlace, Joins, PartAt, ShowsRows, ShowsTop, ShowsTops, import_row, shown_part}
+use Rattle.dwz_plan.specs.Planned.{alike, file_of_home, home, imports_from, in_scope, kept, moves, number_in, partial_with, partials, partials_at, place, place_at, rep, representatives, stand_in, staying, units_of, users}
+use Rattle.dwz_plan.specs.Rows.{Given, Row, given}
+use Rattle.dwz_plan.specs.Shows.{InOneScope, IsLeast, IsPlace, Joins, PartAt, ShowsTops, import_row, shown_part}
 use Rattle.dwz_plan.proofs.DistinctLemmas.{from_distinct, get_in}
 use Rattle.dwz_plan.proofs.ListFacts.{filter_in, in_cases, in_filter_from, in_map_from, map_in, map_map}
 use Rattle.dwz_plan.proofs.MoverLemmas.{movers_of}
 use Rattle.dwz_plan.proofs.PartialLemmas.{part_among, same_home_is, tops_with}
-use Rattle.dwz_plan.proofs.RowLemmas.{Joined, alike_from, alike_parts}
+use Rattle.dwz_plan.proofs.RowLemmas.{alike_from, alike_parts}
 use Rattle.dwz_plan.proofs.StepLemmas.{part_of}
 use Rattle.dwz_plan.proofs.ShownLemmas.{SameRow, SameRows, filter_shown, map_shown, numbers_shown, rows_shown, tops_counted}
 

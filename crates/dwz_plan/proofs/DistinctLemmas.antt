@@ -1,13 +1,13 @@
 -- Lists of which no two are the same, and their numbers.
-use Rattle.std.proofs.Common.{◌≡◌, ℕ, zero, suc, ◌+◌, ◌<◌, ◌≤◌, ◌==◌, ◌⊎◌, inl, inr, not, cond, Bool, true, false, List, [], ◌∷◌, ◌++◌, length, map, filter, get_or, refl, sym, ap, subst, ◌∙◌, arith, eqb-true, eq-eqb}
-use Rattle.std.specs.List.{position_or_len, range_with_len, zip}
+use Rattle.std.proofs.Common.{◌≡◌, ℕ, zero, suc, ◌+◌, ◌<◌, ◌==◌, ◌⊎◌, inl, inr, not, cond, Bool, true, false, List, [], ◌∷◌, ◌++◌, length, map, filter, get_or, refl, sym, ap, ◌∙◌, arith, eq-eqb}
+use Rattle.std.specs.List.{range_with_len, zip}
 use Rattle.std.proofs.lemmas.Bool.{both_ways, cases_eq, ne_eqb, not-true}
 use Rattle.std.proofs.lemmas.List.Elements.{filter-append}
 use Rattle.dwz_docs.specs.Lists.{In}
 use Rattle.dwz_output.specs.Plan.{distinct}
 use Rattle.dwz_output.specs.Spots.{same_numbers}
 use Rattle.dwz_plan.specs.Steps.{number_of}
-use Rattle.dwz_plan.proofs.ListFacts.{any_yes, filter_in, in_filter, in_filter_from, in_cases}
+use Rattle.dwz_plan.proofs.ListFacts.{any_yes, in_filter, in_filter_from}
 use Rattle.dwz_plan.proofs.ListingLemmas.{has_list, same_refl, same_true}
 
 -- no two are the same

@@ -1,12 +1,12 @@
 -- Counting pairs by their keys, and placing their values.
-use Rattle.std.proofs.Common.{◌≡◌, ◌≢◌, ℕ, zero, suc, ◌+◌, ◌-◌, ◌<◌, ◌≤◌, ◌==◌, cond, Bool, true, false, List, [], ◌∷◌, ◌++◌, length, map, get_or, set, take, drop, sum, count_by, filter, replicate, All, eqb, ltb, refl, sym, ap, subst, ◌∙◌, arith, length-append, length-drop, length-take, length-set, eqb-true, eq-eqb, ◌⊎◌, inl, inr}
+use Rattle.std.proofs.Common.{◌≡◌, ◌≢◌, ℕ, zero, suc, ◌+◌, ◌-◌, ◌<◌, ◌≤◌, ◌==◌, cond, Bool, true, false, List, [], ◌∷◌, ◌++◌, length, map, get_or, set, take, drop, sum, count_by, filter, replicate, All, refl, sym, ap, subst, ◌∙◌, arith, length-take, length-set, eq-eqb, ◌⊎◌, inl, inr}
 use Rattle.std.specs.Prelude.{nat_lt, slice_range}
-use Rattle.std.specs.List.{sum_by, range_with_len}
+use Rattle.std.specs.List.{range_with_len}
 use Rattle.std.proofs.lemmas.Bool.{cases_eq, cases_lt, lt-ltb, le-ltb, ne_eqb}
-use Rattle.std.proofs.lemmas.List.{append-nil, take_all, take_more, get_or_default, same_lists, take-set-le, drop-set-lt, take-append-le, drop-append-le, length-map, map-append, length-take-le, take_more_set, get_or-set_same, get_or-set_other, get_or-replicate, length-replicate}
+use Rattle.std.proofs.lemmas.List.{append-nil, take_all, same_lists, take-set-le, drop-set-lt, drop-append-le, map-append, length-take-le, take_more_set, get_or-set_same, get_or-set_other, get_or-replicate, length-replicate}
 use Rattle.std.proofs.lemmas.Slice.{between_is}
-use Rattle.std.proofs.lemmas.List.Elements.{All-head, All-tail, filter_more, All-get_or}
-use Rattle.std.proofs.lemmas.List.Sums.{count_by-le-length, length-filter, sum_by-cons, sum_by-append, sum_by_more, sum_by_more_le, sum_by-take-le, sum_by-le-sum_by, sum_by_push}
+use Rattle.std.proofs.lemmas.List.Elements.{All-head, All-tail, filter_more}
+use Rattle.std.proofs.lemmas.List.Sums.{count_by-le-length, sum_by-cons, sum_by_more, sum_by_more_le, sum_by-take-le, sum_by-le-sum_by}
 use Rattle.std.proofs.lemmas.List.FromFn.{length-map-range_with_len, get_or-map-range_with_len}
 use Rattle.dwz_plan.specs.Groups.{count_at, grouped, start_of, values_at}
 use Rattle.dwz_plan.specs.Parts.{parts_of, Rise, start_at}

@@ -1,11 +1,11 @@
 -- Homes and their ranks.
-use Rattle.std.proofs.Common.{◌≡◌, ℕ, zero, suc, ◌+◌, ◌<◌, ◌≤◌, ◌==◌, ◌&&◌, ◌||◌, not, All, cond, Bool, true, false, List, [], ◌∷◌, ◌++◌, Option, Some, None, length, map, get_or, take, refl, sym, ap, subst, ◌∙◌, arith, eq-eqb}
+use Rattle.std.proofs.Common.{◌≡◌, ℕ, suc, ◌+◌, ◌<◌, ◌≤◌, ◌==◌, ◌&&◌, ◌||◌, not, All, cond, Bool, true, false, List, [], ◌∷◌, ◌++◌, Option, Some, None, length, map, get_or, take, refl, sym, ap, ◌∙◌, arith, eq-eqb}
 use Rattle.std.specs.List.{list_all, list_any}
-use Rattle.std.proofs.lemmas.List.{append-nil, append_assoc, length-take-le, take_all, take_more}
+use Rattle.std.proofs.lemmas.List.{append-nil, append_assoc, length-take-le, take_more}
 use Rattle.std.proofs.lemmas.List.Elements.{All-append, All-cons, All-head, All-nil, All-tail}
-use Rattle.dwz_output.specs.Plan.{Common, Home, Local, Stay, home_in, in_two_files}
+use Rattle.dwz_output.specs.Plan.{Common, Home, Local, Stay, in_two_files}
 use Rattle.dwz_plan.specs.Planned.{home_of}
-use Rattle.dwz_plan.specs.Steps.{pair, rank_of, ranked, ranked_one, users_at}
+use Rattle.dwz_plan.specs.Steps.{pair, rank_of, ranked, ranked_one}
 use Rattle.dwz_plan.specs.declared.groups.Pair.{Pair}
 
 any_other : (f : ℕ → ℕ) (file : ℕ) (us : List ℕ) → list_any (λ n. not (n == file)) (map f us) ≡ not (list_all (λ u. f u == file) us)

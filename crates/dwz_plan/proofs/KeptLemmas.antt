@@ -1,5 +1,5 @@
 -- What is kept and imported, by the steps and by the rows.
-use Rattle.std.proofs.Common.{◌≡◌, ℕ, zero, suc, ◌+◌, ◌<◌, ◌≤◌, ◌==◌, ◌&&◌, ◌⊎◌, inl, inr, not, cond, All, Bool, true, false, List, [], ◌∷◌, ◌++◌, length, map, filter, get_or, refl, sym, ap, subst, ◌∙◌, arith, eqb-true, eq-eqb}
+use Rattle.std.proofs.Common.{◌≡◌, ℕ, zero, suc, ◌+◌, ◌<◌, ◌==◌, ◌&&◌, ◌⊎◌, inl, inr, not, cond, Bool, true, false, List, [], ◌∷◌, ◌++◌, length, map, filter, refl, sym, ap, subst, ◌∙◌, arith, eq-eqb}
 use Rattle.std.specs.List.{flat_map, list_any, range_with_len}
 use Rattle.std.proofs.lemmas.Bool.{cases_eq, ne_eqb}
 use Rattle.std.proofs.lemmas.List.{map-append}
@@ -16,7 +16,7 @@ use Rattle.dwz_plan.specs.Rows.{Given, Row, given, row_of, rows_from}
 use Rattle.dwz_plan.specs.Steps.{is_in_unit, pair, same_bool, staying_one, staying_pairs, turned}
 use Rattle.dwz_plan.specs.declared.groups.Pair.{Pair}
 use Rattle.dwz_plan.proofs.DistinctLemmas.{from_distinct}
-use Rattle.dwz_plan.proofs.ListFacts.{From, filter_in, in_cases, in_filter_from, in_map_from, map_in, range_from}
+use Rattle.dwz_plan.proofs.ListFacts.{filter_in, in_cases, in_map_from, map_in}
 use Rattle.dwz_plan.proofs.TurnedLemmas.{repeats, values-turned_one, values_at-append}
 
 -- ---- what stays

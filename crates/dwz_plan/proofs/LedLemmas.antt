@@ -1,15 +1,13 @@
 -- Which rows stand for others.
-use Rattle.std.proofs.Common.{◌≡◌, ◌≢◌, ℕ, zero, suc, ◌+◌, ◌<◌, ◌≤◌, ◌==◌, ◌&&◌, ◌||◌, ◌⊎◌, inl, inr, not, cond, Bool, true, false, List, [], ◌∷◌, ◌++◌, Option, Some, None, length, map, filter, find, get_or, refl, sym, ap, subst, ◌∙◌, arith, eqb-true, eq-eqb}
+use Rattle.std.proofs.Common.{◌≡◌, ℕ, zero, suc, ◌+◌, ◌<◌, ◌≤◌, ◌==◌, ◌&&◌, inl, inr, cond, Bool, true, false, List, [], ◌∷◌, Option, Some, None, length, find, get_or, refl, sym, ap, ◌∙◌, arith, eq-eqb}
 use Rattle.std.specs.Option.{option_map_or}
-use Rattle.std.specs.List.{list_any, range_with_len, zip}
-use Rattle.std.proofs.lemmas.Bool.{and_from, and_left, and_parts, both_ways, cases_eq, false_from_ne_true, ne_eqb}
+use Rattle.std.specs.List.{range_with_len}
+use Rattle.std.proofs.lemmas.Bool.{both_ways, false_from_ne_true, ne_eqb}
 use Rattle.dwz_docs.specs.Lists.{In}
 use Rattle.dwz_model.specs.declared.tops.TopRow.{TopRow}
-use Rattle.dwz_plan.specs.Planned.{alike, in_scope, numbers, rep, reps_of, units_of, users}
-use Rattle.dwz_plan.specs.Rows.{Given, Row, given, row_of, rows_from}
-use Rattle.dwz_plan.specs.Steps.{keys_under, pair, unit_pairs}
-use Rattle.dwz_plan.specs.declared.groups.Pair.{Pair}
-use Rattle.dwz_plan.proofs.RowLemmas.{alike_parts, alike_same, alike_self, alike_turned, find_same, rep_stays}
+use Rattle.dwz_plan.specs.Planned.{alike, numbers, rep}
+use Rattle.dwz_plan.specs.Rows.{Given, Row, rows_from}
+use Rattle.dwz_plan.proofs.RowLemmas.{alike_parts, alike_same, alike_self, alike_turned, find_same}
 
 -- ---- numbered rows
 

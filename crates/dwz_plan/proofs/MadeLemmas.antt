@@ -1,21 +1,15 @@
 -- What each step asks of the steps before it.
-use Rattle.std.proofs.Common.{◌≡◌, ℕ, zero, suc, ◌+◌, ◌<◌, ◌≤◌, ◌==◌, All, Option, Some, None, List, [], ◌∷◌, ◌++◌, length, map, filter, get_or, refl, sym, ap, subst, ◌∙◌, arith, length-append}
-use Rattle.std.specs.List.{concat, list_any, range_with_len}
+use Rattle.std.proofs.Common.{◌≡◌, ℕ, zero, suc, ◌+◌, ◌<◌, ◌≤◌, ◌==◌, All, Option, Some, None, List, [], ◌∷◌, length, map, filter, sym, ap, ◌∙◌, arith, length-append}
+use Rattle.std.specs.List.{concat, range_with_len}
 use Rattle.std.proofs.lemmas.List.{length-map}
 use Rattle.std.proofs.lemmas.List.Elements.{All-append, All-cons, All-head, All-map, All-nil, All-tail}
 use Rattle.std.proofs.lemmas.List.Sums.{length-filter}
-use Rattle.dwz_docs.specs.Lists.{In}
-use Rattle.dwz_model.specs.declared.tops.Tops.{Tops}
-use Rattle.dwz_plan.specs.declared.plan.Home.{Home as Place}
 use Rattle.dwz_plan.specs.declared.plan.Partial.{Partial}
-use Rattle.dwz_plan.specs.declared.plan.Scope.{Scope}
 use Rattle.dwz_plan.specs.Groups.{count_at, grouped, start_of, values_at}
-use Rattle.dwz_plan.specs.Planned.{home_of, partials, reps_of}
-use Rattle.dwz_plan.specs.Rows.{Given, given}
-use Rattle.dwz_plan.specs.Steps.{all_keys, keys_under, lists_of, movers_by, number_of, numbered, pair, partials_of, parts_by, placed, rank_of, ranked, ranked_one, unit_pairs, users_at}
+use Rattle.dwz_plan.specs.Planned.{home_of}
+use Rattle.dwz_plan.specs.Steps.{lists_of, movers_by, number_of, numbered, pair, partials_of, parts_by, rank_of, ranked, ranked_one, users_at}
 use Rattle.dwz_plan.specs.declared.groups.Pair.{Pair}
 use Rattle.dwz_plan.proofs.GroupLemmas.{start_of-le, start_of-suc, start_of-zero}
-use Rattle.dwz_plan.proofs.ListFacts.{all_from_in, in_filter_from, in_range}
 use Rattle.dwz_plan.proofs.TurnedLemmas.{grouped_all}
 
 -- ---- joined groups

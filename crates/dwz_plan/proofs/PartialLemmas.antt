@@ -1,27 +1,21 @@
 -- The partial units, by the steps and by the rows.
-use Rattle.std.proofs.Common.{◌≡◌, ℕ, zero, suc, ◌+◌, ◌<◌, ◌≤◌, ◌==◌, ◌&&◌, ◌⊎◌, inl, inr, not, cond, Bool, true, false, List, [], ◌∷◌, ◌++◌, length, map, filter, get_or, refl, sym, ap, subst, ◌∙◌, arith, eqb-true, eq-eqb}
-use Rattle.std.specs.List.{concat, flat_map, range_with_len, zip}
-use Rattle.std.proofs.lemmas.Bool.{and_parts, both_ways, false_from_ne_true}
-use Rattle.std.proofs.lemmas.List.{append-nil, get_or-map, map-append}
+use Rattle.std.proofs.Common.{◌≡◌, ℕ, zero, suc, ◌+◌, ◌≤◌, ◌==◌, ◌&&◌, inl, inr, true, false, List, [], ◌∷◌, ◌++◌, map, filter, refl, sym, ap, subst, ◌∙◌, arith, eqb-true}
+use Rattle.std.specs.List.{flat_map, range_with_len}
+use Rattle.std.proofs.lemmas.Bool.{and_parts, false_from_ne_true}
+use Rattle.std.proofs.lemmas.List.{append-nil, map-append}
 use Rattle.std.proofs.lemmas.List.Elements.{filter-append}
 use Rattle.std.proofs.lemmas.List.Folds.{flat_map-map}
 use Rattle.dwz_docs.specs.Lists.{In}
-use Rattle.dwz_model.specs.declared.tops.Tops.{Tops}
 use Rattle.dwz_output.specs.Plan.{Common, Home, Local, Stay, distinct, same_home}
 use Rattle.dwz_output.specs.Spots.{same_numbers}
 use Rattle.dwz_plan.specs.declared.plan.Partial.{Partial}
-use Rattle.dwz_plan.specs.declared.plan.Scope.{Scope}
-use Rattle.dwz_plan.specs.Groups.{grouped, values_at}
 use Rattle.dwz_plan.specs.Planned.{file_of_home, home, home_of, numbers, partial_with, partials, partials_at, rep, representatives, users}
-use Rattle.dwz_plan.specs.Rows.{Given, Row, given, rows_from}
-use Rattle.dwz_plan.specs.Steps.{lists_of, number_of, numbered, pair, partial_of, partials_of, users_at}
-use Rattle.dwz_plan.specs.declared.groups.Pair.{Pair}
-use Rattle.dwz_plan.proofs.DistinctLemmas.{distinct_apart, distinct_join, from_distinct, in_distinct, number_is, zip_range}
-use Rattle.dwz_plan.proofs.LedLemmas.{Counted, counted_below, rows_counted}
-use Rattle.dwz_plan.proofs.ListFacts.{From, filter_in, filter_no, in_cases, in_filter_from, in_map, in_map_from, map_in, map_map}
+use Rattle.dwz_plan.specs.Rows.{Given, Row}
+use Rattle.dwz_plan.specs.Steps.{partial_of}
+use Rattle.dwz_plan.proofs.DistinctLemmas.{distinct_join, from_distinct}
+use Rattle.dwz_plan.proofs.ListFacts.{From, filter_no, in_cases, in_filter_from, in_map_from, map_in}
 use Rattle.dwz_plan.proofs.ListingLemmas.{same_true}
 use Rattle.dwz_plan.proofs.MoverLemmas.{movers_of}
-use Rattle.dwz_plan.proofs.UserLemmas.{led_users, led_users_yes}
 
 -- ---- homes
 

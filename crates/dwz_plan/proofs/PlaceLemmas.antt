@@ -1,5 +1,5 @@
 -- Where tops are placed, step by step.
-use Rattle.std.proofs.Common.{◌≡◌, ℕ, zero, suc, ◌+◌, ◌<◌, ◌≤◌, ◌==◌, ◌&&◌, ◌⊎◌, inl, inr, not, All, cond, Bool, true, false, List, [], ◌∷◌, ◌++◌, Option, Some, None, length, map, fold, get_or, set, take, replicate, refl, sym, ap, subst, ◌∙◌, arith, eq-eqb, length-set}
+use Rattle.std.proofs.Common.{◌≡◌, ℕ, zero, suc, ◌+◌, ◌<◌, ◌≤◌, ◌==◌, ◌&&◌, ◌⊎◌, inl, inr, All, cond, Bool, true, false, List, [], ◌∷◌, ◌++◌, Option, Some, length, map, fold, get_or, set, take, replicate, refl, sym, ap, subst, ◌∙◌, arith, eq-eqb, length-set}
 use Rattle.std.specs.List.{zip}
 use Rattle.std.proofs.lemmas.Bool.{cases_eq, ne_eqb}
 use Rattle.std.proofs.lemmas.List.{append-nil, append_assoc, get_or-map, get_or-replicate, get_or-set_other, get_or-set_same, length-map, length-replicate, take_all, take_more}

@@ -1,25 +1,14 @@
 -- Rows and the tops that they show.
-use Rattle.std.proofs.Common.{◌≡◌, ◌↔◌, ℕ, ℤ, Option, zero, suc, ◌+◌, ◌<◌, ◌≤◌, ◌==◌, ◌&&◌, ◌||◌, ◌⊎◌, inl, inr, not, cond, All, Bool, true, false, List, [], ◌∷◌, ◌++◌, length, map, filter, find, get_or, refl, sym, ap, subst, ◌∙◌, arith, eqb-true, eq-eqb}
-use Rattle.std.specs.Option.{option_map_or}
-use Rattle.std.specs.List.{flat_map, list_any, range_with_len}
-use Rattle.std.proofs.lemmas.Bool.{false_from_ne_true}
-use Rattle.std.proofs.lemmas.List.{map-append}
-use Rattle.dwz_meanings.specs.Documents.{Compile, Doc, DwUnit, Entries, Kind, OfType, Partial as PartialKind, language}
-use Rattle.dwz_docs.specs.Lists.{In, has}
+use Rattle.std.proofs.Common.{◌≡◌, ℕ, ℤ, Option, suc, ◌+◌, inl, inr, cond, Bool, true, false, List, [], ◌∷◌, ◌++◌, length, map, filter, refl, sym, ap, subst, arith}
+use Rattle.dwz_meanings.specs.Documents.{Compile, DwUnit, Entries, Kind, OfType, Partial as PartialKind, language}
+use Rattle.dwz_docs.specs.Lists.{In}
 use Rattle.dwz_docs.specs.Trees.{End, Entry}
 use Rattle.dwz_model.specs.declared.tops.TopRow.{TopRow}
-use Rattle.dwz_model.specs.declared.tops.Tops.{Tops}
-use Rattle.dwz_output.specs.Deciding.{Test}
-use Rattle.dwz_output.specs.Plan.{Common, Home, Local, PartialUnit, Stay, distinct, file_of, first_alike, home as unit_home, home_in, import_of, imports as unit_imports, is_home, is_pinned, kept as unit_kept, local_partials, moves as unit_moves, numbers_from, partial_with as unit_partial_with, partials as unit_partials, partials_at as unit_partials_at, rep as unit_rep, representatives as unit_representatives, same_home, stand_in as unit_stand_in, stands_for, staying as unit_staying, users as unit_users, users_of, uses}
-use Rattle.dwz_output.specs.Spots.{FileUnit, Spot, Top, row_length, same_numbers, top_count, tops_below, tops_from, tops_in, tops_of}
-use Rattle.dwz_plan.specs.declared.plan.Partial.{Partial}
-use Rattle.dwz_plan.specs.declared.plan.Scope.{Scope}
-use Rattle.dwz_plan.specs.declared.plan.Scope.TheVariants.{Together, Each}
-use Rattle.dwz_plan.specs.Planned.{alike, file_of_home, home, home_of, imports_from, in_scope, kept, moves, numbers, partial_with, partials, partials_at, rep, representatives, stand_in, staying, units_of, users}
-use Rattle.dwz_plan.specs.Rows.{Given, Row, given, row_of, rows_from}
-use Rattle.dwz_plan.specs.Shows.{InOneScope, IsLeast, Joins, ShowsRows, ShowsTop, ShowsTops, import_row, shown_part}
-use Rattle.dwz_plan.proofs.ListFacts.{filter_in, in_filter_from, map_in, map_map}
-use Rattle.dwz_plan.proofs.RowLemmas.{alike_from, alike_parts}
+use Rattle.dwz_output.specs.Plan.{is_pinned}
+use Rattle.dwz_output.specs.Spots.{FileUnit, Spot, Top, row_length, top_count, tops_below, tops_from, tops_in}
+use Rattle.dwz_plan.specs.Planned.{numbers}
+use Rattle.dwz_plan.specs.Rows.{Row, rows_from}
+use Rattle.dwz_plan.specs.Shows.{ShowsRows}
 
 -- ---- tops are numbered one by one
 

@@ -1,8 +1,8 @@
 -- The steps give the plan of the rows: partial units and homes.
-use Rattle.std.proofs.Common.{◌≡◌, ◌≢◌, ℕ, zero, suc, ◌+◌, ◌<◌, ◌≤◌, ◌==◌, ◌&&◌, ◌⊎◌, inl, inr, not, cond, All, Bool, true, false, List, [], ◌∷◌, ◌++◌, length, map, filter, fold, get_or, refl, sym, ap, subst, ◌∙◌, arith, eqb-true, eq-eqb}
-use Rattle.std.specs.List.{concat, flat_map, list_any, position_or_len, range_with_len, zip}
-use Rattle.std.proofs.lemmas.Bool.{and_from, both_ways, cases_eq, false_from_ne_true, ne_eqb}
-use Rattle.std.proofs.lemmas.List.{get_or-map, length-map, map-append}
+use Rattle.std.proofs.Common.{◌≡◌, ℕ, zero, suc, ◌+◌, ◌<◌, ◌==◌, ◌&&◌, ◌⊎◌, inl, inr, not, cond, All, Bool, true, false, List, [], ◌∷◌, length, map, filter, fold, get_or, refl, sym, ap, subst, ◌∙◌, arith, eq-eqb}
+use Rattle.std.specs.List.{flat_map, list_any, range_with_len, zip}
+use Rattle.std.proofs.lemmas.Bool.{and_from, cases_eq, ne_eqb}
+use Rattle.std.proofs.lemmas.List.{get_or-map, length-map}
 use Rattle.std.proofs.lemmas.List.Elements.{All-map, filter_agree}
 use Rattle.dwz_docs.specs.Lists.{In}
 use Rattle.dwz_model.specs.declared.tops.TopRow.{TopRow}
@@ -10,21 +10,21 @@ use Rattle.dwz_model.specs.declared.tops.Tops.{Tops}
 use Rattle.dwz_output.specs.Plan.{Common, Home, Local, Stay, distinct, is_home, same_home}
 use Rattle.dwz_output.specs.Spots.{same_numbers}
 use Rattle.dwz_plan.specs.declared.plan.Home.{Home as Place}
-use Rattle.dwz_plan.specs.declared.plan.Home.TheVariants.{Common as InCommon, Local as InFile, Stay as InUnit}
+use Rattle.dwz_plan.specs.declared.plan.Home.TheVariants.{Stay as InUnit}
 use Rattle.dwz_plan.specs.declared.plan.Partial.{Partial}
 use Rattle.dwz_plan.specs.declared.plan.Scope.{Scope}
 use Rattle.dwz_plan.specs.Groups.{grouped, values_at}
-use Rattle.dwz_plan.specs.Planned.{alike, home, home_of, moves, number_in, numbers, partials, place, place_at, rep, reps_of, representatives, stand_in, units_of, users}
+use Rattle.dwz_plan.specs.Planned.{alike, home, home_of, number_in, numbers, partials, place, place_at, rep, reps_of, representatives, stand_in, units_of, users}
 use Rattle.dwz_plan.specs.Rows.{Given, Row, given, rows_from}
 use Rattle.dwz_plan.specs.Steps.{all_keys, is_in_unit, keys_under, lists_of, movers_by, number_of, numbered, pair, partial_of, partials_of, parts_by, placed, placed_by, stander, unit_pairs, users_at}
 use Rattle.dwz_plan.specs.declared.groups.Pair.{Pair}
 use Rattle.dwz_plan.proofs.DistinctLemmas.{distinct_apart, has_from, in_distinct, number_is, zip_range}
 use Rattle.dwz_plan.proofs.HomeLemmas.{local_low}
-use Rattle.dwz_plan.proofs.LedLemmas.{Counted, Stood, counted_below, counted_from, numbers_counted, row_in, row_number, rows_counted, same_row, stood, stood_leads}
+use Rattle.dwz_plan.proofs.LedLemmas.{Counted, counted_below, counted_from, numbers_counted, row_in, row_number, rows_counted, same_row, stood, stood_leads}
 use Rattle.dwz_plan.proofs.ListFacts.{all_from_in, filter_in, in_filter, in_filter_from, in_left, in_map, in_map_from, in_range, in_right, map_in, map_map, range_there}
 use Rattle.dwz_plan.proofs.ListingLemmas.{position_found, same_refl, same_true}
 use Rattle.dwz_plan.proofs.MoverLemmas.{led_lists, movers_are, movers_of}
-use Rattle.dwz_plan.proofs.PartialLemmas.{Homed, Represents, all_homes, homed, movers_split, part_among, partials_among, tops_with}
+use Rattle.dwz_plan.proofs.PartialLemmas.{Homed, all_homes, homed, movers_split, part_among, partials_among, tops_with}
 use Rattle.dwz_plan.proofs.RowLemmas.{alike_same, length-rows_from, rep_stays}
 use Rattle.dwz_plan.proofs.UserLemmas.{led_users, led_users_yes}
 

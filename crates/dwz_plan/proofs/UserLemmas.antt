@@ -1,21 +1,17 @@
 -- The users of those who stand for others, by the steps and by the rows.
-use Rattle.std.proofs.Common.{◌≡◌, ℕ, zero, suc, ◌+◌, ◌<◌, ◌≤◌, ◌==◌, ◌&&◌, ◌||◌, ◌⊎◌, inl, inr, All, cond, Bool, true, false, List, [], ◌∷◌, ◌++◌, length, map, filter, get_or, refl, sym, ap, subst, ◌∙◌, arith, eqb-true, eq-eqb}
+use Rattle.std.proofs.Common.{◌≡◌, ℕ, suc, ◌==◌, ◌&&◌, ◌||◌, cond, Bool, true, false, List, [], ◌∷◌, length, map, filter, refl, sym, ap, ◌∙◌}
 use Rattle.std.specs.List.{list_any, range_with_len, zip}
-use Rattle.std.proofs.lemmas.Bool.{both_ways, ne_eqb}
-use Rattle.std.proofs.lemmas.List.{get_or-map, length-map}
-use Rattle.std.proofs.lemmas.List.Elements.{All-filter, All-from_get_or, filter_agree}
-use Rattle.std.proofs.lemmas.List.FromFn.{get_or-range_with_len, length-range_with_len}
+use Rattle.std.proofs.lemmas.List.Elements.{filter_agree}
 use Rattle.dwz_docs.specs.Lists.{In}
 use Rattle.dwz_model.specs.declared.tops.TopRow.{TopRow}
 use Rattle.dwz_model.specs.declared.tops.Tops.{Tops}
 use Rattle.dwz_plan.specs.declared.plan.Scope.{Scope}
-use Rattle.dwz_plan.specs.Planned.{alike, numbers, rep, reps_of, units_of, users}
-use Rattle.dwz_plan.specs.Rows.{Given, Row, given, row_of, rows_from}
-use Rattle.dwz_plan.specs.Steps.{all_keys, keys_under, pair, unit_pairs, users_at}
+use Rattle.dwz_plan.specs.Planned.{alike, rep, reps_of, users}
+use Rattle.dwz_plan.specs.Rows.{Row, given, row_of, rows_from}
+use Rattle.dwz_plan.specs.Steps.{keys_under, pair, unit_pairs}
 use Rattle.dwz_plan.specs.declared.groups.Pair.{Pair}
 use Rattle.dwz_plan.proofs.ListFacts.{any_in, any_not, filter_no}
-use Rattle.dwz_plan.proofs.LedLemmas.{Counted, counted_below, is_led, led_is, led_none, numbers_counted, row_in, row_number, rows_counted}
-use Rattle.dwz_plan.proofs.RowLemmas.{length-rows_from}
+use Rattle.dwz_plan.proofs.LedLemmas.{Counted, is_led, led_is, led_none, rows_counted}
 
 any_pairs : (f : Row → ℕ) (files : List ℕ) (s : ℕ) (tops : List TopRow) (least : List ℕ) (k v : ℕ)
     → list_any (λ p. p.key == k && p.value == v) (unit_pairs tops (map f (rows_from files s tops least))) ≡ list_any (λ b. b.unit == k && (b.movable && f b == v)) (rows_from files s tops least)

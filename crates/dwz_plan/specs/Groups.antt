@@ -1,5 +1,5 @@
 -- Numbers under keys.
-use Rattle.std.specs.Prelude.{ℕ, List, [], ◌∷◌, ◌==◌, count_by, filter, map, nat_lt}
+use Rattle.std.specs.Prelude.{ℕ, List, ◌==◌, count_by, filter, map, nat_lt}
 use Rattle.std.specs.List.{range_with_len}
 use Rattle.dwz_plan.specs.declared.groups.Pair.{Pair}
 

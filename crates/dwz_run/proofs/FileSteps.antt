@@ -1,5 +1,5 @@
 -- A file is read step by step: its length, its sections, its units, what they mean.
-use Rattle.std.proofs.Common.{◌≡◌, ℕ, ◌<◌, ◌≤◌, ◌^◌, List, [], length, Option, Some, None, Result, Ok, Err, refl, sym, ap, subst, ◌∙◌, true, false, Bool, ltb, ◌||◌, ⊎_elim, inl, inr, map, arith}
+use Rattle.std.proofs.Common.{◌≡◌, ℕ, ◌<◌, ◌≤◌, ◌^◌, List, [], length, Option, Some, None, Result, Ok, Err, refl, sym, ap, subst, ◌∙◌, true, false, Bool, ltb, ◌||◌, ◌⊎◌, ⊎_elim, inl, inr, map, arith}
 use Rattle.std.proofs.lemmas.Bool.{le-ltb, lt-ltb}
 use Rattle.dwz_model.specs.declared.fault.Fault.{Fault}
 use Rattle.dwz_model.specs.declared.fault.ReadErr.{ReadErr}
@@ -12,20 +12,27 @@ use Rattle.dwz_docs.specs.ElfFaults.{file_fault}
 use Rattle.dwz_docs.specs.ElfReading.{ElfView, elf_fault, elf_of, section_range}
 use Rattle.dwz_docs.specs.Entries.{given, unless_so}
 use Rattle.dwz_docs.specs.Faults.{Fails}
-use Rattle.dwz_meanings.specs.Files.{HasMeaningFault, IsFileFault, Reads, debug_abbrev, debug_info, doc_with, ends_at, file_meaning, is_other_machine, is_too_long, longest_file, longest_files, machine_at, machine_of, most_entries, no_files_before, section_of, sources_of}
+use Rattle.dwz_meanings.specs.Files.{HasMeaningFault, HaveGoodRanges, IsFileFault, Reads, around_of, debug_abbrev, debug_aranges, debug_info, doc_with, ends_at, file_meaning, is_other_machine, is_place_of, is_too_long, lists_said, longest_file, longest_files, machine_at, machine_of, most_entries, no_files_before, section_of, sets_said, sources_of, units_said}
 use Rattle.dwz_docs.specs.ElfReading.{bytes_in}
-use Rattle.dwz_meanings.specs.Meanings.{all_places, units_meaning}
+use Rattle.dwz_meanings.specs.Meanings.{Around, MeanUnits, all_places, units_meaning}
+use Rattle.dwz_meanings.specs.NamedLists.{lists_of_units}
+use Rattle.dwz_meanings.specs.Ranges.{IsSetsFault, RangeSet}
+use Rattle.dwz_meanings.specs.Shared.{IsSharedFault}
 use Rattle.dwz_docs.specs.Units.{RawUnit, units_at}
 use Rattle.dwz_meanings.proofs.FileLemmas.{file_agrees}
 use Rattle.dwz_meanings.proofs.MeaningLemmas.{units_agree}
+use Rattle.dwz_meanings.proofs.RangeLemmas.{sets_agree}
+use Rattle.dwz_meanings.proofs.SharedLemmas.{shared_agrees}
 use Rattle.dwz_docs.proofs.PartLemmas.{bind_err, bind_ok}
 use Rattle.dwz_docs.proofs.UnitListLemmas.{units_found}
 use Rattle.dwz_elf.specs.Plain.{IsPlain}
 use Rattle.dwz_elf.specs.Reads.{Gives}
 use Rattle.dwz_encode.specs.Encoded.{MeansDoc}
 use Rattle.dwz_output.specs.Out.{IsOut}
+use Rattle.dwz_output.proofs.NoLists.{share_none}
 use Rattle.dwz_run.specs.Files.{HasUnits, IsAnswer, IsWritten}
 use Rattle.dwz_run.specs.Profile.{InProfile, longest_out}
+use Rattle.dwz_run.proofs.PlainFiles.{no_sets, said_built}
 use Rattle.dwz_tops.specs.Plain.{are_plain_units}
 use Rattle.dwz_unit.specs.Rows.{Source, units_of}
 use Rattle.dwz_tops.proofs.Said.{same, unit_said, units_mean}
@@ -36,7 +43,14 @@ abbrev Meant : Type 0
 Meant = Result (List RawUnit × Doc ℕ) Fault
 
 abbrev pub meant : List ℕ → List RawUnit → Meant
-meant bytes units = units_meaning (sources_of bytes) (all_places units) units >>= doc_with bytes units
+meant bytes units = units_said bytes units
+
+-- what follows once values mean something: the sets of address ranges, and then the location lists
+abbrev after_meaning : List ℕ → List RawUnit → List (DwUnit ℕ) → Meant
+after_meaning bytes units said = sets_said bytes units >>= λ sets. lists_said bytes units >>= λ good. doc_with bytes units said
+
+abbrev after_sets : List ℕ → List RawUnit → List (DwUnit ℕ) → List RangeSet → Meant
+after_sets bytes units said sets = lists_said bytes units >>= λ good. doc_with bytes units said
 
 abbrev pub after_machine : List ℕ → Meant
 after_machine bytes = units_at (debug_abbrev bytes) (given most_entries) 0 (input (debug_info bytes) 0) >>= meant bytes
@@ -138,33 +152,55 @@ read_file bytes info abbrevs elf source le is_elf is_info is_abbrevs is read =
       same = is ∙ same_source info abbrevs (debug_info bytes) (debug_abbrev bytes) 16777216 first second;
     }
 
--- plain units mean something
-pub reads_plain : (bytes : List ℕ) (raw : List RawUnit) → HasUnits bytes raw → are_plain_units raw ≡ true → (doc : Doc ℕ) × Reads no_files_before bytes raw doc
-reads_plain bytes raw h plain =
+-- plain units in plain sections mean something
+pub reads_plain : (bytes : List ℕ) (raw : List RawUnit) → HasUnits bytes raw → IsPlain (elf_of bytes) → are_plain_units raw ≡ true → (doc : Doc ℕ) × Reads no_files_before bytes raw doc
+reads_plain bytes raw h sections plain =
     let units = map (unit_said same) raw in
-    let means : units_meaning (sources_of bytes) (all_places raw) raw ≡ Ok units = ((units_agree (sources_of bytes) (all_places raw) raw).ok units).1 (units_mean (sources_of bytes) (all_places raw) raw plain) in
+    let around = around_of bytes raw in
+    let mean : MeanUnits around raw units = units_mean (sources_of bytes) (all_places raw) raw plain in
+    let means : units_meaning around raw ≡ Ok units = ((units_agree around raw).ok units).1 mean in
+    let sets : sets_said bytes raw ≡ Ok [] = ((sets_agree (is_place_of raw) (input (debug_aranges bytes) 0)).ok []).1 (no_sets bytes sections) in
+    let lists : lists_said bytes raw ≡ Ok tt = ((shared_agrees (lists_of_units around raw)).ok tt).1 (share_none around raw units mean (said_built raw plain)) in
     let doc : Doc ℕ = record { machine = machine_of bytes; units = units } in
-    (doc, ((file_agrees no_files_before bytes).ok (raw, doc)).0 (said bytes raw h ∙ ap (λ (r : Result (List (DwUnit ℕ)) Fault). r >>= doc_with bytes raw) means))
+    let one = ap (λ (r : Result (List (DwUnit ℕ)) Fault). r >>= after_meaning bytes raw) means in
+    let two = ap (λ (r : Result (List RangeSet) Fault). r >>= after_sets bytes raw units) sets in
+    let three = ap (λ (r : Result (Unit {0}) Fault). r >>= λ good. doc_with bytes raw units) lists in
+    (doc, ((file_agrees no_files_before bytes).ok (raw, doc)).0 (said bytes raw h ∙ one ∙ two ∙ three))
 
 -- and are the only ones that the file reads as
 pub same_raw : (bytes : List ℕ) (raw other : List RawUnit) (doc : Doc ℕ) → HasUnits bytes raw → Reads no_files_before bytes other doc → other ≡ raw
 same_raw bytes raw other doc h reads =
     let is : file_meaning no_files_before bytes ≡ Ok (other, doc) = ((file_agrees no_files_before bytes).ok (other, doc)).1 reads in
-    let m = bind_ok (units_meaning (sources_of bytes) (all_places raw) raw) (doc_with bytes raw) (other, doc) (sym (said bytes raw h) ∙ is) in
-    sym (ap raw_in m.2)
+    let m = bind_ok (units_meaning (around_of bytes raw) raw) (after_meaning bytes raw) (other, doc) (sym (said bytes raw h) ∙ is) in
+    let s = bind_ok (sets_said bytes raw) (after_sets bytes raw m.0) (other, doc) m.2 in
+    let l = bind_ok (lists_said bytes raw) (λ good. doc_with bytes raw m.0) (other, doc) s.2 in
+    sym (ap raw_in l.2)
 
--- what is wrong with it is what a value means
+-- what is wrong with it is what a value means, or a set of address ranges, or a shared list
 pub meaning_fault : (bytes : List ℕ) (raw : List RawUnit) (f : Fault) → HasUnits bytes raw → IsFileFault no_files_before bytes f → HasMeaningFault no_files_before bytes f
-meaning_fault bytes raw f h fault =
-    let is : file_meaning no_files_before bytes ≡ Err f = ((file_agrees no_files_before bytes).err f).1 fault in
-    ⊎_elim
-    (λ (e : units_meaning (sources_of bytes) (all_places raw) raw ≡ Err f). record {
-      units = raw;
-      spelled = units_found (debug_abbrev bytes) (given most_entries) 0 (input (debug_info bytes) 0) raw h.units;
-      fault = ((units_agree (sources_of bytes) (all_places raw) raw).err f).0 e;
-    })
-    (λ (m : (x : List (DwUnit ℕ)) × (units_meaning (sources_of bytes) (all_places raw) raw ≡ Ok x) × (doc_with bytes raw x ≡ Err f)). absurd let no = m.2 in cc)
-    (bind_err (units_meaning (sources_of bytes) (all_places raw) raw) (doc_with bytes raw) f (sym (said bytes raw h) ∙ is))
+meaning_fault bytes raw f h fault = record {
+  units = raw;
+  spelled = units_found (debug_abbrev bytes) (given most_entries) 0 (input (debug_info bytes) 0) raw h.units;
+  fault = ⊎_elim
+      (λ (e : units_meaning around raw ≡ Err f). inl (((units_agree around raw).err f).0 e))
+      (λ (m : (x : List (DwUnit ℕ)) × (units_meaning around raw ≡ Ok x) × (after_meaning bytes raw x ≡ Err f)). inr ((m.0, ((units_agree around raw).ok m.0).0 m.1), behind m.0 m.2))
+      (bind_err (units_meaning around raw) (after_meaning bytes raw) f (sym (said bytes raw h) ∙ ((file_agrees no_files_before bytes).err f).1 fault));
+} where
+  around : Around ℕ
+  around = around_of bytes raw
+
+  behind : (units : List (DwUnit ℕ)) → after_meaning bytes raw units ≡ Err f
+      → IsSetsFault (is_place_of raw) 0 (debug_aranges bytes) f ⊎ (HaveGoodRanges bytes raw × IsSharedFault (lists_of_units (around_of bytes raw) raw) f)
+  behind units e = ⊎_elim
+      (λ (bad : sets_said bytes raw ≡ Err f). inl (((sets_agree (is_place_of raw) (input (debug_aranges bytes) 0)).err f).0 bad))
+      (λ (s : (sets : List RangeSet) × (sets_said bytes raw ≡ Ok sets) × (after_sets bytes raw units sets ≡ Err f)). inr (
+        record { sets = s.0; spelled = ((sets_agree (is_place_of raw) (input (debug_aranges bytes) 0)).ok s.0).0 s.1 },
+        ⊎_elim
+            (λ (bad : lists_said bytes raw ≡ Err f). ((shared_agrees (lists_of_units (around_of bytes raw) raw)).err f).0 bad)
+            (λ (l : (u : Unit {0}) × (lists_said bytes raw ≡ Ok u) × (doc_with bytes raw units ≡ Err f)). absurd let no = l.2 in cc)
+            (bind_err (lists_said bytes raw) (λ good. doc_with bytes raw units) f s.2),
+      ))
+      (bind_err (sets_said bytes raw) (after_sets bytes raw units) f e)
 
 -- ---- how it ends
 
@@ -197,7 +233,7 @@ means_doc bytes source doc is = subst (λ (s : Source). Reads no_files_before by
 pub as_written : (bytes file : List ℕ) (source : Source) → AreOf bytes source → IsPlain (elf_of bytes) → are_plain_units (units_of source) ≡ true
     → ((doc : Doc ℕ) → MeansDoc source doc → IsOut bytes doc file × (length file < longest_out)) → IsWritten bytes file
 as_written bytes file source of sections plain writes =
-    let r = reads_plain bytes (units_of source) of.read plain in
+    let r = reads_plain bytes (units_of source) of.read sections plain in
     let w = writes r.0 (means_doc bytes source r.0 of.same r.1) in
     record { raw = units_of source; doc = r.0; reads = r.1; sections = sections; units = plain; is_out = w.0; short = w.1 }
 

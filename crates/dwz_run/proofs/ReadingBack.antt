@@ -9,12 +9,12 @@ use Rattle.dwz_meanings.proofs.FileLemmas.{file_agrees}
 use Rattle.dwz_docs.proofs.WrittenLemmas.{bytes_fit}
 use Rattle.dwz_model.specs.declared.fault.Fault.{Fault}
 use Rattle.dwz_model.specs.declared.fault.ReadErr.{ReadErr}
-use Rattle.dwz_output.specs.ReadBack.{HasOneImage, ReadsBack}
+use Rattle.dwz_output.specs.ReadBack.{ReadsBack}
 use Rattle.dwz_output.proofs.ReadBackLemmas.{one_image_holds, reads_back_holds}
 use Rattle.dwz_tops.specs.Laws.{MeanPlain}
 use Rattle.dwz_run.specs.Files.{IsAnswer, IsReadBack, IsWritten}
 use Rattle.dwz_run.proofs.Answering.{written}
-use Rattle.dwz_run.proofs.NoSlots.{without_slots}
+use Rattle.dwz_run.proofs.PlainFiles.{no_sets, plain_built}
 
 abbrev doc_in : Result (List RawUnit × Doc ℕ) Fault → Doc ℕ → Doc ℕ
 doc_in (Ok x) d = x.1
@@ -31,7 +31,7 @@ module _ (bytes : List ℕ) (each : (k : ℕ) → get_or bytes k 0 < 256) where
   back_of : (out : List ℕ) (w : IsWritten bytes out) → ReadsBack w.doc out
   back_of out w =
       let m : MeanPlain w.raw w.doc = record { plain = w.units; sources = sources_of bytes; all = all_places w.raw; means = w.reads.means } in
-      reads_back_holds no_files_before bytes w.raw w.doc w.reads (record { are_bytes = bytes_fit bytes each; no_slots = without_slots w.raw w.doc m }) out w.is_out
+      reads_back_holds no_files_before bytes w.raw w.doc w.reads (record { are_bytes = bytes_fit bytes each; built = plain_built w.raw w.doc m; no_sets = no_sets bytes w.sections }) out w.is_out
 
   pub reads_back : (out : List ℕ) → IsWritten bytes out → IsReadBack bytes out
   reads_back out w raw doc reads = (

@@ -33,7 +33,8 @@ const ABBREV: u8 = 2;
 ///
 /// A file is first read to its end, whatever its sections and forms are. So it is refused with its first fault: `FileSize`, a
 /// fault of its sections, or one of its units and entries, at its place. Only then it is refused with `NotBuilt`, exactly where it
-/// isn't in the profile (`InProfile`). Faults of what values mean aren't looked for: only files that aren't in the profile have them.
+/// isn't in the profile (`InProfile`). Faults of what values mean, of sets of address ranges and of location lists aren't looked for:
+/// only files that aren't in the profile have them.
 pub fn one_file(alloc: Global, bytes: &[u8]) -> Result<Vec<u8>, ReadErr>
     ensures too_long { 2 ^ 28 < length bytes.now → result ≡ Err (Refused (file_fault FileSize 0)) }
     ensures at_once { (f : Fault) → length bytes.now ≤ 2 ^ 28 → front_fault_of bytes.now ≡ Some f → result ≡ Err (Refused f) }

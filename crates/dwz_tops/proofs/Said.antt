@@ -67,7 +67,7 @@ number_said a e = cond-false (a.pair.form == 0x08) _ _ (ne_eqb a.pair.form 0x08 
 not_named : (a : RawAttr) → has a.pair.name other_names ≡ false → (n : ℕ) → In n other_names → (a.pair.name == n) ≡ false
 not_named a e n i = ne_eqb a.pair.name n (λ f. not_in a.pair.name other_names e (subst (λ (m : ℕ). In m other_names) (sym f) i))
 
-no_file : (a : RawAttr) → has a.pair.name other_names ≡ false → names_file a.pair.name ≡ false
+pub no_file : (a : RawAttr) → has a.pair.name other_names ≡ false → names_file a.pair.name ≡ false
 no_file a e = or_from _ _ (not_named a e 0x3a (inr (inr (inl refl)))) (not_named a e 0x58 (inr (inr (inr (inl refl)))))
 
 abbrev said_value : Plain → Value ℕ

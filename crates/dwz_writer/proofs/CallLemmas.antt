@@ -1,5 +1,5 @@
 -- Entries of sound units may be called for.
-use Rattle.std.proofs.Common.{◌≡◌, ℕ, pos, zero, suc, ◌-◌, ◌/◌, ◌%◌, ◌^◌, ◌<◌, List, [], ◌∷◌, ◌++◌, map, refl, ap, arith, Bool, true, false, cond, eqb, ne_eqb}
+use Rattle.std.proofs.Common.{◌≡◌, ℕ, pos, zero, suc, ◌-◌, ◌/◌, ◌^◌, ◌<◌, List, [], ◌∷◌, map, refl, ap, arith, Bool, false, cond, eqb, ne_eqb}
 use Rattle.std.specs.Prelude.{All}
 use Rattle.std.proofs.lemmas.List.Elements.{All-cons, All-nil}
 use Rattle.dwz_bytes.specs.Spelling.{le_bytes}
@@ -18,7 +18,7 @@ use Rattle.dwz_output.specs.Writing.{Numbering, first_place, pair_of, stored_as}
 use Rattle.dwz_output.proofs.RawSpelled.{first_info, first_unit}
 use Rattle.dwz_output.proofs.WriteLists.{each_append}
 use Rattle.dwz_output.proofs.WriteTables.{form_range}
-use Rattle.dwz_writer.specs.Attributes.{IsWritable, StoredAttr}
+use Rattle.dwz_writer.specs.Attributes.{IsWritable}
 use Rattle.dwz_writer.specs.Events.{Event, IsCallable, IsEntry, events, if_children, stored_attr, unit_events}
 
 le_bytes-bytes : (k n : ℕ) → AreBytes (le_bytes k n)

@@ -1,5 +1,5 @@
 -- Tables and their offsets.
-use Rattle.std.proofs.Common.{◌≡◌, ℕ, ◌+◌, ◌<◌, Bool, true, false, List, [], ◌∷◌, ◌++◌, length, map, Option, Some, None, refl, sym, ap, subst, ◌∙◌, append_assoc, append-nil, arith, cond, eqb, lit<}
+use Rattle.std.proofs.Common.{◌≡◌, ℕ, ◌+◌, ◌<◌, Bool, true, false, List, [], ◌∷◌, ◌++◌, length, Option, Some, None, refl, sym, ap, subst, ◌∙◌, append_assoc, append-nil, arith, cond, eqb, lit<}
 use Rattle.std.specs.Prelude.{IfSome, OnSome, is_some}
 use Rattle.std.specs.Global.{Vec}
 use Rattle.std.specs.Map.{lookup}

@@ -1,11 +1,10 @@
 -- Values, one behind the other.
-use Rattle.std.proofs.Common.{◌≡◌, ℕ, ◌+◌, ◌<◌, ◌≤◌, Bool, true, false, List, [], ◌∷◌, ◌++◌, length, drop, take, map, get_or, Option, Some, None, refl, sym, ap, subst, ◌∙◌, arith, cond, eqb, ltb, eqb-true}
+use Rattle.std.proofs.Common.{◌≡◌, ℕ, ◌+◌, ◌<◌, ◌≤◌, Bool, true, false, List, [], ◌∷◌, ◌++◌, length, drop, take, map, get_or, Some, refl, sym, ap, subst, ◌∙◌, arith, cond, eqb, ltb, eqb-true}
 use Rattle.std.specs.Prelude.{All}
 use Rattle.std.proofs.lemmas.Bool.{ltb-true}
 use Rattle.std.proofs.lemmas.List.Elements.{All-map, All-weaker}
 use Rattle.std.proofs.Math.Seq.{take-append_seam}
 use Rattle.std.proofs.lemmas.List.{at_drop_all, at_drop_more, get_or-map, length-map}
-use Rattle.dwz_codes.specs.declared.shape.Shape.{Shape}
 use Rattle.dwz_codes.specs.Rows.{RowView, row_of}
 use Rattle.dwz_codes.specs.Forms.{form_rows}
 use Rattle.dwz_model.specs.declared.place.Pair.{Pair}

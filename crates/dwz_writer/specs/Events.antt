@@ -5,7 +5,7 @@ use Rattle.dwz_docs.specs.Trees.{End, Entry}
 use Rattle.dwz_output.specs.Writing.{Numbering, any, pair_of, stored, table_of, tables_of, tree_bytes, units_bytes}
 use Rattle.dwz_writer.specs.declared.sort.UnitSort.TheVariants.{Compile, Partial}
 use Rattle.dwz_writer.specs.Attributes.{IsWritable, StoredAttr}
-use Rattle.dwz_writer.specs.Written.{Written, finished, nothing, with_end, with_entry}
+use Rattle.dwz_writer.specs.Written.{Written, finished, with_end, with_entry}
 
 -- a call: an entry, or the end of a list of children
 pub data Event : Type 0 where

@@ -1,6 +1,5 @@
-use Rattle.std.proofs.Common.{◌≡◌, ℕ, ◌<◌, List, length, get_or, sym, arith}
+use Rattle.std.proofs.Common.{◌≡◌, ℕ, ◌<◌, List, length, get_or, arith}
 use Rattle.std.proofs.lemmas.List.{get_or_default}
-use Rattle.std.proofs.lemmas.List.Elements.{All-get_or}
 use Rattle.dwz_plan.specs.declared.groups.Pair.{Pair}
 use Rattle.dwz_plan.proofs.GroupLemmas.{placed-none, placed-more, placed-inside, placed-ends, placed-values}
 use Rattle.dwz_plan.proofs.groups.place.Goals as goal

@@ -1,4 +1,4 @@
-use Rattle.std.proofs.Common.{ap, ◌∙◌, ◌≡◌, ◌<◌, ◌++◌, ◌∷◌, [], Vec, Global, List, ℕ, length, get_or, arith}
+use Rattle.std.proofs.Common.{ap, ◌∙◌, Vec, Global, ℕ, arith}
 use Rattle.dwz_plan.proofs.RepeatLemmas.{without-push, without-skip}
 use Rattle.dwz_plan.proofs.groups.push_without_repeats.Goals as goal
 use Rattle.dwz_plan.proofs.groups.push_without_repeats.Goals.{then-not-is_repeated+in_ok-push, else-not-is_repeated}

@@ -1,4 +1,4 @@
-use Rattle.std.proofs.Common.{◌≡◌, ◌<◌, ◌∙◌, ℕ, [], false, List, length, map, get_or, ap, sym, subst, refl, arith}
+use Rattle.std.proofs.Common.{◌≡◌, ◌∙◌, ℕ, [], false, List, length, get_or, ap, sym, subst, arith}
 use Rattle.std.specs.List.{range_with_len}
 use Rattle.std.proofs.lemmas.List.{get_or-map, length-map}
 use Rattle.std.proofs.lemmas.List.FromFn.{get_or-map-range_with_len, length-map-range_with_len}
@@ -6,7 +6,7 @@ use Rattle.dwz_output.specs.Plan.{stand_in as unit_stand_in, partials as unit_pa
 use Rattle.dwz_output.specs.Spots.{FileUnit, Spot}
 use Rattle.dwz_plan.specs.declared.plan.Home.{Home as Place}
 use Rattle.dwz_plan.specs.declared.plan.Home.TheVariants.{Stay as InUnit}
-use Rattle.dwz_plan.specs.Planned.{imports, kept, place, plan_of, stand_in, units_of}
+use Rattle.dwz_plan.specs.Planned.{imports, kept, place, plan_of, stand_in}
 use Rattle.dwz_plan.specs.Rows.{Row, given, rows_from}
 use Rattle.dwz_plan.specs.Shows.{IsPlace, import_row}
 use Rattle.dwz_plan.proofs.BridgeLemmas.{file_numbers_are, imports_is, kept_is, partials_is, place_is, stand_in_is}

@@ -1,6 +1,6 @@
-use Rattle.std.proofs.Common.{◌≡◌, ◌<◌, ◌≤◌, ◌∙◌, ℕ, All, List, length, get_or, map, ap, refl, sym, subst, arith}
+use Rattle.std.proofs.Common.{◌≡◌, ◌<◌, ◌∙◌, ℕ, All, List, length, map, ap, refl, sym, subst, arith}
 use Rattle.std.proofs.lemmas.List.{length-map}
-use Rattle.dwz_plan.specs.Steps.{movers_by, numbered, partials_of, placed, users_at}
+use Rattle.dwz_plan.specs.Steps.{movers_by, numbered, placed, users_at}
 use Rattle.dwz_plan.specs.declared.groups.Pair.{Pair}
 use Rattle.dwz_plan.proofs.MadeLemmas.{movers_few, movers_low, movers_made, numbered_values, parts_made}
 use Rattle.dwz_plan.proofs.PlaceLemmas.{length-partials_of}

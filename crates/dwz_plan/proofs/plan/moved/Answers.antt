@@ -1,10 +1,10 @@
-use Rattle.std.proofs.Common.{◌≡◌, ◌<◌, ◌∙◌, ℕ, All, List, length, get_or, map, refl, ap, sym, subst, arith}
+use Rattle.std.proofs.Common.{◌≡◌, ◌<◌, ◌∙◌, ℕ, All, List, length, get_or, map, ap, sym, subst, arith}
 use Rattle.std.specs.List.{range_with_len}
 use Rattle.std.proofs.lemmas.List.{length-map}
 use Rattle.dwz_model.specs.declared.tops.TopRow.{TopRow}
 use Rattle.dwz_plan.specs.declared.plan.Home.{Home}
 use Rattle.dwz_plan.specs.declared.plan.Home.TheVariants.{Stay}
-use Rattle.dwz_plan.specs.Planned.{partials, place, rep, reps_of}
+use Rattle.dwz_plan.specs.Planned.{place, rep, reps_of}
 use Rattle.dwz_plan.specs.Rows.{Row, given, rows_from}
 use Rattle.dwz_plan.specs.Steps.{parts_by, placed_by, stander}
 use Rattle.dwz_plan.proofs.RowLemmas.{length-rows_from}

@@ -1,4 +1,4 @@
-use Rattle.std.proofs.Common.{◌≡◌, ◌<◌, ◌∙◌, ◌++◌, [], All, List, sym, ap, subst, true, false}
+use Rattle.std.proofs.Common.{◌≡◌, ◌<◌, ◌∙◌, ◌++◌, All, List, sym, ap, subst, true, false}
 use Rattle.std.proofs.lemmas.List.Elements.{All-append}
 use Rattle.dwz_plan.specs.Steps.{staying_pairs}
 use Rattle.dwz_plan.specs.declared.groups.Pair.{Pair}

@@ -1,4 +1,4 @@
-use Rattle.std.proofs.Common.{◌∙◌, ◌≡◌, ◌∷◌, ◌++◌, [], List, ℕ, ap, slice_index_or, sym, refl}
+use Rattle.std.proofs.Common.{◌∙◌, ◌≡◌, ◌∷◌, ◌++◌, [], List, ℕ, ap, slice_index_or, sym}
 use Rattle.std.specs.Int.{to_le_bytes, w32}
 use Rattle.dwz_bytes.specs.Spelling.{le_bytes}
 use Rattle.dwz_writer.specs.Written.{type_byte}

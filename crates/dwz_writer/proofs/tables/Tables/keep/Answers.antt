@@ -1,7 +1,6 @@
-use Rattle.std.proofs.Common.{◌∙◌, List, ℕ, ◌+◌, ◌<◌, arith, length, subst, sym, ap}
+use Rattle.std.proofs.Common.{◌∙◌, arith, sym, ap}
 use Rattle.std.proofs.lemmas.Result.{on_ok_weaker}
-use Rattle.dwz_docs.specs.ElfLayout.{too_large}
-use Rattle.dwz_output.specs.Writing.{joined, table_in}
+use Rattle.dwz_output.specs.Writing.{table_in}
 use Rattle.dwz_writer.proofs.TableLemmas.{length_new, table_known, table_new}
 use Rattle.dwz_writer.proofs.tables.Tables.keep.Goals as goal
 

@@ -1,4 +1,4 @@
-use Rattle.std.proofs.Common.{◌≡◌, arith, ap, subst, sym, ◌∙◌, ◌≤◌, ◌<◌, ◌+◌, length, List, ℕ}
+use Rattle.std.proofs.Common.{◌≡◌, arith, ap, subst, sym, ◌∙◌, ◌≤◌, ◌<◌, length, List, ℕ}
 use Rattle.dwz_docs.specs.ElfLayout.{too_large}
 use Rattle.dwz_output.specs.Writing.{joined, with_table}
 use Rattle.dwz_writer.specs.Written.{IsTooLargeOr, Written, finished, sections_of}

@@ -6,6 +6,7 @@ use Rattle.dwz_meanings.specs.Documents.{Attr, Compile, DwUnit, Entries, Kind, N
 use Rattle.dwz_meanings.specs.Meanings.{Sources}
 use Rattle.dwz_docs.specs.Trees.{End, Entry}
 use Rattle.dwz_seen.specs.Lists.{Each}
+use Rattle.dwz_writing.specs.Bases.{Bases}
 use Rattle.dwz_writing.specs.Carried.{CameFrom, CarriedAttr, CarriedEntries, CarriedNode, CarriedUnit, Imports}
 use Rattle.dwz_writing.specs.Meant.{KindSays, entry_keys}
 use Rattle.dwz_seen.specs.Shown.{keys}
@@ -16,11 +17,11 @@ map_twice : {P Q R : Type 0} (f : P → Q) (g : Q → R) (ps : List P) → map g
 map_twice f g [] = refl
 map_twice {P} {Q} {R} f g (p ∷ ps) = ap (λ (w : List R). g (f p) ∷ w) (map_twice f g ps)
 
-module _ {K L : Type 0} (from : Sources → Type 0) (f : K → L) where
+module _ {K L : Type 0} (from : Sources → Type 0) (origin : Bases) (f : K → L) where
   attr_twice : (name : ℕ → K) (b : Attr ℕ) → attr_map f (attr_map name b) ≡ attr_map (λ p. f (name p)) b
   attr_twice name b = ap (λ (w : List L). record { name = b.name; form = b.form; raw = b.raw; value = record { plain = b.value.plain; refs = w } }) (map_twice name f b.value.refs)
 
-  came_map : (a : Attr K) → CameFrom from a → CameFrom from (attr_map f a)
+  came_map : (a : Attr K) → CameFrom from origin a → CameFrom from origin (attr_map f a)
   came_map a came =
       let w = came.was_read in
       record {
@@ -33,6 +34,7 @@ module _ {K L : Type 0} (from : Sources → Type 0) (f : K → L) where
           same = ap (λ (b : Attr K). attr_map f b) w.same ∙ attr_twice w.name w.read;
         };
         file = came.file;
+        unit = came.unit;
         stored = came.stored;
         built = came.built;
       }
@@ -40,17 +42,17 @@ module _ {K L : Type 0} (from : Sources → Type 0) (f : K → L) where
   import_map : (a : Attr K) → Imports a → Imports (attr_map f a)
   import_map a is = record { name = is.name; form = is.form; target = f is.target; value = ap (λ (v : Value K). value_map f v) is.value }
 
-  attr_carried : (a : Attr K) → CarriedAttr from a → CarriedAttr from (attr_map f a)
+  attr_carried : (a : Attr K) → CarriedAttr from origin a → CarriedAttr from origin (attr_map f a)
   attr_carried a is = elim is [ inl c ↦ inl (came_map a c) | inr i ↦ inr (import_map a i) ]
 
-  attrs_carried : (attrs : List (Attr K)) → Each (CarriedAttr from) attrs → Each (CarriedAttr from) (map (attr_map f) attrs)
+  attrs_carried : (attrs : List (Attr K)) → Each (CarriedAttr from origin) attrs → Each (CarriedAttr from origin) (map (attr_map f) attrs)
   attrs_carried [] is = tt
   attrs_carried (a ∷ attrs) is = (attr_carried a is.0, attrs_carried attrs is.1)
 
-  pub node_carried : (e : Node K) → CarriedNode from e → CarriedNode from (node_map f e)
+  pub node_carried : (e : Node K) → CarriedNode from origin e → CarriedNode from origin (node_map f e)
   node_carried e is = record { some_tag = is.some_tag; tag_fits = is.tag_fits; attrs = attrs_carried e.attrs is.attrs }
 
-  pub entries_carried : (g : Entries K) → CarriedEntries from g → CarriedEntries from (entries_map f g)
+  pub entries_carried : (g : Entries K) → CarriedEntries from origin g → CarriedEntries from origin (entries_map f g)
   unfolding entries_map
   entries_carried End is = tt
   entries_carried (Entry e children next) is = (node_carried e is.0, entries_carried children is.1, entries_carried next is.2)
@@ -73,7 +75,7 @@ module _ {K L : Type 0} (from : Sources → Type 0) (f : K → L) where
   main_carried (OfType signature main) own is = in_map f main own is
   main_carried Partial own is = tt
 
-  pub unit_carried : (u : DwUnit K) → CarriedUnit from u → CarriedUnit from (unit_map f u)
+  pub unit_carried : (u : DwUnit K) → CarriedUnit from origin u → CarriedUnit from origin (unit_map f u)
   unit_carried u is = record {
     kind = kind_carried u.kind u.root.tag is.kind;
     main = subst (λ (w : List L). KindSays w (kind_map f u.kind)) (ap (λ (w : List L). f u.root.at ∷ w) (sym (keys_map u.below))) (main_carried u.kind (entry_keys u) is.main);

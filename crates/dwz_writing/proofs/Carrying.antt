@@ -1,5 +1,5 @@
 -- What a file stores can be written again.
-use Rattle.std.proofs.Common.{◌≡◌, ◌≢◌, ℕ, ℤ, pos, ◌<◌, ◌≤◌, ◌⊎◌, Bool, true, false, List, [], ◌∷◌, refl, sym, ap, subst, ◌∙◌, arith, cond, eqb, eqb-true, eq-eqb}
+use Rattle.std.proofs.Common.{◌≡◌, ◌≢◌, ℕ, ℤ, pos, ◌<◌, ◌≤◌, ◌⊎◌, Bool, true, false, List, [], ◌∷◌, Option, Some, None, refl, sym, ap, subst, ◌∙◌, arith, cond, eqb, eqb-true, eq-eqb}
 use Rattle.std.specs.Prelude.{MatchBool}
 use Rattle.std.proofs.Math.Logic.{inl, inr}
 use Rattle.dwz_model.specs.declared.place.Pair.{Pair}
@@ -10,16 +10,17 @@ use Rattle.dwz_codes.specs.Forms.{form_rows}
 use Rattle.dwz_docs.specs.Abbrevs.{SpellsPair}
 use Rattle.dwz_meanings.specs.Documents.{Attr, Plain, Text, Value, only, ref, value_map}
 use Rattle.dwz_docs.specs.Entries.{RawAttr}
-use Rattle.dwz_meanings.specs.Meanings.{Class, ClassRow, MeansAs, OfAddress, OfBlock, OfCommonEntry, OfCommonText, OfConstant, OfExpression, OfFlag, OfIndex, OfInfoEntry, OfListIndex, OfOffset, OfSignature, OfText, OfTextBySlot, OfTextInLineStr, OfTextInStr, OfUnitEntry, Sources, Unread, bytes_of, class_in, class_of, class_rows, names_file, names_list, number_of}
-use Rattle.dwz_docs.specs.Texts.{IsTextAt}
+use Rattle.dwz_meanings.specs.Meanings.{Class, ClassRow, IfSo, IsFileBy, MeansAs, OfAddress, OfBlock, OfCommonEntry, OfCommonText, OfConstant, OfExpression, OfFlag, OfIndex, OfInfoEntry, OfListIndex, OfOffset, OfSignature, OfText, OfTextBySlot, OfTextInLineStr, OfTextInStr, OfUnitEntry, Sources, Unread, bytes_of, class_in, class_of, class_rows, names_file, names_list, number_of, path_by, stmt_list}
+use Rattle.dwz_docs.specs.Texts.{IsSlot, IsTextAt}
 use Rattle.dwz_docs.specs.Values.{Bytes, Number, Raw, SpellsShape, SpellsValue, constant_of, shape_of, written_rows}
 use Rattle.dwz_docs.proofs.WrittenLemmas.{same_shape}
-use Rattle.dwz_writing.specs.Carried.{AttrTexts, CameFrom, CarriedAttr, Imports, TextAs}
-use Rattle.dwz_writing.specs.Meant.{AttrSays, SaysAs, Tells, WasRead}
+use Rattle.dwz_writing.specs.Carried.{CameFrom, CarriedAttr, Imports, NumbersFile}
+use Rattle.dwz_writing.specs.Bases.{Bases}
+use Rattle.dwz_writing.specs.Meant.{AttrSays, FileSays, Own, SaysAs, Tells, WasRead}
 use Rattle.dwz_writing.specs.Placing.{Chosen, Fit, as_entry, as_read, fit_as, fit_attr, with_form}
 use Rattle.dwz_writing.specs.Sound.{HasBytes, IsBuiltAs, SoundAttr, StoresAs}
 use Rattle.dwz_writing.specs.Writing.{block_in, pair_of, text_in}
-use Rattle.dwz_writing.proofs.ValuesMean.{not_so, plain_is}
+use Rattle.dwz_writing.proofs.ValuesMean.{not_so, plain_is, so_not}
 
 -- ---- which classes store bytes, and which a number
 
@@ -101,6 +102,10 @@ module _ (number : ℤ) (bytes : List ℕ) (raw : Raw) where
 
 -- ---- an attribute that came from a file
 
+so : (b : Bool) (P Q : Type 0) → b ≡ true → IfSo b P Q → P
+so true P Q e h = h
+so false P Q e h = absurd cc
+
 implicit_is : (form : ℕ) (number : ℤ) (bytes : List ℕ) (raw : Raw) → form ≡ 0x21 → SpellsShape (shape_of written_rows form) number bytes raw → raw ≡ Number number
 unfolding form_rows
 implicit_is form number bytes raw e is = (let is' = subst (λ (f : ℕ). SpellsShape (shape_of written_rows f) number bytes raw) e is in is'.value)
@@ -129,14 +134,40 @@ pub record Placed {K : Type 0} (from : Sources → Type 0) (a : Attr K) : Type 0
   pub sound : SoundAttr a
   pub class : ((class_of a.form ≡ OfTextInStr) × IsTextAt sources.strs (reach a.raw) text) ⊎ ((class_of a.form ≡ OfTextInLineStr) × IsTextAt sources.line_strs (reach a.raw) text)
 
+-- a text by its slot
+pub record Slotted {K : Type 0} (from : Sources → Type 0) (origin : Bases) (a : Attr K) : Type 0 where
+  pub sources : Sources
+  pub file : from sources
+  pub base : ℕ
+  pub is_base : origin.slots ≡ Some base
+  pub offset : ℕ
+  pub slot : IsSlot sources.offsets base (reach a.raw) offset
+  pub text : List ℕ
+  pub stands : IsTextAt sources.strs offset text
+  pub value : a.value ≡ only (Text text)
+  pub sound : SoundAttr a
+  pub class : class_of a.form ≡ OfTextBySlot
+
+-- units of a file with these sections, of which nothing else is known
+abbrev pub tells_of : {K : Type 0} → Sources → Tells K
+tells_of s = record { strs = s.strs; line_strs = s.line_strs; offsets = s.offsets; line = s.line; all = []; common = [] }
+
+-- the number of a file
+pub record Filed {K : Type 0} (from : Sources → Type 0) (origin : Bases) (a : Attr K) : Type 0 where
+  pub sources : Sources
+  pub file : from sources
+  pub numbers : NumbersFile a
+  pub says : FileSays (tells_of sources) origin.line a
+  pub stays : (f : Fit K) → fit_attr f a ≡ a
+  pub sound : SoundAttr a
+
 -- any other attribute, whose form stays
 pub record Other {K : Type 0} (a : Attr K) : Type 0 where
   pub stays : (f : Fit K) → fit_attr f a ≡ a
   pub sound : SoundAttr a
-  pub says : (t : Tells K) (own : List K) → AttrSays t own a
-  pub text : (texts : List (List ℕ)) → AttrTexts texts a
+  pub says : (t : Tells K) (own : Own K) → AttrSays t own a
 
-module _ {K : Type 0} (from : Sources → Type 0) (a : Attr K) (came : CameFrom from a) where
+module _ {K : Type 0} (from : Sources → Type 0) (origin : Bases) (a : Attr K) (came : CameFrom from origin a) where
   abbrev old : RawAttr
   old = came.was_read.old
 
@@ -204,17 +235,15 @@ module _ {K : Type 0} (from : Sources → Type 0) (a : Attr K) (came : CameFrom 
   other_sound value = record { some_name = some_name; name_fits = name_fits; no_sibling = no_sibling; built = came.built; constant = fits_constant; value = value }
 
   -- one whose form stays
-  other : (c : Class) → class_of a.form ≡ c → ((f : Fit K) → fit_as c f a ≡ as_read a) → (HasBytes a old.raw → StoresAs c a) → (WasRead a → (t : Tells K) (own : List K) → SaysAs c t own a)
-      → ((texts : List (List ℕ)) → TextAs c texts a) → Other a
-  other c e form stores says text = record {
+  other : (c : Class) → class_of a.form ≡ c → ((f : Fit K) → fit_as c f a ≡ as_read a) → (HasBytes a old.raw → StoresAs c a) → (WasRead a → (t : Tells K) (own : Own K) → SaysAs c t own a) → Other a
+  other c e form stores says = record {
     stays = λ f. ap (λ (d : Class). with_form a (fit_as d f a)) e ∙ ap (λ (x : Chosen). with_form a x) (form f);
     sound = other_sound (subst (λ (d : Class). StoresAs d a) (sym e) (stores has_bytes));
     says = λ t own. subst (λ (d : Class). SaysAs d t own a) (sym e) (says came.was_read t own);
-    text = λ texts. subst (λ (d : Class). TextAs d texts a) (sym e) (text texts);
   }
 
-  reference : (c : Class) → class_of a.form ≡ c → ((f : Fit K) → fit_as c f a ≡ as_entry f a) → ((texts : List (List ℕ)) → TextAs c texts a) → (k : K) → a.value ≡ ref k → Reference a
-  reference c e form text k value = record { some_name = some_name; name_fits = name_fits; no_sibling = no_sibling; target = k; value = value; chosen = λ f. ap (λ (d : Class). with_form a (fit_as d f a)) e ∙ ap (λ (x : Chosen). with_form a x) (form f) }
+  reference : (c : Class) → class_of a.form ≡ c → ((f : Fit K) → fit_as c f a ≡ as_entry f a) → (k : K) → a.value ≡ ref k → Reference a
+  reference c e form k value = record { some_name = some_name; name_fits = name_fits; no_sibling = no_sibling; target = k; value = value; chosen = λ f. ap (λ (d : Class). with_form a (fit_as d f a)) e ∙ ap (λ (x : Chosen). with_form a x) (form f) }
 
   abbrev w : WasRead a
   w = came.was_read
@@ -234,16 +263,36 @@ module _ {K : Type 0} (from : Sources → Type 0) (a : Attr K) (came : CameFrom 
   content c bytes e stores same h = subst (HasBytes a) (again_bytes c e stores ∙ ap (λ (b : List ℕ). Bytes b) same) h
 
   abbrev Kinds : Type 0
-  Kinds = Reference a ⊎ (Placed from a ⊎ Other a)
+  Kinds = Reference a ⊎ (Placed from a ⊎ (Slotted from origin a ⊎ (Filed from origin a ⊎ Other a)))
+
+  -- the file of a number, by the line table that the unit has
+  file_by : (o : Option ℕ) → IsFileBy o w.scope (number_of old.raw) w.read.value → FileSays (tells_of w.scope.around.sources) o a
+  file_by None f = (sym same_raw ∙ f.0, same_value ∙ ap (λ (v : Value ℕ). value_map w.name v) f.1)
+  file_by (Some place) f = record {
+    table = f.table;
+    stands = f.stands;
+    path = f.path;
+    is_path = ap (λ (z : ℤ). path_by f.table z) (sym same_raw) ∙ f.is_path;
+    value = same_value ∙ ap (λ (v : Value ℕ). value_map w.name v) f.value;
+  }
+
+  constant : class_of a.form ≡ OfConstant → (b : Bool) → names_file a.name ≡ b → MeansAs OfConstant w.scope old w.read.value → Kinds
+  constant e true names m = inr (inr (inr (inl (record {
+    sources = w.scope.around.sources;
+    file = came.file;
+    numbers = (e, names);
+    says = subst (λ (o : Option ℕ). FileSays (tells_of w.scope.around.sources) o a) (ap (λ (b : Bases). b.line) came.unit) (file_by (stmt_list w.scope) (so (names_file old.pair.name) _ _ (ap names_file same_name ∙ names) m));
+    stays = λ f. ap (λ (d : Class). with_form a (fit_as d f a)) e;
+    sound = other_sound (subst (λ (d : Class). StoresAs d a) (sym e) (number OfConstant e refl (λ x. cc) has_bytes));
+  }))))
+  constant e false names m = inr (inr (inr (inr (other OfConstant e (λ f. refl) (number OfConstant e refl (λ x. cc)) (λ r t own. so_not (names_file a.name) _ _ names r)))))
 
   by_class : (c : Class) → class_of a.form ≡ c → IsBuiltAs c a.name → MeansAs c w.scope old w.read.value → Kinds
-  by_class OfAddress e built m = inr (inr (other OfAddress e (λ f. refl) (number OfAddress e refl (λ x. cc)) (λ r t own. r) (λ texts. tt)))
-  by_class OfBlock e built m = inr (inr (other OfBlock e (λ f. refl) (content OfBlock _ e refl (sym (ap block_in (plain_of _ m)))) (λ r t own. r) (λ texts. tt)))
-  by_class OfConstant e built m =
-      let m' = not_so (names_file old.pair.name) _ _ (ap names_file same_name ∙ built) m in
-      inr (inr (other OfConstant e (λ f. refl) (number OfConstant e refl (λ x. cc)) (λ r t own. r) (λ texts. tt)))
-  by_class OfFlag e built m = inr (inr (other OfFlag e (λ f. refl) (number OfFlag e refl (λ x. cc)) (λ r t own. r) (λ texts. tt)))
-  by_class OfText e built m = inr (inr (other OfText e (λ f. refl) (content OfText _ e refl (sym (ap text_in (plain_of _ m)))) (λ r t own. r) (λ texts. tt)))
+  by_class OfAddress e built m = inr (inr (inr (inr (other OfAddress e (λ f. refl) (number OfAddress e refl (λ x. cc)) (λ r t own. r)))))
+  by_class OfBlock e built m = inr (inr (inr (inr (other OfBlock e (λ f. refl) (content OfBlock _ e refl (sym (ap block_in (plain_of _ m)))) (λ r t own. r)))))
+  by_class OfConstant e built m = constant e (names_file a.name) refl m
+  by_class OfFlag e built m = inr (inr (inr (inr (other OfFlag e (λ f. refl) (number OfFlag e refl (λ x. cc)) (λ r t own. r)))))
+  by_class OfText e built m = inr (inr (inr (inr (other OfText e (λ f. refl) (content OfText _ e refl (sym (ap text_in (plain_of _ m)))) (λ r t own. r)))))
   by_class OfTextInStr e built m = inr (inl (record {
     sources = w.scope.around.sources;
     file = came.file;
@@ -260,17 +309,29 @@ module _ {K : Type 0} (from : Sources → Type 0) (a : Attr K) (came : CameFrom 
     sound = other_sound (subst (λ (d : Class). StoresAs d a) (sym e) (number OfTextInLineStr e refl (λ x. cc) has_bytes));
     class = inr (e, subst (λ (z : ℤ). IsTextAt w.scope.around.sources.line_strs (reach z) m.text) same_raw m.stands);
   }))
-  by_class OfTextBySlot e built m = absurd built
-  by_class OfUnitEntry e built m = inl (reference OfUnitEntry e (λ f. refl) (λ texts. tt) _ (same_value ∙ ap (λ (v : Value ℕ). value_map w.name v) m.1))
-  by_class OfInfoEntry e built m = inl (reference OfInfoEntry e (λ f. refl) (λ texts. tt) _ (same_value ∙ ap (λ (v : Value ℕ). value_map w.name v) m.1))
-  by_class OfCommonEntry e built m = inl (reference OfCommonEntry e (λ f. refl) (λ texts. tt) _ (same_value ∙ ap (λ (v : Value ℕ). value_map w.name v) m.2.1))
-  by_class OfSignature e built m = inr (inr (other OfSignature e (λ f. refl) (number OfSignature e refl (λ x. cc)) (λ r t own. r) (λ texts. tt)))
+  by_class OfTextBySlot e built m = inr (inr (inl (record {
+    sources = w.scope.around.sources;
+    file = came.file;
+    base = m.base;
+    is_base = sym (ap (λ (b : Bases). b.slots) came.unit) ∙ m.is_base;
+    offset = m.offset;
+    slot = subst (λ (z : ℤ). IsSlot w.scope.around.sources.offsets m.base (reach z) m.offset) same_raw m.slot;
+    text = m.text.text;
+    stands = m.text.stands;
+    value = same_value ∙ ap (λ (v : Value ℕ). value_map w.name v) m.text.value;
+    sound = other_sound (subst (λ (d : Class). StoresAs d a) (sym e) (number OfTextBySlot e refl (λ x. cc) has_bytes));
+    class = e;
+  })))
+  by_class OfUnitEntry e built m = inl (reference OfUnitEntry e (λ f. refl) _ (same_value ∙ ap (λ (v : Value ℕ). value_map w.name v) m.1))
+  by_class OfInfoEntry e built m = inl (reference OfInfoEntry e (λ f. refl) _ (same_value ∙ ap (λ (v : Value ℕ). value_map w.name v) m.1))
+  by_class OfCommonEntry e built m = inl (reference OfCommonEntry e (λ f. refl) _ (same_value ∙ ap (λ (v : Value ℕ). value_map w.name v) m.2.1))
+  by_class OfSignature e built m = inr (inr (inr (inr (other OfSignature e (λ f. refl) (number OfSignature e refl (λ x. cc)) (λ r t own. r)))))
   by_class OfOffset e built m =
       let m' = not_so (names_list old.pair.name) _ _ (ap names_list same_name ∙ built) m in
-      inr (inr (other OfOffset e (λ f. refl) (number OfOffset e refl (λ x. cc)) (λ r t own. r) (λ texts. tt)))
+      inr (inr (inr (inr (other OfOffset e (λ f. refl) (number OfOffset e refl (λ x. cc)) (λ r t own. r)))))
   by_class OfExpression e built m = absurd built
   by_class OfListIndex e built m = absurd built
-  by_class OfIndex e built m = inr (inr (other OfIndex e (λ f. refl) (number OfIndex e refl (λ x. cc)) (λ r t own. r) (λ texts. tt)))
+  by_class OfIndex e built m = inr (inr (inr (inr (other OfIndex e (λ f. refl) (number OfIndex e refl (λ x. cc)) (λ r t own. r)))))
   by_class OfCommonText e built m = absurd built
   by_class Unread e built m = absurd built
 
@@ -291,5 +352,5 @@ imports_is a is = record {
   chosen = λ f. ap (λ (d : Class). with_form a (fit_as d f a)) (ap class_of is.form ∙ import_class);
 }
 
-pub carried_is : {K : Type 0} (from : Sources → Type 0) (a : Attr K) → CarriedAttr from a → Reference a ⊎ (Placed from a ⊎ Other a)
-carried_is from a is = elim is [ inl c ↦ came_is from a c | inr i ↦ inl (imports_is a i) ]
+pub carried_is : {K : Type 0} (from : Sources → Type 0) (origin : Bases) (a : Attr K) → CarriedAttr from origin a → Reference a ⊎ (Placed from a ⊎ (Slotted from origin a ⊎ (Filed from origin a ⊎ Other a)))
+carried_is from origin a is = elim is [ inl c ↦ came_is from origin a c | inr i ↦ inl (imports_is a i) ]

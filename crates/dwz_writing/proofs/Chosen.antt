@@ -1,14 +1,15 @@
 -- Units whose references have their forms are sound, and each reference names what its form says.
-use Rattle.std.proofs.Common.{◌≡◌, ◌⊎◌, ℕ, Bool, true, false, List, [], ◌∷◌, map, refl, sym, subst}
+use Rattle.std.proofs.Common.{◌≡◌, ◌⊎◌, ℕ, ◌<◌, ◌^◌, Bool, true, false, List, [], ◌∷◌, length, map, Option, Some, refl, sym, ap, subst, ◌∙◌, cond, eqb}
 use Rattle.std.proofs.Math.Logic.{inl, inr}
-use Rattle.dwz_meanings.specs.Documents.{Attr, Compile, DwUnit, Entries, Kind, Node, OfType, Partial}
+use Rattle.dwz_meanings.specs.Documents.{Attr, Compile, DwUnit, Entries, Kind, OfType, Partial, first_named}
 use Rattle.dwz_docs.specs.Lists.{In}
 use Rattle.dwz_meanings.specs.Meanings.{Sources}
 use Rattle.dwz_docs.specs.Trees.{End, Entry}
 use Rattle.dwz_seen.specs.Lists.{Each}
-use Rattle.dwz_writing.specs.Carried.{ApartIn, CarriedAttr, CarriedEntries, CarriedUnit, ClosedIn, EntriesTexts, TextsStand, UnitTexts}
-use Rattle.dwz_writing.specs.Meant.{AttrSays, EntriesSay, KindSays, NodeSays, Tells, UnitSays, UnitsSay, all_entry_keys, entry_keys}
-use Rattle.dwz_writing.specs.Placing.{CommonUnit, FileFit, Fit, Holder, NewUnit, OldUnit, fit, fit_attr, fit_node, fit_unit, fit_units, has_key, holder_of, reach_by, ref_form, unit_fit}
+use Rattle.dwz_writing.specs.Bases.{Bases, bases_in, offset_in}
+use Rattle.dwz_writing.specs.Carried.{ApartIn, BasesStand, CarriedAttr, CarriedEntries, CarriedUnit, ClosedIn, ComesFromItself, EachAttr, FileStands, SectionsStand, UnitTexts}
+use Rattle.dwz_writing.specs.Meant.{AttrSays, EntriesSay, KindSays, NodeSays, Own, Tells, UnitSays, UnitsSay, all_entry_keys, entry_keys, own_of}
+use Rattle.dwz_writing.specs.Placing.{FileFit, Fit, Forms, Holder, fit, fit_attr, fit_node, fit_unit, fit_units, has_key, holder_of, reach_by, ref_form, texts_bytes, unit_fit, with_keys}
 use Rattle.dwz_seen.specs.Shown.{unit_keys, units_keys}
 use Rattle.dwz_seen.specs.Seen.{Seen, all_seen, see, seen_below, seen_roots}
 use Rattle.dwz_writing.specs.Sound.{SoundAttr, SoundEntries, SoundUnit}
@@ -19,7 +20,8 @@ use Rattle.dwz_seen.proofs.SeenLemmas.{root_in, seen_in}
 use Rattle.dwz_writing.proofs.Rising.{entries_are_keys}
 use Rattle.dwz_writing.proofs.WriteLengths.{FixedUnit}
 use Rattle.dwz_seen.proofs.Members.{each_in, in_left, in_right}
-use Rattle.dwz_writing.proofs.ChosenValues.{EntriesName, Good, NamesAll, NodeNames, SeenNames, TextAt, TextsAt, chosen, chosen_sound, common_says_it, each_fixed, entries_name, fit_all_keys, fit_entry_keys, fit_units_keys, form_is, has_in, info_says_it, node_names, refs_are, text_good, unit_apart, unit_says_it}
+use Rattle.dwz_writing.proofs.ChosenNames.{EntriesName, NamesAll, NodeNames, SeenNames, each_fixed, entries_name, fit_all_keys, fit_entry_keys, fit_units_keys, has_in, node_names, offset_fit, unit_apart}
+use Rattle.dwz_writing.proofs.ChosenValues.{AttrAt, Good, SectionsAt, SourcesAt, TextFor, chosen, chosen_sound, common_says_it, file_good, form_is, info_says_it, refs_are, slot_good, text_good, unit_says_it}
 
 pub none_has : {K : Type 0} (same : K → K → Bool) (is : IsSame same) (k : K) (ks : List K) → In k ks → has_key same k ks ≡ false → ⊥
 unfolding has_key
@@ -32,16 +34,39 @@ none_has {K} same is k (x ∷ xs) there e = go (λ i r. none_has same is k xs i 
     | inr j ↦ rest j r
   ]
 
-module _ {K : Type 0} (f : FileFit K) (is : IsSame f.same) (from : Sources → Type 0) (t : Tells K) (u : DwUnit K) (within : (k : K) → In k t.all → In k f.keys) (other : (k : K) → In k t.common → In k f.keys → ⊥)
-    (entries : (k : K) → In k (unit_keys u) → In k f.keys) (apart : In u.at t.all → ⊥) (texts_at : TextAt (holder_of f.is_common u.kind) from f.texts t) where
+-- ---- what a root says is as it was
+
+first_fit : {K : Type 0} (x : Fit K) (name : ℕ) (attrs : List (Attr K)) → offset_in (first_named name (map (fit_attr x) attrs)) ≡ offset_in (first_named name attrs)
+unfolding first_named
+first_fit x name [] = refl
+first_fit x name (a ∷ attrs) = by (first_fit x name attrs) (eqb a.name name) where
+  by : offset_in (first_named name (map (fit_attr x) attrs)) ≡ offset_in (first_named name attrs) → (b : Bool) → offset_in (cond b (Some (fit_attr x a)) (first_named name (map (fit_attr x) attrs))) ≡ offset_in (cond b (Some a) (first_named name attrs))
+  by rest true = offset_fit x a
+  by rest false = rest
+
+bases_fit : {K : Type 0} (f : FileFit K) (u : DwUnit K) → bases_in (fit_unit f u) ≡ bases_in u
+bases_fit f u =
+    ap (λ (o : Option ℕ). record { slots = o; line = offset_in (first_named 0x10 (map (fit_attr (unit_fit f u)) u.root.attrs)) }) (first_fit (unit_fit f u) 0x72 u.root.attrs)
+    ∙ ap (λ (o : Option ℕ). record { slots = offset_in (first_named 0x72 u.root.attrs); line = o }) (first_fit (unit_fit f u) 0x10 u.root.attrs)
+
+own_fit : {K : Type 0} (f : FileFit K) (u : DwUnit K) → own_of u ≡ own_of (fit_unit f u)
+own_fit {K} f u = ap (λ (ks : List K). record { keys = ks; bases = bases_in u }) (sym (fit_entry_keys f u)) ∙ ap (λ (b : Bases). record { keys = entry_keys (fit_unit f u); bases = b }) (sym (bases_fit f u))
+
+-- ---- each value is written as its form says
+
+module _ {K : Type 0} (f : FileFit K) (is : IsSame f.same) (from : Sources → Type 0) (t : Tells K) (small : length t.strs < 2 ^ 32) (u : DwUnit K) (within : (k : K) → In k t.all → In k f.keys) (other : (k : K) → In k t.common → In k f.keys → ⊥)
+    (entries : (k : K) → In k (unit_keys u) → In k f.keys) (apart : In u.at t.all → ⊥) (sections_at : SectionsAt (holder_of f.is_common u.kind) from (unit_fit f u) t) (itself : ComesFromItself (holder_of f.is_common u.kind) (bases_in u) (f.origin u.at)) where
   abbrev x : Fit K
   x = unit_fit f u
 
-  abbrev own : List K
-  own = entry_keys u
+  abbrev own : Own K
+  own = own_of u
+
+  abbrev At : Attr K → Type 0
+  At a = AttrAt (holder_of f.is_common u.kind) f.texts (bases_in u).line (f.origin u.at).line a
 
   -- a name of the unit that is an entry's is one of the unit's entries
-  inside : (k : K) → In k t.all ⊎ In k t.common → has_key f.same k (unit_keys u) ≡ true → In k own
+  inside : (k : K) → In k t.all ⊎ In k t.common → has_key f.same k (unit_keys u) ≡ true → In k (entry_keys u)
   unfolding unit_keys
   inside k there e =
       let found = has_in f.same is k (unit_keys u) e in
@@ -55,12 +80,18 @@ module _ {K : Type 0} (f : FileFit K) (is : IsSame f.same) (from : Sources → T
     by false true p q = info_says_it a r t own (elim there [ inl all ↦ all | inr common ↦ absurd (other r.target common (has_in f.same is r.target f.keys q)) ])
     by false false p q = common_says_it a r t own (elim there [ inl all ↦ absurd (none_has f.same is r.target f.keys (within r.target all) q) | inr common ↦ common ])
 
-  attr_good : (a : Attr K) → CarriedAttr from a → Each (λ k. In k t.all ⊎ In k t.common) a.value.refs → TextsAt (holder_of f.is_common u.kind) f.texts (a ∷ []) → Good t own (fit_attr x a)
-  attr_good a carried names there = elim (carried_is from a carried) [
+  attr_good : (a : Attr K) → CarriedAttr from (f.origin u.at) a → Each (λ k. In k t.all ⊎ In k t.common) a.value.refs → At a → Good t own (fit_attr x a)
+  attr_good a carried names at = elim (carried_is from (f.origin u.at) a carried) [
     | inl r ↦ record { sound = subst SoundAttr (sym (form_is a r x)) (chosen_sound a r (reach_by (has_key f.same r.target (unit_keys u)) (has_key f.same r.target f.keys))); says = ref_says a r (subst (Each (λ k. In k t.all ⊎ In k t.common)) (refs_are a r) names).0 }
     | inr rest ↦ elim rest [
-      | inl p ↦ text_good from t own a p (holder_of f.is_common u.kind) x refl texts_at there
-      | inr o ↦ record { sound = subst SoundAttr (sym (o.stays x)) o.sound; says = subst (AttrSays t own) (sym (o.stays x)) (o.says t own) }
+      | inl p ↦ text_good from t small own a p (holder_of f.is_common u.kind) x refl sections_at at.0
+      | inr more ↦ elim more [
+        | inl s ↦ slot_good from (f.origin u.at) t small own a s (holder_of f.is_common u.kind) x refl refl itself sections_at at.0
+        | inr last ↦ elim last [
+          | inl n ↦ file_good from (f.origin u.at) t own a n (holder_of f.is_common u.kind) x itself sections_at at.1
+          | inr o ↦ record { sound = subst SoundAttr (sym (o.stays x)) o.sound; says = subst (AttrSays t own) (sym (o.stays x)) (o.says t own) }
+        ]
+      ]
     ]
   ]
 
@@ -68,81 +99,82 @@ module _ {K : Type 0} (f : FileFit K) (is : IsSame f.same) (from : Sources → T
     sound : Each SoundAttr attrs
     says : Each (AttrSays t own) attrs
 
-  one_at : (h : Holder) (a : Attr K) (attrs : List (Attr K)) → TextsAt h f.texts (a ∷ attrs) → TextsAt h f.texts (a ∷ []) × TextsAt h f.texts attrs
-  one_at CommonUnit a attrs at = ((at.0, tt), at.1)
-  one_at OldUnit a attrs at = (tt, tt)
-  one_at NewUnit a attrs at = (tt, tt)
-
-  attrs_good : (attrs : List (Attr K)) → Each (CarriedAttr from) attrs → Each (NamesAll t) attrs → TextsAt (holder_of f.is_common u.kind) f.texts attrs → GoodAttrs (map (fit_attr x) attrs)
-  attrs_good [] carried names there = record { sound = tt; says = tt }
-  attrs_good (a ∷ attrs) carried names there =
-      let parts = one_at (holder_of f.is_common u.kind) a attrs there in
-      let one = attr_good a carried.0 names.0 parts.0 in
-      let rest = attrs_good attrs carried.1 names.1 parts.1 in
+  attrs_good : (attrs : List (Attr K)) → Each (CarriedAttr from (f.origin u.at)) attrs → Each (NamesAll t) attrs → Each At attrs → GoodAttrs (map (fit_attr x) attrs)
+  attrs_good [] carried names at = record { sound = tt; says = tt }
+  attrs_good (a ∷ attrs) carried names at =
+      let one = attr_good a carried.0 names.0 at.0 in
+      let rest = attrs_good attrs carried.1 names.1 at.1 in
       record { sound = (one.sound, rest.sound); says = (one.says, rest.says) }
-
-  abbrev BelowTexts : Holder → Entries K → Type 0
-  BelowTexts CommonUnit g = EntriesTexts f.texts g
-  BelowTexts _ g = Unit {0}
-
-  below_at : (h : Holder) (e : Node K) (children next : Entries K) → BelowTexts h (Entry e children next) → TextsAt h f.texts e.attrs × BelowTexts h children × BelowTexts h next
-  below_at CommonUnit e children next at = at
-  below_at OldUnit e children next at = (tt, tt, tt)
-  below_at NewUnit e children next at = (tt, tt, tt)
 
   record GoodEntries (g : Entries K) : Type 0 where
     sound : SoundEntries g
     says : EntriesSay t own g
 
-  entries_good : (g : Entries K) → CarriedEntries from g → EntriesName t g → BelowTexts (holder_of f.is_common u.kind) g → GoodEntries (fit x g)
+  entries_good : (g : Entries K) → CarriedEntries from (f.origin u.at) g → EntriesName t g → EachAttr At g → GoodEntries (fit x g)
   unfolding fit
   entries_good End carried names at = record { sound = tt; says = tt }
   entries_good (Entry e children next) carried names at =
-      let parts = below_at (holder_of f.is_common u.kind) e children next at in
-      let one = attrs_good e.attrs carried.0.attrs names.0 parts.0 in
-      let a = entries_good children carried.1 names.1 parts.1 in
-      let b = entries_good next carried.2 names.2 parts.2 in
+      let one = attrs_good e.attrs carried.0.attrs names.0 at.0 in
+      let a = entries_good children carried.1 names.1 at.1 in
+      let b = entries_good next carried.2 names.2 at.2 in
       record { sound = (record { some_tag = carried.0.some_tag; tag_fits = carried.0.tag_fits; attrs = one.sound }, a.sound, b.sound); says = (one.says, a.says, b.says) }
 
-  unit_good : CarriedUnit from u → NodeNames t u.root → EntriesName t u.below → TextsAt (holder_of f.is_common u.kind) f.texts u.root.attrs → BelowTexts (holder_of f.is_common u.kind) u.below
-      → SoundUnit (fit_unit f u) × UnitSays t (fit_unit f u)
+  unit_good : CarriedUnit from (f.origin u.at) u → NodeNames t u.root → EntriesName t u.below → Each At u.root.attrs → EachAttr At u.below → SoundUnit (fit_unit f u) × UnitSays t (fit_unit f u)
   unit_good carried root below root_at below_at =
-      let keys_are : entry_keys u ≡ entry_keys (fit_unit f u) = sym (fit_entry_keys f u) in
+      let same = own_fit f u in
       let a = attrs_good u.root.attrs carried.root.attrs root root_at in
       let b = entries_good u.below carried.below below below_at in (
         record { kind = carried.kind; root = record { some_tag = carried.root.some_tag; tag_fits = carried.root.tag_fits; attrs = a.sound }; below = b.sound },
         record {
-          kind = subst (λ (w : List K). KindSays w u.kind) keys_are carried.main;
-          root = subst (λ (w : List K). NodeSays t w (fit_node x u.root)) keys_are a.says;
-          below = subst (λ (w : List K). EntriesSay t w (fit x u.below)) keys_are b.says;
+          kind = subst (λ (w : Own K). KindSays w.keys u.kind) same carried.main;
+          root = subst (λ (w : Own K). NodeSays t w (fit_node x u.root)) same a.says;
+          below = subst (λ (w : Own K). EntriesSay t w (fit x u.below)) same b.says;
         },
       )
 
 -- ---- the units of a file
 
-holder_common : {K : Type 0} (kind : Kind K) (from : Sources → Type 0) (texts : List (List ℕ)) (t : Tells K) (units : List (DwUnit K)) (b : Bool) → TextsStand b from texts t units → TextAt (holder_of b kind) from texts t
-holder_common kind from texts t units true at = (at.0, at.1)
-holder_common Compile from texts t units false at = at
-holder_common (OfType signature main) from texts t units false at = at
-holder_common Partial from texts t units false at = at
+sections_common : {K : Type 0} (kind : Kind K) (from : Sources → Type 0) (f : Forms K) (x : Fit K) (t : Tells K) (units : List (DwUnit K)) (b : Bool) → f.texts ≡ x.texts → f.offsets ≡ x.offsets → SectionsStand b from f t units → SectionsAt (holder_of b kind) from x t
+sections_common kind from f x t units true texts offsets at = at.1 ∙ ap texts_bytes texts
+sections_common Compile from f x t units false texts offsets at = subst (λ (w : List ℕ). SourcesAt from w t) offsets at.1
+sections_common (OfType signature main) from f x t units false texts offsets at = subst (λ (w : List ℕ). SourcesAt from w t) offsets at.1
+sections_common Partial from f x t units false texts offsets at = subst (λ (w : List ℕ). SourcesAt from w t) offsets at.1
 
-texts_common : {K : Type 0} (u : DwUnit K) (from : Sources → Type 0) (texts : List (List ℕ)) (t : Tells K) (units : List (DwUnit K)) (b : Bool) → In u units → TextsStand b from texts t units → TextsAt (holder_of b u.kind) texts u.root.attrs
-texts_common {K} u from texts t units true there at = (each_in (UnitTexts texts) u units at.2 there).0
-texts_common {K} u from texts t units false there at = by u.kind where
-  by : (k : Kind K) → TextsAt (holder_of false k) texts u.root.attrs
-  by Compile = tt
-  by (OfType signature main) = tt
-  by Partial = tt
+small_strs : {K : Type 0} (from : Sources → Type 0) (f : Forms K) (t : Tells K) (units : List (DwUnit K)) (b : Bool) → SectionsStand b from f t units → length t.strs < 2 ^ 32
+small_strs from f t units true at = at.0
+small_strs from f t units false at = at.0
 
-below_common : {K : Type 0} (f : FileFit K) (is : IsSame f.same) (from : Sources → Type 0) (t : Tells K) (u : DwUnit K) (within : (k : K) → In k t.all → In k f.keys) (other : (k : K) → In k t.common → In k f.keys → ⊥)
-    (entries : (k : K) → In k (unit_keys u) → In k f.keys) (apart : In u.at t.all → ⊥) (texts_at : TextAt (holder_of f.is_common u.kind) from f.texts t) (units : List (DwUnit K)) (b : Bool) → In u units → TextsStand b from f.texts t units
-    → BelowTexts f is from t u within other entries apart texts_at (holder_of b u.kind) u.below
-below_common f is from t u within other entries apart texts_at units true there at = (each_in (UnitTexts f.texts) u units at.2 there).1
-below_common {K} f is from t u within other entries apart texts_at units false there at = by u.kind where
-  by : (k : Kind K) → BelowTexts f is from t u within other entries apart texts_at (holder_of false k) u.below
-  by Compile = tt
-  by (OfType signature main) = tt
-  by Partial = tt
+-- the texts of the common file, and no others, are asked for
+text_for : {K : Type 0} (kind : Kind K) (texts : List (List ℕ)) (a : Attr K) → TextFor (holder_of false kind) texts a
+text_for Compile texts a = tt
+text_for (OfType signature main) texts a = tt
+text_for Partial texts a = tt
+
+module _ {K : Type 0} (P Q R : Attr K → Type 0) (join : (a : Attr K) → P a → Q a → R a) where
+  join_attrs : (attrs : List (Attr K)) → Each P attrs → Each Q attrs → Each R attrs
+  join_attrs [] p q = tt
+  join_attrs (a ∷ attrs) p q = (join a p.0 q.0, join_attrs attrs p.1 q.1)
+
+  join_entries : (g : Entries K) → EachAttr P g → EachAttr Q g → EachAttr R g
+  join_entries End p q = tt
+  join_entries (Entry e children next) p q = (join_attrs e.attrs p.0 q.0, join_entries children p.1 q.1, join_entries next p.2 q.2)
+
+module _ {K : Type 0} (P : Attr K → Type 0) (all : (a : Attr K) → P a) where
+  all_attrs : (attrs : List (Attr K)) → Each P attrs
+  all_attrs [] = tt
+  all_attrs (a ∷ attrs) = (all a, all_attrs attrs)
+
+  all_entries : (g : Entries K) → EachAttr P g
+  all_entries End = tt
+  all_entries (Entry e children next) = (all_attrs e.attrs, all_entries children, all_entries next)
+
+record TextsFor {K : Type 0} (h : Holder) (texts : List (List ℕ)) (u : DwUnit K) : Type 0 where
+  root : Each (TextFor h texts) u.root.attrs
+  below : EachAttr (TextFor h texts) u.below
+
+texts_for : {K : Type 0} (u : DwUnit K) (from : Sources → Type 0) (f : Forms K) (t : Tells K) (units : List (DwUnit K)) (b : Bool) → In u units → SectionsStand b from f t units → TextsFor (holder_of b u.kind) f.texts u
+texts_for u from f t units true there at = (let is = each_in (UnitTexts f.texts) u units at.2 there in record { root = is.0; below = is.1 })
+texts_for u from f t units false there at = record { root = all_attrs _ (text_for u.kind f.texts) u.root.attrs; below = all_entries _ (text_for u.kind f.texts) u.below }
 
 keys_within : {K : Type 0} (units : List (DwUnit K)) (u : DwUnit K) → In u units → (k : K) → In k (unit_keys u) → In k (units_keys units)
 unfolding units_keys
@@ -150,22 +182,26 @@ keys_within [] u there k is = there
 keys_within {K} (w ∷ units) u (inl e) k is = in_left k (unit_keys w) (units_keys units) (subst (λ (y : DwUnit K). In k (unit_keys y)) (sym e) is)
 keys_within (w ∷ units) u (inr r) k is = in_right k (unit_keys w) (units_keys units) (keys_within units u r k is)
 
-module _ {K : Type 0} (same : K → K → Bool) (is : IsSame same) (from : Sources → Type 0) (texts : List (List ℕ)) (common : Bool) (t : Tells K) (units : List (DwUnit K)) (all : t.all ≡ all_entry_keys units) (once : NoneTwice (units_keys units))
-    (carried : Each (CarriedUnit from) units) (closed : ClosedIn t units) (apart : ApartIn t units) (stand : TextsStand common from texts t units) where
+module _ {K : Type 0} (f : Forms K) (is : IsSame f.same) (from : Sources → Type 0) (t : Tells K) (units : List (DwUnit K)) (all : t.all ≡ all_entry_keys units) (once : NoneTwice (units_keys units))
+    (carried : Each (λ u. CarriedUnit from (f.origin u.at) u) units) (closed : ClosedIn t units) (apart : ApartIn t units) (stand : SectionsStand f.is_common from f t units) (bases : Each (BasesStand f) units) where
   abbrev file : FileFit K
-  file = record { same = same; keys = units_keys units; is_common = common; texts = texts }
+  file = with_keys f (units_keys units)
 
   one_good : (u : DwUnit K) → In u units → SoundUnit (fit_unit file u) × UnitSays t (fit_unit file u)
   one_good u there =
       let within : (k : K) → In k t.all → In k (units_keys units) = λ k k_is. entries_are_keys units k (subst (In k) all k_is) in
       let inside : (k : K) → In k (unit_keys u) → In k (units_keys units) = keys_within units u there in
       let alone : In u.at t.all → ⊥ = λ k_is. unit_apart units u once there (subst (In u.at) all k_is) in
-      let text = holder_common u.kind from texts t units common stand in
       let names : (s : Seen K) → In s (all_seen units) → SeenNames t s = λ s s_is a k attr ref. closed s a k s_is attr ref in
       let root = node_names t u.root u.below (names (see u.root u.below) (in_left (see u.root u.below) (seen_roots units) (seen_below units) (root_in units u there))) in
       let below = entries_name t u.below (λ s i. names s (in_right s (seen_roots units) (seen_below units) (seen_in units u s there i))) in
-      unit_good file is from t u within apart inside alone text (each_in (CarriedUnit from) u units carried there) root below (texts_common u from texts t units common there stand)
-      (below_common file is from t u within apart inside alone text units common there stand)
+      let own = each_in (BasesStand f) u units bases there in
+      let texts = texts_for u from f t units f.is_common there stand in
+      let h = holder_of f.is_common u.kind in
+      unit_good file is from t (small_strs from f t units f.is_common stand) u within apart inside alone (sections_common u.kind from f (unit_fit file u) t units f.is_common refl refl stand) own.own
+      (each_in (λ v. CarriedUnit from (f.origin v.at) v) u units carried there) root below
+      (join_attrs (TextFor h f.texts) (FileStands h (bases_in u).line (f.origin u.at).line) _ (λ a p q. (p, q)) u.root.attrs texts.root own.root)
+      (join_entries (TextFor h f.texts) (FileStands h (bases_in u).line (f.origin u.at).line) _ (λ a p q. (p, q)) u.below texts.below own.below)
 
   each_good : (some : List (DwUnit K)) → ((u : DwUnit K) → In u some → In u units) → Each SoundUnit (map (fit_unit file) some) × Each (UnitSays t) (map (fit_unit file) some)
   each_good [] into = (tt, tt)
@@ -175,18 +211,18 @@ module _ {K : Type 0} (same : K → K → Bool) (is : IsSame same) (from : Sourc
       ((one.0, rest.0), (one.1, rest.1))
 
   -- they are sound, and say what was read
-  pub units_good : Each SoundUnit (fit_units same common texts units) × UnitsSay t (fit_units same common texts units)
+  pub units_good : Each SoundUnit (fit_units f units) × UnitsSay t (fit_units f units)
   unfolding fit_units
   units_good = each_good units (λ u there. there)
 
-pub fit_units_names : {K : Type 0} (same : K → K → Bool) (common : Bool) (texts : List (List ℕ)) (units : List (DwUnit K)) → units_keys (fit_units same common texts units) ≡ units_keys units
+pub fit_units_names : {K : Type 0} (f : Forms K) (units : List (DwUnit K)) → units_keys (fit_units f units) ≡ units_keys units
 unfolding fit_units
-fit_units_names same common texts units = fit_units_keys (record { same = same; keys = units_keys units; is_common = common; texts = texts }) units
+fit_units_names f units = fit_units_keys (with_keys f (units_keys units)) units
 
-pub fit_units_fixed : {K : Type 0} (same : K → K → Bool) (common : Bool) (texts : List (List ℕ)) (units : List (DwUnit K)) → Each FixedUnit (fit_units same common texts units)
+pub fit_units_fixed : {K : Type 0} (f : Forms K) (units : List (DwUnit K)) → Each FixedUnit (fit_units f units)
 unfolding fit_units
-fit_units_fixed same common texts units = each_fixed (record { same = same; keys = units_keys units; is_common = common; texts = texts }) units
+fit_units_fixed f units = each_fixed (with_keys f (units_keys units)) units
 
-pub fit_units_all : {K : Type 0} (same : K → K → Bool) (common : Bool) (texts : List (List ℕ)) (units : List (DwUnit K)) → all_entry_keys (fit_units same common texts units) ≡ all_entry_keys units
+pub fit_units_all : {K : Type 0} (f : Forms K) (units : List (DwUnit K)) → all_entry_keys (fit_units f units) ≡ all_entry_keys units
 unfolding fit_units
-fit_units_all same common texts units = fit_all_keys (record { same = same; keys = units_keys units; is_common = common; texts = texts }) units
+fit_units_all f units = fit_all_keys (with_keys f (units_keys units)) units

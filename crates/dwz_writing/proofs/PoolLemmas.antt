@@ -11,7 +11,7 @@ use Rattle.dwz_docs.specs.Trees.{End, Entry}
 use Rattle.dwz_docs.specs.Values.{AreBytes}
 use Rattle.dwz_alike.specs.Spots.{same_numbers}
 use Rattle.dwz_seen.specs.Lists.{Each}
-use Rattle.dwz_writing.specs.Carried.{AttrTexts, EntriesTexts, TextAs, UnitTexts}
+use Rattle.dwz_writing.specs.Carried.{AttrTexts, EachAttr, TextAs, UnitTexts}
 use Rattle.dwz_writing.specs.Placing.{add_unless, attrs_texts, entries_texts, has_text, text_as, text_place, texts_bytes, texts_of, with_text}
 use Rattle.dwz_writing.specs.Writing.{text_in}
 use Rattle.dwz_alike.proofs.SpotLemmas.{numbers_same, numbers_true}
@@ -103,19 +103,21 @@ module _ {K : Type 0} where
   more_as : (c : Class) (few many : List (List ℕ)) (a : Attr K) → Among few many → TextAs c few a → TextAs c many a
   more_as OfTextInStr few many a more is = more (text_in a.value.plain) is
   more_as OfTextInLineStr few many a more is = more (text_in a.value.plain) is
+  more_as OfTextBySlot few many a more is = more (text_in a.value.plain) is
   more_as _ few many a more is = tt
 
   more_attrs : (few many : List (List ℕ)) (attrs : List (Attr K)) → Among few many → Each (AttrTexts few) attrs → Each (AttrTexts many) attrs
   more_attrs few many [] more is = tt
   more_attrs few many (a ∷ attrs) more is = (more_as (class_of a.form) few many a more is.0, more_attrs few many attrs more is.1)
 
-  more_entries : (few many : List (List ℕ)) (g : Entries K) → Among few many → EntriesTexts few g → EntriesTexts many g
+  more_entries : (few many : List (List ℕ)) (g : Entries K) → Among few many → EachAttr (AttrTexts few) g → EachAttr (AttrTexts many) g
   more_entries few many End more is = tt
   more_entries few many (Entry e children next) more is = (more_attrs few many e.attrs more is.0, more_entries few many children more is.1, more_entries few many next more is.2)
 
   has_attr : (c : Class) (texts : List (List ℕ)) (a : Attr K) → TextAs c (text_as c texts a) a
   has_attr OfTextInStr texts a = has_added texts (text_in a.value.plain)
   has_attr OfTextInLineStr texts a = has_added texts (text_in a.value.plain)
+  has_attr OfTextBySlot texts a = has_added texts (text_in a.value.plain)
   has_attr _ texts a = tt
 
   has_attrs : (texts : List (List ℕ)) (attrs : List (Attr K)) → Each (AttrTexts (attrs_texts texts attrs)) attrs
@@ -125,7 +127,7 @@ module _ {K : Type 0} where
       let more = text_as (class_of a.form) texts a in
       (more_as (class_of a.form) more (attrs_texts more attrs) a (keeps_attrs more attrs) (has_attr (class_of a.form) texts a), has_attrs more attrs)
 
-  has_entries : (texts : List (List ℕ)) (g : Entries K) → EntriesTexts (entries_texts texts g) g
+  has_entries : (texts : List (List ℕ)) (g : Entries K) → EachAttr (AttrTexts (entries_texts texts g)) g
   unfolding entries_texts
   has_entries texts End = tt
   has_entries texts (Entry e children next) =

@@ -1,18 +1,19 @@
 -- What is read of a file is carried: its attributes are stored there, and mean what was read.
-use Rattle.std.proofs.Common.{◌≡◌, ◌≢◌, ℕ, zero, suc, ◌+◌, ◌<◌, ◌≤◌, ◌^◌, Bool, true, false, List, [], ◌∷◌, ◌++◌, length, take, drop, map, Some, refl, sym, ap, subst, ◌∙◌, arith, cond, eqb}
+use Rattle.std.proofs.Common.{◌≡◌, ◌≢◌, ℕ, ℤ, zero, suc, ◌+◌, ◌<◌, ◌≤◌, ◌^◌, Bool, true, false, List, [], ◌∷◌, ◌++◌, length, take, drop, map, Option, Some, None, refl, sym, ap, subst, ◌∙◌, arith, cond, eqb, eqb-true}
 use Rattle.std.proofs.lemmas.Bool.{eqb-false}
 use Rattle.std.proofs.Math.Logic.{inl}
 use Rattle.std.proofs.lemmas.List.{length-drop, length-take, map-append}
 use Rattle.dwz_model.specs.declared.place.Pair.{Pair}
-use Rattle.dwz_bytes.specs.Spelling.{le_value}
+use Rattle.dwz_bytes.specs.Spelling.{le_value, reach}
 use Rattle.std.specs.Prelude.{◌==◌}
 use Rattle.dwz_codes.specs.Forms.{form_rows}
 use Rattle.dwz_codes.specs.Rows.{RowView}
 use Rattle.dwz_docs.specs.Abbrevs.{Declaration, EndsPairs, EndsTable, IsDeclared, IsPair, SpellsDeclaration, SpellsPair, SpellsTable, find_decl}
-use Rattle.dwz_meanings.specs.Documents.{Attr, DwUnit, Entries, Kind, Node, attr_map}
+use Rattle.dwz_meanings.specs.Documents.{Attr, DwUnit, Entries, Kind, Node, attr_map, first_named}
 use Rattle.dwz_docs.specs.Entries.{Mode, RawAttr, RawEntry, SpellsAttrs, SpellsEntry, SpellsFront, UnitContext, own_forms}
 use Rattle.dwz_docs.specs.Lists.{SpellsItems}
-use Rattle.dwz_meanings.specs.Meanings.{Around, MeanAttrs, MeanEntries, MeanUnits, MeansKind, MeansNode, MeansUnit, Scope, Sources, places_in, scope_of, without_siblings}
+use Rattle.dwz_meanings.specs.Meanings.{Around, MeanAttrs, MeanEntries, MeanUnits, MeansAttr, MeansKind, MeansNode, MeansUnit, Scope, Sources, base_in, first_raw, number_of, places_in, scope_of, without_siblings}
+use Rattle.dwz_writing.specs.Bases.{Bases, bases_in, bases_of, offset_in}
 use Rattle.dwz_docs.specs.Trees.{End, Entry, Forest, IfChildren, Position, SpellsForest}
 use Rattle.dwz_docs.specs.Units.{CompileUnit, PartialUnit, RawKind, RawUnit, SpellsUnit, SpellsUnits, TypeUnit, header_size, kind_by, root_tag}
 use Rattle.dwz_docs.specs.Values.{AreBytes, SpellsValue}
@@ -97,20 +98,56 @@ map_same (p ∷ ps) = ap (λ (w : List ℕ). p ∷ w) (map_same ps)
 attr_same : (b : Attr ℕ) → b ≡ attr_map (λ p. p) b
 attr_same b = ap (λ (w : List ℕ). record { name = b.name; form = b.form; raw = b.raw; value = record { plain = b.value.plain; refs = w } }) (map_same b.value.refs)
 
-module _ (from : Sources → Type 0) (s : Scope ℕ) (same : from s.around.sources) where
-  attrs_carried : (raw : List RawAttr) (attrs : List (Attr ℕ)) → MeanAttrs s raw attrs → Each IsStored raw → Each BuiltAttr attrs → Each (CarriedAttr from) attrs
+module _ (from : Sources → Type 0) (origin : Bases) (s : Scope ℕ) (same : from s.around.sources) (unit : bases_of s ≡ origin) where
+  attrs_carried : (raw : List RawAttr) (attrs : List (Attr ℕ)) → MeanAttrs s raw attrs → Each IsStored raw → Each BuiltAttr attrs → Each (CarriedAttr from origin) attrs
   attrs_carried [] [] means stored built = tt
   attrs_carried [] (b ∷ attrs) means stored built = absurd means
   attrs_carried (a ∷ raw) [] means stored built = absurd means
   attrs_carried (a ∷ raw) (b ∷ attrs) means stored built = (
-    inl (record { was_read = record { scope = s; old = a; read = b; means = means.0; name = λ p. p; same = attr_same b }; file = same; stored = stored.0; built = built.0 }),
+    inl (record { was_read = record { scope = s; old = a; read = b; means = means.0; name = λ p. p; same = attr_same b }; file = same; unit = unit; stored = stored.0; built = built.0 }),
     attrs_carried raw attrs means.1 stored.1 built.1,
   )
 
+-- ---- what a root says
+
+-- the first attribute of another name than DW_AT_sibling
+first_stays : (name : ℕ) (attrs : List RawAttr) → eqb 0x01 name ≡ false → first_raw name (without_siblings attrs) ≡ first_raw name attrs
+unfolding first_raw without_siblings
+first_stays name [] other = refl
+first_stays name (a ∷ attrs) other = by (first_stays name attrs other) (eqb a.pair.name 0x01) refl where
+  by : first_raw name (without_siblings attrs) ≡ first_raw name attrs → (b : Bool) → eqb a.pair.name 0x01 ≡ b → first_raw name (cond b (without_siblings attrs) (a ∷ without_siblings attrs)) ≡ cond (eqb a.pair.name name) (Some a) (first_raw name attrs)
+  by rest true e =
+      let not : eqb a.pair.name name ≡ false = ap (λ (n : ℕ). eqb n name) (eqb-true a.pair.name 0x01 e) ∙ other in
+      rest ∙ ap (λ (b : Bool). cond b (Some a) (first_raw name attrs)) (sym not)
+  by rest false e = ap (λ (o : Option RawAttr). cond (eqb a.pair.name name) (Some a) o) rest
+
+offset_read : (s : Scope ℕ) (a : RawAttr) (b : Attr ℕ) → MeansAttr s a b → base_in (Some a) ≡ offset_in (Some b)
+offset_read s a b means =
+    ap (λ (n : ℕ). cond (eqb n 0x17) (Some (reach (number_of a.raw))) None) (sym means.form) ∙ ap (λ (z : ℤ). cond (eqb b.form 0x17) (Some (reach z)) None) (sym means.raw)
+
+base_read : (s : Scope ℕ) (name : ℕ) (raw : List RawAttr) (attrs : List (Attr ℕ)) → MeanAttrs s raw attrs → base_in (first_raw name raw) ≡ offset_in (first_named name attrs)
+unfolding first_raw first_named
+base_read s name [] [] means = refl
+base_read s name [] (b ∷ attrs) means = absurd means
+base_read s name (a ∷ raw) [] means = absurd means
+base_read s name (a ∷ raw) (b ∷ attrs) means = by (base_read s name raw attrs means.1) (eqb b.name name) refl where
+  by : base_in (first_raw name raw) ≡ offset_in (first_named name attrs) → (t : Bool) → eqb b.name name ≡ t → base_in (cond (eqb a.pair.name name) (Some a) (first_raw name raw)) ≡ offset_in (cond t (Some b) (first_named name attrs))
+  by rest true e = (let same : eqb a.pair.name name ≡ true = ap (λ (n : ℕ). eqb n name) (sym means.0.name) ∙ e in ap (λ (t : Bool). base_in (cond t (Some a) (first_raw name raw))) same ∙ offset_read s a b means.0)
+  by rest false e = (let same : eqb a.pair.name name ≡ false = ap (λ (n : ℕ). eqb n name) (sym means.0.name) ∙ e in ap (λ (t : Bool). base_in (cond t (Some a) (first_raw name raw))) same ∙ rest)
+
+two_bases : (a b c d : Option ℕ) → a ≡ b → c ≡ d → (let x : Bases = record { slots = a; line = c } in let y : Bases = record { slots = b; line = d } in x ≡ y)
+two_bases a b c d p q = ap (λ (o : Option ℕ). record { slots = o; line = c }) p ∙ ap (λ (o : Option ℕ). record { slots = b; line = o }) q
+
+bases_read : (s : Scope ℕ) (attrs : List (Attr ℕ)) → MeanAttrs s (without_siblings s.root.attrs) attrs
+    → (let y : Bases = record { slots = offset_in (first_named 0x72 attrs); line = offset_in (first_named 0x10 attrs) } in bases_of s ≡ y)
+bases_read s attrs means = two_bases _ _ _ _
+    (ap base_in (sym (first_stays 0x72 s.root.attrs refl)) ∙ base_read s 0x72 (without_siblings s.root.attrs) attrs means)
+    (ap base_in (sym (first_stays 0x10 s.root.attrs refl)) ∙ base_read s 0x10 (without_siblings s.root.attrs) attrs means)
+
 -- ---- entries
 
-module _ (from : Sources → Type 0) (s : Scope ℕ) (same : from s.around.sources) (c : UnitContext) (forms : c.mode.forms ≡ own_forms) (table_bytes : List ℕ) (table : SpellsTable table_bytes c.table) where
-  node_carried : (p : Position) (e : RawEntry) (d : Node ℕ) (start : ℕ) (bytes : List ℕ) → SpellsEntry c p e start bytes → MeansNode s e d → AreBytes bytes → Each BuiltAttr d.attrs → CarriedNode from d
+module _ (from : Sources → Type 0) (origin : Bases) (s : Scope ℕ) (same : from s.around.sources) (unit : bases_of s ≡ origin) (c : UnitContext) (forms : c.mode.forms ≡ own_forms) (table_bytes : List ℕ) (table : SpellsTable table_bytes c.table) where
+  node_carried : (p : Position) (e : RawEntry) (d : Node ℕ) (start : ℕ) (bytes : List ℕ) → SpellsEntry c p e start bytes → MeansNode s e d → AreBytes bytes → Each BuiltAttr d.attrs → CarriedNode from origin d
   node_carried p e d start bytes is means are built =
       let parts = is.parts in
       let code = parts.first in
@@ -122,18 +159,18 @@ module _ (from : Sources → Type 0) (s : Scope ℕ) (same : from s.around.sourc
       record {
         some_tag = subst (λ (t : ℕ). 0 < t) (sym tag) decl.some_tag;
         tag_fits = subst (λ (t : ℕ). t ≤ 0xffff) (sym tag) decl.tag_fits;
-        attrs = attrs_carried from s same (without_siblings e.attrs) d.attrs means.attrs (are_stored e.attrs held) built;
+        attrs = attrs_carried from origin s same unit (without_siblings e.attrs) d.attrs means.attrs (are_stored e.attrs held) built;
       }
 
-  none_carried : (g : Entries ℕ) → MeanEntries s End g → CarriedEntries from g
+  none_carried : (g : Entries ℕ) → MeanEntries s End g → CarriedEntries from origin g
   none_carried End m = tt
   none_carried (Entry d h k) m = absurd m
 
-  if_carried : (flag : Bool) (f : Forest RawEntry) (g : Entries ℕ) (b : List ℕ) (Spelled : Type 0) → IfChildren flag f Spelled b → (Spelled → CarriedEntries from g) → MeanEntries s f g → CarriedEntries from g
+  if_carried : (flag : Bool) (f : Forest RawEntry) (g : Entries ℕ) (b : List ℕ) (Spelled : Type 0) → IfChildren flag f Spelled b → (Spelled → CarriedEntries from origin g) → MeanEntries s f g → CarriedEntries from origin g
   if_carried true f g b Spelled is deep means = deep is
   if_carried false f g b Spelled is deep means = none_carried g (subst (λ (x : Forest RawEntry). MeanEntries s x g) is.0 means)
 
-  entries_carried : (f : Forest RawEntry) (g : Entries ℕ) (p : Position) (start : ℕ) (bytes : List ℕ) → SpellsForest (λ e. e.children) (SpellsFront c) f p start bytes → MeanEntries s f g → AreBytes bytes → BuiltEntries g → CarriedEntries from g
+  entries_carried : (f : Forest RawEntry) (g : Entries ℕ) (p : Position) (start : ℕ) (bytes : List ℕ) → SpellsForest (λ e. e.children) (SpellsFront c) f p start bytes → MeanEntries s f g → AreBytes bytes → BuiltEntries g → CarriedEntries from origin g
   entries_carried End End p start bytes is means are built = tt
   entries_carried End (Entry d below others) p start bytes is means are built = absurd means
   entries_carried (Entry e children next) End p start bytes is means are built = absurd means
@@ -186,7 +223,7 @@ kind_says s PartialUnit m means = subst (KindSays (map s.around.place s.own)) (s
 kind_says s (TypeUnit signature offset) m means = subst (KindSays (map s.around.place s.own)) (sym means.1) (in_map s.around.place (s.unit + offset) s.own means.0)
 
 module _ (abbrevs : List ℕ) (mode : Mode) (forms : mode.forms ≡ own_forms) (from : Sources → Type 0) (around : Around ℕ) (same : from around.sources) where
-  unit_carried : (u : RawUnit) (v : DwUnit ℕ) (before start : ℕ) (bytes : List ℕ) → SpellsUnit abbrevs mode before u start bytes → MeansUnit around u v → AreBytes bytes → BuiltUnit v → CarriedUnit from v
+  unit_carried : (u : RawUnit) (v : DwUnit ℕ) (before start : ℕ) (bytes : List ℕ) → SpellsUnit abbrevs mode before u start bytes → MeansUnit around u v → AreBytes bytes → BuiltUnit v → CarriedUnit from (bases_in v) v
   unit_carried u v before start bytes is means are built =
       let s = scope_of around u in
       let c = is.context in
@@ -202,15 +239,16 @@ module _ (abbrevs : List ℕ) (mode : Mode) (forms : mode.forms ≡ own_forms) (
       let tag : v.root.tag ≡ root_tag u.kind = means.root.tag ∙ first.tag ∙ first.stands.root refl ∙ at.same_root in
       let fits : (signature offset : ℕ) → u.kind ≡ TypeUnit signature offset → signature < 2 ^ 64 = λ signature offset e.
       signature_fits signature offset _ _ is.header head (h.size ∙ ap header_size e) (sym e ∙ h.of_kind) in
+      let unit : bases_of s ≡ bases_in v = bases_read s v.root.attrs means.root.attrs in
       let own : map s.around.place s.own ≡ entry_keys v = ap (λ (n : ℕ). n ∷ map s.around.place (places_in u.below)) (sym means.root.place) ∙ ap (λ (w : List ℕ). v.root.at ∷ w) (sym (keys_read s u.below v.below means.below)) in
       record {
         kind = kind_sound s u.kind v.kind v.root.tag means.kind tag fits;
         main = subst (λ (w : List ℕ). KindSays w v.kind) own (kind_says s u.kind v.kind means.kind);
-        root = node_carried from s same c same_forms at.stands.front at.stands.spelled _ u.root v.root _ t.first_bytes first means.root (front_bytes t.first_bytes t.second_bytes in_tree) built.0;
-        below = if_carried from s same c same_forms at.stands.front at.stands.spelled u.root.children u.below v.below t.second_bytes _ t.second (λ q. entries_carried from s same c same_forms at.stands.front at.stands.spelled u.below v.below _ _ t.second_bytes q means.below (back_bytes t.first_bytes t.second_bytes in_tree) built.1) means.below;
+        root = node_carried from (bases_in v) s same unit c same_forms at.stands.front at.stands.spelled _ u.root v.root _ t.first_bytes first means.root (front_bytes t.first_bytes t.second_bytes in_tree) built.0;
+        below = if_carried from (bases_in v) s same unit c same_forms at.stands.front at.stands.spelled u.root.children u.below v.below t.second_bytes _ t.second (λ q. entries_carried from (bases_in v) s same unit c same_forms at.stands.front at.stands.spelled u.below v.below _ _ t.second_bytes q means.below (back_bytes t.first_bytes t.second_bytes in_tree) built.1) means.below;
       }
 
-  pub units_carried : (raw : List RawUnit) (units : List (DwUnit ℕ)) (before start : ℕ) (bytes : List ℕ) → SpellsUnits abbrevs mode before raw start bytes → MeanUnits around raw units → AreBytes bytes → Each BuiltUnit units → Each (CarriedUnit from) units
+  pub units_carried : (raw : List RawUnit) (units : List (DwUnit ℕ)) (before start : ℕ) (bytes : List ℕ) → SpellsUnits abbrevs mode before raw start bytes → MeanUnits around raw units → AreBytes bytes → Each BuiltUnit units → Each (λ v. CarriedUnit from (bases_in v) v) units
   units_carried [] [] before start bytes is means are built = tt
   units_carried [] (v ∷ units) before start bytes is means are built = absurd means
   units_carried (u ∷ raw) [] before start bytes is means are built = absurd means

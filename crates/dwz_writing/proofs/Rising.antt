@@ -8,7 +8,7 @@ use Rattle.dwz_meanings.specs.Meanings.{Class, OfCommonEntry, OfInfoEntry, OfUni
 use Rattle.dwz_docs.specs.Trees.{End, Entry}
 use Rattle.dwz_seen.specs.Lists.{Each}
 use Rattle.dwz_writing.specs.Fitting.{AttrFits, EntriesFit, FitsAs, FitsInfo, FitsUnit, KindFits, UnitFits}
-use Rattle.dwz_writing.specs.Meant.{AttrSays, EntriesSay, KindSays, SaysAs, Tells, UnitSays, UnitsSay, all_entry_keys, entry_keys}
+use Rattle.dwz_writing.specs.Meant.{AttrSays, EntriesSay, KindSays, Own, SaysAs, Tells, UnitSays, UnitsSay, all_entry_keys, entry_keys, own_of}
 use Rattle.dwz_writing.specs.Placing.{Stands, UnitStands, UnitsStand}
 use Rattle.dwz_seen.specs.Shown.{keys, unit_keys, units_keys}
 use Rattle.dwz_writing.specs.Writing.{Numbering, Shape, header_size, if_any, node_bytes, spelled, table_of, tree_bytes, unit_size}
@@ -116,9 +116,9 @@ entries_are_keys (u ∷ units) k is = elim (in_cases k (entry_keys u) (all_entry
 
 -- ---- what names entries fits
 
-module _ {K : Type 0} (n : Numbering K) (unit : ℕ) (t : Tells K) (own : List K) (inside : (k : K) → In k own → FitsUnit n unit k) (small : (k : K) → In k t.all → FitsInfo n k) (common : (k : K) → In k t.common → FitsInfo n k) where
+module _ {K : Type 0} (n : Numbering K) (unit : ℕ) (t : Tells K) (own : Own K) (inside : (k : K) → In k own.keys → FitsUnit n unit k) (small : (k : K) → In k t.all → FitsInfo n k) (common : (k : K) → In k t.common → FitsInfo n k) where
   as_fits : (c : Class) (a : Attr K) → SaysAs c t own a → FitsAs c n unit a
-  as_fits OfUnitEntry a says = each_more (λ k. In k own) (FitsUnit n unit) a.value.refs inside says
+  as_fits OfUnitEntry a says = each_more (λ k. In k own.keys) (FitsUnit n unit) a.value.refs inside says
   as_fits OfInfoEntry a says = each_more (λ k. In k t.all) (FitsInfo n) a.value.refs small says
   as_fits OfCommonEntry a says = each_more (λ k. In k t.common) (FitsInfo n) a.value.refs common says
   as_fits _ a says = tt
@@ -131,7 +131,7 @@ module _ {K : Type 0} (n : Numbering K) (unit : ℕ) (t : Tells K) (own : List K
   entries_fit End says = tt
   entries_fit (Entry e children next) says = (node_fits e.attrs says.0, entries_fit children says.1, entries_fit next says.2)
 
-  kind_fits : (kind : Kind K) → KindSays own kind → KindFits n unit kind
+  kind_fits : (kind : Kind K) → KindSays own.keys kind → KindFits n unit kind
   kind_fits Compile says = tt
   kind_fits (OfType signature main) says = inside main says
   kind_fits Partial says = tt
@@ -146,9 +146,9 @@ module _ {K : Type 0} (n : Numbering K) (t : Tells K) (small : (k : K) → In k 
       let to = rises_to n (unit_keys u) at (at + unit_size n at u) k rises (entry_is_key u k is) in
       (omega (arith, stands.unit, from), omega (arith, stands.unit, to, lt))) in
       record {
-        kind = kind_fits n unit t (entry_keys u) inside small common u.kind says.kind;
-        root = node_fits n unit t (entry_keys u) inside small common u.root.attrs says.root;
-        below = entries_fit n unit t (entry_keys u) inside small common u.below says.below;
+        kind = kind_fits n unit t (own_of u) inside small common u.kind says.kind;
+        root = node_fits n unit t (own_of u) inside small common u.root.attrs says.root;
+        below = entries_fit n unit t (own_of u) inside small common u.below says.below;
       }
 
   each_fits : (units : List (DwUnit K)) (at : ℕ) → UnitsStand n units at → units_size n units < 2 ^ 32 → UnitsSay t units → Each (UnitFits n) units

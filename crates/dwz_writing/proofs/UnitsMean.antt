@@ -1,19 +1,21 @@
 -- The units that are written, as they are stored, mean the same units with places for keys.
-use Rattle.std.proofs.Common.{◌≡◌, ℕ, ◌+◌, ◌-◌, Bool, false, List, [], ◌∷◌, ◌++◌, length, map, refl, sym, ap, subst, ◌∙◌, arith, cond, eqb, ne_eqb}
+use Rattle.std.proofs.Common.{◌≡◌, ℕ, ◌+◌, ◌-◌, Bool, true, false, List, [], ◌∷◌, ◌++◌, length, map, Some, None, refl, sym, ap, subst, ◌∙◌, arith, cond, eqb, eqb-true, ne_eqb}
 use Rattle.std.proofs.Math.Logic.{inl, inr}
 use Rattle.std.proofs.lemmas.List.{map-append}
-use Rattle.dwz_meanings.specs.Documents.{Attr, Compile, DwUnit, Entries, Kind, Node, OfType, Partial, kind_map}
+use Rattle.dwz_meanings.specs.Documents.{Attr, Compile, DwUnit, Entries, Kind, Node, OfType, Partial, first_named, kind_map}
 use Rattle.dwz_docs.specs.Entries.{RawAttr}
 use Rattle.dwz_docs.specs.Lists.{In}
-use Rattle.dwz_meanings.specs.Meanings.{Around, MeanAttrs, MeanEntries, MeanUnits, MeansAttr, MeansKind, MeansNode, MeansUnit, Scope, all_places, class_of, places_in, places_of, scope_of, without_siblings}
+use Rattle.dwz_meanings.specs.Meanings.{Around, Class, MeanAttrs, MeanEntries, MeanUnits, MeansAttr, MeansKind, MeansNode, MeansUnit, OfOffset, Scope, all_places, base_in, class_in, class_of, class_rows, first_raw, number_of, places_in, places_of, scope_of, without_siblings}
+use Rattle.dwz_bytes.specs.Spelling.{reach}
+use Rattle.dwz_writing.specs.Bases.{offset_in}
 use Rattle.dwz_docs.specs.Trees.{End, Entry}
 use Rattle.dwz_docs.specs.Values.{value_bytes}
 use Rattle.dwz_seen.specs.Lists.{Each}
 use Rattle.dwz_writing.specs.Fitting.{AttrFits, EntriesFit, KindFits, NodeFits, UnitFits}
-use Rattle.dwz_writing.specs.Meant.{AttrSays, EntriesSay, IsAround, KindSays, NodeSays, Tells, UnitSays, UnitsSay, all_entry_keys, entry_keys, placed_attr, placed_entries, placed_node, placed_unit, placed_units}
+use Rattle.dwz_writing.specs.Meant.{AttrSays, EntriesSay, IsAround, KindSays, NodeSays, Own, Tells, own_of, UnitSays, UnitsSay, all_entry_keys, entry_keys, placed_attr, placed_entries, placed_node, placed_unit, placed_units}
 use Rattle.dwz_seen.specs.Shown.{keys, unit_keys, units_keys}
 use Rattle.dwz_writing.specs.Sound.{SoundAttr, SoundEntries, SoundNode, SoundUnit}
-use Rattle.dwz_writing.specs.Writing.{Numbering, Shape, pair_of, stored, table_of}
+use Rattle.dwz_writing.specs.Writing.{Numbering, Shape, pair_of, stored, stored_as, table_of}
 use Rattle.dwz_writing.proofs.RawUnits.{raw_attrs, raw_entries, raw_entry, raw_kind, raw_unit, raw_units}
 use Rattle.dwz_writing.proofs.ValuesMean.{IsScope, as_means}
 use Rattle.dwz_seen.proofs.Members.{in_left, in_map, in_right}
@@ -30,7 +32,7 @@ all_stay n unit (a ∷ attrs) at sound =
     let others = raw_attrs n unit (at + length (value_bytes a.form (stored n unit a))) attrs in
     ap (λ (b : Bool). cond b (without_siblings others) (here ∷ without_siblings others)) test ∙ ap (λ (w : List RawAttr). here ∷ w) (all_stay n unit attrs _ sound.1)
 
-module _ {K P : Type 0} (n : Numbering K) (g : K → P) (unit : ℕ) (t : Tells K) (own : List K) (s : Scope P) (is : IsScope n g unit t own s) where
+module _ {K P : Type 0} (n : Numbering K) (g : K → P) (unit : ℕ) (t : Tells K) (own : Own K) (s : Scope P) (is : IsScope n g unit t own s) where
   attr_means : (a : Attr K) (at end : ℕ) → SoundAttr a → AttrFits n unit a → AttrSays t own a → MeansAttr s (record { at = at; end = end; pair = pair_of a; raw = stored n unit a }) (placed_attr n g unit a)
   attr_means a at end sound fits says = record { name = refl; form = refl; raw = refl; value = as_means n g unit t own s is (class_of a.form) a at end refl sound.built sound.value fits says }
 
@@ -46,7 +48,7 @@ module _ {K P : Type 0} (n : Numbering K) (g : K → P) (unit : ℕ) (t : Tells 
     attrs = subst (λ (w : List RawAttr). MeanAttrs s w (map (placed_attr n g unit) e.attrs)) (sym (all_stay n unit e.attrs _ sound.attrs)) (attrs_mean e.attrs _ sound.attrs fits says);
   }
 
-  entries_mean : (table : List Shape) (f : Entries K) → ((k : K) → In k (keys f) → In k own) → SoundEntries f → EntriesFit n unit f → EntriesSay t own f → MeanEntries s (raw_entries n unit table f) (placed_entries n g unit f)
+  entries_mean : (table : List Shape) (f : Entries K) → ((k : K) → In k (keys f) → In k own.keys) → SoundEntries f → EntriesFit n unit f → EntriesSay t own f → MeanEntries s (raw_entries n unit table f) (placed_entries n g unit f)
   unfolding raw_entries placed_entries keys
   entries_mean table End inside sound fits says = tt
   entries_mean table (Entry e children next) inside sound fits says = (
@@ -55,13 +57,37 @@ module _ {K P : Type 0} (n : Numbering K) (g : K → P) (unit : ℕ) (t : Tells 
     entries_mean table next (λ k there. inside k (inr (in_right k (keys children) (keys next) there))) sound.2 fits.2 says.2,
   )
 
-  kind_means : (kind : Kind K) → KindFits n unit kind → KindSays own kind → MeansKind s (raw_kind n unit kind) (kind_map g kind)
+  kind_means : (kind : Kind K) → KindFits n unit kind → KindSays own.keys kind → MeansKind s (raw_kind n unit kind) (kind_map g kind)
   kind_means Compile fits says = refl
   kind_means Partial fits says = refl
   kind_means (OfType signature main) fits says =
       let place : n.place main ≡ s.unit + (n.place main - unit) = omega (arith, is.unit, fits.0) in
-      let among : In (n.place main) s.own = subst (In (n.place main)) (sym is.own_are) (in_map n.place main own says) in
+      let among : In (n.place main) s.own = subst (In (n.place main)) (sym is.own_are) (in_map n.place main own.keys says) in
       (subst (λ (p : ℕ). In p s.own) place among, ap (λ (p : P). OfType signature p) (sym (is.place_own main says)) ∙ ap (λ (p : ℕ). OfType signature (s.around.place p)) place)
+
+-- ---- what a root says
+
+offset_class : class_of 0x17 ≡ OfOffset
+unfolding class_rows class_in
+offset_class = refl
+
+-- an offset that is stored is the one that the attribute has
+offset_raw : {K : Type 0} (n : Numbering K) (unit : ℕ) (a : Attr K) (at end : ℕ) → base_in (Some (record { at = at; end = end; pair = pair_of a; raw = stored n unit a })) ≡ offset_in (Some a)
+offset_raw n unit a at end = by (eqb a.form 0x17) refl where
+  by : (b : Bool) → eqb a.form 0x17 ≡ b → cond b (Some (reach (number_of (stored n unit a)))) None ≡ cond b (Some (reach a.raw)) None
+  by true e = (let same : class_of a.form ≡ OfOffset = ap class_of (eqb-true a.form 0x17 e) ∙ offset_class in ap (λ (c : Class). Some (reach (number_of (stored_as c n unit a)))) same)
+  by false e = refl
+
+base_raw : {K : Type 0} (n : Numbering K) (unit name : ℕ) (attrs : List (Attr K)) (at : ℕ) → base_in (first_raw name (raw_attrs n unit at attrs)) ≡ offset_in (first_named name attrs)
+unfolding raw_attrs first_raw first_named
+base_raw n unit name [] at = refl
+base_raw {K} n unit name (a ∷ attrs) at =
+    by (record { at = at; end = at + length (value_bytes a.form (stored n unit a)); pair = pair_of a; raw = stored n unit a }) (raw_attrs n unit (at + length (value_bytes a.form (stored n unit a))) attrs)
+    (offset_raw n unit a at (at + length (value_bytes a.form (stored n unit a)))) (base_raw n unit name attrs (at + length (value_bytes a.form (stored n unit a)))) (eqb a.name name) where
+      by : (here : RawAttr) (others : List RawAttr) → base_in (Some here) ≡ offset_in (Some a) → base_in (first_raw name others) ≡ offset_in (first_named name attrs)
+          → (b : Bool) → base_in (cond b (Some here) (first_raw name others)) ≡ offset_in (cond b (Some a) (first_named name attrs))
+      by here others this rest true = this
+      by here others this rest false = rest
 
 -- ---- places
 
@@ -91,9 +117,13 @@ module _ {K P : Type 0} (n : Numbering K) (g : K → P) (tables : List (List ℕ
       let unit = n.place u.at in
       let s = scope_of around (raw_unit n tables u) in
       let own : (k : K) → In k (entry_keys u) → around.place (n.place k) ≡ g k = λ k there. is.place k (inside k (inr there)) in
-      let scope : IsScope n g unit t (entry_keys u) s = record {
+      let scope : IsScope n g unit t (own_of u) s = record {
         strs = is.strs;
         line_strs = is.line_strs;
+        offsets = is.offsets;
+        line = is.line;
+        slots = base_raw n unit 0x72 u.root.attrs _;
+        table = base_raw n unit 0x10 u.root.attrs _;
         unit = refl;
         own_are = own_raw n tables u;
         all_are = is.all;
@@ -103,9 +133,9 @@ module _ {K P : Type 0} (n : Numbering K) (g : K → P) (tables : List (List ℕ
       } in
       record {
         place = sym (is.place u.at (inside u.at (inl refl)));
-        kind = kind_means n g unit t (entry_keys u) s scope u.kind fits.kind says.kind;
-        root = node_means n g unit t (entry_keys u) s scope (table_of u) u.root u.below (sym (own u.root.at (inl refl))) sound.root fits.root says.root;
-        below = entries_mean n g unit t (entry_keys u) s scope (table_of u) u.below (λ k there. inr there) sound.below fits.below says.below;
+        kind = kind_means n g unit t (own_of u) s scope u.kind fits.kind says.kind;
+        root = node_means n g unit t (own_of u) s scope (table_of u) u.root u.below (sym (own u.root.at (inl refl))) sound.root fits.root says.root;
+        below = entries_mean n g unit t (own_of u) s scope (table_of u) u.below (λ k there. inr there) sound.below fits.below says.below;
       }
 
   pub units_mean : (units : List (DwUnit K)) → ((k : K) → In k (units_keys units) → In k keys) → Each SoundUnit units → Each (UnitFits n) units → UnitsSay t units → MeanUnits around (raw_units n tables units) (placed_units n g units)

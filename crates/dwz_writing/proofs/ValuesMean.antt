@@ -1,14 +1,15 @@
 -- What an attribute stores means its value, form by form.
-use Rattle.std.proofs.Common.{◌≡◌, ℕ, ℤ, ◌+◌, ◌-◌, Bool, true, false, List, [], ◌∷◌, map, Some, sym, ap, subst, ◌∙◌, arith, eqb, ◌||◌, not}
+use Rattle.std.proofs.Common.{◌≡◌, ℕ, ℤ, ◌+◌, ◌-◌, Bool, true, false, List, [], ◌∷◌, map, Option, Some, None, refl, sym, ap, subst, ◌∙◌, arith, eqb, ◌||◌, not}
 use Rattle.dwz_bytes.specs.Spelling.{reach}
 use Rattle.dwz_meanings.specs.Documents.{Addr, Attr, Block, Flag, Index, Num, Plain, Sec, Sig, Text, Value, only, ref, value_map}
 use Rattle.dwz_docs.specs.Entries.{RawAttr}
 use Rattle.dwz_docs.specs.Lists.{In}
-use Rattle.dwz_meanings.specs.Meanings.{Class, Common, IfSo, IsEntryAmong, IsTextIn, MeansAs, OfAddress, OfBlock, OfCommonEntry, OfCommonText, OfConstant, OfExpression, OfFlag, OfIndex, OfInfoEntry, OfListIndex, OfOffset, OfSignature, OfText, OfTextBySlot, OfTextInLineStr, OfTextInStr, OfUnitEntry, Scope, Unread, bytes_of, class_of, kept_width, names_file, names_list, number_of}
-use Rattle.dwz_docs.specs.Texts.{IsTextAt}
+use Rattle.dwz_meanings.specs.Meanings.{Class, Common, IfSo, IsEntryAmong, IsFileBy, IsTextBySlot, IsTextIn, MeansAs, OfAddress, OfBlock, OfCommonEntry, OfCommonText, OfConstant, OfExpression, OfFlag, OfIndex, OfInfoEntry, OfListIndex, OfOffset, OfSignature, OfText, OfTextBySlot, OfTextInLineStr, OfTextInStr, OfUnitEntry, Scope, Unread, bytes_of, class_of, kept_width, names_file, names_list, number_of, stmt_list, str_offsets_base}
+use Rattle.dwz_meanings.specs.LineTables.{IsFileTable}
+use Rattle.dwz_docs.specs.Texts.{IsSlot, IsTextAt}
 use Rattle.dwz_seen.specs.Lists.{Each}
 use Rattle.dwz_writing.specs.Fitting.{FitsAs, FitsUnit}
-use Rattle.dwz_writing.specs.Meant.{SaysAs, Tells, TextSays, WasRead}
+use Rattle.dwz_writing.specs.Meant.{FileSays, Own, SaysAs, SlotSays, Tells, TextSays, WasRead}
 use Rattle.dwz_writing.specs.Sound.{IsBuiltAs, StoresAs}
 use Rattle.dwz_writing.specs.Writing.{Numbering, block_in, first_place, pair_of, stored_as, text_in}
 use Rattle.dwz_seen.proofs.Members.{in_map}
@@ -44,18 +45,26 @@ pub not_so : (b : Bool) (P Q : Type 0) → b ≡ false → IfSo b P Q → Q
 not_so true P Q e h = absurd cc
 not_so false P Q e h = h
 
-so_not : (b : Bool) (P Q : Type 0) → b ≡ false → Q → IfSo b P Q
+pub so_yes : (b : Bool) (P Q : Type 0) → b ≡ true → P → IfSo b P Q
+so_yes true P Q e h = h
+so_yes false P Q e h = absurd cc
+
+pub so_not : (b : Bool) (P Q : Type 0) → b ≡ false → Q → IfSo b P Q
 so_not true P Q e h = absurd cc
 so_not false P Q e h = h
 
 -- the scope of a unit that was written, where its keys have these places
-pub record IsScope {K P : Type 0} (n : Numbering K) (g : K → P) (at : ℕ) (t : Tells K) (own : List K) (s : Scope P) : Type 0 where
+pub record IsScope {K P : Type 0} (n : Numbering K) (g : K → P) (at : ℕ) (t : Tells K) (own : Own K) (s : Scope P) : Type 0 where
   pub strs : s.around.sources.strs ≡ t.strs
   pub line_strs : s.around.sources.line_strs ≡ t.line_strs
+  pub offsets : s.around.sources.offsets ≡ t.offsets
+  pub line : s.around.sources.line ≡ t.line
+  pub slots : str_offsets_base s ≡ own.bases.slots
+  pub table : stmt_list s ≡ own.bases.line
   pub unit : s.unit ≡ at
-  pub own_are : s.own ≡ map n.place own
+  pub own_are : s.own ≡ map n.place own.keys
   pub all_are : s.around.all ≡ map n.place t.all
-  pub place_own : (k : K) → In k own → s.around.place (n.place k) ≡ g k
+  pub place_own : (k : K) → In k own.keys → s.around.place (n.place k) ≡ g k
   pub place_all : (k : K) → In k t.all → s.around.place (n.place k) ≡ g k
   pub common : (k : K) → In k t.common → (c : Common P) × (s.around.common ≡ Some c) × In (n.place k) c.entries × (c.place (n.place k) ≡ g k)
 
@@ -84,7 +93,7 @@ flag_by form z = Flag (eqb form 0x19 || not (eqb (reach z) 0))
 same_flag : (form form' : ℕ) (z z' : ℤ) → form ≡ form' → z ≡ z' → flag_by form z ≡ flag_by form' z'
 same_flag form form' z z' p q = ap (λ (x : ℕ). flag_by x z) p ∙ ap (λ (x : ℤ). flag_by form' x) q
 
-module _ {K P : Type 0} (n : Numbering K) (g : K → P) (unit : ℕ) (t : Tells K) (own : List K) (s : Scope P) (is : IsScope n g unit t own s) where
+module _ {K P : Type 0} (n : Numbering K) (g : K → P) (unit : ℕ) (t : Tells K) (own : Own K) (s : Scope P) (is : IsScope n g unit t own s) where
   -- a text in a section of the sources
   text_means : (section there : List ℕ) (a : Attr K) → there ≡ section → TextSays section a → IsTextIn there (reach a.raw) (value_map g a.value)
   text_means section there a same says = record {
@@ -92,6 +101,34 @@ module _ {K P : Type 0} (n : Numbering K) (g : K → P) (unit : ℕ) (t : Tells 
     stands = subst (λ (w : List ℕ). IsTextAt w (reach a.raw) says.text) (sym same) says.stands;
     value = ap (λ (w : Value K). value_map g w) says.value;
   }
+
+  slot_means : (a : Attr K) → SlotSays t own.bases.slots a → IsTextBySlot s (reach a.raw) (value_map g a.value)
+  slot_means a says = record {
+    base = says.base;
+    is_base = is.slots ∙ says.is_base;
+    offset = says.offset;
+    slot = subst (λ (w : List ℕ). IsSlot w says.base (reach a.raw) says.offset) (sym is.offsets) says.slot;
+    text = record {
+      text = says.text;
+      stands = subst (λ (w : List ℕ). IsTextAt w says.offset says.text) (sym is.strs) says.stands;
+      value = ap (λ (w : Value K). value_map g w) says.value;
+    };
+  }
+
+  -- a file, by the line table of the unit
+  file_means : (a : Attr K) → FileSays t own.bases.line a → IsFileBy (stmt_list s) s a.raw (value_map g a.value)
+  file_means a says = subst (λ (o : Option ℕ). IsFileBy o s a.raw (value_map g a.value)) (sym is.table) (by own.bases.line says) where
+    by : (o : Option ℕ) → FileSays t o a → IsFileBy o s a.raw (value_map g a.value)
+    by None f = (f.0, ap (λ (w : Value K). value_map g w) f.1)
+    by (Some place) f = record {
+      table = f.table;
+      stands = subst (λ (w : List ℕ). IsFileTable (record { strs = w; line_strs = s.around.sources.line_strs }) s.around.sources.line place f.table) (sym is.strs)
+          (subst (λ (w : List ℕ). IsFileTable (record { strs = t.strs; line_strs = w }) s.around.sources.line place f.table) (sym is.line_strs)
+          (subst (λ (w : List ℕ). IsFileTable (record { strs = t.strs; line_strs = t.line_strs }) w place f.table) (sym is.line) f.stands));
+      path = f.path;
+      is_path = f.is_path;
+      value = ap (λ (w : Value K). value_map g w) f.value;
+    }
 
   -- one entry is named, and it is among these
   names : (place : ℕ → P) (a : Attr K) (k : K) (keys : List K) (places : List ℕ) (p : ℕ) → a.value ≡ ref k → In k keys → places ≡ map n.place keys → n.place k ≡ p → place (n.place k) ≡ g k → IsEntryAmong place places p (value_map g a.value)
@@ -106,10 +143,14 @@ module _ {K P : Type 0} (n : Numbering K) (g : K → P) (unit : ℕ) (t : Tells 
       let r = read_of OfBlock a e says in
       let p : Plain = Block (bytes_of r.old.raw) in
       kept g a r.named r.value p r.same r.means ∙ ap (λ (q : Plain). only (Block (block_in q))) (sym (plain_is a r.named r.value p r.same r.means))
-  as_means OfConstant a at end e built stores fits says =
-      let r = read_of OfConstant a e says in
-      let means = not_so (names_file r.old.pair.name) _ _ (ap names_file r.name ∙ built) r.means in
-      so_not (names_file a.name) _ _ built (kept g a r.named r.value _ r.same means ∙ ap (λ (p : Plain). only p) (same_number _ _ _ _ _ _ r.name r.form r.number))
+  as_means OfConstant a at end e built stores fits says = by (names_file a.name) refl says where
+    by : (b : Bool) → names_file a.name ≡ b → IfSo b (FileSays t own.bases.line a) (WasRead a)
+        → IfSo b (IsFileBy (stmt_list s) s a.raw (value_map g a.value)) (value_map g a.value ≡ only (Num (kept_width a.name a.form (reach a.raw)) a.raw))
+    by true names f = file_means a f
+    by false names w =
+        let r = read_of OfConstant a e w in
+        let means = not_so (names_file r.old.pair.name) _ _ (ap names_file r.name ∙ names) r.means in
+        kept g a r.named r.value _ r.same means ∙ ap (λ (p : Plain). only p) (same_number _ _ _ _ _ _ r.name r.form r.number)
   as_means OfFlag a at end e built stores fits says = (let r = read_of OfFlag a e says in kept g a r.named r.value _ r.same r.means ∙ ap (λ (p : Plain). only p) (same_flag _ _ _ _ r.form r.number))
   as_means OfText a at end e built stores fits says =
       let r = read_of OfText a e says in
@@ -117,14 +158,14 @@ module _ {K P : Type 0} (n : Numbering K) (g : K → P) (unit : ℕ) (t : Tells 
       kept g a r.named r.value p r.same r.means ∙ ap (λ (q : Plain). only (Text (text_in q))) (sym (plain_is a r.named r.value p r.same r.means))
   as_means OfTextInStr a at end e built stores fits says = text_means t.strs s.around.sources.strs a is.strs says
   as_means OfTextInLineStr a at end e built stores fits says = text_means t.line_strs s.around.sources.line_strs a is.line_strs says
-  as_means OfTextBySlot a at end e built stores fits says = absurd built
+  as_means OfTextBySlot a at end e built stores fits says = slot_means a says
   as_means OfUnitEntry a at end e built stores fits says =
       let refs : a.value.refs ≡ stores.target ∷ [] = ap (λ (w : Value K). w.refs) stores.value in
       let f = (subst (Each (FitsUnit n unit)) refs fits).0 in
-      let there = (subst (Each (λ k. In k own)) refs says).0 in
+      let there = (subst (Each (λ k. In k own.keys)) refs says).0 in
       let first : first_place n a.value.refs ≡ n.place stores.target = ap (first_place n) refs in
       let place : n.place stores.target ≡ s.unit + (first_place n a.value.refs - unit) = omega (arith, first, is.unit, f.0) in
-      names s.around.place a stores.target own s.own _ stores.value there is.own_are place (is.place_own stores.target there)
+      names s.around.place a stores.target own.keys s.own _ stores.value there is.own_are place (is.place_own stores.target there)
   as_means OfInfoEntry a at end e built stores fits says =
       let refs : a.value.refs ≡ stores.target ∷ [] = ap (λ (w : Value K). w.refs) stores.value in
       let there = (subst (Each (λ k. In k t.all)) refs says).0 in

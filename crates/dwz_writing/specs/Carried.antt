@@ -1,17 +1,18 @@
 -- Units with what was read in a file, before the forms of their references are chosen.
-use Rattle.std.specs.Prelude.{◌≡◌, ◌≢◌, ◌⊎◌, ℕ, ◌<◌, ◌≤◌, ◌^◌, Bool, true, false, List, length}
+use Rattle.std.specs.Prelude.{◌≡◌, ◌≢◌, ◌⊎◌, ℕ, ◌<◌, ◌≤◌, ◌^◌, Bool, true, false, List, length, Option}
 use Rattle.dwz_codes.specs.Forms.{form_rows}
 use Rattle.dwz_docs.specs.Abbrevs.{SpellsPair}
 use Rattle.dwz_meanings.specs.Documents.{Attr, DwUnit, Entries, Node, ref}
 use Rattle.dwz_docs.specs.Entries.{RawAttr}
 use Rattle.dwz_docs.specs.Lists.{In}
-use Rattle.dwz_meanings.specs.Meanings.{Class, OfTextInLineStr, OfTextInStr, Sources, class_of}
+use Rattle.dwz_meanings.specs.Meanings.{Class, OfConstant, OfTextBySlot, OfTextInLineStr, OfTextInStr, Sources, class_of, names_file}
 use Rattle.dwz_docs.specs.Trees.{End, Entry}
 use Rattle.dwz_docs.specs.Values.{AreBytes, SpellsValue}
 use Rattle.dwz_seen.specs.Lists.{Each}
 use Rattle.dwz_seen.specs.Seen.{Named, Seen, all_seen}
 use Rattle.dwz_seen.specs.Shown.{units_keys}
-use Rattle.dwz_writing.specs.Placing.{texts_bytes}
+use Rattle.dwz_writing.specs.Bases.{Bases, bases_in, bases_of}
+use Rattle.dwz_writing.specs.Placing.{CommonUnit, Forms, Holder, NewUnit, OldUnit, holder_of, texts_bytes}
 use Rattle.dwz_writing.specs.Writing.{text_in}
 use Rattle.dwz_writing.specs.Meant.{KindSays, Tells, WasRead, entry_keys}
 use Rattle.dwz_writing.specs.Sound.{IsBuilt, SoundKind}
@@ -32,10 +33,11 @@ pub record IsStored (old : RawAttr) : Type 0 where
   pub are_bytes : AreBytes bytes
   pub spelled : SpellsValue form_rows old.pair bytes old.raw
 
--- the attribute was read in a file with such sources, which stores it so
-pub record CameFrom {K : Type 0} (from : Sources → Type 0) (a : Attr K) : Type 0 where
+-- the attribute was read in a file with such sources, which stores it so, in a unit of which that is known
+pub record CameFrom {K : Type 0} (from : Sources → Type 0) (origin : Bases) (a : Attr K) : Type 0 where
   pub was_read : WasRead a
   pub file : from was_read.scope.around.sources
+  pub unit : bases_of was_read.scope ≡ origin
   pub stored : IsStored was_read.old
   pub built : IsBuilt a.form a.name
 
@@ -46,24 +48,24 @@ pub record Imports {K : Type 0} (a : Attr K) : Type 0 where
   pub target : K
   pub value : a.value ≡ ref target
 
-abbrev pub CarriedAttr : {K : Type 0} → (Sources → Type 0) → Attr K → Type 0
-CarriedAttr from a = CameFrom from a ⊎ Imports a
+abbrev pub CarriedAttr : {K : Type 0} → (Sources → Type 0) → Bases → Attr K → Type 0
+CarriedAttr from origin a = CameFrom from origin a ⊎ Imports a
 
-pub record CarriedNode {K : Type 0} (from : Sources → Type 0) (e : Node K) : Type 0 where
+pub record CarriedNode {K : Type 0} (from : Sources → Type 0) (origin : Bases) (e : Node K) : Type 0 where
   pub some_tag : 0 < e.tag
   pub tag_fits : e.tag ≤ 0xffff
-  pub attrs : Each (CarriedAttr from) e.attrs
+  pub attrs : Each (CarriedAttr from origin) e.attrs
 
-abbrev pub CarriedEntries : {K : Type 0} → (Sources → Type 0) → Entries K → Type 0
-CarriedEntries from End = Unit {0}
-CarriedEntries from (Entry e children next) = CarriedNode from e × CarriedEntries from children × CarriedEntries from next
+abbrev pub CarriedEntries : {K : Type 0} → (Sources → Type 0) → Bases → Entries K → Type 0
+CarriedEntries from origin End = Unit {0}
+CarriedEntries from origin (Entry e children next) = CarriedNode from origin e × CarriedEntries from origin children × CarriedEntries from origin next
 
 -- the root has the tag of its kind, and the type of a type unit is an entry of that unit
-pub record CarriedUnit {K : Type 0} (from : Sources → Type 0) (u : DwUnit K) : Type 0 where
+pub record CarriedUnit {K : Type 0} (from : Sources → Type 0) (origin : Bases) (u : DwUnit K) : Type 0 where
   pub kind : SoundKind u.kind u.root.tag
   pub main : KindSays (entry_keys u) u.kind
-  pub root : CarriedNode from u.root
-  pub below : CarriedEntries from u.below
+  pub root : CarriedNode from origin u.root
+  pub below : CarriedEntries from origin u.below
 
 -- ---- what is read is carried, where its attributes are among those that are written
 
@@ -92,19 +94,44 @@ ApartIn {K} t units = (k : K) → In k t.common → In k (units_keys units) → 
 abbrev pub TextAs : {K : Type 0} → Class → List (List ℕ) → Attr K → Type 0
 TextAs OfTextInStr texts a = In (text_in a.value.plain) texts
 TextAs OfTextInLineStr texts a = In (text_in a.value.plain) texts
+TextAs OfTextBySlot texts a = In (text_in a.value.plain) texts
 TextAs _ texts a = Unit {0}
 
 abbrev pub AttrTexts : {K : Type 0} → List (List ℕ) → Attr K → Type 0
 AttrTexts texts a = TextAs (class_of a.form) texts a
 
-abbrev pub EntriesTexts : {K : Type 0} → List (List ℕ) → Entries K → Type 0
-EntriesTexts texts End = Unit {0}
-EntriesTexts texts (Entry e children next) = Each (AttrTexts texts) e.attrs × EntriesTexts texts children × EntriesTexts texts next
+-- P holds of each attribute
+abbrev pub EachAttr : {K : Type 0} → (Attr K → Type 0) → Entries K → Type 0
+EachAttr P End = Unit {0}
+EachAttr P (Entry e children next) = Each P e.attrs × EachAttr P children × EachAttr P next
 
 abbrev pub UnitTexts : {K : Type 0} → List (List ℕ) → DwUnit K → Type 0
-UnitTexts texts u = Each (AttrTexts texts) u.root.attrs × EntriesTexts texts u.below
+UnitTexts texts u = Each (AttrTexts texts) u.root.attrs × EachAttr (AttrTexts texts) u.below
 
--- texts stay in the sections of the file that they were read in; or all are in `.debug_str` of the common file
-abbrev pub TextsStand : {K : Type 0} → Bool → (Sources → Type 0) → List (List ℕ) → Tells K → List (DwUnit K) → Type 0
-TextsStand true from texts t units = (t.strs ≡ texts_bytes texts) × (length t.strs < 2 ^ 32) × Each (UnitTexts texts) units
-TextsStand false from texts t units = (s : Sources) → from s → (t.strs ≡ s.strs) × (t.line_strs ≡ s.line_strs)
+-- the sections of a file are those that were read; or all texts are in `.debug_str` of the common file
+abbrev pub SectionsStand : {K : Type 0} → Bool → (Sources → Type 0) → Forms K → Tells K → List (DwUnit K) → Type 0
+SectionsStand true from f t units = (length t.strs < 2 ^ 32) × (t.strs ≡ texts_bytes f.texts) × Each (UnitTexts f.texts) units
+SectionsStand false from f t units =
+    (length t.strs < 2 ^ 32)
+    × ((s : Sources) → from s → (t.strs ≡ s.strs) × (t.line_strs ≡ s.line_strs) × (t.offsets ≡ s.offsets) × (t.line ≡ s.line) × (f.offsets ≡ s.offsets))
+
+-- the attribute numbers a file of the line table
+abbrev pub NumbersFile : {K : Type 0} → Attr K → Type 0
+NumbersFile a = (class_of a.form ≡ OfConstant) × (names_file a.name ≡ true)
+
+-- What is asked of such an attribute: in a partial unit the root names the line table of the unit that the attribute comes from; in the
+-- common file there is none, as yet.
+abbrev pub FileStands : {K : Type 0} → Holder → (line origin : Option ℕ) → Attr K → Type 0
+FileStands OldUnit line origin a = Unit {0}
+FileStands NewUnit line origin a = NumbersFile a → line ≡ origin
+FileStands CommonUnit line origin a = NumbersFile a → ⊥
+
+-- the values of an old unit come from it
+abbrev pub ComesFromItself : Holder → (own origin : Bases) → Type 0
+ComesFromItself OldUnit own origin = own ≡ origin
+ComesFromItself _ own origin = Unit {0}
+
+pub record BasesStand {K : Type 0} (f : Forms K) (u : DwUnit K) : Type 0 where
+  pub own : ComesFromItself (holder_of f.is_common u.kind) (bases_in u) (f.origin u.at)
+  pub root : Each (FileStands (holder_of f.is_common u.kind) (bases_in u).line (f.origin u.at).line) u.root.attrs
+  pub below : EachAttr (FileStands (holder_of f.is_common u.kind) (bases_in u).line (f.origin u.at).line) u.below

@@ -1,11 +1,13 @@
 -- What the units that are written mean: the same units, with places for keys.
-use Rattle.std.specs.Prelude.{◌≡◌, ℕ, List, [], ◌∷◌, ◌++◌, map, Some}
-use Rattle.dwz_meanings.specs.Documents.{Attr, Compile, DwUnit, Entries, Kind, Node, OfType, Partial, Text, attr_map, kind_map, only, value_map}
+use Rattle.std.specs.Prelude.{◌≡◌, ℕ, pos, List, [], ◌∷◌, ◌++◌, map, Option, Some, None}
+use Rattle.dwz_meanings.specs.Documents.{Attr, Compile, DwUnit, Entries, File, Kind, Node, OfType, Partial, Text, attr_map, kind_map, only, value_map}
 use Rattle.dwz_docs.specs.Entries.{Mode, RawAttr}
 use Rattle.dwz_docs.specs.Lists.{In}
-use Rattle.dwz_meanings.specs.Meanings.{Around, Class, Common, MeanUnits, MeansAttr, OfCommonEntry, OfInfoEntry, OfTextInLineStr, OfTextInStr, OfUnitEntry, Scope, all_places, class_of, number_of}
+use Rattle.dwz_meanings.specs.Meanings.{Around, Class, Common, IfSo, MeanUnits, MeansAttr, OfCommonEntry, OfConstant, OfInfoEntry, OfTextBySlot, OfTextInLineStr, OfTextInStr, OfUnitEntry, Scope, all_places, class_of, names_file, number_of, path_by}
+use Rattle.dwz_meanings.specs.LineTables.{FileTable, IsFileTable}
+use Rattle.dwz_writing.specs.Bases.{Bases, bases_in}
 use Rattle.dwz_bytes.specs.Spelling.{reach}
-use Rattle.dwz_docs.specs.Texts.{IsTextAt}
+use Rattle.dwz_docs.specs.Texts.{IsSlot, IsTextAt}
 use Rattle.dwz_docs.specs.Trees.{End, Entry}
 use Rattle.dwz_docs.specs.Units.{RawUnit, SpellsUnits}
 use Rattle.dwz_seen.specs.Lists.{Each}
@@ -50,13 +52,22 @@ pub record WasRead {K : Type 0} (a : Attr K) : Type 0 where
   pub name : ℕ → K
   pub same : a ≡ attr_map name read
 
--- what units are written for: the sections that their texts stand in, the keys of all entries of the file, and of those of the common
--- file
+-- what units are written for: the sections that they speak of, the keys of all entries of the file, and of those of the common file
 pub record Tells (K : Type 0) : Type 0 where
   pub strs : List ℕ
   pub line_strs : List ℕ
+  pub offsets : List ℕ
+  pub line : List ℕ
   pub all : List K
   pub common : List K
+
+-- what is known of a unit: the keys of its entries, and where its slots and its line table begin
+pub record Own (K : Type 0) : Type 0 where
+  pub keys : List K
+  pub bases : Bases
+
+abbrev pub own_of : {K : Type 0} → DwUnit K → Own K
+own_of u = record { keys = entry_keys u; bases = bases_in u }
 
 -- its text stands in the section, at the number that it stores
 pub record TextSays {K : Type 0} (section : List ℕ) (a : Attr K) : Type 0 where
@@ -64,23 +75,48 @@ pub record TextSays {K : Type 0} (section : List ℕ) (a : Attr K) : Type 0 wher
   pub stands : IsTextAt section (reach a.raw) text
   pub value : a.value ≡ only (Text text)
 
+-- its text stands in `.debug_str`, at the offset in a slot
+pub record SlotSays {K : Type 0} (t : Tells K) (slots : Option ℕ) (a : Attr K) : Type 0 where
+  pub base : ℕ
+  pub is_base : slots ≡ Some base
+  pub offset : ℕ
+  pub slot : IsSlot t.offsets base (reach a.raw) offset
+  pub text : List ℕ
+  pub stands : IsTextAt t.strs offset text
+  pub value : a.value ≡ only (Text text)
+
+-- its file is the row with that number of the line table at a place
+pub record RowSays {K : Type 0} (t : Tells K) (place : ℕ) (a : Attr K) : Type 0 where
+  pub table : FileTable
+  pub stands : IsFileTable (record { strs = t.strs; line_strs = t.line_strs }) t.line place table
+  pub path : List ℕ
+  pub is_path : path_by table a.raw ≡ Some path
+  pub value : a.value ≡ only (File (Some path))
+
+-- the same of the line table of a unit, or there is none, and it is no file
+abbrev pub FileSays : {K : Type 0} → Tells K → Option ℕ → Attr K → Type 0
+FileSays t None a = (a.raw ≡ pos 0) × (a.value ≡ only (File None))
+FileSays t (Some place) a = RowSays t place a
+
 -- A reference names an entry of its unit, of any unit of the file, or of the common file, as its form says; a text stands where its
--- form says; any other attribute was read.
-abbrev pub SaysAs : {K : Type 0} → Class → Tells K → List K → Attr K → Type 0
-SaysAs OfUnitEntry t own a = Each (λ k. In k own) a.value.refs
+-- form says, and a file where its number does; any other attribute was read.
+abbrev pub SaysAs : {K : Type 0} → Class → Tells K → Own K → Attr K → Type 0
+SaysAs OfUnitEntry t own a = Each (λ k. In k own.keys) a.value.refs
 SaysAs OfInfoEntry t own a = Each (λ k. In k t.all) a.value.refs
 SaysAs OfCommonEntry t own a = Each (λ k. In k t.common) a.value.refs
 SaysAs OfTextInStr t own a = TextSays t.strs a
 SaysAs OfTextInLineStr t own a = TextSays t.line_strs a
+SaysAs OfTextBySlot t own a = SlotSays t own.bases.slots a
+SaysAs OfConstant t own a = IfSo (names_file a.name) (FileSays t own.bases.line a) (WasRead a)
 SaysAs _ t own a = WasRead a
 
-abbrev pub AttrSays : {K : Type 0} → Tells K → List K → Attr K → Type 0
+abbrev pub AttrSays : {K : Type 0} → Tells K → Own K → Attr K → Type 0
 AttrSays t own a = SaysAs (class_of a.form) t own a
 
-abbrev pub NodeSays : {K : Type 0} → Tells K → List K → Node K → Type 0
+abbrev pub NodeSays : {K : Type 0} → Tells K → Own K → Node K → Type 0
 NodeSays t own e = Each (AttrSays t own) e.attrs
 
-abbrev pub EntriesSay : {K : Type 0} → Tells K → List K → Entries K → Type 0
+abbrev pub EntriesSay : {K : Type 0} → Tells K → Own K → Entries K → Type 0
 EntriesSay t own End = Unit {0}
 EntriesSay t own (Entry e children next) = NodeSays t own e × EntriesSay t own children × EntriesSay t own next
 
@@ -92,18 +128,20 @@ KindSays own Partial = Unit {0}
 
 pub record UnitSays {K : Type 0} (t : Tells K) (u : DwUnit K) : Type 0 where
   pub kind : KindSays (entry_keys u) u.kind
-  pub root : NodeSays t (entry_keys u) u.root
-  pub below : EntriesSay t (entry_keys u) u.below
+  pub root : NodeSays t (own_of u) u.root
+  pub below : EntriesSay t (own_of u) u.below
 
 abbrev pub UnitsSay : {K : Type 0} → Tells K → List (DwUnit K) → Type 0
 UnitsSay t units = Each (UnitSays t) units
 
 -- ---- where they are read back
 
--- The file's own places, and those that the common file gives, are where its keys stand; and texts stand in its sections.
+-- The file's own places, and those that the common file gives, are where its keys stand; and its sections are those that are spoken of.
 pub record IsAround {K P : Type 0} (n : Numbering K) (g : K → P) (t : Tells K) (keys : List K) (around : Around P) : Type 0 where
   pub strs : around.sources.strs ≡ t.strs
   pub line_strs : around.sources.line_strs ≡ t.line_strs
+  pub offsets : around.sources.offsets ≡ t.offsets
+  pub line : around.sources.line ≡ t.line
   pub all : around.all ≡ map n.place t.all
   pub place : (k : K) → In k keys → around.place (n.place k) ≡ g k
   pub common : (k : K) → In k t.common → (c : Common P) × (around.common ≡ Some c) × In (n.place k) c.entries × (c.place (n.place k) ≡ g k)

@@ -1,12 +1,15 @@
 -- Where each key stands: where the bytes before it end. No length depends on the numbers that are written, so there is one placement.
-use Rattle.std.specs.Prelude.{◌≡◌, ℕ, ℤ, pos, ◌+◌, ◌<◌, Bool, true, false, List, [], ◌∷◌, ◌++◌, length, map}
+use Rattle.std.specs.Prelude.{◌≡◌, ℕ, ℤ, pos, ◌+◌, ◌<◌, Bool, true, false, List, [], ◌∷◌, ◌++◌, length, map, Option, Some, None}
+use Rattle.dwz_bytes.specs.Spelling.{reach}
 use Rattle.dwz_docs.specs.ElfLayout.{too_large}
+use Rattle.dwz_docs.specs.Texts.{slot}
 use Rattle.dwz_meanings.specs.Documents.{Attr, DwUnit, Entries, Kind, Node, Partial}
 use Rattle.dwz_meanings.specs.Meanings.{Class, OfCommonEntry, OfInfoEntry, OfTextBySlot, OfTextInLineStr, OfTextInStr, OfUnitEntry, class_of}
 use Rattle.dwz_docs.specs.Trees.{End, Entry}
 use Rattle.dwz_seen.specs.Shown.{unit_keys, units_keys}
 use Rattle.dwz_alike.specs.Spots.{same_numbers}
-use Rattle.dwz_writing.specs.Writing.{Numbering, Shape, header_size, if_any, joined, node_bytes, spelled, table_of, tables_of, text_in, unit_size, units_bytes}
+use Rattle.dwz_writing.specs.Bases.{Bases}
+use Rattle.dwz_writing.specs.Writing.{Numbering, Shape, header_size, if_any, joined, node_bytes, or_zero, spelled, table_of, tables_of, text_in, unit_size, units_bytes}
 
 -- all numbers are 0, which serves where only lengths are asked for
 abbrev pub zeros : {K : Type 0} → Numbering K
@@ -90,14 +93,16 @@ holder_of true kind = CommonUnit
 holder_of false Partial = NewUnit
 holder_of false _ = OldUnit
 
--- What forms are chosen by: a test of keys; the keys of the unit and of its file; what holds the unit; and the texts of the common
--- file, in order.
+-- What forms are chosen by: a test of keys; the keys of the unit and of its file; what holds the unit; the texts of the common file, in
+-- order; the slots of the file, and what is known of the unit that values come from.
 pub record Fit (K : Type 0) : Type 0 where
   pub same : K → K → Bool
   pub own : List K
   pub file : List K
   pub holder : Holder
   pub texts : List (List ℕ)
+  pub offsets : List ℕ
+  pub origin : Bases
 
 -- where an entry stands that is named: in the same unit, in another of the file, or in the common file
 pub data Reach : Type 0 where
@@ -142,12 +147,24 @@ abbrev pub as_text : {K : Type 0} → Holder → Fit K → Attr K → Chosen
 as_text CommonUnit f a = record { form = 0x0e; raw = pos (text_place f.texts (text_in a.value.plain)) }
 as_text _ f a = as_read a
 
+-- the number in a slot
+abbrev pub slot_number : List ℕ → Option ℕ → ℕ → ℕ
+slot_number offsets None index = 0
+slot_number offsets (Some base) index = or_zero (slot offsets base index)
+
+-- a text by its slot is as it was read; in a partial unit, which has no base, it is DW_FORM_strp, with the offset that is in the slot
+abbrev pub as_slot : {K : Type 0} → Holder → Fit K → Attr K → Chosen
+as_slot OldUnit f a = as_read a
+as_slot NewUnit f a = record { form = 0x0e; raw = pos (slot_number f.offsets f.origin.slots (reach a.raw)) }
+as_slot CommonUnit f a = as_text CommonUnit f a
+
 abbrev pub fit_as : {K : Type 0} → Class → Fit K → Attr K → Chosen
 fit_as OfUnitEntry f a = as_entry f a
 fit_as OfInfoEntry f a = as_entry f a
 fit_as OfCommonEntry f a = as_entry f a
 fit_as OfTextInStr f a = as_text f.holder f a
 fit_as OfTextInLineStr f a = as_text f.holder f a
+fit_as OfTextBySlot f a = as_slot f.holder f a
 fit_as _ f a = as_read a
 
 abbrev pub with_form : {K : Type 0} → Attr K → Chosen → Attr K
@@ -163,22 +180,36 @@ unfoldable pub fit : {K : Type 0} → Fit K → Entries K → Entries K
 fit f End = End
 fit f (Entry e children next) = Entry (fit_node f e) (fit f children) (fit f next)
 
--- what is known of a file: the keys of its units, whether it is the common file, and the texts of the common file
-pub record FileFit (K : Type 0) : Type 0 where
+-- what is known of a file: whether it is the common file; the texts of the common file; its slots; and by the key of each unit what is
+-- known of the unit that its values come from
+pub record Forms (K : Type 0) : Type 0 where
   pub same : K → K → Bool
-  pub keys : List K
   pub is_common : Bool
   pub texts : List (List ℕ)
+  pub offsets : List ℕ
+  pub origin : K → Bases
+
+-- the same with the keys of its units
+pub record FileFit (K : Type 0) : Type 0 where
+  pub same : K → K → Bool
+  pub is_common : Bool
+  pub texts : List (List ℕ)
+  pub offsets : List ℕ
+  pub origin : K → Bases
+  pub keys : List K
+
+abbrev pub with_keys : {K : Type 0} → Forms K → List K → FileFit K
+with_keys f keys = record { same = f.same; is_common = f.is_common; texts = f.texts; offsets = f.offsets; origin = f.origin; keys = keys }
 
 abbrev pub unit_fit : {K : Type 0} → FileFit K → DwUnit K → Fit K
-unit_fit f u = record { same = f.same; own = unit_keys u; file = f.keys; holder = holder_of f.is_common u.kind; texts = f.texts }
+unit_fit f u = record { same = f.same; own = unit_keys u; file = f.keys; holder = holder_of f.is_common u.kind; texts = f.texts; offsets = f.offsets; origin = f.origin u.at }
 
 abbrev pub fit_unit : {K : Type 0} → FileFit K → DwUnit K → DwUnit K
 fit_unit f u = record { at = u.at; kind = u.kind; root = fit_node (unit_fit f u) u.root; below = fit (unit_fit f u) u.below }
 
 -- the units of a file
-unfoldable pub fit_units : {K : Type 0} → (K → K → Bool) → Bool → List (List ℕ) → List (DwUnit K) → List (DwUnit K)
-fit_units same is_common texts units = map (fit_unit (record { same = same; keys = units_keys units; is_common = is_common; texts = texts })) units
+unfoldable pub fit_units : {K : Type 0} → Forms K → List (DwUnit K) → List (DwUnit K)
+fit_units f units = map (fit_unit (with_keys f (units_keys units))) units
 
 -- ---- the texts of the common file
 

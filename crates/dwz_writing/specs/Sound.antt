@@ -2,19 +2,17 @@
 use Rattle.std.specs.Prelude.{◌≡◌, ◌≢◌, ℕ, ◌<◌, ◌≤◌, ◌^◌, false, true, List}
 use Rattle.dwz_bytes.specs.Spelling.{fits_i64}
 use Rattle.dwz_meanings.specs.Documents.{Attr, Compile, DwUnit, Entries, Kind, Node, OfType, Partial, ref}
-use Rattle.dwz_meanings.specs.Meanings.{Class, OfCommonEntry, OfCommonText, OfConstant, OfExpression, OfInfoEntry, OfListIndex, OfOffset, OfTextBySlot, OfUnitEntry, Unread, class_of, names_file, names_list}
+use Rattle.dwz_meanings.specs.Meanings.{Class, OfCommonEntry, OfCommonText, OfExpression, OfInfoEntry, OfListIndex, OfOffset, OfUnitEntry, Unread, class_of, names_list}
 use Rattle.dwz_docs.specs.Trees.{End, Entry}
 use Rattle.dwz_docs.specs.Values.{AreBytes, Raw, SpellsValue, written_rows}
 use Rattle.dwz_seen.specs.Lists.{Each}
 use Rattle.dwz_writing.specs.Placing.{zeros}
 use Rattle.dwz_writing.specs.Writing.{pair_of, stored_as}
 
--- Which attributes are written. Texts by slots, expressions, location lists and the numbers of files will have their cases here.
+-- Which attributes are written. Expressions and location lists will have their cases here.
 abbrev pub IsBuiltAs : Class → ℕ → Type 0
-IsBuiltAs OfTextBySlot name = ⊥
 IsBuiltAs OfExpression name = ⊥
 IsBuiltAs OfListIndex name = ⊥
-IsBuiltAs OfConstant name = names_file name ≡ false
 IsBuiltAs OfOffset name = names_list name ≡ false
 IsBuiltAs OfCommonText name = ⊥
 IsBuiltAs Unread name = ⊥
@@ -36,8 +34,7 @@ pub record NamesEntry {K : Type 0} (f : ℕ) (a : Attr K) : Type 0 where
   pub value : a.value ≡ ref target
 
 -- A value that its form can store: an entry of the unit in DW_FORM_ref4, one of any unit in DW_FORM_ref_addr, one of the common file
--- in DW_FORM_ref_sup4, and in any other form
--- what has bytes; of what such a form stores no part is the number of a key.
+-- in DW_FORM_ref_sup4, and in any other form what has bytes; of what such a form stores no part is the number of a key.
 abbrev pub StoresAs : {K : Type 0} → Class → Attr K → Type 0
 StoresAs OfUnitEntry a = NamesEntry 0x13 a
 StoresAs OfInfoEntry a = NamesEntry 0x10 a

@@ -8,10 +8,11 @@ ghost use Rattle.dwz_meanings.specs.Meanings.{Around, MeanUnits, Sources};
 ghost use Rattle.dwz_docs.specs.Units.{RawUnit, SpellsUnits};
 ghost use Rattle.dwz_docs.specs.Values.{AreBytes};
 ghost use Rattle.dwz_seen.specs.Lists.{Each};
-ghost use Rattle.dwz_writing.specs.Carried.{ApartIn, BuiltUnit, CarriedEntries, CarriedNode, CarriedUnit, ClosedIn, OfAny, OfFile, TextsStand};
+ghost use Rattle.dwz_writing.specs.Bases.{Bases, bases_in};
+ghost use Rattle.dwz_writing.specs.Carried.{ApartIn, BasesStand, BuiltUnit, CarriedEntries, CarriedNode, CarriedUnit, ClosedIn, OfAny, OfFile, SectionsStand};
 ghost use Rattle.dwz_writing.specs.Fitting.{AreWritable, IsRoomy, UnitFits, mode_for};
 ghost use Rattle.dwz_writing.specs.Meant.{Spells, Tells, UnitsSay, all_entry_keys};
-ghost use Rattle.dwz_writing.specs.Placing.{FileOut, UnitsStand, files_keys, fit_units, numbering, sections};
+ghost use Rattle.dwz_writing.specs.Placing.{FileOut, Forms, UnitsStand, files_keys, fit_units, numbering, sections};
 ghost use Rattle.dwz_seen.specs.Shown.{units_keys};
 ghost use Rattle.dwz_writing.specs.Sound.{SoundAttr, SoundEntries, SoundNode, SoundUnit};
 ghost use Rattle.dwz_alike.specs.Spots.{Spot, same_spot};
@@ -51,23 +52,27 @@ pub fn bytes_laws()
 {}
 
 /// The forms of values. Units with what was read in a file are sound once these are chosen, and each value says what its form says: where
-/// each reference names an entry of the file or of the common file, and no name stands twice, and where texts stand in the file's own
-/// sections or all in those of the common file. Whatever is written has a fixed length. No name is changed.
+/// each reference names an entry of the file or of the common file, and no name stands twice; where the sections of the file are those that
+/// were read, or all texts are in `.debug_str` of the common file; and where the root of an old unit says of slots and of a line table what
+/// it said, and the root of a partial unit names the line table by which its files are numbered. Whatever is written has a fixed length. No
+/// name is changed.
 pub fn form_laws()
-    ensures file { (sources : Sources) (texts : List (List ℕ)) (t : Tells Spot) (units : List (DwUnit Spot)) → t.all ≡ all_entry_keys units → NoneTwice (units_keys units) → Each (CarriedUnit (OfFile sources)) units → ClosedIn t units → ApartIn t units
-        → TextsStand false (OfFile sources) texts t units → Each SoundUnit (fit_units same_spot false texts units) × UnitsSay t (fit_units same_spot false texts units) }
-    ensures common { (texts : List (List ℕ)) (t : Tells Spot) (units : List (DwUnit Spot)) → t.all ≡ all_entry_keys units → NoneTwice (units_keys units) → Each (CarriedUnit OfAny) units → ClosedIn t units → ApartIn t units
-        → TextsStand true OfAny texts t units → Each SoundUnit (fit_units same_spot true texts units) × UnitsSay t (fit_units same_spot true texts units) }
-    ensures keys { (is_common : Bool) (texts : List (List ℕ)) (units : List (DwUnit Spot)) → units_keys (fit_units same_spot is_common texts units) ≡ units_keys units }
+    ensures file { (sources : Sources) (f : Forms Spot) (t : Tells Spot) (units : List (DwUnit Spot)) → f.same ≡ same_spot → f.is_common ≡ false → t.all ≡ all_entry_keys units → NoneTwice (units_keys units)
+        → Each (λ u. CarriedUnit (OfFile sources) (f.origin u.at) u) units → ClosedIn t units → ApartIn t units → SectionsStand false (OfFile sources) f t units → Each (BasesStand f) units
+        → Each SoundUnit (fit_units f units) × UnitsSay t (fit_units f units) }
+    ensures common { (f : Forms Spot) (t : Tells Spot) (units : List (DwUnit Spot)) → f.same ≡ same_spot → f.is_common ≡ true → t.all ≡ all_entry_keys units → NoneTwice (units_keys units)
+        → Each (λ u. CarriedUnit OfAny (f.origin u.at) u) units → ClosedIn t units → ApartIn t units → SectionsStand true OfAny f t units → Each (BasesStand f) units
+        → Each SoundUnit (fit_units f units) × UnitsSay t (fit_units f units) }
+    ensures keys { (f : Forms Spot) (units : List (DwUnit Spot)) → units_keys (fit_units f units) ≡ units_keys units }
 {}
 
-/// What is carried. Units that are read are, where the forms and names of their attributes are among those that are written; and
-/// units, entries and lists of entries stay so where places get names, or names others.
+/// What is carried. Units that are read are, where the forms and names of their attributes are among those that are written, each with
+/// what its own root says; and units, entries and lists of entries stay so where places get names, or names others.
 pub fn carried_laws()
     ensures read { (abbrevs info : List ℕ) (mode : Mode) (raw : List RawUnit) (around : Around ℕ) (units : List (DwUnit ℕ))
-        → mode.forms ≡ own_forms → SpellsUnits abbrevs mode 0 raw 0 info → MeanUnits around raw units → AreBytes info → Each BuiltUnit units → Each (CarriedUnit (OfFile around.sources)) units }
-    ensures named { (sources : Sources) (f : ℕ → Spot) (u : DwUnit ℕ) → CarriedUnit (OfFile sources) u → CarriedUnit (OfFile sources) (unit_map f u) }
-    ensures unit { (sources : Sources) (f : Spot → Spot) (u : DwUnit Spot) → CarriedUnit (OfFile sources) u → CarriedUnit (OfFile sources) (unit_map f u) }
-    ensures entry { (sources : Sources) (f : Spot → Spot) (e : Node Spot) → CarriedNode (OfFile sources) e → CarriedNode (OfFile sources) (node_map f e) }
-    ensures entries { (sources : Sources) (f : Spot → Spot) (entries : Entries Spot) → CarriedEntries (OfFile sources) entries → CarriedEntries (OfFile sources) (entries_map f entries) }
+        → mode.forms ≡ own_forms → SpellsUnits abbrevs mode 0 raw 0 info → MeanUnits around raw units → AreBytes info → Each BuiltUnit units → Each (λ u. CarriedUnit (OfFile around.sources) (bases_in u) u) units }
+    ensures named { (sources : Sources) (origin : Bases) (f : ℕ → Spot) (u : DwUnit ℕ) → CarriedUnit (OfFile sources) origin u → CarriedUnit (OfFile sources) origin (unit_map f u) }
+    ensures unit { (sources : Sources) (origin : Bases) (f : Spot → Spot) (u : DwUnit Spot) → CarriedUnit (OfFile sources) origin u → CarriedUnit (OfFile sources) origin (unit_map f u) }
+    ensures entry { (sources : Sources) (origin : Bases) (f : Spot → Spot) (e : Node Spot) → CarriedNode (OfFile sources) origin e → CarriedNode (OfFile sources) origin (node_map f e) }
+    ensures entries { (sources : Sources) (origin : Bases) (f : Spot → Spot) (entries : Entries Spot) → CarriedEntries (OfFile sources) origin entries → CarriedEntries (OfFile sources) origin (entries_map f entries) }
 {}

@@ -1,0 +1,4 @@
+pub mod Reading
+pub mod Views
+pub mod RowViews
+pub mod Paths

@@ -4,3 +4,4 @@ pub mod TableLemmas
 pub mod LoopLemmas
 pub mod ValueLemmas
 pub mod PathLemmas
+pub mod FileLemmas

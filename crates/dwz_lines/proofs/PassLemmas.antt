@@ -1,19 +1,16 @@
 -- One pass over a line table gives what reading all of it first, and then asking what it says, does.
-use Rattle.std.proofs.Common.{◌≡◌, ℕ, zero, suc, Bool, true, false, cond, eqb, ltb, List, [], ◌∷◌, ◌++◌, length, map, Option, Some, None, Result, Ok, Err, refl, sym, ap, ◌∙◌, arith}
-use Rattle.std.specs.Prelude.{◌||◌, ◌&&◌, not, unwrap_or}
+use Rattle.std.proofs.Common.{◌≡◌, ℕ, zero, suc, Bool, true, false, cond, List, [], ◌∷◌, length, Option, Some, None, Result, Ok, Err, refl, sym, ap, ◌∙◌}
+use Rattle.std.specs.Prelude.{◌&&◌}
 use Rattle.std.specs.List.{list_all}
 use Rattle.dwz_model.specs.declared.fault.Fault.{Fault}
 use Rattle.dwz_model.specs.declared.place.Pair.{Pair}
 use Rattle.dwz_bytes.specs.declared.error.ByteErr.{ByteErr}
 use Rattle.dwz_bytes.specs.Input.{Input}
 use Rattle.dwz_bytes.specs.Reading.{◌>>=◌, fixed_at, uleb_at}
-use Rattle.dwz_codes.specs.Forms.{form_rows}
-use Rattle.dwz_docs.specs.Entries.{unless_so}
-use Rattle.dwz_docs.specs.Values.{Raw, value_at}
 use Rattle.dwz_meanings.specs.Exprs.{or_fault}
-use Rattle.dwz_meanings.specs.LineTables.{FileTable, PathRow, Table, Tables, TextSections, any_table, are_formats, are_indexes, bad_line_table, byte_or, dir_path, dirs_after as dirs_say_after, file_table, file_table_at, files_after as files_say_after, first_index, format_at, format_of, formats_at, full_path, index_in, is_format, is_header, join, names_strs, one_fault, or_bad, path_text, row_after, row_path, row_said, row_with, rows_at, rows_said, second, table_at, table_said, table_with, tables_after, tables_at, tables_begin, tables_bytes, tables_with, uleb_or, values_at, with_content, with_row}
-use Rattle.dwz_meanings.specs.Sequences.{Reader, both_at, then_make, then_read, times_at, value_only}
-use Rattle.dwz_lines.specs.Reading.{Dirs, Seen, after_one, behind, bind, dirs_after, dirs_behind, dirs_in, dirs_of, files_after, files_behind, files_in, files_of, form_behind, format_in, formats_in, has_dir, path_in, path_of, path_or_none, row_from, row_in, row_of, rows_in, seen, seen_with, sure, table_in, taken, then_row, times_in, values_in, with_dir, with_one, with_path, with_text}
+use Rattle.dwz_meanings.specs.LineTables.{format_at, format_of, formats_at, is_format, second, uleb_or}
+use Rattle.dwz_meanings.specs.Sequences.{Reader, then_make, then_read, times_at}
+use Rattle.dwz_lines.specs.Reading.{after_one, behind, bind, form_behind, format_in, formats_in, sure, taken, times_in, with_one}
 
 -- ---- binding
 

@@ -1,5 +1,5 @@
 -- Directories, files and whole tables, read in one pass.
-use Rattle.std.proofs.Common.{◌≡◌, ℕ, zero, suc, Bool, true, false, cond, eqb, ltb, List, [], ◌∷◌, length, map, drop, Option, Some, None, Result, Ok, Err, refl, sym, ap, ◌∙◌, arith}
+use Rattle.std.proofs.Common.{◌≡◌, ℕ, zero, suc, Bool, true, false, cond, eqb, List, [], ◌∷◌, length, map, drop, Option, Some, None, Result, Ok, Err, refl, sym, ap, ◌∙◌}
 use Rattle.std.specs.Prelude.{◌&&◌, ◌||◌, not}
 use Rattle.std.specs.List.{list_all}
 use Rattle.dwz_model.specs.declared.fault.Fault.{Fault}
@@ -10,11 +10,11 @@ use Rattle.dwz_bytes.specs.Reading.{◌>>=◌, uleb_at}
 use Rattle.dwz_docs.specs.Entries.{unless_so}
 use Rattle.dwz_docs.specs.Values.{Raw}
 use Rattle.dwz_meanings.specs.Exprs.{or_fault}
-use Rattle.dwz_meanings.specs.LineTables.{FileTable, PathRow, Table, Tables, TextSections, any_table, are_formats, bad_line_table, dir_path, dirs_after as dirs_say_after, file_table, file_table_at, files_after as files_say_after, formats_at, full_path, is_format, is_header, join, names_strs, one_fault, row_said, rows_at, rows_said, second, table_at, table_said, table_with, tables_after, tables_at, tables_begin, tables_bytes, tables_with, values_at, with_row}
+use Rattle.dwz_meanings.specs.LineTables.{FileTable, PathRow, Table, TextSections, are_formats, bad_line_table, dir_path, dirs_after as dirs_say_after, file_table, file_table_at, files_after as files_say_after, formats_at, full_path, is_format, is_header, join, names_strs, one_fault, row_said, rows_at, rows_said, second, table_at, table_said, table_with, tables_after, tables_at, tables_begin, tables_bytes, tables_with, values_at, with_row}
 use Rattle.dwz_meanings.specs.Sequences.{then_make, then_read, times_at, value_only}
 use Rattle.dwz_docs.proofs.PartLemmas.{bind_ok}
 use Rattle.dwz_meanings.proofs.SequenceLemmas.{input_of}
-use Rattle.dwz_lines.specs.Reading.{Dirs, behind, bind, dirs_after, dirs_behind, dirs_in, dirs_of, files_after, files_behind, files_in, files_of, formats_in, has_dir, path_in, path_of, path_or_none, rows_in, sure, table_in, times_in}
+use Rattle.dwz_lines.specs.Reading.{Dirs, behind, bind, dirs_in, files_in, formats_in, has_dir, path_in, path_of, path_or_none, rows_in, sure, table_in}
 use Rattle.dwz_lines.proofs.PassLemmas.{bind_none, formats_is, if_formats, times_len, times_plain}
 use Rattle.dwz_lines.proofs.RowLemmas.{rows_are, rows_say}
 

@@ -2,3 +2,5 @@ pub mod Reading
 pub mod Views
 pub mod RowViews
 pub mod Paths
+pub mod Headers
+pub mod TableViews

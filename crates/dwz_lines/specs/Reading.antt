@@ -1,5 +1,5 @@
 -- How a line table is read in one pass, whichever fault it has. An inner definition: proofs show that it gives what `file_table_at` does.
-use Rattle.std.specs.Prelude.{◌≡◌, ℕ, zero, suc, ◌+◌, Bool, true, false, List, [], ◌∷◌, ◌++◌, length, map, Option, Some, None, Result, Ok, Err, unwrap_or, ◌==◌, ◌||◌, not, nat_lt, if◌then◌else◌}
+use Rattle.std.specs.Prelude.{◌≡◌, ℕ, zero, suc, Bool, List, [], ◌∷◌, length, map, Option, Some, None, Result, Ok, Err, unwrap_or, ◌==◌, ◌||◌, not, nat_lt, if◌then◌else◌}
 use Rattle.dwz_model.specs.declared.fault.Fault.{Fault}
 use Rattle.dwz_model.specs.declared.fault.ReadErr.{ReadErr}
 use Rattle.dwz_model.specs.declared.fault.ReadErr.TheVariants.{NoMemory, Refused}
@@ -120,6 +120,10 @@ pub record Dirs : Type 0 where
 
 unfoldable pub rows_in : TextSections → ℕ → List Pair → ℕ → Input → Option (List PathRow × Input)
 rows_in s dirs pairs n i = times_in (row_in s dirs pairs) n i
+
+-- the paths of so many directories
+unfoldable pub paths_in : TextSections → List Pair → ℕ → Input → Option (List (List ℕ) × Input)
+paths_in s pairs n i = bind (rows_in s n pairs n i) (λ r. Some (map path_of r.0, r.1))
 
 abbrev pub dirs_of : List Pair → List PathRow × Input → Option (Dirs × Input)
 dirs_of pairs r = Some (record { paths = map path_of r.0; strp = names_strs pairs }, r.1)

@@ -1,5 +1,4 @@
 -- Rows of the code as the definitions see them.
-use Rattle.std.specs.Prelude.{List}
 use Rattle.std.specs.Option.{option_map}
 use Rattle.dwz_meanings.specs.LineTables.{PathRow, TextSections}
 use Rattle.dwz_lines.specs.declared.rows.Row.{Row}

@@ -69,7 +69,11 @@ fn one_format(cursor: &mut Cursor) -> Option<Format>
 
 /// The formats of a table: a byte says how many there are.
 #[tactic(auto, unfolding(crate::specs::Reading::formats_in))]
-pub(crate) fn formats(alloc: Global, cursor: &mut Cursor, bad: Fault) -> Result<Vec<Format>, ReadErr>
+pub(crate) fn formats(
+    alloc: Global,
+    cursor: &mut Cursor,
+    bad: Fault,
+) -> Result<Vec<Format>, ReadErr>
     ensures { TriesAt (λ f. format_views f.items) bad cursor.new result (formats_in cursor.old) }
 {
     let missing = ReadErr::Refused(bad);

@@ -2,5 +2,10 @@
 #![tactic(auto)]
 
 mod formats;
-mod rows;
+mod header;
 mod paths;
+mod rows;
+mod table;
+mod tables;
+
+pub use table::FileTable;

@@ -68,7 +68,11 @@ fn path<'a>(strings: Strings<'a>, form: u64, raw: Raw<'a>) -> Option<&'a [u8]>
     match raw {
         Raw::Bytes(bytes) => Some(bytes),
         Raw::Number(number) => {
-            let section = if form == STRP { strings.strs } else { strings.line_strs };
+            let section = if form == STRP {
+                strings.strs
+            } else {
+                strings.line_strs
+            };
             text_by(section, reach(number))
         }
     }

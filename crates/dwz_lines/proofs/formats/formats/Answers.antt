@@ -1,4 +1,4 @@
-use Rattle.std.proofs.Common.{◌≡◌, ◌+◌, ◌-◌, List, refl, sym, ap, ◌∙◌}
+use Rattle.std.proofs.Common.{◌+◌, ◌-◌, List, refl, sym, ap, ◌∙◌}
 use Rattle.dwz_model.specs.declared.place.Pair.{Pair}
 use Rattle.dwz_lines.specs.Reading.{format_in}
 use Rattle.dwz_lines.specs.Views.{format_view, format_views}
@@ -9,8 +9,8 @@ pub returns-in_default-one_format : goal.returns-in_default-one_format
 returns-in_default-one_format c = (
   refl,
   formats_counted c.args.cursor.now c.u8.new.self c.in-Ok.count c.in-Ok.ensures
-  ∙ sym c.loop-number.invariant
-  ∙ none_read (λ x. x) format_in (format_views c.loop-number.formats.items) c.in-Ok.count c.loop-number._number c.loop-number.cursor c.loop-number-test.true c.in_default-one_format.ensures,
+      ∙ sym c.loop-number.invariant
+      ∙ none_read (λ x. x) format_in (format_views c.loop-number.formats.items) c.in-Ok.count c.loop-number._number c.loop-number.cursor c.loop-number-test.true c.in_default-one_format.ensures,
 )
 
 pub loop-number-preserved : goal.loop-number-preserved

@@ -1,8 +1,8 @@
-use Rattle.std.proofs.Common.{◌≡◌, ◌+◌, ℕ, List, Option, Some, None, Bor, refl, sym, ap, ◌∙◌}
+use Rattle.std.proofs.Common.{ℕ, List, Option, Some, Bor, sym, ap, ◌∙◌}
 use Rattle.std.specs.Option.{option_map}
 use Rattle.dwz_bytes.specs.Input.{Input}
 use Rattle.dwz_forms.specs.RawValues.{raw_view}
-use Rattle.dwz_lines.specs.Reading.{Seen, behind, bind, row_from, row_in, seen, then_row}
+use Rattle.dwz_lines.specs.Reading.{Seen, behind, bind, row_from, row_in, then_row}
 use Rattle.dwz_lines.specs.RowViews.{seen_view, strings_view}
 use Rattle.dwz_lines.proofs.ValueLemmas.{all_said, no_value, not_said, value_said}
 use Rattle.dwz_lines.proofs.rows.one_row.Goals as goal

@@ -1,10 +1,9 @@
-use Rattle.std.proofs.Common.{◌≡◌, ◌++◌, ◌∷◌, [], ℕ, List, length, vec_len, drop, map, sym, ap, subst, ◌∙◌, arith}
+use Rattle.std.proofs.Common.{◌≡◌, ◌++◌, ◌∷◌, [], ℕ, List, length, vec_len, drop, map, ap, ◌∙◌, arith}
 use Rattle.std.proofs.lemmas.List.{length-append}
 use Rattle.dwz_lines.specs.declared.paths.Span.{Span}
-use Rattle.dwz_lines.specs.Paths.{AreWithin, texts_of}
 use Rattle.dwz_lines.specs.Reading.{path_in}
 use Rattle.dwz_lines.specs.RowViews.{row_view}
-use Rattle.dwz_lines.proofs.PathLemmas.{all_texts, kept_is, texts_append, within_append, within_more}
+use Rattle.dwz_lines.proofs.PathLemmas.{all_texts, kept_is, within_append, within_more}
 use Rattle.dwz_lines.proofs.paths.Paths.push.Goals as goal
 
 pub invariant_of-self : goal.invariant_of-self

@@ -1,5 +1,7 @@
 pub mod PartLemmas
 pub mod TextLemmas
+pub mod TextRowLemmas
+pub mod SupLemmas
 pub mod ReadLemmas
 pub mod ValueLemmas
 pub mod WrittenLemmas

@@ -2,6 +2,7 @@ pub mod PartLemmas
 pub mod TextLemmas
 pub mod TextRowLemmas
 pub mod SupLemmas
+pub mod PlainLemmas
 pub mod ReadLemmas
 pub mod ValueLemmas
 pub mod WrittenLemmas

@@ -3,3 +3,4 @@ pub mod LebLemmas
 pub mod PaddedLemmas
 pub mod SignedLemmas
 pub mod FixedLemmas
+pub mod LowBytes

@@ -1,6 +1,6 @@
 //! Vectors from outside: those of the DWARF standard's section on LEB128 numbers, and the ends of the ranges.
 
-use crate::{ByteErr, Cursor, put_padded, put_sleb, put_uleb};
+use crate::{ByteErr, Cursor, put_fixed, put_padded, put_sleb, put_uleb};
 use std::test::Fail;
 
 #[test]
@@ -97,4 +97,21 @@ fn pads_to_a_width(rt: HostRuntime) {
     let mut ten = [7; 10];
     assert!(rt; put_padded(&mut ten, u64::MAX));
     assert_eq!(rt; ten[9], 0x01);
+}
+
+#[test]
+fn writes_fixed_numbers(rt: HostRuntime) -> Result<(), Fail> {
+    let mut out = Vec::new(rt.alloc());
+    put_fixed(&mut out, 2, 0x0302)?;
+    put_fixed(&mut out, 0, 7)?;
+    put_fixed(&mut out, 1, 0x10ff)?;
+    put_fixed(&mut out, 8, u64::MAX - 1)?;
+    assert_eq!(rt;
+        out.as_slice(),
+        [
+            0x02, 0x03, 0xff, 0xfe, 0xff, 0xff, 0xff, 0xff, 0xff, 0xff, 0xff
+        ]
+        .as_slice()
+    );
+    Ok(())
 }

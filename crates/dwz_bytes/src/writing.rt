@@ -1,10 +1,22 @@
-//! LEB128 numbers that are written.
+//! Numbers that are written.
 
 ghost use Rattle.std.specs.Prelude.{◌≡◌, ◌≤◌, ◌<◌, ◌^◌, ◌++◌, ◌↔◌, IsTrue, length, OnOk, OnErr};
 ghost use Rattle.std.specs.Bool.{OnTrue, OnFalse};
-ghost use Rattle.dwz_bytes.specs.Spelling.{group_count, padded, reach, sleb, uleb, wrapped};
+ghost use Rattle.dwz_bytes.specs.Spelling.{group_count, le_bytes, padded, reach, sleb, uleb, wrapped};
 
 use std::alloc::AllocError;
+
+/// Appends the lowest `width` bytes of a number, the lowest first (DWARF 5, 7.5.5). After an error `out` is as before.
+#[inline(always)]
+#[tactic(auto, using(crate::proofs::LowBytes::low_bytes))]
+pub fn put_fixed(out: &mut Vec<u8>, width: usize, value: u64) -> Result<(), AllocError>
+    requires { width ≤ 8 }
+    ensures ok { OnOk result (out.new.items ≡ out.old.items ++ le_bytes width value) }
+    ensures err { OnErr result (out.new.items ≡ out.old.items) }
+{
+    let bytes = value.to_le_bytes();
+    out.extend_from_slice(&bytes[..width])
+}
 
 // How many groups of seven bits a number needs.
 fn group_count_of(value: u128) -> usize

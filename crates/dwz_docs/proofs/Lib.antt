@@ -1,5 +1,8 @@
 pub mod PartLemmas
 pub mod TextLemmas
+pub mod TextRowLemmas
+pub mod SupLemmas
+pub mod PlainLemmas
 pub mod ReadLemmas
 pub mod ValueLemmas
 pub mod WrittenLemmas

@@ -2,6 +2,7 @@ pub mod Parts
 pub mod Lists
 pub mod Faults
 pub mod Texts
+pub mod TextRows
 pub mod Values
 pub mod Abbrevs
 pub mod ElfHeaders
@@ -10,6 +11,8 @@ pub mod ElfFaults
 pub mod ElfReading
 pub mod Trees
 pub mod ElfLayout
+pub mod PlainFile
+pub mod Supplementary
 pub mod Entries
 pub mod Units
 pub mod Modes

@@ -1,0 +1,10 @@
+//! Texts, each once, in the order of their first use. The common file takes its strings and its paths from such lists
+//! (DWARF 5, 7.5.5, class string; 6.2.4).
+#![tactic(auto)]
+
+mod texts;
+
+pub use texts::Texts;
+
+#[cfg(test)]
+mod tests;

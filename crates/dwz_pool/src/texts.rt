@@ -1,0 +1,113 @@
+//! The texts.
+
+ghost use Rattle.std.specs.Prelude.{◌≡◌, ◌+◌, ◌-◌, ◌^◌, ◌<◌, ◌++◌, ◌∷◌, [], None, Some, IfOk, OnErr, OnOk, length, slice_get};
+ghost use Rattle.std.specs.Option.{option_map};
+ghost use Rattle.dwz_docs.specs.TextRows.{AreDifferent, number_of, start_of, text_section, with_text};
+
+use dwz_model::NoMemory;
+use indexmap::IndexMap;
+use std::alloc::Global;
+use std::marker::Model;
+
+/// Texts by number, and their numbers. Numbers count from 0 in the order of first use. Clauses see the texts in that order;
+/// no two are equal.
+#[derive(Drop)]
+pub struct Texts {
+    // Each text with the place where it begins, if all stand one behind the other with a zero byte after each.
+    starts: IndexMap<Vec<u8>, u64>,
+    // Where the last of them ends.
+    end: u64,
+}
+
+impl Model for Texts {
+    ghost use Rattle.std.specs.Prelude.{List, ℕ};
+
+    ghost Value = { List (List ℕ) };
+
+    ghost use Rattle.dwz_pool.specs.Stored.{HasTexts, texts_in};
+
+    ghost view = { λ t. texts_in t.starts.entries };
+
+    ghost invariant = { λ t. HasTexts t.end t.starts.entries };
+}
+
+impl Texts {
+    /// No texts. Takes no memory.
+    pub fn new(alloc: Global) -> Texts
+        ensures { result ≡ [] }
+    {
+        Texts {
+            starts: IndexMap::new(alloc),
+            end: 0,
+        }
+    }
+
+    /// How many texts there are.
+    pub fn len(&self) -> u32
+        ensures count { result ≡ length self.now }
+        ensures different { AreDifferent self.now }
+        ensures short { length (text_section self.now) < 2 ^ 64 }
+    {
+        self.starts.len() as u32
+    }
+
+    /// The text of a number. None exactly where the number isn't below the count.
+    pub fn text(&self, i: u32) -> Option<&[u8]>
+        ensures { option_map (λ t. t.now) result ≡ slice_get self.now i }
+    {
+        match self.starts.get_index(i as usize) {
+            None => None,
+            Some((text, _)) => Some(text.as_slice()),
+        }
+    }
+
+    /// The number of a text. None exactly where it isn't there.
+    pub fn find(&self, text: &[u8]) -> Option<u32>
+        ensures { result ≡ number_of self.now text.now }
+    {
+        match self.starts.get_index_of(text) {
+            None => None,
+            Some(number) => Some(number as u32),
+        }
+    }
+
+    /// Where a text begins, in bytes from the first of a section that holds all texts in order, each with a zero byte after it.
+    /// None exactly where it isn't there.
+    pub fn start_of(&self, text: &[u8]) -> Option<u64>
+        ensures { result ≡ start_of self.now text.now }
+    {
+        self.starts.get(text).copied()
+    }
+
+    // Appends a text that isn't there. After an error nothing has changed.
+    fn add(&mut self, text: Vec<u8>) -> Result<(), NoMemory>
+        requires new { number_of self.old text.items ≡ None }
+        requires few { length self.old < 2 ^ 32 - 1 }
+        requires short { length (text_section self.old) + (length text.items + 1) < 2 ^ 64 }
+        ensures ok { OnOk result (self.new ≡ self.old ++ text.items ∷ []) }
+        ensures err { OnErr result (self.new ≡ self.old) }
+    {
+        let end = self.end + (text.len() as u64 + 1);
+        self.starts.insert(text, self.end)?;
+        self.end = end;
+        Ok(())
+    }
+
+    /// The number of a text: the one that it has, or the next, under which it is then there. A text that is there isn't
+    /// copied. After an error nothing has changed.
+    pub fn number(&mut self, text: &[u8]) -> Result<u32, NoMemory>
+        requires few { length self.old < 2 ^ 32 - 1 }
+        requires short { length (text_section self.old) + (length text.now + 1) < 2 ^ 64 }
+        ensures ok { OnOk result (self.new ≡ with_text self.old text.now) }
+        ensures number { IfOk result (λ n. number_of self.new text.now ≡ Some n) }
+        ensures err { OnErr result (self.new ≡ self.old) }
+    {
+        if let Some(number) = self.find(text) {
+            return Ok(number);
+        }
+        let number = self.len();
+        let text = text.to_vec(*self.starts.allocator())?;
+        self.add(text)?;
+        Ok(number)
+    }
+}

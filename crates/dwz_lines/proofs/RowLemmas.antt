@@ -51,9 +51,15 @@ dir_from (Some dir) xs = dir
 row_at : ℕ → List ℕ → Option PathRow
 row_at dir path = Some (record { path = path; dir = dir })
 
+-- no further index where one was seen
+abbrev may_have : ℕ → Option ℕ → List (Pair × Raw) → Bool
+may_have dirs None indexes = are_indexes dirs indexes
+may_have dirs (Some dir) [] = true
+may_have dirs (Some dir) (x ∷ xs) = false
+
 -- what a row says, some of which was seen
 says : TextSections → ℕ → Option (List ℕ) → Option ℕ → List (Pair × Raw) → List (Pair × Raw) → Option PathRow
-says s dirs path dir texts indexes = cond (are_indexes dirs indexes) (bind (path_from s path texts) (row_at (dir_from dir indexes))) None
+says s dirs path dir texts indexes = cond (may_have dirs dir indexes) (bind (path_from s path texts) (row_at (dir_from dir indexes))) None
 
 none_either : (b : Bool) → cond {A = Option PathRow} b None None ≡ None
 none_either true = refl
@@ -71,32 +77,39 @@ module _ (s : TextSections) (dirs : ℕ) (pair : Pair) (raw : Raw) (pairs : List
   a_path : (path : Option (List ℕ)) (dir : Option ℕ) (text : Option (List ℕ)) → path_text s pair.form raw ≡ text
       → bind (bind (with_path path dir text) (seen_all s dirs pairs raws)) row_of ≡ says s dirs path dir ((pair, raw) ∷ with_content 1 pairs raws) (with_content 2 pairs raws)
   unfolding path_from says
-  a_path (Some p) dir text is = sym (none_either (are_indexes dirs (with_content 2 pairs raws)))
+  a_path (Some p) dir text is = sym (none_either (may_have dirs dir (with_content 2 pairs raws)))
   a_path None dir None is =
-      sym (none_either (are_indexes dirs (with_content 2 pairs raws)))
-      ∙ ap (λ (o : Option (List ℕ)). cond (are_indexes dirs (with_content 2 pairs raws)) (bind (bind o (λ p. path_from s (Some p) (with_content 1 pairs raws))) (row_at (dir_from dir (with_content 2 pairs raws)))) None) (sym is)
+      sym (none_either (may_have dirs dir (with_content 2 pairs raws)))
+      ∙ ap (λ (o : Option (List ℕ)). cond (may_have dirs dir (with_content 2 pairs raws)) (bind (bind o (λ p. path_from s (Some p) (with_content 1 pairs raws))) (row_at (dir_from dir (with_content 2 pairs raws)))) None) (sym is)
   a_path None dir (Some text) is =
       others (Some text) dir
-      ∙ ap (λ (o : Option (List ℕ)). cond (are_indexes dirs (with_content 2 pairs raws)) (bind (bind o (λ p. path_from s (Some p) (with_content 1 pairs raws))) (row_at (dir_from dir (with_content 2 pairs raws)))) None) (sym is)
+      ∙ ap (λ (o : Option (List ℕ)). cond (may_have dirs dir (with_content 2 pairs raws)) (bind (bind o (λ p. path_from s (Some p) (with_content 1 pairs raws))) (row_at (dir_from dir (with_content 2 pairs raws)))) None) (sym is)
 
-  a_dir : (path : Option (List ℕ)) (dir : Option ℕ) (b : Bool) → ltb (index_in raw) dirs ≡ b
-      → bind (bind (cond b (Some (seen path (Some (unwrap_or dir (index_in raw))))) None) (seen_all s dirs pairs raws)) row_of ≡ says s dirs path dir (with_content 1 pairs raws) ((pair, raw) ∷ with_content 2 pairs raws)
+  -- what follows an index, by whether there is another one
+  ends : (path : Option (List ℕ)) (texts rest : List (Pair × Raw)) (b : Bool) → ltb (index_in raw) dirs ≡ b
+      → cond b (says s dirs path (Some (index_in raw)) texts rest) None ≡ says s dirs path None texts ((pair, raw) ∷ rest)
   unfolding says dir_from
-  a_dir path dir false is =
-      ap (λ (t : Bool). cond (t && are_indexes dirs (with_content 2 pairs raws)) (bind (path_from s path (with_content 1 pairs raws)) (row_at (dir_from dir ((pair, raw) ∷ with_content 2 pairs raws)))) None) (sym is)
-  a_dir path None true is =
-      others path (Some (index_in raw))
-      ∙ ap (λ (t : Bool). cond (t && are_indexes dirs (with_content 2 pairs raws)) (bind (path_from s path (with_content 1 pairs raws)) (row_at (index_in raw))) None) (sym is)
-  a_dir path (Some d) true is =
-      others path (Some d)
-      ∙ ap (λ (t : Bool). cond (t && are_indexes dirs (with_content 2 pairs raws)) (bind (path_from s path (with_content 1 pairs raws)) (row_at d)) None) (sym is)
+  ends path texts [] true is = ap (λ (t : Bool). cond t (bind (path_from s path texts) (row_at (index_in raw))) None) (sym is)
+  ends path texts [] false is = ap (λ (t : Bool). cond t (bind (path_from s path texts) (row_at (index_in raw))) None) (sym is)
+  ends path texts (y ∷ rest) true is = refl
+  ends path texts (y ∷ rest) false is = refl
+
+  a_dir : (path : Option (List ℕ)) (dir : Option ℕ)
+      → bind (bind (with_dir dirs (index_in raw) path dir) (seen_all s dirs pairs raws)) row_of ≡ says s dirs path dir (with_content 1 pairs raws) ((pair, raw) ∷ with_content 2 pairs raws)
+  unfolding says
+  a_dir path (Some d) = refl
+  a_dir path None = by (ltb (index_in raw) dirs) refl where
+    by : (b : Bool) → ltb (index_in raw) dirs ≡ b
+        → bind (bind (cond b (Some (seen path (Some (index_in raw)))) None) (seen_all s dirs pairs raws)) row_of ≡ says s dirs path None (with_content 1 pairs raws) ((pair, raw) ∷ with_content 2 pairs raws)
+    by true is = others path (Some (index_in raw)) ∙ ends path (with_content 1 pairs raws) (with_content 2 pairs raws) true is
+    by false is = ends path (with_content 1 pairs raws) (with_content 2 pairs raws) false is
 
   one_more : (path : Option (List ℕ)) (dir : Option ℕ) (b c : Bool) → eqb pair.name 1 ≡ b → eqb pair.name 2 ≡ c
-      → bind (bind (cond b (with_path path dir (path_text s pair.form raw)) (cond c (with_dir dirs (index_in raw) (seen path dir)) (Some (seen path dir)))) (seen_all s dirs pairs raws)) row_of
+      → bind (bind (cond b (with_path path dir (path_text s pair.form raw)) (cond c (with_dir dirs (index_in raw) path dir) (Some (seen path dir)))) (seen_all s dirs pairs raws)) row_of
       ≡ says s dirs path dir (cond b ((pair, raw) ∷ with_content 1 pairs raws) (with_content 1 pairs raws)) (cond c ((pair, raw) ∷ with_content 2 pairs raws) (with_content 2 pairs raws))
   one_more path dir true true is too = absurd (let one = eqb-true pair.name 1 is in let two = eqb-true pair.name 2 too in omega (arith, one, two))
   one_more path dir true false is other = a_path path dir (path_text s pair.form raw) refl
-  one_more path dir false true other is = a_dir path dir (ltb (index_in raw) dirs) refl
+  one_more path dir false true other is = a_dir path dir
   one_more path dir false false a b = others path dir
 
 all_say : (s : TextSections) (dirs : ℕ) (pairs : List Pair) (raws : List Raw) (path : Option (List ℕ)) (dir : Option ℕ)

@@ -79,14 +79,15 @@ abbrev pub with_path : Option (List ℕ) → Option ℕ → Option (List ℕ) �
 with_path None dir text = with_text dir text
 with_path (Some path) dir text = None
 
--- the first index counts, and all name one of so many directories
-abbrev pub with_dir : ℕ → ℕ → Seen → Option Seen
-with_dir dirs index s = if nat_lt index dirs then Some (seen s.path (Some (unwrap_or s.dir index))) else None
+-- there is one index at most, and it names one of so many directories
+abbrev pub with_dir : ℕ → ℕ → Option (List ℕ) → Option ℕ → Option Seen
+with_dir dirs index path None = if nat_lt index dirs then Some (seen path (Some index)) else None
+with_dir dirs index path (Some dir) = None
 
 abbrev pub seen_with : TextSections → ℕ → Pair → Raw → Seen → Option Seen
 seen_with s dirs pair raw t =
     if pair.name == 1 then with_path t.path t.dir (path_text s pair.form raw)
-    else (if pair.name == 2 then with_dir dirs (index_in raw) t else Some t)
+    else (if pair.name == 2 then with_dir dirs (index_in raw) t.path t.dir else Some t)
 
 unfoldable pub values_in : TextSections → ℕ → List Pair → Seen → Input → Option (Seen × Input)
 values_in s dirs [] t i = Some (t, i)

@@ -37,7 +37,7 @@ fn one(bytes: &[u8], at: usize) -> u8
     Cursor::new(bytes, at).u8().unwrap_or(0)
 }
 
-// Whether the fields are those of a table that is read, and its unit is whole.
+// Whether the fields are those of a table that is read, and its unit is whole, with its header.
 fn is_header(bytes: &[u8]) -> bool
     requires { 18 ≤ length bytes.now }
     ensures { result ≡ LineTables.is_header bytes.now }
@@ -45,6 +45,7 @@ fn is_header(bytes: &[u8]) -> bool
     let len = four(bytes, 0);
     len < 0xffff_fff0
         && bytes.len() >= len as usize + 4
+        && len as usize + 4 >= four(bytes, 8) as usize + 12
         && two(bytes, 4) == 5
         && one(bytes, 6) == 8
         && one(bytes, 7) == 0

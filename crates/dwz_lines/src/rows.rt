@@ -88,7 +88,7 @@ fn index(raw: Raw) -> u128
     }
 }
 
-// What is seen with a value more: there is one path, and each index is one of so many directories, of which the first counts.
+// What is seen with a value more: there is one path, and one index at most, which is that of one of so many directories.
 fn with_value<'a>(
     seen: Seen<'a>,
     format: Format,
@@ -109,16 +109,19 @@ fn with_value<'a>(
                 })
             }
         },
-        DIRECTORY => {
-            let index = index(raw);
-            if index >= dirs as u128 {
-                return None;
+        DIRECTORY => match seen.dir {
+            Some(_) => None,
+            None => {
+                let index = index(raw);
+                if index >= dirs as u128 {
+                    return None;
+                }
+                Some(Seen {
+                    path: seen.path,
+                    dir: Some(index as u64),
+                })
             }
-            Some(Seen {
-                path: seen.path,
-                dir: Some(seen.dir.unwrap_or(index as u64)),
-            })
-        }
+        },
         _ => Some(seen),
     }
 }

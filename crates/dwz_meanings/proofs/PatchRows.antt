@@ -1,0 +1,20 @@
+-- What changed numbers are spelled as, by the definitions.
+use Rattle.std.proofs.Common.{◌≡◌, true, false, List, [], ◌∷◌, map, refl}
+use Rattle.dwz_bytes.specs.Spelling.{le_bytes, padded}
+use Rattle.dwz_model.specs.declared.place.Base.TheVariants.{Unit as FromUnit, Info as FromInfo}
+use Rattle.dwz_meanings.specs.Documents.{Part, Same}
+use Rattle.dwz_meanings.specs.Documents as document
+use Rattle.dwz_meanings.specs.Patching.{filled, moved, renumbered}
+
+-- convert in two bytes, and call_ref
+abbrev parts : List Part
+parts = Same (0xa8 ∷ []) ∷ document.Operand 2 true FromUnit ∷ Same (0x9f ∷ 0x9a ∷ []) ∷ document.Operand 4 false FromInfo ∷ Same [] ∷ []
+
+both : filled parts (0x0d ∷ 0x1234 ∷ []) ≡ 0xa8 ∷ 0x8d ∷ 0 ∷ 0x9f ∷ 0x9a ∷ 0x34 ∷ 0x12 ∷ 0 ∷ 0 ∷ []
+unfolding filled padded le_bytes
+both = refl
+
+-- an expression at 0x41 with an operand at 0x42, at 0x100 with another number
+there : map (moved 0x41 0x100) (renumbered (record { at = 0x42; width = 2; uleb = true; base = FromUnit; number = 0x2a } ∷ []) (0x0d ∷ [])) ≡ record { at = 0x101; width = 2; uleb = true; base = FromUnit; number = 0x0d } ∷ []
+unfolding renumbered
+there = refl

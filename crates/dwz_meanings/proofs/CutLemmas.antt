@@ -32,7 +32,7 @@ abbrev pub patch : ℕ → List ℕ → List Operand → List ℕ
 patch at bytes [] = bytes
 patch at bytes (o ∷ os) = take (o.at - at) bytes ++ (number_bytes o.uleb o.width o.number ++ patch (o.at + o.width) (drop (o.at + o.width - at) bytes) os)
 
-le_len : (k n : ℕ) → length (le_bytes k n) ≡ k
+pub le_len : (k n : ℕ) → length (le_bytes k n) ≡ k
 unfolding le_bytes
 le_len zero n = refl
 le_len (suc k) n = let rest = le_len k (n / 256) in omega arith

@@ -18,6 +18,7 @@ pub mod StandLemmas
 pub mod FilledLemmas
 pub mod RenumberLemmas
 pub mod PatchedLemmas
+pub mod PatchedSets
 mod ExprRows
 mod MeaningRows
 mod FileRows

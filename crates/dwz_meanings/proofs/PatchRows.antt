@@ -4,7 +4,8 @@ use Rattle.dwz_bytes.specs.Spelling.{le_bytes, padded}
 use Rattle.dwz_model.specs.declared.place.Base.TheVariants.{Unit as FromUnit, Info as FromInfo}
 use Rattle.dwz_meanings.specs.Documents.{Part, Same}
 use Rattle.dwz_meanings.specs.Documents as document
-use Rattle.dwz_meanings.specs.Patching.{filled, moved, renumbered}
+use Rattle.dwz_meanings.specs.Patching.{filled, moved, renumbered, with_units, written_at}
+use Rattle.dwz_meanings.specs.Ranges.{RangeSet}
 
 -- convert in two bytes, and call_ref
 abbrev parts : List Part
@@ -18,3 +19,12 @@ both = refl
 there : map (moved 0x41 0x100) (renumbered (record { at = 0x42; width = 2; uleb = true; base = FromUnit; number = 0x2a } ∷ []) (0x0d ∷ [])) ≡ record { at = 0x101; width = 2; uleb = true; base = FromUnit; number = 0x0d } ∷ []
 unfolding renumbered
 there = refl
+
+-- two sets, of units at 0 and 0x2b, and the same of units at 0x1000 and 0x31
+abbrev sets : List RangeSet
+sets = record { at = 0; unit = 0 } ∷ record { at = 12; unit = 0x2b } ∷ []
+
+two : with_units sets (0x1000 ∷ 0x31 ∷ []) (8 ∷ 0 ∷ 0 ∷ 0 ∷ 2 ∷ 0 ∷ 0 ∷ 0 ∷ 0 ∷ 0 ∷ 8 ∷ 0 ∷ 12 ∷ 0 ∷ 0 ∷ 0 ∷ 2 ∷ 0 ∷ 0x2b ∷ 0 ∷ 0 ∷ 0 ∷ 8 ∷ 0 ∷ 9 ∷ 9 ∷ 9 ∷ 9 ∷ [])
+    ≡ 8 ∷ 0 ∷ 0 ∷ 0 ∷ 2 ∷ 0 ∷ 0 ∷ 0x10 ∷ 0 ∷ 0 ∷ 8 ∷ 0 ∷ 12 ∷ 0 ∷ 0 ∷ 0 ∷ 2 ∷ 0 ∷ 0x31 ∷ 0 ∷ 0 ∷ 0 ∷ 8 ∷ 0 ∷ 9 ∷ 9 ∷ 9 ∷ 9 ∷ []
+unfolding with_units written_at le_bytes
+two = refl

@@ -1,5 +1,6 @@
--- Numbers changed in place: operands of expressions whose entries stand elsewhere (DWARF 5, 2.5 and 7.7.1).
-use Rattle.std.specs.Prelude.{◌≡◌, ℕ, ◌+◌, ◌-◌, ◌^◌, ◌<◌, Bool, true, false, List, [], ◌∷◌, ◌++◌, length, map}
+-- Numbers changed in place: operands of expressions whose entries stand elsewhere (DWARF 5, 2.5 and 7.7.1), and address ranges whose
+-- units do (6.1.2).
+use Rattle.std.specs.Prelude.{◌≡◌, ℕ, ◌+◌, ◌-◌, ◌^◌, ◌<◌, Bool, true, false, List, [], ◌∷◌, ◌++◌, length, map, slice_set}
 use Rattle.dwz_bytes.specs.Spelling.{le_bytes, padded}
 use Rattle.dwz_meanings.specs.declared.exprs.Operand.{Operand}
 use Rattle.dwz_meanings.specs.Documents.{Part, Same}
@@ -7,6 +8,7 @@ use Rattle.dwz_meanings.specs.Documents as document
 use Rattle.dwz_docs.specs.Lists.{has}
 use Rattle.dwz_meanings.specs.Exprs.{AreNamed, ExprContext, Expression, parts_of}
 use Rattle.dwz_meanings.specs.Meanings.{Scope, entries_for, leads_to}
+use Rattle.dwz_meanings.specs.Ranges.{RangeSet}
 
 -- a number in so many bytes: a padded ULEB128 number, or one of a fixed width
 abbrev pub number_bytes : Bool → ℕ → ℕ → List ℕ
@@ -60,3 +62,25 @@ LeadTo s (Same bytes ∷ parts) numbers refs = LeadTo s parts numbers refs
 LeadTo s (document.Operand width uleb base ∷ parts) (n ∷ numbers) (p ∷ refs) =
     FitsIn uleb width n × (has (leads_to s base n) (entries_for s base) ≡ true) × (p ≡ s.around.place (leads_to s base n)) × LeadTo s parts numbers refs
 LeadTo s _ _ _ = ⊥
+
+-- ---- sets of address ranges
+
+-- these bytes written over others, one behind the other from a place on; the others stay
+unfoldable pub written_at : ℕ → List ℕ → List ℕ → List ℕ
+written_at at [] bytes = bytes
+written_at at (b ∷ new) bytes = written_at (at + 1) new (slice_set bytes at b)
+
+-- a number for each set, in order, in place of its debug_info_offset: four bytes, behind unit_length and version
+unfoldable pub with_units : List RangeSet → List ℕ → List ℕ → List ℕ
+with_units (set ∷ sets) (n ∷ numbers) bytes = with_units sets numbers (written_at (set.at + 6) (le_bytes 4 n) bytes)
+with_units _ _ bytes = bytes
+
+-- the sets, each of another unit
+unfoldable pub of_units : List RangeSet → List ℕ → List RangeSet
+of_units (set ∷ sets) (n ∷ numbers) = record { at = set.at; unit = n } ∷ of_units sets numbers
+of_units _ _ = []
+
+-- each has four bytes and is the offset of a unit
+abbrev pub AreUnits : (ℕ → Bool) → List ℕ → Type 0
+AreUnits is_unit [] = Unit {0}
+AreUnits is_unit (n ∷ numbers) = (n < 2 ^ 32) × (is_unit n ≡ true) × AreUnits is_unit numbers

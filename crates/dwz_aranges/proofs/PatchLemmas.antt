@@ -8,10 +8,11 @@ use Rattle.dwz_model.specs.declared.fault.Fault.{Fault}
 use Rattle.dwz_bytes.specs.Input.{Input, input}
 use Rattle.dwz_bytes.specs.Reading.{◌>>=◌}
 use Rattle.dwz_bytes.specs.Spelling.{le_bytes}
+use Rattle.dwz_meanings.specs.Patching.{with_units, written_at}
 use Rattle.dwz_meanings.specs.Ranges.{RangeSet, set_at, sets_at}
 use Rattle.dwz_meanings.specs.Sequences.{after_one, with_item}
 use Rattle.dwz_meanings.proofs.RangeLemmas.{set_reads}
-use Rattle.dwz_aranges.specs.Patching.{IsPatched, with_units, written_at}
+use Rattle.dwz_aranges.specs.Patching.{IsPatched}
 use Rattle.dwz_aranges.specs.Views.{any_unit}
 use Rattle.dwz_aranges.proofs.WholeLemmas.{left_of, sets_begin, sets_end}
 

@@ -3,8 +3,9 @@
 ghost use Rattle.std.specs.Prelude.{◌≡◌, ◌+◌, ◌≤◌, IsOkAnd, IfOk, length, vec_len};
 ghost use Rattle.dwz_bytes.specs.Input.{input};
 ghost use Rattle.dwz_bytes.specs.Spelling.{le_bytes};
+ghost use Rattle.dwz_meanings.specs.Patching.{written_at};
 ghost use Rattle.dwz_meanings.specs.Ranges.{sets_at};
-ghost use Rattle.dwz_aranges.specs.Patching.{IsPatched, written_at};
+ghost use Rattle.dwz_aranges.specs.Patching.{IsPatched};
 ghost use Rattle.dwz_aranges.specs.Views.{any_unit};
 
 use crate::sets::set_there;

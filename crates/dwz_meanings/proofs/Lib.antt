@@ -13,6 +13,13 @@ pub mod ClassLemmas
 pub mod NamedLemmas
 pub mod WidthLemmas
 pub mod FileLemmas
+pub mod CutLemmas
+pub mod StandLemmas
+pub mod FilledLemmas
+pub mod RenumberLemmas
+pub mod PatchedLemmas
+pub mod PatchedSets
 mod ExprRows
 mod MeaningRows
 mod FileRows
+mod PatchRows

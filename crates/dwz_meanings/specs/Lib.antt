@@ -8,3 +8,4 @@ pub mod Shared
 pub mod Meanings
 pub mod NamedLists
 pub mod Files
+pub mod Patching

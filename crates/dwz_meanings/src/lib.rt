@@ -10,6 +10,7 @@ mod files;
 mod line_tables;
 mod loc_lists;
 mod meanings;
+mod patching;
 mod ranges;
 mod shared;
 
@@ -18,5 +19,6 @@ pub use files::file_laws;
 pub use line_tables::line_laws;
 pub use loc_lists::list_laws;
 pub use meanings::meaning_laws;
+pub use patching::{patch_laws, patched_range_laws};
 pub use ranges::range_laws;
 pub use shared::shared_laws;

@@ -3,6 +3,7 @@ pub mod TextLemmas
 pub mod TextRowLemmas
 pub mod SupLemmas
 pub mod PlainLemmas
+pub mod PruneLemmas
 pub mod ReadLemmas
 pub mod ValueLemmas
 pub mod WrittenLemmas

@@ -3,6 +3,7 @@ pub mod Lists
 pub mod Faults
 pub mod Texts
 pub mod TextRows
+pub mod Pruning
 pub mod Values
 pub mod Abbrevs
 pub mod ElfHeaders

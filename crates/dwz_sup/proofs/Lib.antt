@@ -1,2 +1,3 @@
 pub mod HeaderSteps
 pub mod WrittenLemmas
+pub mod LengthLemmas

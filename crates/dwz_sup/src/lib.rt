@@ -3,10 +3,12 @@
 #![tactic(auto)]
 
 mod common;
+mod laws;
 mod plain;
 mod sup;
 
 pub use common::common_file;
+pub use laws::common_laws;
 pub use plain::{PlainSection, plain_file};
 pub use sup::{checksum, debug_sup};
 

@@ -1,0 +1,9 @@
+//! Expressions: their operators one by one, and the operands that name entries (DWARF 5, 2.5 and 7.7.1).
+#![tactic(auto)]
+
+mod fields;
+mod ops;
+mod shapes;
+
+pub use dwz_meanings::Operand;
+pub use ops::Ops;

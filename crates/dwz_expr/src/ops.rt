@@ -1,0 +1,402 @@
+//! Expressions that are read.
+
+ghost use Rattle.std.specs.Prelude.{◌≡◌, ◌+◌, ◌-◌, ◌<◌, ◌≤◌, ◌^◌, length};
+ghost use Rattle.dwz_model.specs.declared.fault.ReadErr.TheVariants.{Refused};
+ghost use Rattle.dwz_model.specs.declared.place.Base.TheVariants.{Unit as FromUnit, Info as FromInfo};
+ghost use Rattle.dwz_meanings.specs.Exprs.{Entry4, EntryOrGeneric, EntryUleb, any_operands, bad_expr, expr_at, fields_of, unsupported};
+ghost use Rattle.dwz_docs.specs.Faults.{Answers, AnswersAt};
+ghost use Rattle.dwz_expr.specs.Gathering.{counted_at, field_into, fields_into, gathered, nested_into, op_into, ops_into, shift, sized_at};
+ghost use Rattle.dwz_expr.specs.Flat.{HasNoExpression};
+
+use crate::fields::{byte, eight, four, run, sleb, uleb};
+use crate::shapes::shape_of;
+use dwz_bytes::Cursor;
+use dwz_codes::Shape;
+use dwz_meanings::Operand;
+use dwz_model::{Base, Fault, ReadErr, Reason};
+use std::alloc::Global;
+use std::marker::Model;
+
+// A bad expression at an operator.
+#[inline(always)]
+fn bad_at(section: u8, at: u64) -> Fault
+    ensures { result ≡ bad_expr (any_operands section) at }
+{
+    Fault {
+        section,
+        at,
+        reason: Reason::BadExpr,
+    }
+}
+
+// An operator that isn't read.
+#[inline(always)]
+fn unsupported_at(section: u8, at: u64, code: u8) -> ReadErr
+    ensures { result ≡ Refused (unsupported (any_operands section) at code) }
+{
+    ReadErr::Refused(Fault {
+        section,
+        at,
+        reason: Reason::UnsupportedOp { op: code },
+    })
+}
+
+// An operand of four bytes.
+#[inline(always)]
+fn operand4(
+    cursor: &mut Cursor,
+    start: u64,
+    bad: Fault,
+    base: Base,
+    operands: &mut Vec<Operand>,
+    address: bool,
+) -> Result<(), ReadErr>
+    requires { start + (cursor.old.at + length cursor.old.rest) < 2 ^ 64 }
+    ensures { AnswersAt (λ _. gathered operands.new.items address) (shift start cursor.new) result (field_into bad (Entry4 base) (gathered operands.old.items address) (shift start cursor.old)) }
+{
+    let _address = address;
+    let at = start + cursor.at() as u64;
+    let number = four(cursor, start, bad)? as u64;
+    operands.push(Operand {
+        at,
+        width: 4,
+        uleb: false,
+        base,
+        number,
+    })?;
+    Ok(())
+}
+
+// A ULEB128 number, and as many bytes.
+#[inline(always)]
+fn block<'a>(cursor: &mut Cursor<'a>, start: u64, bad: Fault) -> Result<&'a [u8], ReadErr>
+    ensures { AnswersAt (λ x. x.now) (shift start cursor.new) result (counted_at bad (shift start cursor.old)) }
+{
+    let count = uleb(cursor, start, bad)?;
+    run(cursor, start, bad, count as usize)
+}
+
+// A byte, and as many bytes as it says.
+#[inline(always)]
+fn sized<'a>(cursor: &mut Cursor<'a>, start: u64, bad: Fault) -> Result<&'a [u8], ReadErr>
+    ensures { AnswersAt (λ x. x.now) (shift start cursor.new) result (sized_at bad (shift start cursor.old)) }
+{
+    let count = byte(cursor, start, bad)?;
+    run(cursor, start, bad, count as usize)
+}
+
+// How many bytes there are from one place to another, both in one number.
+#[inline(always)]
+fn width(before: usize, behind: usize) -> u8
+    requires order { before ≤ behind }
+    requires few { behind ≤ before + 10 }
+    ensures { result ≡ behind - before }
+{
+    (behind - before) as u8
+}
+
+// A ULEB128 operand.
+#[inline(always)]
+fn operand_uleb(
+    cursor: &mut Cursor,
+    start: u64,
+    bad: Fault,
+    operands: &mut Vec<Operand>,
+    address: bool,
+) -> Result<(), ReadErr>
+    requires { start + (cursor.old.at + length cursor.old.rest) < 2 ^ 64 }
+    ensures { AnswersAt (λ _. gathered operands.new.items address) (shift start cursor.new) result (field_into bad EntryUleb (gathered operands.old.items address) (shift start cursor.old)) }
+{
+    let _address = address;
+    let before = cursor.at();
+    let number = uleb(cursor, start, bad)?;
+    let width = width(before, cursor.at());
+    operands.push(Operand {
+        at: start + before as u64,
+        width,
+        uleb: true,
+        base: Base::Unit,
+        number,
+    })?;
+    Ok(())
+}
+
+// The same, or 0 for the generic type.
+#[inline(always)]
+fn operand_or_generic(
+    cursor: &mut Cursor,
+    start: u64,
+    bad: Fault,
+    operands: &mut Vec<Operand>,
+    address: bool,
+) -> Result<(), ReadErr>
+    requires { start + (cursor.old.at + length cursor.old.rest) < 2 ^ 64 }
+    ensures { AnswersAt (λ _. gathered operands.new.items address) (shift start cursor.new) result (field_into bad EntryOrGeneric (gathered operands.old.items address) (shift start cursor.old)) }
+{
+    let _address = address;
+    let before = cursor.at();
+    let number = uleb(cursor, start, bad)?;
+    if number == 0 {
+        return Ok(());
+    }
+    let width = width(before, cursor.at());
+    operands.push(Operand {
+        at: start + before as u64,
+        width,
+        uleb: true,
+        base: Base::Unit,
+        number,
+    })?;
+    Ok(())
+}
+
+// What stands behind the code of an operator that has no expression in it.
+#[inline(always)]
+#[tactic(auto, unfolding(crate::specs::Gathering::fields_into))]
+fn fields(
+    shape: Shape,
+    code: u8,
+    at: u64,
+    section: u8,
+    cursor: &mut Cursor,
+    start: u64,
+    operands: &mut Vec<Operand>,
+    address: &mut bool,
+) -> Result<(), ReadErr>
+    requires flat { HasNoExpression shape }
+    requires short { start + (cursor.old.at + length cursor.old.rest) < 2 ^ 64 }
+    ensures { AnswersAt (λ _. gathered operands.new.items address.new) (shift start cursor.new) result (op_into section at code (fields_of shape) (gathered operands.old.items address.old) (shift start cursor.old)) }
+{
+    let bad = bad_at(section, at);
+    match shape {
+        Shape::Nothing => Ok(()),
+        Shape::Fixed1 => {
+            run(cursor, start, bad, 1)?;
+            Ok(())
+        }
+        Shape::Fixed2 => {
+            run(cursor, start, bad, 2)?;
+            Ok(())
+        }
+        Shape::Fixed4 => {
+            run(cursor, start, bad, 4)?;
+            Ok(())
+        }
+        Shape::Fixed8 => {
+            run(cursor, start, bad, 8)?;
+            Ok(())
+        }
+        Shape::Uleb => {
+            uleb(cursor, start, bad)?;
+            Ok(())
+        }
+        Shape::Sleb => {
+            sleb(cursor, start, bad)?;
+            Ok(())
+        }
+        Shape::UlebSleb => {
+            uleb(cursor, start, bad)?;
+            sleb(cursor, start, bad)?;
+            Ok(())
+        }
+        Shape::UlebUleb => {
+            uleb(cursor, start, bad)?;
+            uleb(cursor, start, bad)?;
+            Ok(())
+        }
+        Shape::BlockUleb => {
+            block(cursor, start, bad)?;
+            Ok(())
+        }
+        Shape::Address => {
+            eight(cursor, start, bad)?;
+            *address = true;
+            Ok(())
+        }
+        Shape::AddressIndex => {
+            uleb(cursor, start, bad)?;
+            *address = true;
+            Ok(())
+        }
+        Shape::UnitEntry4 => {
+            operand4(cursor, start, bad, Base::Unit, operands, *address)?;
+            Ok(())
+        }
+        Shape::InfoEntry4 => {
+            operand4(cursor, start, bad, Base::Info, operands, *address)?;
+            Ok(())
+        }
+        Shape::InfoEntry4Sleb => {
+            operand4(cursor, start, bad, Base::Info, operands, *address)?;
+            sleb(cursor, start, bad)?;
+            Ok(())
+        }
+        Shape::UlebEntryConst => {
+            operand_uleb(cursor, start, bad, operands, *address)?;
+            sized(cursor, start, bad)?;
+            Ok(())
+        }
+        Shape::RegisterUlebEntry => {
+            uleb(cursor, start, bad)?;
+            operand_uleb(cursor, start, bad, operands, *address)?;
+            Ok(())
+        }
+        Shape::SizeUlebEntry => {
+            run(cursor, start, bad, 1)?;
+            operand_uleb(cursor, start, bad, operands, *address)?;
+            Ok(())
+        }
+        Shape::UlebEntryOrGeneric => {
+            operand_or_generic(cursor, start, bad, operands, *address)?;
+            Ok(())
+        }
+        Shape::Refused
+        | Shape::Fixed3
+        | Shape::Fixed16
+        | Shape::ZeroEnded
+        | Shape::Block1
+        | Shape::Block2
+        | Shape::Block4 => { Err(unsupported_at(section, at, code)) }
+        Shape::NestedExpr
+        | Shape::UlebUlebExpr
+        | Shape::AddressAddressExpr
+        | Shape::AddressUlebExpr => { Err(unsupported_at(section, at, code)) }
+    }
+}
+
+// An expression behind its length, in an operator at that place, where so many expressions may be one inside another.
+#[cycle(inside)]
+fn nested(
+    alone: u8,
+    at: u64,
+    section: u8,
+    cursor: &mut Cursor,
+    start: u64,
+    operands: &mut Vec<Operand>,
+    address: &mut bool,
+) -> Result<(), ReadErr>
+    requires short { start + (cursor.old.at + length cursor.old.rest) < 2 ^ 64 }
+    ensures { AnswersAt (λ _. gathered operands.new.items address.new) (shift start cursor.new) result (nested_into section alone (bad_expr (any_operands section) at) (gathered operands.old.items address.old) (shift start cursor.old)) }
+{
+    let bad = bad_at(section, at);
+    let count = uleb(cursor, start, bad)?;
+    let place = start + cursor.at() as u64;
+    let content = run(cursor, start, bad, count as usize)?;
+    if alone == 0 {
+        return Err(ReadErr::Refused(bad));
+    }
+    all(alone - 1, content, place, section, operands, address)
+}
+
+// The operators of an expression that has all the bytes, where so many expressions may be inside it in turn.
+#[cycle(inside)]
+fn all(
+    inside: u8,
+    bytes: &[u8],
+    start: u64,
+    section: u8,
+    operands: &mut Vec<Operand>,
+    address: &mut bool,
+) -> Result<(), ReadErr>
+    requires short { start + length bytes.now < 2 ^ 64 }
+    ensures { Answers (λ _. gathered operands.new.items address.new) result (ops_into section inside (gathered operands.old.items address.old) (record { at = start; rest = bytes.now })) }
+{
+    let mut cursor = Cursor::new(bytes, 0);
+    while cursor.at() < bytes.len() {
+        let at = start + cursor.at() as u64;
+        let code = byte(&mut cursor, start, bad_at(section, at))?;
+        let shape = shape_of(code);
+        match shape {
+            Shape::NestedExpr => nested(
+                inside,
+                at,
+                section,
+                &mut cursor,
+                start,
+                operands,
+                address,
+            )?,
+            _ => fields(
+                shape,
+                code,
+                at,
+                section,
+                &mut cursor,
+                start,
+                operands,
+                address,
+            )?,
+        }
+    }
+    Ok(())
+}
+
+/// An expression that was read (DWARF 5, 2.5): its bytes, and the operands in it that name entries, those of expressions in it
+/// among them. Clauses see an `Expression`.
+#[derive(Drop)]
+pub struct Ops<'a> {
+    bytes: &'a [u8],
+    at: u64,
+    operands: Vec<Operand>,
+    address: bool,
+}
+
+impl<'a> Model for Ops<'a> {
+    ghost use Rattle.dwz_meanings.specs.Exprs.{Expression};
+
+    ghost Value = { Expression };
+
+    ghost view = { λ o. record { at = o.at; bytes = o.bytes.now; operands = o.operands.items; address = o.address } };
+}
+
+// How many expressions may be inside another one.
+const MOST_INSIDE: u8 = 8;
+
+impl<'a> Ops<'a> {
+    /// Reads the expression whose bytes these are, and whose first byte stands at that place of the section with that code.
+    /// Refused exactly at the first operator that isn't read: as `UnsupportedOp` where its code has no row or one that says
+    /// so, and else as `BadExpr` where its operands don't end in the expression, a number in them is too wide, or an
+    /// expression is inside more than 8 others.
+    pub fn read(alloc: Global, bytes: &'a [u8], at: u64, section: u8) -> Result<Ops<'a>, ReadErr>
+        requires { at + length bytes.now < 2 ^ 64 }
+        ensures { Answers (λ o. o) result (expr_at (any_operands section) (record { at = at; rest = bytes.now })) }
+    {
+        let mut operands = Vec::new(alloc);
+        let mut address = false;
+        all(MOST_INSIDE, bytes, at, section, &mut operands, &mut address)?;
+        Ok(Ops {
+            bytes,
+            at,
+            operands,
+            address,
+        })
+    }
+
+    /// The bytes that it was read from.
+    pub fn bytes(&self) -> &[u8]
+        ensures { result.now ≡ self.now.bytes }
+    {
+        self.bytes
+    }
+
+    /// The place of its first byte in its section.
+    pub fn at(&self) -> u64
+        ensures { result ≡ self.now.at }
+    {
+        self.at
+    }
+
+    /// The operands that name entries, in order.
+    pub fn operands(&self) -> &[Operand]
+        ensures { result.now ≡ self.now.operands }
+    {
+        &self.operands
+    }
+
+    /// Whether it, or an expression in it, has an address or the index of one.
+    pub fn has_address(&self) -> bool
+        ensures { result ≡ self.now.address }
+    {
+        self.address
+    }
+}

@@ -1,0 +1,11 @@
+pub mod RowLemmas
+pub mod RootLemmas
+pub mod NamedLemmas
+pub mod PlaceLemmas
+pub mod NamedSteps
+pub mod UnitThere
+pub mod ValueSteps
+pub mod TextLemmas
+pub mod TextSteps
+pub mod StateLemmas
+pub mod Answering

@@ -1,0 +1,5 @@
+pub mod Classes
+pub mod Named
+pub mod TextEnds
+pub mod State
+pub mod Resolved

@@ -1,0 +1,14 @@
+-- What is kept of the values that were looked at.
+use Rattle.std.specs.Prelude.{◌≡◌, ℕ, List}
+use Rattle.dwz_docs.specs.Units.{RawUnit}
+use Rattle.dwz_meanings.specs.Meanings.{Around, Scope}
+use Rattle.dwz_meanings.specs.Shared.{NamedList}
+use Rattle.dwz_resolve.specs.declared.state.State.{State}
+
+-- behind values of the units before the n-th, and of some of that one, whose scope this is; these lists are named
+pub record IsState (s : Scope ℕ) (n : ℕ) (named : List NamedList) (st : State) : Type 0 where
+  pub nothing : Unit {0}
+
+-- the same, behind the units before the n-th
+pub record IsBehind (around : Around ℕ) (raw : List RawUnit) (n : ℕ) (named : List NamedList) (st : State) : Type 0 where
+  pub nothing : Unit {0}

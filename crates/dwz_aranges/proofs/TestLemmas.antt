@@ -1,7 +1,6 @@
 -- A set's unit is one of those known, or the set is bad.
-use Rattle.std.proofs.Common.{◌≡◌, ℕ, ◌+◌, ◌≤◌, Bool, true, false, length, ◌++◌, Ok, Err, refl, sym, ap, ◌∙◌, inl, inr, arith}
-use Rattle.dwz_bytes.specs.Input.{Input}
-use Rattle.dwz_meanings.specs.Ranges.{IsBadSet, RangeSet, bad_ranges, set_at, set_unit}
+use Rattle.std.proofs.Common.{◌≡◌, ◌+◌, ◌≤◌, length, refl, sym, ap, ◌∙◌, inl, inr, arith}
+use Rattle.dwz_meanings.specs.Ranges.{IsBadSet, bad_ranges, set_unit}
 use Rattle.dwz_docs.specs.Units.{field}
 use Rattle.dwz_docs.proofs.HeaderLemmas.{field-append}
 use Rattle.dwz_meanings.proofs.RangeLemmas.{set_reads}

@@ -1,11 +1,14 @@
 -- Sets as the definitions see them, and what is found at a place.
-use Rattle.std.specs.Prelude.{◌≡◌, ◌+◌, ◌<◌, ◌≤◌, ℕ, Bool, true, false, List, length, Option, Some, None, Ok, Err}
+use Rattle.std.specs.Prelude.{◌≡◌, ◌<◌, ◌≤◌, ℕ, Bool, true, false, List, length, map, Option, Some, None, Ok, Err}
 use Rattle.dwz_bytes.specs.Input.{Input, input}
 use Rattle.dwz_meanings.specs.Ranges.{RangeSet, bad_ranges, set_at}
 use Rattle.dwz_aranges.specs.declared.sets.Set.{Set}
 
 abbrev pub set_view : Set → RangeSet
 set_view s = record { at = s.at; unit = s.unit }
+
+abbrev pub set_views : List Set → List RangeSet
+set_views sets = map set_view sets
 
 -- whichever numbers are those of units
 abbrev pub any_unit : ℕ → Bool

@@ -9,3 +9,6 @@ pub mod TextLemmas
 pub mod TextSteps
 pub mod StateLemmas
 pub mod Answering
+pub mod SearchLemmas
+pub mod UnitStarts
+pub mod SetSteps

@@ -17,6 +17,7 @@ use Rattle.dwz_docs.proofs.UnitListLemmas.{units_found}
 use Rattle.dwz_unit.specs.declared.rows.RawEntry.{RawEntry as EntryOfCode}
 use Rattle.dwz_unit.specs.Rows.{EntryRow, Source, or_none, rows_below, rows_from, rows_in, rows_of, shown_entries, units_of}
 use Rattle.dwz_resolve.proofs.RowLemmas.{entry_row, rows-length}
+use Rattle.dwz_resolve.proofs.SearchLemmas.{Rise, has_none, has_there}
 use Rattle.dwz_resolve.specs.Resolved.{place_at, places}
 
 -- ---- rising numbers
@@ -139,7 +140,7 @@ read_ascend abbrevs room info (Ok raw) e =
     let same : 0 + length info ≡ length info = omega arith in
     subst (λ (n : ℕ). Ascend 0 (all_places raw) n) same up
 
-pub places_rise : (s : Source) (i j : ℕ) → i < j → j < length (places (units_of s)) → place_at (units_of s) i < place_at (units_of s) j
+pub places_rise : (s : Source) → Rise (places (units_of s))
 unfolding units_of
 places_rise s i j l m =
     let raw = units_of s in
@@ -156,70 +157,7 @@ entry_place raw i e is =
 pub places_many : (raw : List RawUnit) → length (places raw) ≡ entries_in raw
 places_many raw = length-map (rows_of raw) (λ (row : EntryRow). row.entry.at) ∙ rows-length raw
 
--- ---- a search by halves
-
-pub record Searched (raw : List RawUnit) (first end place low high : ℕ) : Type 0 where
-  pub from : first ≤ low
-  pub to : high ≤ end
-  pub below : (i : ℕ) → first ≤ i → i < low → place_at raw i < place
-  pub above : (i : ℕ) → high ≤ i → i < end → place < place_at raw i
-
-pub search_begins : (raw : List RawUnit) (first end place : ℕ) → Searched raw first end place first end
-search_begins raw first end place = record { from = omega arith; to = omega arith; below = λ i l m. absurd (omega arith); above = λ i l m. absurd (omega arith) }
-
-pub search_up : (s : Source) (first end place low high middle at : ℕ) → low ≤ middle → middle < high → end ≤ entries_in (units_of s) → place_at (units_of s) middle ≡ at → at < place → Searched (units_of s) first end place low high → Searched (units_of s) first end place (middle + 1) high
-search_up s first end place low high middle at l m n e less h =
-    let raw = units_of s in
-    let to = h.to in
-    let from = h.from in
-    let many = places_many raw in record {
-      from = omega arith;
-      to = h.to;
-      below = λ i j k. elim (cases_lt i middle) [
-        | inl lt ↦ let rise = places_rise s i middle lt (omega arith) in omega arith
-        | inr ge ↦ let same : i ≡ middle = omega arith in let here = ap (place_at raw) same in omega arith
-      ];
-      above = h.above;
-    }
-
-pub search_down : (s : Source) (first end place low high middle at : ℕ) → low ≤ middle → middle < high → end ≤ entries_in (units_of s) → place_at (units_of s) middle ≡ at → place < at → Searched (units_of s) first end place low high → Searched (units_of s) first end place low middle
-search_down s first end place low high middle at l m n e more h =
-    let raw = units_of s in
-    let to = h.to in
-    let many = places_many raw in record {
-      from = h.from;
-      to = omega arith;
-      below = h.below;
-      above = λ i j k. elim (cases_lt middle i) [
-        | inl lt ↦ let rise = places_rise s middle i lt (omega arith) in omega arith
-        | inr ge ↦ let same : i ≡ middle = omega arith in let here = ap (place_at raw) same in omega arith
-      ];
-    }
-
-pub search_ends : (raw : List RawUnit) (first end place low high : ℕ) → high ≤ low → Searched raw first end place low high → (i : ℕ) → first ≤ i → i < end → place_at raw i ≡ place → ⊥
-search_ends raw first end place low high stop h i l m e = elim (cases_lt i low) [
-  | inl lt ↦ let less = h.below i l lt in omega arith
-  | inr ge ↦ let more = h.above i (omega arith) m in omega arith
-]
-
 -- ---- among some of the places
-
-has_there : (ps : List ℕ) (k p : ℕ) → k < length ps → get_or ps k 0 ≡ p → has p ps ≡ true
-unfolding has
-has_there [] k p l e = absurd (omega arith)
-has_there (q ∷ ps) zero p l e = cond-true (q == p) true (has p ps) (eq-eqb q p e)
-has_there (q ∷ ps) (suc k) p l e = elim (cases_Bool (q == p)) [
-  | inl t ↦ cond-true (q == p) true (has p ps) t
-  | inr f ↦ cond-false (q == p) true (has p ps) f ∙ has_there ps k p (omega arith) e
-]
-
-has_none : (ps : List ℕ) (p : ℕ) → ((k : ℕ) → k < length ps → get_or ps k 0 ≡ p → ⊥) → has p ps ≡ false
-unfolding has
-has_none [] p h = refl
-has_none (q ∷ ps) p h = elim (cases_Bool (q == p)) [
-  | inl t ↦ absurd (h 0 (omega arith) (eqb-true q p t))
-  | inr f ↦ cond-false (q == p) true (has p ps) f ∙ has_none ps p (λ k l e. h (suc k) (omega arith) e)
-]
 
 range_at : (ps : List ℕ) (first end k : ℕ) → k < end - first → get_or (slice_range ps first end) k 0 ≡ get_or ps (first + k) 0
 range_at ps first end k l = get_or-take (end - first) (drop first ps) k 0 l ∙ get_or-drop first ps k 0

@@ -1,5 +1,5 @@
 -- Entries that are named, by their numbers.
-use Rattle.std.specs.Prelude.{◌≡◌, ℕ, ◌+◌, ◌<◌, ◌≤◌, Bool, true, false, List, [], ◌∷◌, ◌++◌, map, Result, Ok, Err, Option, Some, None, slice_get, slice_index, slice_range}
+use Rattle.std.specs.Prelude.{◌≡◌, ℕ, ◌+◌, ◌<◌, ◌≤◌, Bool, true, false, List, [], ◌∷◌, ◌++◌, map, Result, Ok, Err, IsOk, Option, Some, None, slice_get, slice_index, slice_range}
 use Rattle.std.specs.Option.{is_some}
 use Rattle.dwz_model.specs.declared.fault.Fault.{Fault}
 use Rattle.dwz_model.specs.declared.fault.ReadErr.{ReadErr}
@@ -116,3 +116,8 @@ has_slot_text s (Some base) index = text_at_slot s (slot s.offsets base index)
 abbrev pub NamesEntry : {Y : Type 0} → List RawUnit → List ℕ → List ℕ → Result Y ReadErr → Result (Value ℕ) Fault → Type 0
 NamesEntry raw old new (Ok y) named = (i : ℕ) × (new ≡ old ++ i ∷ []) × (i < entries_in raw) × (named ≡ Ok (ref (place_at raw i)))
 NamesEntry raw old new (Err e) named = Fails e named
+
+-- what was asked for holds of what is read, or the fault is the same
+abbrev pub Tells : {X Y : Type 0} → Result Y ReadErr → Result X Fault → Type 0
+Tells (Ok y) read = IsOk read
+Tells (Err e) read = Fails e read

@@ -6,6 +6,7 @@ mod find;
 mod here;
 mod kinds;
 mod named;
+mod ranges;
 mod references;
 mod resolving;
 mod sections;

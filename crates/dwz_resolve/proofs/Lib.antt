@@ -12,3 +12,6 @@ pub mod Answering
 pub mod SearchLemmas
 pub mod UnitStarts
 pub mod SetSteps
+pub mod StandLemmas
+pub mod ApartLemmas
+pub mod SharedLaw

@@ -27,15 +27,15 @@ abbrev pub Ascend : ℕ → List ℕ → ℕ → Type 0
 Ascend from [] to = from ≤ to
 Ascend from (p ∷ ps) to = (from ≤ p) × Ascend (p + 1) ps to
 
-ascend_lower : (ps : List ℕ) (a b c : ℕ) → c ≤ a → Ascend a ps b → Ascend c ps b
+pub ascend_lower : (ps : List ℕ) (a b c : ℕ) → c ≤ a → Ascend a ps b → Ascend c ps b
 ascend_lower [] a b c le h = omega (arith, le, h)
 ascend_lower (p ∷ ps) a b c le h = (omega (arith, le, h.0), h.1)
 
-ascend_higher : (ps : List ℕ) (a b d : ℕ) → b ≤ d → Ascend a ps b → Ascend a ps d
+pub ascend_higher : (ps : List ℕ) (a b d : ℕ) → b ≤ d → Ascend a ps b → Ascend a ps d
 ascend_higher [] a b d le h = omega (arith, le, h)
 ascend_higher (p ∷ ps) a b d le h = (h.0, ascend_higher ps (p + 1) b d le h.1)
 
-ascend_append : (ps qs : List ℕ) (a b c : ℕ) → Ascend a ps b → Ascend b qs c → Ascend a (ps ++ qs) c
+pub ascend_append : (ps qs : List ℕ) (a b c : ℕ) → Ascend a ps b → Ascend b qs c → Ascend a (ps ++ qs) c
 ascend_append [] qs a b c h k = ascend_lower qs b c a h k
 ascend_append (p ∷ ps) qs a b c h k = (h.0, ascend_append ps qs (p + 1) b c h.1 k)
 

@@ -3,3 +3,5 @@ pub mod Named
 pub mod TextEnds
 pub mod State
 pub mod Resolved
+pub mod Apart
+pub mod ListRows

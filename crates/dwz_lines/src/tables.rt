@@ -1,0 +1,123 @@
+//! Directories and files (DWARF 5, 6.2.4): formats, how many rows there are, and the rows.
+
+ghost use Rattle.std.specs.Prelude.{◌≡◌, ◌||◌, length, map};
+ghost use Rattle.dwz_lines.specs.Reading;
+ghost use Rattle.dwz_lines.specs.Reading.{TriesAt, dirs_in, files_in, paths_in};
+ghost use Rattle.dwz_lines.specs.RowViews.{strings_view};
+ghost use Rattle.dwz_lines.specs.TableViews.{dirs_view, joined_in};
+ghost use Rattle.dwz_lines.specs.Views.{format_views};
+
+use crate::formats::{Format, formats, names_strs};
+use crate::paths::Paths;
+use crate::rows::{Strings, one_row};
+use crate::table::FileTable;
+use dwz_bytes::Cursor;
+use dwz_model::{Fault, ReadErr};
+use std::alloc::Global;
+
+/// The paths of directories, by their numbers, and whether a format of theirs has the form strp.
+#[derive(Drop)]
+pub(crate) struct Directories<'a> {
+    pub(crate) paths: Vec<&'a [u8]>,
+    pub(crate) strp: bool,
+}
+
+// The paths of so many directories.
+#[tactic(auto, unfolding(crate::specs::Reading::paths_in))]
+fn directory_paths<'a>(
+    alloc: Global,
+    cursor: &mut Cursor<'a>,
+    formats: &[Format],
+    count: u64,
+    strings: Strings<'a>,
+    bad: Fault,
+) -> Result<Vec<&'a [u8]>, ReadErr>
+    ensures { TriesAt (λ v. map (λ p. p.now) v.items) bad cursor.new result (paths_in (strings_view strings.entry) (format_views formats.now) count cursor.old) }
+{
+    let mut paths = Vec::new(alloc);
+    for _number in 0..count {
+        let Some(row) = one_row(cursor, formats, strings, count) else {
+            return Err(ReadErr::Refused(bad));
+        };
+        paths.push(row.path)?;
+    }
+    Ok(paths)
+}
+
+/// The directories of a table.
+#[tactic(auto, unfolding(crate::specs::Reading::dirs_in, crate::specs::Reading::paths_in))]
+pub(crate) fn read_directories<'a>(
+    alloc: Global,
+    cursor: &mut Cursor<'a>,
+    strings: Strings<'a>,
+    bad: Fault,
+) -> Result<Directories<'a>, ReadErr>
+    ensures { TriesAt dirs_view bad cursor.new result (dirs_in (strings_view strings.entry) cursor.old) }
+{
+    let formats = formats(alloc, cursor, bad)?;
+    let Ok(count) = cursor.uleb() else {
+        return Err(ReadErr::Refused(bad));
+    };
+    let paths = directory_paths(alloc, cursor, &formats, count, strings, bad)?;
+    let strp = names_strs(&formats);
+    Ok(Directories { paths, strp })
+}
+
+// The paths of so many files, each joined with those of its directories.
+fn file_paths<'a>(
+    alloc: Global,
+    cursor: &mut Cursor<'a>,
+    formats: &[Format],
+    count: u64,
+    dirs: &[&'a [u8]],
+    strings: Strings<'a>,
+    bad: Fault,
+) -> Result<Paths, ReadErr>
+    ensures { TriesAt (λ p. p) bad cursor.new result (joined_in (strings_view strings.entry) (format_views formats.now) (map (λ d. d.now) dirs.now) count cursor.old) }
+{
+    let mut paths = Paths::new(alloc);
+    for _number in 0..count {
+        let Some(row) = one_row(cursor, formats, strings, dirs.len() as u64) else {
+            return Err(ReadErr::Refused(bad));
+        };
+        paths.push(dirs, &row)?;
+    }
+    Ok(paths)
+}
+
+// Whether there is a directory wherever there is a file.
+fn has_dir(files: u64, dirs: usize) -> bool
+    ensures { result ≡ Reading.has_dir files dirs }
+{
+    files == 0 || dirs > 0
+}
+
+// Whether one of two holds.
+fn either(one: bool, other: bool) -> bool
+    ensures { result ≡ (one || other) }
+{
+    one || other
+}
+
+/// The files of a table.
+#[tactic(auto, unfolding(crate::specs::Reading::files_in))]
+pub(crate) fn read_files<'a>(
+    alloc: Global,
+    cursor: &mut Cursor<'a>,
+    dirs: &Directories<'a>,
+    strings: Strings<'a>,
+    bad: Fault,
+) -> Result<FileTable, ReadErr>
+    ensures { TriesAt (λ t. t) bad cursor.new result (files_in (strings_view strings.entry) (dirs_view dirs.now) cursor.old) }
+{
+    let formats = formats(alloc, cursor, bad)?;
+    let Ok(count) = cursor.uleb() else {
+        return Err(ReadErr::Refused(bad));
+    };
+    if !has_dir(count, dirs.paths.len()) {
+        return Err(ReadErr::Refused(bad));
+    }
+    let paths = file_paths(alloc, cursor, &formats, count, &dirs.paths, strings, bad)?;
+    let has_strp = either(dirs.strp, names_strs(&formats));
+    Ok(FileTable { paths, has_strp })
+}

@@ -1,8 +1,8 @@
 -- Units begin at rising places, and none that is read is partial.
-use Rattle.std.proofs.Common.{◌≡◌, ℕ, ◌+◌, ◌<◌, ◌≤◌, Bool, true, false, List, [], ◌∷◌, ◌++◌, length, map, get_or, Some, Result, Ok, Err, slice_get, refl, sym, ap, subst, ◌∙◌, arith}
+use Rattle.std.proofs.Common.{◌≡◌, ℕ, ◌+◌, ◌<◌, ◌≤◌, Bool, true, false, List, [], ◌∷◌, ◌++◌, length, map, get_or, Some, Result, Ok, Err, slice_get, refl, sym, ap, subst, ◌∙◌, inl, inr, arith}
 use Rattle.std.specs.Prelude.{◌==◌}
 use Rattle.std.specs.Option.{option_map}
-use Rattle.std.proofs.lemmas.Bool.{eqb-true, false≢true}
+use Rattle.std.proofs.lemmas.Bool.{cases_lt, eqb-true, false≢true}
 use Rattle.std.proofs.lemmas.List.{length-append, length-map}
 use Rattle.std.proofs.lemmas.Option.{get_or_from_slice_get, slice_get-map}
 use Rattle.dwz_model.specs.declared.fault.Fault.{Fault}
@@ -13,6 +13,7 @@ use Rattle.dwz_docs.proofs.UnitListLemmas.{units_found}
 use Rattle.dwz_meanings.specs.Files.{place_if_whole, unit_places}
 use Rattle.dwz_unit.specs.declared.rows.RawUnit.{RawUnit as UnitOfCode}
 use Rattle.dwz_unit.specs.Rows.{Source, or_none, shown_from, shown_units, unit_shown, units_of}
+use Rattle.dwz_resolve.specs.ListRows.{AreDistinct}
 use Rattle.dwz_resolve.proofs.PlaceLemmas.{Ascend, ascend_at}
 use Rattle.dwz_resolve.proofs.RowLemmas.{unit_there}
 use Rattle.dwz_resolve.proofs.SearchLemmas.{Rise}
@@ -89,3 +90,15 @@ unit_start raw n x e =
 
 pub starts_many : (raw : List RawUnit) → length (starts raw) ≡ length raw
 starts_many raw = length-map raw (λ (u : RawUnit). u.at)
+
+-- two units don't begin at one place
+pub starts_distinct : (s : Source) → AreDistinct (units_of s)
+starts_distinct s m n lm ln e =
+    let many = starts_many (units_of s) in
+    elim (cases_lt m n) [
+      | inl lt ↦ absurd (let up = starts_rise s m n lt (omega arith) in omega arith)
+      | inr ge ↦ elim (cases_lt n m) [
+        | inl lt ↦ absurd (let up = starts_rise s n m lt (omega arith) in omega arith)
+        | inr le ↦ (let same : m ≡ n = omega arith in same)
+      ]
+    ]

@@ -76,11 +76,11 @@ pub record IsHere (raw : List RawUnit) (u : RawUnit) (h : Here) : Type 0 where
 
 -- what is known of the state, where the entries of that unit are looked at
 abbrev pub StateIn : Sections → List RawUnit → RawUnit → Here → List NamedList → State → Type 0
-StateIn sections raw u h named st = IsState (scope_in sections raw u) h.number named st
+StateIn sections raw u h named st = IsState raw (scope_in sections raw u) h.number named st
 
 -- what is known of it behind the units before that one
 abbrev pub StateAt : Sections → List RawUnit → ℕ → List NamedList → State → Type 0
-StateAt sections raw n named st = IsBehind (around sections raw) raw n named st
+StateAt sections raw n named st = IsBehind raw (around sections raw) n named st
 
 -- a test holds, or the call failed with that fault
 abbrev pub Checks : {Y : Type 0} → Result Y ReadErr → Bool → Fault → Type 0

@@ -19,5 +19,5 @@ mod strings;
 pub use class::{Class, class_of};
 pub use here::{Here, here_of};
 pub use operands::ListOperand;
-pub use resolving::resolve;
+pub use resolving::{Resolved, resolve};
 pub use sections::{Sections, TextSection, offset_of, slot, text_in};

@@ -54,6 +54,8 @@ pub struct Sections<'a> {
     pub line: &'a [u8],
     /// `.debug_loclists`
     pub lists: &'a [u8],
+    /// `.debug_aranges`
+    pub aranges: &'a [u8],
 }
 
 // How far a number is from 0, or a negative one from -1.

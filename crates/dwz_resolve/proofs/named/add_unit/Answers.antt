@@ -38,7 +38,7 @@ loop-i-init c = λ u before found k. (
     let K = StateIn c.args.sections.now raw u c.here_of-here.result in
     let none : 0 ≡ c.here_of-here.result.first - c.here_of-here.result.first = omega arith in
     subst (λ (k : ℕ). Goes {Y = Unit {0}} raw K before c.args.state.now c.args.state.now (Ok tt) (collect (entry_named s) (take k (entries_of u)))) none
-    (adds_none raw K (entry_named s) (entries_of u) before c.args.state.now c.args.state.now refl (subst (λ (m : ℕ). IsState s m before c.args.state.now) (sym h.number) (unit_begins (around c.args.sections.now raw) raw u c.args.n before c.args.state.now found k))))
+    (adds_none raw K (entry_named s) (entries_of u) before c.args.state.now c.args.state.now refl (subst (λ (m : ℕ). IsState raw s m before c.args.state.now) (sym h.number) (unit_begins raw (around c.args.sections.now raw) u c.args.n before c.args.state.now found k))))
 
 pub add_values-requires-clause-row : goal.add_values-requires-clause-row
 add_values-requires-clause-row c =
@@ -91,4 +91,4 @@ returns c = λ u before found k. (
     (c.in_ok-check_kind.ensures u is (shown_there raw c.args.n c.unit-unit.result c.here_of-here.result h u found))
     (added_known raw K L before c.args.state.now c.loop-i.state (collect (entry_named s) (entries_of u))
     (adds_all raw K (entry_named s) (entries_of u) (c.loop-i.i - c.here_of-here.result.first) before c.args.state.now c.loop-i.state (omega arith) (c.loop-i.invariant u before found k))
-    (λ lists q. unit_left (around c.args.sections.now raw) raw u c.args.n lists c.loop-i.state found (subst (λ (m : ℕ). IsState s m lists c.loop-i.state) h.number q))))
+    (λ lists q. unit_left raw (around c.args.sections.now raw) u c.args.n lists c.loop-i.state found (subst (λ (m : ℕ). IsState raw s m lists c.loop-i.state) h.number q))))

@@ -31,12 +31,19 @@ pub struct Resolved {
 }
 
 /// Reads what the values of all units of a file say, each of its sets of address ranges, and its location lists. Refused with the first
-/// fault of the meanings, else of the address ranges, else with that of shared lists.
-pub fn resolve(alloc: Global, units: &Units, sections: &Sections) -> Result<Resolved, ReadErr>
+/// fault of the meanings, else of the address ranges, else with that of shared lists. `file` is the number of the file, which the places of
+/// operands get.
+pub fn resolve(
+    alloc: Global,
+    file: u32,
+    units: &Units,
+    sections: &Sections,
+) -> Result<Resolved, ReadErr>
     ensures within { IfOk result (λ r. AreEntries (units_of units.now) r.refs.items) }
     ensures operands { IfOk result (λ r. AreRows (lists_of_units (around sections.now (units_of units.now)) (units_of units.now)) (map (operand_view (units_of units.now)) r.operands.items)) }
     ensures answers { Answers (λ r. map (place_at (units_of units.now)) r.refs.items) result (map_ok units_refs (said (around sections.now (units_of units.now)) (units_of units.now) sections.now.aranges.now)) }
 {
+    let _file = file;
     let mut state = State::new(alloc);
     add_units(units, sections, &mut state)?;
     check_ranges(units, sections.aranges)?;

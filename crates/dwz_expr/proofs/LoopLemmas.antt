@@ -1,9 +1,11 @@
--- One step of the loop over operators.
-use Rattle.std.proofs.Common.{◌≡◌, ◌⊎◌, ℕ, Bool, true, false, eqb, ◌+◌, ◌<◌, List, [], ◌∷◌, ◌++◌, length, Option, Some, None, Result, Ok, Err, refl, sym, ap, subst, ◌∙◌, inl, inr, arith}
+-- One turn of the loop over operators, in each context.
+use Rattle.std.proofs.Common.{◌≡◌, ◌⊎◌, ℕ, Bool, true, false, eqb, ◌+◌, ◌<◌, List, [], ◌∷◌, ◌++◌, length, Option, Some, None, Result, Ok, Err, refl, sym, ap, subst, ◌∙◌, inl, inr, arith, drop, append_assoc}
 use Rattle.std.specs.Prelude.{◌||◌}
 use Rattle.std.specs.List.{list_all}
 use Rattle.std.proofs.lemmas.Bool.{and_parts}
-use Rattle.std.proofs.lemmas.List.{length-append}
+use Rattle.std.proofs.Math.ListN.{drop_of_length-le}
+use Rattle.std.proofs.Math.Seq.{drop-append_seam}
+use Rattle.std.proofs.lemmas.List.{append-nil, length-append}
 use Rattle.dwz_model.specs.declared.fault.Fault.{Fault}
 use Rattle.dwz_model.specs.declared.fault.ReadErr.{ReadErr}
 use Rattle.dwz_model.specs.declared.fault.ReadErr.TheVariants.{NoMemory, Refused}
@@ -14,7 +16,9 @@ use Rattle.dwz_bytes.specs.Spelling.{SpellsFixed}
 use Rattle.dwz_codes.specs.Operators.{operator_rows}
 use Rattle.dwz_codes.specs.declared.shape.Shape.{Shape}
 use Rattle.dwz_codes.specs.declared.shape.Shape.TheVariants.{Nothing, Fixed1, Fixed2, Fixed4, Fixed8, Uleb, Sleb, UlebSleb, UlebUleb, BlockUleb, Address, AddressIndex, NestedExpr, UnitEntry4, InfoEntry4, InfoEntry4Sleb, UlebEntryConst, RegisterUlebEntry, SizeUlebEntry, UlebEntryOrGeneric, UlebUlebExpr, AddressAddressExpr, AddressUlebExpr}
-use Rattle.dwz_meanings.specs.Exprs.{Field, IsFaultWithin, SpellsWithin, any_operands, bad_expr, expr_within, fields_of, op_at, or_fault}
+use Rattle.dwz_meanings.specs.Exprs.{ExprContext, Field, Found, IsFaultWithin, SpellsWithin, any_operands, bad_expr, expr_within, fields_of, op_at, or_fault, unsupported}
+use Rattle.dwz_meanings.specs.declared.exprs.Operand.{Operand}
+use Rattle.dwz_model.specs.declared.fault.Reason.TheVariants.{BadExpr, UnsupportedOp}
 use Rattle.dwz_codes.specs.Rows.{RowView, row_of}
 use Rattle.dwz_docs.specs.Values.{shape_in, shape_of}
 use Rattle.dwz_meanings.proofs.ExprLemmas.{op_reads, op_takes, within_reads}
@@ -23,8 +27,11 @@ use Rattle.dwz_docs.proofs.PartLemmas.{bind_ok, chosen, same_input}
 use Rattle.dwz_docs.proofs.ReadLemmas.{fixed_reads, run_reads}
 use Rattle.dwz_meanings.proofs.SequenceLemmas.{input_of}
 use Rattle.dwz_expr.specs.Flat.{HasNoExpression}
-use Rattle.dwz_expr.specs.Gathering.{Gathered, gather, nested_into, op_into, ops_into}
-use Rattle.dwz_expr.proofs.GatherLemmas.{AreFlat, breaks_off, flat_op, goes_on, into, nested_op, ops_none, unread_op}
+use Rattle.dwz_expr.specs.FirstFault.{asked}
+use Rattle.dwz_expr.specs.Gathering.{Gathered, Grows, InEach, added, fields_into, gather, gathered, nested_into, op_into, ops_into}
+use Rattle.dwz_expr.proofs.AskedLemmas.{asked_any, asked_none}
+use Rattle.dwz_expr.proofs.GatherLemmas.{AreFlat, into}
+use Rattle.dwz_expr.proofs.OperatorLemmas.{bad_op, fields_shift, flat_op, nested_op, ops_none, prepend, same_behind, same_gathered, step, stopped, unread_op, went}
 
 -- ---- the code
 
@@ -73,88 +80,6 @@ flat_fields UlebUlebExpr fields flat e = absurd flat
 flat_fields AddressAddressExpr fields flat e = absurd flat
 flat_fields AddressUlebExpr fields flat e = absurd flat
 flat_fields _ fields flat e = absurd cc
-
--- ---- an operator
-
-abbrev okay : Gathered → Input → Result (Gathered × Input) Fault
-okay g x = Ok (g, x)
-
-snd_ok : (a b : Gathered) (x y : Input) → okay a x ≡ okay b y → x ≡ y
-snd_ok a b x y e = same_input a b x y (okay a x) refl e
-
-module _ (section k : ℕ) where
-  pub flat_is : (g : Gathered) (at code : ℕ) (rest : List ℕ) (laid : Option (List Field)) → fields_of (shape_of operator_rows code) ≡ laid → ((fields : List Field) → laid ≡ Some fields → AreFlat fields)
-      → (op_at (any_operands section) (expr_within (any_operands section) k) (input_of at (code ∷ rest)) >>= into g) ≡ op_into section at code laid g (input_of (at + 1) rest)
-  flat_is g at code rest None laid flat = unread_op section k g at code rest laid
-  flat_is g at code rest (Some fields) laid flat = flat_op section k g at code rest fields laid (flat fields refl)
-
-  -- what an operator leaves
-  pub record Leaves (at : ℕ) (bytes : List ℕ) (j : Input) : Type 0 where
-    pub end : j.at + length j.rest ≡ at + length bytes
-    pub fewer : length j.rest < length bytes
-
-  pub leaves : (g h : Gathered) (at code : ℕ) (rest : List ℕ) (j : Input) → (op_at (any_operands section) (expr_within (any_operands section) k) (input_of at (code ∷ rest)) >>= into g) ≡ Ok (h, j) → Leaves at (code ∷ rest) j
-  leaves g h at code rest j is =
-      let b = bind_ok (op_at (any_operands section) (expr_within (any_operands section) k) (input_of at (code ∷ rest))) (into g) (h, j) is in
-      let x = b.0 in
-      let inner = λ (bad : Fault). within_reads (any_operands section) k bad in
-      let t = (((op_reads (any_operands section) (expr_within (any_operands section) k) (SpellsWithin (any_operands section) k) (IsFaultWithin (any_operands section) k) inner).agrees (input_of at (code ∷ rest))).ok x).0 b.1 in
-      let some = op_takes (any_operands section) (expr_within (any_operands section) k) (SpellsWithin (any_operands section) k) (IsFaultWithin (any_operands section) k) inner x.0 at t.front t.spelled in
-      let behind : x.1 ≡ j = snd_ok (gather g x.0) h x.1 j b.2 in
-      let place = t.place in
-      let len = ap length t.parts in
-      let left : Leaves at (code ∷ rest) x.1 = record { end = omega (arith, place, len, length-append t.front x.1.rest); fewer = omega (arith, some, len, length-append t.front x.1.rest) } in
-      subst (Leaves at (code ∷ rest)) behind left
-
--- ---- one step
-
-pub record Steps (section k : ℕ) (g h : Gathered) (i j : Input) : Type 0 where
-  pub same : ops_into section k g i ≡ ops_into section k h j
-  pub end : j.at + length j.rest ≡ i.at + length i.rest
-  pub fewer : length j.rest < length i.rest
-
-module _ (section k : ℕ) (i j : Input) (code : ℕ) (is_code : IsCode i code j) (g : Gathered) where
-  whole : i ≡ input_of i.at (code ∷ j.rest)
-  whole = let rest = is_code.rest in λ n. record { at = i.at; rest = rest n }
-
-  behind_is : input_of (i.at + 1) j.rest ≡ j
-  behind_is = let at = sym is_code.at in λ n. record { at = at n; rest = j.rest }
-
-  steps_by : (r : Input → Result (Gathered × Input) Fault) → (op_at (any_operands section) (expr_within (any_operands section) k) (input_of i.at (code ∷ j.rest)) >>= into g) ≡ r (input_of (i.at + 1) j.rest)
-      → (h : Gathered) (m : Input) → r j ≡ Ok (h, m) → Steps section k g h i m
-  steps_by r is h m ok =
-      let read = ap r behind_is ∙ ok in
-      let left = leaves section k g h i.at code j.rest m (is ∙ read) in
-      let stepped : Steps section k g h (input_of i.at (code ∷ j.rest)) m = record { same = goes_on section k g h i.at code j.rest m (r (input_of (i.at + 1) j.rest)) is read; end = left.end; fewer = left.fewer } in
-      subst (λ (w : Input). Steps section k g h w m) (sym whole) stepped
-
-  fails_by : (r : Input → Result (Gathered × Input) Fault) → (op_at (any_operands section) (expr_within (any_operands section) k) (input_of i.at (code ∷ j.rest)) >>= into g) ≡ r (input_of (i.at + 1) j.rest)
-      → (f : Fault) → r j ≡ Err f → ops_into section k g i ≡ Err f
-  fails_by r is f err =
-      let failed = breaks_off section k g i.at code j.rest f (r (input_of (i.at + 1) j.rest)) is (ap r behind_is ∙ err) in
-      ap (ops_into section k g) whole ∙ failed
-
-  flat_op_is : HasNoExpression (shape_of operator_rows code) → (op_at (any_operands section) (expr_within (any_operands section) k) (input_of i.at (code ∷ j.rest)) >>= into g) ≡ op_into section i.at code (fields_of (shape_of operator_rows code)) g (input_of (i.at + 1) j.rest)
-  flat_op_is flat = flat_is section k g i.at code j.rest (fields_of (shape_of operator_rows code)) refl (λ fields laid. flat_fields (shape_of operator_rows code) fields flat laid)
-
-  pub flat_steps : HasNoExpression (shape_of operator_rows code) → (h : Gathered) (m : Input) → op_into section i.at code (fields_of (shape_of operator_rows code)) g j ≡ Ok (h, m) → Steps section k g h i m
-  flat_steps flat = steps_by (op_into section i.at code (fields_of (shape_of operator_rows code)) g) (flat_op_is flat)
-
-  pub flat_fails : HasNoExpression (shape_of operator_rows code) → (f : Fault) → op_into section i.at code (fields_of (shape_of operator_rows code)) g j ≡ Err f → ops_into section k g i ≡ Err f
-  flat_fails flat = fails_by (op_into section i.at code (fields_of (shape_of operator_rows code)) g) (flat_op_is flat)
-
-  nested_op_is : shape_of operator_rows code ≡ NestedExpr → (op_at (any_operands section) (expr_within (any_operands section) k) (input_of i.at (code ∷ j.rest)) >>= into g) ≡ nested_into section k (bad_expr (any_operands section) i.at) g (input_of (i.at + 1) j.rest)
-  nested_op_is shape = nested_op section k g i.at code j.rest (ap fields_of shape)
-
-  pub nested_steps : shape_of operator_rows code ≡ NestedExpr → (h : Gathered) (m : Input) → nested_into section k (bad_expr (any_operands section) i.at) g j ≡ Ok (h, m) → Steps section k g h i m
-  nested_steps shape = steps_by (nested_into section k (bad_expr (any_operands section) i.at) g) (nested_op_is shape)
-
-  pub nested_fails : shape_of operator_rows code ≡ NestedExpr → (f : Fault) → nested_into section k (bad_expr (any_operands section) i.at) g j ≡ Err f → ops_into section k g i ≡ Err f
-  nested_fails shape = fails_by (nested_into section k (bad_expr (any_operands section) i.at) g) (nested_op_is shape)
-
--- an operator without its code
-pub no_code : (section k : ℕ) (g : Gathered) (i : Input) → 0 < length i.rest → (bad : Fault) (f : Fault) → or_fault bad (fixed_at 1 i) ≡ Err f → ⊥
-no_code section k g i some bad f is = let h = ((bytes_agree (fixed_reads 1) bad i).err f).0 is in elim h.1 [ inl fewer ↦ omega (arith, fewer, some) | inr never ↦ never ]
 
 -- ---- no operator has a layout of location lists
 
@@ -211,35 +136,197 @@ other_shapes code other = by (row_of operator_rows code) refl where
         | inr nested ↦ absurd (other (same ∙ nested_shape r.shape nested))
       ]
 
--- ---- the same, of what the loop has
+-- ---- an operator
 
-module _ (section k : ℕ) (i j : Input) (code : ℕ) (is_code : IsCode i code j) (g : Gathered) (at : ℕ) (here : at ≡ i.at) (shape : Shape) (is_shape : shape ≡ shape_of operator_rows code) where
-  flat_of : (shape ≡ NestedExpr → ⊥) → HasNoExpression (shape_of operator_rows code)
-  flat_of other = other_shapes code (λ nested. other (is_shape ∙ nested))
+pub bad_same : (c : ExprContext) (section at : ℕ) → c.section ≡ section → bad_expr (any_operands section) at ≡ bad_expr c at
+bad_same c section at e = λ n. record { section = sym e n; at = at; reason = BadExpr }
 
-  pub flat_loop : (shape ≡ NestedExpr → ⊥) → (h : Gathered) (m : Input) → op_into section at code (fields_of shape) g j ≡ Ok (h, m) → Steps section k g h i m
-  flat_loop other h m ok = flat_steps section k i j code is_code g (flat_of other) h m (sym (ap (λ (n : ℕ). op_into section n code (fields_of shape) g j) here ∙ ap (λ (s : Shape). op_into section i.at code (fields_of s) g j) is_shape) ∙ ok)
+unsupported_same : (c : ExprContext) (section at code : ℕ) → c.section ≡ section → unsupported c at code ≡ unsupported (any_operands section) at code
+unsupported_same c section at code e = λ n. record { section = e n; at = at; reason = UnsupportedOp code }
 
-  pub flat_stop : (shape ≡ NestedExpr → ⊥) → (f : Fault) → op_into section at code (fields_of shape) g j ≡ Err f → ops_into section k g i ≡ Err f
-  flat_stop other f err = flat_fails section k i j code is_code g (flat_of other) f (sym (ap (λ (n : ℕ). op_into section n code (fields_of shape) g j) here ∙ ap (λ (s : Shape). op_into section i.at code (fields_of s) g j) is_shape) ∙ err)
+pub same_fault : (e f : Fault) → stopped e ≡ stopped f → e ≡ f
+same_fault e f is = cc
 
-  pub nested_loop : shape ≡ NestedExpr → (h : Gathered) (m : Input) → nested_into section k (bad_expr (any_operands section) at) g j ≡ Ok (h, m) → Steps section k g h i m
-  nested_loop nested h m ok = nested_steps section k i j code is_code g (sym is_shape ∙ nested) h m (sym (ap (λ (n : ℕ). nested_into section k (bad_expr (any_operands section) n) g j) here) ∙ ok)
+-- one in which no expression stands
+module _ (section k at code : ℕ) (rest : List ℕ) where
+  abbrev op_of : ExprContext → Result (List Found × Input) Fault
+  op_of c = op_at c (expr_within c k) (input_of at (code ∷ rest))
 
-  pub nested_stop : shape ≡ NestedExpr → (f : Fault) → nested_into section k (bad_expr (any_operands section) at) g j ≡ Err f → ops_into section k g i ≡ Err f
-  nested_stop nested f err = nested_fails section k i j code is_code g (sym is_shape ∙ nested) f (sym (ap (λ (n : ℕ). nested_into section k (bad_expr (any_operands section) n) g j) here) ∙ err)
+  pub flat_read : (a : Bool) (laid : Option (List Field)) → fields_of (shape_of operator_rows code) ≡ laid → ((fields : List Field) → laid ≡ Some fields → AreFlat fields)
+      → (h : Gathered) (j : Input) → op_into section at code laid (gathered [] a) (input_of (at + 1) rest) ≡ went h j
+      → (c : ExprContext) → c.section ≡ section → (op_of c >>= into (gathered [] a)) ≡ asked c h.operands (Ok (h, j))
+  flat_read a None none flat h j is c e = absurd cc
+  flat_read a (Some fields) laid flat h j is c e =
+      flat_op c k a at code rest fields laid (flat fields refl) h j (ap (λ (bad : Fault). fields_into bad fields (gathered [] a) (input_of (at + 1) rest)) (sym (bad_same c section at e)) ∙ is)
+
+  pub flat_unread : (a : Bool) (laid : Option (List Field)) → fields_of (shape_of operator_rows code) ≡ laid → ((fields : List Field) → laid ≡ Some fields → AreFlat fields)
+      → (f : Fault) → op_into section at code laid (gathered [] a) (input_of (at + 1) rest) ≡ stopped f
+      → (c : ExprContext) → c.section ≡ section → (op_of c >>= into (gathered [] a)) ≡ stopped f
+  flat_unread a None none flat f is c e =
+      unread_op c k (gathered [] a) at code rest none ∙ ap (λ (g : Fault). stopped g) (unsupported_same c section at code e ∙ same_fault (unsupported (any_operands section) at code) f is)
+  flat_unread a (Some fields) laid flat f is c e =
+      bad_op c k a at code rest fields laid (flat fields refl) f (ap (λ (bad : Fault). fields_into bad fields (gathered [] a) (input_of (at + 1) rest)) (sym (bad_same c section at e)) ∙ is)
+
+op_shift : (section at code : ℕ) (laid : Option (List Field)) → ((fields : List Field) → laid ≡ Some fields → AreFlat fields) → (own : List Operand) (a : Bool) (i : Input)
+    → op_into section at code laid (gathered own a) i ≡ (op_into section at code laid (gathered [] a) i >>= prepend own)
+op_shift section at code None flat own a i = refl
+op_shift section at code (Some fields) flat own a i = fields_shift (bad_expr (any_operands section) at) fields own a i (flat fields refl)
+
+-- what an operator leaves
+pub record Leaves (at : ℕ) (bytes : List ℕ) (j : Input) : Type 0 where
+  pub end : j.at + length j.rest ≡ at + length bytes
+  pub fewer : length j.rest < length bytes
+
+pub leaves : (c : ExprContext) (k : ℕ) (g h : Gathered) (at code : ℕ) (rest : List ℕ) (j : Input) → (op_at c (expr_within c k) (input_of at (code ∷ rest)) >>= into g) ≡ Ok (h, j) → Leaves at (code ∷ rest) j
+leaves c k g h at code rest j is =
+    let b = bind_ok (op_at c (expr_within c k) (input_of at (code ∷ rest))) (into g) (h, j) is in
+    let x = b.0 in
+    let inner = λ (bad : Fault). within_reads c k bad in
+    let t = (((op_reads c (expr_within c k) (SpellsWithin c k) (IsFaultWithin c k) inner).agrees (input_of at (code ∷ rest))).ok x).0 b.1 in
+    let some = op_takes c (expr_within c k) (SpellsWithin c k) (IsFaultWithin c k) inner x.0 at t.front t.spelled in
+    let behind : x.1 ≡ j = same_behind (gather g x.0) h x.1 j b.2 in
+    let place = t.place in
+    let len = ap length t.parts in
+    let left : Leaves at (code ∷ rest) x.1 = record { end = omega (arith, place, len, length-append t.front x.1.rest); fewer = omega (arith, some, len, length-append t.front x.1.rest) } in
+    subst (Leaves at (code ∷ rest)) behind left
+
+-- ---- one turn of the loop
+
+-- what the first operators gave, in each context, and the others
+abbrev pub Keeps : ℕ → ℕ → Bool → Input → List Operand → List Operand → Bool → Input → Type 0
+Keeps section k a0 i0 pre ops a i = (c : ExprContext) → c.section ≡ section → ops_into c k (gathered [] a0) i0 ≡ asked c (added pre ops) (ops_into c k (gathered (added pre ops) a) i)
+
+abbrev pub Stops : ℕ → ℕ → Bool → Input → List Operand → List Operand → Fault → Type 0
+Stops section k a0 i0 pre ops f = InEach section (λ c. ops_into c k (gathered [] a0) i0) (added pre ops) (Err f)
+
+pub record Turn (section k : ℕ) (a0 : Bool) (i0 : Input) (pre ops : List Operand) (a : Bool) (i j : Input) : Type 0 where
+  pub grows : Grows pre ops
+  pub keeps : Keeps section k a0 i0 pre ops a j
+  pub end : j.at + length j.rest ≡ i.at + length i.rest
+  pub fewer : length j.rest < length i.rest
+
+pub record Halt (section k : ℕ) (a0 : Bool) (i0 : Input) (pre ops : List Operand) (f : Fault) : Type 0 where
+  pub grows : Grows pre ops
+  pub stops : Stops section k a0 i0 pre ops f
+
+-- nothing was put behind them
+pub same_grow : (pre : List Operand) → Grows pre pre
+same_grow pre = let none : drop (length pre) pre ≡ [] = drop_of_length-le pre (omega arith) in sym (append-nil pre) ∙ ap (λ (w : List Operand). pre ++ w) (sym none)
+
+pub none_added : (pre : List Operand) → added pre pre ≡ []
+none_added pre = drop_of_length-le pre (omega arith)
+
+more_added : (pre ops new own : List Operand) → Grows pre ops → new ≡ ops ++ own → added pre new ≡ added pre ops ++ own
+more_added pre ops new own grows is =
+    ap (drop (length pre)) (is ∙ ap (λ (w : List Operand). w ++ own) grows ∙ append_assoc pre (added pre ops) own) ∙ drop-append_seam pre (added pre ops ++ own)
+
+pub more_grow : (pre ops new own : List Operand) → Grows pre ops → new ≡ ops ++ own → Grows pre new
+more_grow pre ops new own grows is =
+    is ∙ ap (λ (w : List Operand). w ++ own) grows ∙ append_assoc pre (added pre ops) own ∙ ap (λ (w : List Operand). pre ++ w) (sym (more_added pre ops new own grows is))
+
+module _ (section k : ℕ) (a0 : Bool) (i0 : Input) (pre ops : List Operand) (a : Bool) (i j : Input) (code : ℕ) (is_code : IsCode i code j) (grows : Grows pre ops) (keeps : Keeps section k a0 i0 pre ops a i) where
+  whole : i ≡ input_of i.at (code ∷ j.rest)
+  whole = let rest = is_code.rest in λ n. record { at = i.at; rest = rest n }
+
+  behind_is : input_of (i.at + 1) j.rest ≡ j
+  behind_is = let at = sym is_code.at in λ n. record { at = at n; rest = j.rest }
+
+  abbrev op_here : ExprContext → Result (List Found × Input) Fault
+  op_here c = op_at c (expr_within c k) (input_of i.at (code ∷ j.rest))
+
+  -- an operator that answers q, unless one of its operands names no entry
+  followed : (own1 : List Operand) (q : Result (Gathered × Input) Fault) (c : ExprContext) → c.section ≡ section → (op_here c >>= into (gathered [] a)) ≡ asked c own1 q
+      → ops_into c k (gathered [] a0) i0 ≡ asked c (added pre ops ++ own1) ((q >>= prepend (added pre ops)) >>= λ p. ops_into c k p.0 p.1)
+  followed own1 q c e is =
+      keeps c e ∙ ap (λ (w : Input). asked c (added pre ops) (ops_into c k (gathered (added pre ops) a) w)) whole ∙ step c k (added pre ops) own1 a i.at code j.rest q is
+
+  goes : (new own1 : List Operand) (b : Bool) (m : Input) → new ≡ ops ++ own1
+      → ((c : ExprContext) → c.section ≡ section → (op_here c >>= into (gathered [] a)) ≡ asked c own1 (Ok (gathered own1 b, m)))
+      → Turn section k a0 i0 pre new b i m
+  goes new own1 b m is each =
+      let any = each (any_operands section) refl ∙ asked_any section own1 (Ok (gathered own1 b, m)) in
+      let left = leaves (any_operands section) k (gathered [] a) (gathered own1 b) i.at code j.rest m any in
+      let more = more_added pre ops new own1 grows is in
+      let rest = ap length is_code.rest in
+      record {
+        grows = more_grow pre ops new own1 grows is;
+        keeps = λ c e. followed own1 (Ok (gathered own1 b, m)) c e (each c e) ∙ ap (λ (w : List Operand). asked c w (ops_into c k (gathered w b) m)) (sym more);
+        end = omega (arith, left.end, rest);
+        fewer = omega (arith, left.fewer, rest);
+      }
+
+  halts : (new own1 : List Operand) (f : Fault) → new ≡ ops ++ own1 → ((c : ExprContext) → c.section ≡ section → (op_here c >>= into (gathered [] a)) ≡ asked c own1 (Err f)) → Halt section k a0 i0 pre new f
+  halts new own1 f is each =
+      let more = more_added pre ops new own1 grows is in
+      record {
+        grows = more_grow pre ops new own1 grows is;
+        stops = λ c e. followed own1 (Err f) c e (each c e) ∙ ap (λ (w : List Operand). asked c w (Err f)) (sym more);
+      }
+
+  module _ (at : ℕ) (here : at ≡ i.at) (shape : Shape) (is_shape : shape ≡ shape_of operator_rows code) where
+    laid_flat : (shape ≡ NestedExpr → ⊥) → (fields : List Field) → fields_of (shape_of operator_rows code) ≡ Some fields → AreFlat fields
+    laid_flat other fields laid = flat_fields (shape_of operator_rows code) fields (other_shapes code (λ nested. other (is_shape ∙ nested))) laid
+
+    moved : (own : List Operand) → op_into section i.at code (fields_of (shape_of operator_rows code)) (gathered own a) (input_of (i.at + 1) j.rest) ≡ op_into section at code (fields_of shape) (gathered own a) j
+    moved own =
+        ap (op_into section i.at code (fields_of (shape_of operator_rows code)) (gathered own a)) behind_is
+        ∙ sym (ap (λ (n : ℕ). op_into section n code (fields_of shape) (gathered own a) j) here ∙ ap (λ (s : Shape). op_into section i.at code (fields_of s) (gathered own a) j) is_shape)
+
+    pub flat_turn : (shape ≡ NestedExpr → ⊥) → (new : List Operand) (b : Bool) (m : Input) → op_into section at code (fields_of shape) (gathered ops a) j ≡ Ok (gathered new b, m) → Turn section k a0 i0 pre new b i m
+    flat_turn other new b m ok =
+        let laid = fields_of (shape_of operator_rows code) in
+        let read = op_into section i.at code (fields_of (shape_of operator_rows code)) (gathered [] a) (input_of (i.at + 1) j.rest) in
+        let s = bind_ok read (prepend ops) (gathered new b, m) (sym (op_shift section i.at code laid (laid_flat other) ops a (input_of (i.at + 1) j.rest)) ∙ moved ops ∙ ok) in
+        let p = s.0 in
+        let held : gathered (ops ++ p.0.operands) p.0.address ≡ gathered new b = same_gathered (gathered (ops ++ p.0.operands) p.0.address) (gathered new b) p.1 m s.2 in
+        let behind : p.1 ≡ m = same_behind (gathered (ops ++ p.0.operands) p.0.address) (gathered new b) p.1 m s.2 in
+        let address : p.0.address ≡ b = ap (λ (g : Gathered). g.address) held in
+        let read_is : read ≡ went (gathered p.0.operands b) m = s.1 ∙ (λ n. went (gathered p.0.operands (address n)) (behind n)) in
+        goes new p.0.operands b m (sym (ap (λ (g : Gathered). g.operands) held)) (flat_read section k i.at code j.rest a laid refl (laid_flat other) (gathered p.0.operands b) m read_is)
+
+    pub flat_halt : (shape ≡ NestedExpr → ⊥) → (f : Fault) → op_into section at code (fields_of shape) (gathered ops a) j ≡ Err f → Halt section k a0 i0 pre ops f
+    flat_halt other f err =
+        let laid = fields_of (shape_of operator_rows code) in
+        let read = op_into section i.at code (fields_of (shape_of operator_rows code)) (gathered [] a) (input_of (i.at + 1) j.rest) in
+        let shifted = sym (op_shift section i.at code laid (laid_flat other) ops a (input_of (i.at + 1) j.rest)) ∙ moved ops ∙ err in
+        halts ops [] f (sym (append-nil ops)) (λ c e. flat_unread section k i.at code j.rest a laid refl (laid_flat other) f (not_shifted read f shifted) c e ∙ sym (asked_none c (stopped f))) where
+          not_shifted : (r : Result (Gathered × Input) Fault) (f : Fault) → (r >>= prepend ops) ≡ stopped f → r ≡ stopped f
+          not_shifted (Ok p) f is = absurd cc
+          not_shifted (Err g) f is = is
+
+    nested_is : shape ≡ NestedExpr → (c : ExprContext) → (op_here c >>= into (gathered [] a)) ≡ nested_into c k (bad_expr c at) (gathered [] a) j
+    nested_is nested c =
+        nested_op c k (gathered [] a) i.at code j.rest (ap fields_of (sym is_shape ∙ nested))
+        ∙ ap (nested_into c k (bad_expr c i.at) (gathered [] a)) behind_is
+        ∙ ap (λ (n : ℕ). nested_into c k (bad_expr c n) (gathered [] a) j) (sym here)
+
+    pub nested_turn : shape ≡ NestedExpr → (new : List Operand) (b : Bool) (m : Input) → Grows ops new → InEach section (λ c. nested_into c k (bad_expr c at) (gathered [] a) j) (added ops new) (Ok (gathered (added ops new) b, m))
+        → Turn section k a0 i0 pre new b i m
+    nested_turn nested new b m more each = goes new (added ops new) b m more (λ c e. nested_is nested c ∙ each c e)
+
+    pub nested_halt : shape ≡ NestedExpr → (new : List Operand) (f : Fault) → Grows ops new → InEach section (λ c. nested_into c k (bad_expr c at) (gathered [] a) j) (added ops new) (Err f) → Halt section k a0 i0 pre new f
+    nested_halt nested new f more each = halts new (added ops new) f more (λ c e. nested_is nested c ∙ each c e)
+
+-- no bytes are left
+pub none_left : (section k : ℕ) (a0 : Bool) (i0 : Input) (pre ops : List Operand) (a : Bool) (i : Input) → Keeps section k a0 i0 pre ops a i → length i.rest ≡ 0
+    → InEach section (λ c. ops_into c k (gathered [] a0) i0) (added pre ops) (Ok (gathered (added pre ops) a))
+none_left section k a0 i0 pre ops a i keeps empty = λ c e. keeps c e ∙ ap (asked c (added pre ops)) (by c i.rest refl) where
+  by : (c : ExprContext) (bytes : List ℕ) → i.rest ≡ bytes → ops_into c k (gathered (added pre ops) a) i ≡ Ok (gathered (added pre ops) a)
+  by c [] same = ap (ops_into c k (gathered (added pre ops) a)) (let is : i ≡ input_of i.at [] = λ n. record { at = i.at; rest = same n } in is) ∙ ops_none c k (gathered (added pre ops) a) i.at
+  by c (b ∷ bytes) same = absurd (let len = ap length same in omega (arith, empty, len))
+
+-- at first nothing was gathered
+pub all_left : (section k : ℕ) (a : Bool) (i : Input) (pre : List Operand) → Keeps section k a i pre pre a i
+all_left section k a i pre = λ c e. sym (ap (λ (w : List Operand). asked c w (ops_into c k (gathered w a) i)) (none_added pre) ∙ asked_none c (ops_into c k (gathered [] a) i))
+
+-- an operator without its code
+pub no_code : (i : Input) → 0 < length i.rest → (bad : Fault) (f : Fault) → or_fault bad (fixed_at 1 i) ≡ Err f → ⊥
+no_code i some bad f is = let h = ((bytes_agree (fixed_reads 1) bad i).err f).0 is in elim h.1 [ inl fewer ↦ omega (arith, fewer, some) | inr never ↦ never ]
 
 -- where one reading fails, another one does so too
 pub fails_same : {X Y : Type 0} (e : ReadErr) (a : Result X Fault) (b : Result Y Fault) → ((f : Fault) → a ≡ Err f → b ≡ Err f) → Fails e a → Fails e b
 fails_same NoMemory a b same fails = tt
 fails_same (Refused f) a b same fails = same f fails
-
--- no bytes are left
-pub none_left : (section k : ℕ) (g : Gathered) (i : Input) → length i.rest ≡ 0 → ops_into section k g i ≡ Ok g
-none_left section k g i empty = by i.rest refl where
-  by : (bytes : List ℕ) → i.rest ≡ bytes → ops_into section k g i ≡ Ok g
-  by [] same = ap (ops_into section k g) (let is : i ≡ input_of i.at [] = λ n. record { at = i.at; rest = same n } in is) ∙ ops_none section k g i.at
-  by (b ∷ bytes) same = absurd (let len = ap length same in omega (arith, empty, len))
 
 -- what follows a length
 pub run_within : (bad : Fault) (n : ℕ) (i : Input) (x : List ℕ) (j : Input) → or_fault bad (take_at n i) ≡ Ok (x, j) → j.at ≡ i.at + length x

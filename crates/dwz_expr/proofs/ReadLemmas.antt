@@ -4,26 +4,37 @@ use Rattle.dwz_model.specs.declared.fault.Fault.{Fault}
 use Rattle.dwz_bytes.specs.Input.{Input}
 use Rattle.dwz_bytes.specs.Reading.{◌>>=◌}
 use Rattle.dwz_meanings.specs.declared.exprs.Operand.{Operand}
-use Rattle.dwz_meanings.specs.Exprs.{Expression, Found, any_operands, expr_at, expr_within, expression_with, most_inside, op_at}
+use Rattle.dwz_meanings.specs.Exprs.{ExprContext, Expression, Found, any_operands, expr_at, expr_within, expression_with, most_inside, op_at}
 use Rattle.dwz_meanings.specs.Sequences.{all_at}
-use Rattle.dwz_expr.specs.Gathering.{Gathered, gather_ops, gathered, ops_into}
+use Rattle.dwz_model.specs.declared.fault.ReadErr.{ReadErr}
+use Rattle.dwz_model.specs.declared.fault.ReadErr.TheVariants.{NoMemory, Refused}
+use Rattle.dwz_docs.specs.Faults.{Fails}
+use Rattle.dwz_expr.specs.FirstFault.{AreAsked, ReadsInto, asked}
+use Rattle.dwz_expr.specs.Gathering.{Gathered, InEach, gather_ops, gathered, ops_into}
+use Rattle.dwz_expr.proofs.AskedLemmas.{asked_any, asked_bind}
 
 -- an expression, from what was gathered
 abbrev pub expression_from : Input → Gathered → Result Expression Fault
 expression_from i g = Ok (record { at = i.at; bytes = i.rest; operands = g.operands; address = g.address })
 
-pub read_is : (section : ℕ) (i : Input) → expr_at (any_operands section) i ≡ (ops_into section 8 (gathered [] false) i >>= expression_from i)
+read_is : (c : ExprContext) (i : Input) → expr_at c i ≡ (ops_into c 8 (gathered [] false) i >>= expression_from i)
 unfolding expr_within most_inside ops_into
-read_is section i = go (all_at (op_at (any_operands section) (expr_within (any_operands section) 8)) i) where
+read_is c i = go (all_at (op_at c (expr_within c 8)) i) where
   go : (r : Result (List (List Found)) Fault) → (r >>= expression_with i) ≡ ((r >>= gather_ops (gathered [] false)) >>= expression_from i)
   go (Ok ops) = refl
   go (Err f) = refl
 
-pub read_gives : (section at : ℕ) (bytes : List ℕ) (none : List Operand) → none ≡ [] → (operands : List Operand) (address : Bool) → ops_into section 8 (gathered none false) (record { at = at; rest = bytes }) ≡ Ok (gathered operands address)
-    → expr_at (any_operands section) (record { at = at; rest = bytes }) ≡ Ok (record { at = at; bytes = bytes; operands = operands; address = address })
-read_gives section at bytes none empty operands address is =
-    read_is section (record { at = at; rest = bytes }) ∙ ap (λ (r : Result Gathered Fault). r >>= expression_from (record { at = at; rest = bytes })) (ap (λ (w : List Operand). ops_into section 8 (gathered w false) (record { at = at; rest = bytes })) (sym empty) ∙ is)
+-- in each context it is answered what is answered where nothing is asked, unless an operand names no entry
+module _ (section : ℕ) (i : Input) (operands : List Operand) (answer : Result Gathered Fault) (each : InEach section (λ c. ops_into c 8 (gathered [] false) i) operands answer) where
+  in_context : (c : ExprContext) → c.section ≡ section → expr_at c i ≡ asked c operands (answer >>= expression_from i)
+  in_context c e = read_is c i ∙ ap (λ (r : Result Gathered Fault). r >>= expression_from i) (each c e) ∙ asked_bind c operands answer (expression_from i)
 
-pub read_fails : (section at : ℕ) (bytes : List ℕ) (none : List Operand) → none ≡ [] → (f : Fault) → ops_into section 8 (gathered none false) (record { at = at; rest = bytes }) ≡ Err f → expr_at (any_operands section) (record { at = at; rest = bytes }) ≡ Err f
-read_fails section at bytes none empty f is =
-    read_is section (record { at = at; rest = bytes }) ∙ ap (λ (r : Result Gathered Fault). r >>= expression_from (record { at = at; rest = bytes })) (ap (λ (w : List Operand). ops_into section 8 (gathered w false) (record { at = at; rest = bytes })) (sym empty) ∙ is)
+  pub where_any : expr_at (any_operands section) i ≡ (answer >>= expression_from i)
+  where_any = in_context (any_operands section) refl ∙ asked_any section operands (answer >>= expression_from i)
+
+  pub are_asked : AreAsked section i operands
+  are_asked c e = in_context c e ∙ ap (asked c operands) (sym where_any)
+
+pub reads_fails : (section : ℕ) (i : Input) (operands : List Operand) (e : ReadErr) → Fails e (expr_at (any_operands section) i) → AreAsked section i operands → ReadsInto section i operands (Err e)
+reads_fails section i operands NoMemory is asks = tt
+reads_fails section i operands (Refused f) is asks = (is, asks)

@@ -6,4 +6,4 @@ mod ops;
 mod shapes;
 
 pub use dwz_meanings::Operand;
-pub use ops::Ops;
+pub use ops::{Ops, read_into};

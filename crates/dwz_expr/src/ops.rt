@@ -1,11 +1,12 @@
 //! Expressions that are read.
 
-ghost use Rattle.std.specs.Prelude.{◌≡◌, ◌+◌, ◌-◌, ◌<◌, ◌≤◌, ◌^◌, length};
+ghost use Rattle.std.specs.Prelude.{◌≡◌, ◌+◌, ◌-◌, ◌<◌, ◌≤◌, ◌^◌, [], OnErr, length};
 ghost use Rattle.dwz_model.specs.declared.fault.ReadErr.TheVariants.{Refused};
 ghost use Rattle.dwz_model.specs.declared.place.Base.TheVariants.{Unit as FromUnit, Info as FromInfo};
 ghost use Rattle.dwz_meanings.specs.Exprs.{Entry4, EntryOrGeneric, EntryUleb, any_operands, bad_expr, expr_at, fields_of, unsupported};
 ghost use Rattle.dwz_docs.specs.Faults.{Answers, AnswersAt};
-ghost use Rattle.dwz_expr.specs.Gathering.{counted_at, field_into, fields_into, gathered, nested_into, op_into, ops_into, shift, sized_at};
+ghost use Rattle.dwz_expr.specs.FirstFault.{ReadsInto};
+ghost use Rattle.dwz_expr.specs.Gathering.{Gathers, Grows, added, counted_at, field_into, fields_into, gathered, nested_into, op_into, operand4_at, operand_uleb_at, ops_into, shift, sized_at};
 ghost use Rattle.dwz_expr.specs.Flat.{HasNoExpression};
 
 use crate::fields::{byte, eight, four, run, sleb, uleb};
@@ -43,28 +44,19 @@ fn unsupported_at(section: u8, at: u64, code: u8) -> ReadErr
 
 // An operand of four bytes.
 #[inline(always)]
-fn operand4(
-    cursor: &mut Cursor,
-    start: u64,
-    bad: Fault,
-    base: Base,
-    operands: &mut Vec<Operand>,
-    address: bool,
-) -> Result<(), ReadErr>
+fn operand4(cursor: &mut Cursor, start: u64, bad: Fault, base: Base) -> Result<Operand, ReadErr>
     requires { start + (cursor.old.at + length cursor.old.rest) < 2 ^ 64 }
-    ensures { AnswersAt (λ _. gathered operands.new.items address) (shift start cursor.new) result (field_into bad (Entry4 base) (gathered operands.old.items address) (shift start cursor.old)) }
+    ensures { AnswersAt (λ o. o) (shift start cursor.new) result (operand4_at bad base (shift start cursor.old)) }
 {
-    let _address = address;
     let at = start + cursor.at() as u64;
     let number = four(cursor, start, bad)? as u64;
-    operands.push(Operand {
+    Ok(Operand {
         at,
         width: 4,
         uleb: false,
         base,
         number,
-    })?;
-    Ok(())
+    })
 }
 
 // A ULEB128 number, and as many bytes.
@@ -97,31 +89,23 @@ fn width(before: usize, behind: usize) -> u8
 
 // A ULEB128 operand.
 #[inline(always)]
-fn operand_uleb(
-    cursor: &mut Cursor,
-    start: u64,
-    bad: Fault,
-    operands: &mut Vec<Operand>,
-    address: bool,
-) -> Result<(), ReadErr>
+fn operand_uleb(cursor: &mut Cursor, start: u64, bad: Fault) -> Result<Operand, ReadErr>
     requires { start + (cursor.old.at + length cursor.old.rest) < 2 ^ 64 }
-    ensures { AnswersAt (λ _. gathered operands.new.items address) (shift start cursor.new) result (field_into bad EntryUleb (gathered operands.old.items address) (shift start cursor.old)) }
+    ensures { AnswersAt (λ o. o) (shift start cursor.new) result (operand_uleb_at bad (shift start cursor.old)) }
 {
-    let _address = address;
     let before = cursor.at();
     let number = uleb(cursor, start, bad)?;
     let width = width(before, cursor.at());
-    operands.push(Operand {
+    Ok(Operand {
         at: start + before as u64,
         width,
         uleb: true,
         base: Base::Unit,
         number,
-    })?;
-    Ok(())
+    })
 }
 
-// The same, or 0 for the generic type.
+// The same, or 0 for the generic type. It is kept once it is read.
 #[inline(always)]
 fn operand_or_generic(
     cursor: &mut Cursor,
@@ -131,7 +115,8 @@ fn operand_or_generic(
     address: bool,
 ) -> Result<(), ReadErr>
     requires { start + (cursor.old.at + length cursor.old.rest) < 2 ^ 64 }
-    ensures { AnswersAt (λ _. gathered operands.new.items address) (shift start cursor.new) result (field_into bad EntryOrGeneric (gathered operands.old.items address) (shift start cursor.old)) }
+    ensures answer { AnswersAt (λ _. gathered operands.new.items address) (shift start cursor.new) result (field_into bad EntryOrGeneric (gathered operands.old.items address) (shift start cursor.old)) }
+    ensures kept { OnErr result (operands.new.items ≡ operands.old.items) }
 {
     let _address = address;
     let before = cursor.at();
@@ -150,7 +135,7 @@ fn operand_or_generic(
     Ok(())
 }
 
-// What stands behind the code of an operator that has no expression in it.
+// What stands behind the code of an operator that has no expression in it. Its operand is kept once all of it is read.
 #[inline(always)]
 #[tactic(auto, unfolding(crate::specs::Gathering::fields_into))]
 fn fields(
@@ -165,7 +150,8 @@ fn fields(
 ) -> Result<(), ReadErr>
     requires flat { HasNoExpression shape }
     requires short { start + (cursor.old.at + length cursor.old.rest) < 2 ^ 64 }
-    ensures { AnswersAt (λ _. gathered operands.new.items address.new) (shift start cursor.new) result (op_into section at code (fields_of shape) (gathered operands.old.items address.old) (shift start cursor.old)) }
+    ensures answer { AnswersAt (λ _. gathered operands.new.items address.new) (shift start cursor.new) result (op_into section at code (fields_of shape) (gathered operands.old.items address.old) (shift start cursor.old)) }
+    ensures kept { OnErr result (operands.new.items ≡ operands.old.items) }
 {
     let bad = bad_at(section, at);
     match shape {
@@ -219,31 +205,37 @@ fn fields(
             Ok(())
         }
         Shape::UnitEntry4 => {
-            operand4(cursor, start, bad, Base::Unit, operands, *address)?;
+            let operand = operand4(cursor, start, bad, Base::Unit)?;
+            operands.push(operand)?;
             Ok(())
         }
         Shape::InfoEntry4 => {
-            operand4(cursor, start, bad, Base::Info, operands, *address)?;
+            let operand = operand4(cursor, start, bad, Base::Info)?;
+            operands.push(operand)?;
             Ok(())
         }
         Shape::InfoEntry4Sleb => {
-            operand4(cursor, start, bad, Base::Info, operands, *address)?;
+            let operand = operand4(cursor, start, bad, Base::Info)?;
             sleb(cursor, start, bad)?;
+            operands.push(operand)?;
             Ok(())
         }
         Shape::UlebEntryConst => {
-            operand_uleb(cursor, start, bad, operands, *address)?;
+            let operand = operand_uleb(cursor, start, bad)?;
             sized(cursor, start, bad)?;
+            operands.push(operand)?;
             Ok(())
         }
         Shape::RegisterUlebEntry => {
             uleb(cursor, start, bad)?;
-            operand_uleb(cursor, start, bad, operands, *address)?;
+            let operand = operand_uleb(cursor, start, bad)?;
+            operands.push(operand)?;
             Ok(())
         }
         Shape::SizeUlebEntry => {
             run(cursor, start, bad, 1)?;
-            operand_uleb(cursor, start, bad, operands, *address)?;
+            let operand = operand_uleb(cursor, start, bad)?;
+            operands.push(operand)?;
             Ok(())
         }
         Shape::UlebEntryOrGeneric => {
@@ -276,7 +268,8 @@ fn nested(
     address: &mut bool,
 ) -> Result<(), ReadErr>
     requires short { start + (cursor.old.at + length cursor.old.rest) < 2 ^ 64 }
-    ensures { AnswersAt (λ _. gathered operands.new.items address.new) (shift start cursor.new) result (nested_into section alone (bad_expr (any_operands section) at) (gathered operands.old.items address.old) (shift start cursor.old)) }
+    ensures answer { Gathers section (λ c. nested_into c alone (bad_expr c at) (gathered [] address.old) (shift start cursor.old)) (added operands.old.items operands.new.items) (gathered (added operands.old.items operands.new.items) address.new, shift start cursor.new) result }
+    ensures grows { Grows operands.old.items operands.new.items }
 {
     let bad = bad_at(section, at);
     let count = uleb(cursor, start, bad)?;
@@ -299,7 +292,8 @@ fn all(
     address: &mut bool,
 ) -> Result<(), ReadErr>
     requires short { start + length bytes.now < 2 ^ 64 }
-    ensures { Answers (λ _. gathered operands.new.items address.new) result (ops_into section inside (gathered operands.old.items address.old) (record { at = start; rest = bytes.now })) }
+    ensures answer { Gathers section (λ c. ops_into c inside (gathered [] address.old) (record { at = start; rest = bytes.now })) (added operands.old.items operands.new.items) (gathered (added operands.old.items operands.new.items) address.new) result }
+    ensures grows { Grows operands.old.items operands.new.items }
 {
     let mut cursor = Cursor::new(bytes, 0);
     while cursor.at() < bytes.len() {
@@ -352,18 +346,36 @@ impl<'a> Model for Ops<'a> {
 // How many expressions may be inside another one.
 const MOST_INSIDE: u8 = 8;
 
+/// Reads the expression whose bytes these are, and whose first byte stands at that place of the section with that code, and
+/// appends the operands in it that name entries. Answers whether it, or an expression in it, has an address or the index of one.
+///
+/// Refused exactly at the first operator that isn't read: as `UnsupportedOp` where its code has no row or one that says so, and
+/// else as `BadExpr` where its operands don't end in the expression, a number in them is too wide, or an expression is inside
+/// more than 8 others. Then the operands before it are appended, which are those that are looked up before: so the first of
+/// those that names no entry is the first fault, and where each does it is the one that is answered.
+pub fn read_into(
+    operands: &mut Vec<Operand>,
+    bytes: &[u8],
+    at: u64,
+    section: u8,
+) -> Result<bool, ReadErr>
+    requires { at + length bytes.now < 2 ^ 64 }
+    ensures found { ReadsInto section (record { at = at; rest = bytes.now }) (added operands.old.items operands.new.items) result }
+    ensures grows { Grows operands.old.items operands.new.items }
+{
+    let mut address = false;
+    all(MOST_INSIDE, bytes, at, section, operands, &mut address)?;
+    Ok(address)
+}
+
 impl<'a> Ops<'a> {
-    /// Reads the expression whose bytes these are, and whose first byte stands at that place of the section with that code.
-    /// Refused exactly at the first operator that isn't read: as `UnsupportedOp` where its code has no row or one that says
-    /// so, and else as `BadExpr` where its operands don't end in the expression, a number in them is too wide, or an
-    /// expression is inside more than 8 others.
+    /// Reads an expression, as `read_into` does, with operands of its own.
     pub fn read(alloc: Global, bytes: &'a [u8], at: u64, section: u8) -> Result<Ops<'a>, ReadErr>
         requires { at + length bytes.now < 2 ^ 64 }
         ensures { Answers (λ o. o) result (expr_at (any_operands section) (record { at = at; rest = bytes.now })) }
     {
         let mut operands = Vec::new(alloc);
-        let mut address = false;
-        all(MOST_INSIDE, bytes, at, section, &mut operands, &mut address)?;
+        let address = read_into(&mut operands, bytes, at, section)?;
         Ok(Ops {
             bytes,
             at,

@@ -1,0 +1,62 @@
+use Rattle.std.proofs.Common.{◌≡◌, ℕ, suc, ◌+◌, ◌<◌, ◌++◌, ◌∷◌, [], List, length, map, take, drop, get_or, Vec, Global, sym, ap, subst, ◌∙◌, arith, drop-cons}
+use Rattle.std.proofs.Math.Seq.{take-suc}
+use Rattle.std.proofs.lemmas.List.{length-map, length-take, map-append, take-append-drop, take_all}
+use Rattle.dwz_model.specs.declared.fault.GraphErr.{GraphErr}
+use Rattle.dwz_meanings.specs.Files.{file_meaning, files_meaning, limits_after, no_files_before}
+use Rattle.dwz_docs.specs.ElfReading.{elf_of}
+use Rattle.dwz_docs.specs.Faults.{Fails}
+use Rattle.dwz_graph.specs.declared.file.File.{File}
+use Rattle.dwz_graph.specs.Files.{AreRead, FilesFail, IsRead, limits_view}
+use Rattle.dwz_unit.specs.Rows.{units_of}
+use Rattle.dwz_graph.proofs.GraphLemmas.{are_more, files_fail, files_read, first_limits}
+use Rattle.dwz_graph.proofs.graph.Graph.read.Goals as goal
+
+abbrev Content : Type 0
+Content = Vec ℕ Global
+
+abbrev content : Content → List ℕ
+content v = v.items
+
+one_more : (xs : List Content) (i : ℕ) (x : Content) → i < length xs → x ≡ get_or xs i x → map content (take (i + 1) xs) ≡ map content (take i xs) ++ content x ∷ []
+one_more xs i x l e =
+    let one : i + 1 ≡ suc i = omega arith in
+    ap (λ (n : ℕ). map content (take n xs)) one ∙ ap (map content) (take-suc xs i x l) ∙ map-append content (take i xs) (get_or xs i x ∷ []) ∙ ap (λ (w : Content). map content (take i xs) ++ content w ∷ []) (sym e)
+
+parted : (xs : List Content) (i : ℕ) (x : Content) → i < length xs → x ≡ get_or xs i x → map content xs ≡ map content (take i xs) ++ content x ∷ map content (drop (suc i) xs)
+parted xs i x l e =
+    ap (map content) (sym (take-append-drop i xs)) ∙ map-append content (take i xs) (drop i xs) ∙ ap (λ (w : List Content). map content (take i xs) ++ map content w) (drop-cons xs i x l)
+    ∙ ap (λ (w : Content). map content (take i xs) ++ content w ∷ map content (drop (suc i) xs)) (sym e)
+
+pub loop-number-init : goal.loop-number-init
+loop-number-init c = subst (λ (fs : List File). AreRead no_files_before [] fs (record { bytes = 536870912; entries = 16777216; machine = _ })) (sym c.new-kept.ensures.items) (sym first_limits)
+
+pub loop-number-preserved : goal.loop-number-preserved
+loop-number-preserved c =
+    let files : List Content = c.args.files.now in
+    let i = c.loop-number.number in
+    let x = c.index-files-number.result in
+    let l = limits_view c.loop-number.left in
+    let read : IsRead l x.items c.in-Ok.file = subst (λ (b : List ℕ). IsRead l b c.in-Ok.file) c.as_slice.ensures.value c.in-Ok.ensures in
+    let next : limits_view c.behind-left.result ≡ limits_after l x.items (units_of c.in-Ok.file.units) =
+    c.behind-left.ensures (read.elf ∙ ap elf_of (sym c.as_slice-in-Ok.ensures.value)) ∙ ap (λ (b : List ℕ). limits_after l b (units_of c.in-Ok.file.units)) c.as_slice-in-Ok.ensures.value in
+    subst (λ (cs : List (List ℕ)). AreRead no_files_before cs c.push.new.self.items (limits_view c.behind-left.result)) (sym (one_more files i x (omega arith) c.index-files-number.is))
+    (subst (λ (fs : List File). AreRead no_files_before (map content (take i files) ++ x.items ∷ []) fs (limits_view c.behind-left.result)) (sym c.in_ok-push-in-Ok.ensures.items)
+    (are_more no_files_before (map content (take i files)) c.loop-number.kept.items l (limits_view c.behind-left.result) x.items c.in-Ok.file c.loop-number.invariant read (sym next)))
+
+pub returns-in-Err-clause-answers : goal.returns-in-Err-clause-answers
+returns-in-Err-clause-answers c =
+    let files : List Content = c.args.files.now in
+    let i = c.loop-number.number in
+    let x = c.index-files-number.result in
+    let l = limits_view c.loop-number.left in
+    let many : length (map content (take i files)) ≡ i = omega (arith, length-map (take i files) content, length-take i files) in
+    subst (λ (e : GraphErr). FilesFail e (files_meaning no_files_before 0 (map content files))) (sym c.in_file.ensures)
+    (files_fail c.in-Err.error (map content files) (map content (take i files)) c.loop-number.kept.items l i x.items (map content (drop (suc i) files)) (parted files i x (omega arith) c.index-files-number.is) many c.loop-number.invariant
+    (subst (λ (b : List ℕ). Fails c.in-Err.error (file_meaning l b)) c.as_slice.ensures.value c.in-Err.ensures))
+
+pub returns-clause-answers : goal.returns-clause-answers
+returns-clause-answers c =
+    let files : List Content = c.args.files.now in
+    let all : take c.loop-number.number files ≡ files = take_all c.loop-number.number files (omega arith) in
+    files_read (map content files) c.loop-number.kept.items (limits_view c.loop-number.left)
+    (subst (λ (w : List Content). AreRead no_files_before (map content w) c.loop-number.kept.items (limits_view c.loop-number.left)) all c.loop-number.invariant)

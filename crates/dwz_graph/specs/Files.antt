@@ -1,0 +1,84 @@
+-- Files that are read, one after the other.
+use Rattle.std.specs.Prelude.{◌≡◌, ℕ, zero, suc, List, [], ◌∷◌, map, Result, Ok, Err}
+use Rattle.dwz_model.specs.declared.fault.GraphErr.{GraphErr}
+use Rattle.dwz_model.specs.declared.fault.GraphErr.TheVariants.{NoMemory as NoMemoryFor, Refused as RefusedOf}
+use Rattle.dwz_model.specs.declared.fault.ReadErr.{ReadErr}
+use Rattle.dwz_model.specs.declared.fault.ReadErr.TheVariants.{NoMemory, Refused}
+use Rattle.dwz_model.specs.declared.fault.Refusal.{Refusal}
+use Rattle.dwz_meanings.specs.Documents.{Doc}
+use Rattle.dwz_docs.specs.ElfReading.{elf_of}
+use Rattle.dwz_docs.specs.Faults.{Fails}
+use Rattle.dwz_meanings.specs.Files.{Limits, around_of, file_meaning, files_meaning, limits_after, no_files_before, sources_of}
+use Rattle.dwz_docs.specs.Units.{RawUnit}
+use Rattle.dwz_meanings.specs.NamedLists.{lists_of_units}
+use Rattle.dwz_meanings.specs.Shared.{AreRows}
+use Rattle.dwz_resolve.specs.ListRows.{operand_view}
+use Rattle.dwz_graph.specs.declared.file.File.{File}
+use Rattle.dwz_graph.specs.declared.file.Left.{Left}
+use Rattle.dwz_resolve.specs.Named.{units_refs}
+use Rattle.dwz_resolve.specs.Resolved.{AreEntries, place_at, sources_view}
+use Rattle.dwz_unit.specs.Rows.{units_of}
+
+abbrev pub limits_view : Left → Limits
+limits_view l = record { bytes = l.bytes; entries = l.entries; machine = l.machine }
+
+-- The file says what a document does. Its units are kept, and the numbers of the entries that its references name.
+pub record IsRead (l : Limits) (bytes : List ℕ) (f : File) : Type 0 where
+  pub doc : Doc ℕ
+  pub means : file_meaning l bytes ≡ Ok (units_of f.units, doc)
+  pub named : units_refs doc.units ≡ map (place_at (units_of f.units)) f.resolved.refs.items
+  pub within : AreEntries (units_of f.units) f.resolved.refs.items
+  pub operands : AreRows (lists_of_units (around_of bytes (units_of f.units)) (units_of f.units)) (map (operand_view (units_of f.units)) f.resolved.operands.items)
+  pub elf : f.elf ≡ elf_of bytes
+  pub sections : sources_view f.sections ≡ sources_of bytes
+
+abbrev pub ReadsFile : Limits → List ℕ → Result File ReadErr → Type 0
+ReadsFile l bytes (Ok f) = IsRead l bytes f
+ReadsFile l bytes (Err e) = Fails e (file_meaning l bytes)
+
+-- each file, where the first has those limits, and those behind the last are left
+abbrev pub AreRead : Limits → List (List ℕ) → List File → Limits → Type 0
+AreRead l [] [] end = l ≡ end
+AreRead l (bytes ∷ contents) (f ∷ files) end = IsRead l bytes f × AreRead (limits_after l bytes (units_of f.units)) contents files end
+AreRead l _ _ end = ⊥
+
+-- the files of a run
+pub record AreKept (contents : List (List ℕ)) (files : List File) : Type 0 where
+  pub end : Limits
+  pub are : AreRead no_files_before contents files end
+
+-- the file with that number, what those before it leave, and what it says
+abbrev pub HasFile : Limits → List (List ℕ) → ℕ → Limits → List ℕ → List RawUnit → Doc ℕ → Type 0
+HasFile l [] i m b raw doc = ⊥
+HasFile l (bytes ∷ contents) zero m b raw doc = (l ≡ m) × (bytes ≡ b) × (file_meaning l bytes ≡ Ok (raw, doc))
+HasFile l (bytes ∷ contents) (suc i) m b raw doc =
+    (units : List RawUnit) × (said : Doc ℕ) × (file_meaning l bytes ≡ Ok (units, said)) × HasFile (limits_after l bytes units) contents i m b raw doc
+
+-- the file with that number, as it is kept
+pub record HasRead (contents : List (List ℕ)) (i : ℕ) (bytes : List ℕ) (f : File) : Type 0 where
+  pub limits : Limits
+  pub read : IsRead limits bytes f
+  pub there : HasFile no_files_before contents i limits bytes (units_of f.units) read.doc
+
+abbrev pub refused_file : ℕ → ReadErr → GraphErr
+refused_file file (Refused f) = RefusedOf (record { file = file; section = f.section; at = f.at; reason = f.reason })
+refused_file file NoMemory = NoMemoryFor
+
+-- ---- what a graph stands for
+
+abbrev pub or_none : Result (List (Doc ℕ)) Refusal → List (Doc ℕ)
+or_none (Ok docs) = docs
+or_none (Err r) = []
+
+-- the documents of files, or none where one is refused
+unfoldable pub docs_of : List (List ℕ) → List (Doc ℕ)
+docs_of contents = or_none (files_meaning no_files_before 0 contents)
+
+-- documents are answered, or the first refusal, unless memory ran out
+abbrev pub FilesFail : {Y : Type 0} → GraphErr → Result Y Refusal → Type 0
+FilesFail NoMemoryFor read = Unit {0}
+FilesFail (RefusedOf r) read = read ≡ Err r
+
+abbrev pub FilesAnswer : {X Y : Type 0} → (X → Y) → Result X GraphErr → Result Y Refusal → Type 0
+FilesAnswer view (Ok x) read = read ≡ Ok (view x)
+FilesAnswer view (Err e) read = FilesFail e read

@@ -1,0 +1,130 @@
+//! One file of several.
+
+ghost use Rattle.std.specs.Prelude.{◌≡◌, ◌<◌, ◌^◌, length};
+ghost use Rattle.dwz_docs.specs.ElfFaults.{file_fault};
+ghost use Rattle.dwz_meanings.specs.Files;
+ghost use Rattle.dwz_docs.specs.ElfReading.{elf_of};
+ghost use Rattle.dwz_resolve.specs.Resolved.{sources_view};
+ghost use Rattle.dwz_graph.specs.Files.{ReadsFile, limits_view};
+ghost use Rattle.dwz_model.specs.declared.fault.ReadErr.TheVariants.{Refused};
+
+use dwz_elf::Elf;
+use dwz_model::{Fault, ReadErr, Reason};
+use dwz_resolve::{Resolved, Sections, TextSection, resolve};
+use dwz_unit::Units;
+use std::alloc::Global;
+
+/// A file that was read.
+#[derive(Drop)]
+pub struct File<'a> {
+    /// Its headers.
+    pub elf: Elf,
+    /// The sections that its values speak of.
+    pub sections: Sections<'a>,
+    /// Its units and their entries.
+    pub units: Units<'a>,
+    /// The entries that its values name.
+    pub resolved: Resolved,
+}
+
+/// What the files before a file leave: how many bytes and entries may still come, and the machine that they are for.
+#[derive(Clone, Copy)]
+pub(crate) struct Left {
+    pub(crate) bytes: usize,
+    pub(crate) entries: u32,
+    pub(crate) machine: Option<u16>,
+}
+
+// No file may be longer, in bytes.
+const LONGEST_FILE: usize = 1 << 28;
+
+const INFO: u8 = 1;
+
+const ABBREV: u8 = 2;
+
+const STR: u8 = 3;
+
+const LINE_STR: u8 = 4;
+
+const STR_OFFSETS: u8 = 5;
+
+const LINE: u8 = 6;
+
+const LOCLISTS: u8 = 7;
+
+const ARANGES: u8 = 8;
+
+// Where e_machine stands.
+const MACHINE_AT: u64 = 18;
+
+fn fault(at: u64, reason: Reason) -> ReadErr
+    ensures { result ≡ Refused (file_fault reason at) }
+{
+    ReadErr::Refused(Fault {
+        section: 0,
+        at,
+        reason,
+    })
+}
+
+// Whether a file is too long, or with those before it.
+#[tactic(auto, unfolding(dwz_meanings::specs::Files::longest_file))]
+fn is_too_long(left: &Left, bytes: &[u8]) -> bool
+    ensures { result ≡ Files.is_too_long (limits_view left.now) bytes.now }
+{
+    bytes.len() > LONGEST_FILE || bytes.len() > left.bytes
+}
+
+// Whether the files before it, if there are any, are for another machine.
+fn is_other_machine(other: Option<u16>, machine: u16) -> bool
+    ensures { result ≡ Files.is_other_machine other machine }
+{
+    match other {
+        None => false,
+        Some(other) => other != machine,
+    }
+}
+
+// The sections that values speak of.
+fn sections_of<'a>(elf: &Elf, bytes: &'a [u8]) -> Sections<'a>
+    ensures sources { elf.now ≡ elf_of bytes.now → sources_view result ≡ Files.sources_of bytes.now }
+    ensures aranges { elf.now ≡ elf_of bytes.now → result.aranges.now ≡ Files.debug_aranges bytes.now }
+{
+    Sections {
+        strs: TextSection::new(elf.content(bytes, STR)),
+        line_strs: TextSection::new(elf.content(bytes, LINE_STR)),
+        offsets: elf.content(bytes, STR_OFFSETS),
+        line: elf.content(bytes, LINE),
+        lists: elf.content(bytes, LOCLISTS),
+        aranges: elf.content(bytes, ARANGES),
+    }
+}
+
+/// Reads the file with a number, behind others. Refused with its first fault.
+pub(crate) fn read_file<'a>(
+    alloc: Global,
+    number: u32,
+    bytes: &'a [u8],
+    left: &Left,
+) -> Result<File<'a>, ReadErr>
+    ensures { ReadsFile (limits_view left.now) bytes.now result }
+{
+    if is_too_long(left, bytes) {
+        return Err(fault(0, Reason::FileSize));
+    }
+    let elf = Elf::read(alloc, bytes)?;
+    if is_other_machine(left.machine, elf.machine()) {
+        return Err(fault(MACHINE_AT, Reason::Machine));
+    }
+    let info = elf.content(bytes, INFO);
+    let abbrevs = elf.content(bytes, ABBREV);
+    let units = Units::read(alloc, info, abbrevs, left.entries)?;
+    let sections = sections_of(&elf, bytes);
+    let resolved = resolve(alloc, number, &units, &sections)?;
+    Ok(File {
+        elf,
+        sections,
+        units,
+        resolved,
+    })
+}

@@ -1,0 +1,115 @@
+//! All files of a run.
+
+ghost use Rattle.std.specs.Prelude.{◌≡◌, ℕ, ◌<◌, ◌≤◌, ◌^◌, List, Some, length, map, slice_get, IfOk};
+ghost use Rattle.dwz_docs.specs.Units.{RawUnit};
+ghost use Rattle.dwz_meanings.specs.Documents.{Doc};
+ghost use Rattle.dwz_meanings.specs.NamedLists.{lists_of_units};
+ghost use Rattle.dwz_meanings.specs.Shared.{AreRows};
+ghost use Rattle.dwz_resolve.specs.ListRows.{operand_view};
+ghost use Rattle.dwz_docs.specs.ElfReading.{elf_of};
+ghost use Rattle.dwz_meanings.specs.Files.{Limits, around_of, files_meaning, limits_after, no_files_before};
+ghost use Rattle.dwz_graph.specs.Files.{FilesAnswer, HasFile, HasRead, docs_of, limits_view, refused_file};
+ghost use Rattle.dwz_unit.specs.Rows.{units_of};
+
+use crate::file::{File, Left, read_file};
+use dwz_resolve::ListOperand;
+use dwz_model::{GraphErr, ReadErr, Refusal};
+use std::alloc::Global;
+use std::marker::Model;
+
+/// The files of a run, each with its units, and with its references resolved. Clauses see the contents of the files; what these say
+/// is `docs_of`.
+#[derive(Drop)]
+pub struct Graph<'a> {
+    contents: &'a [Vec<u8>],
+    files: Vec<File<'a>>,
+}
+
+impl<'a> Model for Graph<'a> {
+    ghost use Rattle.std.specs.Prelude.{ℕ, List, map};
+    ghost use Rattle.dwz_graph.specs.Files.{AreKept};
+
+    ghost Value = { List (List ℕ) };
+
+    ghost view = { λ g. map (λ v. v.items) g.contents.now };
+
+    ghost invariant = { λ g. AreKept (map (λ v. v.items) g.contents.now) g.files.items };
+}
+
+// No files together may be longer, in bytes, nor have more entries.
+const LONGEST_FILES: usize = 1 << 29;
+
+const MOST_ENTRIES: u32 = 1 << 24;
+
+fn in_file(file: u32, error: ReadErr) -> GraphErr
+    ensures { result ≡ refused_file file error }
+{
+    match error {
+        ReadErr::Refused(fault) => GraphErr::Refused(Refusal {
+            file,
+            section: fault.section,
+            at: fault.at,
+            reason: fault.reason,
+        }),
+        ReadErr::NoMemory => GraphErr::NoMemory,
+    }
+}
+
+// What is left behind a file.
+#[inline(always)]
+fn behind(left: &Left, bytes: &[u8], file: &File<'_>) -> Left
+    ensures { file.now.elf ≡ elf_of bytes.now → limits_view result ≡ limits_after (limits_view left.now) bytes.now (units_of file.now.units) }
+{
+    Left {
+        bytes: left.bytes.saturating_sub(bytes.len()),
+        entries: left.entries.saturating_sub(file.units.entries()),
+        machine: Some(file.elf.machine()),
+    }
+}
+
+impl<'a> Graph<'a> {
+    /// Reads files, of which there are fewer than 2^32. Refused with the first fault: files come in order, and in a file `FileSize`
+    /// comes first, then the faults of its sections, `Machine`, the faults of its units, those of what values mean, those of address
+    /// ranges, and those of shared lists.
+    pub fn read(alloc: Global, files: &'a [Vec<u8>]) -> Result<Graph<'a>, GraphErr>
+        requires { length files.now < 2 ^ 32 }
+        ensures answers { FilesAnswer docs_of result (files_meaning no_files_before 0 (map (λ v. v.items) files.now)) }
+        ensures contents { IfOk result (λ graph. graph ≡ map (λ v. v.items) files.now) }
+    {
+        let mut left = Left {
+            bytes: LONGEST_FILES,
+            entries: MOST_ENTRIES,
+            machine: None,
+        };
+        let mut kept = Vec::new(alloc);
+        for (number, content) in files.iter().enumerate() {
+            match read_file(alloc, number as u32, content.as_slice(), &left) {
+                Ok(file) => {
+                    left = behind(&left, content.as_slice(), &file);
+                    kept.push(file)?;
+                }
+                Err(error) => return Err(in_file(number as u32, error)),
+            }
+        }
+        Ok(Graph {
+            contents: files,
+            files: kept,
+        })
+    }
+
+    /// The file with a number, as it was read.
+    pub fn file(&self, number: u32) -> &File<'a>
+        requires { number < length self.now }
+        ensures { (bytes : List ℕ) → slice_get self.now number ≡ Some bytes → HasRead self.now number bytes result.now }
+    {
+        &self.files[number as usize]
+    }
+
+    /// The operands of the location lists that attributes of the file with a number name, each once, in order of place.
+    pub fn list_operands(&self, number: u32) -> &[ListOperand]
+        requires { number < length self.now }
+        ensures { (l : Limits) (bytes : List ℕ) (raw : List RawUnit) (doc : Doc ℕ) → HasFile no_files_before self.now number l bytes raw doc → AreRows (lists_of_units (around_of bytes raw) raw) (map (operand_view raw) result.now) }
+    {
+        &self.file(number).resolved.operands
+    }
+}

@@ -1,0 +1,17 @@
+pub mod RowLemmas
+pub mod RootLemmas
+pub mod NamedLemmas
+pub mod PlaceLemmas
+pub mod NamedSteps
+pub mod UnitThere
+pub mod ValueSteps
+pub mod TextLemmas
+pub mod TextSteps
+pub mod StateLemmas
+pub mod Answering
+pub mod SearchLemmas
+pub mod UnitStarts
+pub mod SetSteps
+pub mod StandLemmas
+pub mod ApartLemmas
+pub mod SharedLaw

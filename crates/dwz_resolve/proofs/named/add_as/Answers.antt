@@ -1,0 +1,116 @@
+use Rattle.std.proofs.Common.{◌≡◌, ◌+◌, ℕ, List, [], Result, Ok, refl, sym, ap, subst, ◌∙◌}
+use Rattle.std.specs.Prelude.{slice_range}
+use Rattle.dwz_model.specs.declared.fault.Fault.{Fault}
+use Rattle.dwz_model.specs.declared.fault.Reason.TheVariants.{BadString}
+use Rattle.dwz_docs.specs.Entries.{RawAttr}
+use Rattle.dwz_docs.specs.Faults.{info_fault}
+use Rattle.dwz_meanings.specs.Meanings.{Scope, all_places, as_class, entry_among, offset_of}
+use Rattle.dwz_meanings.specs.NamedLists.{lists_as}
+use Rattle.dwz_resolve.specs.declared.class.Class.{Class}
+use Rattle.dwz_resolve.specs.declared.state.State.{State}
+use Rattle.dwz_resolve.proofs.StateLemmas.{with_refs}
+use Rattle.dwz_resolve.specs.Classes.{class_view}
+use Rattle.dwz_resolve.specs.Named.{Found, found_in, map_ok}
+use Rattle.dwz_resolve.specs.Resolved.{Goes, StateIn, places, scope_in, stored}
+use Rattle.dwz_unit.specs.Rows.{units_of}
+use Rattle.dwz_resolve.proofs.NamedSteps.{entry_goes}
+use Rattle.dwz_resolve.proofs.PlaceLemmas.{all_are}
+use Rattle.dwz_resolve.proofs.TextSteps.{IsTest, plain_goes, slot_tells, test_goes, text_tells}
+use Rattle.dwz_resolve.proofs.named.add_as.Goals as goal
+
+-- what a value of a class names
+abbrev named_as : Scope ℕ → RawAttr → Class → Result Found Fault
+named_as s a k = map_ok (found_in (lists_as (class_view k) s a)) (as_class (class_view k) s a)
+
+pub returns-in-Address : goal.returns-in-Address
+returns-in-Address c = λ u before here k. (
+    let raw = units_of c.args.units.now in
+    let a = stored c.args.at c.args.end c.args.pair.now c.args.raw.now in
+    plain_goes raw (StateIn c.args.sections.now raw u c.args.here.now) before c.args.state.now (named_as (scope_in c.args.sections.now raw u) a c.args.class) k (ap (named_as (scope_in c.args.sections.now raw u) a) c.in-Address.is))
+
+pub returns-in-Block : goal.returns-in-Block
+returns-in-Block c = λ u before here k. (
+    let raw = units_of c.args.units.now in
+    let a = stored c.args.at c.args.end c.args.pair.now c.args.raw.now in
+    plain_goes raw (StateIn c.args.sections.now raw u c.args.here.now) before c.args.state.now (named_as (scope_in c.args.sections.now raw u) a c.args.class) k (ap (named_as (scope_in c.args.sections.now raw u) a) c.in-Block.is))
+
+pub returns-in-Flag : goal.returns-in-Flag
+returns-in-Flag c = λ u before here k. (
+    let raw = units_of c.args.units.now in
+    let a = stored c.args.at c.args.end c.args.pair.now c.args.raw.now in
+    plain_goes raw (StateIn c.args.sections.now raw u c.args.here.now) before c.args.state.now (named_as (scope_in c.args.sections.now raw u) a c.args.class) k (ap (named_as (scope_in c.args.sections.now raw u) a) c.in-Flag.is))
+
+pub returns-in-Text : goal.returns-in-Text
+returns-in-Text c = λ u before here k. (
+    let raw = units_of c.args.units.now in
+    let a = stored c.args.at c.args.end c.args.pair.now c.args.raw.now in
+    plain_goes raw (StateIn c.args.sections.now raw u c.args.here.now) before c.args.state.now (named_as (scope_in c.args.sections.now raw u) a c.args.class) k (ap (named_as (scope_in c.args.sections.now raw u) a) c.in-Text.is))
+
+pub returns-in-Signature : goal.returns-in-Signature
+returns-in-Signature c = λ u before here k. (
+    let raw = units_of c.args.units.now in
+    let a = stored c.args.at c.args.end c.args.pair.now c.args.raw.now in
+    plain_goes raw (StateIn c.args.sections.now raw u c.args.here.now) before c.args.state.now (named_as (scope_in c.args.sections.now raw u) a c.args.class) k (ap (named_as (scope_in c.args.sections.now raw u) a) c.in-Signature.is))
+
+pub returns-in-Index : goal.returns-in-Index
+returns-in-Index c = λ u before here k. (
+    let raw = units_of c.args.units.now in
+    let a = stored c.args.at c.args.end c.args.pair.now c.args.raw.now in
+    plain_goes raw (StateIn c.args.sections.now raw u c.args.here.now) before c.args.state.now (named_as (scope_in c.args.sections.now raw u) a c.args.class) k (ap (named_as (scope_in c.args.sections.now raw u) a) c.in-Index.is))
+
+pub returns-in-TextInStr : goal.returns-in-TextInStr
+returns-in-TextInStr c = λ u before here k. (
+    let raw = units_of c.args.units.now in
+    let s = scope_in c.args.sections.now raw u in
+    let a = stored c.args.at c.args.end c.args.pair.now c.args.raw.now in
+    let K = StateIn c.args.sections.now raw u c.args.here.now in
+    let tells = text_tells a c.args.sections.now.strs.bytes.now c.offset_of-offset.result c.has.result c.has.ensures c.offset_of-offset.ensures.value in
+    test_goes raw K before c.args.state.now c.check_text.result (named_as s a c.args.class) c.has.result (info_fault c.args.at BadString) k c.check_text.ensures
+    (subst (λ (w : Class). IsTest (named_as s a w) c.has.result (info_fault c.args.at BadString)) (sym c.in-TextInStr.is) tells))
+
+pub returns-in-TextInLineStr : goal.returns-in-TextInLineStr
+returns-in-TextInLineStr c = λ u before here k. (
+    let raw = units_of c.args.units.now in
+    let s = scope_in c.args.sections.now raw u in
+    let a = stored c.args.at c.args.end c.args.pair.now c.args.raw.now in
+    let K = StateIn c.args.sections.now raw u c.args.here.now in
+    let tells = text_tells a c.args.sections.now.line_strs.bytes.now c.offset_of-offset.result c.has-in-TextInLineStr.result c.has-in-TextInLineStr.ensures c.offset_of-offset.ensures.value in
+    test_goes raw K before c.args.state.now c.check_text-in-TextInLineStr.result (named_as s a c.args.class) c.has-in-TextInLineStr.result (info_fault c.args.at BadString) k c.check_text-in-TextInLineStr.ensures
+    (subst (λ (w : Class). IsTest (named_as s a w) c.has-in-TextInLineStr.result (info_fault c.args.at BadString)) (sym c.in-TextInLineStr.is) tells))
+
+pub returns-in-TextBySlot : goal.returns-in-TextBySlot
+returns-in-TextBySlot c = λ u before here k. (
+    let raw = units_of c.args.units.now in
+    let s = scope_in c.args.sections.now raw u in
+    let a = stored c.args.at c.args.end c.args.pair.now c.args.raw.now in
+    let K = StateIn c.args.sections.now raw u c.args.here.now in
+    let tells = slot_tells s a c.args.here.now.offsets _ c.offset_of-offset.result c.has_slot_text.result c.has_slot_text.ensures c.offset_of-offset.ensures.value here.base in
+    test_goes raw K before c.args.state.now c.check_text-in-TextBySlot.result (named_as s a c.args.class) c.has_slot_text.result (info_fault c.args.at BadString) k c.check_text-in-TextBySlot.ensures
+    (subst (λ (w : Class). IsTest (named_as s a w) c.has_slot_text.result (info_fault c.args.at BadString)) (sym c.in-TextBySlot.is) tells))
+
+pub returns-in-UnitEntry : goal.returns-in-UnitEntry
+returns-in-UnitEntry c = λ u before here k. (
+    let raw = units_of c.args.units.now in
+    let s = scope_in c.args.sections.now raw u in
+    let a = stored c.args.at c.args.end c.args.pair.now c.args.raw.now in
+    let K = StateIn c.args.sections.now raw u c.args.here.now in
+    let new : State = record c.args.state.now { refs = c.add_entry.new.refs } in
+    let own = here.own in
+    let at = here.at in
+    let added = entry_goes raw K before c.args.state.now new c.add_entry.result (entry_among (λ (n : ℕ). n) s.own c.args.at (c.args.here.now.at + c.offset_of-offset.result)) (c.add_entry.ensures s.own own) (with_refs raw s c.args.here.now.number before c.args.state.now c.add_entry.new.refs k) in
+    subst (λ (r : Result Found Fault). Goes raw K before c.args.state.now new c.add_entry.result r)
+    ((λ i. map_ok (found_in []) (entry_among (λ (n : ℕ). n) s.own c.args.at (at i + c.offset_of-offset.ensures.value i))) ∙ ap (named_as s a) (sym c.in-UnitEntry.is))
+    added)
+
+pub returns-in-InfoEntry : goal.returns-in-InfoEntry
+returns-in-InfoEntry c = λ u before here k. (
+    let raw = units_of c.args.units.now in
+    let s = scope_in c.args.sections.now raw u in
+    let a = stored c.args.at c.args.end c.args.pair.now c.args.raw.now in
+    let K = StateIn c.args.sections.now raw u c.args.here.now in
+    let new : State = record c.args.state.now { refs = c.add_entry-in-InfoEntry.new.refs } in
+    let named = c.add_entry-in-InfoEntry.ensures (all_places raw) (ap (λ (n : ℕ). slice_range (places raw) 0 n) c.entries.ensures ∙ all_are raw) in
+    let added = entry_goes raw K before c.args.state.now new c.add_entry-in-InfoEntry.result (entry_among (λ (n : ℕ). n) (all_places raw) c.args.at c.offset_of-offset.result) named (with_refs raw s c.args.here.now.number before c.args.state.now c.add_entry-in-InfoEntry.new.refs k) in
+    subst (λ (r : Result Found Fault). Goes raw K before c.args.state.now new c.add_entry-in-InfoEntry.result r)
+    (ap (λ (p : ℕ). map_ok (found_in []) (entry_among (λ (n : ℕ). n) (all_places raw) c.args.at p)) c.offset_of-offset.ensures.value ∙ ap (named_as s a) (sym c.in-InfoEntry.is))
+    added)

@@ -1,0 +1,14 @@
+use Rattle.std.proofs.Common.{◌≡◌, ◌-◌, ◌≤◌, ◌<◌, ℕ, true, length, Some, slice_get}
+use Rattle.dwz_resolve.specs.declared.operands.ListOperand.{ListOperand}
+use Rattle.dwz_resolve.specs.Apart.{Rows}
+use Rattle.dwz_resolve.proofs.ApartLemmas.{OwnBefore}
+use Rattle.dwz_resolve.proofs.shared.foreign.Given as goal
+
+abbrev pub invariant-loop-k : goal.invariant-loop-k
+invariant-loop-k l = record {
+  from : l.first ≤ l.k;
+  own : (top high : ℕ) → Rows 0 l.kept top → Rows 0 l.own high → OwnBefore l.kept (record { from = l.from; end = l.end; own = l.own }) l.k;
+}
+
+abbrev pub decreases-loop-k : goal.decreases-loop-k
+decreases-loop-k l = length l.kept - l.k

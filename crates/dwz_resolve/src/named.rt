@@ -1,0 +1,166 @@
+//! What the values of entries name, or the first fault.
+
+ghost use Rattle.std.specs.Prelude.{◌≡◌, ℕ, ◌+◌, ◌<◌, ◌≤◌, List, [], Some, length, slice_get};
+ghost use Rattle.dwz_docs.specs.Units.{RawUnit, entries_in};
+ghost use Rattle.dwz_meanings.specs.Meanings;
+ghost use Rattle.dwz_meanings.specs.Meanings.{as_class};
+ghost use Rattle.dwz_meanings.specs.NamedLists.{lists_as};
+ghost use Rattle.dwz_meanings.specs.Shared.{NamedList};
+ghost use Rattle.dwz_resolve.specs.Classes.{class_view};
+ghost use Rattle.dwz_resolve.specs.Named.{attr_named, entry_named, found_in, map_ok, unit_named, units_named};
+ghost use Rattle.dwz_resolve.specs.Resolved.{Goes, IsHere, StateAt, StateIn, around, scope_in, stored};
+ghost use Rattle.dwz_unit.specs.Rows.{EntryRow, rows_of, units_of};
+
+use crate::class::{Class, class_of};
+use crate::here::{Here, here_of};
+use crate::kinds::check_kind;
+use crate::references::add_entry;
+use crate::sections::{Sections, offset_of};
+use crate::state::State;
+use crate::strings::{check_text, has_slot_text};
+use dwz_forms::Raw;
+use dwz_model::{Pair, ReadErr};
+use dwz_unit::{Units, Values, known_value};
+
+// Adds what a value of that class names.
+#[inline(always)]
+fn add_as(
+    class: Class,
+    units: &Units,
+    sections: &Sections,
+    here: &Here,
+    at: u64,
+    end: u64,
+    pair: &Pair,
+    raw: &Raw,
+    state: &mut State,
+) -> Result<(), ReadErr>
+    requires { here.now.end ≤ entries_in (units_of units.now) }
+    ensures { (u : RawUnit) (before : List NamedList) → IsHere (units_of units.now) u here.now → StateIn sections.now (units_of units.now) u here.now before state.old → Goes (units_of units.now) (StateIn sections.now (units_of units.now) u here.now) before state.old state.new result (map_ok (found_in (lists_as (class_view class) (scope_in sections.now (units_of units.now) u) (stored at end pair.now raw.now))) (as_class (class_view class) (scope_in sections.now (units_of units.now) u) (stored at end pair.now raw.now))) }
+{
+    let offset = offset_of(raw);
+    let _end = end;
+    match class {
+        Class::Address => Ok(()),
+        Class::Block => Ok(()),
+        Class::Constant => Err(ReadErr::NoMemory),
+        Class::Flag => Ok(()),
+        Class::Text => Ok(()),
+        Class::TextInStr => check_text(sections.strs.has(offset), at),
+        Class::TextInLineStr => check_text(sections.line_strs.has(offset), at),
+        Class::TextBySlot => check_text(has_slot_text(sections, here.offsets, offset), at),
+        Class::UnitEntry => add_entry(
+            units,
+            here.first,
+            here.end,
+            at,
+            here.at as u128 + offset,
+            &mut state.refs,
+        ),
+        Class::InfoEntry => add_entry(
+            units,
+            0,
+            units.entries(),
+            at,
+            offset,
+            &mut state.refs,
+        ),
+        Class::Signature => Ok(()),
+        Class::Offset => Err(ReadErr::NoMemory),
+        Class::Expression => Err(ReadErr::NoMemory),
+        Class::ListIndex => Err(ReadErr::NoMemory),
+        Class::Index => Ok(()),
+        Class::CommonEntry => Err(ReadErr::NoMemory),
+        Class::CommonText => Err(ReadErr::NoMemory),
+        Class::Unread => Err(ReadErr::NoMemory),
+    }
+}
+
+// `DW_AT_sibling` (DWARF 5, 7.5.4).
+const SIBLING: u16 = 0x01;
+
+// Adds what an attribute names.
+#[inline(always)]
+fn add_attr(
+    units: &Units,
+    sections: &Sections,
+    here: &Here,
+    at: u64,
+    end: u64,
+    pair: &Pair,
+    raw: &Raw,
+    state: &mut State,
+) -> Result<(), ReadErr>
+    requires { here.now.end ≤ entries_in (units_of units.now) }
+    ensures { (u : RawUnit) (before : List NamedList) → IsHere (units_of units.now) u here.now → StateIn sections.now (units_of units.now) u here.now before state.old → Goes (units_of units.now) (StateIn sections.now (units_of units.now) u here.now) before state.old state.new result (attr_named (scope_in sections.now (units_of units.now) u) (stored at end pair.now raw.now)) }
+{
+    if pair.name == SIBLING {
+        return Ok(());
+    }
+    add_as(
+        class_of(pair.form),
+        units,
+        sections,
+        here,
+        at,
+        end,
+        pair,
+        raw,
+        state,
+    )
+}
+
+// Adds what an entry names.
+fn add_values(
+    units: &Units,
+    sections: &Sections,
+    here: &Here,
+    i: u32,
+    state: &mut State,
+) -> Result<(), ReadErr>
+    requires row { i < entries_in (units_of units.now) }
+    requires here { here.now.end ≤ entries_in (units_of units.now) }
+    ensures { (u : RawUnit) (row : EntryRow) (before : List NamedList) → IsHere (units_of units.now) u here.now → slice_get (rows_of (units_of units.now)) i ≡ Some row → StateIn sections.now (units_of units.now) u here.now before state.old → Goes (units_of units.now) (StateIn sections.now (units_of units.now) u here.now) before state.old state.new result (entry_named (scope_in sections.now (units_of units.now) u) row.entry) }
+{
+    let Values { pairs, mut cursor } = units.values(i);
+    for pair in pairs {
+        let at = cursor.at() as u64;
+        let raw = known_value(&mut cursor, pair);
+        let end = cursor.at() as u64;
+        add_attr(units, sections, here, at, end, pair, &raw, state)?;
+    }
+    Ok(())
+}
+
+// Adds what the entries of a unit name.
+fn add_unit(
+    units: &Units,
+    sections: &Sections,
+    n: u32,
+    state: &mut State,
+) -> Result<(), ReadErr>
+    requires { n < length (units_of units.now) }
+    ensures { (u : RawUnit) (before : List NamedList) → slice_get (units_of units.now) n ≡ Some u → StateAt sections.now (units_of units.now) n before state.old → Goes (units_of units.now) (StateAt sections.now (units_of units.now) (n + 1)) before state.old state.new result (unit_named (around sections.now (units_of units.now)) u) }
+{
+    let unit = units.unit(n);
+    let here = here_of(units, n, &unit);
+    check_kind(units, sections, &here, &unit)?;
+    for i in here.first..here.end {
+        add_values(units, sections, &here, i, state)?;
+    }
+    Ok(())
+}
+
+/// Adds what the entries of all units name; or fails with the first fault of what values mean.
+pub(crate) fn add_units(
+    units: &Units,
+    sections: &Sections,
+    state: &mut State,
+) -> Result<(), ReadErr>
+    ensures { StateAt sections.now (units_of units.now) 0 [] state.old → Goes (units_of units.now) (StateAt sections.now (units_of units.now) (length (units_of units.now))) [] state.old state.new result (units_named (around sections.now (units_of units.now)) (units_of units.now)) }
+{
+    for n in 0..units.len() {
+        add_unit(units, sections, n, state)?;
+    }
+    Ok(())
+}

@@ -1,0 +1,55 @@
+//! What a file names, or its first fault.
+
+ghost use Rattle.std.specs.Prelude.{◌≡◌, map, IfOk};
+ghost use Rattle.dwz_docs.specs.Faults.{Answers};
+ghost use Rattle.dwz_meanings.specs.NamedLists.{lists_of_units};
+ghost use Rattle.dwz_meanings.specs.Shared.{AreRows};
+ghost use Rattle.dwz_resolve.specs.ListRows.{operand_view};
+ghost use Rattle.dwz_resolve.specs.Named.{map_ok, units_refs};
+ghost use Rattle.dwz_resolve.specs.Resolved.{AreEntries, around, place_at};
+ghost use Rattle.dwz_resolve.specs.Said.{said};
+ghost use Rattle.dwz_unit.specs.Rows.{units_of};
+
+use crate::named::add_units;
+use crate::operands::ListOperand;
+use crate::ranges::check_ranges;
+use crate::sections::Sections;
+use crate::shared::unshared;
+use crate::state::State;
+use dwz_model::ReadErr;
+use dwz_unit::Units;
+use std::alloc::Global;
+
+/// What the values of a file name.
+#[derive(Drop)]
+pub struct Resolved {
+    /// For each reference of the units, in preorder, then in the order of attributes, then of the operands of an expression, the
+    /// number of the entry that it names. The operands of location lists aren't among them.
+    pub refs: Vec<u32>,
+    /// The operands of the location lists that attributes name, each once, in order of place.
+    pub operands: Vec<ListOperand>,
+}
+
+/// Reads what the values of all units of a file say, each of its sets of address ranges, and its location lists. Refused with the first
+/// fault of the meanings, else of the address ranges, else with that of shared lists. `file` is the number of the file, which the places of
+/// operands get.
+pub fn resolve(
+    alloc: Global,
+    file: u32,
+    units: &Units,
+    sections: &Sections,
+) -> Result<Resolved, ReadErr>
+    ensures within { IfOk result (λ r. AreEntries (units_of units.now) r.refs.items) }
+    ensures operands { IfOk result (λ r. AreRows (lists_of_units (around sections.now (units_of units.now)) (units_of units.now)) (map (operand_view (units_of units.now)) r.operands.items)) }
+    ensures answers { Answers (λ r. map (place_at (units_of units.now)) r.refs.items) result (map_ok units_refs (said (around sections.now (units_of units.now)) (units_of units.now) sections.now.aranges.now)) }
+{
+    let _file = file;
+    let mut state = State::new(alloc);
+    add_units(units, sections, &mut state)?;
+    check_ranges(units, sections.aranges)?;
+    let operands = unshared(alloc, &state.lists)?;
+    Ok(Resolved {
+        refs: state.refs,
+        operands,
+    })
+}

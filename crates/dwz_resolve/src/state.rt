@@ -1,0 +1,33 @@
+//! What is kept of the values that were looked at.
+
+ghost use Rattle.std.specs.Prelude.{◌≡◌, []};
+
+use crate::lists::Lists;
+use std::alloc::Global;
+
+/// What is kept of the values that were looked at.
+#[derive(Drop)]
+pub(crate) struct State {
+    /// The numbers of the entries that they name.
+    pub refs: Vec<u32>,
+    /// The location lists that they name.
+    pub lists: Lists,
+}
+
+impl State {
+    pub(crate) fn new(alloc: Global) -> State
+        ensures refs { result.refs.items ≡ [] }
+        ensures rows { result.lists.rows.items ≡ [] }
+        ensures operands { result.lists.operands.items ≡ [] }
+        ensures slots { result.lists.slots.items ≡ [] }
+    {
+        State {
+            refs: Vec::new(alloc),
+            lists: Lists {
+                rows: Vec::new(alloc),
+                operands: Vec::new(alloc),
+                slots: Vec::new(alloc),
+            },
+        }
+    }
+}

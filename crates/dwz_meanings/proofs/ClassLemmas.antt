@@ -85,11 +85,11 @@ rows_are_there : list_all has_row class_rows ≡ true
 unfolding form_rows class_rows class_in
 rows_are_there = refl
 
-and_true : (a b : Bool) → (a && b) ≡ true → (a ≡ true) × (b ≡ true)
+pub and_true : (a b : Bool) → (a && b) ≡ true → (a ≡ true) × (b ≡ true)
 and_true true b e = (refl, e)
 and_true false b e = absurd cc
 
-row_checked : (p : RowView → Bool) (rows : List RowView) (code : ℕ) (r : RowView) → list_all p rows ≡ true → row_of rows code ≡ Some r → (p r ≡ true) × (r.code ≡ code)
+pub row_checked : (p : RowView → Bool) (rows : List RowView) (code : ℕ) (r : RowView) → list_all p rows ≡ true → row_of rows code ≡ Some r → (p r ≡ true) × (r.code ≡ code)
 row_checked p [] code r all is = absurd cc
 row_checked p (s ∷ rows) code r all is =
     let both = and_true (p s) (list_all p rows) all in

@@ -10,16 +10,13 @@ use Rattle.dwz_model.specs.declared.place.Base.TheVariants.{Unit as FromUnit}
 use Rattle.dwz_meanings.specs.declared.exprs.Operand.{Operand}
 use Rattle.dwz_meanings.specs.Exprs.{AnAddress, AreNamed, Counted, Entry4, EntryOrGeneric, EntryUleb, ExprContext, Expression, Field, Found, Holds, Inside, Located, LocatedBy, Names, Run, Signed, Sized, SpellsExpr, SpellsField, SpellsFields, SpellsOp, SpellsPiece, SpellsWithin, Unsigned, an_address, an_operand, an_operand_or_generic, expression_of, expressions_in, has_address, joined, most_inside, nothing, operands_in}
 use Rattle.dwz_meanings.specs.LocLists.{EndsList, SpellsListEntry}
+use Rattle.dwz_meanings.specs.PatchedLists.{with_number}
 use Rattle.dwz_meanings.specs.Patching.{FitsIn, number_bytes}
 use Rattle.dwz_meanings.specs.Sequences.{Spelling, SpellsAll, SpellsRow}
 use Rattle.dwz_meanings.proofs.CutLemmas.{Lie, number_len, patch, patch_append, patch_len}
 use Rattle.dwz_meanings.proofs.StandLemmas.{FoundStand, Stand, entry_stands, field_stands, fields_stand, op_stands, ops_stand, operands_both, row_stands, within_stands}
 
--- an operand whose number is that of its place
-abbrev pub with_number : (ℕ → ℕ) → Operand → Operand
-with_number number o = record { at = o.at; width = o.width; uleb = o.uleb; base = o.base; number = number o.at }
-
--- one that stands elsewhere
+-- an operand that stands elsewhere
 abbrev pub with_place : (ℕ → ℕ) → Operand → Operand
 with_place there o = record { at = there o.at; width = o.width; uleb = o.uleb; base = o.base; number = o.number }
 

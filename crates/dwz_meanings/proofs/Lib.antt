@@ -19,6 +19,11 @@ pub mod FilledLemmas
 pub mod RenumberLemmas
 pub mod PatchedLemmas
 pub mod PatchedSets
+pub mod InPlaceLemmas
+pub mod ListKindLemmas
+pub mod PatchedListLemmas
+pub mod NamedAgain
+pub mod WriteOver
 mod ExprRows
 mod MeaningRows
 mod FileRows

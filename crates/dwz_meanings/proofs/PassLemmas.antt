@@ -64,7 +64,7 @@ in_back x [] ys h = h
 in_back x (y ∷ xs) ys h = inr (in_back x xs ys h)
 
 -- an own operand of a list is one of all
-own_in : (l : NamedList) (p : Operand) (lists : List NamedList) → In l lists → In p (own_operands l) → In (of_unit l.unit p) (operands_in_lists lists)
+pub own_in : (l : NamedList) (p : Operand) (lists : List NamedList) → In l lists → In p (own_operands l) → In (of_unit l.unit p) (operands_in_lists lists)
 unfolding operands_in_lists
 own_in l p [] is there = absurd is
 own_in l p (m ∷ lists) (inl same) there =

@@ -7,17 +7,18 @@ use Rattle.dwz_meanings.specs.declared.exprs.Operand.{Operand}
 use Rattle.dwz_meanings.specs.Documents.{Expr, Part, Value}
 use Rattle.dwz_meanings.specs.Exprs.{AreNamed, ExprContext, Expression, SpellsExpr, most_inside, parts_from, parts_of}
 use Rattle.dwz_meanings.specs.Meanings.{IsExpression, Scope, bytes_of, content_at, expr_context, targets}
+use Rattle.dwz_meanings.specs.PatchedLists.{number_at, with_number}
 use Rattle.dwz_meanings.specs.Patching.{AllFit, CanPatch, LeadTo, filled, moved, patched_expr, renumbered}
 use Rattle.dwz_meanings.proofs.CutLemmas.{filled_cut, patch}
-use Rattle.dwz_meanings.proofs.FilledLemmas.{again_len, moved_expr, with_number, within_moves}
-use Rattle.dwz_meanings.proofs.RenumberLemmas.{all_good, moved_numbers, number_at, numbered, own_numbers, parts_moved, shift, shift_along, shift_start}
+use Rattle.dwz_meanings.proofs.FilledLemmas.{again_len, moved_expr, within_moves}
+use Rattle.dwz_meanings.proofs.RenumberLemmas.{all_good, moved_numbers, numbered, own_numbers, parts_moved, shift, shift_along, shift_start}
 use Rattle.dwz_meanings.proofs.StandLemmas.{Stand, within_stands}
 
 -- the expression's own place and bytes
 pub in_place : (c : ExprContext) (e : Expression) (start : ℕ) (bytes : List ℕ) → SpellsExpr c e start bytes → (start ≡ e.at) × (bytes ≡ e.bytes)
 in_place c e start bytes s = (ap (λ (w : Expression). w.at) (sym s.made), ap (λ (w : Expression). w.bytes) (sym s.made))
 
-own_spelled : (c : ExprContext) (e : Expression) (start : ℕ) (bytes : List ℕ) → SpellsExpr c e start bytes → SpellsExpr c e e.at e.bytes
+pub own_spelled : (c : ExprContext) (e : Expression) (start : ℕ) (bytes : List ℕ) → SpellsExpr c e start bytes → SpellsExpr c e e.at e.bytes
 own_spelled c e start bytes s = let own = in_place c e start bytes s in subst (λ (n : ℕ). SpellsExpr c e n e.bytes) own.0 (subst (λ (w : List ℕ). SpellsExpr c e start w) own.1 s)
 
 module _ (c : ExprContext) (e : Expression) (s : SpellsExpr c e e.at e.bytes) (numbers : List ℕ) (many : length numbers ≡ length e.operands) where

@@ -1,5 +1,5 @@
 -- Sets of address ranges with other unit offsets are spelled, set by set.
-use Rattle.std.proofs.Common.{◌≡◌, ℕ, ◌+◌, ◌^◌, ◌<◌, ◌≤◌, Bool, true, List, [], ◌∷◌, ◌++◌, length, take, drop, set, refl, sym, ap, subst, ◌∙◌, arith, append_assoc}
+use Rattle.std.proofs.Common.{◌≡◌, ℕ, ◌+◌, ◌^◌, ◌<◌, ◌≤◌, Bool, true, List, [], ◌∷◌, ◌++◌, length, take, drop, refl, sym, ap, subst, ◌∙◌, arith, append_assoc}
 use Rattle.std.proofs.lemmas.List.{drop-drop, length-append, length-drop, length-take-le, take-append-drop}
 use Rattle.std.proofs.Math.Seq.{drop-append_seam, set-append_seam, take-append_seam}
 use Rattle.dwz_bytes.specs.Spelling.{le_bytes, le_value}
@@ -7,11 +7,11 @@ use Rattle.dwz_bytes.proofs.FixedLemmas.{fixed_written}
 use Rattle.dwz_docs.specs.Units.{field}
 use Rattle.dwz_docs.proofs.HeaderLemmas.{field-append}
 use Rattle.dwz_meanings.specs.Patching.{AreUnits, of_units, with_units, written_at}
-use Rattle.dwz_meanings.specs.Ranges.{RangeSet, SpellsSet, SpellsSets, set_length, set_unit, set_version}
+use Rattle.dwz_meanings.specs.Ranges.{RangeSet, SpellsSet, SpellsSets, set_length, set_unit}
 use Rattle.dwz_meanings.proofs.CutLemmas.{le_len}
 
 -- bytes written over as many others
-over : (before old new rest : List ℕ) → length old ≡ length new → written_at (length before) new (before ++ (old ++ rest)) ≡ before ++ (new ++ rest)
+pub over : (before old new rest : List ℕ) → length old ≡ length new → written_at (length before) new (before ++ (old ++ rest)) ≡ before ++ (new ++ rest)
 unfolding written_at
 over before [] [] rest many = refl
 over before [] (b ∷ new) rest many = absurd (omega (arith, many))

@@ -7,15 +7,10 @@ use Rattle.dwz_meanings.specs.declared.exprs.Operand.{Operand}
 use Rattle.dwz_meanings.specs.Documents.{Part, Same}
 use Rattle.dwz_meanings.specs.Documents as document
 use Rattle.dwz_meanings.specs.Exprs.{AreNamed, parts_from}
+use Rattle.dwz_meanings.specs.PatchedLists.{number_at, with_number}
 use Rattle.dwz_meanings.specs.Patching.{AllFit, moved, number_bytes, renumbered}
 use Rattle.dwz_meanings.proofs.CutLemmas.{Lie, behind_end, lie_le, number_len, patch}
-use Rattle.dwz_meanings.proofs.FilledLemmas.{GoAlong, Good, with_number, with_place}
-
--- the number of the operand at a place
-pub number_at : List Operand → List ℕ → ℕ → ℕ
-number_at [] numbers place = 0
-number_at (o ∷ os) [] place = 0
-number_at (o ∷ os) (n ∷ numbers) place = cond (eqb o.at place) n (number_at os numbers place)
+use Rattle.dwz_meanings.proofs.FilledLemmas.{GoAlong, Good, with_place}
 
 -- operands behind one have the numbers of those behind it
 later_numbers : (o : Operand) (os : List Operand) (n : ℕ) (numbers : List ℕ) (at end : ℕ) (ps : List Operand) → o.at < at → Lie at end ps

@@ -9,3 +9,4 @@ pub mod Meanings
 pub mod NamedLists
 pub mod Files
 pub mod Patching
+pub mod PatchedLists

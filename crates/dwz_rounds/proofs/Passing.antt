@@ -1,0 +1,72 @@
+-- A pass over the nodes that point at pending ones leaves no more nodes to look at than those whose number it changed.
+use Rattle.std.proofs.Common.{◌≡◌, ℕ, ◌+◌, ◌-◌, ◌*◌, ◌<◌, ◌≤◌, All, Bool, List, length, get_or, min, inl, inr, ⊎_elim, refl, sym, ap, subst, ◌∙◌, arith}
+use Rattle.std.specs.Prelude.{slice_index}
+use Rattle.dwz_nodes.specs.Back.{AreBack, sources_at}
+use Rattle.dwz_nodes.specs.Graph.{Node, IsClosed}
+use mathlib.Core.Logic.{dite}
+use native.Mathlib.Decide.{dec_le}
+use Rattle.dwz_rounds.specs.Marked.{IsMarked, AreMarked}
+use Rattle.dwz_rounds.specs.Pending.{own_key, ArePointing, AreSame, AreWithWholes, IsPending, IsSplit}
+use Rattle.dwz_rounds.specs.Split.{IsSplitting}
+use Rattle.dwz_rounds.specs.Turns.{Among}
+use Rattle.dwz_rounds.specs.declared.split.Part.{Part}
+use Rattle.dwz_rounds.specs.declared.members.Range.{Range}
+use Rattle.dwz_rounds.specs.Members.{AreMembers}
+use Rattle.std.proofs.lemmas.List.{get_or_default}
+use Rattle.dwz_rounds.proofs.Numberings.{among_or, split-pending}
+use Rattle.dwz_rounds.proofs.Visiting.{is-visit}
+
+module _ (g : List Node) (numbers visit wholes nodes : List ℕ) (whole : List Bool) (parts : List Part) (count : ℕ) (next after : List ℕ) (number : ℕ)
+    (same : AreSame visit nodes) (marked : AreMarked whole wholes) (inside : (a : ℕ) → Among visit a → a < length g) (below : (a : ℕ) → a < length g → slice_index numbers a < count) (room : count ≤ length whole)
+    (len : length next ≡ length numbers) (s : IsSplitting (own_key g numbers) nodes numbers whole parts count (length nodes) next after number) where
+  out : (a : ℕ) → ¬ (Among visit a) → slice_index next a ≡ slice_index numbers a
+  out a not = s.other a (λ p l e. not (same.back a (p, l, e)))
+
+  pub split-from : IsSplit g numbers visit wholes count next after
+  split-from = record {
+    len = len;
+    kept = λ a l not. out a not;
+    same = λ a b ta tb e.
+        let x = same.there a ta in
+        let y = same.there b tb in
+        ap (λ (k : ℕ). slice_index next k) (sym x.2) ∙ (s.same x.0 y.0 x.1 y.1 (ap (own_key g numbers) x.2 ∙ (e ∙ ap (own_key g numbers) (sym y.2))) ∙ ap (λ (k : ℕ). slice_index next k) y.2);
+    apart = λ a b ta tb e.
+        let x = same.there a ta in
+        let y = same.there b tb in
+        ap (own_key g numbers) (sym x.2) ∙ (s.apart x.0 y.0 x.1 y.1 (ap (λ (k : ℕ). slice_index next k) x.2 ∙ (e ∙ ap (λ (k : ℕ). slice_index next k) (sym y.2))) ∙ ap (own_key g numbers) y.2);
+    old = λ a ta.
+        let x = same.there a ta in
+        let small = below a (inside a ta) in
+        ⊎_elim
+        (λ k. inl (ap (λ (n : ℕ). slice_index next n) (sym x.2) ∙ (k.is ∙ ap (λ (n : ℕ). slice_index numbers n) x.2), marked.all (slice_index numbers a) (omega arith) (subst (λ (n : ℕ). IsMarked whole (slice_index numbers n)) x.2 k.of_whole)))
+        (λ high. inr (subst (λ (n : ℕ). count ≤ slice_index next n) x.2 high))
+        (s.each x.0 x.1);
+    new = λ a h. let f = s.from a h in (inside a (same.back a (f.0, f.1, f.2)), f.3);
+    all = λ a la high. ⊎_elim
+        (λ there. let x = same.there a there in subst (λ (n : ℕ). Among after n) x.2 (s.all x.0 x.1 (subst (λ (n : ℕ). count ≤ slice_index next n) (sym x.2) high)))
+        (λ not. let e = out a not in let b = below a la in absurd (omega arith))
+        (among_or visit a);
+  }
+
+  pub pass-pending : IsClosed g → (rows : List (List ℕ)) (pending first : List ℕ) → AreBack g rows → IsPending g numbers pending → ArePointing rows pending (length pending) first → AreWithWholes numbers first visit wholes → IsPending g next after
+  pass-pending closed rows pending first back p pointing with =
+      split-pending g closed numbers pending p visit wholes (is-visit g rows numbers pending first visit wholes back p.len p.inside pointing with inside) count below next after split-from
+
+-- either there are more numbers, or nothing is pending
+pub pass-less : (n count grown many left : ℕ) → count ≤ grown → grown ≤ n → (0 < left → count < grown) → 0 < many → 2 * (n - grown) + min 1 left < 2 * (n - count) + min 1 many
+pass-less n count grown many left up few more some = dite (dec_le 1 left)
+    (λ l. let m = more l in omega arith)
+    (λ none. omega arith)
+
+-- bounds
+pub sources-below : (g : List Node) (rows : List (List ℕ)) (n : ℕ) → AreBack g rows → n ≡ length g → (a : ℕ) → a < length rows → All (λ b. b < n) (sources_at rows a)
+sources-below g rows n back is a l k d m = let s = (back.each a (let e = back.len in omega arith)).each (get_or (sources_at rows a) k d) (k, m, get_or_default (sources_at rows a) k (get_or (sources_at rows a) k d) d m) in let t = s.0 in omega arith
+
+pub all-below : (xs : List ℕ) (n : ℕ) → ((a : ℕ) → Among xs a → a < n) → All (λ a. a < n) xs
+all-below xs n inside k d l = subst (λ (a : ℕ). a < n) (get_or_default xs k 0 d l) (inside (get_or xs k 0) (k, l, refl))
+
+pub some-range : (numbers : List ℕ) (ranges : List Range) (members pending : List ℕ) (n : ℕ) → AreMembers numbers ranges members → n ≡ length numbers → ((a : ℕ) → Among pending a → a < n) → 0 < length pending → 0 < length ranges
+some-range numbers ranges members pending n m is inside some = let a = inside (get_or pending 0 0) (0, some, refl) in let p = (m.each (get_or pending 0 0) (omega arith)).number in omega arith
+
+pub listed-below : (marks : List Bool) (visit nodes : List ℕ) (n : ℕ) → length marks ≡ n → AreMarked marks visit → AreSame visit nodes → All (λ a. a < n) nodes
+listed-below marks visit nodes n len m same = all-below nodes n (λ a h. let i = (m.inside a (same.back a h)).0 in omega arith)

@@ -17,7 +17,8 @@ use Rattle.dwz_seen.specs.Shown.{keys, unit_keys, units_keys}
 use Rattle.dwz_writing.specs.Sound.{SoundAttr, SoundEntries, SoundNode, SoundUnit}
 use Rattle.dwz_writing.specs.Writing.{Numbering, Shape, pair_of, stored, stored_as, table_of}
 use Rattle.dwz_writing.proofs.RawUnits.{raw_attrs, raw_entries, raw_entry, raw_kind, raw_unit, raw_units}
-use Rattle.dwz_writing.proofs.ValuesMean.{IsScope, as_means}
+use Rattle.dwz_writing.proofs.ScopeIs.{IsScope}
+use Rattle.dwz_writing.proofs.ValuesMean.{as_means}
 use Rattle.dwz_seen.proofs.Members.{in_left, in_map, in_right}
 
 -- ---- attributes

@@ -6,7 +6,7 @@ use Rattle.dwz_model.specs.declared.place.Pair.{Pair}
 use Rattle.dwz_bytes.specs.Spelling.{SpellsSleb, fits_i64, reach}
 use Rattle.dwz_codes.specs.Forms.{form_rows}
 use Rattle.dwz_docs.specs.Abbrevs.{SpellsPair}
-use Rattle.dwz_meanings.specs.Documents.{Attr, Expr, Plain, Text, Value, only, ref, value_map}
+use Rattle.dwz_meanings.specs.Documents.{Attr, Expr, Plain, Sec, Text, Value, only, ref, value_map}
 use Rattle.dwz_docs.specs.Entries.{RawAttr}
 use Rattle.dwz_meanings.specs.Meanings.{Class, IfSo, IsExpression, IsFileBy, MeansAs, OfAddress, OfBlock, OfCommonEntry, OfCommonText, OfConstant, OfExpression, OfFlag, OfIndex, OfInfoEntry, OfListIndex, OfOffset, OfSignature, OfText, OfTextBySlot, OfTextInLineStr, OfTextInStr, OfUnitEntry, Sources, Unread, bytes_of, class_in, class_of, class_rows, content_at, expr_context, names_file, names_list, number_of, path_by, stmt_list}
 use Rattle.dwz_meanings.specs.Exprs.{ExprContext, Expression, SpellsExpr, parts_of}
@@ -14,14 +14,19 @@ use Rattle.dwz_writing.proofs.PatchLemmas.{expr_short}
 use Rattle.dwz_docs.specs.Texts.{IsSlot, IsTextAt}
 use Rattle.dwz_docs.specs.Values.{Bytes, Number, Raw, SpellsShape, SpellsValue, constant_of, shape_of, written_rows}
 use Rattle.dwz_docs.proofs.WrittenLemmas.{same_shape}
-use Rattle.dwz_writing.specs.Carried.{CameFrom, CarriedAttr, Imports, NumbersFile}
+use Rattle.dwz_writing.specs.Carried.{CameFrom, CarriedAttr, Imports, NamesLines, NumbersFile}
 use Rattle.dwz_writing.specs.Bases.{Bases}
 use Rattle.dwz_writing.specs.Meant.{AttrSays, FileSays, Own, SaysAs, Tells, WasRead}
 use Rattle.dwz_writing.specs.Placing.{Chosen, Fit, as_entry, as_read, fit_as, fit_attr, with_form, zeros}
 use Rattle.dwz_writing.specs.Sound.{HasBytes, IsBuiltAs, SoundAttr, StoresAs}
 use Rattle.dwz_writing.specs.Writing.{block_in, expr_bytes, pair_of, text_in}
 use Rattle.dwz_writing.proofs.ValuesMean.{not_so, plain_is, so_not}
-use Rattle.dwz_writing.proofs.StoredClasses.{class_agrees, expression_form, exprloc_block, is_bytes, is_number, rows_agree, stores_bytes}
+use Rattle.dwz_bytes.proofs.FixedLemmas.{fixed_written}
+use Rattle.dwz_bytes.specs.Spelling.{le_bytes}
+use Rattle.dwz_docs.specs.Lists.{has}
+use Rattle.dwz_codes.specs.Forms.{form_rows}
+use Rattle.dwz_writing.proofs.PoolLemmas.{le_are}
+use Rattle.dwz_writing.proofs.StoredClasses.{class_agrees, expression_form, exprloc_block, is_bytes, is_number, offset_class, rows_agree, stores_bytes}
 
 -- ---- an attribute that came from a file
 
@@ -273,7 +278,7 @@ module _ {K : Type 0} (from : Sources → Type 0) (origin : Bases) (a : Attr K) 
   by_class OfSignature e built m = inr (inr (inr (inr (inr (other OfSignature e (λ f. refl) (number OfSignature e refl (λ x. cc)) (λ r t own. r))))))
   by_class OfOffset e built m =
       let m' = not_so (names_list old.pair.name) _ _ (ap names_list same_name ∙ built) m in
-      inr (inr (inr (inr (inr (other OfOffset e (λ f. refl) (number OfOffset e refl (λ x. cc)) (λ r t own. r))))))
+      inr (inr (inr (inr (inr (other OfOffset e (λ f. refl) (number OfOffset e refl (λ x. cc)) (λ r t own. same_value ∙ ap (λ (v : Value ℕ). value_map w.name v) m' ∙ ap (λ (z : ℤ). only (Sec (reach z))) same_raw))))))
   by_class OfExpression e built m = inr (inr (inr (inr (inl (record {
     context = expr_context w.scope 1;
     expression = m.expression;
@@ -306,5 +311,36 @@ imports_is a is = record {
   chosen = λ f. ap (λ (d : Class). with_form a (fit_as d f a)) (ap class_of is.form ∙ import_class);
 }
 
+-- ---- the line table of a partial unit
+
+no_list : names_list 0x10 ≡ false
+unfolding has
+no_list = refl
+
+offset_spelled : (number : ℤ) (x : ℕ) → x < 2 ^ 32 → SpellsShape (shape_of written_rows 0x17) number (le_bytes 4 x) (Number (pos x))
+unfolding form_rows
+offset_spelled number x lt = record { content = x; spelled = fixed_written 4 x (omega (arith, lt)); value = refl }
+
+lines_is : {K : Type 0} (a : Attr K) → NamesLines a → Other a
+lines_is a is =
+    let class : class_of a.form ≡ OfOffset = ap class_of is.form ∙ offset_class in
+    let bytes : HasBytes a (Number a.raw) = record {
+      bytes = le_bytes 4 is.place;
+      are_bytes = le_are 4 is.place;
+      spelled = subst (λ (z : ℤ). SpellsShape (shape_of written_rows a.form) (constant_of (pair_of a)) (le_bytes 4 is.place) (Number z)) (sym is.raw) (subst (λ (f : ℕ). SpellsShape (shape_of written_rows f) (constant_of (pair_of a)) (le_bytes 4 is.place) (Number (pos is.place))) (sym is.form) (offset_spelled (constant_of (pair_of a)) is.place is.fits));
+    } in
+    record {
+      stays = λ f. ap (λ (d : Class). with_form a (fit_as d f a)) class;
+      sound = record {
+        some_name = omega (arith, is.name);
+        name_fits = omega (arith, is.name);
+        no_sibling = λ e. omega (arith, is.name, e);
+        built = subst (λ (d : Class). IsBuiltAs d a.name) (sym class) (ap names_list is.name ∙ no_list);
+        constant = λ e. absurd (omega (arith, is.form, e));
+        value = subst (λ (d : Class). StoresAs d a) (sym class) bytes;
+      };
+      says = λ t own. subst (λ (d : Class). SaysAs d t own a) (sym class) (is.value ∙ ap (λ (z : ℤ). only (Sec (reach z))) (sym is.raw));
+    }
+
 pub carried_is : {K : Type 0} (from : Sources → Type 0) (origin : Bases) (a : Attr K) → CarriedAttr from origin a → Reference a ⊎ (Placed from a ⊎ (Slotted from origin a ⊎ (Filed from origin a ⊎ (Computed a ⊎ Other a))))
-carried_is from origin a is = elim is [ inl c ↦ came_is from origin a c | inr i ↦ inl (imports_is a i) ]
+carried_is from origin a is = elim is [ inl c ↦ came_is from origin a c | inr more ↦ elim more [ inl i ↦ inl (imports_is a i) | inr l ↦ inr (inr (inr (inr (inr (lines_is a l))))) ] ]

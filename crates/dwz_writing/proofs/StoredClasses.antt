@@ -4,7 +4,7 @@ use Rattle.std.proofs.Math.Logic.{inl, inr}
 use Rattle.dwz_codes.specs.declared.shape.Shape.{Shape}
 use Rattle.dwz_codes.specs.declared.shape.Shape.TheVariants.{Nothing, Fixed1, Fixed2, Fixed3, Fixed4, Fixed8, Fixed16, Uleb, Sleb, ZeroEnded, Block1, Block2, Block4, BlockUleb, Address}
 use Rattle.dwz_codes.specs.Forms.{form_rows}
-use Rattle.dwz_meanings.specs.Meanings.{Class, ClassRow, OfBlock, OfExpression, OfText, Unread, bytes_of, class_in, class_of, class_rows, number_of}
+use Rattle.dwz_meanings.specs.Meanings.{Class, ClassRow, OfBlock, OfExpression, OfOffset, OfText, Unread, bytes_of, class_in, class_of, class_rows, number_of}
 use Rattle.dwz_docs.specs.Values.{Bytes, Number, Raw, SpellsShape, shape_of, written_rows}
 
 -- ---- which classes store bytes, and which a number
@@ -119,3 +119,9 @@ exprloc_block number bytes raw is =
     let fits = ltb-true (length is.content) (2 ^ 64) is.spelled.count.in_range in
     let same : length (bytes_of raw) ≡ length is.content = ap (λ (r : Raw). length (bytes_of r)) is.value in
     omega (arith, fits, same)
+
+-- ---- offsets
+
+pub offset_class : class_of 0x17 ≡ OfOffset
+unfolding class_rows class_in
+offset_class = refl

@@ -1,7 +1,7 @@
 -- What an attribute stores means its value, form by form.
 use Rattle.std.proofs.Common.{◌≡◌, ℕ, ℤ, ◌+◌, ◌-◌, Bool, true, false, List, [], ◌∷◌, map, Option, Some, None, refl, sym, ap, subst, ◌∙◌, arith, eqb, ◌||◌, not}
 use Rattle.dwz_bytes.specs.Spelling.{reach}
-use Rattle.dwz_meanings.specs.Documents.{Addr, Attr, Block, Flag, Index, Num, Plain, Sec, Sig, Text, Value, only, ref, value_map}
+use Rattle.dwz_meanings.specs.Documents.{Addr, Attr, Block, Flag, Index, Num, Plain, Sig, Text, Value, only, ref, value_map}
 use Rattle.dwz_docs.specs.Entries.{RawAttr}
 use Rattle.dwz_docs.specs.Lists.{In}
 use Rattle.dwz_meanings.specs.Meanings.{Class, IfSo, IsEntryAmong, IsFileBy, IsTextBySlot, IsTextIn, MeansAs, OfAddress, OfBlock, OfCommonEntry, OfCommonText, OfConstant, OfExpression, OfFlag, OfIndex, OfInfoEntry, OfListIndex, OfOffset, OfSignature, OfText, OfTextBySlot, OfTextInLineStr, OfTextInStr, OfUnitEntry, Scope, Unread, bytes_of, class_of, kept_width, names_file, names_list, number_of, stmt_list}
@@ -166,10 +166,7 @@ module _ {K P : Type 0} (n : Numbering K) (g : K → P) (unit : ℕ) (t : Tells 
       let among : In (first_place n a.value.refs) c.0.entries = subst (λ (q : ℕ). In q c.0.entries) at c.2 in
       (c.0, c.1, (among, value ∙ ap (λ (q : P). ref q) (sym c.3) ∙ ap (λ (q : ℕ). ref (c.0.place q)) at))
   as_means OfSignature a at end e built stores fits says = (let r = read_of OfSignature a e says in kept g a r.named r.value _ r.same r.means ∙ ap (λ (z : ℤ). only (Sig (reach z))) r.number)
-  as_means OfOffset a at end e built stores fits says =
-      let r = read_of OfOffset a e says in
-      let means = not_so (names_list r.old.pair.name) _ _ (ap names_list r.name ∙ built) r.means in
-      so_not (names_list a.name) _ _ built (kept g a r.named r.value _ r.same means ∙ ap (λ (z : ℤ). only (Sec (reach z))) r.number)
+  as_means OfOffset a at end e built stores fits says = so_not (names_list a.name) _ _ built (ap (λ (w : Value K). value_map g w) says)
   as_means OfExpression a at end e built stores fits says = expr_means n g unit t own s is a at end fits says
   as_means OfListIndex a at end e built stores fits says = absurd built
   as_means OfIndex a at end e built stores fits says = (let r = read_of OfIndex a e says in kept g a r.named r.value _ r.same r.means ∙ ap (λ (z : ℤ). only (Index (reach z))) r.number)

@@ -1,8 +1,8 @@
 -- Units with what was read in a file, before the forms of their references are chosen.
-use Rattle.std.specs.Prelude.{◌≡◌, ◌≢◌, ◌⊎◌, ℕ, ◌<◌, ◌≤◌, ◌^◌, Bool, true, false, List, length, Option}
+use Rattle.std.specs.Prelude.{◌≡◌, ◌≢◌, ◌⊎◌, ℕ, pos, ◌<◌, ◌≤◌, ◌^◌, Bool, true, false, List, length, Option}
 use Rattle.dwz_codes.specs.Forms.{form_rows}
 use Rattle.dwz_docs.specs.Abbrevs.{SpellsPair}
-use Rattle.dwz_meanings.specs.Documents.{Attr, DwUnit, Entries, Expr, Node, Plain, ref}
+use Rattle.dwz_meanings.specs.Documents.{Attr, DwUnit, Entries, Expr, Node, Plain, Sec, only, ref}
 use Rattle.dwz_docs.specs.Entries.{RawAttr}
 use Rattle.dwz_docs.specs.Lists.{In}
 use Rattle.dwz_meanings.specs.Meanings.{Class, OfConstant, OfExpression, OfTextBySlot, OfTextInLineStr, OfTextInStr, Sources, class_of, names_file}
@@ -49,8 +49,17 @@ pub record Imports {K : Type 0} (a : Attr K) : Type 0 where
   pub target : K
   pub value : a.value ≡ ref target
 
+-- DW_AT_stmt_list of a partial unit, which names a line table
+pub record NamesLines {K : Type 0} (a : Attr K) : Type 0 where
+  pub name : a.name ≡ 0x10
+  pub form : a.form ≡ 0x17
+  pub place : ℕ
+  pub raw : a.raw ≡ pos place
+  pub fits : place < 2 ^ 32
+  pub value : a.value ≡ only (Sec place)
+
 abbrev pub CarriedAttr : {K : Type 0} → (Sources → Type 0) → Bases → Attr K → Type 0
-CarriedAttr from origin a = CameFrom from origin a ⊎ Imports a
+CarriedAttr from origin a = CameFrom from origin a ⊎ (Imports a ⊎ NamesLines a)
 
 pub record CarriedNode {K : Type 0} (from : Sources → Type 0) (origin : Bases) (e : Node K) : Type 0 where
   pub some_tag : 0 < e.tag

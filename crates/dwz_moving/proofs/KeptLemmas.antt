@@ -11,19 +11,8 @@ use Rattle.dwz_moving.specs.Homes.{Rule, moves}
 use Rattle.dwz_moving.specs.Plan.{PartialUnit, import_of, imports, is_pinned, kept, staying}
 use Rattle.dwz_alike.specs.Spots.{FileUnit, Spot, Top, tops_of}
 use Rattle.dwz_meanings.proofs.MeaningLemmas.{has_in}
-use Rattle.dwz_seen.proofs.Members.{each_of, in_cases, in_filter, in_filter_from, in_left, in_right, pair_filter, pair_map}
+use Rattle.dwz_seen.proofs.Members.{each_of, in_cases, in_filter, in_filter_from, in_has, in_left, in_right, pair_filter, pair_map}
 use Rattle.dwz_alike.proofs.Tops.{tops_rise}
-
--- ---- members, by a test
-
-pub in_has : (n : ℕ) (ms : List ℕ) → In n ms → has n ms ≡ true
-unfolding has
-in_has n [] h = absurd h
-in_has n (m ∷ ms) (inl e) = rw (eq-eqb m n e, has) refl
-in_has n (m ∷ ms) (inr r) = go (in_has n ms r) (m == n) where
-  go : has n ms ≡ true → (b : Bool) → (if b then true else has n ms) ≡ true
-  go more true = refl
-  go more false = more
 
 -- ---- tops that stay
 

@@ -1,7 +1,7 @@
 -- Members of lists: of joined, mapped and filtered ones; the n-th; each pair.
-use Rattle.std.proofs.Common.{◌≡◌, ℕ, suc, ◌≤◌, ◌⊎◌, ◌||◌, cond, Bool, true, false, List, [], ◌∷◌, ◌++◌, map, refl, sym, ap, subst, ◌∙◌, arith, inl, inr}
+use Rattle.std.proofs.Common.{◌≡◌, ℕ, suc, ◌≤◌, ◌⊎◌, ◌||◌, cond, Bool, true, false, List, [], ◌∷◌, ◌++◌, map, refl, sym, ap, subst, ◌∙◌, arith, inl, inr, eq-eqb, ◌==◌, if◌then◌else◌}
 use Rattle.std.specs.List.{filter, list_any}
-use Rattle.dwz_docs.specs.Lists.{In}
+use Rattle.dwz_docs.specs.Lists.{In, has}
 use Rattle.dwz_seen.specs.Lists.{Each, EachPair, Nth}
 
 -- ---- in joined and mapped lists
@@ -35,6 +35,17 @@ pub in_map_from : {X Y : Type 0} (f : X → Y) (y : Y) (xs : List X) → In y (m
 in_map_from f y [] h = absurd h
 in_map_from f y (x ∷ xs) (inl e) = record { source = x; there = inl refl; is = e }
 in_map_from f y (x ∷ xs) (inr r) = let o = in_map_from f y xs r in record { source = o.source; there = inr o.there; is = o.is }
+
+-- ---- numbers, by a test
+
+pub in_has : (n : ℕ) (ms : List ℕ) → In n ms → has n ms ≡ true
+unfolding has
+in_has n [] h = absurd h
+in_has n (m ∷ ms) (inl e) = rw (eq-eqb m n e, has) refl
+in_has n (m ∷ ms) (inr r) = go (in_has n ms r) (m == n) where
+  go : has n ms ≡ true → (b : Bool) → (if b then true else has n ms) ≡ true
+  go more true = refl
+  go more false = more
 
 -- ---- in filtered lists
 

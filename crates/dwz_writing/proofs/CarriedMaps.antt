@@ -7,7 +7,7 @@ use Rattle.dwz_meanings.specs.Meanings.{Sources}
 use Rattle.dwz_docs.specs.Trees.{End, Entry}
 use Rattle.dwz_seen.specs.Lists.{Each}
 use Rattle.dwz_writing.specs.Bases.{Bases}
-use Rattle.dwz_writing.specs.Carried.{CameFrom, CarriedAttr, CarriedEntries, CarriedNode, CarriedUnit, Imports}
+use Rattle.dwz_writing.specs.Carried.{CameFrom, CarriedAttr, CarriedEntries, CarriedNode, CarriedUnit, Imports, NamesLines}
 use Rattle.dwz_writing.specs.Meant.{KindSays, entry_keys}
 use Rattle.dwz_seen.specs.Shown.{keys}
 use Rattle.dwz_writing.specs.Sound.{SoundKind}
@@ -42,8 +42,11 @@ module _ {K L : Type 0} (from : Sources → Type 0) (origin : Bases) (f : K → 
   import_map : (a : Attr K) → Imports a → Imports (attr_map f a)
   import_map a is = record { name = is.name; form = is.form; target = f is.target; value = ap (λ (v : Value K). value_map f v) is.value }
 
+  lines_map : (a : Attr K) → NamesLines a → NamesLines (attr_map f a)
+  lines_map a is = record { name = is.name; form = is.form; place = is.place; raw = is.raw; fits = is.fits; value = ap (λ (v : Value K). value_map f v) is.value }
+
   attr_carried : (a : Attr K) → CarriedAttr from origin a → CarriedAttr from origin (attr_map f a)
-  attr_carried a is = elim is [ inl c ↦ inl (came_map a c) | inr i ↦ inr (import_map a i) ]
+  attr_carried a is = elim is [ inl c ↦ inl (came_map a c) | inr more ↦ elim more [ inl i ↦ inr (inl (import_map a i)) | inr l ↦ inr (inr (lines_map a l)) ] ]
 
   attrs_carried : (attrs : List (Attr K)) → Each (CarriedAttr from origin) attrs → Each (CarriedAttr from origin) (map (attr_map f) attrs)
   attrs_carried [] is = tt

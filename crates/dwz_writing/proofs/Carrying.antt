@@ -1,104 +1,32 @@
 -- What a file stores can be written again.
-use Rattle.std.proofs.Common.{◌≡◌, ◌≢◌, ℕ, ℤ, pos, ◌<◌, ◌≤◌, ◌⊎◌, Bool, true, false, List, [], ◌∷◌, Option, Some, None, refl, sym, ap, subst, ◌∙◌, arith, cond, eqb, eqb-true, eq-eqb}
+use Rattle.std.proofs.Common.{◌≡◌, ◌≢◌, ℕ, ℤ, pos, ◌<◌, ◌≤◌, ◌⊎◌, Bool, true, false, List, [], Option, Some, None, refl, sym, ap, subst, ◌∙◌, arith, cond, eqb, eqb-true, eq-eqb, length, ◌^◌}
 use Rattle.std.specs.Prelude.{MatchBool}
 use Rattle.std.proofs.Math.Logic.{inl, inr}
 use Rattle.dwz_model.specs.declared.place.Pair.{Pair}
 use Rattle.dwz_bytes.specs.Spelling.{SpellsSleb, fits_i64, reach}
-use Rattle.dwz_codes.specs.declared.shape.Shape.{Shape}
-use Rattle.dwz_codes.specs.declared.shape.Shape.TheVariants.{Nothing, Fixed1, Fixed2, Fixed3, Fixed4, Fixed8, Fixed16, Uleb, Sleb, ZeroEnded, Block1, Block2, Block4, BlockUleb, Address}
 use Rattle.dwz_codes.specs.Forms.{form_rows}
 use Rattle.dwz_docs.specs.Abbrevs.{SpellsPair}
-use Rattle.dwz_meanings.specs.Documents.{Attr, Plain, Text, Value, only, ref, value_map}
+use Rattle.dwz_meanings.specs.Documents.{Attr, Expr, Plain, Sec, Text, Value, only, ref, value_map}
 use Rattle.dwz_docs.specs.Entries.{RawAttr}
-use Rattle.dwz_meanings.specs.Meanings.{Class, ClassRow, IfSo, IsFileBy, MeansAs, OfAddress, OfBlock, OfCommonEntry, OfCommonText, OfConstant, OfExpression, OfFlag, OfIndex, OfInfoEntry, OfListIndex, OfOffset, OfSignature, OfText, OfTextBySlot, OfTextInLineStr, OfTextInStr, OfUnitEntry, Sources, Unread, bytes_of, class_in, class_of, class_rows, names_file, names_list, number_of, path_by, stmt_list}
+use Rattle.dwz_meanings.specs.Meanings.{Class, IfSo, IsExpression, IsFileBy, MeansAs, OfAddress, OfBlock, OfCommonEntry, OfCommonText, OfConstant, OfExpression, OfFlag, OfIndex, OfInfoEntry, OfListIndex, OfOffset, OfSignature, OfText, OfTextBySlot, OfTextInLineStr, OfTextInStr, OfUnitEntry, Sources, Unread, bytes_of, class_in, class_of, class_rows, content_at, expr_context, names_file, names_list, number_of, path_by, stmt_list}
+use Rattle.dwz_meanings.specs.Exprs.{ExprContext, Expression, SpellsExpr, parts_of}
+use Rattle.dwz_writing.proofs.PatchLemmas.{expr_short}
 use Rattle.dwz_docs.specs.Texts.{IsSlot, IsTextAt}
 use Rattle.dwz_docs.specs.Values.{Bytes, Number, Raw, SpellsShape, SpellsValue, constant_of, shape_of, written_rows}
 use Rattle.dwz_docs.proofs.WrittenLemmas.{same_shape}
-use Rattle.dwz_writing.specs.Carried.{CameFrom, CarriedAttr, Imports, NumbersFile}
+use Rattle.dwz_writing.specs.Carried.{CameFrom, CarriedAttr, Imports, NamesLines, NumbersFile}
 use Rattle.dwz_writing.specs.Bases.{Bases}
 use Rattle.dwz_writing.specs.Meant.{AttrSays, FileSays, Own, SaysAs, Tells, WasRead}
-use Rattle.dwz_writing.specs.Placing.{Chosen, Fit, as_entry, as_read, fit_as, fit_attr, with_form}
+use Rattle.dwz_writing.specs.Placing.{Chosen, Fit, as_entry, as_read, fit_as, fit_attr, with_form, zeros}
 use Rattle.dwz_writing.specs.Sound.{HasBytes, IsBuiltAs, SoundAttr, StoresAs}
-use Rattle.dwz_writing.specs.Writing.{block_in, pair_of, text_in}
+use Rattle.dwz_writing.specs.Writing.{block_in, expr_bytes, pair_of, text_in}
 use Rattle.dwz_writing.proofs.ValuesMean.{not_so, plain_is, so_not}
-
--- ---- which classes store bytes, and which a number
-
-abbrev stores_bytes : Class → Bool
-stores_bytes OfBlock = true
-stores_bytes OfText = true
-stores_bytes OfExpression = true
-stores_bytes _ = false
-
-abbrev holds_bytes : Shape → Bool
-holds_bytes Fixed16 = true
-holds_bytes ZeroEnded = true
-holds_bytes Block1 = true
-holds_bytes Block2 = true
-holds_bytes Block4 = true
-holds_bytes BlockUleb = true
-holds_bytes _ = false
-
-abbrev same_bool : Bool → Bool → Bool
-same_bool true b = b
-same_bool false true = false
-same_bool false false = true
-
-same_bool-true : (a b : Bool) → same_bool a b ≡ true → a ≡ b
-same_bool-true true b e = sym e
-same_bool-true false true e = absurd cc
-same_bool-true false false e = refl
-
-abbrev agree : List ClassRow → Bool
-agree [] = true
-agree (r ∷ rows) = cond (same_bool (stores_bytes r.class) (holds_bytes (shape_of written_rows r.form))) (agree rows) false
-
-rows_agree : agree class_rows ≡ true
-unfolding class_rows form_rows
-rows_agree = refl
-
-two_tests : (a b : Bool) → cond a b false ≡ true → (a ≡ true) × (b ≡ true)
-two_tests true b e = (refl, e)
-two_tests false b e = absurd cc
-
-class_agrees : (rows : List ClassRow) (form : ℕ) → agree rows ≡ true → (class_in rows form ≡ Unread) ⊎ (stores_bytes (class_in rows form) ≡ holds_bytes (shape_of written_rows form))
-unfolding class_in
-class_agrees [] form e = inl refl
-class_agrees (r ∷ rows) form e =
-    let t = two_tests (same_bool (stores_bytes r.class) (holds_bytes (shape_of written_rows r.form))) (agree rows) e in
-    go (same_bool-true _ _ t.0) (class_agrees rows form t.1) (eqb r.form form) refl where
-      go : stores_bytes r.class ≡ holds_bytes (shape_of written_rows r.form) → (class_in rows form ≡ Unread) ⊎ (stores_bytes (class_in rows form) ≡ holds_bytes (shape_of written_rows form)) → (b : Bool) → eqb r.form form ≡ b
-          → (cond b r.class (class_in rows form) ≡ Unread) ⊎ (stores_bytes (cond b r.class (class_in rows form)) ≡ holds_bytes (shape_of written_rows form))
-      go same rest true e = inr (same ∙ ap (λ (f : ℕ). holds_bytes (shape_of written_rows f)) (eqb-true r.form form e))
-      go same rest false e = rest
-
-module _ (number : ℤ) (bytes : List ℕ) (raw : Raw) where
-  is_bytes : (shape : Shape) → holds_bytes shape ≡ true → SpellsShape shape number bytes raw → raw ≡ Bytes (bytes_of raw)
-  is_bytes Fixed16 e is = is.value ∙ ap (λ (r : Raw). Bytes (bytes_of r)) (sym is.value)
-  is_bytes ZeroEnded e is = is.value ∙ ap (λ (r : Raw). Bytes (bytes_of r)) (sym is.value)
-  is_bytes Block1 e is = is.value ∙ ap (λ (r : Raw). Bytes (bytes_of r)) (sym is.value)
-  is_bytes Block2 e is = is.value ∙ ap (λ (r : Raw). Bytes (bytes_of r)) (sym is.value)
-  is_bytes Block4 e is = is.value ∙ ap (λ (r : Raw). Bytes (bytes_of r)) (sym is.value)
-  is_bytes BlockUleb e is = is.value ∙ ap (λ (r : Raw). Bytes (bytes_of r)) (sym is.value)
-  is_bytes _ e is = absurd cc
-
-  is_number : (shape : Shape) → holds_bytes shape ≡ false → SpellsShape shape number bytes raw → raw ≡ Number (number_of raw)
-  is_number Nothing e is = is.value ∙ ap (λ (r : Raw). Number (number_of r)) (sym is.value)
-  is_number Fixed1 e is = is.value ∙ ap (λ (r : Raw). Number (number_of r)) (sym is.value)
-  is_number Fixed2 e is = is.value ∙ ap (λ (r : Raw). Number (number_of r)) (sym is.value)
-  is_number Fixed3 e is = is.value ∙ ap (λ (r : Raw). Number (number_of r)) (sym is.value)
-  is_number Fixed4 e is = is.value ∙ ap (λ (r : Raw). Number (number_of r)) (sym is.value)
-  is_number Fixed8 e is = is.value ∙ ap (λ (r : Raw). Number (number_of r)) (sym is.value)
-  is_number Uleb e is = is.value ∙ ap (λ (r : Raw). Number (number_of r)) (sym is.value)
-  is_number Sleb e is = is.value ∙ ap (λ (r : Raw). Number (number_of r)) (sym is.value)
-  is_number Address e is = is.value ∙ ap (λ (r : Raw). Number (number_of r)) (sym is.value)
-  is_number Fixed16 e is = absurd cc
-  is_number ZeroEnded e is = absurd cc
-  is_number Block1 e is = absurd cc
-  is_number Block2 e is = absurd cc
-  is_number Block4 e is = absurd cc
-  is_number BlockUleb e is = absurd cc
-  is_number _ e is = absurd is
+use Rattle.dwz_bytes.proofs.FixedLemmas.{fixed_written}
+use Rattle.dwz_bytes.specs.Spelling.{le_bytes}
+use Rattle.dwz_docs.specs.Lists.{has}
+use Rattle.dwz_codes.specs.Forms.{form_rows}
+use Rattle.dwz_writing.proofs.PoolLemmas.{le_are}
+use Rattle.dwz_writing.proofs.StoredClasses.{class_agrees, expression_form, exprloc_block, is_bytes, is_number, offset_class, rows_agree, stores_bytes}
 
 -- ---- an attribute that came from a file
 
@@ -159,6 +87,17 @@ pub record Filed {K : Type 0} (from : Sources → Type 0) (origin : Bases) (a : 
   pub numbers : NumbersFile a
   pub says : FileSays (tells_of sources) origin.line a
   pub stays : (f : Fit K) → fit_attr f a ≡ a
+  pub sound : SoundAttr a
+
+-- an expression
+pub record Computed {K : Type 0} (a : Attr K) : Type 0 where
+  pub context : ExprContext
+  pub expression : Expression
+  pub start : ℕ
+  pub bytes : List ℕ
+  pub spelled : SpellsExpr context expression start bytes
+  pub plain : a.value.plain ≡ Expr (parts_of expression)
+  pub class : class_of a.form ≡ OfExpression
   pub sound : SoundAttr a
 
 -- any other attribute, whose form stays
@@ -263,7 +202,7 @@ module _ {K : Type 0} (from : Sources → Type 0) (origin : Bases) (a : Attr K) 
   content c bytes e stores same h = subst (HasBytes a) (again_bytes c e stores ∙ ap (λ (b : List ℕ). Bytes b) same) h
 
   abbrev Kinds : Type 0
-  Kinds = Reference a ⊎ (Placed from a ⊎ (Slotted from origin a ⊎ (Filed from origin a ⊎ Other a)))
+  Kinds = Reference a ⊎ (Placed from a ⊎ (Slotted from origin a ⊎ (Filed from origin a ⊎ (Computed a ⊎ Other a))))
 
   -- the file of a number, by the line table that the unit has
   file_by : (o : Option ℕ) → IsFileBy o w.scope (number_of old.raw) w.read.value → FileSays (tells_of w.scope.around.sources) o a
@@ -285,14 +224,25 @@ module _ {K : Type 0} (from : Sources → Type 0) (origin : Bases) (a : Attr K) 
     stays = λ f. ap (λ (d : Class). with_form a (fit_as d f a)) e;
     sound = other_sound (subst (λ (d : Class). StoresAs d a) (sym e) (number OfConstant e refl (λ x. cc) has_bytes));
   }))))
-  constant e false names m = inr (inr (inr (inr (other OfConstant e (λ f. refl) (number OfConstant e refl (λ x. cc)) (λ r t own. so_not (names_file a.name) _ _ names r)))))
+  constant e false names m = inr (inr (inr (inr (inr (other OfConstant e (λ f. refl) (number OfConstant e refl (λ x. cc)) (λ r t own. so_not (names_file a.name) _ _ names r))))))
+
+  plain_is_expr : (m : IsExpression w.scope old w.read.value) → a.value.plain ≡ Expr (parts_of m.expression)
+  plain_is_expr m = ap (λ (v : Value K). v.plain) same_value ∙ ap (λ (v : Value ℕ). v.plain) m.value
+
+  -- its length is that of a block that was read
+  short_expr : class_of a.form ≡ OfExpression → (m : IsExpression w.scope old w.read.value) → length (expr_bytes zeros 0 a.value.plain a.value.refs) < 2 ^ 64
+  short_expr e m =
+      let block = exprloc_block (constant_of (pair_of a)) has_bytes.bytes old.raw (subst (λ (f : ℕ). SpellsShape (shape_of written_rows f) (constant_of (pair_of a)) has_bytes.bytes old.raw) (expression_form a.form e) has_bytes.spelled) in
+      let less = expr_short (expr_context w.scope 1) zeros 0 (content_at old) m.expression (bytes_of old.raw) a.value.refs m.spelled in
+      let same = ap (λ (p : Plain). length (expr_bytes zeros 0 p a.value.refs)) (plain_is_expr m) in
+      omega (arith, block, less, same)
 
   by_class : (c : Class) → class_of a.form ≡ c → IsBuiltAs c a.name → MeansAs c w.scope old w.read.value → Kinds
-  by_class OfAddress e built m = inr (inr (inr (inr (other OfAddress e (λ f. refl) (number OfAddress e refl (λ x. cc)) (λ r t own. r)))))
-  by_class OfBlock e built m = inr (inr (inr (inr (other OfBlock e (λ f. refl) (content OfBlock _ e refl (sym (ap block_in (plain_of _ m)))) (λ r t own. r)))))
+  by_class OfAddress e built m = inr (inr (inr (inr (inr (other OfAddress e (λ f. refl) (number OfAddress e refl (λ x. cc)) (λ r t own. r))))))
+  by_class OfBlock e built m = inr (inr (inr (inr (inr (other OfBlock e (λ f. refl) (content OfBlock _ e refl (sym (ap block_in (plain_of _ m)))) (λ r t own. r))))))
   by_class OfConstant e built m = constant e (names_file a.name) refl m
-  by_class OfFlag e built m = inr (inr (inr (inr (other OfFlag e (λ f. refl) (number OfFlag e refl (λ x. cc)) (λ r t own. r)))))
-  by_class OfText e built m = inr (inr (inr (inr (other OfText e (λ f. refl) (content OfText _ e refl (sym (ap text_in (plain_of _ m)))) (λ r t own. r)))))
+  by_class OfFlag e built m = inr (inr (inr (inr (inr (other OfFlag e (λ f. refl) (number OfFlag e refl (λ x. cc)) (λ r t own. r))))))
+  by_class OfText e built m = inr (inr (inr (inr (inr (other OfText e (λ f. refl) (content OfText _ e refl (sym (ap text_in (plain_of _ m)))) (λ r t own. r))))))
   by_class OfTextInStr e built m = inr (inl (record {
     sources = w.scope.around.sources;
     file = came.file;
@@ -325,13 +275,22 @@ module _ {K : Type 0} (from : Sources → Type 0) (origin : Bases) (a : Attr K) 
   by_class OfUnitEntry e built m = inl (reference OfUnitEntry e (λ f. refl) _ (same_value ∙ ap (λ (v : Value ℕ). value_map w.name v) m.1))
   by_class OfInfoEntry e built m = inl (reference OfInfoEntry e (λ f. refl) _ (same_value ∙ ap (λ (v : Value ℕ). value_map w.name v) m.1))
   by_class OfCommonEntry e built m = inl (reference OfCommonEntry e (λ f. refl) _ (same_value ∙ ap (λ (v : Value ℕ). value_map w.name v) m.2.1))
-  by_class OfSignature e built m = inr (inr (inr (inr (other OfSignature e (λ f. refl) (number OfSignature e refl (λ x. cc)) (λ r t own. r)))))
+  by_class OfSignature e built m = inr (inr (inr (inr (inr (other OfSignature e (λ f. refl) (number OfSignature e refl (λ x. cc)) (λ r t own. r))))))
   by_class OfOffset e built m =
       let m' = not_so (names_list old.pair.name) _ _ (ap names_list same_name ∙ built) m in
-      inr (inr (inr (inr (other OfOffset e (λ f. refl) (number OfOffset e refl (λ x. cc)) (λ r t own. r)))))
-  by_class OfExpression e built m = absurd built
+      inr (inr (inr (inr (inr (other OfOffset e (λ f. refl) (number OfOffset e refl (λ x. cc)) (λ r t own. same_value ∙ ap (λ (v : Value ℕ). value_map w.name v) m' ∙ ap (λ (z : ℤ). only (Sec (reach z))) same_raw))))))
+  by_class OfExpression e built m = inr (inr (inr (inr (inl (record {
+    context = expr_context w.scope 1;
+    expression = m.expression;
+    start = content_at old;
+    bytes = bytes_of old.raw;
+    spelled = m.spelled;
+    plain = plain_is_expr m;
+    class = e;
+    sound = other_sound (subst (λ (d : Class). StoresAs d a) (sym e) (record { form = expression_form a.form e; short = short_expr e m }));
+  })))))
   by_class OfListIndex e built m = absurd built
-  by_class OfIndex e built m = inr (inr (inr (inr (other OfIndex e (λ f. refl) (number OfIndex e refl (λ x. cc)) (λ r t own. r)))))
+  by_class OfIndex e built m = inr (inr (inr (inr (inr (other OfIndex e (λ f. refl) (number OfIndex e refl (λ x. cc)) (λ r t own. r))))))
   by_class OfCommonText e built m = absurd built
   by_class Unread e built m = absurd built
 
@@ -352,5 +311,36 @@ imports_is a is = record {
   chosen = λ f. ap (λ (d : Class). with_form a (fit_as d f a)) (ap class_of is.form ∙ import_class);
 }
 
-pub carried_is : {K : Type 0} (from : Sources → Type 0) (origin : Bases) (a : Attr K) → CarriedAttr from origin a → Reference a ⊎ (Placed from a ⊎ (Slotted from origin a ⊎ (Filed from origin a ⊎ Other a)))
-carried_is from origin a is = elim is [ inl c ↦ came_is from origin a c | inr i ↦ inl (imports_is a i) ]
+-- ---- the line table of a partial unit
+
+no_list : names_list 0x10 ≡ false
+unfolding has
+no_list = refl
+
+offset_spelled : (number : ℤ) (x : ℕ) → x < 2 ^ 32 → SpellsShape (shape_of written_rows 0x17) number (le_bytes 4 x) (Number (pos x))
+unfolding form_rows
+offset_spelled number x lt = record { content = x; spelled = fixed_written 4 x (omega (arith, lt)); value = refl }
+
+lines_is : {K : Type 0} (a : Attr K) → NamesLines a → Other a
+lines_is a is =
+    let class : class_of a.form ≡ OfOffset = ap class_of is.form ∙ offset_class in
+    let bytes : HasBytes a (Number a.raw) = record {
+      bytes = le_bytes 4 is.place;
+      are_bytes = le_are 4 is.place;
+      spelled = subst (λ (z : ℤ). SpellsShape (shape_of written_rows a.form) (constant_of (pair_of a)) (le_bytes 4 is.place) (Number z)) (sym is.raw) (subst (λ (f : ℕ). SpellsShape (shape_of written_rows f) (constant_of (pair_of a)) (le_bytes 4 is.place) (Number (pos is.place))) (sym is.form) (offset_spelled (constant_of (pair_of a)) is.place is.fits));
+    } in
+    record {
+      stays = λ f. ap (λ (d : Class). with_form a (fit_as d f a)) class;
+      sound = record {
+        some_name = omega (arith, is.name);
+        name_fits = omega (arith, is.name);
+        no_sibling = λ e. omega (arith, is.name, e);
+        built = subst (λ (d : Class). IsBuiltAs d a.name) (sym class) (ap names_list is.name ∙ no_list);
+        constant = λ e. absurd (omega (arith, is.form, e));
+        value = subst (λ (d : Class). StoresAs d a) (sym class) bytes;
+      };
+      says = λ t own. subst (λ (d : Class). SaysAs d t own a) (sym class) (is.value ∙ ap (λ (z : ℤ). only (Sec (reach z))) (sym is.raw));
+    }
+
+pub carried_is : {K : Type 0} (from : Sources → Type 0) (origin : Bases) (a : Attr K) → CarriedAttr from origin a → Reference a ⊎ (Placed from a ⊎ (Slotted from origin a ⊎ (Filed from origin a ⊎ (Computed a ⊎ Other a))))
+carried_is from origin a is = elim is [ inl c ↦ came_is from origin a c | inr more ↦ elim more [ inl i ↦ inl (imports_is a i) | inr l ↦ inr (inr (inr (inr (inr (lines_is a l))))) ] ]

@@ -1,20 +1,21 @@
 -- Units whose references have their forms are sound, and each reference names what its form says.
 use Rattle.std.proofs.Common.{◌≡◌, ◌⊎◌, ℕ, ◌<◌, ◌^◌, Bool, true, false, List, [], ◌∷◌, length, map, Option, Some, refl, sym, ap, subst, ◌∙◌, cond, eqb}
 use Rattle.std.proofs.Math.Logic.{inl, inr}
-use Rattle.dwz_meanings.specs.Documents.{Attr, Compile, DwUnit, Entries, Kind, OfType, Partial, first_named}
+use Rattle.dwz_meanings.specs.Documents.{Attr, Compile, DwUnit, Entries, Kind, OfType, Partial, Plain, first_named}
 use Rattle.dwz_docs.specs.Lists.{In}
-use Rattle.dwz_meanings.specs.Meanings.{Sources}
+use Rattle.dwz_meanings.specs.Meanings.{Class, Sources}
 use Rattle.dwz_docs.specs.Trees.{End, Entry}
 use Rattle.dwz_seen.specs.Lists.{Each}
 use Rattle.dwz_writing.specs.Bases.{Bases, bases_in, offset_in}
-use Rattle.dwz_writing.specs.Carried.{ApartIn, BasesStand, CarriedAttr, CarriedEntries, CarriedUnit, ClosedIn, ComesFromItself, EachAttr, FileStands, SectionsStand, UnitTexts}
-use Rattle.dwz_writing.specs.Meant.{AttrSays, EntriesSay, KindSays, NodeSays, Own, Tells, UnitSays, UnitsSay, all_entry_keys, entry_keys, own_of}
-use Rattle.dwz_writing.specs.Placing.{FileFit, Fit, Forms, Holder, fit, fit_attr, fit_node, fit_unit, fit_units, has_key, holder_of, reach_by, ref_form, texts_bytes, unit_fit, with_keys}
+use Rattle.dwz_writing.specs.Carried.{ApartIn, BasesStand, CarriedAttr, CarriedEntries, CarriedUnit, ClosedIn, AttrOperands, ComesFromItself, ExprIn, FileStands, OperandsStand, OperandsStandAs, SectionsStand, UnitTexts}
+use Rattle.dwz_writing.specs.Fitting.{EachAttr}
+use Rattle.dwz_writing.specs.Meant.{AttrSays, EntriesSay, KindSays, NodeSays, Own, SaysAs, Tells, UnitSays, UnitsSay, all_entry_keys, entry_keys, own_of}
+use Rattle.dwz_writing.specs.Placing.{FileFit, Fit, Forms, Holder, fit, fit_as, fit_attr, fit_node, fit_unit, fit_units, has_key, holder_of, reach_by, ref_form, texts_bytes, unit_fit, with_form, with_keys}
 use Rattle.dwz_seen.specs.Shown.{unit_keys, units_keys}
 use Rattle.dwz_seen.specs.Seen.{Seen, all_seen, see, seen_below, seen_roots}
 use Rattle.dwz_writing.specs.Sound.{SoundAttr, SoundEntries, SoundUnit}
 use Rattle.dwz_seen.specs.Lists.{NoneTwice}
-use Rattle.dwz_writing.proofs.Carrying.{Reference, carried_is}
+use Rattle.dwz_writing.proofs.Carrying.{Computed, Reference, carried_is}
 use Rattle.dwz_writing.proofs.Places.{IsSame}
 use Rattle.dwz_seen.proofs.SeenLemmas.{root_in, seen_in}
 use Rattle.dwz_writing.proofs.Rising.{entries_are_keys}
@@ -63,7 +64,7 @@ module _ {K : Type 0} (f : FileFit K) (is : IsSame f.same) (from : Sources → T
   own = own_of u
 
   abbrev At : Attr K → Type 0
-  At a = AttrAt (holder_of f.is_common u.kind) f.texts (bases_in u).line (f.origin u.at).line a
+  At a = AttrAt (holder_of f.is_common u.kind) f.texts (bases_in u).line (f.origin u.at).line a × AttrOperands t own a
 
   -- a name of the unit that is an entry's is one of the unit's entries
   inside : (k : K) → In k t.all ⊎ In k t.common → has_key f.same k (unit_keys u) ≡ true → In k (entry_keys u)
@@ -80,16 +81,28 @@ module _ {K : Type 0} (f : FileFit K) (is : IsSame f.same) (from : Sources → T
     by false true p q = info_says_it a r t own (elim there [ inl all ↦ all | inr common ↦ absurd (other r.target common (has_in f.same is r.target f.keys q)) ])
     by false false p q = common_says_it a r t own (elim there [ inl all ↦ absurd (none_has f.same is r.target f.keys (within r.target all) q) | inr common ↦ common ])
 
+  expression_good : (a : Attr K) (k : Computed a) → AttrOperands t own a → Good t own (fit_attr x a)
+  expression_good a k there =
+      let stays : fit_attr x a ≡ a = ap (λ (c : Class). with_form a (fit_as c x a)) k.class in
+      let operands = subst (λ (p : Plain). ExprIn t own p a.value.refs) k.plain (subst (λ (c : Class). OperandsStandAs c t own a) k.class there) in
+      record {
+        sound = subst SoundAttr (sym stays) k.sound;
+        says = subst (AttrSays t own) (sym stays) (subst (λ (c : Class). SaysAs c t own a) (sym k.class) (record { context = k.context; expression = k.expression; start = k.start; bytes = k.bytes; spelled = k.spelled; plain = k.plain; operands = operands }));
+      }
+
   attr_good : (a : Attr K) → CarriedAttr from (f.origin u.at) a → Each (λ k. In k t.all ⊎ In k t.common) a.value.refs → At a → Good t own (fit_attr x a)
   attr_good a carried names at = elim (carried_is from (f.origin u.at) a carried) [
     | inl r ↦ record { sound = subst SoundAttr (sym (form_is a r x)) (chosen_sound a r (reach_by (has_key f.same r.target (unit_keys u)) (has_key f.same r.target f.keys))); says = ref_says a r (subst (Each (λ k. In k t.all ⊎ In k t.common)) (refs_are a r) names).0 }
     | inr rest ↦ elim rest [
-      | inl p ↦ text_good from t small own a p (holder_of f.is_common u.kind) x refl sections_at at.0
+      | inl p ↦ text_good from t small own a p (holder_of f.is_common u.kind) x refl sections_at at.0.0
       | inr more ↦ elim more [
-        | inl s ↦ slot_good from (f.origin u.at) t small own a s (holder_of f.is_common u.kind) x refl refl itself sections_at at.0
+        | inl s ↦ slot_good from (f.origin u.at) t small own a s (holder_of f.is_common u.kind) x refl refl itself sections_at at.0.0
         | inr last ↦ elim last [
-          | inl n ↦ file_good from (f.origin u.at) t own a n (holder_of f.is_common u.kind) x itself sections_at at.1
-          | inr o ↦ record { sound = subst SoundAttr (sym (o.stays x)) o.sound; says = subst (AttrSays t own) (sym (o.stays x)) (o.says t own) }
+          | inl n ↦ file_good from (f.origin u.at) t own a n (holder_of f.is_common u.kind) x itself sections_at at.0.1
+          | inr other ↦ elim other [
+            | inl k ↦ expression_good a k at.1
+            | inr o ↦ record { sound = subst SoundAttr (sym (o.stays x)) o.sound; says = subst (AttrSays t own) (sym (o.stays x)) (o.says t own) }
+          ]
         ]
       ]
     ]
@@ -183,7 +196,7 @@ keys_within {K} (w ∷ units) u (inl e) k is = in_left k (unit_keys w) (units_ke
 keys_within (w ∷ units) u (inr r) k is = in_right k (unit_keys w) (units_keys units) (keys_within units u r k is)
 
 module _ {K : Type 0} (f : Forms K) (is : IsSame f.same) (from : Sources → Type 0) (t : Tells K) (units : List (DwUnit K)) (all : t.all ≡ all_entry_keys units) (once : NoneTwice (units_keys units))
-    (carried : Each (λ u. CarriedUnit from (f.origin u.at) u) units) (closed : ClosedIn t units) (apart : ApartIn t units) (stand : SectionsStand f.is_common from f t units) (bases : Each (BasesStand f) units) where
+    (carried : Each (λ u. CarriedUnit from (f.origin u.at) u) units) (closed : ClosedIn t units) (apart : ApartIn t units) (stand : SectionsStand f.is_common from f t units) (bases : Each (BasesStand f) units) (operands : Each (OperandsStand t) units) where
   abbrev file : FileFit K
   file = with_keys f (units_keys units)
 
@@ -196,12 +209,15 @@ module _ {K : Type 0} (f : Forms K) (is : IsSame f.same) (from : Sources → Typ
       let root = node_names t u.root u.below (names (see u.root u.below) (in_left (see u.root u.below) (seen_roots units) (seen_below units) (root_in units u there))) in
       let below = entries_name t u.below (λ s i. names s (in_right s (seen_roots units) (seen_below units) (seen_in units u s there i))) in
       let own = each_in (BasesStand f) u units bases there in
+      let exprs = each_in (OperandsStand t) u units operands there in
       let texts = texts_for u from f t units f.is_common there stand in
       let h = holder_of f.is_common u.kind in
       unit_good file is from t (small_strs from f t units f.is_common stand) u within apart inside alone (sections_common u.kind from f (unit_fit file u) t units f.is_common refl refl stand) own.own
       (each_in (λ v. CarriedUnit from (f.origin v.at) v) u units carried there) root below
-      (join_attrs (TextFor h f.texts) (FileStands h (bases_in u).line (f.origin u.at).line) _ (λ a p q. (p, q)) u.root.attrs texts.root own.root)
-      (join_entries (TextFor h f.texts) (FileStands h (bases_in u).line (f.origin u.at).line) _ (λ a p q. (p, q)) u.below texts.below own.below)
+      (join_attrs (AttrAt h f.texts (bases_in u).line (f.origin u.at).line) (AttrOperands t (own_of u)) _ (λ a p q. (p, q)) u.root.attrs
+      (join_attrs (TextFor h f.texts) (FileStands h (bases_in u).line (f.origin u.at).line) (AttrAt h f.texts (bases_in u).line (f.origin u.at).line) (λ a p q. (p, q)) u.root.attrs texts.root own.root) exprs.0)
+      (join_entries (AttrAt h f.texts (bases_in u).line (f.origin u.at).line) (AttrOperands t (own_of u)) _ (λ a p q. (p, q)) u.below
+      (join_entries (TextFor h f.texts) (FileStands h (bases_in u).line (f.origin u.at).line) (AttrAt h f.texts (bases_in u).line (f.origin u.at).line) (λ a p q. (p, q)) u.below texts.below own.below) exprs.1)
 
   each_good : (some : List (DwUnit K)) → ((u : DwUnit K) → In u some → In u units) → Each SoundUnit (map (fit_unit file) some) × Each (UnitSays t) (map (fit_unit file) some)
   each_good [] into = (tt, tt)

@@ -3,7 +3,7 @@ use Rattle.std.proofs.Common.{◌≡◌, ◌⊎◌, Bool, true, false, List, [],
 use Rattle.std.proofs.Math.Logic.{inl, inr}
 use Rattle.dwz_meanings.specs.Documents.{Attr, DwUnit, Entries, Node}
 use Rattle.dwz_docs.specs.Lists.{In}
-use Rattle.dwz_meanings.specs.Meanings.{Class, OfCommonEntry, OfInfoEntry, OfOffset, OfTextBySlot, OfTextInLineStr, OfTextInStr, OfUnitEntry, class_in, class_of, class_rows}
+use Rattle.dwz_meanings.specs.Meanings.{Class, OfCommonEntry, OfInfoEntry, OfTextBySlot, OfTextInLineStr, OfTextInStr, OfUnitEntry, class_in, class_of, class_rows}
 use Rattle.dwz_bytes.specs.Spelling.{reach}
 use Rattle.dwz_docs.specs.Trees.{End, Entry}
 use Rattle.dwz_seen.specs.Lists.{Each}
@@ -20,12 +20,9 @@ use Rattle.dwz_writing.proofs.Rising.{entries_are_keys}
 use Rattle.dwz_writing.proofs.WriteLengths.{Fixed, FixedAs, FixedEntries, FixedUnit}
 use Rattle.dwz_seen.proofs.Members.{each_of, in_cases, in_left, in_map, in_right}
 use Rattle.dwz_writing.proofs.ChosenValues.{chosen}
+use Rattle.dwz_writing.proofs.StoredClasses.{offset_class}
 
 -- ---- an offset of form sec_offset stays, and no other value gets that form
-
-offset_class : class_of 0x17 ≡ OfOffset
-unfolding class_rows class_in
-offset_class = refl
 
 same_offset : {K : Type 0} (x : Fit K) (a : Attr K) (c : Class) → class_of a.form ≡ c → eqb a.form 0x17 ≡ false → offset_in (Some (with_form a (fit_as c x a))) ≡ None
 same_offset x a c e other = by c where

@@ -1,6 +1,6 @@
 -- An expression with other operands of the same widths in their places is spelled too, and has the same parts.
 use Rattle.std.proofs.Common.{◌≡◌, ℕ, zero, suc, ◌+◌, ◌-◌, ◌<◌, ◌≤◌, Bool, true, false, List, [], ◌∷◌, ◌++◌, length, ◌==◌, if◌then◌else◌, refl, sym, ap, subst, ◌∙◌, arith, append_assoc, eqb, ne_eqb}
-use Rattle.std.proofs.lemmas.List.{append-nil}
+use Rattle.std.proofs.lemmas.List.{append-nil, length-append}
 use Rattle.dwz_model.specs.declared.place.Base.{Base}
 use Rattle.dwz_model.specs.declared.place.Base.TheVariants.{Unit as FromUnit}
 use Rattle.dwz_bytes.specs.Spelling.{IsGroups, SpellsUleb}
@@ -10,8 +10,9 @@ use Rattle.dwz_meanings.specs.Sequences.{Spelling, SpellsAll}
 use Rattle.dwz_bytes.proofs.FixedLemmas.{fixed_written}
 use Rattle.dwz_bytes.proofs.PaddedLemmas.{padded_len, padded_spells}
 use Rattle.dwz_meanings.specs.Documents.{Part}
-use Rattle.dwz_writing.specs.Patching.{FitsWidth, OperandsAre, OperandsFit, OperandsName, PatchLaw}
+use Rattle.dwz_writing.specs.Patching.{FitsWidth, IsPatched, OperandsAre, OperandsFit, OperandsName}
 use Rattle.dwz_writing.specs.Writing.{Numbering, base_place, operand_bytes, parts_bytes}
+use Rattle.dwz_writing.proofs.WriteLengths.{operand_len}
 use Rattle.dwz_writing.proofs.CutLemmas.{Cut, Gap, Narrow, Replaced, Replaces, Slot, Tail, behind, behind_replaced, bytes_behind, bytes_prepend, cut_bytes, cut_operands, cut_parts, operand_at, operands_behind, operands_prepend, parts_cut, prepend, prepend_replaced, replaced_parts, replaced_size, sized_behind, sized_prepend}
 
 operands_append : (xs ys : List Found) → operands_in (xs ++ ys) ≡ operands_in xs ++ operands_in ys
@@ -334,8 +335,9 @@ parts_are : (e : Expression) (start : ℕ) (bytes : List ℕ) (c : Cut) → e.at
 parts_are e start bytes c at same cut operands =
     ap (λ (p : ℕ). parts_from p e.bytes e.operands) at ∙ ap (λ (w : List ℕ). parts_from start w e.operands) (same ∙ cut) ∙ ap (λ (w : List Operand). parts_from start (cut_bytes c) w) operands ∙ parts_cut start c
 
-pub patches : PatchLaw
-patches c d n unit start place e bytes refs spelled fits names =
+pub patched : {K : Type 0} (c d : ExprContext) (n : Numbering K) (unit start place : ℕ) (e : Expression) (bytes : List ℕ) (refs : List K) → SpellsExpr c e start bytes
+    → OperandsFit n unit (parts_of e) refs → OperandsName d n unit (parts_of e) refs → IsPatched d n unit place e refs
+patched c d n unit start place e bytes refs spelled fits names =
     let whole : e.bytes ≡ bytes = ap (λ (x : Expression). x.bytes) spelled.made in
     let at : e.at ≡ start = ap (λ (x : Expression). x.at) spelled.made in
     let o = within_cut c d (suc most_inside) e start bytes spelled in
@@ -353,3 +355,28 @@ patches c d n unit start place e bytes refs spelled fits names =
       operands = subst (λ (w : List Part). OperandsAre n unit w refs f.0.operands) (sym parts) (subst (OperandsAre n unit (cut_parts o.cut) refs) (sym f.2) (renumbered_are n unit o.cut refs place fits'));
       size = ap length (sym written) ∙ replaced_size o.cut new replaced ∙ ap length (sym (whole ∙ o.bytes_are));
     }
+
+-- what is written is no longer than what was read, whichever entries are named
+parts_short : {K : Type 0} (n : Numbering K) (unit : ℕ) (c : Cut) (refs : List K) → length (parts_bytes n unit (cut_parts c) refs) ≤ length (cut_bytes c)
+unfolding parts_bytes
+parts_short n unit (Tail t) refs = omega (arith, ap length (append-nil t))
+parts_short n unit (Gap g s c) [] = omega (arith, length-append g [], length-append g (s.bytes ++ cut_bytes c))
+parts_short n unit (Gap g s c) (k ∷ refs) =
+    let more = parts_short n unit c refs in
+    let wide = operand_len s.uleb (length s.bytes) (n.place k - base_place unit s.base) in
+    omega (
+      arith,
+      more,
+      wide,
+      length-append g (operand_bytes s.uleb (length s.bytes) (n.place k - base_place unit s.base) ++ parts_bytes n unit (cut_parts c) refs),
+      length-append (operand_bytes s.uleb (length s.bytes) (n.place k - base_place unit s.base)) (parts_bytes n unit (cut_parts c) refs),
+      length-append g (s.bytes ++ cut_bytes c),
+      length-append s.bytes (cut_bytes c),
+    )
+
+pub expr_short : {K : Type 0} (c : ExprContext) (n : Numbering K) (unit start : ℕ) (e : Expression) (bytes : List ℕ) (refs : List K) → SpellsExpr c e start bytes → length (parts_bytes n unit (parts_of e) refs) ≤ length bytes
+expr_short c n unit start e bytes refs spelled =
+    let o = within_cut c c (suc most_inside) e start bytes spelled in
+    let parts = parts_are e start bytes o.cut (ap (λ (x : Expression). x.at) spelled.made) (ap (λ (x : Expression). x.bytes) spelled.made) o.bytes_are o.operands_are in
+    let short = parts_short n unit o.cut refs in
+    omega (arith, short, ap (λ (w : List Part). length (parts_bytes n unit w refs)) parts, ap length o.bytes_are)

@@ -11,7 +11,8 @@ use Rattle.dwz_docs.specs.Trees.{End, Entry}
 use Rattle.dwz_docs.specs.Values.{AreBytes}
 use Rattle.dwz_alike.specs.Spots.{same_numbers}
 use Rattle.dwz_seen.specs.Lists.{Each}
-use Rattle.dwz_writing.specs.Carried.{AttrTexts, EachAttr, TextAs, UnitTexts}
+use Rattle.dwz_writing.specs.Carried.{AttrTexts, TextAs, UnitTexts}
+use Rattle.dwz_writing.specs.Fitting.{EachAttr}
 use Rattle.dwz_writing.specs.Placing.{add_unless, attrs_texts, entries_texts, has_text, text_as, text_place, texts_bytes, texts_of, with_text}
 use Rattle.dwz_writing.specs.Writing.{text_in}
 use Rattle.dwz_alike.proofs.SpotLemmas.{numbers_same, numbers_true}

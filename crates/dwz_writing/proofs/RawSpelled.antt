@@ -1,7 +1,7 @@
 -- The bytes of entries spell them as they are stored.
 use Rattle.std.proofs.Common.{◌≡◌, ℕ, ℤ, pos, suc, ◌+◌, ◌-◌, ◌^◌, ◌<◌, ◌≤◌, Bool, List, [], ◌∷◌, length, map, refl, sym, subst, arith}
 use Rattle.std.specs.Prelude.{◌==◌}
-use Rattle.dwz_bytes.specs.Spelling.{SpellsFixed, SpellsUleb, le_bytes}
+use Rattle.dwz_bytes.specs.Spelling.{SpellsFixed, SpellsUleb, le_bytes, uleb}
 use Rattle.dwz_bytes.proofs.FixedLemmas.{fixed_written}
 use Rattle.dwz_bytes.proofs.PaddedLemmas.{uleb_spells}
 use Rattle.dwz_codes.specs.Forms.{form_rows}
@@ -10,13 +10,14 @@ use Rattle.dwz_meanings.specs.Documents.{Attr, Entries, Node}
 use Rattle.dwz_docs.specs.Entries.{Mode, SpellsAttrs, SpellsCode, SpellsEntry, SpellsFront, UnitContext}
 use Rattle.dwz_meanings.specs.Meanings.{Class, OfCommonEntry, OfExpression, OfInfoEntry, OfUnitEntry, class_of}
 use Rattle.dwz_docs.specs.Trees.{End, Entry, IfChildren, Position, SpellsForest, behind, first_below, size}
-use Rattle.dwz_docs.specs.Values.{Number, Raw, SpellsShape, SpellsValue, shape_of, value_bytes, written_rows}
+use Rattle.dwz_docs.specs.Values.{Bytes, Number, Raw, SpellsShape, SpellsValue, shape_of, value_bytes, written_rows}
 use Rattle.dwz_docs.proofs.WrittenLemmas.{value_written}
 use Rattle.dwz_seen.specs.Lists.{Each}
 use Rattle.dwz_writing.specs.Fitting.{AttrFits, EntriesFit, FitsAs, FitsInfo, FitsUnit, NodeFits, back_forms, depth}
-use Rattle.dwz_writing.specs.Placing.{Stands}
+use Rattle.dwz_writing.specs.Placing.{Stands, zeros}
 use Rattle.dwz_writing.specs.Sound.{HasBytes, IsBuiltAs, SoundAttr, SoundEntries, SoundNode, StoresAs}
-use Rattle.dwz_writing.specs.Writing.{Numbering, Shape as TableShape, any, attrs_bytes, code_bytes, code_in, coded, declaration_of, first_place, if_any, node_bytes, pair_of, shape_of as entry_shape, spelled, stored, stored_as}
+use Rattle.dwz_writing.specs.Writing.{Numbering, Shape as TableShape, any, attrs_bytes, code_bytes, code_in, coded, declaration_of, expr_bytes, first_place, if_any, node_bytes, pair_of, shape_of as entry_shape, spelled, stored, stored_as}
+use Rattle.dwz_writing.proofs.WriteLengths.{expr_len}
 use Rattle.dwz_writing.proofs.RawUnits.{code_of, raw_attrs, raw_entries, raw_entry}
 use Rattle.dwz_writing.proofs.WriteCodes.{Covers, Has, code_bounds, code_found}
 
@@ -41,6 +42,10 @@ ref_sup4_spelled : (number : ℤ) (x : ℕ) → x < 2 ^ 32 → SpellsShape (shap
 unfolding form_rows value_bytes
 ref_sup4_spelled number x lt = record { content = x; spelled = four_spelled x lt; value = refl }
 
+exprloc_spelled : (number : ℤ) (content : List ℕ) → length content < 2 ^ 64 → SpellsShape (shape_of written_rows 0x18) number (value_bytes 0x18 (Bytes content)) (Bytes content)
+unfolding form_rows value_bytes
+exprloc_spelled number content lt = record { content = content; spelled = record { front = uleb (length content); count = uleb_spells (length content) lt; parts = refl }; value = refl }
+
 module _ {K : Type 0} (n : Numbering K) (unit : ℕ) where
   pub first_unit : (refs : List K) → Each (FitsUnit n unit) refs → first_place n refs - unit < 2 ^ 32
   first_unit [] fits = omega arith
@@ -54,7 +59,10 @@ module _ {K : Type 0} (n : Numbering K) (unit : ℕ) where
   as_spelled OfUnitEntry a built s fits = rw s.form (ref4_spelled _ _ (first_unit a.value.refs fits))
   as_spelled OfInfoEntry a built s fits = rw s.form (ref_addr_spelled _ _ (first_info a.value.refs fits))
   as_spelled OfCommonEntry a built s fits = rw s.form (ref_sup4_spelled (pos 0) _ (first_info a.value.refs fits))
-  as_spelled OfExpression a built s fits = absurd built
+  as_spelled OfExpression a built s fits =
+      let same = expr_len zeros n 0 unit a.value.plain a.value.refs in
+      let short = s.short in
+      rw s.form (exprloc_spelled _ (expr_bytes n unit a.value.plain a.value.refs) (omega (arith, same, short)))
   as_spelled c a built s fits = has_spelled a _ s
 
   pub attrs_spelled : (attrs : List (Attr K)) (at : ℕ) → Each SoundAttr attrs → Each (AttrFits n unit) attrs → SpellsAttrs written_rows (map pair_of attrs) (raw_attrs n unit at attrs) at (attrs_bytes n unit attrs)

@@ -4,10 +4,10 @@ use Rattle.std.proofs.Math.Logic.{inl, inr}
 use Rattle.std.proofs.lemmas.List.{length-append}
 use Rattle.dwz_meanings.specs.Documents.{Attr, Compile, DwUnit, Entries, Kind, OfType, Partial}
 use Rattle.dwz_docs.specs.Lists.{In}
-use Rattle.dwz_meanings.specs.Meanings.{Class, OfCommonEntry, OfInfoEntry, OfUnitEntry, class_of}
+use Rattle.dwz_meanings.specs.Meanings.{Class, OfCommonEntry, OfExpression, OfInfoEntry, OfUnitEntry, class_of}
 use Rattle.dwz_docs.specs.Trees.{End, Entry}
 use Rattle.dwz_seen.specs.Lists.{Each}
-use Rattle.dwz_writing.specs.Fitting.{AttrFits, EntriesFit, FitsAs, FitsInfo, FitsUnit, KindFits, UnitFits}
+use Rattle.dwz_writing.specs.Fitting.{AttrFits, EachAttr, EntriesFit, FitsAs, FitsInfo, FitsUnit, HasRoom, HasRoomAs, KindFits, UnitFits, UnitHasRoom}
 use Rattle.dwz_writing.specs.Meant.{AttrSays, EntriesSay, KindSays, Own, SaysAs, Tells, UnitSays, UnitsSay, all_entry_keys, entry_keys, own_of}
 use Rattle.dwz_writing.specs.Placing.{Stands, UnitStands, UnitsStand}
 use Rattle.dwz_seen.specs.Shown.{keys, unit_keys, units_keys}
@@ -117,19 +117,20 @@ entries_are_keys (u ∷ units) k is = elim (in_cases k (entry_keys u) (all_entry
 -- ---- what names entries fits
 
 module _ {K : Type 0} (n : Numbering K) (unit : ℕ) (t : Tells K) (own : Own K) (inside : (k : K) → In k own.keys → FitsUnit n unit k) (small : (k : K) → In k t.all → FitsInfo n k) (common : (k : K) → In k t.common → FitsInfo n k) where
-  as_fits : (c : Class) (a : Attr K) → SaysAs c t own a → FitsAs c n unit a
-  as_fits OfUnitEntry a says = each_more (λ k. In k own.keys) (FitsUnit n unit) a.value.refs inside says
-  as_fits OfInfoEntry a says = each_more (λ k. In k t.all) (FitsInfo n) a.value.refs small says
-  as_fits OfCommonEntry a says = each_more (λ k. In k t.common) (FitsInfo n) a.value.refs common says
-  as_fits _ a says = tt
+  as_fits : (c : Class) (a : Attr K) → HasRoomAs c n unit a → SaysAs c t own a → FitsAs c n unit a
+  as_fits OfUnitEntry a room says = each_more (λ k. In k own.keys) (FitsUnit n unit) a.value.refs inside says
+  as_fits OfInfoEntry a room says = each_more (λ k. In k t.all) (FitsInfo n) a.value.refs small says
+  as_fits OfCommonEntry a room says = each_more (λ k. In k t.common) (FitsInfo n) a.value.refs common says
+  as_fits OfExpression a room says = room
+  as_fits _ a room says = tt
 
-  node_fits : (attrs : List (Attr K)) → Each (AttrSays t own) attrs → Each (AttrFits n unit) attrs
-  node_fits [] says = tt
-  node_fits (a ∷ attrs) says = (as_fits (class_of a.form) a says.0, node_fits attrs says.1)
+  node_fits : (attrs : List (Attr K)) → Each (HasRoom n unit) attrs → Each (AttrSays t own) attrs → Each (AttrFits n unit) attrs
+  node_fits [] room says = tt
+  node_fits (a ∷ attrs) room says = (as_fits (class_of a.form) a room.0 says.0, node_fits attrs room.1 says.1)
 
-  entries_fit : (f : Entries K) → EntriesSay t own f → EntriesFit n unit f
-  entries_fit End says = tt
-  entries_fit (Entry e children next) says = (node_fits e.attrs says.0, entries_fit children says.1, entries_fit next says.2)
+  entries_fit : (f : Entries K) → EachAttr (HasRoom n unit) f → EntriesSay t own f → EntriesFit n unit f
+  entries_fit End room says = tt
+  entries_fit (Entry e children next) room says = (node_fits e.attrs room.0 says.0, entries_fit children room.1 says.1, entries_fit next room.2 says.2)
 
   kind_fits : (kind : Kind K) → KindSays own.keys kind → KindFits n unit kind
   kind_fits Compile says = tt
@@ -137,8 +138,8 @@ module _ {K : Type 0} (n : Numbering K) (unit : ℕ) (t : Tells K) (own : Own K)
   kind_fits Partial says = tt
 
 module _ {K : Type 0} (n : Numbering K) (t : Tells K) (small : (k : K) → In k t.all → FitsInfo n k) (common : (k : K) → In k t.common → FitsInfo n k) where
-  unit_fits : (u : DwUnit K) (at : ℕ) → UnitStands n u at → unit_size n at u < 2 ^ 32 → UnitSays t u → UnitFits n u
-  unit_fits u at stands lt says =
+  unit_fits : (u : DwUnit K) (at : ℕ) → UnitStands n u at → unit_size n at u < 2 ^ 32 → UnitHasRoom n u → UnitSays t u → UnitFits n u
+  unit_fits u at stands lt room says =
       let unit = n.place u.at in
       let rises = unit_rises n u at stands in
       let inside : (k : K) → In k (entry_keys u) → FitsUnit n unit k = λ k is.
@@ -147,20 +148,20 @@ module _ {K : Type 0} (n : Numbering K) (t : Tells K) (small : (k : K) → In k 
       (omega (arith, stands.unit, from), omega (arith, stands.unit, to, lt))) in
       record {
         kind = kind_fits n unit t (own_of u) inside small common u.kind says.kind;
-        root = node_fits n unit t (own_of u) inside small common u.root.attrs says.root;
-        below = entries_fit n unit t (own_of u) inside small common u.below says.below;
+        root = node_fits n unit t (own_of u) inside small common u.root.attrs room.0 says.root;
+        below = entries_fit n unit t (own_of u) inside small common u.below room.1 says.below;
       }
 
-  each_fits : (units : List (DwUnit K)) (at : ℕ) → UnitsStand n units at → units_size n units < 2 ^ 32 → UnitsSay t units → Each (UnitFits n) units
+  each_fits : (units : List (DwUnit K)) (at : ℕ) → UnitsStand n units at → units_size n units < 2 ^ 32 → Each (UnitHasRoom n) units → UnitsSay t units → Each (UnitFits n) units
   unfolding units_size
-  each_fits [] at stands lt says = tt
-  each_fits (u ∷ units) at stands lt says =
+  each_fits [] at stands lt room says = tt
+  each_fits (u ∷ units) at stands lt room says =
       let same : unit_size n at u ≡ unit_size n (n.place u.at) u = ap (λ (k : ℕ). unit_size n k u) (sym stands.0.unit) in
-      (unit_fits u at stands.0 (omega (arith, same, lt)) says.0, each_fits units _ stands.1 (omega (arith, lt)) says.1)
+      (unit_fits u at stands.0 (omega (arith, same, lt)) room.0 says.0, each_fits units _ stands.1 (omega (arith, lt)) room.1 says.1)
 
 -- the numbers of units that stand in fewer than 2^32 bytes fit
-pub units_fit : {K : Type 0} (n : Numbering K) (t : Tells K) (units : List (DwUnit K)) → t.all ≡ all_entry_keys units → ((k : K) → In k t.common → FitsInfo n k) → UnitsStand n units 0 → units_size n units < 2 ^ 32 → UnitsSay t units
+pub units_fit : {K : Type 0} (n : Numbering K) (t : Tells K) (units : List (DwUnit K)) → t.all ≡ all_entry_keys units → ((k : K) → In k t.common → FitsInfo n k) → UnitsStand n units 0 → units_size n units < 2 ^ 32 → Each (UnitHasRoom n) units → UnitsSay t units
     → Each (UnitFits n) units
-units_fit {K} n t units same common stands lt says =
+units_fit {K} n t units same common stands lt room says =
     let small : (k : K) → In k t.all → FitsInfo n k = λ k is. (let to = place_within n units stands k (entries_are_keys units k (subst (In k) same is)) in omega (arith, to, lt)) in
-    each_fits n t small common units 0 stands lt says
+    each_fits n t small common units 0 stands lt room says

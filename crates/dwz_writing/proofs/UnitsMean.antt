@@ -5,7 +5,7 @@ use Rattle.std.proofs.lemmas.List.{map-append}
 use Rattle.dwz_meanings.specs.Documents.{Attr, Compile, DwUnit, Entries, Kind, Node, OfType, Partial, first_named, kind_map}
 use Rattle.dwz_docs.specs.Entries.{RawAttr}
 use Rattle.dwz_docs.specs.Lists.{In}
-use Rattle.dwz_meanings.specs.Meanings.{Around, Class, MeanAttrs, MeanEntries, MeanUnits, MeansAttr, MeansKind, MeansNode, MeansUnit, OfOffset, Scope, all_places, base_in, class_in, class_of, class_rows, first_raw, number_of, places_in, places_of, scope_of, without_siblings}
+use Rattle.dwz_meanings.specs.Meanings.{Around, Class, MeanAttrs, MeanEntries, MeanUnits, MeansAttr, MeansKind, MeansNode, MeansUnit, OfOffset, Scope, all_places, base_in, class_of, first_raw, number_of, places_in, places_of, scope_of, without_siblings}
 use Rattle.dwz_bytes.specs.Spelling.{reach}
 use Rattle.dwz_writing.specs.Bases.{offset_in}
 use Rattle.dwz_docs.specs.Trees.{End, Entry}
@@ -17,8 +17,10 @@ use Rattle.dwz_seen.specs.Shown.{keys, unit_keys, units_keys}
 use Rattle.dwz_writing.specs.Sound.{SoundAttr, SoundEntries, SoundNode, SoundUnit}
 use Rattle.dwz_writing.specs.Writing.{Numbering, Shape, pair_of, stored, stored_as, table_of}
 use Rattle.dwz_writing.proofs.RawUnits.{raw_attrs, raw_entries, raw_entry, raw_kind, raw_unit, raw_units}
-use Rattle.dwz_writing.proofs.ValuesMean.{IsScope, as_means}
+use Rattle.dwz_writing.proofs.ScopeIs.{IsScope}
+use Rattle.dwz_writing.proofs.ValuesMean.{as_means}
 use Rattle.dwz_seen.proofs.Members.{in_left, in_map, in_right}
+use Rattle.dwz_writing.proofs.StoredClasses.{offset_class}
 
 -- ---- attributes
 
@@ -66,10 +68,6 @@ module _ {K P : Type 0} (n : Numbering K) (g : K → P) (unit : ℕ) (t : Tells 
       (subst (λ (p : ℕ). In p s.own) place among, ap (λ (p : P). OfType signature p) (sym (is.place_own main says)) ∙ ap (λ (p : ℕ). OfType signature (s.around.place p)) place)
 
 -- ---- what a root says
-
-offset_class : class_of 0x17 ≡ OfOffset
-unfolding class_rows class_in
-offset_class = refl
 
 -- an offset that is stored is the one that the attribute has
 offset_raw : {K : Type 0} (n : Numbering K) (unit : ℕ) (a : Attr K) (at end : ℕ) → base_in (Some (record { at = at; end = end; pair = pair_of a; raw = stored n unit a })) ≡ offset_in (Some a)

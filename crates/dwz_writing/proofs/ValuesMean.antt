@@ -1,10 +1,10 @@
 -- What an attribute stores means its value, form by form.
 use Rattle.std.proofs.Common.{◌≡◌, ℕ, ℤ, ◌+◌, ◌-◌, Bool, true, false, List, [], ◌∷◌, map, Option, Some, None, refl, sym, ap, subst, ◌∙◌, arith, eqb, ◌||◌, not}
 use Rattle.dwz_bytes.specs.Spelling.{reach}
-use Rattle.dwz_meanings.specs.Documents.{Addr, Attr, Block, Flag, Index, Num, Plain, Sec, Sig, Text, Value, only, ref, value_map}
+use Rattle.dwz_meanings.specs.Documents.{Addr, Attr, Block, Flag, Index, Num, Plain, Sig, Text, Value, only, ref, value_map}
 use Rattle.dwz_docs.specs.Entries.{RawAttr}
 use Rattle.dwz_docs.specs.Lists.{In}
-use Rattle.dwz_meanings.specs.Meanings.{Class, Common, IfSo, IsEntryAmong, IsFileBy, IsTextBySlot, IsTextIn, MeansAs, OfAddress, OfBlock, OfCommonEntry, OfCommonText, OfConstant, OfExpression, OfFlag, OfIndex, OfInfoEntry, OfListIndex, OfOffset, OfSignature, OfText, OfTextBySlot, OfTextInLineStr, OfTextInStr, OfUnitEntry, Scope, Unread, bytes_of, class_of, kept_width, names_file, names_list, number_of, stmt_list, str_offsets_base}
+use Rattle.dwz_meanings.specs.Meanings.{Class, IfSo, IsEntryAmong, IsFileBy, IsTextBySlot, IsTextIn, MeansAs, OfAddress, OfBlock, OfCommonEntry, OfCommonText, OfConstant, OfExpression, OfFlag, OfIndex, OfInfoEntry, OfListIndex, OfOffset, OfSignature, OfText, OfTextBySlot, OfTextInLineStr, OfTextInStr, OfUnitEntry, Scope, Unread, bytes_of, class_of, kept_width, names_file, names_list, number_of, stmt_list}
 use Rattle.dwz_meanings.specs.LineTables.{IsFileTable}
 use Rattle.dwz_docs.specs.Texts.{IsSlot, IsTextAt}
 use Rattle.dwz_seen.specs.Lists.{Each}
@@ -13,6 +13,8 @@ use Rattle.dwz_writing.specs.Meant.{FileSays, Own, SaysAs, SlotSays, Tells, Text
 use Rattle.dwz_writing.specs.Sound.{IsBuiltAs, StoresAs}
 use Rattle.dwz_writing.specs.Writing.{Numbering, block_in, first_place, pair_of, stored_as, text_in}
 use Rattle.dwz_seen.proofs.Members.{in_map}
+use Rattle.dwz_writing.proofs.ExprMeans.{expr_means}
+use Rattle.dwz_writing.proofs.ScopeIs.{IsScope}
 
 -- an attribute as it was read, whose form has that class
 pub record Read {K : Type 0} (c : Class) (a : Attr K) : Type 0 where
@@ -52,21 +54,6 @@ so_yes false P Q e h = absurd cc
 pub so_not : (b : Bool) (P Q : Type 0) → b ≡ false → Q → IfSo b P Q
 so_not true P Q e h = absurd cc
 so_not false P Q e h = h
-
--- the scope of a unit that was written, where its keys have these places
-pub record IsScope {K P : Type 0} (n : Numbering K) (g : K → P) (at : ℕ) (t : Tells K) (own : Own K) (s : Scope P) : Type 0 where
-  pub strs : s.around.sources.strs ≡ t.strs
-  pub line_strs : s.around.sources.line_strs ≡ t.line_strs
-  pub offsets : s.around.sources.offsets ≡ t.offsets
-  pub line : s.around.sources.line ≡ t.line
-  pub slots : str_offsets_base s ≡ own.bases.slots
-  pub table : stmt_list s ≡ own.bases.line
-  pub unit : s.unit ≡ at
-  pub own_are : s.own ≡ map n.place own.keys
-  pub all_are : s.around.all ≡ map n.place t.all
-  pub place_own : (k : K) → In k own.keys → s.around.place (n.place k) ≡ g k
-  pub place_all : (k : K) → In k t.all → s.around.place (n.place k) ≡ g k
-  pub common : (k : K) → In k t.common → (c : Common P) × (s.around.common ≡ Some c) × In (n.place k) c.entries × (c.place (n.place k) ≡ g k)
 
 abbrev stored_at : {K : Type 0} → Class → Numbering K → ℕ → Attr K → ℕ → ℕ → RawAttr
 stored_at c n unit a at end = record { at = at; end = end; pair = pair_of a; raw = stored_as c n unit a }
@@ -179,11 +166,8 @@ module _ {K P : Type 0} (n : Numbering K) (g : K → P) (unit : ℕ) (t : Tells 
       let among : In (first_place n a.value.refs) c.0.entries = subst (λ (q : ℕ). In q c.0.entries) at c.2 in
       (c.0, c.1, (among, value ∙ ap (λ (q : P). ref q) (sym c.3) ∙ ap (λ (q : ℕ). ref (c.0.place q)) at))
   as_means OfSignature a at end e built stores fits says = (let r = read_of OfSignature a e says in kept g a r.named r.value _ r.same r.means ∙ ap (λ (z : ℤ). only (Sig (reach z))) r.number)
-  as_means OfOffset a at end e built stores fits says =
-      let r = read_of OfOffset a e says in
-      let means = not_so (names_list r.old.pair.name) _ _ (ap names_list r.name ∙ built) r.means in
-      so_not (names_list a.name) _ _ built (kept g a r.named r.value _ r.same means ∙ ap (λ (z : ℤ). only (Sec (reach z))) r.number)
-  as_means OfExpression a at end e built stores fits says = absurd built
+  as_means OfOffset a at end e built stores fits says = so_not (names_list a.name) _ _ built (ap (λ (w : Value K). value_map g w) says)
+  as_means OfExpression a at end e built stores fits says = expr_means n g unit t own s is a at end fits says
   as_means OfListIndex a at end e built stores fits says = absurd built
   as_means OfIndex a at end e built stores fits says = (let r = read_of OfIndex a e says in kept g a r.named r.value _ r.same r.means ∙ ap (λ (z : ℤ). only (Index (reach z))) r.number)
   as_means OfCommonText a at end e built stores fits says = absurd built

@@ -38,7 +38,7 @@ module _ {K : Type 0} (n : Numbering K) (common : List K) (units : List (DwUnit 
   pub fits : (t : Tells K) → t.all ≡ all_entry_keys units → t.common ≡ common → AreWritable n common units → UnitsSay t units → Each (UnitFits n) units
   fits t all same w says =
       let small = size_small w in
-      units_fit n t units all (λ k there. w.common_fits k (subst (In k) same there)) w.stands (omega (arith, small)) says
+      units_fit n t units all (λ k there. w.common_fits k (subst (In k) same there)) w.stands (omega (arith, small)) w.room says
 
   pub spelled : (mode : Mode) → AreWritable n common units → Each (UnitFits n) units → IsRoomy units mode → SpellsUnits (sections n units).abbrevs mode 0 (raw_units n (tables_of [] units) units) 0 (sections n units).info
   unfolding sections

@@ -21,7 +21,7 @@ le_len (suc k) n = let o = le_len k (n / 256) in omega (arith, o)
 
 -- ---- expressions
 
-operand_len : (is_uleb : Bool) (width n : ℕ) → length (operand_bytes is_uleb width n) ≡ width
+pub operand_len : (is_uleb : Bool) (width n : ℕ) → length (operand_bytes is_uleb width n) ≡ width
 operand_len true width n = padded_len width n
 operand_len false width n = le_len width n
 
@@ -35,7 +35,7 @@ module _ {K : Type 0} (m n : Numbering K) (p q : ℕ) where
       let o = parts_len parts refs in
       simp (length-append, operand_len) (omega (arith, o))
 
-  expr_len : (plain : Plain) (refs : List K) → length (expr_bytes m p plain refs) ≡ length (expr_bytes n q plain refs)
+  pub expr_len : (plain : Plain) (refs : List K) → length (expr_bytes m p plain refs) ≡ length (expr_bytes n q plain refs)
   expr_len (Expr parts) refs = parts_len parts refs
   expr_len _ refs = refl
 

@@ -1,20 +1,21 @@
 -- Units with what was read in a file, before the forms of their references are chosen.
-use Rattle.std.specs.Prelude.{◌≡◌, ◌≢◌, ◌⊎◌, ℕ, ◌<◌, ◌≤◌, ◌^◌, Bool, true, false, List, length, Option}
+use Rattle.std.specs.Prelude.{◌≡◌, ◌≢◌, ◌⊎◌, ℕ, pos, ◌<◌, ◌≤◌, ◌^◌, Bool, true, false, List, length, Option}
 use Rattle.dwz_codes.specs.Forms.{form_rows}
 use Rattle.dwz_docs.specs.Abbrevs.{SpellsPair}
-use Rattle.dwz_meanings.specs.Documents.{Attr, DwUnit, Entries, Node, ref}
+use Rattle.dwz_meanings.specs.Documents.{Attr, DwUnit, Entries, Expr, Node, Plain, Sec, only, ref}
 use Rattle.dwz_docs.specs.Entries.{RawAttr}
 use Rattle.dwz_docs.specs.Lists.{In}
-use Rattle.dwz_meanings.specs.Meanings.{Class, OfConstant, OfTextBySlot, OfTextInLineStr, OfTextInStr, Sources, class_of, names_file}
+use Rattle.dwz_meanings.specs.Meanings.{Class, OfConstant, OfExpression, OfTextBySlot, OfTextInLineStr, OfTextInStr, Sources, class_of, names_file}
 use Rattle.dwz_docs.specs.Trees.{End, Entry}
 use Rattle.dwz_docs.specs.Values.{AreBytes, SpellsValue}
 use Rattle.dwz_seen.specs.Lists.{Each}
 use Rattle.dwz_seen.specs.Seen.{Named, Seen, all_seen}
 use Rattle.dwz_seen.specs.Shown.{units_keys}
 use Rattle.dwz_writing.specs.Bases.{Bases, bases_in, bases_of}
+use Rattle.dwz_writing.specs.Fitting.{EachAttr}
 use Rattle.dwz_writing.specs.Placing.{CommonUnit, Forms, Holder, NewUnit, OldUnit, holder_of, texts_bytes}
 use Rattle.dwz_writing.specs.Writing.{text_in}
-use Rattle.dwz_writing.specs.Meant.{KindSays, Tells, WasRead, entry_keys}
+use Rattle.dwz_writing.specs.Meant.{KindSays, OperandsIn, Own, Tells, WasRead, entry_keys, own_of}
 use Rattle.dwz_writing.specs.Sound.{IsBuilt, SoundKind}
 
 -- where an attribute may have been read: in the file with these sections, or in any file
@@ -48,8 +49,17 @@ pub record Imports {K : Type 0} (a : Attr K) : Type 0 where
   pub target : K
   pub value : a.value ≡ ref target
 
+-- DW_AT_stmt_list of a partial unit, which names a line table
+pub record NamesLines {K : Type 0} (a : Attr K) : Type 0 where
+  pub name : a.name ≡ 0x10
+  pub form : a.form ≡ 0x17
+  pub place : ℕ
+  pub raw : a.raw ≡ pos place
+  pub fits : place < 2 ^ 32
+  pub value : a.value ≡ only (Sec place)
+
 abbrev pub CarriedAttr : {K : Type 0} → (Sources → Type 0) → Bases → Attr K → Type 0
-CarriedAttr from origin a = CameFrom from origin a ⊎ Imports a
+CarriedAttr from origin a = CameFrom from origin a ⊎ (Imports a ⊎ NamesLines a)
 
 pub record CarriedNode {K : Type 0} (from : Sources → Type 0) (origin : Bases) (e : Node K) : Type 0 where
   pub some_tag : 0 < e.tag
@@ -100,11 +110,6 @@ TextAs _ texts a = Unit {0}
 abbrev pub AttrTexts : {K : Type 0} → List (List ℕ) → Attr K → Type 0
 AttrTexts texts a = TextAs (class_of a.form) texts a
 
--- P holds of each attribute
-abbrev pub EachAttr : {K : Type 0} → (Attr K → Type 0) → Entries K → Type 0
-EachAttr P End = Unit {0}
-EachAttr P (Entry e children next) = Each P e.attrs × EachAttr P children × EachAttr P next
-
 abbrev pub UnitTexts : {K : Type 0} → List (List ℕ) → DwUnit K → Type 0
 UnitTexts texts u = Each (AttrTexts texts) u.root.attrs × EachAttr (AttrTexts texts) u.below
 
@@ -135,3 +140,18 @@ pub record BasesStand {K : Type 0} (f : Forms K) (u : DwUnit K) : Type 0 where
   pub own : ComesFromItself (holder_of f.is_common u.kind) (bases_in u) (f.origin u.at)
   pub root : Each (FileStands (holder_of f.is_common u.kind) (bases_in u).line (f.origin u.at).line) u.root.attrs
   pub below : EachAttr (FileStands (holder_of f.is_common u.kind) (bases_in u).line (f.origin u.at).line) u.below
+
+-- the operands of an expression name entries of its unit, or of the file, as their numbers are counted
+abbrev pub ExprIn : {K : Type 0} → Tells K → Own K → Plain → List K → Type 0
+ExprIn t own (Expr parts) refs = OperandsIn t own parts refs
+ExprIn t own _ refs = ⊥
+
+abbrev pub OperandsStandAs : {K : Type 0} → Class → Tells K → Own K → Attr K → Type 0
+OperandsStandAs OfExpression t own a = ExprIn t own a.value.plain a.value.refs
+OperandsStandAs _ t own a = Unit {0}
+
+abbrev pub AttrOperands : {K : Type 0} → Tells K → Own K → Attr K → Type 0
+AttrOperands t own a = OperandsStandAs (class_of a.form) t own a
+
+abbrev pub OperandsStand : {K : Type 0} → Tells K → DwUnit K → Type 0
+OperandsStand t u = Each (AttrOperands t (own_of u)) u.root.attrs × EachAttr (AttrOperands t (own_of u)) u.below

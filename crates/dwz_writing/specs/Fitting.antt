@@ -3,7 +3,8 @@ use Rattle.std.specs.Prelude.{◌≡◌, ℕ, suc, ◌+◌, ◌-◌, ◌<◌, �
 use Rattle.dwz_meanings.specs.Documents.{Attr, Compile, DwUnit, Entries, Kind, Node, OfType, Partial}
 use Rattle.dwz_docs.specs.Entries.{Mode}
 use Rattle.dwz_docs.specs.Lists.{In}
-use Rattle.dwz_meanings.specs.Meanings.{Class, OfCommonEntry, OfInfoEntry, OfUnitEntry, class_of}
+use Rattle.dwz_meanings.specs.Meanings.{Class, OfCommonEntry, OfExpression, OfInfoEntry, OfUnitEntry, class_of}
+use Rattle.dwz_writing.specs.Patching.{ExprFits}
 use Rattle.dwz_docs.specs.Trees.{End, Entry, size}
 use Rattle.dwz_docs.specs.Values.{written_rows}
 use Rattle.dwz_codes.specs.Rows.{RowView}
@@ -26,6 +27,7 @@ abbrev pub FitsAs : {K : Type 0} → Class → Numbering K → ℕ → Attr K �
 FitsAs OfUnitEntry n unit a = Each (FitsUnit n unit) a.value.refs
 FitsAs OfInfoEntry n unit a = Each (FitsInfo n) a.value.refs
 FitsAs OfCommonEntry n unit a = Each (FitsInfo n) a.value.refs
+FitsAs OfExpression n unit a = ExprFits n unit a.value.plain a.value.refs
 FitsAs _ n unit a = Unit {0}
 
 abbrev pub AttrFits : {K : Type 0} → Numbering K → ℕ → Attr K → Type 0
@@ -47,6 +49,24 @@ pub record UnitFits {K : Type 0} (n : Numbering K) (u : DwUnit K) : Type 0 where
   pub kind : KindFits n (n.place u.at) u.kind
   pub root : NodeFits n (n.place u.at) u.root
   pub below : EntriesFit n (n.place u.at) u.below
+
+-- ---- operands, which keep their widths
+
+-- P holds of each attribute
+abbrev pub EachAttr : {K : Type 0} → (Attr K → Type 0) → Entries K → Type 0
+EachAttr P End = Unit {0}
+EachAttr P (Entry e children next) = Each P e.attrs × EachAttr P children × EachAttr P next
+
+-- in an expression each operand has room for the number of the entry that it names
+abbrev pub HasRoomAs : {K : Type 0} → Class → Numbering K → ℕ → Attr K → Type 0
+HasRoomAs OfExpression n unit a = ExprFits n unit a.value.plain a.value.refs
+HasRoomAs _ n unit a = Unit {0}
+
+abbrev pub HasRoom : {K : Type 0} → Numbering K → ℕ → Attr K → Type 0
+HasRoom n unit a = HasRoomAs (class_of a.form) n unit a
+
+abbrev pub UnitHasRoom : {K : Type 0} → Numbering K → DwUnit K → Type 0
+UnitHasRoom n u = Each (HasRoom n (n.place u.at)) u.root.attrs × EachAttr (HasRoom n (n.place u.at)) u.below
 
 -- ---- how much is read
 
@@ -80,10 +100,11 @@ pub record IsRoomy {K : Type 0} (units : List (DwUnit K)) (mode : Mode) : Type 0
 
 -- ---- what can be written
 
--- Units of a file that are sound, and stand at these places; their sections, and those of the common file, have fewer than 2^32 - 16
--- bytes.
+-- Units of a file that are sound, and stand at these places; their operands have room for the numbers of what they name; their sections,
+-- and those of the common file, have fewer than 2^32 - 16 bytes.
 pub record AreWritable {K : Type 0} (n : Numbering K) (common : List K) (units : List (DwUnit K)) : Type 0 where
   pub sound : Each SoundUnit units
   pub stands : UnitsStand n units 0
+  pub room : Each (UnitHasRoom n) units
   pub fits : FitsSections (sections n units)
   pub common_fits : (k : K) → In k common → n.place k < 2 ^ 32

@@ -1,9 +1,13 @@
 -- What the units that are written mean: the same units, with places for keys.
 use Rattle.std.specs.Prelude.{◌≡◌, ℕ, pos, List, [], ◌∷◌, ◌++◌, map, Option, Some, None}
-use Rattle.dwz_meanings.specs.Documents.{Attr, Compile, DwUnit, Entries, File, Kind, Node, OfType, Partial, Text, attr_map, kind_map, only, value_map}
+use Rattle.dwz_meanings.specs.Documents.{Attr, Compile, DwUnit, Entries, Expr, File, Kind, Node, OfType, Part, Partial, Same, Sec, Text, attr_map, kind_map, only, value_map}
 use Rattle.dwz_docs.specs.Entries.{Mode, RawAttr}
 use Rattle.dwz_docs.specs.Lists.{In}
-use Rattle.dwz_meanings.specs.Meanings.{Around, Class, Common, IfSo, MeanUnits, MeansAttr, OfCommonEntry, OfConstant, OfInfoEntry, OfTextBySlot, OfTextInLineStr, OfTextInStr, OfUnitEntry, Scope, all_places, class_of, names_file, number_of, path_by}
+use Rattle.dwz_meanings.specs.Meanings.{Around, Class, Common, IfSo, MeanUnits, MeansAttr, OfCommonEntry, OfConstant, OfExpression, OfInfoEntry, OfOffset, OfTextBySlot, OfTextInLineStr, OfTextInStr, OfUnitEntry, Scope, all_places, class_of, names_file, number_of, path_by}
+use Rattle.dwz_model.specs.declared.place.Base.{Base}
+use Rattle.dwz_model.specs.declared.place.Base.TheVariants.{Unit as FromUnit, Info as FromInfo}
+use Rattle.dwz_meanings.specs.Documents as document
+use Rattle.dwz_meanings.specs.Exprs.{ExprContext, Expression, SpellsExpr, parts_of}
 use Rattle.dwz_meanings.specs.LineTables.{FileTable, IsFileTable}
 use Rattle.dwz_writing.specs.Bases.{Bases, bases_in}
 use Rattle.dwz_bytes.specs.Spelling.{reach}
@@ -98,8 +102,30 @@ abbrev pub FileSays : {K : Type 0} → Tells K → Option ℕ → Attr K → Typ
 FileSays t None a = (a.raw ≡ pos 0) × (a.value ≡ only (File None))
 FileSays t (Some place) a = RowSays t place a
 
+-- an operand names an entry of its unit, or of any unit of the file, as its number is counted
+abbrev pub OperandIn : {K : Type 0} → Tells K → Own K → Base → K → Type 0
+OperandIn t own FromUnit k = In k own.keys
+OperandIn t own FromInfo k = In k t.all
+
+abbrev pub OperandsIn : {K : Type 0} → Tells K → Own K → List Part → List K → Type 0
+OperandsIn t own [] [] = Unit {0}
+OperandsIn t own (Same bytes ∷ parts) refs = OperandsIn t own parts refs
+OperandsIn t own (document.Operand width uleb base ∷ parts) (k ∷ refs) = OperandIn t own base k × OperandsIn t own parts refs
+OperandsIn t own _ _ = ⊥
+
+-- the parts are those of an expression, and its operands name such entries
+pub record ExprSays {K : Type 0} (t : Tells K) (own : Own K) (a : Attr K) : Type 0 where
+  pub context : ExprContext
+  pub expression : Expression
+  pub start : ℕ
+  pub bytes : List ℕ
+  pub spelled : SpellsExpr context expression start bytes
+  pub plain : a.value.plain ≡ Expr (parts_of expression)
+  pub operands : OperandsIn t own (parts_of expression) a.value.refs
+
 -- A reference names an entry of its unit, of any unit of the file, or of the common file, as its form says; a text stands where its
--- form says, and a file where its number does; any other attribute was read.
+-- form says, a file where its number does, and an expression names entries so too; an offset is the number that is stored; any other
+-- attribute was read.
 abbrev pub SaysAs : {K : Type 0} → Class → Tells K → Own K → Attr K → Type 0
 SaysAs OfUnitEntry t own a = Each (λ k. In k own.keys) a.value.refs
 SaysAs OfInfoEntry t own a = Each (λ k. In k t.all) a.value.refs
@@ -107,6 +133,8 @@ SaysAs OfCommonEntry t own a = Each (λ k. In k t.common) a.value.refs
 SaysAs OfTextInStr t own a = TextSays t.strs a
 SaysAs OfTextInLineStr t own a = TextSays t.line_strs a
 SaysAs OfTextBySlot t own a = SlotSays t own.bases.slots a
+SaysAs OfExpression t own a = ExprSays t own a
+SaysAs OfOffset t own a = a.value ≡ only (Sec (reach a.raw))
 SaysAs OfConstant t own a = IfSo (names_file a.name) (FileSays t own.bases.line a) (WasRead a)
 SaysAs _ t own a = WasRead a
 

@@ -1,7 +1,7 @@
 -- Expressions whose operands name entries at other places: new numbers of the same widths.
 use Rattle.std.specs.Prelude.{◌≡◌, ℕ, ◌-◌, ◌<◌, ◌^◌, Bool, true, false, List, [], ◌∷◌, length}
 use Rattle.dwz_meanings.specs.declared.exprs.Operand.{Operand}
-use Rattle.dwz_meanings.specs.Documents.{Part, Same}
+use Rattle.dwz_meanings.specs.Documents.{Expr, Part, Plain, Same}
 use Rattle.dwz_meanings.specs.Documents as document
 use Rattle.dwz_meanings.specs.Exprs.{ExprContext, Expression, SpellsExpr, parts_of}
 use Rattle.dwz_alike.specs.Spots.{Spot}
@@ -18,6 +18,10 @@ OperandsFit n unit [] [] = Unit {0}
 OperandsFit n unit (Same bytes ∷ parts) refs = OperandsFit n unit parts refs
 OperandsFit n unit (document.Operand width uleb base ∷ parts) (k ∷ refs) = FitsWidth uleb width (n.place k - base_place unit base) × OperandsFit n unit parts refs
 OperandsFit n unit _ _ = ⊥
+
+abbrev pub ExprFits : {K : Type 0} → Numbering K → ℕ → Plain → List K → Type 0
+ExprFits n unit (Expr parts) refs = OperandsFit n unit parts refs
+ExprFits n unit _ refs = ⊥
 
 -- an operand with the number of an entry names one, wherever it stands
 abbrev pub OperandsName : {K : Type 0} → ExprContext → Numbering K → ℕ → List Part → List K → Type 0

@@ -1,5 +1,5 @@
 -- What can be written so that it is read again: units whose references have their forms.
-use Rattle.std.specs.Prelude.{◌≡◌, ◌≢◌, ℕ, ◌<◌, ◌≤◌, ◌^◌, false, true, List}
+use Rattle.std.specs.Prelude.{◌≡◌, ◌≢◌, ℕ, ◌<◌, ◌≤◌, ◌^◌, false, true, List, length}
 use Rattle.dwz_bytes.specs.Spelling.{fits_i64}
 use Rattle.dwz_meanings.specs.Documents.{Attr, Compile, DwUnit, Entries, Kind, Node, OfType, Partial, ref}
 use Rattle.dwz_meanings.specs.Meanings.{Class, OfCommonEntry, OfCommonText, OfExpression, OfInfoEntry, OfListIndex, OfOffset, OfUnitEntry, Unread, class_of, names_list}
@@ -7,11 +7,10 @@ use Rattle.dwz_docs.specs.Trees.{End, Entry}
 use Rattle.dwz_docs.specs.Values.{AreBytes, Raw, SpellsValue, written_rows}
 use Rattle.dwz_seen.specs.Lists.{Each}
 use Rattle.dwz_writing.specs.Placing.{zeros}
-use Rattle.dwz_writing.specs.Writing.{pair_of, stored_as}
+use Rattle.dwz_writing.specs.Writing.{expr_bytes, pair_of, stored_as}
 
--- Which attributes are written. Expressions and location lists will have their cases here.
+-- Which attributes are written. Location lists will have their cases here.
 abbrev pub IsBuiltAs : Class → ℕ → Type 0
-IsBuiltAs OfExpression name = ⊥
 IsBuiltAs OfListIndex name = ⊥
 IsBuiltAs OfOffset name = names_list name ≡ false
 IsBuiltAs OfCommonText name = ⊥
@@ -33,12 +32,18 @@ pub record NamesEntry {K : Type 0} (f : ℕ) (a : Attr K) : Type 0 where
   pub target : K
   pub value : a.value ≡ ref target
 
+-- the attribute is an exprloc (7.5.5), whose length fits 64 bits
+pub record StoresExpr {K : Type 0} (a : Attr K) : Type 0 where
+  pub form : a.form ≡ 0x18
+  pub short : length (expr_bytes zeros 0 a.value.plain a.value.refs) < 2 ^ 64
+
 -- A value that its form can store: an entry of the unit in DW_FORM_ref4, one of any unit in DW_FORM_ref_addr, one of the common file
--- in DW_FORM_ref_sup4, and in any other form what has bytes; of what such a form stores no part is the number of a key.
+-- in DW_FORM_ref_sup4; an expression; and in any other form what has bytes, of which no part is the number of a key.
 abbrev pub StoresAs : {K : Type 0} → Class → Attr K → Type 0
 StoresAs OfUnitEntry a = NamesEntry 0x13 a
 StoresAs OfInfoEntry a = NamesEntry 0x10 a
 StoresAs OfCommonEntry a = NamesEntry 0x1c a
+StoresAs OfExpression a = StoresExpr a
 StoresAs c a = HasBytes a (stored_as c zeros 0 a)
 
 -- an attribute other than DW_AT_sibling, as a declaration and an entry hold it

@@ -9,7 +9,7 @@ ghost use Rattle.dwz_docs.specs.Units.{RawUnit, SpellsUnits};
 ghost use Rattle.dwz_docs.specs.Values.{AreBytes};
 ghost use Rattle.dwz_seen.specs.Lists.{Each};
 ghost use Rattle.dwz_writing.specs.Bases.{Bases, bases_in};
-ghost use Rattle.dwz_writing.specs.Carried.{ApartIn, BasesStand, BuiltUnit, CarriedEntries, CarriedNode, CarriedUnit, ClosedIn, OfAny, OfFile, SectionsStand};
+ghost use Rattle.dwz_writing.specs.Carried.{ApartIn, BasesStand, BuiltUnit, CarriedEntries, CarriedNode, CarriedUnit, ClosedIn, OfAny, OfFile, OperandsStand, SectionsStand};
 ghost use Rattle.dwz_writing.specs.Fitting.{AreWritable, IsRoomy, UnitFits, mode_for};
 ghost use Rattle.dwz_writing.specs.Meant.{Spells, Tells, UnitsSay, all_entry_keys};
 ghost use Rattle.dwz_writing.specs.Placing.{FileOut, Forms, UnitsStand, files_keys, fit_units, numbering, sections};
@@ -43,7 +43,7 @@ pub fn placing_laws()
 
 /// What the two sections of a file say of units that can be written. Where numbers fit, the sections spell units whose entries stand at
 /// the places of their names, under any limits on depth and on entries that these units meet. Where each reference names an
-/// entry of the unit, of the file, or of the common file, as its form says, numbers fit; and where each other attribute was read, and texts
+/// entry of the unit, of the file, or of the common file, as its form says, and operands have room, numbers fit; and where each other attribute was read, and texts
 /// stand where their forms say, the units that are spelled mean those that were written, with places for names.
 pub fn bytes_laws()
     ensures roomy { (units : List (DwUnit Spot)) → IsRoomy units (mode_for units) }
@@ -54,14 +54,14 @@ pub fn bytes_laws()
 /// The forms of values. Units with what was read in a file are sound once these are chosen, and each value says what its form says: where
 /// each reference names an entry of the file or of the common file, and no name stands twice; where the sections of the file are those that
 /// were read, or all texts are in `.debug_str` of the common file; and where the root of an old unit says of slots and of a line table what
-/// it said, and the root of a partial unit names the line table by which its files are numbered. Whatever is written has a fixed length. No
-/// name is changed.
+/// it said, and the root of a partial unit names the line table by which its files are numbered; and where the operands of expressions name
+/// entries of the unit, or of the file, as their numbers are counted. Whatever is written has a fixed length. No name is changed.
 pub fn form_laws()
     ensures file { (sources : Sources) (f : Forms Spot) (t : Tells Spot) (units : List (DwUnit Spot)) → f.same ≡ same_spot → f.is_common ≡ false → t.all ≡ all_entry_keys units → NoneTwice (units_keys units)
-        → Each (λ u. CarriedUnit (OfFile sources) (f.origin u.at) u) units → ClosedIn t units → ApartIn t units → SectionsStand false (OfFile sources) f t units → Each (BasesStand f) units
+        → Each (λ u. CarriedUnit (OfFile sources) (f.origin u.at) u) units → ClosedIn t units → ApartIn t units → SectionsStand false (OfFile sources) f t units → Each (BasesStand f) units → Each (OperandsStand t) units
         → Each SoundUnit (fit_units f units) × UnitsSay t (fit_units f units) }
     ensures common { (f : Forms Spot) (t : Tells Spot) (units : List (DwUnit Spot)) → f.same ≡ same_spot → f.is_common ≡ true → t.all ≡ all_entry_keys units → NoneTwice (units_keys units)
-        → Each (λ u. CarriedUnit OfAny (f.origin u.at) u) units → ClosedIn t units → ApartIn t units → SectionsStand true OfAny f t units → Each (BasesStand f) units
+        → Each (λ u. CarriedUnit OfAny (f.origin u.at) u) units → ClosedIn t units → ApartIn t units → SectionsStand true OfAny f t units → Each (BasesStand f) units → Each (OperandsStand t) units
         → Each SoundUnit (fit_units f units) × UnitsSay t (fit_units f units) }
     ensures keys { (f : Forms Spot) (units : List (DwUnit Spot)) → units_keys (fit_units f units) ≡ units_keys units }
 {}

@@ -1,0 +1,21 @@
+-- What a scope has, where a unit that was written is read.
+use Rattle.std.proofs.Common.{◌≡◌, ℕ, map, Some}
+use Rattle.dwz_docs.specs.Lists.{In}
+use Rattle.dwz_meanings.specs.Meanings.{Common, Scope, stmt_list, str_offsets_base}
+use Rattle.dwz_writing.specs.Meant.{Own, Tells}
+use Rattle.dwz_writing.specs.Writing.{Numbering}
+
+-- the scope of a unit that was written, where its keys have these places
+pub record IsScope {K P : Type 0} (n : Numbering K) (g : K → P) (at : ℕ) (t : Tells K) (own : Own K) (s : Scope P) : Type 0 where
+  pub strs : s.around.sources.strs ≡ t.strs
+  pub line_strs : s.around.sources.line_strs ≡ t.line_strs
+  pub offsets : s.around.sources.offsets ≡ t.offsets
+  pub line : s.around.sources.line ≡ t.line
+  pub slots : str_offsets_base s ≡ own.bases.slots
+  pub table : stmt_list s ≡ own.bases.line
+  pub unit : s.unit ≡ at
+  pub own_are : s.own ≡ map n.place own.keys
+  pub all_are : s.around.all ≡ map n.place t.all
+  pub place_own : (k : K) → In k own.keys → s.around.place (n.place k) ≡ g k
+  pub place_all : (k : K) → In k t.all → s.around.place (n.place k) ≡ g k
+  pub common : (k : K) → In k t.common → (c : Common P) × (s.around.common ≡ Some c) × In (n.place k) c.entries × (c.place (n.place k) ≡ g k)

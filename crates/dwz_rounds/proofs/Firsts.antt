@@ -1,15 +1,14 @@
 -- Nodes in the order of their keys: the first of those with one key is the first node with it.
-use Rattle.std.proofs.Common.{◌≡◌, ◌≢◌, ℕ, suc, ◌+◌, ◌-◌, ◌<◌, ◌≤◌, ◌⊎◌, Bool, true, false, All, IsPermutation, List, [], ◌∷◌, length, get_or, set, inl, inr, ⊎_elim, refl, sym, ap, subst, ◌∙◌, arith, get_or-set_other, get_or-set_same}
-use Rattle.std.specs.Prelude.{map, slice_index, slice_index_or}
-use Rattle.std.proofs.Math.ListN.{get_or-map as map-get_or, length-set}
-use Rattle.std.proofs.lemmas.List.{get_or_default, length-map}
+use Rattle.std.proofs.Common.{◌≡◌, ℕ, ◌+◌, ◌<◌, Bool, true, false, All, IsPermutation, List, [], length, get_or, set, inr, ⊎_elim, refl, sym, ap, subst, ◌∙◌, arith, get_or-set_other, get_or-set_same}
+use Rattle.std.specs.Prelude.{slice_index, slice_index_or}
+use Rattle.std.proofs.Math.ListN.{get_or-map as map-get_or}
+use Rattle.std.proofs.lemmas.List.{length-map}
 use Rattle.std.proofs.lemmas.List.Sorted.{All-permutation, Contains-permutation, IsPermutation-map, IsPermutation-sym}
 use mathlib.Core.Logic.{dite}
 use native.Mathlib.Decide.{ℕ_discrete, dec_le}
 use Rattle.dwz_rounds.specs.Keys.{key_at}
 use Rattle.dwz_rounds.specs.declared.order.Keyed.{Keyed}
 use Rattle.dwz_rounds.specs.Order.{nodes_of, keys_of, AreGroups}
-use Rattle.dwz_rounds.specs.Pending.{AreSame}
 use Rattle.dwz_rounds.specs.Settling.{IsFirst, IsPartly, AreByKey, IsPutTo}
 use Rattle.dwz_rounds.specs.Turns.{Among}
 use Rattle.dwz_rounds.proofs.Grouping.{among-from, among-to}

@@ -1,5 +1,5 @@
-use Rattle.std.proofs.Common.{◌≡◌, ◌<◌, ◌+◌, ℕ, List, Bool, length, refl, ap, sym, subst, ◌∙◌, arith}
-use Rattle.std.specs.Prelude.{slice_index, slice_set}
+use Rattle.std.proofs.Common.{◌≡◌, ℕ, List, Bool, length, refl, sym, subst, ◌∙◌, arith}
+use Rattle.std.specs.Prelude.{slice_index}
 use Rattle.std.proofs.Math.ListN.{length-set}
 use Rattle.dwz_rounds.specs.Settling.{IsFirst, IsPutTo}
 use Rattle.dwz_rounds.proofs.Firsts.{put-none, put-more, new-first, old-first}

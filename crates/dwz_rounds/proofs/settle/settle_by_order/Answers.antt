@@ -1,4 +1,4 @@
-use Rattle.std.proofs.Common.{◌≡◌, ◌<◌, ℕ, List, Bool, All, length, refl, ap, sym, subst, arith}
+use Rattle.std.proofs.Common.{◌<◌, ℕ, List, Bool, All, length, sym, subst, arith}
 use Rattle.dwz_rounds.specs.Settling.{AreByKey}
 use Rattle.dwz_rounds.proofs.Passing.{all-below}
 use Rattle.dwz_rounds.proofs.Settling.{partly-inside}

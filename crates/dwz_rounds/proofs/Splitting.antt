@@ -13,7 +13,7 @@ use Rattle.dwz_rounds.proofs.Membership.{range-more}
 use Rattle.dwz_rounds.proofs.Settling.{among-push_old, among-push_new, among-push_cases}
 
 -- a node stands among the first n, or it doesn't
-before-or : (nodes : List ℕ) (a n : ℕ) → ((p : ℕ) × (p < n) × (slice_index nodes p ≡ a)) ⊎ ((p : ℕ) → p < n → ¬ (slice_index nodes p ≡ a))
+pub before-or : (nodes : List ℕ) (a n : ℕ) → ((p : ℕ) × (p < n) × (slice_index nodes p ≡ a)) ⊎ ((p : ℕ) → p < n → ¬ (slice_index nodes p ≡ a))
 before-or nodes a zero = inr (λ p l. absurd (omega arith))
 before-or nodes a (suc n) = dite (ℕ_discrete (slice_index nodes n) a)
     (λ is. inl (n, omega arith, is))

@@ -47,6 +47,30 @@ pub(crate) fn rows_of<'k>(
     Ok(rows)
 }
 
+/// The nodes of the list, each with its own key.
+pub(crate) fn rows_at<'k>(
+    alloc: Global,
+    keys: &'k Keys,
+    nodes: &[u32],
+) -> Result<Vec<Keyed<'k>>, NoMemory>
+    requires { All (λ a. a < length keys.now) nodes.now }
+    ensures nodes { IfOk result (λ rows. nodes_of rows.items ≡ nodes.now) }
+    ensures keys { IfOk result (λ rows. All (λ r. r.key.now ≡ key_at keys.now r.node) rows.items) }
+    ensures hashed { IfOk result (λ rows. All (λ r. r.hash ≡ hash_of r.key.now) rows.items) }
+{
+    let mut rows = Vec::with_capacity(alloc, nodes.len())?;
+    for at in 0..nodes.len() {
+        let node = nodes[at];
+        let key = keys.get(node as usize);
+        rows.push(Keyed {
+            hash: hash(key),
+            key,
+            node,
+        })?;
+    }
+    Ok(rows)
+}
+
 // Whether the key of a row isn't that of the row before it.
 fn is_new(rows: &[Keyed<'_>], at: usize) -> bool
     requires inside { at < length rows.now }

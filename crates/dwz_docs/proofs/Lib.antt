@@ -4,6 +4,7 @@ pub mod TextRowLemmas
 pub mod SupLemmas
 pub mod PlainLemmas
 pub mod PruneLemmas
+pub mod OffsetLemmas
 pub mod ReadLemmas
 pub mod ValueLemmas
 pub mod WrittenLemmas

@@ -56,7 +56,7 @@ pub end_of_text : (section text : List ℕ) (used : ℕ) → text_at section use
 unfolding range_end
 end_of_text section text used is = ap (λ (o : Option (List ℕ)). used + ended_length o) is
 
-some_text : (o : Option (List ℕ)) → IsSome o → (text : List ℕ) × (o ≡ Some text)
+pub some_text : (o : Option (List ℕ)) → IsSome o → (text : List ℕ) × (o ≡ Some text)
 some_text None is = absurd (false≢true is)
 some_text (Some text) is = (text, refl)
 

@@ -3,6 +3,7 @@ pub mod Lists
 pub mod Faults
 pub mod Texts
 pub mod TextRows
+pub mod OffsetTables
 pub mod Pruning
 pub mod Values
 pub mod Abbrevs

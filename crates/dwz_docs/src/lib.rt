@@ -26,7 +26,7 @@ pub use plain_file::plain_file_laws;
 pub use pruning::prune_laws;
 pub use supplementary::{Sup, sup_laws};
 pub use text_rows::text_row_laws;
-pub use texts::{slot_laws, text_laws};
+pub use texts::{offset_table_laws, slot_laws, text_laws};
 pub use trees::tree_laws;
 pub use units::unit_laws;
 pub use values::value_laws;

@@ -1,1 +1,4 @@
 pub mod FirstLemmas
+pub mod PruneSteps
+pub mod MovedLemmas
+pub mod SlotSteps

@@ -1,12 +1,20 @@
-//! Texts and slots in the sections that hold strings (DWARF 5, 7.5.5 and 7.26).
+//! Texts and slots in the sections that hold strings (DWARF 5, 7.5.5 and 7.26), and sections from which what isn't used is
+//! taken out.
 #![tactic(auto)]
 
 ghost use Rattle.std.specs.Prelude.{◌≡◌};
 ghost use Rattle.std.specs.Option.{option_map};
 ghost use Rattle.dwz_docs.specs.Texts;
 
+mod offset_tables;
+mod pruned;
+mod pruning;
+
 use dwz_bytes::Cursor;
 use memchr::memchr;
+pub use offset_tables::slots;
+pub use pruned::Pruned;
+pub use pruning::prune;
 
 #[cfg(test)]
 mod tests;

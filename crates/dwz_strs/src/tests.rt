@@ -1,6 +1,7 @@
 //! Texts and slots of a small section, counted by hand.
 
-use crate::{slot, text_at};
+use crate::{prune, slot, slots, text_at};
+use std::test::Fail;
 
 #[test]
 fn finds_texts(rt: HostRuntime) {
@@ -25,4 +26,52 @@ fn finds_slots(rt: HostRuntime) {
     assert_eq!(rt; slot(&section, 8, 1), None);
     assert_eq!(rt; slot(&section, u64::MAX, u64::MAX), None);
     assert_eq!(rt; slot(&section, 0, u64::MAX / 4 + 1), None);
+}
+
+#[test]
+fn takes_out_what_is_not_used(rt: HostRuntime) -> Result<(), Fail> {
+    let section = b"long int\0char\0short\0";
+    let two = prune(rt.alloc(), section, &[14, 5, 14])?;
+    assert_eq!(rt; two.bytes(), b"int\0short\0".as_slice());
+    assert_eq!(rt; two.moved(5), Some(0));
+    assert_eq!(rt; two.moved(14), Some(4));
+    assert_eq!(rt; two.moved(0), None);
+    assert_eq!(rt; two.moved(6), None);
+    assert_eq!(rt; two.moved(u32::MAX), None);
+    let three = prune(rt.alloc(), section, &[5, 0, 14])?;
+    assert_eq!(rt; three.bytes(), b"long int\0short\0".as_slice());
+    assert_eq!(rt; three.moved(0), Some(0));
+    assert_eq!(rt; three.moved(5), Some(5));
+    assert_eq!(rt; three.moved(14), Some(9));
+    assert_eq!(rt; three.moved(9), None);
+    let none = prune(rt.alloc(), section, &[])?;
+    assert_eq!(rt; none.bytes(), b"".as_slice());
+    assert_eq!(rt; none.moved(0), None);
+    Ok(())
+}
+
+#[test]
+fn finds_the_slots_of_tables(rt: HostRuntime) -> Result<(), Fail> {
+    let rows: [(&[u8], Option<&[u32]>); 9] = [
+        (b"", Some(&[])),
+        (b"\x04\0\0\0\x05\0\0\0", Some(&[])),
+        (
+            b"\x0c\0\0\0\x05\0\0\0aaaabbbb\x04\0\0\0\x05\0\x01\x02\x08\0\0\0\x05\0\0\0cccc",
+            Some(&[8, 12, 32]),
+        ),
+        (b"\x04\0\0\0\x04\0\0\0", None),
+        (b"\x04\0\0\0\x05\0\0", None),
+        (b"\x08\0\0\0\x05\0\0\0aaa", None),
+        (b"\x06\0\0\0\x05\0\0\0aa", None),
+        (b"\0\0\0\0\x05\0\0\0", None),
+        (b"\x04\0\0\0\x05\0\0\0\0", None),
+    ];
+    for (section, places) in rows {
+        if section.len() > 50 {
+            continue;
+        }
+        let found = slots(rt.alloc(), section)?;
+        assert_eq!(rt; found.as_ref().map(|found| found.as_slice()), places);
+    }
+    Ok(())
 }

@@ -1,11 +1,11 @@
 -- An expression with other operands of the same widths in their places is spelled too, and has the same parts.
-use Rattle.std.proofs.Common.{◌≡◌, ℕ, zero, suc, ◌+◌, ◌-◌, ◌<◌, ◌≤◌, Bool, true, false, List, [], ◌∷◌, ◌++◌, length, ◌==◌, if◌then◌else◌, refl, sym, ap, subst, ◌∙◌, arith, append_assoc, eqb, ne_eqb}
+use Rattle.std.proofs.Common.{◌≡◌, ℕ, zero, suc, ◌+◌, ◌-◌, ◌<◌, ◌≤◌, Bool, true, false, List, [], ◌∷◌, ◌++◌, length, map, ◌==◌, if◌then◌else◌, refl, sym, ap, subst, ◌∙◌, arith, append_assoc, eqb, ne_eqb}
 use Rattle.std.proofs.lemmas.List.{append-nil, length-append}
 use Rattle.dwz_model.specs.declared.place.Base.{Base}
 use Rattle.dwz_model.specs.declared.place.Base.TheVariants.{Unit as FromUnit}
 use Rattle.dwz_bytes.specs.Spelling.{IsGroups, SpellsUleb}
 use Rattle.dwz_meanings.specs.declared.exprs.Operand.{Operand}
-use Rattle.dwz_meanings.specs.Exprs.{AnAddress, AreNamed, Counted, Entry4, EntryOrGeneric, EntryUleb, ExprContext, Expression, Field, Found, Holds, Inside, Located, LocatedBy, Names, Run, Signed, Sized, SpellsExpr, SpellsField, SpellsFields, SpellsOp, SpellsPiece, SpellsWithin, Unsigned, an_operand, an_operand_or_generic, expression_of, joined, most_inside, operands_in, parts_from, parts_of}
+use Rattle.dwz_meanings.specs.Exprs.{AnAddress, AreNamed, Counted, Entry4, EntryOrGeneric, EntryUleb, ExprContext, Expression, Field, Found, Holds, Inside, Located, LocatedBy, Names, Run, Signed, Sized, SpellsExpr, SpellsField, SpellsFields, SpellsOp, SpellsPiece, SpellsWithin, Unsigned, an_operand, an_operand_or_generic, expression_of, expressions_in, joined, most_inside, operands_in, parts_from, parts_of}
 use Rattle.dwz_meanings.specs.Sequences.{Spelling, SpellsAll}
 use Rattle.dwz_bytes.proofs.FixedLemmas.{fixed_written}
 use Rattle.dwz_bytes.proofs.PaddedLemmas.{padded_len, padded_spells}
@@ -22,22 +22,54 @@ operands_append (Names o ∷ xs) ys = ap (λ (w : List Operand). o ∷ w) (opera
 operands_append (AnAddress ∷ xs) ys = operands_append xs ys
 operands_append (Holds e ∷ xs) ys = ap (λ (w : List Operand). e.operands ++ w) (operands_append xs ys) ∙ sym (append_assoc e.operands (operands_in xs) (operands_in ys))
 
+-- the parts of the expressions that founds hold
+inner_parts : List Found → List (List Part)
+inner_parts founds = map parts_of (expressions_in founds)
+
+inner_append : (xs ys : List Found) → inner_parts (xs ++ ys) ≡ inner_parts xs ++ inner_parts ys
+unfolding inner_parts expressions_in
+inner_append [] ys = refl
+inner_append (Names o ∷ xs) ys = inner_append xs ys
+inner_append (AnAddress ∷ xs) ys = inner_append xs ys
+inner_append (Holds e ∷ xs) ys = ap (λ (w : List (List Part)). parts_of e ∷ w) (inner_append xs ys)
+
+inner_none : inner_parts [] ≡ []
+unfolding inner_parts expressions_in
+inner_none = refl
+
+inner_address : inner_parts (AnAddress ∷ []) ≡ []
+unfolding inner_parts expressions_in
+inner_address = refl
+
+inner_one : (e : Expression) → inner_parts (Holds e ∷ []) ≡ parts_of e ∷ []
+unfolding inner_parts expressions_in
+inner_one e = refl
+
+inner_operand : (uleb : Bool) (base : Base) (place width number : ℕ) → inner_parts (an_operand uleb base place width number) ≡ []
+unfolding inner_parts expressions_in
+inner_operand uleb base place width number = refl
+
 named_split : (names : Operand → Bool) (xs ys : List Operand) → AreNamed names (xs ++ ys) → AreNamed names xs × AreNamed names ys
 named_split names [] ys h = (tt, h)
 named_split names (x ∷ xs) ys h = (let r = named_split names xs ys h.1 in ((h.0, r.0), r.1))
 
+-- the parts of an expression are those of its bytes
+parts_are : (e : Expression) (start : ℕ) (bytes : List ℕ) (c : Cut) → e.at ≡ start → e.bytes ≡ bytes → bytes ≡ cut_bytes c → e.operands ≡ cut_operands start c → parts_of e ≡ cut_parts c
+parts_are e start bytes c at same cut operands =
+    ap (λ (p : ℕ). parts_from p e.bytes e.operands) at ∙ ap (λ (w : List ℕ). parts_from start w e.operands) (same ∙ cut) ∙ ap (λ (w : List Operand). parts_from start (cut_bytes c) w) operands ∙ parts_cut start c
+
 -- ---- what is cut
 
--- with other operands the bytes spell founds with these, where they name entries
-abbrev SpellsOther : (Operand → Bool) → Spelling (List Found) → Cut → ℕ → Type 0
-SpellsOther names Spells new place = (others : List Found) × Spells others place (cut_bytes new) × (operands_in others ≡ cut_operands place new)
+-- with other operands the bytes spell founds with these, where they name entries, and expressions with the same parts
+abbrev SpellsOther : (Operand → Bool) → Spelling (List Found) → List Found → Cut → ℕ → Type 0
+SpellsOther names Spells founds new place = (others : List Found) × Spells others place (cut_bytes new) × (operands_in others ≡ cut_operands place new) × (inner_parts others ≡ inner_parts founds)
 
 record CutAs (names : Operand → Bool) (Spells : Spelling (List Found)) (founds : List Found) (start : ℕ) (bytes : List ℕ) : Type 0 where
   cut : Cut
   sized : Narrow cut
   bytes_are : bytes ≡ cut_bytes cut
   operands_are : operands_in founds ≡ cut_operands start cut
-  again : (new : Cut) → Replaced cut new → (place : ℕ) → AreNamed names (cut_operands place new) → SpellsOther names Spells new place
+  again : (new : Cut) → Replaced cut new → (place : ℕ) → AreNamed names (cut_operands place new) → SpellsOther names Spells founds new place
 
 -- the same of an expression
 record CutExpr (names : Operand → Bool) (IsExpr : Spelling Expression) (e : Expression) (start : ℕ) (bytes : List ℕ) : Type 0 where
@@ -45,11 +77,11 @@ record CutExpr (names : Operand → Bool) (IsExpr : Spelling Expression) (e : Ex
   sized : Narrow cut
   bytes_are : bytes ≡ cut_bytes cut
   operands_are : e.operands ≡ cut_operands start cut
-  again : (new : Cut) → Replaced cut new → (place : ℕ) → AreNamed names (cut_operands place new) → (f : Expression) × IsExpr f place (cut_bytes new) × (f.operands ≡ cut_operands place new)
+  again : (new : Cut) → Replaced cut new → (place : ℕ) → AreNamed names (cut_operands place new) → (f : Expression) × IsExpr f place (cut_bytes new) × (f.operands ≡ cut_operands place new) × (parts_of f ≡ parts_of e)
 
 -- bytes without an operand
 plain : (names : Operand → Bool) (Spells : Spelling (List Found)) (founds : List Found) (start : ℕ) (bytes : List ℕ) → operands_in founds ≡ []
-    → ((place : ℕ) → (others : List Found) × Spells others place bytes × (operands_in others ≡ [])) → CutAs names Spells founds start bytes
+    → ((place : ℕ) → (others : List Found) × Spells others place bytes × (operands_in others ≡ []) × (inner_parts others ≡ inner_parts founds)) → CutAs names Spells founds start bytes
 plain names Spells founds start bytes none each = record {
   cut = Tail bytes;
   sized = tt;
@@ -58,8 +90,8 @@ plain names Spells founds start bytes none each = record {
   again = again;
 }
   where
-    again : (new : Cut) → Replaced (Tail bytes) new → (place : ℕ) → AreNamed names (cut_operands place new) → SpellsOther names Spells new place
-    again (Tail u) h place named = (let o = each place in (o.0, subst (λ (w : List ℕ). Spells o.0 place w) h o.1, o.2))
+    again : (new : Cut) → Replaced (Tail bytes) new → (place : ℕ) → AreNamed names (cut_operands place new) → SpellsOther names Spells founds new place
+    again (Tail u) h place named = (let o = each place in (o.0, subst (λ (w : List ℕ). Spells o.0 place w) h o.1, o.2, o.3))
     again (Gap g s c) h place named = absurd h
 
 -- a ULEB128 number has from 1 to 10 bytes
@@ -70,7 +102,7 @@ groups_some (b ∷ bytes) h = omega arith
 -- one operand
 alone : (names : Operand → Bool) (Spells : Spelling (List Found)) (uleb : Bool) (base : Base) (number start : ℕ) (bytes : List ℕ) (founds : List Found)
     → 0 < length bytes → length bytes ≤ 10 → operands_in founds ≡ record { at = start; width = length bytes; uleb = uleb; base = base; number = number } ∷ []
-    → ((u : Slot) → Replaces (record { uleb = uleb; base = base; number = number; bytes = bytes }) u → (place : ℕ) → (others : List Found) × Spells others place u.bytes × (operands_in others ≡ operand_at place u ∷ [])) → CutAs names Spells founds start bytes
+    → ((u : Slot) → Replaces (record { uleb = uleb; base = base; number = number; bytes = bytes }) u → (place : ℕ) → (others : List Found) × Spells others place u.bytes × (operands_in others ≡ operand_at place u ∷ []) × (inner_parts others ≡ inner_parts founds)) → CutAs names Spells founds start bytes
 alone names Spells uleb base number start bytes founds some most is each = record {
   cut = Gap [] (record { uleb = uleb; base = base; number = number; bytes = bytes }) (Tail []);
   sized = (some, most, tt);
@@ -79,14 +111,14 @@ alone names Spells uleb base number start bytes founds some most is each = recor
   again = again;
 }
   where
-    again : (new : Cut) → Replaced (Gap [] (record { uleb = uleb; base = base; number = number; bytes = bytes }) (Tail [])) new → (place : ℕ) → AreNamed names (cut_operands place new) → SpellsOther names Spells new place
+    again : (new : Cut) → Replaced (Gap [] (record { uleb = uleb; base = base; number = number; bytes = bytes }) (Tail [])) new → (place : ℕ) → AreNamed names (cut_operands place new) → SpellsOther names Spells founds new place
     again (Tail u) h place named = absurd h
     again (Gap g u (Gap k v d)) h place named = absurd h.2
     again (Gap g u (Tail v)) h place named =
         let o = each u h.1 place in
         let same : g ++ (u.bytes ++ v) ≡ u.bytes = ap (λ (w : List ℕ). w ++ (u.bytes ++ v)) (sym h.0) ∙ ap (λ (w : List ℕ). u.bytes ++ w) (sym h.2) ∙ append-nil u.bytes in
         let at : place ≡ place + length g = omega (arith, ap length h.0) in
-        (o.0, subst (λ (w : List ℕ). Spells o.0 place w) (sym same) o.1, o.2 ∙ ap (λ (p : ℕ). operand_at p u ∷ []) at)
+        (o.0, subst (λ (w : List ℕ). Spells o.0 place w) (sym same) o.1, o.2 ∙ ap (λ (p : ℕ). operand_at p u ∷ []) at, o.3)
 
 -- ---- one behind the other, and bytes before
 
@@ -102,7 +134,7 @@ join_cut names A B C join xs ys start front back one more = record {
   again = again;
 }
   where
-    again : (new : Cut) → Replaced (behind one.cut more.cut) new → (place : ℕ) → AreNamed names (cut_operands place new) → SpellsOther names C new place
+    again : (new : Cut) → Replaced (behind one.cut more.cut) new → (place : ℕ) → AreNamed names (cut_operands place new) → SpellsOther names C (xs ++ ys) new place
     again new h place named =
         let o = behind_replaced one.cut more.cut new h in
         let operands : cut_operands place new ≡ cut_operands place o.first ++ cut_operands (place + length (cut_bytes o.first)) o.second = ap (cut_operands place) o.is ∙ operands_behind place o.first o.second in
@@ -113,6 +145,7 @@ join_cut names A B C join xs ys start front back one more = record {
           a.0 ++ b.0,
           subst (λ (w : List ℕ). C (a.0 ++ b.0) place w) (sym bytes) (join a.0 b.0 place (cut_bytes o.first) (cut_bytes o.second) a.1 b.1),
           operands_append a.0 b.0 ∙ ap (λ (w : List Operand). w ++ operands_in b.0) a.2 ∙ ap (λ (w : List Operand). cut_operands place o.first ++ w) b.2 ∙ sym operands,
+          inner_append a.0 b.0 ∙ ap (λ (w : List (List Part)). w ++ inner_parts b.0) a.3 ∙ ap (λ (w : List (List Part)). inner_parts xs ++ w) b.3 ∙ sym (inner_append xs ys),
         )
 
 prefix_cut : (names : Operand → Bool) (A C : Spelling (List Found)) (front bytes : List ℕ)
@@ -126,7 +159,7 @@ prefix_cut names A C front bytes join xs start one = record {
   again = again;
 }
   where
-    again : (new : Cut) → Replaced (prepend front one.cut) new → (place : ℕ) → AreNamed names (cut_operands place new) → SpellsOther names C new place
+    again : (new : Cut) → Replaced (prepend front one.cut) new → (place : ℕ) → AreNamed names (cut_operands place new) → SpellsOther names C xs new place
     again new h place named =
         let o = prepend_replaced front one.cut new h in
         let operands : cut_operands place new ≡ cut_operands (place + length front) o.rest = ap (cut_operands place) o.is ∙ operands_prepend place front o.rest in
@@ -137,6 +170,7 @@ prefix_cut names A C front bytes join xs start one = record {
           a.0,
           subst (λ (w : List ℕ). C a.0 place w) (sym whole) (join a.0 place (cut_bytes o.rest) size (subst (AreNamed names) (sym a.2) here) a.1),
           a.2 ∙ sym operands,
+          a.3,
         )
 
 -- the same of equal founds and bytes
@@ -146,10 +180,10 @@ same_cut names C xs ys start a b p q is = subst (λ (w : List Found). CutAs name
 -- ---- fields
 
 module _ (names : Operand → Bool) (IsExpr IsAgain : Spelling Expression) (inside : (e : Expression) (start : ℕ) (bytes : List ℕ) → IsExpr e start bytes → CutExpr names IsAgain e start bytes) where
-  piece_cut : {X : Type 0} (Spells : List ℕ → X → Type 0) (seen : ℕ → ℕ → X → List Found) → ((place width : ℕ) (x : X) → operands_in (seen place width x) ≡ [])
+  piece_cut : {X : Type 0} (Spells : List ℕ → X → Type 0) (seen : ℕ → ℕ → X → List Found) → ((place width : ℕ) (x : X) → operands_in (seen place width x) ≡ []) → ((place width : ℕ) (x : X) → inner_parts (seen place width x) ≡ [])
       → (founds : List Found) (start : ℕ) (bytes : List ℕ) → SpellsPiece Spells seen founds start bytes → CutAs names (SpellsPiece Spells seen) founds start bytes
-  piece_cut Spells seen none founds start bytes s = plain names (SpellsPiece Spells seen) founds start bytes (ap operands_in s.found ∙ none start (length bytes) s.value)
-      (λ place. (seen place (length bytes) s.value, record { value = s.value; spelled = s.spelled; found = refl }, none place (length bytes) s.value))
+  piece_cut Spells seen none no_inner founds start bytes s = plain names (SpellsPiece Spells seen) founds start bytes (ap operands_in s.found ∙ none start (length bytes) s.value)
+      (λ place. (seen place (length bytes) s.value, record { value = s.value; spelled = s.spelled; found = refl }, none place (length bytes) s.value, no_inner place (length bytes) s.value ∙ sym (ap inner_parts s.found ∙ no_inner start (length bytes) s.value)))
 
   one_operand : (uleb : Bool) (base : Base) (u : Slot) (place : ℕ) → u.uleb ≡ uleb → u.base ≡ base → operands_in (an_operand uleb base place (length u.bytes) u.number) ≡ operand_at place u ∷ []
   unfolding operands_in
@@ -172,12 +206,18 @@ module _ (names : Operand → Bool) (IsExpr IsAgain : Spelling Expression) (insi
   unfolding operands_in
   holds_one e = append-nil e.operands
 
+  generic_inner : (place width number : ℕ) → inner_parts (an_operand_or_generic place width number) ≡ []
+  generic_inner place width number = by (number == 0) where
+    by : (b : Bool) → inner_parts (if b then [] else an_operand true FromUnit place width number) ≡ []
+    by true = inner_none
+    by false = inner_operand true FromUnit place width number
+
   -- some operand, or the generic type
   generic_cut : (founds : List Found) (start : ℕ) (bytes : List ℕ) (s : SpellsPiece SpellsUleb an_operand_or_generic founds start bytes) (b : Bool) → (s.value == 0) ≡ b → CutAs names (SpellsPiece SpellsUleb an_operand_or_generic) founds start bytes
   generic_cut founds start bytes s true e =
       let none : (place : ℕ) → operands_in (an_operand_or_generic place (length bytes) s.value) ≡ [] = λ place.
       ap (λ (b : Bool). operands_in (if b then [] else an_operand true FromUnit place (length bytes) s.value)) e ∙ none_in in
-      plain names _ founds start bytes (ap operands_in s.found ∙ none start) (λ place. (an_operand_or_generic place (length bytes) s.value, record { value = s.value; spelled = s.spelled; found = refl }, none place))
+      plain names _ founds start bytes (ap operands_in s.found ∙ none start) (λ place. (an_operand_or_generic place (length bytes) s.value, record { value = s.value; spelled = s.spelled; found = refl }, none place, generic_inner place (length bytes) s.value ∙ sym (ap inner_parts s.found ∙ generic_inner start (length bytes) s.value)))
   generic_cut founds start bytes s false e =
       alone names _ true FromUnit s.value start bytes founds (groups_some bytes s.spelled.groups) s.spelled.len
       (ap operands_in s.found ∙ ap (λ (b : Bool). operands_in (if b then [] else an_operand true FromUnit start (length bytes) s.value)) e ∙ operands_of_one true FromUnit start (length bytes) s.value)
@@ -186,22 +226,23 @@ module _ (names : Operand → Bool) (IsExpr IsAgain : Spelling Expression) (insi
         record { value = u.number; spelled = r.spelled; found = refl },
         (let some : eqb u.number 0 ≡ false = ne_eqb u.number 0 (λ z. (let more = r.some in omega (arith, more, z))) in
             ap (λ (b : Bool). operands_in (if b then [] else an_operand true FromUnit place (length u.bytes) u.number)) some ∙ one_operand true FromUnit u place r.uleb r.base),
+        generic_inner place (length u.bytes) u.number ∙ sym (ap inner_parts s.found ∙ generic_inner start (length bytes) s.value),
       ))
 
   field_cut : (field : Field) (founds : List Found) (start : ℕ) (bytes : List ℕ) → SpellsField IsExpr field founds start bytes → CutAs names (SpellsField IsAgain field) founds start bytes
-  field_cut (Run n) founds start bytes s = piece_cut _ _ (λ i w x. none_in) founds start bytes s
-  field_cut Unsigned founds start bytes s = piece_cut _ _ (λ i w x. none_in) founds start bytes s
-  field_cut Signed founds start bytes s = piece_cut _ _ (λ i w x. none_in) founds start bytes s
-  field_cut Sized founds start bytes s = piece_cut _ _ (λ i w x. none_in) founds start bytes s
-  field_cut Counted founds start bytes s = piece_cut _ _ (λ i w x. none_in) founds start bytes s
-  field_cut Located founds start bytes s = piece_cut _ _ (λ i w x. address_none) founds start bytes s
-  field_cut LocatedBy founds start bytes s = piece_cut _ _ (λ i w x. address_none) founds start bytes s
+  field_cut (Run n) founds start bytes s = piece_cut _ _ (λ i w x. none_in) (λ i w x. inner_none) founds start bytes s
+  field_cut Unsigned founds start bytes s = piece_cut _ _ (λ i w x. none_in) (λ i w x. inner_none) founds start bytes s
+  field_cut Signed founds start bytes s = piece_cut _ _ (λ i w x. none_in) (λ i w x. inner_none) founds start bytes s
+  field_cut Sized founds start bytes s = piece_cut _ _ (λ i w x. none_in) (λ i w x. inner_none) founds start bytes s
+  field_cut Counted founds start bytes s = piece_cut _ _ (λ i w x. none_in) (λ i w x. inner_none) founds start bytes s
+  field_cut Located founds start bytes s = piece_cut _ _ (λ i w x. address_none) (λ i w x. inner_address) founds start bytes s
+  field_cut LocatedBy founds start bytes s = piece_cut _ _ (λ i w x. address_none) (λ i w x. inner_address) founds start bytes s
   field_cut (Entry4 base) founds start bytes s =
       alone names _ false base s.value start bytes founds (let four = s.spelled.len in omega (arith, four)) (let four = s.spelled.len in omega (arith, four)) (ap operands_in s.found ∙ operands_of_one false base start (length bytes) s.value)
-      (λ u r place. (an_operand false base place (length u.bytes) u.number, record { value = u.number; spelled = record { len = r.width ∙ s.spelled.len; value = r.spelled }; found = refl }, one_operand false base u place r.uleb r.base))
+      (λ u r place. (an_operand false base place (length u.bytes) u.number, record { value = u.number; spelled = record { len = r.width ∙ s.spelled.len; value = r.spelled }; found = refl }, one_operand false base u place r.uleb r.base, inner_operand false base place (length u.bytes) u.number ∙ sym (ap inner_parts s.found ∙ inner_operand false base start (length bytes) s.value)))
   field_cut EntryUleb founds start bytes s =
       alone names _ true FromUnit s.value start bytes founds (groups_some bytes s.spelled.groups) s.spelled.len (ap operands_in s.found ∙ operands_of_one true FromUnit start (length bytes) s.value)
-      (λ u r place. (an_operand true FromUnit place (length u.bytes) u.number, record { value = u.number; spelled = r.spelled; found = refl }, one_operand true FromUnit u place r.uleb r.base))
+      (λ u r place. (an_operand true FromUnit place (length u.bytes) u.number, record { value = u.number; spelled = r.spelled; found = refl }, one_operand true FromUnit u place r.uleb r.base, inner_operand true FromUnit place (length u.bytes) u.number ∙ sym (ap inner_parts s.found ∙ inner_operand true FromUnit start (length bytes) s.value)))
   field_cut EntryOrGeneric founds start bytes s = generic_cut founds start bytes s (s.value == 0) refl
   field_cut Inside founds start bytes s =
       same_cut names _ founds (Holds s.expression ∷ []) start bytes (s.front ++ s.content) s.found s.parts
@@ -218,11 +259,11 @@ module _ (names : Operand → Bool) (IsExpr IsAgain : Spelling Expression) (insi
           sized = c.sized;
           bytes_are = c.bytes_are;
           operands_are = holds_one e ∙ c.operands_are;
-          again = λ new h place named. (let o = c.again new h place named in (Holds o.0 ∷ [], (o.0, o.1, refl), holds_one o.0 ∙ o.2));
+          again = λ new h place named. (let o = c.again new h place named in (Holds o.0 ∷ [], (o.0, o.1, refl), holds_one o.0 ∙ o.2, inner_one o.0 ∙ ap (λ (w : List Part). w ∷ []) o.3 ∙ sym (inner_one e)));
         }
 
   fields_cut : (fields : List Field) (founds : List Found) (start : ℕ) (bytes : List ℕ) → SpellsFields IsExpr fields founds start bytes → CutAs names (SpellsFields IsAgain fields) founds start bytes
-  fields_cut [] founds start bytes s = plain names _ founds start bytes (ap operands_in s.0 ∙ none_in) (λ place. ([], (refl, s.1), none_in))
+  fields_cut [] founds start bytes s = plain names _ founds start bytes (ap operands_in s.0 ∙ none_in) (λ place. ([], (refl, s.1), none_in, ap inner_parts (sym s.0)))
   fields_cut (field ∷ fields) founds start bytes s =
       let b = s.both in
       same_cut names _ founds (s.x ++ s.y) start bytes (b.first_bytes ++ b.second_bytes) s.made b.parts
@@ -258,7 +299,7 @@ module _ (c d : ExprContext) (IsExpr IsAgain : Spelling Expression) (inside : (e
 
   ops_cut : (ops : List (List Found)) (start : ℕ) (bytes : List ℕ) → SpellsAll (SpellsOp c IsExpr) ops start bytes → CutAs d.names Ops (joined ops) start bytes
   unfolding Ops
-  ops_cut [] start bytes s = plain d.names Ops (joined []) start bytes (ap operands_in none_joined ∙ no_operands) (λ place. ([], ([], s, sym none_joined), no_operands))
+  ops_cut [] start bytes s = plain d.names Ops (joined []) start bytes (ap operands_in none_joined ∙ no_operands) (λ place. ([], ([], s, sym none_joined), no_operands, ap inner_parts (sym none_joined)))
   ops_cut (founds ∷ ops) start bytes s =
       same_cut d.names Ops (joined (founds ∷ ops)) (founds ++ joined ops) start bytes (s.first_bytes ++ s.second_bytes) (more_joined founds ops) s.parts
       (join_cut d.names (SpellsOp d IsAgain) Ops Ops
@@ -275,11 +316,14 @@ made_cut c d k inside e start bytes s =
       sized = is.sized;
       bytes_are = is.bytes_are;
       operands_are = ap (λ (x : Expression). x.operands) s.made ∙ is.operands_are;
-      again = λ new h place named. (
-          let o = is.again new h place named in (
+      again = λ new replaced place named. (
+          let o = is.again new replaced place named in (
             expression_of place (cut_bytes new) o.1.0,
             record { ops = o.1.0; spelled = o.1.1; made = refl },
             ap operands_in (sym o.1.2) ∙ o.2,
+            parts_are (expression_of place (cut_bytes new) o.1.0) place (cut_bytes new) new refl refl refl (ap operands_in (sym o.1.2) ∙ o.2)
+            ∙ replaced_parts is.cut new replaced
+            ∙ sym (parts_are e start bytes is.cut (ap (λ (x : Expression). x.at) s.made) (ap (λ (x : Expression). x.bytes) s.made) is.bytes_are (ap (λ (x : Expression). x.operands) s.made ∙ is.operands_are)),
           ));
     }
 
@@ -330,11 +374,6 @@ module _ {K : Type 0} (n : Numbering K) (unit : ℕ) where
   renumbered_are (Gap g s c) [] place fits = absurd fits
   renumbered_are (Gap g s c) (k ∷ refs) place fits = (refl, refl, renumbered_are c refs _ fits.1)
 
--- the parts of an expression are those of its bytes
-parts_are : (e : Expression) (start : ℕ) (bytes : List ℕ) (c : Cut) → e.at ≡ start → e.bytes ≡ bytes → bytes ≡ cut_bytes c → e.operands ≡ cut_operands start c → parts_of e ≡ cut_parts c
-parts_are e start bytes c at same cut operands =
-    ap (λ (p : ℕ). parts_from p e.bytes e.operands) at ∙ ap (λ (w : List ℕ). parts_from start w e.operands) (same ∙ cut) ∙ ap (λ (w : List Operand). parts_from start (cut_bytes c) w) operands ∙ parts_cut start c
-
 pub patched : {K : Type 0} (c d : ExprContext) (n : Numbering K) (unit start place : ℕ) (e : Expression) (bytes : List ℕ) (refs : List K) → SpellsExpr c e start bytes
     → OperandsFit n unit (parts_of e) refs → OperandsName d n unit (parts_of e) refs → IsPatched d n unit place e refs
 patched c d n unit start place e bytes refs spelled fits names =
@@ -351,7 +390,7 @@ patched c d n unit start place e bytes refs spelled fits names =
     record {
       expression = f.0;
       spelled = subst (λ (w : List ℕ). SpellsExpr d f.0 place w) written f.1;
-      parts = parts_are f.0 place (cut_bytes new) new (ap (λ (x : Expression). x.at) f.1.made) (ap (λ (x : Expression). x.bytes) f.1.made) refl f.2 ∙ replaced_parts o.cut new replaced ∙ sym parts;
+      parts = f.3;
       operands = subst (λ (w : List Part). OperandsAre n unit w refs f.0.operands) (sym parts) (subst (OperandsAre n unit (cut_parts o.cut) refs) (sym f.2) (renumbered_are n unit o.cut refs place fits'));
       size = ap length (sym written) ∙ replaced_size o.cut new replaced ∙ ap length (sym (whole ∙ o.bytes_are));
     }

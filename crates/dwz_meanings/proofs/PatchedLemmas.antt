@@ -107,9 +107,9 @@ module _ {P : Type 0} (d : Scope P) (section from to : ℕ) where
         refs_are = (λ i. sym h.2 i ∷ rest.refs_are i);
       }
 
-pub patched_value : {P : Type 0} (s d : Scope P) (a b : RawAttr) (v : Value P) (parts : List Part) (numbers : List ℕ) (refs : List P) → IsExpression s a v → v.plain ≡ Expr parts → LeadTo d parts numbers refs → bytes_of b.raw ≡ filled parts numbers
+pub patched_value : {P Q : Type 0} (s : Scope P) (d : Scope Q) (a b : RawAttr) (v : Value P) (parts : List Part) (numbers : List ℕ) (refs : List Q) → IsExpression s a v → v.plain ≡ Expr parts → LeadTo d parts numbers refs → bytes_of b.raw ≡ filled parts numbers
     → IsExpression d b (record { plain = Expr parts; refs = refs })
-patched_value {P} s d a b v parts numbers refs is plain lead bytes =
+patched_value {P} {Q} s d a b v parts numbers refs is plain lead bytes =
     let e = is.expression in
     let at = content_at b in
     let same : Expr parts ≡ Expr (parts_of e) = sym plain ∙ ap (λ (w : Value P). w.plain) is.value in

@@ -24,6 +24,7 @@ pub mod ListKindLemmas
 pub mod PatchedListLemmas
 pub mod NamedAgain
 pub mod WriteOver
+pub mod EndLemmas
 mod ExprRows
 mod MeaningRows
 mod FileRows

@@ -14,7 +14,7 @@ use Rattle.dwz_meanings.specs.Sequences.{StandsFrom}
 use Rattle.dwz_meanings.specs.Shared.{Clashes, IsInSlot, IsShared, ListOperand, NamedList, NoneShared, ReadsInside, of_unit, operands_in_lists, own_operands}
 use Rattle.dwz_meanings.proofs.PatchedListLemmas.{list_operands, list_parts, list_stands, slot_stays}
 
-module _ {P : Type 0} (lists : List NamedList) (number : ℕ → ℕ) (s d : Scope P) (a b : RawAttr) (l : NamedList) (none : NoneShared lists) (there : In l lists)
+module _ {P Q : Type 0} (lists : List NamedList) (number : ℕ → ℕ) (s : Scope P) (d : Scope Q) (a b : RawAttr) (l : NamedList) (none : NoneShared lists) (there : In l lists)
     (patched : IsPatched lists number s.around.sources.lists d.around.sources.lists) (can : CanHave (expr_context d 7) number l) (alike : NamesAlike s d a b) where
   abbrev again : NamedList
   again = named_with (λ unit. d.unit) number l

@@ -8,7 +8,7 @@ use Rattle.dwz_meanings.specs.Documents.{Expr, Part, Value}
 use Rattle.dwz_meanings.specs.Exprs.{AreNamed, ExprContext, Expression, SpellsExpr, most_inside, parts_from, parts_of}
 use Rattle.dwz_meanings.specs.Meanings.{IsExpression, Scope, bytes_of, content_at, expr_context, targets}
 use Rattle.dwz_meanings.specs.PatchedLists.{number_at, with_number}
-use Rattle.dwz_meanings.specs.Patching.{AllFit, CanPatch, LeadTo, filled, moved, patched_expr, renumbered}
+use Rattle.dwz_meanings.specs.Patching.{AllFit, AreParts, CanPatch, LeadTo, filled, moved, patched_expr, renumbered}
 use Rattle.dwz_meanings.proofs.CutLemmas.{filled_cut, patch}
 use Rattle.dwz_meanings.proofs.FilledLemmas.{again_len, moved_expr, within_moves}
 use Rattle.dwz_meanings.proofs.RenumberLemmas.{all_good, moved_numbers, numbered, own_numbers, parts_moved, shift, shift_along, shift_start}
@@ -107,21 +107,25 @@ module _ {P : Type 0} (d : Scope P) (section from to : ℕ) where
         refs_are = (λ i. sym h.2 i ∷ rest.refs_are i);
       }
 
-pub patched_value : {P : Type 0} (s d : Scope P) (a b : RawAttr) (v : Value P) (parts : List Part) (numbers : List ℕ) (refs : List P) → IsExpression s a v → v.plain ≡ Expr parts → LeadTo d parts numbers refs → bytes_of b.raw ≡ filled parts numbers
+pub patched_value : {P : Type 0} (d : Scope P) (b : RawAttr) (parts : List Part) (numbers : List ℕ) (refs : List P) → AreParts parts → LeadTo d parts numbers refs → bytes_of b.raw ≡ filled parts numbers
     → IsExpression d b (record { plain = Expr parts; refs = refs })
-patched_value {P} s d a b v parts numbers refs is plain lead bytes =
+patched_value d b parts numbers refs is lead bytes =
     let e = is.expression in
     let at = content_at b in
-    let same : Expr parts ≡ Expr (parts_of e) = sym plain ∙ ap (λ (w : Value P). w.plain) is.value in
-    let own : parts ≡ parts_of e = cc in
-    let leads = all_lead d 1 e.at at e.at e.bytes e.operands numbers refs (subst (λ (w : List Part). LeadTo d w numbers refs) own lead) in
+    let leads = all_lead d 1 e.at at e.at e.bytes e.operands numbers refs (subst (λ (w : List Part). LeadTo d w numbers refs) is.are lead) in
     let can : CanPatch (expr_context d 1) at e numbers = record { as_many = leads.as_many; fit = leads.fit; named = leads.named } in
-    let spelled = patched_spelled (expr_context s 1) (expr_context d 1) e (content_at a) at (bytes_of a.raw) numbers is.spelled can in
-    let same_parts = patched_parts (expr_context s 1) e (content_at a) at (bytes_of a.raw) numbers is.spelled leads.as_many in
-    let written : filled (parts_of e) numbers ≡ bytes_of b.raw = ap (λ (w : List Part). filled w numbers) (sym own) ∙ sym bytes in
-    let shown : parts ≡ parts_of (patched_expr at e numbers) = own ∙ sym same_parts in
+    let spelled = patched_spelled is.context (expr_context d 1) e is.start at is.bytes numbers is.spelled can in
+    let same_parts = patched_parts is.context e is.start at is.bytes numbers is.spelled leads.as_many in
+    let written : filled (parts_of e) numbers ≡ bytes_of b.raw = ap (λ (w : List Part). filled w numbers) (sym is.are) ∙ sym bytes in
+    let shown : parts ≡ parts_of (patched_expr at e numbers) = is.are ∙ sym same_parts in
     record {
       expression = patched_expr at e numbers;
       spelled = subst (λ (w : List ℕ). SpellsExpr (expr_context d 1) (patched_expr at e numbers) at w) written spelled;
       value = λ i. record { plain = Expr (shown i); refs = sym leads.refs_are i };
     }
+
+-- the parts of a value are those of an expression
+pub given_parts : {P : Type 0} (s : Scope P) (a : RawAttr) (v : Value P) (parts : List Part) → IsExpression s a v → v.plain ≡ Expr parts → AreParts parts
+given_parts {P} s a v parts is plain =
+    let same : Expr parts ≡ Expr (parts_of is.expression) = sym plain ∙ ap (λ (w : Value P). w.plain) is.value in
+    record { context = expr_context s 1; expression = is.expression; start = content_at a; bytes = bytes_of a.raw; spelled = is.spelled; are = cc }

@@ -80,7 +80,7 @@ stood section before front after place len parts =
     let count : place + length front - place ≡ length front = omega arith in
     ap (λ (n : ℕ). take n (drop place section)) count ∙ ap (take (length front)) behind ∙ take-append_seam front after
 
-stood_within : (section before front after : List ℕ) (place : ℕ) → length before ≡ place → section ≡ before ++ (front ++ after) → place + length front ≤ length section
+pub stood_within : (section before front after : List ℕ) (place : ℕ) → length before ≡ place → section ≡ before ++ (front ++ after) → place + length front ≤ length section
 stood_within section before front after place len parts = omega (arith, len, ap length parts, length-append before (front ++ after), length-append front after)
 
 module _ (lists : List NamedList) (number : ℕ → ℕ) (section new : List ℕ) (none : NoneShared lists) (patched : IsPatched lists number section new) where

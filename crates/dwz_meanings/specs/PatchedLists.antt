@@ -60,7 +60,7 @@ EndWithin end (o ∷ operands) = (o.operand.at + o.operand.width ≤ end) × End
 -- ---- units that name them
 
 -- an attribute of another unit that names the list of the same place or index
-pub record NamesAlike {P : Type 0} (s d : Scope P) (a b : RawAttr) : Type 0 where
+pub record NamesAlike {P Q : Type 0} (s : Scope P) (d : Scope Q) (a b : RawAttr) : Type 0 where
   pub form : b.pair.form ≡ a.pair.form
   pub name : b.pair.name ≡ a.pair.name
   pub offset : offset_of b ≡ offset_of a

@@ -6,7 +6,7 @@ use Rattle.dwz_meanings.specs.declared.exprs.Operand.{Operand}
 use Rattle.dwz_meanings.specs.Documents.{Part, Same}
 use Rattle.dwz_meanings.specs.Documents as document
 use Rattle.dwz_docs.specs.Lists.{has}
-use Rattle.dwz_meanings.specs.Exprs.{AreNamed, ExprContext, Expression, parts_of}
+use Rattle.dwz_meanings.specs.Exprs.{AreNamed, ExprContext, Expression, SpellsExpr, parts_of}
 use Rattle.dwz_meanings.specs.Meanings.{Scope, entries_for, leads_to}
 use Rattle.dwz_meanings.specs.Ranges.{RangeSet}
 
@@ -54,6 +54,15 @@ pub record CanPatch (c : ExprContext) (at : ℕ) (e : Expression) (numbers : Lis
   pub named : AreNamed c.names (map (moved e.at at) (renumbered e.operands numbers))
 
 -- ---- values
+
+-- an expression that is spelled somewhere has these parts
+pub record AreParts (parts : List Part) : Type 0 where
+  pub context : ExprContext
+  pub expression : Expression
+  pub start : ℕ
+  pub bytes : List ℕ
+  pub spelled : SpellsExpr context expression start bytes
+  pub are : parts ≡ parts_of expression
 
 -- each operand of the parts has a number that fits and leads to an entry; these entries, in order
 abbrev pub LeadTo : {P : Type 0} → Scope P → List Part → List ℕ → List P → Type 0

@@ -1,5 +1,6 @@
 //! What files say: values, expressions (DWARF 5, 2.5), location lists (2.6), address ranges (6.1.2), files of line tables
-//! (6.2.4), units, and files as a whole; what reading them answers, and the first fault where they can't be read.
+//! (6.2.4), units, and files as a whole; what reading them answers, and the first fault where they can't be read; and what
+//! expressions, lists and sets mean once their numbers are changed in place.
 //!
 //! There is no running code here. The definitions stand in `specs/`; here are the record that they speak of, and laws,
 //! which are functions without a body.

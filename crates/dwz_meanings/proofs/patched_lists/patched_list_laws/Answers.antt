@@ -1,3 +1,4 @@
+use Rattle.dwz_meanings.proofs.EndLemmas.{rows_end}
 use Rattle.dwz_meanings.proofs.NamedAgain.{names_again, none_again}
 use Rattle.dwz_meanings.proofs.PatchedListLemmas.{list_operands, list_parts, list_stands, slot_stays}
 use Rattle.dwz_meanings.proofs.WriteOver.{rows_patched}
@@ -23,3 +24,6 @@ returns-clause-named g lists number s d a b l none there patched can alike names
 
 pub returns-clause-written : goal.returns-clause-written
 returns-clause-written g = rows_patched
+
+pub returns-clause-within : goal.returns-clause-within
+returns-clause-within g = rows_end

@@ -1,4 +1,4 @@
-use Rattle.dwz_meanings.proofs.PatchedLemmas.{own_filled, patched_length, patched_parts, patched_spelled, patched_value}
+use Rattle.dwz_meanings.proofs.PatchedLemmas.{given_parts, own_filled, patched_length, patched_parts, patched_spelled, patched_value}
 use Rattle.dwz_meanings.proofs.patching.patch_laws.Goals as goal
 
 pub returns-clause-spelled : goal.returns-clause-spelled
@@ -15,3 +15,6 @@ returns-clause-own g = own_filled
 
 pub returns-clause-value : goal.returns-clause-value
 returns-clause-value g = patched_value
+
+pub returns-clause-given : goal.returns-clause-given
+returns-clause-given g = given_parts

@@ -1,0 +1,42 @@
+-- Rows that show the tops of units in their groups, and what gains there.
+use Rattle.std.specs.Prelude.{◌≡◌, ◌↔◌, ◌⊎◌, ℕ, ◌≤◌, ◌==◌, ◌&&◌, true, List, [], Option, Some, None, filter, length, slice_get, slice_index_or}
+use Rattle.dwz_docs.specs.Lists.{In}
+use Rattle.dwz_alike.specs.Alike.{refers_to}
+use Rattle.dwz_alike.specs.Deciding.{Test}
+use Rattle.dwz_alike.specs.Spots.{FileUnit, Spot, Top, tops_of}
+use Rattle.dwz_moving.specs.Gain.{in_group, top_weight}
+use Rattle.dwz_moving.specs.Homes.{Stay, candidate, is_home, rep, users}
+use Rattle.dwz_moving.specs.Plan.{PartialUnit}
+use Rattle.dwz_gain.specs.Gaining.{group_at, weight_at}
+
+-- the number of the group with the top's home and users; none where it has no home
+abbrev pub IsGroup : Test → List (FileUnit Spot) → List PartialUnit → Option ℕ → ℕ → Type 0
+IsGroup alike units groups None n = candidate alike units n ≡ Stay
+IsGroup alike units groups (Some g) n = (part : PartialUnit) × (slice_get groups g ≡ Some part) × (candidate alike units n ≡ part.home) × (users alike units n ≡ part.users)
+
+-- a group has a home and just the representatives with that home and its users
+pub record HoldsGroup (alike : Test) (units : List (FileUnit Spot)) (part : PartialUnit) : Type 0 where
+  pub home : is_home part.home ≡ true
+  pub tops : part.tops ≡ filter (λ t. in_group alike units part.home part.users t && rep alike units t.number == t.number) (tops_of units)
+  pub some : (t : Top) × In t (tops_of units) × (candidate alike units t.number ≡ part.home) × (users alike units t.number ≡ part.users)
+
+-- these are groups, each once
+pub record AreApart (alike : Test) (units : List (FileUnit Spot)) (groups : List PartialUnit) : Type 0 where
+  pub each : (g : ℕ) (part : PartialUnit) → slice_get groups g ≡ Some part → HoldsGroup alike units part
+  pub once : (g h : ℕ) (part other : PartialUnit) → slice_get groups g ≡ Some part → slice_get groups h ≡ Some other → part.home ≡ other.home → part.users ≡ other.users → g ≡ h
+
+-- and the group of each top
+pub record AreGroups (alike : Test) (units : List (FileUnit Spot)) (groups : List PartialUnit) (of_tops : List (Option ℕ)) : Type 0 where
+  pub apart : AreApart alike units groups
+  pub len : length of_tops ≡ length (tops_of units)
+  pub of_top : (t : Top) → In t (tops_of units) → IsGroup alike units groups (group_at of_tops t.number) t.number
+
+-- the weight itself; or, where it is 64 or more, some number that is so too
+abbrev pub IsWeight : ℕ → ℕ → Type 0
+IsWeight weight exact = (weight ≡ exact) ⊎ ((64 ≤ weight) × (64 ≤ exact))
+
+-- of each top the weight, and the tops that it refers into
+pub record ShowGains (units : List (FileUnit Spot)) (ws : List ℕ) (refs : List (List ℕ)) : Type 0 where
+  pub len : length refs ≡ length (tops_of units)
+  pub weights : (t : Top) → In t (tops_of units) → IsWeight (weight_at ws t.number) (top_weight t)
+  pub targets : (t : Top) → In t (tops_of units) → (n : ℕ) → In n (slice_index_or refs t.number []) ↔ (refers_to n t ≡ true)

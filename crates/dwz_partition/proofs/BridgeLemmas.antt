@@ -21,12 +21,13 @@ use Rattle.dwz_partition.specs.Planned.{alike, file_of_home, home, imports_from,
 use Rattle.dwz_partition.specs.Rows.{Given, Row, given}
 use Rattle.dwz_partition.specs.Shows.{InOneScope, IsLeast, IsPlace, Joins, PartAt, ShowsTops, import_row, shown_part}
 use Rattle.dwz_partition.proofs.DistinctLemmas.{from_distinct, get_in}
-use Rattle.dwz_partition.proofs.ListFacts.{filter_in, in_cases, in_filter_from, in_map_from, map_in, map_map}
+use Rattle.dwz_partition.proofs.ListFacts.{filter_in, map_in, map_map}
 use Rattle.dwz_partition.proofs.MoverLemmas.{movers_of}
 use Rattle.dwz_partition.proofs.PartialLemmas.{part_among, same_home_is, tops_with}
 use Rattle.dwz_partition.proofs.RowLemmas.{alike_from, alike_parts}
 use Rattle.dwz_partition.proofs.StepLemmas.{part_of}
 use Rattle.dwz_partition.proofs.ShownLemmas.{SameRow, SameRows, filter_shown, map_shown, numbers_shown, rows_shown, tops_counted}
+use Rattle.dwz_seen.proofs.Members.{in_cases, in_filter_from, in_map_from}
 
 -- ---- the test decides as the rows do
 

@@ -19,11 +19,12 @@ use Rattle.dwz_partition.specs.Planned.{alike, home, imports_from, number_in, nu
 use Rattle.dwz_partition.specs.Rows.{Given, Row, given, rows_from}
 use Rattle.dwz_partition.specs.Steps.{is_in_unit, same_bool, stander, staying_pairs, turned}
 use Rattle.dwz_partition.proofs.KeptLemmas.{filter_twice, imports_values, is_staying, of_row, once_at, same_other, same_pinned, staying_values}
-use Rattle.dwz_partition.proofs.ListFacts.{all_from_in, filter_in, in_cases, in_filter_from, in_map_from, map_in, map_map}
+use Rattle.dwz_partition.proofs.ListFacts.{all_from_in, filter_in, map_in, map_map}
 use Rattle.dwz_partition.proofs.LedLemmas.{counted_below, numbers_counted}
 use Rattle.dwz_partition.proofs.PartialLemmas.{represents}
 use Rattle.dwz_partition.proofs.StepLemmas.{at_number, counted, part_of, users_low}
 use Rattle.dwz_partition.proofs.TurnedLemmas.{values_at-append}
+use Rattle.dwz_seen.proofs.Members.{in_cases, in_filter_from, in_map_from}
 
 pub among_in : {X : Type 0} (marks : List Bool) (xs : List X) (x : X) → In x (among marks xs) → In x xs
 unfolding among

@@ -16,8 +16,8 @@ use Rattle.dwz_partition.specs.Rows.{Given, Row, given, row_of, rows_from}
 use Rattle.dwz_partition.specs.Steps.{is_in_unit, pair, same_bool, staying_one, staying_pairs, turned}
 use Rattle.dwz_groups.specs.declared.groups.Pair.{Pair}
 use Rattle.dwz_partition.proofs.DistinctLemmas.{from_distinct}
-use Rattle.dwz_partition.proofs.ListFacts.{in_cases, in_map_from}
 use Rattle.dwz_partition.proofs.TurnedLemmas.{repeats, values-turned_one, values_at-append}
+use Rattle.dwz_seen.proofs.Members.{in_cases, in_map_from}
 
 -- ---- what stays
 

@@ -1,5 +1,5 @@
 -- Lists whose elements agree.
-use Rattle.std.proofs.Common.{◌≡◌, ℕ, zero, suc, ◌+◌, ◌<◌, ◌≤◌, ◌⊎◌, ◌||◌, inl, inr, All, cond, Bool, true, false, List, [], ◌∷◌, ◌++◌, length, map, filter, get_or, refl, sym, ap, subst, ◌∙◌, arith}
+use Rattle.std.proofs.Common.{◌≡◌, ℕ, zero, suc, ◌+◌, ◌<◌, ◌≤◌, ◌||◌, inl, inr, All, cond, Bool, true, false, List, [], ◌∷◌, ◌++◌, length, map, filter, get_or, refl, sym, ap, ◌∙◌, arith}
 use Rattle.std.specs.List.{concat, flat_map, list_any, range_with_len}
 use Rattle.std.proofs.lemmas.Bool.{cases_eq}
 use Rattle.std.proofs.lemmas.List.{map-append}
@@ -37,53 +37,6 @@ map_in f g (x ∷ xs) h = (λ i. h x (inl refl) i ∷ map_in f g xs (λ y is. h 
 pub map_map : {X Y Z : Type 0} (f : Y → Z) (g : X → Y) (xs : List X) → map f (map g xs) ≡ map (λ x. f (g x)) xs
 map_map f g [] = refl
 map_map f g (x ∷ xs) = ap (λ ys. f (g x) ∷ ys) (map_map f g xs)
-
-pub in_filter_from : {X : Type 0} (p : X → Bool) (x : X) (xs : List X) → In x (filter p xs) → In x xs × (p x ≡ true)
-in_filter_from p x [] h = absurd h
-in_filter_from {X} p x (y ∷ xs) h = by (p y) refl h (in_filter_from p x xs)
-  where
-    by : (t : Bool) → p y ≡ t → In x (cond t (y ∷ filter p xs) (filter p xs)) → (In x (filter p xs) → In x xs × (p x ≡ true)) → In x (y ∷ xs) × (p x ≡ true)
-    by true e (inl s) more = (inl s, ap p (sym s) ∙ e)
-    by true e (inr r) more = let m = more r in (inr m.0, m.1)
-    by false e r more = let m = more r in (inr m.0, m.1)
-
-pub in_filter : {X : Type 0} (p : X → Bool) (x : X) (xs : List X) → In x xs → p x ≡ true → In x (filter p xs)
-in_filter p x [] h e = absurd h
-in_filter {X} p x (y ∷ xs) (inl s) e = subst (λ t. In x (cond t (y ∷ filter p xs) (filter p xs))) (sym (ap p s ∙ e)) (inl s)
-in_filter {X} p x (y ∷ xs) (inr r) e = by (p y) (in_filter p x xs r e)
-  where
-    by : (t : Bool) → In x (filter p xs) → In x (cond t (y ∷ filter p xs) (filter p xs))
-    by true more = inr more
-    by false more = more
-
-pub in_left : {X : Type 0} (x : X) (xs ys : List X) → In x xs → In x (xs ++ ys)
-in_left x [] ys h = absurd h
-in_left x (y ∷ xs) ys (inl e) = inl e
-in_left x (y ∷ xs) ys (inr r) = inr (in_left x xs ys r)
-
-pub in_right : {X : Type 0} (x : X) (xs ys : List X) → In x ys → In x (xs ++ ys)
-in_right x [] ys h = h
-in_right x (y ∷ xs) ys h = inr (in_right x xs ys h)
-
-pub in_cases : {X : Type 0} (x : X) (xs ys : List X) → In x (xs ++ ys) → In x xs ⊎ In x ys
-in_cases x [] ys h = inr h
-in_cases x (y ∷ xs) ys (inl e) = inl (inl e)
-in_cases x (y ∷ xs) ys (inr r) = elim (in_cases x xs ys r) [ inl a ↦ inl (inr a) | inr b ↦ inr b ]
-
-pub in_map : {X Y : Type 0} (f : X → Y) (x : X) (xs : List X) → In x xs → In (f x) (map f xs)
-in_map f x [] h = absurd h
-in_map f x (y ∷ xs) (inl e) = inl (ap f e)
-in_map f x (y ∷ xs) (inr r) = inr (in_map f x xs r)
-
-pub record From {X Y : Type 0} (f : X → Y) (xs : List X) (y : Y) : Type 0 where
-  pub source : X
-  pub there : In source xs
-  pub is : f source ≡ y
-
-pub in_map_from : {X Y : Type 0} (f : X → Y) (y : Y) (xs : List X) → In y (map f xs) → From f xs y
-in_map_from f y [] h = absurd h
-in_map_from f y (x ∷ xs) (inl e) = record { source = x; there = inl refl; is = e }
-in_map_from f y (x ∷ xs) (inr r) = let o = in_map_from f y xs r in record { source = o.source; there = inr o.there; is = o.is }
 
 pub concat_map : {X Y : Type 0} (f : X → ℕ) (g : Y → List X) (ys : List Y) → concat (map (λ y. map f (g y)) ys) ≡ map f (flat_map g ys)
 concat_map f g [] = refl

@@ -14,9 +14,10 @@ use Rattle.dwz_partition.specs.Planned.{file_of_home, home, home_of, numbers, pa
 use Rattle.dwz_partition.specs.Rows.{Given, Row}
 use Rattle.dwz_partition.specs.Steps.{partial_of}
 use Rattle.dwz_partition.proofs.DistinctLemmas.{distinct_join, from_distinct}
-use Rattle.dwz_partition.proofs.ListFacts.{From, filter_no, in_cases, in_filter_from, in_map_from, map_in}
-use Rattle.dwz_partition.proofs.ListingLemmas.{same_true}
+use Rattle.dwz_partition.proofs.ListFacts.{filter_no, map_in}
 use Rattle.dwz_partition.proofs.MoverLemmas.{movers_of}
+use Rattle.dwz_seen.proofs.Members.{From, in_cases, in_filter_from, in_map_from}
+use Rattle.dwz_alike.proofs.SpotLemmas.{numbers_true}
 
 -- ---- homes
 
@@ -73,7 +74,7 @@ part_among g rows us = partial_of g.files_of_units g.files us (tops_with g rows 
 -- rows whose homes are not that of these users have none of them
 tops_apart : (g : Given) (rows : List Row) (us : List ℕ) → ((a : Row) → In a rows → home g a ≡ home_of g.files_of_units us → ⊥) → filter (λ a. same_numbers (users g a) us) rows ≡ []
 tops_apart g rows us apart =
-    filter_no (λ a. same_numbers (users g a) us) rows (λ a is. false_from_ne_true (same_numbers (users g a) us) (λ e. apart a is (ap (home_of g.files_of_units) (same_true (users g a) us e))))
+    filter_no (λ a. same_numbers (users g a) us) rows (λ a is. false_from_ne_true (same_numbers (users g a) us) (λ e. apart a is (ap (home_of g.files_of_units) (numbers_true (users g a) us e))))
 
 tops_left : (g : Given) (rows others : List Row) (us : List ℕ) → ((a : Row) → In a others → home g a ≡ home_of g.files_of_units us → ⊥) → tops_with g (rows ++ others) us ≡ tops_with g rows us
 tops_left g rows others us apart =
@@ -104,7 +105,7 @@ parts_split g (h ∷ homes) once =
     apart us vs p q =
         let a = in_map_from (users g) us (representatives g h) p in
         let b = in_map_from (users g) vs (flat_map (representatives g) homes) q in
-        false_from_ne_true (same_numbers us vs) (λ e. apart_homes a.source b.source a.there b.there (ap (home_of g.files_of_units) (a.is ∙ (same_true us vs e ∙ sym b.is))))
+        false_from_ne_true (same_numbers us vs) (λ e. apart_homes a.source b.source a.there b.there (ap (home_of g.files_of_units) (a.is ∙ (numbers_true us vs e ∙ sym b.is))))
 
     one : (us : List ℕ) → In us (distinct (map (users g) (representatives g h))) → part_among g (representatives g h ++ flat_map (representatives g) homes) us ≡ partial_with g h us
     one us is =

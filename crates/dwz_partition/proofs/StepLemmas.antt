@@ -22,12 +22,14 @@ use Rattle.dwz_groups.specs.declared.groups.Pair.{Pair}
 use Rattle.dwz_partition.proofs.DistinctLemmas.{distinct_apart, has_from, in_distinct, number_is, zip_range}
 use Rattle.dwz_partition.proofs.HomeLemmas.{local_low}
 use Rattle.dwz_partition.proofs.LedLemmas.{Counted, counted_below, counted_from, row_in, row_number, rows_counted, same_row, stood, stood_leads}
-use Rattle.dwz_partition.proofs.ListFacts.{all_from_in, filter_in, in_filter, in_filter_from, in_left, in_map, in_map_from, in_range, in_right, map_in, map_map, range_there}
-use Rattle.dwz_partition.proofs.ListingLemmas.{position_found, same_refl, same_true}
+use Rattle.dwz_partition.proofs.ListFacts.{all_from_in, filter_in, in_range, map_in, map_map, range_there}
+use Rattle.dwz_partition.proofs.ListingLemmas.{position_found}
 use Rattle.dwz_partition.proofs.MoverLemmas.{led_lists, movers_are, movers_of}
 use Rattle.dwz_partition.proofs.PartialLemmas.{Homed, all_homes, homed, movers_split, part_among, partials_among, tops_with}
 use Rattle.dwz_partition.proofs.RowLemmas.{alike_same, length-rows_from, rep_stays}
 use Rattle.dwz_partition.proofs.UserLemmas.{led_users, led_users_yes}
+use Rattle.dwz_seen.proofs.Members.{in_filter, in_filter_from, in_left, in_map, in_map_from, in_right}
+use Rattle.dwz_alike.proofs.SpotLemmas.{numbers_same, numbers_true}
 
 -- ---- the row of a number
 
@@ -311,7 +313,7 @@ module _ (scope : Scope) (tops : Tops) (least : List ℕ) where
 
       same_list : users the a ≡ get_or user_lists (number_of user_lists (users the a)) []
       same_list =
-          same_true (users the a) (get_or user_lists (number_of user_lists (users the a)) [])
+          numbers_true (users the a) (get_or user_lists (number_of user_lists (users the a)) [])
           (sym (number_is user_lists (users the a) (number_of user_lists (users the a)) (distinct_apart (map (users the) (movers_of the))) listed_there found) ∙ eq-eqb (number_of user_lists (users the a)) (number_of user_lists (users the a)) refl)
 
       at : (d : Partial) → get_or (partials the) (number_in (partials the) (users the a)) d ≡ part_among the (movers_of the) (users the a)
@@ -322,7 +324,7 @@ module _ (scope : Scope) (tops : Tops) (least : List ℕ) where
       standing : In (rep the a) (tops_with the (movers_of the) (users the a))
       standing =
           subst (λ n. In n (tops_with the (movers_of the) (users the a))) (sym l.number)
-          (in_map (λ (b : Row). b.number) l.row (filter (λ b. same_numbers (users the b) (users the a)) (movers_of the)) (in_filter (λ b. same_numbers (users the b) (users the a)) l.row (movers_of the) there (ap (λ (us : List ℕ). same_numbers us (users the a)) l.same_users ∙ same_refl (users the a))))
+          (in_map (λ (b : Row). b.number) l.row (filter (λ b. same_numbers (users the b) (users the a)) (movers_of the)) (in_filter (λ b. same_numbers (users the b) (users the a)) l.row (movers_of the) there (ap (λ (us : List ℕ). same_numbers us (users the a)) l.same_users ∙ numbers_same (users the a))))
 
   -- the row of a number
   pub row_of_number : (n : ℕ) (d : Row) → n < length the_rows → In (get_or the_rows n d) the_rows × ((get_or the_rows n d).number ≡ n)

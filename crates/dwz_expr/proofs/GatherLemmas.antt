@@ -1,5 +1,5 @@
 -- What is gathered step by step is what the expression holds.
-use Rattle.std.proofs.Common.{◌≡◌, ℕ, zero, suc, ◌+◌, ◌-◌, Bool, true, false, cond, List, [], ◌∷◌, ◌++◌, Option, Some, None, Result, Ok, Err, refl, sym, ap, ◌∙◌, eqb, append_assoc}
+use Rattle.std.proofs.Common.{◌≡◌, ℕ, ◌-◌, Bool, true, false, cond, List, [], ◌∷◌, ◌++◌, Result, Ok, Err, refl, sym, ap, ◌∙◌, eqb, append_assoc}
 use Rattle.std.specs.Prelude.{◌||◌}
 use Rattle.std.proofs.lemmas.List.{append-nil}
 use Rattle.dwz_model.specs.declared.fault.Fault.{Fault}
@@ -9,13 +9,10 @@ use Rattle.dwz_bytes.specs.declared.error.ByteErr.{ByteErr}
 use Rattle.dwz_bytes.specs.Input.{Input}
 use Rattle.dwz_bytes.specs.Reading.{◌>>=◌, fixed_at, sleb_at, take_at, uleb_at}
 use Rattle.dwz_meanings.specs.declared.exprs.Operand.{Operand}
-use Rattle.dwz_codes.specs.Operators.{operator_rows}
-use Rattle.dwz_meanings.specs.Exprs.{AnAddress, Counted, Entry4, EntryOrGeneric, EntryUleb, Expression, Field, Found, Holds, Inside, InsideReader, IsFaultWithin, IsOpFault, Located, LocatedBy, Names, Run, Signed, Sized, SpellsOp, SpellsWithin, Unsigned, an_address, an_operand, an_operand_or_generic, any_operands, bad_expr, expr_within, expression_of, expression_with, field_at, fields_at, fields_of, first_unnamed, has_address, held, inside_at, inside_of, joined, named_in, nothing, op_at, op_by, operands_in, or_fault, seen_piece, unless_unnamed, unsupported}
-use Rattle.dwz_meanings.specs.Sequences.{after_one, all_at, then_make, then_read, with_item}
-use Rattle.dwz_docs.specs.Values.{block_at, shape_of}
-use Rattle.dwz_meanings.proofs.ExprLemmas.{op_reads, op_takes, within_reads}
-use Rattle.dwz_meanings.proofs.SequenceLemmas.{all_none, all_step, input_of}
-use Rattle.dwz_expr.specs.Gathering.{Gathered, behind_content, content_into, counted_into, field_into, fields_into, gather, gather_ops, inside_into, located, nested_into, ops_into, run_of, unchanged, with_operand, with_some, as_operand, operand_of}
+use Rattle.dwz_meanings.specs.Exprs.{AnAddress, Counted, Entry4, EntryOrGeneric, EntryUleb, Field, Found, Holds, Inside, InsideReader, Located, LocatedBy, Names, Run, Signed, Sized, Unsigned, an_address, an_operand, an_operand_or_generic, field_at, fields_at, has_address, nothing, operands_in, or_fault, seen_piece}
+use Rattle.dwz_meanings.specs.Sequences.{then_make, then_read}
+use Rattle.dwz_docs.specs.Values.{block_at}
+use Rattle.dwz_expr.specs.Gathering.{Gathered, field_into, fields_into, gather, located, run_of, unchanged, with_operand, with_some, as_operand, operand_of}
 
 -- ---- what is gathered in turn
 

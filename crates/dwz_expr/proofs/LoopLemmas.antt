@@ -23,7 +23,7 @@ use Rattle.dwz_codes.specs.Rows.{RowView, row_of}
 use Rattle.dwz_docs.specs.Values.{shape_in, shape_of}
 use Rattle.dwz_meanings.proofs.ExprLemmas.{op_reads, op_takes, within_reads}
 use Rattle.dwz_meanings.proofs.FieldLemmas.{bytes_agree}
-use Rattle.dwz_docs.proofs.PartLemmas.{bind_ok, chosen, same_input}
+use Rattle.dwz_docs.proofs.PartLemmas.{bind_ok, chosen}
 use Rattle.dwz_docs.proofs.ReadLemmas.{fixed_reads, run_reads}
 use Rattle.dwz_meanings.proofs.SequenceLemmas.{input_of}
 use Rattle.dwz_expr.specs.Flat.{HasNoExpression}

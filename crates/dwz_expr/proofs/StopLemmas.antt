@@ -1,5 +1,5 @@
 -- Where an expression isn't read, in each context.
-use Rattle.std.proofs.Common.{◌≡◌, ℕ, zero, suc, Bool, false, List, [], ◌++◌, Result, Ok, Err, refl, sym, ap, ◌∙◌}
+use Rattle.std.proofs.Common.{◌≡◌, ℕ, Bool, false, List, [], ◌++◌, Result, Ok, Err, sym, ap, ◌∙◌}
 use Rattle.dwz_model.specs.declared.fault.Fault.{Fault}
 use Rattle.dwz_model.specs.declared.fault.ReadErr.{ReadErr}
 use Rattle.dwz_model.specs.declared.fault.ReadErr.TheVariants.{NoMemory, Refused}
@@ -9,9 +9,9 @@ use Rattle.dwz_docs.specs.Faults.{Fails}
 use Rattle.dwz_meanings.specs.declared.exprs.Operand.{Operand}
 use Rattle.dwz_meanings.specs.Exprs.{ExprContext, any_operands, bad_expr, or_fault}
 use Rattle.dwz_expr.specs.FirstFault.{ReadsInto, asked}
-use Rattle.dwz_expr.specs.Gathering.{Gathered, Grows, InEach, Stopped, added, content_into, counted_into, gathered, nested_into, ops_into, run_of}
+use Rattle.dwz_expr.specs.Gathering.{Gathered, Grows, InEach, Stopped, added, content_into, counted_into, gathered, nested_into, ops_into}
 use Rattle.dwz_expr.proofs.AskedLemmas.{asked_none}
-use Rattle.dwz_expr.proofs.LoopLemmas.{Halt, bad_same, none_added, same_fault}
+use Rattle.dwz_expr.proofs.LoopLemmas.{Halt, bad_same, none_added}
 use Rattle.dwz_expr.proofs.OperatorLemmas.{stopped}
 use Rattle.dwz_expr.proofs.ReadLemmas.{are_asked, where_any}
 
@@ -65,10 +65,10 @@ module _ (section k at : ℕ) (a : Bool) (i : Input) (ops : List Operand) (bad :
     pub depth_stops : k ≡ 0 → (content : List ℕ) (m : Input) → or_fault bad (take_at n j) ≡ Ok (content, m) → InEach section (λ c. nested_into c k (bad_expr c at) (gathered [] a) i) (added ops ops) (Err bad)
     depth_stops zero_left content m taken =
         none_looked_up bad (λ c e.
-            counted c e
-            ∙ ap (λ (r : Result (List ℕ × Input) Fault). r >>= content_into c k (bad_expr c at) (gathered [] a) j.at) taken
-            ∙ ap (λ (d : ℕ). content_into c d (bad_expr c at) (gathered [] a) j.at (content, m)) zero_left
-            ∙ ap (λ (g : Fault). stopped g) (sym (bad_of c e)))
+        counted c e
+        ∙ ap (λ (r : Result (List ℕ × Input) Fault). r >>= content_into c k (bad_expr c at) (gathered [] a) j.at) taken
+        ∙ ap (λ (d : ℕ). content_into c d (bad_expr c at) (gathered [] a) j.at (content, m)) zero_left
+        ∙ ap (λ (g : Fault). stopped g) (sym (bad_of c e)))
 
 -- ---- a whole expression
 

@@ -5,7 +5,7 @@ use Rattle.dwz_model.specs.declared.fault.ReadErr.{ReadErr}
 use Rattle.dwz_model.specs.declared.fault.ReadErr.TheVariants.{NoMemory, Refused}
 use Rattle.dwz_bytes.specs.Input.{Input}
 use Rattle.dwz_meanings.specs.declared.exprs.Operand.{Operand}
-use Rattle.dwz_meanings.specs.Exprs.{ExprContext, Expression, any_operands, bad_operand, expr_at, first_unnamed}
+use Rattle.dwz_meanings.specs.Exprs.{ExprContext, any_operands, bad_operand, expr_at, first_unnamed}
 
 abbrev pub unless_one : {X : Type 0} → ExprContext → Result X Fault → Option Operand → Result X Fault
 unless_one c answer None = answer
@@ -27,3 +27,13 @@ ReadsInto section i operands (Ok address) =
     (expr_at (any_operands section) i ≡ Ok (record { at = i.at; bytes = i.rest; operands = operands; address = address })) × AreAsked section i operands
 ReadsInto section i operands (Err NoMemory) = Unit {0}
 ReadsInto section i operands (Err (Refused f)) = (expr_at (any_operands section) i ≡ Err f) × AreAsked section i operands
+
+-- where each of them names an entry
+abbrev pub AllNamed : Type 0
+AllNamed = (section : ℕ) (i : Input) (operands : List Operand) → AreAsked section i operands
+    → (c : ExprContext) → c.section ≡ section → first_unnamed c.names operands ≡ None → expr_at c i ≡ expr_at (any_operands section) i
+
+-- where one doesn't, and those before it do
+abbrev pub OneUnnamed : Type 0
+OneUnnamed = (section : ℕ) (i : Input) (operands : List Operand) → AreAsked section i operands
+    → (c : ExprContext) → c.section ≡ section → (o : Operand) → first_unnamed c.names operands ≡ Some o → expr_at c i ≡ Err (bad_operand c o.at)

@@ -2,8 +2,13 @@
 #![tactic(auto)]
 
 mod fields;
+mod laws;
 mod ops;
 mod shapes;
 
 pub use dwz_meanings::Operand;
+pub use laws::first_fault_laws;
 pub use ops::{Ops, read_into};
+
+#[cfg(test)]
+mod tests;

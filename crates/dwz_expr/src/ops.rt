@@ -1,11 +1,11 @@
 //! Expressions that are read.
 
-ghost use Rattle.std.specs.Prelude.{◌≡◌, ◌+◌, ◌-◌, ◌<◌, ◌≤◌, ◌^◌, [], OnErr, length};
+ghost use Rattle.std.specs.Prelude.{◌≡◌, ◌+◌, ◌-◌, ◌<◌, ◌≤◌, ◌^◌, [], IfOk, OnErr, length};
 ghost use Rattle.dwz_model.specs.declared.fault.ReadErr.TheVariants.{Refused};
 ghost use Rattle.dwz_model.specs.declared.place.Base.TheVariants.{Unit as FromUnit, Info as FromInfo};
 ghost use Rattle.dwz_meanings.specs.Exprs.{Entry4, EntryOrGeneric, EntryUleb, any_operands, bad_expr, expr_at, fields_of, unsupported};
 ghost use Rattle.dwz_docs.specs.Faults.{Answers, AnswersAt};
-ghost use Rattle.dwz_expr.specs.FirstFault.{ReadsInto};
+ghost use Rattle.dwz_expr.specs.FirstFault.{AreAsked, ReadsInto};
 ghost use Rattle.dwz_expr.specs.Gathering.{Gathers, Grows, added, counted_at, field_into, fields_into, gathered, nested_into, op_into, operand4_at, operand_uleb_at, ops_into, shift, sized_at};
 ghost use Rattle.dwz_expr.specs.Flat.{HasNoExpression};
 
@@ -369,10 +369,12 @@ pub fn read_into(
 }
 
 impl<'a> Ops<'a> {
-    /// Reads an expression, as `read_into` does, with operands of its own.
+    /// Reads an expression, as `read_into` does, with operands of its own. Where it is refused they are lost, so that only the
+    /// fault of layout is known.
     pub fn read(alloc: Global, bytes: &'a [u8], at: u64, section: u8) -> Result<Ops<'a>, ReadErr>
         requires { at + length bytes.now < 2 ^ 64 }
-        ensures { Answers (λ o. o) result (expr_at (any_operands section) (record { at = at; rest = bytes.now })) }
+        ensures answer { Answers (λ o. o) result (expr_at (any_operands section) (record { at = at; rest = bytes.now })) }
+        ensures asks { IfOk result (λ o. AreAsked section (record { at = at; rest = bytes.now }) o.operands) }
     {
         let mut operands = Vec::new(alloc);
         let address = read_into(&mut operands, bytes, at, section)?;

@@ -1,4 +1,5 @@
 -- Files are read one after the other.
+use Rattle.std.proofs.Common.{◌<◌, get_or, slice_get, zero}
 use Rattle.std.proofs.Common.{◌≡◌, ℕ, suc, ◌+◌, ◌-◌, List, [], ◌∷◌, ◌++◌, length, Some, None, Result, Ok, Err, refl, sym, ap, subst, ◌∙◌, arith}
 use Rattle.std.proofs.lemmas.List.{append-nil}
 use Rattle.dwz_model.specs.declared.fault.Fault.{Fault}
@@ -12,7 +13,7 @@ use Rattle.dwz_docs.specs.Faults.{Fails}
 use Rattle.dwz_meanings.specs.Files.{Limits, file_meaning, files_meaning, in_file, limits_after, longest_files, machine_of, most_entries, no_files_before, with_doc}
 use Rattle.dwz_docs.specs.Units.{RawUnit, entries_in}
 use Rattle.dwz_graph.specs.declared.file.File.{File}
-use Rattle.dwz_graph.specs.Files.{AreRead, FilesFail, IsRead, docs_of, or_none, refused_file}
+use Rattle.dwz_graph.specs.Files.{AreRead, FilesFail, HasFile, IsRead, docs_of, or_none, refused_file}
 use Rattle.dwz_unit.specs.Rows.{units_of}
 
 abbrev after_docs : List (Doc ℕ) → Result (List (Doc ℕ)) Refusal → Result (List (Doc ℕ)) Refusal
@@ -95,3 +96,54 @@ behind_is l bytes raw elf b e m is x y z = let w : m ≡ machine_of bytes = z �
 pub first_limits : record { bytes = 536870912; entries = 16777216; machine = None } ≡ no_files_before
 unfolding longest_files most_entries
 first_limits = refl
+
+-- ---- a file by its number
+
+pub as_many : (l : Limits) (xs : List (List ℕ)) (fs : List File) (end : Limits) → AreRead l xs fs end → length fs ≡ length xs
+as_many l [] [] end h = refl
+as_many l [] (f ∷ fs) end h = absurd h
+as_many l (b ∷ xs) [] end h = absurd h
+as_many l (b ∷ xs) (f ∷ fs) end h = let rest = as_many (limits_after l b (units_of f.units)) xs fs end h.1 in omega arith
+
+pub record IsFileThere (l : Limits) (xs : List (List ℕ)) (i : ℕ) (b : List ℕ) (f : File) : Type 0 where
+  pub limits : Limits
+  pub read : IsRead limits b f
+  pub there : HasFile l xs i limits b (units_of f.units) read.doc
+
+pub file_there : (l : Limits) (xs : List (List ℕ)) (fs : List File) (end : Limits) (i : ℕ) (b : List ℕ) (f : File) → AreRead l xs fs end → slice_get xs i ≡ Some b → slice_get fs i ≡ Some f → IsFileThere l xs i b f
+file_there l [] fs end i b f h e g = absurd cc
+file_there l (x ∷ xs) [] end i b f h e g = absurd h
+file_there l (x ∷ xs) (y ∷ fs) end zero b f h e g =
+    let same : x ≡ b = cc in
+    let one : y ≡ f = cc in
+    let r : IsRead l b f = subst (λ (w : File). IsRead l b w) one (subst (λ (w : List ℕ). IsRead l w y) same h.0) in
+    record { limits = l; read = r; there = (refl, same, ap (file_meaning l) same ∙ r.means) }
+file_there l (x ∷ xs) (y ∷ fs) end (suc i) b f h e g =
+    let r = file_there (limits_after l x (units_of y.units)) xs fs end i b f h.1 e g in
+    record { limits = r.limits; read = r.read; there = (units_of y.units, h.0.doc, h.0.means, r.there) }
+
+units_in : List RawUnit → Result (List RawUnit × Doc ℕ) Fault → List RawUnit
+units_in other (Ok x) = x.0
+units_in other (Err f) = other
+
+one_meaning : (r : Result (List RawUnit × Doc ℕ) Fault) (a b : List RawUnit) (s t : Doc ℕ) → r ≡ Ok (a, s) → r ≡ Ok (b, t) → a ≡ b
+unfolding units_in
+one_meaning r a b s t e f = ap (units_in a) (sym e ∙ f)
+
+-- a file has just one meaning
+pub same_raw : (l : Limits) (xs : List (List ℕ)) (i : ℕ) (m n : Limits) (b d : List ℕ) (raw other : List RawUnit) (doc said : Doc ℕ) → HasFile l xs i m b raw doc → HasFile l xs i n d other said → (b ≡ d) × (raw ≡ other)
+same_raw l [] i m n b d raw other doc said h k = absurd h
+same_raw l (x ∷ xs) zero m n b d raw other doc said h k = (sym h.1 ∙ k.1, one_meaning (file_meaning l x) raw other doc said h.2 k.2)
+same_raw l (x ∷ xs) (suc i) m n b d raw other doc said h k =
+    let units = one_meaning (file_meaning l x) h.0 k.0 h.1 k.1 h.2 k.2 in
+    same_raw (limits_after l x h.0) xs i m n b d raw other doc said h.3 (subst (λ (us : List RawUnit). HasFile (limits_after l x us) xs i n d other said) (sym units) k.3)
+
+pub content_of : (l : Limits) (xs : List (List ℕ)) (i : ℕ) (m : Limits) (b : List ℕ) (raw : List RawUnit) (doc : Doc ℕ) → HasFile l xs i m b raw doc → slice_get xs i ≡ Some b
+content_of l [] i m b raw doc h = absurd h
+content_of l (x ∷ xs) zero m b raw doc h = ap (λ (w : List ℕ). Some w) h.1
+content_of l (x ∷ xs) (suc i) m b raw doc h = content_of (limits_after l x h.0) xs i m b raw doc h.3
+
+pub found_at : {X : Type 0} (xs : List X) (k : ℕ) (x : X) → k < length xs → x ≡ get_or xs k x → slice_get xs k ≡ Some x
+found_at [] k x l e = absurd (omega arith)
+found_at {X} (y ∷ xs) zero x l e = ap (λ (w : X). Some w) (sym e)
+found_at (y ∷ xs) (suc k) x l e = found_at xs k x (omega arith) e

@@ -15,3 +15,4 @@ pub mod SetSteps
 pub mod StandLemmas
 pub mod ApartLemmas
 pub mod SharedLaw
+pub mod OperandSteps

@@ -13,6 +13,9 @@ use Rattle.dwz_resolve.specs.State.{IsBehind, IsState}
 pub with_refs : (raw : List RawUnit) (s : Scope ℕ) (n : ℕ) (named : List NamedList) (st : State) (refs : _) → IsState raw s n named st → IsState raw s n named (record st { refs = refs })
 with_refs raw s n named st refs k = record { shows = k.shows }
 
+pub with_expression : (raw : List RawUnit) (s : Scope ℕ) (n : ℕ) (named : List NamedList) (st : State) (refs operands : _) → IsState raw s n named st → IsState raw s n named (record st { refs = refs; operands = operands })
+with_expression raw s n named st refs operands k = record { shows = k.shows }
+
 -- the next unit begins, and it ends
 pub unit_begins : (raw : List RawUnit) (around : Around ℕ) (u : RawUnit) (n : ℕ) (named : List NamedList) (st : State) → slice_get raw n ≡ Some u → IsBehind raw around n named st → IsState raw (scope_of around u) n named st
 unit_begins raw around u n named st is k = record { shows = k.shows }

@@ -6,3 +6,4 @@ pub mod ListRows
 pub mod State
 pub mod Resolved
 pub mod Said
+pub mod Operands

@@ -2,6 +2,7 @@
 #![tactic(auto)]
 
 mod class;
+mod expressions;
 mod find;
 mod here;
 mod kinds;

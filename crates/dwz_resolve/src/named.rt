@@ -12,6 +12,7 @@ ghost use Rattle.dwz_resolve.specs.Resolved.{Goes, IsHere, StateAt, StateIn, aro
 ghost use Rattle.dwz_unit.specs.Rows.{EntryRow, rows_of, units_of};
 
 use crate::class::{Class, class_of};
+use crate::expressions::add_expression;
 use crate::here::{Here, here_of};
 use crate::kinds::check_kind;
 use crate::references::add_entry;
@@ -39,7 +40,6 @@ fn add_as(
     ensures { (u : RawUnit) (before : List NamedList) → IsHere (units_of units.now) u here.now → StateIn sections.now (units_of units.now) u here.now before state.old → Goes (units_of units.now) (StateIn sections.now (units_of units.now) u here.now) before state.old state.new result (map_ok (found_in (lists_as (class_view class) (scope_in sections.now (units_of units.now) u) (stored at end pair.now raw.now))) (as_class (class_view class) (scope_in sections.now (units_of units.now) u) (stored at end pair.now raw.now))) }
 {
     let offset = offset_of(raw);
-    let _end = end;
     match class {
         Class::Address => Ok(()),
         Class::Block => Ok(()),
@@ -67,7 +67,7 @@ fn add_as(
         ),
         Class::Signature => Ok(()),
         Class::Offset => Err(ReadErr::NoMemory),
-        Class::Expression => Err(ReadErr::NoMemory),
+        Class::Expression => add_expression(units, sections, here, end, raw, state),
         Class::ListIndex => Err(ReadErr::NoMemory),
         Class::Index => Ok(()),
         Class::CommonEntry => Err(ReadErr::NoMemory),

@@ -3,6 +3,7 @@
 ghost use Rattle.std.specs.Prelude.{◌≡◌, []};
 
 use crate::lists::Lists;
+use dwz_expr::Operand;
 use std::alloc::Global;
 
 /// What is kept of the values that were looked at.
@@ -12,6 +13,8 @@ pub(crate) struct State {
     pub refs: Vec<u32>,
     /// The location lists that they name.
     pub lists: Lists,
+    /// Operands of the expression that was read last, kept for the room that they have.
+    pub operands: Vec<Operand>,
 }
 
 impl State {
@@ -28,6 +31,7 @@ impl State {
                 operands: Vec::new(alloc),
                 slots: Vec::new(alloc),
             },
+            operands: Vec::new(alloc),
         }
     }
 }

@@ -114,3 +114,11 @@ returns-in-InfoEntry c = λ u before here k. (
     subst (λ (r : Result Found Fault). Goes raw K before c.args.state.now new c.add_entry-in-InfoEntry.result r)
     (ap (λ (p : ℕ). map_ok (found_in []) (entry_among (λ (n : ℕ). n) (all_places raw) c.args.at p)) c.offset_of-offset.ensures.value ∙ ap (named_as s a) (sym c.in-InfoEntry.is))
     added)
+
+pub returns-in-Expression : goal.returns-in-Expression
+returns-in-Expression c = λ u before here k. (
+    let raw = units_of c.args.units.now in
+    let s = scope_in c.args.sections.now raw u in
+    let a = stored c.args.at c.args.end c.args.pair.now c.args.raw.now in
+    let K = StateIn c.args.sections.now raw u c.args.here.now in
+    subst (λ (r : Result Found Fault). Goes raw K before c.args.state.now c.add_expression.new.state c.add_expression.result r) (ap (named_as s a) (sym c.in-Expression.is)) (c.add_expression.ensures u before here k))

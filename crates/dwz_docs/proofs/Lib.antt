@@ -5,6 +5,7 @@ pub mod SupLemmas
 pub mod PlainLemmas
 pub mod PruneLemmas
 pub mod OffsetLemmas
+pub mod PlainReads
 pub mod ReadLemmas
 pub mod ValueLemmas
 pub mod WrittenLemmas

@@ -91,10 +91,10 @@ pub record Seen (bytes rest : List ℕ) (count : ℕ) : Type 0 where
   pub rest_is : drop (8 + 4 * count_at bytes) bytes ≡ rest
   pub longer : length bytes ≡ 8 + 4 * count + length rest
 
-take-of : (n : ℕ) (xs ys : List ℕ) → length xs ≡ n → take n (xs ++ ys) ≡ xs
+pub take-of : (n : ℕ) (xs ys : List ℕ) → length xs ≡ n → take n (xs ++ ys) ≡ xs
 take-of n xs ys len = ap (λ (k : ℕ). take k (xs ++ ys)) (sym len) ∙ take-front xs ys
 
-drop-of : (n : ℕ) (xs ys : List ℕ) → length xs ≡ n → drop n (xs ++ ys) ≡ ys
+pub drop-of : (n : ℕ) (xs ys : List ℕ) → length xs ≡ n → drop n (xs ++ ys) ≡ ys
 drop-of n xs ys len = ap (λ (k : ℕ). drop k (xs ++ ys)) (sym len) ∙ drop-front xs ys
 
 pub seen : (front rest : List ℕ) (count : ℕ) → SpellsContribution front count → Seen (front ++ rest) rest count

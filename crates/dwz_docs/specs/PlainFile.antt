@@ -1,13 +1,17 @@
 -- ELF files of a plain layout (ELF-64 Object File Format): the file header, then the contents of the sections without gaps, the
 -- table of their names last, and then the section headers. And which sections the supplementary file has.
-use Rattle.std.specs.Prelude.{ℕ, ◌+◌, ◌-◌, ◌*◌, List, [], ◌∷◌, ◌++◌, length, map, replicate, Option, Some, None, codes, true}
+use Rattle.std.specs.Prelude.{ℕ, ◌+◌, ◌-◌, ◌*◌, ◌^◌, ◌<◌, ◌≤◌, All, List, [], ◌∷◌, ◌++◌, length, map, replicate, Option, Some, None, codes, true}
 use Rattle.std.specs.Int.{next_multiple_of}
 use Rattle.std.specs.List.{flat_map}
 use Rattle.dwz_model.specs.declared.sections.Sections.{Sections}
+use Rattle.dwz_docs.specs.declared.elf.FileHeader.{FileHeader}
+use Rattle.dwz_docs.specs.declared.elf.Section.{Section}
 use Rattle.dwz_docs.specs.ElfFaults.{identification}
-use Rattle.dwz_docs.specs.ElfLayout.{numbers}
+use Rattle.dwz_docs.specs.ElfLayout.{numbers, too_large}
+use Rattle.dwz_docs.specs.ElfNames.{known_name}
 use Rattle.dwz_docs.specs.Supplementary.{sup_bytes}
 use Rattle.dwz_docs.specs.TextRows.{text_section}
+use Rattle.dwz_docs.specs.Texts.{NoZero}
 
 -- a section: its name, sh_flags, sh_entsize, and its content
 pub record PlainSection : Type 0 where
@@ -84,6 +88,57 @@ plain_file machine flags sections =
     ++ (plain_names sections
     ++ (replicate (headers_at + 64 - plain_end sections) 0
     ++ (plain_headers 1 64 sections ++ names_header_bytes sections))))
+
+-- ---- what it reads as
+
+-- the numbers fit, and names have no zero byte
+pub record FitsPlain (machine flags : ℕ) (sections : List PlainSection) : Type 0 where
+  pub machine_fits : machine < 2 ^ 16
+  pub flags_fit : flags < 2 ^ 32
+  pub few : length sections + 2 ≤ 65278
+  pub small : length (plain_file machine flags sections) < too_large
+  pub names : All (λ s. NoZero s.name) sections
+  pub section_flags : All (λ s. s.flags < 2 ^ 64) sections
+
+-- the file header
+abbrev pub plain_fields : ℕ → ℕ → List PlainSection → FileHeader
+plain_fields machine flags sections = record {
+  kind = 3;
+  machine = machine;
+  program_headers_at = 0;
+  headers_at = plain_headers_at sections;
+  flags = flags;
+  program_header_size = 0;
+  program_headers = 0;
+  header_size = 64;
+  headers = length sections + 2;
+  names = length sections + 1;
+}
+
+-- a section header, by its own place, those of its name and its content, and what the name says
+abbrev pub section_read : ℕ → ℕ → ℕ → ℕ → ℕ → ℕ → ℕ → List ℕ → Section
+section_read place name kind flags at size align text = record {
+  header = record { at = place; name = name; kind = kind; flags = flags; offset = at; size = size; info = 0; align = align };
+  name = known_name (Some text);
+}
+
+-- the sections, of which the first has its header, its name and its content at these places
+abbrev pub sections_read : ℕ → ℕ → ℕ → List PlainSection → List Section
+sections_read place name at [] = []
+sections_read place name at (s ∷ sections) =
+    section_read place name 1 s.flags at (length s.bytes) 1 s.name ∷ sections_read (place + 64) (name + (length s.name + 1)) (at + length s.bytes) sections
+
+-- all sections, the null one first and the name table last
+abbrev pub plain_sections : List PlainSection → List Section
+plain_sections sections =
+    let headers_at = plain_headers_at sections in
+    section_read headers_at 0 0 0 0 0 0 []
+    ∷ (sections_read (headers_at + 64) 1 64 sections
+    ++ section_read (headers_at + 64 + 64 * length sections) (1 + length (section_names sections)) 3 0 (plain_names_at sections) (length (plain_names sections)) 1 (codes ".shstrtab") ∷ [])
+
+-- their contents
+abbrev pub contents_read : List PlainSection → List (List ℕ)
+contents_read sections = [] ∷ (map (λ s. s.bytes) sections ++ plain_names sections ∷ [])
 
 -- ---- the supplementary file
 

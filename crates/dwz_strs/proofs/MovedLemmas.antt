@@ -1,5 +1,5 @@
 -- Looking a use up among ascending ones, and that their order and number don't matter for what stays.
-use Rattle.std.proofs.Common.{◌≡◌, ◌⊎◌, ℕ, ◌+◌, ◌<◌, ◌≤◌, Bool, true, false, cond, eqb, List, [], ◌∷◌, length, get_or, position, take, Option, Some, None, Result, Ok, Err, IfOk, IsSome, All, Contains, Any, refl, sym, ap, subst, ◌∙◌, inl, inr, arith}
+use Rattle.std.proofs.Common.{◌≡◌, ◌⊎◌, ℕ, ◌+◌, ◌<◌, ◌≤◌, Bool, true, false, cond, eqb, List, [], ◌∷◌, length, get_or, position, take, Option, Some, None, Result, Ok, Err, IfOk, IsSome, All, Contains, refl, sym, ap, subst, ◌∙◌, inl, inr, arith}
 use Rattle.std.specs.Prelude.{SomeIff}
 use Rattle.std.specs.Option.{option_map}
 use Rattle.std.specs.List.{list_any}
@@ -11,7 +11,7 @@ use Rattle.std.proofs.lemmas.List.Folds.{Any-from_list_any, list_any-from_Any}
 use Rattle.std.proofs.lemmas.List.Kept.{AllPairs-from_increasing}
 use Rattle.std.proofs.lemmas.List.Quantifiers.{position-Some}
 use Rattle.std.proofs.lemmas.List.Sums.{position_or_len_is}
-use Rattle.dwz_docs.specs.Pruning.{bytes_kept, is_in_range, is_kept, new_number, pruned}
+use Rattle.dwz_docs.specs.Pruning.{bytes_kept, is_in_range, is_kept, new_number}
 use Rattle.dwz_docs.specs.Texts.{text_at}
 use Rattle.dwz_docs.proofs.TextRowLemmas.{first_at}
 use Rattle.dwz_strs.specs.Pruned.{IsPruned, Pruning, RisesAlong, moved_in, pruning}

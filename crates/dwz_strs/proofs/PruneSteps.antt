@@ -1,10 +1,10 @@
 -- Pruning use by use, in ascending order: a use lies in the range of the one before, or begins a range behind all of them.
-use Rattle.std.proofs.Common.{◌≡◌, ◌⊎◌, ℕ, zero, suc, ◌+◌, ◌-◌, ◌<◌, ◌≤◌, max, Bool, true, false, cond, leb, ltb, eqb, List, [], ◌∷◌, ◌++◌, length, get_or, take, drop, position, Option, Some, None, IsSome, Contains, All, refl, sym, ap, subst, ◌∙◌, inl, inr, ⊎_elim, arith, append-nil, append_assoc, length-append, length-take, length-drop}
+use Rattle.std.proofs.Common.{◌≡◌, ◌⊎◌, ℕ, zero, suc, ◌+◌, ◌-◌, ◌<◌, ◌≤◌, max, Bool, true, false, cond, leb, ltb, eqb, List, [], ◌∷◌, ◌++◌, length, get_or, take, drop, position, Option, Some, None, IsSome, Contains, All, refl, sym, ap, subst, ◌∙◌, inl, inr, arith, append-nil, length-append, length-take, length-drop}
 use Rattle.std.specs.Prelude.{SomeIff, ◌&&◌}
 use Rattle.std.specs.Option.{option_map}
 use Rattle.std.specs.List.Sorted.{IsStrictlyIncreasing}
 use Rattle.std.proofs.lemmas.Bool.{cases_lt, eq-eqb, eqb-true, false≢true, le-ltb, leb-false, leb-true, lt-leb}
-use Rattle.std.proofs.lemmas.List.{drop-drop, get_or_default, get_or_append_left, get_or_push, take-append-drop, take_all}
+use Rattle.std.proofs.lemmas.List.{drop-drop, get_or_default, get_or_append_left, get_or_push, take-append-drop}
 use Rattle.std.proofs.lemmas.List.Folds.{list_any_none}
 use Rattle.std.proofs.lemmas.List.Kept.{AllPairs-from_increasing}
 use Rattle.std.proofs.lemmas.List.Sums.{fails_before_first}
@@ -13,8 +13,8 @@ use Rattle.dwz_docs.specs.Pruning.{bytes_kept, is_in_range, is_kept, new_number,
 use Rattle.dwz_docs.specs.Texts.{NoZero, text_at, text_in}
 use Rattle.dwz_docs.proofs.PruneLemmas.{all_kept, end_of_text, kept-append, kept_in_range, length_kept, none_kept, some_text}
 use Rattle.dwz_docs.proofs.TextRowLemmas.{place_of_none}
-use Rattle.dwz_docs.proofs.TextLemmas.{Begins, text_again, text_begins}
-use Rattle.dwz_strs.specs.Pruned.{IsPruned, Pruning, RisesAlong, moved_in, pruning}
+use Rattle.dwz_docs.proofs.TextLemmas.{text_again, text_begins}
+use Rattle.dwz_strs.specs.Pruned.{IsPruned, RisesAlong, pruning}
 use Rattle.dwz_strs.specs.Steps.{end_behind}
 
 -- ---- ranges

@@ -1,9 +1,9 @@
 -- Contributions one after the other: what is left decides the rest.
-use Rattle.std.proofs.Common.{◌≡◌, ℕ, zero, suc, ◌+◌, ◌-◌, ◌*◌, ◌<◌, ◌≤◌, Bool, true, false, cond, List, [], ◌∷◌, ◌++◌, length, drop, Option, Some, None, refl, sym, ap, subst, ◌∙◌, arith, append_assoc, append-nil, length-drop}
+use Rattle.std.proofs.Common.{◌≡◌, ℕ, zero, suc, ◌+◌, ◌-◌, ◌*◌, ◌<◌, ◌≤◌, Bool, true, false, cond, List, [], ◌∷◌, ◌++◌, length, drop, Option, Some, None, refl, sym, ap, ◌∙◌, arith, append_assoc, append-nil, length-drop}
 use Rattle.std.specs.Option.{option_map}
 use Rattle.std.proofs.lemmas.List.{drop-drop, drop_all}
 use Rattle.dwz_docs.specs.OffsetTables.{count_at, counts_in, is_contribution, places_from, slot_places, slots_in}
-use Rattle.dwz_docs.proofs.OffsetLemmas.{Whole, counts_end, counts_step, whole}
+use Rattle.dwz_docs.proofs.OffsetLemmas.{counts_end, counts_step, whole}
 
 -- ---- places
 

@@ -1,4 +1,4 @@
-use Rattle.std.proofs.Common.{◌∙◌, ◌+◌, List, Option, ℕ, ap, arith, length}
+use Rattle.std.proofs.Common.{ap, arith}
 use Rattle.dwz_docs.specs.Pruning.{ended_length, range_end}
 use Rattle.dwz_strs.proofs.pruning.range_end.Goals as goal
 

@@ -2,7 +2,6 @@
 use Rattle.std.proofs.Common.{◌≡◌, ℕ, zero, suc, ◌+◌, ◌/◌, ◌%◌, ◌^◌, ◌<◌, ◌≤◌, List, [], ◌∷◌, length, drop, get_or, set, Result, Ok, Err, IsOkAnd, IfOk, refl, sym, ap, ◌∙◌, arith}
 use Rattle.std.specs.Int.{bytes_low_first, to_le_bytes, w32}
 use Rattle.std.proofs.Math.Nat.{div-div-eq-div-mul, div-one, pow-suc}
-use Rattle.std.proofs.Math.ListN.{length-set}
 use Rattle.std.proofs.lemmas.List.{drop_more, length-append, length-drop}
 use Rattle.dwz_model.specs.declared.fault.Fault.{Fault}
 use Rattle.dwz_bytes.specs.Input.{Input, input}
@@ -12,6 +11,7 @@ use Rattle.dwz_meanings.specs.Patching.{with_units, written_at}
 use Rattle.dwz_meanings.specs.Ranges.{RangeSet, set_at, sets_at}
 use Rattle.dwz_meanings.specs.Sequences.{after_one, with_item}
 use Rattle.dwz_meanings.proofs.RangeLemmas.{set_reads}
+use Rattle.dwz_meanings.proofs.WriteOver.{written_len}
 use Rattle.dwz_aranges.specs.Patching.{IsPatched}
 use Rattle.dwz_aranges.specs.Views.{any_unit}
 use Rattle.dwz_aranges.proofs.WholeLemmas.{left_of, sets_begin, sets_end}
@@ -48,11 +48,6 @@ four_written at n bytes new is =
     ap (λ (w : List ℕ). set (set (set (set bytes at (get_or w 0 0)) (at + 1) (get_or w 1 0)) (at + 2) (get_or w 2 0)) (at + 3) (get_or w 3 0)) same
     ∙ one_by_one at (get_or (le_bytes 4 n) 0 0) (get_or (le_bytes 4 n) 1 0) (get_or (le_bytes 4 n) 2 0) (get_or (le_bytes 4 n) 3 0) bytes
     ∙ ap (λ (w : List ℕ). written_at at w bytes) (sym (four_bytes n))
-
-pub written_len : (at : ℕ) (new bytes : List ℕ) → length (written_at at new bytes) ≡ length bytes
-unfolding written_at
-written_len at [] bytes = refl
-written_len at (b ∷ new) bytes = written_len (at + 1) new (set bytes at b) ∙ length-set bytes at b
 
 one_unit : (set : RangeSet) (sets : List RangeSet) (n : ℕ) (numbers bytes : List ℕ) → with_units (set ∷ sets) (n ∷ numbers) bytes ≡ with_units sets numbers (written_at (set.at + 6) (le_bytes 4 n) bytes)
 unfolding with_units

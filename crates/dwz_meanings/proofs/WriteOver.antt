@@ -18,7 +18,7 @@ use Rattle.dwz_meanings.proofs.RenumberLemmas.{numbered}
 
 -- ---- bytes written over others
 
-written_len : (at : ℕ) (new bytes : List ℕ) → length (written_at at new bytes) ≡ length bytes
+pub written_len : (at : ℕ) (new bytes : List ℕ) → length (written_at at new bytes) ≡ length bytes
 unfolding written_at
 written_len at [] bytes = refl
 written_len at (b ∷ new) bytes = written_len (at + 1) new (set bytes at b) ∙ length-set bytes at b
@@ -90,23 +90,23 @@ module _ (number : ℕ → ℕ) where
     within : p.at + p.width ≤ length bytes
     within = let more = lie_le (p.at + p.width) end os h.2 in omega (arith, more, le)
 
-    size : length (written_at p.at (number_bytes p.uleb p.width (number p.at)) bytes) ≡ length bytes
+    size : length first ≡ length bytes
     size = written_len p.at (number_bytes p.uleb p.width (number p.at)) bytes
 
     -- those behind it leave it as it is
-    left : between p.at (p.at + p.width) (after os (written_at p.at (number_bytes p.uleb p.width (number p.at)) bytes)) ≡ between p.at (p.at + p.width) (written_at p.at (number_bytes p.uleb p.width (number p.at)) bytes)
-    left = between_same p.at (p.at + p.width) (written_at p.at (number_bytes p.uleb p.width (number p.at)) bytes) (after os (written_at p.at (number_bytes p.uleb p.width (number p.at)) bytes))
-        (after_len os (written_at p.at (number_bytes p.uleb p.width (number p.at)) bytes)) (omega arith) (omega (arith, within, size))
-        (λ b from to. after_other os (written_at p.at (number_bytes p.uleb p.width (number p.at)) bytes) b (λ q there has. let begins = begins_behind (p.at + p.width) end os h.2 q there in omega (arith, begins, to, has.0)))
+    left : between p.at (p.at + p.width) (after os first) ≡ between p.at (p.at + p.width) first
+    left = between_same p.at (p.at + p.width) first (after os first)
+        (after_len os first) (omega arith) (omega (arith, within, size))
+        (λ b from to. after_other os first b (λ q there has. let begins = begins_behind (p.at + p.width) end os h.2 q there in omega (arith, begins, to, has.0)))
 
     count : p.at + p.width - p.at ≡ p.width
     count = omega arith
 
-    here : take p.width (drop p.at (written_at p.at (number_bytes p.uleb p.width (number p.at)) bytes)) ≡ number_bytes p.uleb p.width (number p.at)
-    here = ap (λ (n : ℕ). take n (drop p.at (written_at p.at (number_bytes p.uleb p.width (number p.at)) bytes))) (sym len) ∙ written_here p.at (number_bytes p.uleb p.width (number p.at)) bytes (omega (arith, len, within))
+    here : take p.width (drop p.at first) ≡ number_bytes p.uleb p.width (number p.at)
+    here = ap (λ (n : ℕ). take n (drop p.at first)) (sym len) ∙ written_here p.at (number_bytes p.uleb p.width (number p.at)) bytes (omega (arith, len, within))
 
-    own : take p.width (drop p.at (after os (written_at p.at (number_bytes p.uleb p.width (number p.at)) bytes))) ≡ number_bytes p.uleb p.width (number p.at)
-    own = ap (λ (n : ℕ). take n (drop p.at (after os (written_at p.at (number_bytes p.uleb p.width (number p.at)) bytes)))) (sym count) ∙ left ∙ ap (λ (n : ℕ). take n (drop p.at (written_at p.at (number_bytes p.uleb p.width (number p.at)) bytes))) count ∙ here
+    own : take p.width (drop p.at (after os first)) ≡ number_bytes p.uleb p.width (number p.at)
+    own = ap (λ (n : ℕ). take n (drop p.at (after os first))) (sym count) ∙ left ∙ ap (λ (n : ℕ). take n (drop p.at first)) count ∙ here
 
 -- ---- rows of operands
 
@@ -127,27 +127,26 @@ pub rows_patched : (lists : List NamedList) (rows : List ListOperand) (numbers s
     → IsPatched lists (number_at (operands rows) numbers) section (with_operands (renumbered (operands rows) numbers) section)
 rows_patched lists rows numbers section are apart many within = subst (IsPatched lists number section) (ap (λ (w : List Operand). with_operands w section) same) patched where
   number : ℕ → ℕ
-  number = number_at (map (λ r. r.operand) rows) numbers
+  number = number_at (operands rows) numbers
 
   lie : Lie 0 (length section) (operands rows)
   lie = rows_lie (length section) rows apart are.some within 0 (omega arith) (λ o others same. omega arith)
 
-  same : map (with_number (number_at (operands rows) numbers)) (operands rows) ≡ renumbered (operands rows) numbers
+  same : map (with_number number) (operands rows) ≡ renumbered (operands rows) numbers
   same = numbered 0 (length section) (operands rows) numbers lie (many ∙ sym (length-map rows (λ (r : ListOperand). r.operand)))
 
-  written : (o : ListOperand) → In o (operands_in_lists lists) → take o.operand.width (drop o.operand.at (after (number_at (operands rows) numbers) (operands rows) section)) ≡ number_bytes o.operand.uleb o.operand.width (number_at (operands rows) numbers o.operand.at)
+  written : (o : ListOperand) → In o (operands_in_lists lists) → take o.operand.width (drop o.operand.at (after number (operands rows) section)) ≡ number_bytes o.operand.uleb o.operand.width (number o.operand.at)
   written o there =
-      let f = number_at (operands rows) numbers in
-      let new = after f (operands rows) section in
+      let new = after number (operands rows) section in
       let r = are.all o there in
       let is = r.2 in
-      let own = after_here f 0 (length section) (operands rows) section lie (omega arith) r.0.operand (map_in (λ (q : ListOperand). q.operand) r.0 rows r.1) in
-      sym (λ i. take (is.width i) (drop (is.at i) new)) ∙ own ∙ (λ i. number_bytes (is.uleb i) (is.width i) (f (is.at i)))
+      let own = after_here number 0 (length section) (operands rows) section lie (omega arith) r.0.operand (map_in (λ (q : ListOperand). q.operand) r.0 rows r.1) in
+      sym (λ i. take (is.width i) (drop (is.at i) new)) ∙ own ∙ (λ i. number_bytes (is.uleb i) (is.width i) (number (is.at i)))
 
-  others : (b : ℕ) → ((o : ListOperand) → In o (operands_in_lists lists) → HasByte o.operand b → ⊥) → get_or (after (number_at (operands rows) numbers) (operands rows) section) b 0 ≡ get_or section b 0
-  others b none = after_other (number_at (operands rows) numbers) (operands rows) section b (λ o there has.
+  others : (b : ℕ) → ((o : ListOperand) → In o (operands_in_lists lists) → HasByte o.operand b → ⊥) → get_or (after number (operands rows) section) b 0 ≡ get_or section b 0
+  others b none = after_other number (operands rows) section b (λ o there has.
       let r = in_map (λ (r : ListOperand). r.operand) o rows there in
       none r.0 (are.from r.0 r.1) (subst (λ (w : Operand). HasByte w b) (sym r.2) has))
 
-  patched : IsPatched lists (number_at (operands rows) numbers) section (after (number_at (operands rows) numbers) (operands rows) section)
-  patched = record { len = after_len (number_at (operands rows) numbers) (operands rows) section; written = written; others = others }
+  patched : IsPatched lists number section (after number (operands rows) section)
+  patched = record { len = after_len number (operands rows) section; written = written; others = others }

@@ -15,7 +15,7 @@ use Rattle.dwz_writing.specs.Writing.{Numbering, base_place, operand_bytes, part
 use Rattle.dwz_writing.proofs.WriteLengths.{operand_len}
 use Rattle.dwz_writing.proofs.CutLemmas.{Cut, Gap, Narrow, Replaced, Replaces, Slot, Tail, behind, behind_replaced, bytes_behind, bytes_prepend, cut_bytes, cut_operands, cut_parts, operand_at, operands_behind, operands_prepend, parts_cut, prepend, prepend_replaced, replaced_parts, replaced_size, sized_behind, sized_prepend}
 
-operands_append : (xs ys : List Found) → operands_in (xs ++ ys) ≡ operands_in xs ++ operands_in ys
+pub operands_append : (xs ys : List Found) → operands_in (xs ++ ys) ≡ operands_in xs ++ operands_in ys
 unfolding operands_in
 operands_append [] ys = refl
 operands_append (Names o ∷ xs) ys = ap (λ (w : List Operand). o ∷ w) (operands_append xs ys)
@@ -23,10 +23,10 @@ operands_append (AnAddress ∷ xs) ys = operands_append xs ys
 operands_append (Holds e ∷ xs) ys = ap (λ (w : List Operand). e.operands ++ w) (operands_append xs ys) ∙ sym (append_assoc e.operands (operands_in xs) (operands_in ys))
 
 -- the parts of the expressions that founds hold
-inner_parts : List Found → List (List Part)
+unfoldable pub inner_parts : List Found → List (List Part)
 inner_parts founds = map parts_of (expressions_in founds)
 
-inner_append : (xs ys : List Found) → inner_parts (xs ++ ys) ≡ inner_parts xs ++ inner_parts ys
+pub inner_append : (xs ys : List Found) → inner_parts (xs ++ ys) ≡ inner_parts xs ++ inner_parts ys
 unfolding inner_parts expressions_in
 inner_append [] ys = refl
 inner_append (Names o ∷ xs) ys = inner_append xs ys
@@ -61,26 +61,26 @@ parts_are e start bytes c at same cut operands =
 -- ---- what is cut
 
 -- with other operands the bytes spell founds with these, where they name entries, and expressions with the same parts
-abbrev SpellsOther : (Operand → Bool) → Spelling (List Found) → List Found → Cut → ℕ → Type 0
+abbrev pub SpellsOther : (Operand → Bool) → Spelling (List Found) → List Found → Cut → ℕ → Type 0
 SpellsOther names Spells founds new place = (others : List Found) × Spells others place (cut_bytes new) × (operands_in others ≡ cut_operands place new) × (inner_parts others ≡ inner_parts founds)
 
-record CutAs (names : Operand → Bool) (Spells : Spelling (List Found)) (founds : List Found) (start : ℕ) (bytes : List ℕ) : Type 0 where
-  cut : Cut
-  sized : Narrow cut
-  bytes_are : bytes ≡ cut_bytes cut
-  operands_are : operands_in founds ≡ cut_operands start cut
-  again : (new : Cut) → Replaced cut new → (place : ℕ) → AreNamed names (cut_operands place new) → SpellsOther names Spells founds new place
+pub record CutAs (names : Operand → Bool) (Spells : Spelling (List Found)) (founds : List Found) (start : ℕ) (bytes : List ℕ) : Type 0 where
+  pub cut : Cut
+  pub sized : Narrow cut
+  pub bytes_are : bytes ≡ cut_bytes cut
+  pub operands_are : operands_in founds ≡ cut_operands start cut
+  pub again : (new : Cut) → Replaced cut new → (place : ℕ) → AreNamed names (cut_operands place new) → SpellsOther names Spells founds new place
 
 -- the same of an expression
-record CutExpr (names : Operand → Bool) (IsExpr : Spelling Expression) (e : Expression) (start : ℕ) (bytes : List ℕ) : Type 0 where
-  cut : Cut
-  sized : Narrow cut
-  bytes_are : bytes ≡ cut_bytes cut
-  operands_are : e.operands ≡ cut_operands start cut
-  again : (new : Cut) → Replaced cut new → (place : ℕ) → AreNamed names (cut_operands place new) → (f : Expression) × IsExpr f place (cut_bytes new) × (f.operands ≡ cut_operands place new) × (parts_of f ≡ parts_of e)
+pub record CutExpr (names : Operand → Bool) (IsExpr : Spelling Expression) (e : Expression) (start : ℕ) (bytes : List ℕ) : Type 0 where
+  pub cut : Cut
+  pub sized : Narrow cut
+  pub bytes_are : bytes ≡ cut_bytes cut
+  pub operands_are : e.operands ≡ cut_operands start cut
+  pub again : (new : Cut) → Replaced cut new → (place : ℕ) → AreNamed names (cut_operands place new) → (f : Expression) × IsExpr f place (cut_bytes new) × (f.operands ≡ cut_operands place new) × (parts_of f ≡ parts_of e)
 
 -- bytes without an operand
-plain : (names : Operand → Bool) (Spells : Spelling (List Found)) (founds : List Found) (start : ℕ) (bytes : List ℕ) → operands_in founds ≡ []
+pub plain : (names : Operand → Bool) (Spells : Spelling (List Found)) (founds : List Found) (start : ℕ) (bytes : List ℕ) → operands_in founds ≡ []
     → ((place : ℕ) → (others : List Found) × Spells others place bytes × (operands_in others ≡ []) × (inner_parts others ≡ inner_parts founds)) → CutAs names Spells founds start bytes
 plain names Spells founds start bytes none each = record {
   cut = Tail bytes;
@@ -122,7 +122,7 @@ alone names Spells uleb base number start bytes founds some most is each = recor
 
 -- ---- one behind the other, and bytes before
 
-join_cut : (names : Operand → Bool) (A B C : Spelling (List Found))
+pub join_cut : (names : Operand → Bool) (A B C : Spelling (List Found))
     → ((xs ys : List Found) (place : ℕ) (front back : List ℕ) → A xs place front → B ys (place + length front) back → C (xs ++ ys) place (front ++ back))
     → (xs ys : List Found) (start : ℕ) (front back : List ℕ) → CutAs names A xs start front → CutAs names B ys (start + length front) back → CutAs names C (xs ++ ys) start (front ++ back)
 join_cut names A B C join xs ys start front back one more = record {
@@ -148,7 +148,7 @@ join_cut names A B C join xs ys start front back one more = record {
           inner_append a.0 b.0 ∙ ap (λ (w : List (List Part)). w ++ inner_parts b.0) a.3 ∙ ap (λ (w : List (List Part)). inner_parts xs ++ w) b.3 ∙ sym (inner_append xs ys),
         )
 
-prefix_cut : (names : Operand → Bool) (A C : Spelling (List Found)) (front bytes : List ℕ)
+pub prefix_cut : (names : Operand → Bool) (A C : Spelling (List Found)) (front bytes : List ℕ)
     → ((xs : List Found) (place : ℕ) (back : List ℕ) → length back ≡ length bytes → AreNamed names (operands_in xs) → A xs (place + length front) back → C xs place (front ++ back))
     → (xs : List Found) (start : ℕ) → CutAs names A xs (start + length front) bytes → CutAs names C xs start (front ++ bytes)
 prefix_cut names A C front bytes join xs start one = record {
@@ -174,7 +174,7 @@ prefix_cut names A C front bytes join xs start one = record {
         )
 
 -- the same of equal founds and bytes
-same_cut : (names : Operand → Bool) (C : Spelling (List Found)) (xs ys : List Found) (start : ℕ) (a b : List ℕ) → xs ≡ ys → a ≡ b → CutAs names C ys start b → CutAs names C xs start a
+pub same_cut : (names : Operand → Bool) (C : Spelling (List Found)) (xs ys : List Found) (start : ℕ) (a b : List ℕ) → xs ≡ ys → a ≡ b → CutAs names C ys start b → CutAs names C xs start a
 same_cut names C xs ys start a b p q is = subst (λ (w : List Found). CutAs names C w start a) (sym p) (subst (λ (w : List ℕ). CutAs names C ys start w) (sym q) is)
 
 -- ---- fields
@@ -262,7 +262,7 @@ module _ (names : Operand → Bool) (IsExpr IsAgain : Spelling Expression) (insi
           again = λ new h place named. (let o = c.again new h place named in (Holds o.0 ∷ [], (o.0, o.1, refl), holds_one o.0 ∙ o.2, inner_one o.0 ∙ ap (λ (w : List Part). w ∷ []) o.3 ∙ sym (inner_one e)));
         }
 
-  fields_cut : (fields : List Field) (founds : List Found) (start : ℕ) (bytes : List ℕ) → SpellsFields IsExpr fields founds start bytes → CutAs names (SpellsFields IsAgain fields) founds start bytes
+  pub fields_cut : (fields : List Field) (founds : List Found) (start : ℕ) (bytes : List ℕ) → SpellsFields IsExpr fields founds start bytes → CutAs names (SpellsFields IsAgain fields) founds start bytes
   fields_cut [] founds start bytes s = plain names _ founds start bytes (ap operands_in s.0 ∙ none_in) (λ place. ([], (refl, s.1), none_in, ap inner_parts (sym s.0)))
   fields_cut (field ∷ fields) founds start bytes s =
       let b = s.both in
@@ -272,6 +272,18 @@ module _ (names : Operand → Bool) (IsExpr IsAgain : Spelling Expression) (insi
       s.x s.y start b.first_bytes b.second_bytes (field_cut field s.x start b.first_bytes b.first) (fields_cut fields s.y (start + length b.first_bytes) b.second_bytes b.second))
 
 -- ---- operators and expressions
+
+pub none_joined : joined [] ≡ []
+unfolding joined
+none_joined = refl
+
+pub more_joined : (founds : List Found) (ops : List (List Found)) → joined (founds ∷ ops) ≡ founds ++ joined ops
+unfolding joined
+more_joined founds ops = refl
+
+pub no_operands : operands_in [] ≡ []
+unfolding operands_in
+no_operands = refl
 
 module _ (c d : ExprContext) (IsExpr IsAgain : Spelling Expression) (inside : (e : Expression) (start : ℕ) (bytes : List ℕ) → IsExpr e start bytes → CutExpr d.names IsAgain e start bytes) where
   op_cut : (founds : List Found) (start : ℕ) (bytes : List ℕ) → SpellsOp c IsExpr founds start bytes → CutAs d.names (SpellsOp d IsAgain) founds start bytes
@@ -284,18 +296,6 @@ module _ (c d : ExprContext) (IsExpr IsAgain : Spelling Expression) (inside : (e
   -- operators in order
   Ops : Spelling (List Found)
   Ops founds place bytes = (ops : List (List Found)) × SpellsAll (SpellsOp d IsAgain) ops place bytes × (founds ≡ joined ops)
-
-  none_joined : joined [] ≡ []
-  unfolding joined
-  none_joined = refl
-
-  more_joined : (founds : List Found) (ops : List (List Found)) → joined (founds ∷ ops) ≡ founds ++ joined ops
-  unfolding joined
-  more_joined founds ops = refl
-
-  no_operands : operands_in [] ≡ []
-  unfolding operands_in
-  no_operands = refl
 
   ops_cut : (ops : List (List Found)) (start : ℕ) (bytes : List ℕ) → SpellsAll (SpellsOp c IsExpr) ops start bytes → CutAs d.names Ops (joined ops) start bytes
   unfolding Ops
@@ -322,12 +322,12 @@ made_cut c d k inside e start bytes s =
             record { ops = o.1.0; spelled = o.1.1; made = refl },
             ap operands_in (sym o.1.2) ∙ o.2,
             parts_are (expression_of place (cut_bytes new) o.1.0) place (cut_bytes new) new refl refl refl (ap operands_in (sym o.1.2) ∙ o.2)
-            ∙ replaced_parts is.cut new replaced
-            ∙ sym (parts_are e start bytes is.cut (ap (λ (x : Expression). x.at) s.made) (ap (λ (x : Expression). x.bytes) s.made) is.bytes_are (ap (λ (x : Expression). x.operands) s.made ∙ is.operands_are)),
+                ∙ replaced_parts is.cut new replaced
+                ∙ sym (parts_are e start bytes is.cut (ap (λ (x : Expression). x.at) s.made) (ap (λ (x : Expression). x.bytes) s.made) is.bytes_are (ap (λ (x : Expression). x.operands) s.made ∙ is.operands_are)),
           ));
     }
 
-within_cut : (c d : ExprContext) (k : ℕ) (e : Expression) (start : ℕ) (bytes : List ℕ) → SpellsWithin c k e start bytes → CutExpr d.names (SpellsWithin d k) e start bytes
+pub within_cut : (c d : ExprContext) (k : ℕ) (e : Expression) (start : ℕ) (bytes : List ℕ) → SpellsWithin c k e start bytes → CutExpr d.names (SpellsWithin d k) e start bytes
 within_cut c d zero e start bytes s = absurd s
 within_cut c d (suc k) e start bytes s = made_cut c d k (within_cut c d k) e start bytes s
 
@@ -340,13 +340,13 @@ renumber n unit (Gap g s c) [] = Gap g s c
 renumber n unit (Gap g s c) (k ∷ refs) =
     Gap g (record { uleb = s.uleb; base = s.base; number = n.place k - base_place unit s.base; bytes = operand_bytes s.uleb (length s.bytes) (n.place k - base_place unit s.base) }) (renumber n unit c refs)
 
-module _ {K : Type 0} (n : Numbering K) (unit : ℕ) where
-  slot_replaced : (s : Slot) (number : ℕ) → 0 < length s.bytes → length s.bytes ≤ 10 → FitsWidth s.uleb (length s.bytes) number → Replaces s (record { uleb = s.uleb; base = s.base; number = number; bytes = operand_bytes s.uleb (length s.bytes) number })
-  slot_replaced s number some most fits = by s.uleb fits where
-    by : (b : Bool) → FitsWidth b (length s.bytes) number → Replaces (record { uleb = b; base = s.base; number = s.number; bytes = s.bytes }) (record { uleb = b; base = s.base; number = number; bytes = operand_bytes b (length s.bytes) number })
-    by true f = record { uleb = refl; base = refl; width = padded_len (length s.bytes) number; some = f.0; spelled = padded_spells (length s.bytes) number some most f.1 f.2 }
-    by false f = record { uleb = refl; base = refl; width = (fixed_written (length s.bytes) number f.1).len; some = f.0; spelled = (fixed_written (length s.bytes) number f.1).value }
+pub slot_replaced : (s : Slot) (number : ℕ) → 0 < length s.bytes → length s.bytes ≤ 10 → FitsWidth s.uleb (length s.bytes) number → Replaces s (record { uleb = s.uleb; base = s.base; number = number; bytes = operand_bytes s.uleb (length s.bytes) number })
+slot_replaced s number some most fits = by s.uleb fits where
+  by : (b : Bool) → FitsWidth b (length s.bytes) number → Replaces (record { uleb = b; base = s.base; number = s.number; bytes = s.bytes }) (record { uleb = b; base = s.base; number = number; bytes = operand_bytes b (length s.bytes) number })
+  by true f = record { uleb = refl; base = refl; width = padded_len (length s.bytes) number; some = f.0; spelled = padded_spells (length s.bytes) number some most f.1 f.2 }
+  by false f = record { uleb = refl; base = refl; width = (fixed_written (length s.bytes) number f.1).len; some = f.0; spelled = (fixed_written (length s.bytes) number f.1).value }
 
+module _ {K : Type 0} (n : Numbering K) (unit : ℕ) where
   renumbered : (c : Cut) (refs : List K) → Narrow c → OperandsFit n unit (cut_parts c) refs → Replaced c (renumber n unit c refs)
   unfolding renumber
   renumbered (Tail t) [] sized fits = refl

@@ -1,11 +1,14 @@
 -- Expressions whose operands name entries at other places: new numbers of the same widths.
-use Rattle.std.specs.Prelude.{◌≡◌, ℕ, ◌-◌, ◌<◌, ◌^◌, Bool, true, false, List, [], ◌∷◌, length}
+use Rattle.std.specs.Prelude.{◌≡◌, ℕ, ◌+◌, ◌-◌, ◌<◌, ◌^◌, Bool, true, false, List, [], ◌∷◌, ◌++◌, length, map, take, drop}
 use Rattle.dwz_meanings.specs.declared.exprs.Operand.{Operand}
 use Rattle.dwz_meanings.specs.Documents.{Expr, Part, Plain, Same}
 use Rattle.dwz_meanings.specs.Documents as document
 use Rattle.dwz_meanings.specs.Exprs.{ExprContext, Expression, SpellsExpr, parts_of}
+use Rattle.dwz_meanings.specs.LocLists.{LocList, SpellsList}
+use Rattle.dwz_meanings.specs.Shared.{operands_of}
+use Rattle.dwz_seen.specs.Lists.{Each}
 use Rattle.dwz_alike.specs.Spots.{Spot}
-use Rattle.dwz_writing.specs.Writing.{Numbering, base_place, parts_bytes}
+use Rattle.dwz_writing.specs.Writing.{Numbering, base_place, operand_bytes, parts_bytes}
 
 -- the number fits so many bytes, as a ULEB128 number or as one of a fixed width; it isn't 0, which for some operators is no entry
 abbrev pub FitsWidth : Bool → ℕ → ℕ → Type 0
@@ -52,3 +55,32 @@ abbrev pub PatchLaw : Type 0
 PatchLaw =
     (c d : ExprContext) (n : Numbering Spot) (unit start place : ℕ) (e : Expression) (bytes : List ℕ) (refs : List Spot) → SpellsExpr c e start bytes
     → OperandsFit n unit (parts_of e) refs → OperandsName d n unit (parts_of e) refs → IsPatched d n unit place e refs
+
+-- ---- location lists
+
+-- the bytes from a place on, in which each of these operands has another number, in as many bytes
+unfoldable pub patched_bytes : (Operand → ℕ) → ℕ → List ℕ → List Operand → List ℕ
+patched_bytes number at bytes [] = bytes
+patched_bytes number at bytes (o ∷ operands) =
+    take (o.at - at) bytes ++ (operand_bytes o.uleb o.width (number o) ++ patched_bytes number (o.at + o.width) (drop (o.at + o.width - at) bytes) operands)
+
+-- the same operands, with the other numbers
+abbrev pub AreRenumbered : (Operand → ℕ) → List Operand → List Operand → Type 0
+AreRenumbered number [] [] = Unit {0}
+AreRenumbered number (o ∷ operands) (p ∷ others) = (p.base ≡ o.base) × (p.number ≡ number o) × AreRenumbered number operands others
+AreRenumbered number _ _ = ⊥
+
+-- the patched bytes of a list are a list of the same length, whose expressions have the same parts and the other numbers
+pub record IsPatchedList (d : ExprContext) (number : Operand → ℕ) (start place : ℕ) (l : LocList) (bytes : List ℕ) : Type 0 where
+  pub list : LocList
+  pub spelled : SpellsList d list place (patched_bytes number start bytes (operands_of l.exprs))
+  pub parts : map parts_of list.exprs ≡ map parts_of l.exprs
+  pub operands : AreRenumbered number (operands_of l.exprs) (operands_of list.exprs)
+  pub size : length (patched_bytes number start bytes (operands_of l.exprs)) ≡ length bytes
+
+-- so it is where the other numbers fit, and name entries
+abbrev pub ListPatchLaw : Type 0
+ListPatchLaw =
+    (c d : ExprContext) (number : Operand → ℕ) (start place : ℕ) (l : LocList) (bytes : List ℕ) → SpellsList c l start bytes
+    → Each (λ o. FitsWidth o.uleb o.width (number o)) (operands_of l.exprs) → Each (λ o. (p : Operand) → p.base ≡ o.base → p.number ≡ number o → d.names p ≡ true) (operands_of l.exprs)
+    → IsPatchedList d number start place l bytes

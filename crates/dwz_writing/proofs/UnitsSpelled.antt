@@ -71,6 +71,7 @@ header_some Partial = omega arith
 pub record Writes {K : Type 0} (n : Numbering K) (tables : List (List ℕ)) (mode : Mode) (before : ℕ) (u : DwUnit K) : Type 0 where
   pub sound : SoundUnit u
   pub fits : UnitFits n u
+  pub whole : mode.whole ≡ true
   pub partial : mode.partial ≡ true
   pub forms : mode.forms ≡ back_forms
   pub deep : suc (depth u.below) ≤ mode.depth
@@ -121,7 +122,7 @@ module _ {K : Type 0} (n : Numbering K) (tables : List (List ℕ)) (mode : Mode)
       let tree = tree_bytes n unit u in
       let bytes = unit_bytes n offset unit u in
       let len : size ≡ length bytes = sym (unit_len n unit offset u) in
-      let head = header_spelled n unit u.kind u.root.tag mode size offset w.sound.kind w.fits.kind w.partial (omega (arith, header_some u.kind)) w.small (offset_small w) in
+      let head = header_spelled n unit u.kind u.root.tag mode size offset w.sound.kind w.fits.kind w.whole w.partial (omega (arith, header_some u.kind)) w.small (offset_small w) in
       record {
         place = refl;
         end = ap (λ (k : ℕ). unit + k) len;
@@ -157,21 +158,21 @@ units_len n tables (u ∷ units) =
 
 module _ {K : Type 0} (n : Numbering K) (tables : List (List ℕ)) (mode : Mode) where
   pub units_spelled : (units : List (DwUnit K)) (at before : ℕ) → UnitsStand n units at → Each SoundUnit units → Each (UnitFits n) units → HasTables tables units
-      → mode.partial ≡ true → mode.forms ≡ back_forms → Each (λ u. suc (depth u.below) ≤ mode.depth) units → before + entry_total units ≤ mode.entries → units_size n units < 2 ^ 32 - 16 → length (joined tables) < 2 ^ 32
+      → mode.whole ≡ true → mode.partial ≡ true → mode.forms ≡ back_forms → Each (λ u. suc (depth u.below) ≤ mode.depth) units → before + entry_total units ≤ mode.entries → units_size n units < 2 ^ 32 - 16 → length (joined tables) < 2 ^ 32
       → SpellsUnits (joined tables) mode before (raw_units n tables units) at (units_bytes n tables units)
   unfolding units_bytes raw_units units_size entry_total
-  units_spelled [] at before stands s fits has partial forms deep room small tables_small = refl
-  units_spelled (u ∷ units) at before stands s fits has partial forms deep room small tables_small =
+  units_spelled [] at before stands s fits has whole partial forms deep room small tables_small = refl
+  units_spelled (u ∷ units) at before stands s fits has whole partial forms deep room small tables_small =
       let unit = n.place u.at in
       let bytes = unit_bytes n (table_offset tables u) unit u in
       let place = stands.0.unit in
-      let w : Writes n tables mode before u = record { sound = s.0; fits = fits.0; partial = partial; forms = forms; deep = deep.0; room = omega (arith, room); small = omega (arith, small); has = has.0; tables_small = tables_small } in
+      let w : Writes n tables mode before u = record { sound = s.0; fits = fits.0; whole = whole; partial = partial; forms = forms; deep = deep.0; room = omega (arith, room); small = omega (arith, small); has = has.0; tables_small = tables_small } in
       let here : UnitStands n u unit = subst (UnitStands n u) (sym place) stands.0 in
       let raw = raw_unit n tables u in
       let one : SpellsUnit (joined tables) mode before raw at bytes = subst (λ (k : ℕ). SpellsUnit (joined tables) mode before raw k bytes) place (unit_spelled n tables mode before u w here) in
       let len : at + unit_size n at u ≡ at + length bytes = ap (λ (k : ℕ). at + unit_size n k u) (sym place) ∙ ap (λ (k : ℕ). at + k) (sym (unit_len n unit (table_offset tables u) u)) in
       let count : before + (size u.below + 1) ≡ before + entry_count raw = ap (λ (k : ℕ). before + (k + 1)) (sym (size_raw n unit (table_of u) 0 0 mode forms u.below)) in
-      let others = units_spelled units (at + unit_size n at u) (before + (size u.below + 1)) stands.1 s.1 fits.1 has.1 partial forms deep.1 (omega (arith, room)) (omega (arith, small)) tables_small in
+      let others = units_spelled units (at + unit_size n at u) (before + (size u.below + 1)) stands.1 s.1 fits.1 has.1 whole partial forms deep.1 (omega (arith, room)) (omega (arith, small)) tables_small in
       record {
         first_bytes = bytes;
         first = one;

@@ -26,7 +26,7 @@ each_deep [] most le = tt
 each_deep (u ∷ units) most le = (omega (arith, le), each_deep units most (omega (arith, le)))
 
 pub is_roomy : {K : Type 0} (units : List (DwUnit K)) → IsRoomy units (mode_for units)
-is_roomy units = record { partial = refl; forms = refl; entries = omega arith; depth = each_deep units (deepest units) (omega arith) }
+is_roomy units = record { whole = refl; partial = refl; forms = refl; entries = omega arith; depth = each_deep units (deepest units) (omega arith) }
 
 -- ---- the sections
 
@@ -44,7 +44,7 @@ module _ {K : Type 0} (n : Numbering K) (common : List K) (units : List (DwUnit 
   unfolding sections
   spelled mode w fit roomy =
       let small = w.fits.1 in
-      units_spelled n (tables_of [] units) mode units 0 0 w.stands w.sound fit (tables_there units) roomy.partial roomy.forms roomy.depth (omega (arith, roomy.entries)) (size_small w) (omega (arith, small))
+      units_spelled n (tables_of [] units) mode units 0 0 w.stands w.sound fit (tables_there units) roomy.whole roomy.partial roomy.forms roomy.depth (omega (arith, roomy.entries)) (size_small w) (omega (arith, small))
 
 -- what is spelled means the units with places for names, whatever surrounds them, where their names stand there
 pub means : {K P : Type 0} (n : Numbering K) (g : K → P) (units : List (DwUnit K)) (t : Tells K) (around : Around P) → t.all ≡ all_entry_keys units → IsAround n g t (units_keys units) around → Each SoundUnit units → Each (UnitFits n) units → UnitsSay t units

@@ -89,10 +89,11 @@ back_forms tag is_root = written_rows
 
 -- just as many and as deep entries as there are
 abbrev pub mode_for : {K : Type 0} → List (DwUnit K) → Mode
-mode_for units = record { entries = entry_total units; depth = deepest units; partial = true; forms = back_forms }
+mode_for units = record { entries = entry_total units; depth = deepest units; whole = true; partial = true; forms = back_forms }
 
--- partial units and the forms of a supplementary file are read, and so many and so deep entries as there are
+-- units of all types and the forms of a supplementary file are read, and so many and so deep entries as there are
 pub record IsRoomy {K : Type 0} (units : List (DwUnit K)) (mode : Mode) : Type 0 where
+  pub whole : mode.whole ≡ true
   pub partial : mode.partial ≡ true
   pub forms : mode.forms ≡ back_forms
   pub entries : entry_total units ≤ mode.entries

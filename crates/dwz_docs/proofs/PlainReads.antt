@@ -212,13 +212,14 @@ module _ (machine flags : ℕ) (sections : List PlainSection) (fits : FitsPlain 
   len : length file ≡ plain_headers_at sections + 64 * (length sections + 2)
   len = length_plain machine flags sections
 
-  front_len : length front ≡ 64
+  pub front_len : length (plain_front machine flags (plain_headers_at sections) (length sections + 2)) ≡ 64
   front_len = length_front machine flags (plain_headers_at sections) (length sections + 2)
 
   zeros : replicate {A = ℕ} (plain_headers_at sections + 64 - plain_end sections) 0 ≡ replicate {A = ℕ} gap 0 ++ replicate {A = ℕ} 64 0
   zeros = let behind = headers_behind sections in ap (λ (k : ℕ). replicate {A = ℕ} k 0) (omega (arith, behind)) ∙ zeros_of gap 64
 
-  parts : file ≡ front ++ (contents ++ (names ++ ((replicate {A = ℕ} gap 0 ++ replicate {A = ℕ} 64 0) ++ (headers ++ last))))
+  pub parts : plain_file machine flags sections ≡ plain_front machine flags (plain_headers_at sections) (length sections + 2)
+      ++ (plain_contents sections ++ (plain_names sections ++ ((replicate {A = ℕ} (plain_headers_at sections - plain_end sections) 0 ++ replicate {A = ℕ} 64 0) ++ (plain_headers 1 64 sections ++ names_header_bytes sections))))
   unfolding plain_file
   parts = ap (λ (w : List ℕ). front ++ (contents ++ (names ++ (w ++ (headers ++ last))))) zeros
 
@@ -302,11 +303,14 @@ module _ (machine flags : ℕ) (sections : List PlainSection) (fits : FitsPlain 
       ∙ ap (λ (h : Header). header_of (plain_headers_at sections) 0 0 0 0 0 0 ∷ (headers_read (plain_headers_at sections + 64) 1 64 sections ++ h ∷ [])) last_read
 
   -- the names
+  pub names_header_is : names_header file ≡ header_of (plain_headers_at sections + 64 + 64 * length sections) (1 + length (section_names sections)) 3 0 (plain_names_at sections) (length (plain_names sections)) 1
+  names_header_is =
+      let place : plain_headers_at sections + 64 * (length sections + 1) ≡ last_place = omega arith in
+      ap (λ (fh : FileHeader). header_at file (fh.headers_at + 64 * fh.names)) fields_read ∙ ap (header_at file) place ∙ last_read
+
   table_is : name_table file ≡ names
   table_is =
-      let place : plain_headers_at sections + 64 * (length sections + 1) ≡ last_place = omega arith in
-      ap (λ (fh : FileHeader). content file (header_at file (fh.headers_at + 64 * fh.names))) fields_read
-      ∙ ap (λ (n : ℕ). content file (header_at file n)) place ∙ ap (content file) last_read
+      ap (content file) names_header_is
       ∙ here file to_names names ((replicate {A = ℕ} gap 0 ++ replicate {A = ℕ} 64 0) ++ (headers ++ last)) (plain_names_at sections) (length names) at_names names_len refl
 
   null_named : section_of names (header_of (plain_headers_at sections) 0 0 0 0 0 0) ≡ section_read (plain_headers_at sections) 0 0 0 0 0 0 []

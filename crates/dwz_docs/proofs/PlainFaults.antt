@@ -1,5 +1,5 @@
 -- A file of the plain layout has no fault but that a section has the name of an index.
-use Rattle.std.proofs.Common.{◌≡◌, ◌≢◌, ◌⊎◌, ℕ, zero, suc, ◌+◌, ◌-◌, ◌*◌, ◌^◌, ◌<◌, ◌≤◌, Bool, true, false, cond, ◌&&◌, ◌||◌, not, eqb, ltb, List, [], ◌∷◌, ◌++◌, length, get_or, replicate, All, AllPairs, Any, Option, Some, None, refl, sym, ap, subst, ◌∙◌, inl, inr, arith, append_assoc, append-nil, length-append, codes}
+use Rattle.std.proofs.Common.{◌≡◌, ◌≢◌, ◌⊎◌, ℕ, suc, ◌+◌, ◌*◌, ◌<◌, ◌≤◌, Bool, true, false, ◌&&◌, ◌||◌, not, eqb, ltb, List, [], ◌∷◌, ◌++◌, length, get_or, All, AllPairs, Any, Option, Some, None, refl, sym, ap, ◌∙◌, inl, inr, arith, append_assoc, append-nil, length-append, codes}
 use Rattle.std.specs.Prelude.{bit_and}
 use Rattle.std.specs.Int.{is_power_of_two}
 use Rattle.std.specs.List.{list_any}
@@ -7,15 +7,13 @@ use Rattle.std.proofs.lemmas.Bool.{eq-eqb, eqb-false, eqb-true, le-ltb, lt-ltb, 
 use Rattle.std.proofs.lemmas.List.Folds.{list_any-append, list_any-from_Any}
 use Rattle.dwz_model.specs.declared.fault.Fault.{Fault}
 use Rattle.dwz_model.specs.declared.fault.Reason.{Reason}
-use Rattle.dwz_model.specs.declared.fault.Reason.TheVariants.{Compressed, Index, NotElf}
-use Rattle.dwz_docs.specs.declared.elf.Header.{Header}
-use Rattle.dwz_docs.specs.declared.elf.Name.{Name}
+use Rattle.dwz_model.specs.declared.fault.Reason.TheVariants.{Compressed, Index}
 use Rattle.dwz_docs.specs.declared.elf.Section.{Section}
 use Rattle.dwz_docs.specs.ElfFaults.{identification}
-use Rattle.dwz_docs.specs.ElfHeaders.{file_header, headers_end, is_there}
+use Rattle.dwz_docs.specs.ElfHeaders.{file_header}
 use Rattle.dwz_docs.specs.ElfNames.{code_of, known_name, names_header, sections_in}
-use Rattle.dwz_docs.specs.ElfReading.{◌or◌, elf_fault, fault_if, field_fault, first_in, first_other, has_code, header_fault, identification_fault, is_misaligned, is_misnamed, is_misplaced, missing_fault, names_fault, unkept_fault, wrong_byte}
-use Rattle.dwz_docs.specs.PlainFile.{AreKnown, FitsPlain, PlainSection, index_fault, plain_contents, plain_end, plain_fields, plain_file, plain_headers_at, plain_names, plain_names_at, plain_sections, section_names, section_read, sections_read}
+use Rattle.dwz_docs.specs.ElfReading.{◌or◌, elf_fault, fault_if, field_fault, first_in, first_other, has_code, header_fault, identification_fault, missing_fault, names_fault, unkept_fault, wrong_byte}
+use Rattle.dwz_docs.specs.PlainFile.{AreKnown, FitsPlain, PlainSection, index_fault, plain_contents, plain_fields, plain_file, plain_headers_at, plain_names, plain_names_at, plain_sections, section_names, section_read, sections_read}
 use Rattle.dwz_docs.proofs.PlainLemmas.{headers_behind, length_plain}
 use Rattle.dwz_docs.proofs.PlainReads.{fields_read, names_header_is, parts, sections_are}
 
@@ -56,6 +54,7 @@ header_fine len index place name flags at size text before low within less fresh
     named (inr unused) = go (eqb (code_of text) 0) where
       apart : (list_any (has_code (code_of text)) before || eqb (length before) index) ≡ false
       apart = or_from (list_any (has_code (code_of text)) before) (eqb (length before) index) unused (ne_eqb (length before) index (λ (e : length before ≡ index). omega (arith, e, less)))
+
       go : (b : Bool) → (not b && (list_any (has_code (code_of text)) before || eqb (length before) index)) ≡ false
       go true = refl
       go false = apart
@@ -69,9 +68,10 @@ with_one c place name flags at size text before = list_any-append (has_code c) b
 
 same_fresh : (used others : ℕ → Bool) → ((c : ℕ) → used c ≡ others c) → (sections : List PlainSection) → Fresh used sections → Fresh others sections
 same_fresh used others same [] f = tt
-same_fresh used others same (s ∷ sections) f =
-    (elim f.0 [ inl none ↦ inl none | inr unused ↦ inr (sym (same (code_of s.name)) ∙ unused) ],
-    same_fresh (λ c. used c || eqb (code_of s.name) c) (λ c. others c || eqb (code_of s.name) c) (λ c. ap (λ (b : Bool). b || eqb (code_of s.name) c) (same c)) sections f.1)
+same_fresh used others same (s ∷ sections) f = (
+  elim f.0 [ inl none ↦ inl none | inr unused ↦ inr (sym (same (code_of s.name)) ∙ unused) ],
+  same_fresh (λ c. used c || eqb (code_of s.name) c) (λ c. others c || eqb (code_of s.name) c) (λ c. ap (λ (b : Bool). b || eqb (code_of s.name) c) (same c)) sections f.1,
+)
 
 headers_fine : (len index : ℕ) (before tail : List Section) (place name at : ℕ) (sections : List PlainSection) → 64 ≤ at → at + length (plain_contents sections) ≤ len → length before + length sections ≤ index
     → Fresh (λ c. list_any (has_code c) before) sections → first_in (header_fault len index) (before ++ sections_read place name at sections) tail ≡ None
@@ -82,23 +82,24 @@ headers_fine len index before tail place name at (s ∷ sections) low within les
     let one = section_read place name 1 s.flags at (length s.bytes) 1 s.name in
     let bytes_len = length-append s.bytes (plain_contents sections) in
     let here : header_fault len index before one ≡ None =
-        header_fine len index place name s.flags at (length s.bytes) s.name before low (omega (arith, within, bytes_len)) (omega (arith, less)) fresh.0 in
+    header_fine len index place name s.flags at (length s.bytes) s.name before low (omega (arith, within, bytes_len)) (omega (arith, less)) fresh.0 in
     let regrouped : before ++ sections_read place name at (s ∷ sections) ≡ (before ++ one ∷ []) ++ sections_read (place + 64) (name + (length s.name + 1)) (at + length s.bytes) sections =
-        sym (append_assoc before (one ∷ []) (sections_read (place + 64) (name + (length s.name + 1)) (at + length s.bytes) sections)) in
+    sym (append_assoc before (one ∷ []) (sections_read (place + 64) (name + (length s.name + 1)) (at + length s.bytes) sections)) in
     let others = headers_fine len index (before ++ one ∷ []) tail (place + 64) (name + (length s.name + 1)) (at + length s.bytes) sections (omega (arith, low)) (omega (arith, within, bytes_len))
-        (omega (arith, less, length-append before (one ∷ [])))
-        (same_fresh (λ c. list_any (has_code c) before || eqb (code_of s.name) c) (λ c. list_any (has_code c) (before ++ one ∷ [])) (λ c. sym (with_one c place name s.flags at (length s.bytes) s.name before)) sections fresh.1)
-        (ap (λ (b : List Section). first_in (header_fault len index) b tail) (sym regrouped) ∙ last) in
+    (omega (arith, less, length-append before (one ∷ [])))
+    (same_fresh (λ c. list_any (has_code c) before || eqb (code_of s.name) c) (λ c. list_any (has_code c) (before ++ one ∷ [])) (λ c. sym (with_one c place name s.flags at (length s.bytes) s.name before)) sections fresh.1)
+    (ap (λ (b : List Section). first_in (header_fault len index) b tail) (sym regrouped) ∙ last) in
     none_or (header_fault len index before one) _ here others
 
 -- sections whose codes differ
 fresh_of : (used : ℕ → Bool) (sections : List PlainSection) → AllPairs (λ a b. code_of a.name ≢ 0 → code_of a.name ≢ code_of b.name) sections
     → ((k : ℕ) (d : PlainSection) → k < length sections → (code_of (get_or sections k d).name ≡ 0) ⊎ (used (code_of (get_or sections k d).name) ≡ false)) → Fresh used sections
 fresh_of used [] apart each = tt
-fresh_of used (s ∷ sections) apart each =
-    (each 0 s (omega arith),
-    fresh_of (λ c. used c || eqb (code_of s.name) c) sections (λ i j d less lt. apart (suc i) (suc j) d (omega (arith, less)) (omega (arith, lt)))
-    (λ k d lt. other k d lt (each (suc k) d (omega (arith, lt))) (apart 0 (suc k) d (omega arith) (omega (arith, lt)))))
+fresh_of used (s ∷ sections) apart each = (
+  each 0 s (omega arith),
+  fresh_of (λ c. used c || eqb (code_of s.name) c) sections (λ i j d less lt. apart (suc i) (suc j) d (omega (arith, less)) (omega (arith, lt)))
+      (λ k d lt. other k d lt (each (suc k) d (omega (arith, lt))) (apart 0 (suc k) d (omega arith) (omega (arith, lt)))),
+)
   where
     other : (k : ℕ) (d : PlainSection) → k < length sections → (code_of (get_or sections k d).name ≡ 0) ⊎ (used (code_of (get_or sections k d).name) ≡ false)
         → (code_of s.name ≢ 0 → code_of s.name ≢ code_of (get_or sections k d).name)
@@ -125,9 +126,11 @@ kept_one all place name kind flags at size text kinds plain = go kinds where
   free : (is_debug : Bool) → fault_if (is_debug && not (eqb (bit_and flags 0x800) 0)) Compressed place ≡ None
   free true = ap (λ (n : ℕ). fault_if (not (eqb n 0)) Compressed place) plain
   free false = refl
+
   one : (b is_debug : Bool) → (fault_if (b || false) Index place or fault_if (is_debug && not (eqb (bit_and flags 0x800) 0)) Compressed place) ≡ fault_if b Index place
   one true is_debug = refl
   one false is_debug = free is_debug
+
   go : (kind ≡ 1) ⊎ (kind ≡ 3) → unkept_fault all (section_read place name kind flags at size 1 text) ≡ fault_if (known_name (Some text)).is_index Index place
   go (inl is) = ap (λ (k : ℕ). unkept_fault all (section_read place name k flags at size 1 text)) is ∙ one (known_name (Some text)).is_index (known_name (Some text)).is_debug
   go (inr is) = ap (λ (k : ℕ). unkept_fault all (section_read place name k flags at size 1 text)) is ∙ one (known_name (Some text)).is_index (known_name (Some text)).is_debug
@@ -153,7 +156,7 @@ there : (c place name at : ℕ) (first last : Section) (sections : List PlainSec
 there c place name at first last sections any =
     let found : list_any (λ (s : PlainSection). eqb (code_of s.name) c) sections ≡ true = list_any-from_Any (λ (s : PlainSection). eqb (code_of s.name) c) sections (any.0, any.1, any.2, any.3, eq-eqb (code_of any.1.name) c any.4) in
     let middle : list_any (has_code c) (sections_read place name at sections ++ last ∷ []) ≡ true =
-        list_any-append (has_code c) (sections_read place name at sections) (last ∷ []) ∙ ap (λ (b : Bool). b || list_any (has_code c) (last ∷ [])) (codes_there c place name at sections ∙ found) in
+    list_any-append (has_code c) (sections_read place name at sections) (last ∷ []) ∙ ap (λ (b : Bool). b || list_any (has_code c) (last ∷ [])) (codes_there c place name at sections ∙ found) in
     ap (λ (b : Bool). has_code c first || b) middle ∙ or_true (has_code c first)
   where
     or_true : (b : Bool) → (b || true) ≡ true
@@ -212,9 +215,9 @@ module _ (machine flags : ℕ) (sections : List PlainSection) (fits : FitsPlain 
   headers_ok =
       let behind = headers_behind sections in
       let last : first_in (header_fault (length file) (length sections + 1)) ((null_section ∷ []) ++ sections_read (plain_headers_at sections + 64) 1 64 sections) (last_section ∷ []) ≡ None =
-          none_or _ _ (no_fault _ _ _ (or_from (not (is_power_of_two 1)) _ (ap not one_power)
-          (or_from (ltb 0 (length (plain_names sections)) && (ltb (length file) (plain_names_at sections + length (plain_names sections)) || ltb (plain_names_at sections) 64)) _
-          (placed (length file) (plain_names_at sections) (length (plain_names sections)) (omega arith) (omega (arith, len, behind)) (ltb 0 (length (plain_names sections)))) refl))) refl in
+      none_or _ _ (no_fault _ _ _ (or_from (not (is_power_of_two 1)) _ (ap not one_power)
+      (or_from (ltb 0 (length (plain_names sections)) && (ltb (length file) (plain_names_at sections + length (plain_names sections)) || ltb (plain_names_at sections) 64)) _
+      (placed (length file) (plain_names_at sections) (length (plain_names sections)) (omega arith) (omega (arith, len, behind)) (ltb 0 (length (plain_names sections)))) refl))) refl in
       none_or _ _ refl
       (headers_fine (length file) (length sections + 1) (null_section ∷ []) (last_section ∷ []) (plain_headers_at sections + 64) 1 64 sections (omega arith) (omega (arith, len, behind)) (omega arith)
       (fresh_of (λ c. list_any (has_code c) (null_section ∷ [])) sections known.different no_used) last)
@@ -229,7 +232,7 @@ module _ (machine flags : ℕ) (sections : List PlainSection) (fits : FitsPlain 
       let all = plain_sections sections in
       let null_kept : unkept_fault all null_section ≡ None = null_fine all in
       let last : (b c : List Section) → first_in (λ x. unkept_fault all) b (last_section ∷ []) ≡ first_in index_of c (last_section ∷ []) = λ b c.
-          (λ j. kept_one all (plain_headers_at sections + 64 + 64 * length sections) (1 + length (section_names sections)) 3 0 (plain_names_at sections) (length (plain_names sections)) (codes ".shstrtab") (inr refl) refl j or None) in
+      (λ j. kept_one all (plain_headers_at sections + 64 + 64 * length sections) (1 + length (section_names sections)) 3 0 (plain_names_at sections) (length (plain_names sections)) (codes ".shstrtab") (inr refl) refl j or None) in
       let others = kept_all all (null_section ∷ []) (null_section ∷ []) (last_section ∷ []) (plain_headers_at sections + 64) 1 64 sections known.uncompressed last in
       (λ j. null_kept j or others j)
 
@@ -246,7 +249,7 @@ module _ (machine flags : ℕ) (sections : List PlainSection) (fits : FitsPlain 
       let fields = ap (field_fault (length file)) (fields_read machine flags sections fits) ∙ fields_fine in
       let seen = sections_are machine flags sections fits in
       let headers : first_in (header_fault (length file) (file_header file).names) [] (sections_in file) ≡ None =
-          (λ j. first_in (header_fault (length file) (fields_read machine flags sections fits j).names) [] (seen j)) ∙ headers_ok in
+      (λ j. first_in (header_fault (length file) (fields_read machine flags sections fits j).names) [] (seen j)) ∙ headers_ok in
       let kept : first_in (λ x. unkept_fault (sections_in file)) [] (sections_in file) ≡ index_fault (plain_sections sections) = (λ j. first_in (λ x. unkept_fault (seen j)) [] (seen j)) ∙ kept_are in
       let debug : missing_fault (sections_in file) ≡ None = ap missing_fault seen ∙ debug_there in
       (λ j. identification_fine j or (fields j or (names_fine j or (headers j or (kept j or debug j))))) ∙ or_none (index_fault (plain_sections sections))

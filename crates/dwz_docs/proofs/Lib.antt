@@ -6,6 +6,7 @@ pub mod PlainLemmas
 pub mod PruneLemmas
 pub mod OffsetLemmas
 pub mod PlainReads
+pub mod PlainFaults
 pub mod ReadLemmas
 pub mod ValueLemmas
 pub mod WrittenLemmas

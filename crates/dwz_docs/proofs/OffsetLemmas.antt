@@ -3,9 +3,8 @@ use Rattle.std.proofs.Common.{◌≡◌, ℕ, zero, suc, ◌+◌, ◌-◌, ◌*�
 use Rattle.std.specs.Option.{option_map}
 use Rattle.std.proofs.lemmas.Bool.{eq-eqb, eqb-true, le-leb, leb-true}
 use Rattle.std.proofs.lemmas.List.{drop-drop, take-append-drop}
-use Rattle.dwz_bytes.specs.Spelling.{SpellsFixed, le_value}
-use Rattle.dwz_docs.specs.OffsetTables.{AreSlots, SpellContributions, SpellsContribution, count_at, counts_in, is_contribution, places_from, size_at, slot_places, slots_in}
-use Rattle.dwz_docs.specs.Parts.{Then}
+use Rattle.dwz_bytes.specs.Spelling.{le_value}
+use Rattle.dwz_docs.specs.OffsetTables.{AreSlots, SpellContributions, SpellsContribution, count_at, counts_in, is_contribution, size_at, slot_places, slots_in}
 use Rattle.dwz_docs.proofs.PartLemmas.{chosen, drop-front, take-front}
 
 -- ---- one contribution
@@ -61,12 +60,12 @@ fronted bytes e =
     let b = length-drop 2 behind_len in
     let d = length-drop 2 behind_version in
     let rest : drop (4 * n) behind_padding ≡ drop (8 + 4 * n) bytes =
-        ap (drop (4 * n)) (ap (drop 2) (drop-drop 2 4 bytes) ∙ drop-drop 2 6 bytes) ∙ drop-drop (4 * n) 8 bytes in
+    ap (drop (4 * n)) (ap (drop 2) (drop-drop 2 4 bytes) ∙ drop-drop 2 6 bytes) ∙ drop-drop (4 * n) 8 bytes in
     let parts : bytes ≡ take 4 bytes ++ (take 2 behind_len ++ (take 2 behind_version ++ (take (4 * n) behind_padding ++ drop (4 * n) behind_padding))) =
-        sym (take-append-drop 4 bytes)
-        ∙ ap (λ (x : List ℕ). take 4 bytes ++ x) (sym (take-append-drop 2 behind_len)
-        ∙ ap (λ (x : List ℕ). take 2 behind_len ++ x) (sym (take-append-drop 2 behind_version)
-        ∙ ap (λ (x : List ℕ). take 2 behind_version ++ x) (sym (take-append-drop (4 * n) behind_padding)))) in
+    sym (take-append-drop 4 bytes)
+    ∙ ap (λ (x : List ℕ). take 4 bytes ++ x) (sym (take-append-drop 2 behind_len)
+    ∙ ap (λ (x : List ℕ). take 2 behind_len ++ x) (sym (take-append-drop 2 behind_version)
+    ∙ ap (λ (x : List ℕ). take 2 behind_version ++ x) (sym (take-append-drop (4 * n) behind_padding)))) in
     record {
       front = take 4 bytes ++ (take 2 behind_len ++ (take 2 behind_version ++ take (4 * n) behind_padding));
       spelled = record {
@@ -105,10 +104,19 @@ seen front rest count is =
     let parts : bytes ≡ is.len ++ tail = ap (λ (x : List ℕ). x ++ rest) is.parts ∙ sym (five_parts is.len is.version is.padding is.slots rest) in
     let size : size_at bytes ≡ 4 + 4 * count = ap le_value (ap (take 4) parts ∙ take-of 4 is.len tail is.len_is.len) ∙ sym is.len_is.value in
     let version : le_value (take 2 (drop 4 bytes)) ≡ 5 =
-        ap le_value (ap (take 2) (ap (drop 4) parts ∙ drop-of 4 is.len tail is.len_is.len) ∙ take-of 2 is.version (is.padding ++ (is.slots ++ rest)) is.version_is_5.len) ∙ sym is.version_is_5.value in
+    ap le_value (ap (take 2) (ap (drop 4) parts ∙ drop-of 4 is.len tail is.len_is.len) ∙ take-of 2 is.version (is.padding ++ (is.slots ++ rest)) is.version_is_5.len) ∙ sym is.version_is_5.value in
     let front_len : length front ≡ 8 + 4 * count =
-        omega (arith, ap length is.parts, length-append is.len (is.version ++ (is.padding ++ is.slots)), length-append is.version (is.padding ++ is.slots), length-append is.padding is.slots,
-        is.len_is.len, is.version_is_5.len, is.padding_is, is.slots_are) in
+    omega (
+      arith,
+      ap length is.parts,
+      length-append is.len (is.version ++ (is.padding ++ is.slots)),
+      length-append is.version (is.padding ++ is.slots),
+      length-append is.padding is.slots,
+      is.len_is.len,
+      is.version_is_5.len,
+      is.padding_is,
+      is.slots_are,
+    ) in
     let long : length bytes ≡ 8 + 4 * count + length rest = length-append front rest ∙ ap (λ (n : ℕ). n + length rest) front_len in
     let count_is : (size_at bytes - 4) / 4 ≡ count = omega (arith, size) in
     record {

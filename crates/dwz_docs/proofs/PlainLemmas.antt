@@ -1,7 +1,6 @@
 -- Files of the plain layout: how long each part is.
-use Rattle.std.proofs.Common.{◌≡◌, ℕ, zero, suc, ◌+◌, ◌-◌, ◌*◌, ◌/◌, ◌%◌, ◌<◌, ◌≤◌, List, [], ◌∷◌, ◌++◌, length, map, replicate, refl, sym, ap, ◌∙◌, arith, length-append, codes}
+use Rattle.std.proofs.Common.{◌≡◌, ℕ, zero, suc, ◌+◌, ◌-◌, ◌*◌, ◌/◌, ◌≤◌, List, [], ◌∷◌, ◌++◌, length, replicate, refl, arith, length-append}
 use Rattle.std.proofs.lemmas.List.{length-replicate}
-use Rattle.std.specs.Int.{next_multiple_of}
 use Rattle.dwz_bytes.specs.Spelling.{le_bytes}
 use Rattle.dwz_docs.specs.ElfFaults.{identification}
 use Rattle.dwz_docs.specs.ElfLayout.{numbers}

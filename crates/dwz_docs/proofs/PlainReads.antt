@@ -1,5 +1,5 @@
 -- A file of the plain layout is read field by field: each number stands where its header says.
-use Rattle.std.proofs.Common.{◌≡◌, ◌≢◌, ℕ, zero, suc, ◌+◌, ◌-◌, ◌*◌, ◌^◌, ◌<◌, ◌≤◌, List, [], ◌∷◌, ◌++◌, length, map, replicate, take, drop, All, Option, Some, None, refl, sym, ap, subst, ◌∙◌, arith, append_assoc, append-nil, length-append, codes, eqb, false, true, Bool, ◌&&◌, not}
+use Rattle.std.proofs.Common.{◌≡◌, ℕ, zero, suc, ◌+◌, ◌-◌, ◌*◌, ◌^◌, ◌<◌, List, [], ◌∷◌, ◌++◌, length, map, replicate, take, drop, All, Some, refl, sym, ap, ◌∙◌, arith, append_assoc, append-nil, length-append, codes, eqb, false, true, Bool, ◌&&◌, not}
 use Rattle.std.proofs.lemmas.Bool.{eqb-false, ne_eqb}
 use Rattle.std.specs.List.{list_all}
 use Rattle.std.proofs.lemmas.List.{length-replicate, map-append}
@@ -10,7 +10,7 @@ use Rattle.dwz_docs.specs.declared.elf.Header.{Header}
 use Rattle.dwz_docs.specs.declared.elf.Section.{Section}
 use Rattle.dwz_docs.specs.ElfFaults.{identification}
 use Rattle.dwz_docs.specs.ElfHeaders.{content, file_header, header_at, headers_from, number_at}
-use Rattle.dwz_docs.specs.ElfLayout.{numbers, too_large}
+use Rattle.dwz_docs.specs.ElfLayout.{numbers}
 use Rattle.dwz_docs.specs.ElfNames.{known_name, name_at, name_in, name_table, names_header, section_of, sections_in}
 use Rattle.dwz_docs.specs.PlainFile.{PlainSection, file_fields, names_header_bytes, plain_contents, plain_end, plain_file, plain_front, plain_headers, plain_headers_at, plain_names, plain_names_at, plain_sections, contents_read, plain_fields, FitsPlain, section_fields, section_names, section_read, sections_read}
 use Rattle.dwz_docs.specs.Texts.{NoZero}
@@ -34,7 +34,7 @@ field : (bytes front back : List ℕ) (before after : List (ℕ × ℕ)) (k n at
 unfolding number_at numbers
 field bytes front back before after k n at is place fits =
     let parts : bytes ≡ (front ++ numbers before) ++ (le_bytes k n ++ (numbers after ++ back)) =
-        is ∙ ap (λ (w : List ℕ). front ++ (w ++ back)) (numbers-append before ((k, n) ∷ after)) ∙ regroup front (numbers before) (le_bytes k n) (numbers after) back in
+    is ∙ ap (λ (w : List ℕ). front ++ (w ++ back)) (numbers-append before ((k, n) ∷ after)) ∙ regroup front (numbers before) (le_bytes k n) (numbers after) back in
     let len : length (front ++ numbers before) ≡ at = length-append front (numbers before) ∙ ap (λ (m : ℕ). length front + m) (length_numbers before) ∙ place in
     ap le_value (here bytes (front ++ numbers before) (le_bytes k n) (numbers after ++ back) at k parts len (length_number k n)) ∙ sym (fixed_written k n fits).value
   where
@@ -73,8 +73,8 @@ pub header_fields : (bytes back : List ℕ) (machine flags headers_at count : �
 header_fields bytes back machine flags headers_at count is fits_machine fits_flags fits_at fits_count =
     let front = identification ++ replicate {A = ℕ} 9 0 in
     let parts : bytes ≡ front ++ (numbers (file_fields machine flags headers_at count) ++ back) =
-        is ∙ ap (λ (w : List ℕ). w ++ back) (sym (append_assoc identification (replicate {A = ℕ} 9 0) (numbers (file_fields machine flags headers_at count))))
-        ∙ append_assoc front (numbers (file_fields machine flags headers_at count)) back in
+    is ∙ ap (λ (w : List ℕ). w ++ back) (sym (append_assoc identification (replicate {A = ℕ} 9 0) (numbers (file_fields machine flags headers_at count))))
+    ∙ append_assoc front (numbers (file_fields machine flags headers_at count)) back in
     let kind_is : number_at bytes 16 2 ≡ 3 = field bytes front back ([]) ((2, machine) ∷ (4, 1) ∷ (8, 0) ∷ (8, 0) ∷ (8, headers_at) ∷ (4, flags) ∷ (2, 64) ∷ (2, 0) ∷ (2, 0) ∷ (2, 64) ∷ (2, count) ∷ (2, count - 1) ∷ []) 2 3 16 parts refl (omega arith) in
     let machine_is : number_at bytes 18 2 ≡ machine = field bytes front back ((2, 3) ∷ []) ((4, 1) ∷ (8, 0) ∷ (8, 0) ∷ (8, headers_at) ∷ (4, flags) ∷ (2, 64) ∷ (2, 0) ∷ (2, 0) ∷ (2, 64) ∷ (2, count) ∷ (2, count - 1) ∷ []) 2 machine 18 parts refl fits_machine in
     let program_headers_at_is : number_at bytes 32 8 ≡ 0 = field bytes front back ((2, 3) ∷ (2, machine) ∷ (4, 1) ∷ (8, 0) ∷ []) ((8, headers_at) ∷ (4, flags) ∷ (2, 64) ∷ (2, 0) ∷ (2, 0) ∷ (2, 64) ∷ (2, count) ∷ (2, count - 1) ∷ []) 8 0 32 parts refl (omega arith) in
@@ -111,6 +111,7 @@ unfolding headers_from plain_headers
 headers_are bytes front back place name at more [] is len fits_name fits_at fits_flags = (λ j. headers_from bytes (zero_more j) (no_more j)) where
   no_more : 0 + more ≡ more
   no_more = omega arith
+
   zero_more : place ≡ place + 64 * 0
   zero_more = omega arith
 headers_are bytes front back place name at more (s ∷ sections) is len fits_name fits_at fits_flags =
@@ -124,9 +125,9 @@ headers_are bytes front back place name at more (s ∷ sections) is len fits_nam
     let second : bytes ≡ (front ++ header) ++ (rest ++ back) = first ∙ sym (append_assoc front header (rest ++ back)) in
     let header_len = length_header name 1 s.flags at (length s.bytes) s.entry_size in
     let one : header_at bytes place ≡ header_of place name 1 s.flags at (length s.bytes) 1 =
-        header_read bytes front (rest ++ back) place name 1 s.flags at (length s.bytes) 1 s.entry_size first len (omega (arith, fits_name)) (omega arith) flags (omega (arith, fits_at)) (omega (arith, fits_at, contents_len)) (omega arith) in
+    header_read bytes front (rest ++ back) place name 1 s.flags at (length s.bytes) 1 s.entry_size first len (omega (arith, fits_name)) (omega arith) flags (omega (arith, fits_at)) (omega (arith, fits_at, contents_len)) (omega arith) in
     let others = headers_are bytes (front ++ header) back (place + 64) (name + (length s.name + 1)) (at + length s.bytes) more sections second (omega (arith, len, length-append front header, header_len))
-        (omega (arith, fits_name, names_len, name_len)) (omega (arith, fits_at, contents_len)) (λ k d lt. fits_flags (suc k) d (omega (arith, lt))) in
+    (omega (arith, fits_name, names_len, name_len)) (omega (arith, fits_at, contents_len)) (λ k d lt. fits_flags (suc k) d (omega (arith, lt))) in
     let next : suc (length sections) + more ≡ suc (length sections + more) = omega arith in
     let end : place + 64 + 64 * length sections ≡ place + 64 * suc (length sections) = omega arith in
     ap (headers_from bytes place) next
@@ -212,20 +213,21 @@ module _ (machine flags : ℕ) (sections : List PlainSection) (fits : FitsPlain 
   len : length file ≡ plain_headers_at sections + 64 * (length sections + 2)
   len = length_plain machine flags sections
 
-  front_len : length front ≡ 64
+  pub front_len : length (plain_front machine flags (plain_headers_at sections) (length sections + 2)) ≡ 64
   front_len = length_front machine flags (plain_headers_at sections) (length sections + 2)
 
   zeros : replicate {A = ℕ} (plain_headers_at sections + 64 - plain_end sections) 0 ≡ replicate {A = ℕ} gap 0 ++ replicate {A = ℕ} 64 0
   zeros = let behind = headers_behind sections in ap (λ (k : ℕ). replicate {A = ℕ} k 0) (omega (arith, behind)) ∙ zeros_of gap 64
 
-  parts : file ≡ front ++ (contents ++ (names ++ ((replicate {A = ℕ} gap 0 ++ replicate {A = ℕ} 64 0) ++ (headers ++ last))))
+  pub parts : plain_file machine flags sections ≡ plain_front machine flags (plain_headers_at sections) (length sections + 2)
+      ++ (plain_contents sections ++ (plain_names sections ++ ((replicate {A = ℕ} (plain_headers_at sections - plain_end sections) 0 ++ replicate {A = ℕ} 64 0) ++ (plain_headers 1 64 sections ++ names_header_bytes sections))))
   unfolding plain_file
   parts = ap (λ (w : List ℕ). front ++ (contents ++ (names ++ (w ++ (headers ++ last))))) zeros
 
   pub fields_read : file_header file ≡ plain_fields machine flags sections
   fields_read =
       let is = header_fields file (contents ++ (names ++ ((replicate {A = ℕ} gap 0 ++ replicate {A = ℕ} 64 0) ++ (headers ++ last)))) machine flags (plain_headers_at sections) (length sections + 2) parts
-          (omega (arith, fits.machine_fits)) (omega (arith, fits.flags_fit)) (omega (arith, len, fits.small)) (omega (arith, fits.few)) in
+      (omega (arith, fits.machine_fits)) (omega (arith, fits.flags_fit)) (omega (arith, len, fits.small)) (omega (arith, fits.few)) in
       is ∙ ap (λ (n : ℕ). record (plain_fields machine flags sections) { names = n }) (omega arith)
 
   -- the same bytes, in front of each part
@@ -296,17 +298,20 @@ module _ (machine flags : ℕ) (sections : List PlainSection) (fits : FitsPlain 
   all_headers =
       let next : length sections + 2 ≡ suc (length sections + 1) = omega arith in
       let others = headers_are file to_headers last (plain_headers_at sections + 64) 1 64 1 sections at_headers headers_len
-          (omega (arith, len, fits.small, table_len)) (omega (arith, len, fits.small)) (λ k d lt. let one = fits.section_flags k d lt in omega (arith, one)) in
+      (omega (arith, len, fits.small, table_len)) (omega (arith, len, fits.small)) (λ k d lt. let one = fits.section_flags k d lt in omega (arith, one)) in
       ap (headers_from file (plain_headers_at sections)) next
       ∙ (λ j. null_read j ∷ others j)
       ∙ ap (λ (h : Header). header_of (plain_headers_at sections) 0 0 0 0 0 0 ∷ (headers_read (plain_headers_at sections + 64) 1 64 sections ++ h ∷ [])) last_read
 
   -- the names
+  pub names_header_is : names_header file ≡ header_of (plain_headers_at sections + 64 + 64 * length sections) (1 + length (section_names sections)) 3 0 (plain_names_at sections) (length (plain_names sections)) 1
+  names_header_is =
+      let place : plain_headers_at sections + 64 * (length sections + 1) ≡ last_place = omega arith in
+      ap (λ (fh : FileHeader). header_at file (fh.headers_at + 64 * fh.names)) fields_read ∙ ap (header_at file) place ∙ last_read
+
   table_is : name_table file ≡ names
   table_is =
-      let place : plain_headers_at sections + 64 * (length sections + 1) ≡ last_place = omega arith in
-      ap (λ (fh : FileHeader). content file (header_at file (fh.headers_at + 64 * fh.names))) fields_read
-      ∙ ap (λ (n : ℕ). content file (header_at file n)) place ∙ ap (content file) last_read
+      ap (content file) names_header_is
       ∙ here file to_names names ((replicate {A = ℕ} gap 0 ++ replicate {A = ℕ} 64 0) ++ (headers ++ last)) (plain_names_at sections) (length names) at_names names_len refl
 
   null_named : section_of names (header_of (plain_headers_at sections) 0 0 0 0 0 0) ≡ section_read (plain_headers_at sections) 0 0 0 0 0 0 []
@@ -335,5 +340,5 @@ module _ (machine flags : ℕ) (sections : List PlainSection) (fits : FitsPlain 
       let own : content file last_header ≡ names = here file to_names names ((replicate {A = ℕ} gap 0 ++ replicate {A = ℕ} 64 0) ++ (headers ++ last)) (plain_names_at sections) (length names) at_names names_len refl in
       ap (map f) sections_are
       ∙ ap (λ (cs : List (List ℕ)). [] ∷ cs) (map-append f (sections_read (plain_headers_at sections + 64) 1 64 sections)
-          (section_read (plain_headers_at sections + 64 + 64 * length sections) (1 + length (section_names sections)) 3 0 (plain_names_at sections) (length names) 1 (codes ".shstrtab") ∷ []))
+      (section_read (plain_headers_at sections + 64 + 64 * length sections) (1 + length (section_names sections)) 3 0 (plain_names_at sections) (length names) 1 (codes ".shstrtab") ∷ []))
       ∙ (λ j. [] ∷ (middle j ++ own j ∷ []))

@@ -1,12 +1,11 @@
 -- What stays of a section of texts: the bytes of a range all stay, so a text that is used moves as a whole.
-use Rattle.std.proofs.Common.{◌≡◌, ◌≢◌, ℕ, zero, suc, ◌+◌, ◌-◌, ◌<◌, ◌≤◌, Bool, true, false, cond, ◌&&◌, eqb, leb, ltb, List, [], ◌∷◌, ◌++◌, length, get_or, take, drop, Option, Some, None, IsSome, Contains, refl, sym, ap, subst, ◌∙◌, inl, inr, arith, append_assoc, length-append, length-take, length-drop}
-use Rattle.std.proofs.lemmas.Bool.{false≢true, le-leb, leb-true, lt-ltb, ltb-true}
-use Rattle.std.proofs.lemmas.List.{take-append-drop}
+use Rattle.std.proofs.Common.{◌≡◌, ℕ, suc, ◌+◌, ◌<◌, ◌≤◌, Bool, true, false, cond, ◌&&◌, List, [], ◌∷◌, ◌++◌, length, take, Option, Some, None, IsSome, Contains, refl, sym, ap, ◌∙◌, arith, length-append}
+use Rattle.std.proofs.lemmas.Bool.{false≢true, le-leb, lt-ltb}
 use Rattle.std.proofs.lemmas.List.Folds.{list_any-from_Any}
 use Rattle.dwz_docs.specs.Pruning.{bytes_kept, ended_length, is_in_range, is_kept, new_number, pruned, range_end}
-use Rattle.dwz_docs.specs.Texts.{IsTextAt, NoZero, SpellsText, text_at, text_in}
-use Rattle.dwz_docs.proofs.PartLemmas.{drop-front, take-front}
-use Rattle.dwz_docs.proofs.TextLemmas.{here_text, text_again, text_here}
+use Rattle.dwz_docs.specs.Texts.{IsTextAt, text_at}
+use Rattle.dwz_docs.proofs.PartLemmas.{take-front}
+use Rattle.dwz_docs.proofs.TextLemmas.{here_text, text_here}
 
 -- ---- bytes that are kept
 
@@ -71,9 +70,9 @@ text_stays section uses used c some =
     let front_len : length here.front ≡ length text + 1 = ap length here.spelled.parts ∙ length-append text (0 ∷ []) in
     let whole : bytes_kept keep used here.front ≡ here.front = all_kept keep used here.front (λ k le lt. kept_in_range section uses k used c le (omega (arith, lt, end, front_len))) in
     let parts : pruned section uses ≡ bytes_kept keep 0 here.before ++ (here.front ++ bytes_kept keep (used + length here.front) here.after) =
-        ap (bytes_kept keep 0) here.parts ∙ kept-append keep 0 here.before (here.front ++ here.after)
-        ∙ ap (λ (n : ℕ). bytes_kept keep 0 here.before ++ bytes_kept keep n (here.front ++ here.after)) place
-        ∙ ap (λ (w : List ℕ). bytes_kept keep 0 here.before ++ w) (kept-append keep used here.front here.after ∙ ap (λ (w : List ℕ). w ++ bytes_kept keep (used + length here.front) here.after) whole) in
+    ap (bytes_kept keep 0) here.parts ∙ kept-append keep 0 here.before (here.front ++ here.after)
+    ∙ ap (λ (n : ℕ). bytes_kept keep 0 here.before ++ bytes_kept keep n (here.front ++ here.after)) place
+    ∙ ap (λ (w : List ℕ). bytes_kept keep 0 here.before ++ w) (kept-append keep used here.front here.after ∙ ap (λ (w : List ℕ). w ++ bytes_kept keep (used + length here.front) here.after) whole) in
     let front : take used section ≡ here.before = ap (λ (n : ℕ). take n section) (sym here.length_before) ∙ ap (take (length here.before)) here.parts ∙ take-front here.before (here.front ++ here.after) in
     let moved : IsTextAt (pruned section uses) (new_number section uses used) text = record {
       before = bytes_kept keep 0 here.before;

@@ -1,10 +1,10 @@
 -- Numbers and starts of texts in a row: a text's number is the first place at which the test for it passes.
-use Rattle.std.proofs.Common.{◌≡◌, ◌≢◌, ℕ, suc, ◌+◌, ◌<◌, ◌≤◌, Bool, true, false, cond, eqb, ltb, List, [], ◌∷◌, ◌++◌, length, get_or, take, drop, position, Option, Some, None, is_some, slice_get, refl, sym, ap, subst, ◌∙◌, arith, append_assoc, drop-cons, bytes_eq}
+use Rattle.std.proofs.Common.{◌≡◌, ◌≢◌, ℕ, suc, ◌+◌, ◌<◌, Bool, true, false, cond, eqb, ltb, List, [], ◌∷◌, ◌++◌, length, get_or, take, drop, position, Option, Some, None, is_some, slice_get, refl, sym, ap, subst, ◌∙◌, arith, drop-cons, bytes_eq}
 use Rattle.std.specs.Option.{option_map, unwrap_or}
-use Rattle.std.specs.List.{flat_map, position_or_len}
+use Rattle.std.specs.List.{position_or_len}
 use Rattle.std.specs.Prelude.{not}
 use Rattle.std.proofs.lemmas.Bool.{eq-eqb, le-ltb, lt-ltb, ltb-false, ltb-true, ne_eqb}
-use Rattle.std.proofs.lemmas.Grind.{common_steps, flat_map-append}
+use Rattle.std.proofs.lemmas.Grind.{flat_map-append}
 use Rattle.std.proofs.lemmas.List.{length-append, take-append-drop}
 use Rattle.std.proofs.lemmas.List.Folds.{position_or_len_push}
 use Rattle.std.proofs.lemmas.List.Quantifiers.{all_pairs_push, position-Some}
@@ -48,7 +48,7 @@ module _ {X : Type 0} (p : X → Bool) (xs : List X) where
   first_is_last y e passes =
       let same : eqb (position_or_len p xs) (length xs) ≡ true = eq-eqb (position_or_len p xs) (length xs) (place_of_none e) in
       let grown : position_or_len p (xs ++ y ∷ []) ≡ length xs + 0 =
-          position_or_len_push p xs y ∙ ap (λ (b : Bool). cond b (length xs + cond (p y) 0 1) (position_or_len p xs)) same ∙ ap (λ (b : Bool). length xs + cond b 0 1) passes in
+      position_or_len_push p xs y ∙ ap (λ (b : Bool). cond b (length xs + cond (p y) 0 1) (position_or_len p xs)) same ∙ ap (λ (b : Bool). length xs + cond b 0 1) passes in
       let place : position_or_len p (xs ++ y ∷ []) ≡ length xs = omega (arith, grown) in
       let within : length xs < length (xs ++ y ∷ []) = omega (arith, length-append xs (y ∷ [])) in
       ap (λ (n : ℕ). cond (ltb n (length (xs ++ y ∷ []))) (Some n) None) place ∙ ap (λ (b : Bool). cond b (Some (length xs)) None) (lt-ltb (length xs) (length (xs ++ y ∷ [])) within)
@@ -86,7 +86,7 @@ no_number texts text none n e =
     let lt = slice_get_within texts n text e in
     let at : get_or texts n [] ≡ text = get_or_from_slice_get texts n text [] e in
     let fails : bytes_eq text (get_or texts n []) ≡ false =
-        fails_before_first (bytes_eq text) texts n [] (omega (arith, lt, place_of_none (bytes_eq text) texts none)) in
+    fails_before_first (bytes_eq text) texts n [] (omega (arith, lt, place_of_none (bytes_eq text) texts none)) in
     let passes : bytes_eq text (get_or texts n []) ≡ true = (bytes_eq-Decides text (get_or texts n [])).1 (sym at) in
     cc
 

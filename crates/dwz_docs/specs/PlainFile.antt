@@ -1,14 +1,17 @@
 -- ELF files of a plain layout (ELF-64 Object File Format): the file header, then the contents of the sections without gaps, the
 -- table of their names last, and then the section headers. And which sections the supplementary file has.
-use Rattle.std.specs.Prelude.{ℕ, ◌+◌, ◌-◌, ◌*◌, ◌^◌, ◌<◌, ◌≤◌, All, List, [], ◌∷◌, ◌++◌, length, map, replicate, Option, Some, None, codes, true}
+use Rattle.std.specs.Prelude.{◌≡◌, ◌≢◌, ℕ, ◌+◌, ◌-◌, ◌*◌, ◌^◌, ◌<◌, ◌≤◌, bit_and, All, AllPairs, Any, List, [], ◌∷◌, ◌++◌, length, map, replicate, Option, Some, None, codes, true}
 use Rattle.std.specs.Int.{next_multiple_of}
 use Rattle.std.specs.List.{flat_map}
+use Rattle.dwz_model.specs.declared.fault.Fault.{Fault}
+use Rattle.dwz_model.specs.declared.fault.Reason.TheVariants.{Index}
 use Rattle.dwz_model.specs.declared.sections.Sections.{Sections}
 use Rattle.dwz_docs.specs.declared.elf.FileHeader.{FileHeader}
 use Rattle.dwz_docs.specs.declared.elf.Section.{Section}
 use Rattle.dwz_docs.specs.ElfFaults.{identification}
 use Rattle.dwz_docs.specs.ElfLayout.{numbers, too_large}
-use Rattle.dwz_docs.specs.ElfNames.{known_name}
+use Rattle.dwz_docs.specs.ElfNames.{code_of, known_name}
+use Rattle.dwz_docs.specs.ElfReading.{fault_if, first_in}
 use Rattle.dwz_docs.specs.Supplementary.{sup_bytes}
 use Rattle.dwz_docs.specs.TextRows.{text_section}
 use Rattle.dwz_docs.specs.Texts.{NoZero}
@@ -139,6 +142,19 @@ plain_sections sections =
 -- their contents
 abbrev pub contents_read : List PlainSection → List (List ℕ)
 contents_read sections = [] ∷ (map (λ s. s.bytes) sections ++ plain_names sections ∷ [])
+
+-- ---- which faults it has
+
+-- no two sections have one code, `.debug_info` and `.debug_abbrev` are there, and none is compressed
+pub record AreKnown (sections : List PlainSection) : Type 0 where
+  pub different : AllPairs (λ a b. code_of a.name ≢ 0 → code_of a.name ≢ code_of b.name) sections
+  pub info : Any (λ s. code_of s.name ≡ 1) sections
+  pub abbrevs : Any (λ s. code_of s.name ≡ 2) sections
+  pub uncompressed : All (λ s. bit_and s.flags 0x800 ≡ 0) sections
+
+-- the first section that has the name of an index, or of a section that leads to another file
+abbrev pub index_fault : List Section → Option Fault
+index_fault sections = first_in (λ before s. fault_if s.name.is_index Index s.header.at) [] sections
 
 -- ---- the supplementary file
 

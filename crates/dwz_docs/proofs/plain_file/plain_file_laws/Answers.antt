@@ -1,4 +1,5 @@
 use Rattle.dwz_docs.proofs.PlainLemmas.{length_plain}
+use Rattle.dwz_docs.proofs.PlainFaults.{faults_are}
 use Rattle.dwz_docs.proofs.PlainReads.{contents_seen, fields_read, sections_are}
 use Rattle.dwz_docs.proofs.plain_file.plain_file_laws.Goals as goal
 
@@ -13,3 +14,6 @@ returns-clause-sections c = sections_are
 
 pub returns-clause-contents : goal.returns-clause-contents
 returns-clause-contents c = contents_seen
+
+pub returns-clause-reads : goal.returns-clause-reads
+returns-clause-reads c = faults_are

@@ -1,6 +1,5 @@
 -- The operands of a list's expressions are looked up one after the other, in each context.
-use Rattle.std.proofs.Common.{◌≡◌, ◌≢◌, ℕ, ◌+◌, Bool, List, [], ◌∷◌, ◌++◌, length, drop, Option, Some, None, Result, Ok, Err, refl, sym, ap, ◌∙◌, append_assoc, arith}
-use Rattle.std.proofs.Math.Seq.{drop-append_seam}
+use Rattle.std.proofs.Common.{◌≡◌, ◌≢◌, ℕ, List, [], ◌∷◌, ◌++◌, Option, Some, None, Result, Ok, Err, refl, sym, ap, ◌∙◌, append_assoc}
 use Rattle.std.proofs.lemmas.List.{append-nil}
 use Rattle.dwz_model.specs.declared.fault.Fault.{Fault}
 use Rattle.dwz_model.specs.declared.fault.ReadErr.{ReadErr}
@@ -11,18 +10,18 @@ use Rattle.dwz_codes.specs.ListKinds.{list_kind_rows}
 use Rattle.dwz_docs.specs.Faults.{Fails}
 use Rattle.dwz_docs.specs.Values.{shape_of}
 use Rattle.dwz_meanings.specs.declared.exprs.Operand.{Operand}
-use Rattle.dwz_meanings.specs.Exprs.{ExprContext, Expression, any_operands, expr_at, fields_of}
+use Rattle.dwz_meanings.specs.Exprs.{ExprContext, Expression, expr_at, fields_of}
 use Rattle.dwz_meanings.specs.LocLists.{LocList, bad_list, list_at}
 use Rattle.dwz_meanings.specs.Sequences.{read_from, value_only}
 use Rattle.dwz_meanings.specs.Shared.{operands_of}
-use Rattle.dwz_expr.specs.FirstFault.{ReadsInto, asked}
+use Rattle.dwz_expr.specs.FirstFault.{asked}
 use Rattle.dwz_expr.specs.Gathering.{Grows, added}
 use Rattle.dwz_expr.proofs.AskedLemmas.{asked_any, asked_bind, asked_none, asked_twice}
-use Rattle.dwz_expr.proofs.LoopLemmas.{more_added, more_grow, none_added}
-use Rattle.dwz_lists.specs.FirstFault.{AreAsked, IsListOf, WalksInto}
+use Rattle.dwz_expr.proofs.LoopLemmas.{more_added, none_added}
+use Rattle.dwz_lists.specs.FirstFault.{AreAsked, WalksInto}
 use Rattle.dwz_lists.specs.Gathering.{Adds, Gathered, behind, exprs_with, in_lists, kind_front, row_into, with_expr}
 use Rattle.dwz_lists.proofs.GatherLemmas.{IsKind, list_is}
-use Rattle.dwz_lists.proofs.WalkLemmas.{front_stops, held, list_ends, list_given, no_kind}
+use Rattle.dwz_lists.proofs.WalkLemmas.{front_stops, held, list_ends}
 
 operands_more : (xs : List Expression) (e : Expression) → operands_of (xs ++ e ∷ []) ≡ operands_of xs ++ e.operands
 unfolding operands_of

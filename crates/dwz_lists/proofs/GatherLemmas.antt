@@ -1,27 +1,24 @@
 -- What is gathered step by step is what the list holds, in any context.
-use Rattle.std.proofs.Common.{◌≡◌, ◌≢◌, ◌⊎◌, ℕ, suc, ◌+◌, ◌<◌, ◌≤◌, Bool, true, false, cond, eqb, List, [], ◌∷◌, ◌++◌, length, Option, Some, None, Result, Ok, Err, refl, sym, ap, subst, ◌∙◌, append_assoc, arith, inl, inr}
+use Rattle.std.proofs.Common.{◌≡◌, ◌≢◌, ℕ, suc, ◌+◌, Bool, true, false, cond, eqb, List, [], ◌∷◌, ◌++◌, length, Option, Some, None, Result, Ok, Err, refl, sym, ap, ◌∙◌, append_assoc, arith, inl, inr}
 use Rattle.std.proofs.lemmas.Bool.{and_parts, ne_eqb}
-use Rattle.std.proofs.lemmas.List.{append-nil, length-append}
+use Rattle.std.proofs.lemmas.List.{append-nil}
 use Rattle.dwz_model.specs.declared.fault.Fault.{Fault}
-use Rattle.dwz_model.specs.declared.fault.ReadErr.{ReadErr}
-use Rattle.dwz_model.specs.declared.fault.ReadErr.TheVariants.{NoMemory, Refused}
 use Rattle.dwz_bytes.specs.Input.{Input, input}
 use Rattle.dwz_bytes.specs.Reading.{◌>>=◌, fixed_at, take_at, uleb_at}
 use Rattle.dwz_bytes.specs.Spelling.{SpellsFixed}
 use Rattle.std.specs.List.{list_all}
 use Rattle.dwz_codes.specs.ListKinds.{list_kind_rows}
 use Rattle.dwz_codes.specs.Rows.{RowView, row_of}
-use Rattle.dwz_meanings.specs.Exprs.{AnAddress, ExprContext, Expression, Field, Found, Holds, Inside, Located, Names, Unsigned, an_address, expr_at, expr_within, expressions_in, field_at, fields_at, fields_of, held, inside_at, inside_of, joined, most_inside, nothing, or_fault, seen_piece}
-use Rattle.dwz_docs.specs.Faults.{Fails}
-use Rattle.dwz_meanings.specs.LocLists.{LocList, as_entry, bad_list, behind_kind, entry_by, list_at, list_entry_at, with_entries}
+use Rattle.dwz_meanings.specs.Exprs.{AnAddress, ExprContext, Expression, Field, Found, Holds, Inside, Located, Names, Unsigned, an_address, expr_at, expr_within, expressions_in, fields_at, fields_of, held, inside_at, inside_of, joined, most_inside, nothing, or_fault, seen_piece}
+use Rattle.dwz_meanings.specs.LocLists.{as_entry, bad_list, behind_kind, entry_by, list_at, list_entry_at, with_entries}
 use Rattle.dwz_meanings.specs.Sequences.{after_item, read_from, row_at, then_make, then_read, value_only, with_item_before}
 use Rattle.dwz_docs.specs.Values.{shape_in, shape_of}
 use Rattle.dwz_meanings.proofs.FieldLemmas.{bytes_agree}
 use Rattle.dwz_meanings.proofs.LocListLemmas.{row_goes_on}
-use Rattle.dwz_docs.proofs.PartLemmas.{bind_ok, chosen, same_input}
-use Rattle.dwz_docs.proofs.ReadLemmas.{fixed_reads, run_reads, uleb_reads}
+use Rattle.dwz_docs.proofs.PartLemmas.{chosen}
+use Rattle.dwz_docs.proofs.ReadLemmas.{fixed_reads}
 use Rattle.dwz_meanings.proofs.SequenceLemmas.{input_of}
-use Rattle.dwz_lists.specs.Gathering.{Gathered, IsShort, behind, content_at, counted, exprs_with, front_at, gather_row, held_by, in_lists, kind_front, kind_into, row_into, with_content, with_expr}
+use Rattle.dwz_lists.specs.Gathering.{Gathered, behind, content_at, counted, front_at, gather_row, held_by, kind_into, row_into, with_content, with_expr}
 
 -- ---- in turn
 

@@ -1,14 +1,13 @@
 -- One turn of the loop over entries.
-use Rattle.std.proofs.Common.{◌≡◌, ◌≢◌, ◌⊎◌, ℕ, suc, ◌+◌, ◌<◌, ◌≤◌, List, [], ◌∷◌, ◌++◌, length, drop, Option, Some, None, Result, Ok, Err, refl, sym, ap, subst, ◌∙◌, append_assoc, arith, inl, inr, ◌^◌}
-use Rattle.std.proofs.lemmas.List.{append-nil, length-append}
+use Rattle.std.proofs.Common.{◌≡◌, ◌≢◌, ◌⊎◌, ℕ, ◌+◌, ◌<◌, ◌≤◌, List, [], ◌∷◌, length, Option, Some, None, Result, Ok, Err, refl, sym, ap, subst, ◌∙◌, arith, inl, inr, ◌^◌}
+use Rattle.std.proofs.lemmas.List.{length-append}
 use Rattle.dwz_model.specs.declared.fault.Fault.{Fault}
 use Rattle.dwz_model.specs.declared.fault.ReadErr.{ReadErr}
 use Rattle.dwz_model.specs.declared.fault.ReadErr.TheVariants.{NoMemory, Refused}
 use Rattle.dwz_bytes.specs.Input.{Input, input}
 use Rattle.dwz_bytes.specs.Reading.{◌>>=◌, fixed_at, take_at, uleb_at}
 use Rattle.dwz_codes.specs.ListKinds.{list_kind_rows}
-use Rattle.dwz_meanings.specs.declared.exprs.Operand.{Operand}
-use Rattle.dwz_meanings.specs.Exprs.{ExprContext, Expression, Field, Inside, Located, Unsigned, expr_at, fields_of, or_fault}
+use Rattle.dwz_meanings.specs.Exprs.{ExprContext, Field, Inside, Located, Unsigned, fields_of, or_fault}
 use Rattle.dwz_docs.specs.Faults.{Fails}
 use Rattle.dwz_meanings.specs.LocLists.{LocList, bad_list, list_at}
 use Rattle.dwz_meanings.specs.Sequences.{read_from, value_only}
@@ -17,7 +16,7 @@ use Rattle.dwz_meanings.proofs.FieldLemmas.{bytes_agree}
 use Rattle.dwz_docs.proofs.PartLemmas.{bind_ok, same_input, same_value}
 use Rattle.dwz_docs.proofs.ReadLemmas.{fixed_reads, run_reads, uleb_reads}
 use Rattle.dwz_meanings.proofs.SequenceLemmas.{input_of}
-use Rattle.dwz_lists.specs.Gathering.{Gathered, IsShort, behind, content_at, counted, exprs_with, front_at, held_by, in_lists, kind_front, kind_into, row_into, with_content}
+use Rattle.dwz_lists.specs.Gathering.{Gathered, IsShort, behind, content_at, counted, exprs_with, front_at, held_by, kind_front, kind_into, row_into, with_content}
 use Rattle.dwz_lists.proofs.GatherLemmas.{AreListed, IsKind, end_step, kind_listed, kind_step, list_is, none_step}
 
 -- ---- what the front of an entry leaves

@@ -1,6 +1,5 @@
-use Rattle.std.proofs.Common.{◌+◌, length, sym, ap, ◌∙◌, arith}
+use Rattle.std.proofs.Common.{length, sym, ap, ◌∙◌, arith}
 use Rattle.std.proofs.lemmas.Result.{err_from_is_err_and}
-use Rattle.dwz_bytes.specs.Input.{input}
 use Rattle.dwz_meanings.specs.LocLists.{bad_list}
 use Rattle.dwz_lists.specs.Gathering.{content_of, in_lists}
 use Rattle.dwz_lists.proofs.GatherLemmas.{kind_read}

@@ -2,7 +2,6 @@ use Rattle.std.proofs.Common.{◌≡◌, ◌+◌, [], length}
 use Rattle.dwz_bytes.specs.Input.{input}
 use Rattle.dwz_meanings.specs.LocLists.{bad_list}
 use Rattle.dwz_lists.specs.Gathering.{in_lists, row_into}
-use Rattle.dwz_lists.proofs.WalkLemmas.{goes_on}
 use Rattle.dwz_lists.proofs.reading.walk.Given as goal
 
 abbrev pub invariant-loop-exprs : goal.invariant-loop-exprs

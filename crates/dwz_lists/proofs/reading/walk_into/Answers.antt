@@ -1,7 +1,7 @@
-use Rattle.std.proofs.Common.{◌≡◌, ◌+◌, length, refl, sym, ap, ◌∙◌, arith}
+use Rattle.std.proofs.Common.{◌+◌, length, ap, arith}
 use Rattle.std.proofs.lemmas.List.{length-drop}
 use Rattle.std.proofs.lemmas.Result.{err_from_is_err_and}
-use Rattle.dwz_bytes.specs.Input.{Input, input}
+use Rattle.dwz_bytes.specs.Input.{Input}
 use Rattle.dwz_meanings.specs.LocLists.{bad_list}
 use Rattle.dwz_expr.proofs.LoopLemmas.{more_grow, same_grow}
 use Rattle.dwz_lists.specs.Gathering.{content_of}
@@ -48,15 +48,15 @@ returns-in_err-kind-clause-found c =
     let p = err_from_is_err_and c.from_residual.result c.from_residual.ensures.1 in
     let keeps = c.loop-kind.invariant.keeps in
     rw (p.1, p.2) (walk_fails c.args.section.now c.args.at c.args.operands.now.items c.loop-kind.operands.items c.in_err-kind.field-0.0 _ c.in_err-kind.ensures
-        (λ f is. stops_there c.args.section.now c.args.at c.args.operands.now.items c.loop-kind.operands.items c.loop-kind.cursor keeps f
-        (λ context. no_kind context (bad_list c.args.at) keeps.exprs c.loop-kind.cursor c.at-place.result c.at-place.ensures c.bad_at.result c.bad_at.ensures f is)))
+    (λ f is. stops_there c.args.section.now c.args.at c.args.operands.now.items c.loop-kind.operands.items c.loop-kind.cursor keeps f
+    (λ context. no_kind context (bad_list c.args.at) keeps.exprs c.loop-kind.cursor c.at-place.result c.at-place.ensures c.bad_at.result c.bad_at.ensures f is)))
 
 pub returns-in_err-content-clause-found : goal.returns-in_err-content-clause-found
 returns-in_err-content-clause-found c =
     let p = err_from_is_err_and c.from_residual-in_err-content.result c.from_residual-in_err-content.ensures.1 in
     let kind = kind_read c.bad_at.result c.loop-kind.cursor c.in_ok-kind.kind c.byte.new.cursor c.in_ok-kind.ensures in
     rw (p.1, p.2) (walk_fails c.args.section.now c.args.at c.args.operands.now.items c.loop-kind.operands.items c.in_err-content.field-0.0 _ c.in_err-content.ensures
-        (λ f is. front_bad c.args.section.now c.args.at c.args.operands.now.items c.loop-kind.operands.items c.loop-kind.cursor c.loop-kind.invariant.keeps c.byte.new.cursor c.in_ok-kind.kind kind c.at-place.result c.at-place.ensures c.if-kind-eq0.false f is))
+    (λ f is. front_bad c.args.section.now c.args.at c.args.operands.now.items c.loop-kind.operands.items c.loop-kind.cursor c.loop-kind.invariant.keeps c.byte.new.cursor c.in_ok-kind.kind kind c.at-place.result c.at-place.ensures c.if-kind-eq0.false f is))
 
 pub returns-in_err-push_operands-clause-found : goal.returns-in_err-push_operands-clause-found
 returns-in_err-push_operands-clause-found c =
@@ -69,7 +69,7 @@ returns-in_err-push_operands-clause-found c =
     let grown = c.in_err-push_operands.ensures.grows in
     let adds = c.in_err-push_operands.ensures.adds in
     rw (p.1, p.2) (expr_fails c.args.section.now c.args.at pre ops new c.in_err-push_operands.field-0.0 x adds
-        (λ f is. stopped c.args.section.now c.args.at pre ops c.loop-kind.cursor c.loop-kind.invariant.keeps c.byte.new.cursor c.in_ok-kind.kind kind c.at-place.result c.at-place.ensures c.if-kind-eq0.false c.front.new.cursor x new f c.in_ok-content.ensures c.loop-kind.invariant.grows grown is))
+    (λ f is. stopped c.args.section.now c.args.at pre ops c.loop-kind.cursor c.loop-kind.invariant.keeps c.byte.new.cursor c.in_ok-kind.kind kind c.at-place.result c.at-place.ensures c.if-kind-eq0.false c.front.new.cursor x new f c.in_ok-content.ensures c.loop-kind.invariant.grows grown is))
 
 pub returns-then-kind-eq0-clause-found : goal.returns-then-kind-eq0-clause-found
 returns-then-kind-eq0-clause-found c =

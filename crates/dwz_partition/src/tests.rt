@@ -32,7 +32,8 @@ struct Case<'a> {
     kept: &'a [(&'a [u32], &'a [u32])],
 }
 
-const CASES: [Case; 12] = [
+// What gains by itself, and what is kept.
+const ALONE: [Case; 5] = [
     Case {
         name: "X in A, B and C, and Y in A and B, both heavy",
         tops: &[(0, 0, 18), (0, 1, 29), (1, 0, 18), (1, 1, 29), (2, 0, 18)],
@@ -51,19 +52,6 @@ const CASES: [Case; 12] = [
             (Local(0), 0),
         ],
         kept: &[(&[], &[0, 1]), (&[], &[0, 1]), (&[], &[0])],
-    },
-    Case {
-        name: "a class and a variable that refers into it, too light together",
-        tops: &[(0, 0, 7), (0, 1, 5), (1, 0, 7), (1, 1, 5)],
-        fixed: &[],
-        pinned: &[],
-        targets: &[(1, 0), (3, 2)],
-        units: &[0, 0],
-        files: 1,
-        scope: Each,
-        partials: &[],
-        moves: &[(Stay, 0), (Stay, 1), (Stay, 2), (Stay, 3)],
-        kept: &[(&[0, 1], &[]), (&[2, 3], &[])],
     },
     Case {
         name: "two tops, of which neither alone would gain",
@@ -98,6 +86,63 @@ const CASES: [Case; 12] = [
         kept: &[(&[], &[0]), (&[], &[0])],
     },
     Case {
+        name: "int alone in A, B and C, and a heavy top twice in one of them alone",
+        tops: &[(0, 0, 7), (0, 1, 99), (0, 1, 99), (1, 0, 7), (2, 0, 7)],
+        fixed: &[],
+        pinned: &[],
+        targets: &[],
+        units: &[0, 0, 0],
+        files: 1,
+        scope: Each,
+        partials: &[],
+        moves: &[(Stay, 0), (Stay, 1), (Stay, 2), (Stay, 3), (Stay, 4)],
+        kept: &[(&[0, 1, 2], &[]), (&[3], &[]), (&[4], &[])],
+    },
+    Case {
+        name: "what can't be moved, and what is pinned",
+        tops: &[
+            (0, 0, 50),
+            (0, 1, 9),
+            (0, 2, 9),
+            (0, 3, 50),
+            (1, 0, 50),
+            (1, 3, 50),
+        ],
+        fixed: &[0],
+        pinned: &[2, 3, 4],
+        targets: &[(1, 3)],
+        units: &[0, 0],
+        files: 1,
+        scope: Each,
+        partials: &[(0, &[0, 1], &[3])],
+        moves: &[
+            (Stay, 0),
+            (Stay, 1),
+            (Stay, 2),
+            (Local(0), 3),
+            (Stay, 4),
+            (Local(0), 3),
+        ],
+        kept: &[(&[2, 0, 1], &[0]), (&[4], &[0])],
+    },
+];
+
+// What gains by references.
+const REFERRED: [Case; 5] = [
+    Case {
+        name: "a class and a variable that refers into it, too light together",
+        tops: &[(0, 0, 7), (0, 1, 5), (1, 0, 7), (1, 1, 5)],
+        fixed: &[],
+        pinned: &[],
+        targets: &[(1, 0), (3, 2)],
+        units: &[0, 0],
+        files: 1,
+        scope: Each,
+        partials: &[],
+        moves: &[(Stay, 0), (Stay, 1), (Stay, 2), (Stay, 3)],
+        kept: &[(&[0, 1], &[]), (&[2, 3], &[])],
+    },
+    Case {
         name: "int in A, B and C, and in A and B a heavy typedef of it",
         tops: &[(0, 0, 7), (0, 1, 33), (1, 0, 7), (1, 1, 33), (2, 0, 7)],
         fixed: &[],
@@ -115,19 +160,6 @@ const CASES: [Case; 12] = [
             (Local(0), 0),
         ],
         kept: &[(&[], &[0, 1]), (&[], &[0, 1]), (&[], &[0])],
-    },
-    Case {
-        name: "int alone in A, B and C, and a heavy top twice in one unit alone",
-        tops: &[(0, 0, 7), (0, 1, 99), (0, 1, 99), (1, 0, 7), (2, 0, 7)],
-        fixed: &[],
-        pinned: &[],
-        targets: &[],
-        units: &[0, 0, 0],
-        files: 1,
-        scope: Each,
-        partials: &[],
-        moves: &[(Stay, 0), (Stay, 1), (Stay, 2), (Stay, 3), (Stay, 4)],
-        kept: &[(&[0, 1, 2], &[]), (&[3], &[]), (&[4], &[])],
     },
     Case {
         name: "a heavy top refers to a light one and that to another; a light top before them is referred to by none",
@@ -234,33 +266,10 @@ const CASES: [Case; 12] = [
             (&[], &[0, 2]),
         ],
     },
-    Case {
-        name: "what can't be moved, and what is pinned",
-        tops: &[
-            (0, 0, 50),
-            (0, 1, 9),
-            (0, 2, 9),
-            (0, 3, 50),
-            (1, 0, 50),
-            (1, 3, 50),
-        ],
-        fixed: &[0],
-        pinned: &[2, 3, 4],
-        targets: &[(1, 3)],
-        units: &[0, 0],
-        files: 1,
-        scope: Each,
-        partials: &[(0, &[0, 1], &[3])],
-        moves: &[
-            (Stay, 0),
-            (Stay, 1),
-            (Stay, 2),
-            (Local(0), 3),
-            (Stay, 4),
-            (Local(0), 3),
-        ],
-        kept: &[(&[2, 0, 1], &[0]), (&[4], &[0])],
-    },
+];
+
+// Several files.
+const FILES: [Case; 2] = [
     Case {
         name: "three files together",
         tops: &[
@@ -470,15 +479,21 @@ fn compare_units(rt: &impl Abort, plan: &Plan, case: &Case)
     }
 }
 
-#[test]
-fn plans(rt: HostRuntime) -> Result<(), Fail> {
-    for case in &CASES {
-        let tops = tops_of(rt.alloc(), case)?;
-        let least = least_of(rt.alloc(), case)?;
-        let plan = plan_of(rt.alloc(), &tops, least.as_slice(), case)?;
-        compare_partials(&rt, &plan, case);
-        compare_tops(&rt, &plan, case);
-        compare_units(&rt, &plan, case);
+fn compare(rt: &impl Abort, alloc: Global, cases: &[Case]) -> Result<(), Fail> {
+    for case in cases {
+        let tops = tops_of(alloc, case)?;
+        let least = least_of(alloc, case)?;
+        let plan = plan_of(alloc, &tops, least.as_slice(), case)?;
+        compare_partials(rt, &plan, case);
+        compare_tops(rt, &plan, case);
+        compare_units(rt, &plan, case);
     }
     Ok(())
+}
+
+#[test]
+fn plans(rt: HostRuntime) -> Result<(), Fail> {
+    compare(&rt, rt.alloc(), &ALONE)?;
+    compare(&rt, rt.alloc(), &REFERRED)?;
+    compare(&rt, rt.alloc(), &FILES)
 }

@@ -10,7 +10,6 @@ use Rattle.dwz_meanings.specs.Documents.{Attr, Expr, Plain, Sec, Text, Value, on
 use Rattle.dwz_docs.specs.Entries.{RawAttr}
 use Rattle.dwz_meanings.specs.Meanings.{Class, IfSo, IsExpression, IsFileBy, MeansAs, OfAddress, OfBlock, OfCommonEntry, OfCommonText, OfConstant, OfExpression, OfFlag, OfIndex, OfInfoEntry, OfListIndex, OfOffset, OfSignature, OfText, OfTextBySlot, OfTextInLineStr, OfTextInStr, OfUnitEntry, Sources, Unread, bytes_of, class_in, class_of, class_rows, content_at, expr_context, names_file, names_list, number_of, path_by, stmt_list}
 use Rattle.dwz_meanings.specs.Exprs.{ExprContext, Expression, SpellsExpr, parts_of}
-use Rattle.dwz_writing.proofs.PatchLemmas.{expr_short}
 use Rattle.dwz_docs.specs.Texts.{IsSlot, IsTextAt}
 use Rattle.dwz_docs.specs.Values.{Bytes, Number, Raw, SpellsShape, SpellsValue, constant_of, shape_of, written_rows}
 use Rattle.dwz_docs.proofs.WrittenLemmas.{same_shape}
@@ -27,6 +26,7 @@ use Rattle.dwz_docs.specs.Lists.{has}
 use Rattle.dwz_codes.specs.Forms.{form_rows}
 use Rattle.dwz_writing.proofs.PoolLemmas.{le_are}
 use Rattle.dwz_writing.proofs.StoredClasses.{class_agrees, expression_form, exprloc_block, is_bytes, is_number, offset_class, rows_agree, stores_bytes}
+use Rattle.dwz_writing.proofs.RenumberLemmas.{expr_short}
 
 -- ---- an attribute that came from a file
 

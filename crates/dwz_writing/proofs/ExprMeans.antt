@@ -14,8 +14,8 @@ use Rattle.dwz_writing.specs.Meant.{ExprSays, OperandIn, OperandsIn, Own, Tells}
 use Rattle.dwz_writing.specs.Patching.{ExprFits, FitsWidth, OperandsAre, OperandsFit, OperandsName}
 use Rattle.dwz_writing.specs.Writing.{Numbering, base_place, expr_bytes, pair_of}
 use Rattle.dwz_seen.proofs.Members.{in_has, in_map}
-use Rattle.dwz_writing.proofs.PatchLemmas.{patched}
 use Rattle.dwz_writing.proofs.ScopeIs.{IsScope}
+use Rattle.dwz_writing.proofs.RenumberLemmas.{patched}
 
 fits_some : (b : Bool) (width number : ℕ) → FitsWidth b width number → 0 < number
 fits_some true width number fits = fits.0

@@ -14,7 +14,8 @@ use Rattle.dwz_seen.specs.Lists.{Each}
 use Rattle.dwz_writing.specs.Patching.{AreRenumbered, FitsWidth, ListPatchLaw, patched_bytes}
 use Rattle.dwz_writing.specs.Writing.{operand_bytes}
 use Rattle.dwz_writing.proofs.CutLemmas.{Cut, Gap, Narrow, Replaced, Tail, cut_bytes, cut_operands, operand_at, replaced_size}
-use Rattle.dwz_writing.proofs.PatchLemmas.{CutAs, fields_cut, inner_parts, join_cut, more_joined, no_operands, none_joined, operands_append, plain, prefix_cut, same_cut, slot_replaced, within_cut}
+use Rattle.dwz_writing.proofs.PatchLemmas.{CutAs, fields_cut, inner_parts, join_cut, more_joined, no_operands, none_joined, operands_append, plain, prefix_cut, same_cut, within_cut}
+use Rattle.dwz_writing.proofs.RenumberLemmas.{slot_replaced}
 
 -- ---- the operands of lists stand in expressions
 

@@ -5,3 +5,6 @@ pub mod LoopLemmas
 pub mod ValueLemmas
 pub mod PathLemmas
 pub mod FileLemmas
+pub mod HeadLemmas
+pub mod SectionLemmas
+pub mod WriteLemmas

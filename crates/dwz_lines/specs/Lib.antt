@@ -4,3 +4,5 @@ pub mod RowViews
 pub mod Paths
 pub mod Headers
 pub mod TableViews
+pub mod Sections
+pub mod Writing

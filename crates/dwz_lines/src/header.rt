@@ -12,7 +12,7 @@ const FIXED: usize = 18;
 
 // The number of four bytes at a place.
 #[inline(always)]
-fn four(bytes: &[u8], at: usize) -> u32
+pub(crate) fn four(bytes: &[u8], at: usize) -> u32
     requires { at + 4 ≤ length bytes.now }
     ensures { result ≡ field at 4 bytes.now }
 {

@@ -5,7 +5,14 @@ mod formats;
 mod header;
 mod paths;
 mod rows;
+mod section;
 mod table;
 mod tables;
+mod writing;
 
+pub use section::uses_strp;
 pub use table::FileTable;
+pub use writing::write_header;
+
+#[cfg(test)]
+mod tests;

@@ -92,8 +92,8 @@ fn has_dir(files: u64, dirs: usize) -> bool
     files == 0 || dirs > 0
 }
 
-// Whether one of two holds.
-fn either(one: bool, other: bool) -> bool
+/// Whether one of two holds.
+pub(crate) fn either(one: bool, other: bool) -> bool
     ensures { result ≡ (one || other) }
 {
     one || other

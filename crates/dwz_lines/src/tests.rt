@@ -22,18 +22,26 @@ const BY_STRP: [u8; 41] = [
     2, 1, 8, 2, 15, 1, 99, 0, 1, 170, 187,
 ];
 
+// Whether there is a path, and it is that one.
+fn is(path: Option<&[u8]>, want: &[u8]) -> bool {
+    match path {
+        Some(path) => path == want,
+        None => false,
+    }
+}
+
 #[test]
 fn reads_paths(rt: HostRuntime) -> Result<(), Fail> {
     let table = FileTable::read(rt.alloc(), &TABLE, LINE_STRS, STRS, 0)?;
-    assert_eq!(rt; table.path(0), Some(b"/d/a.c".as_slice()));
-    assert_eq!(rt; table.path(1), Some(b"/d/inc/b.h".as_slice()));
-    assert_eq!(rt; table.path(2), Some(b"/abs.h".as_slice()));
-    assert_eq!(rt; table.path(3), Some(b"/d/b.h".as_slice()));
-    assert_eq!(rt; table.path(4), None);
-    assert_eq!(rt; table.path(u64::MAX), None);
+    assert!(rt; is(table.path(0), b"/d/a.c"));
+    assert!(rt; is(table.path(1), b"/d/inc/b.h"));
+    assert!(rt; is(table.path(2), b"/abs.h"));
+    assert!(rt; is(table.path(3), b"/d/b.h"));
+    assert!(rt; table.path(4).is_none());
+    assert!(rt; table.path(u64::MAX).is_none());
     assert!(rt; !table.has_strp());
     let table = FileTable::read(rt.alloc(), &BY_STRP, LINE_STRS, STRS, 0)?;
-    assert_eq!(rt; table.path(0), Some(b"x/inc/c".as_slice()));
+    assert!(rt; is(table.path(0), b"x/inc/c"));
     assert!(rt; table.has_strp());
     Ok(())
 }
@@ -59,7 +67,7 @@ fn refuses_tables(rt: HostRuntime) {
     ];
     for (place, byte) in cases {
         let mut line = TABLE;
-        line[place] = byte;
+        line[place % 65] = byte;
         let fault = Fault {
             section: 6,
             at: 0,

@@ -13,14 +13,10 @@ use Rattle.dwz_meanings.proofs.PatchedLemmas.{patched_length}
 use Rattle.dwz_seen.proofs.Members.{in_has, in_map}
 use Rattle.dwz_writing.specs.Fitting.{OperandsFit}
 use Rattle.dwz_writing.specs.Meant.{OperandIn, OperandsIn, Own, Tells}
-use Rattle.dwz_writing.specs.Writing.{Numbering, base_place, operand_bytes, parts_bytes}
+use Rattle.dwz_writing.specs.Writing.{Numbering, base_place, parts_bytes}
 use Rattle.dwz_writing.proofs.ScopeIs.{IsScope}
 
 -- ---- the bytes
-
-same_bytes : (uleb : Bool) (width number : ℕ) → operand_bytes uleb width number ≡ number_bytes uleb width number
-same_bytes true width number = refl
-same_bytes false width number = refl
 
 module _ {K : Type 0} (n : Numbering K) (unit : ℕ) where
   -- the numbers of the operands
@@ -36,8 +32,7 @@ module _ {K : Type 0} (n : Numbering K) (unit : ℕ) where
   parts_filled (Same bytes ∷ parts) refs = ap (λ (w : List ℕ). bytes ++ w) (parts_filled parts refs)
   parts_filled (document.Operand width uleb base ∷ parts) [] = refl
   parts_filled (document.Operand width uleb base ∷ parts) (k ∷ refs) =
-      ap (λ (w : List ℕ). w ++ parts_bytes n unit parts refs) (same_bytes uleb width (n.place k - base_place unit base))
-      ∙ ap (λ (w : List ℕ). number_bytes uleb width (n.place k - base_place unit base) ++ w) (parts_filled parts refs)
+      ap (λ (w : List ℕ). number_bytes uleb width (n.place k - base_place unit base) ++ w) (parts_filled parts refs)
 
   numbers_many : (at : ℕ) (bytes : List ℕ) (os : List Operand) (refs : List K) → length refs ≡ length os → length (numbers_of (parts_from at bytes os) refs) ≡ length os
   unfolding numbers_of parts_from

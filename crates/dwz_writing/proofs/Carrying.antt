@@ -1,6 +1,7 @@
 -- What a file stores can be written again.
-use Rattle.std.proofs.Common.{◌≡◌, ◌≢◌, ℕ, ℤ, pos, ◌<◌, ◌≤◌, ◌⊎◌, Bool, true, false, List, [], Option, Some, None, refl, sym, ap, subst, ◌∙◌, arith, cond, eqb, eqb-true, eq-eqb, length, ◌^◌}
+use Rattle.std.proofs.Common.{◌≡◌, ◌≢◌, ℕ, ℤ, pos, ◌<◌, ◌≤◌, ◌⊎◌, Bool, true, false, List, [], Option, Some, None, refl, sym, ap, subst, ◌∙◌, arith, cond, eqb, eqb-true, eq-eqb, length, map, ◌^◌}
 use Rattle.std.specs.Prelude.{MatchBool}
+use Rattle.std.proofs.lemmas.List.{length-map}
 use Rattle.std.proofs.Math.Logic.{inl, inr}
 use Rattle.dwz_model.specs.declared.place.Pair.{Pair}
 use Rattle.dwz_bytes.specs.Spelling.{SpellsSleb, fits_i64, reach}
@@ -8,7 +9,8 @@ use Rattle.dwz_codes.specs.Forms.{form_rows}
 use Rattle.dwz_docs.specs.Abbrevs.{SpellsPair}
 use Rattle.dwz_meanings.specs.Documents.{Attr, Expr, Plain, Sec, Text, Value, only, ref, value_map}
 use Rattle.dwz_docs.specs.Entries.{RawAttr}
-use Rattle.dwz_meanings.specs.Meanings.{Class, IfSo, IsExpression, IsFileBy, MeansAs, OfAddress, OfBlock, OfCommonEntry, OfCommonText, OfConstant, OfExpression, OfFlag, OfIndex, OfInfoEntry, OfListIndex, OfOffset, OfSignature, OfText, OfTextBySlot, OfTextInLineStr, OfTextInStr, OfUnitEntry, Sources, Unread, bytes_of, class_in, class_of, class_rows, content_at, expr_context, names_file, names_list, number_of, path_by, stmt_list}
+use Rattle.dwz_meanings.specs.Meanings.{Class, IfSo, IsExpression, IsFileBy, MeansAs, OfAddress, OfBlock, OfCommonEntry, OfCommonText, OfConstant, OfExpression, OfFlag, OfIndex, OfInfoEntry, OfListIndex, OfOffset, OfSignature, OfText, OfTextBySlot, OfTextInLineStr, OfTextInStr, OfUnitEntry, Sources, Unread, bytes_of, class_in, class_of, class_rows, content_at, expr_context, names_file, names_list, number_of, path_by, stmt_list, target_of, targets}
+use Rattle.dwz_meanings.specs.declared.exprs.Operand.{Operand}
 use Rattle.dwz_meanings.specs.Exprs.{ExprContext, Expression, SpellsExpr, parts_of}
 use Rattle.dwz_docs.specs.Texts.{IsSlot, IsTextAt}
 use Rattle.dwz_docs.specs.Values.{Bytes, Number, Raw, SpellsShape, SpellsValue, constant_of, shape_of, written_rows}
@@ -26,7 +28,7 @@ use Rattle.dwz_docs.specs.Lists.{has}
 use Rattle.dwz_codes.specs.Forms.{form_rows}
 use Rattle.dwz_writing.proofs.PoolLemmas.{le_are}
 use Rattle.dwz_writing.proofs.StoredClasses.{class_agrees, expression_form, exprloc_block, is_bytes, is_number, offset_class, rows_agree, stores_bytes}
-use Rattle.dwz_writing.proofs.RenumberLemmas.{expr_short}
+use Rattle.dwz_writing.proofs.FilledParts.{expr_as_long}
 
 -- ---- an attribute that came from a file
 
@@ -233,9 +235,11 @@ module _ {K : Type 0} (from : Sources → Type 0) (origin : Bases) (a : Attr K) 
   short_expr : class_of a.form ≡ OfExpression → (m : IsExpression w.scope old w.read.value) → length (expr_bytes zeros 0 a.value.plain a.value.refs) < 2 ^ 64
   short_expr e m =
       let block = exprloc_block (constant_of (pair_of a)) has_bytes.bytes old.raw (subst (λ (f : ℕ). SpellsShape (shape_of written_rows f) (constant_of (pair_of a)) has_bytes.bytes old.raw) (expression_form a.form e) has_bytes.spelled) in
-      let less = expr_short (expr_context w.scope 1) zeros 0 (content_at old) m.expression (bytes_of old.raw) a.value.refs m.spelled in
+      let refs : a.value.refs ≡ map w.name (targets w.scope m.expression.operands) = ap (λ (v : Value K). v.refs) same_value ∙ ap (λ (v : Value ℕ). map w.name v.refs) m.value in
+      let many : length a.value.refs ≡ length m.expression.operands = ap length refs ∙ length-map (targets w.scope m.expression.operands) w.name ∙ length-map m.expression.operands (λ (o : Operand). w.scope.around.place (target_of w.scope o)) in
+      let as_long = expr_as_long zeros 0 (expr_context w.scope 1) m.expression (content_at old) (bytes_of old.raw) a.value.refs m.spelled many in
       let same = ap (λ (p : Plain). length (expr_bytes zeros 0 p a.value.refs)) (plain_is_expr m) in
-      omega (arith, block, less, same)
+      omega (arith, block, as_long, same)
 
   by_class : (c : Class) → class_of a.form ≡ c → IsBuiltAs c a.name → MeansAs c w.scope old w.read.value → Kinds
   by_class OfAddress e built m = inr (inr (inr (inr (inr (other OfAddress e (λ f. refl) (number OfAddress e refl (λ x. cc)) (λ r t own. r))))))

@@ -12,7 +12,8 @@ use Rattle.dwz_docs.specs.Trees.{End, Entry}
 use Rattle.dwz_docs.specs.Values.{Bytes, Number, run_bytes, shape_of, value_bytes, written_rows}
 use Rattle.dwz_seen.specs.Lists.{Each}
 use Rattle.dwz_writing.specs.Sound.{SoundAttr, SoundEntries, SoundUnit, StoresAs}
-use Rattle.dwz_writing.specs.Writing.{Numbering, Shape as TableShape, attrs_bytes, expr_bytes, if_any, kind_bytes, node_bytes, operand_bytes, parts_bytes, spelled, stored, stored_as, table_of, tree_bytes, unit_size}
+use Rattle.dwz_meanings.proofs.CutLemmas.{number_len}
+use Rattle.dwz_writing.specs.Writing.{Numbering, Shape as TableShape, attrs_bytes, expr_bytes, if_any, kind_bytes, node_bytes, parts_bytes, spelled, stored, stored_as, table_of, tree_bytes, unit_size}
 
 pub le_len : (k n : ℕ) → length (le_bytes k n) ≡ k
 unfolding le_bytes
@@ -20,10 +21,6 @@ le_len zero n = refl
 le_len (suc k) n = let o = le_len k (n / 256) in omega (arith, o)
 
 -- ---- expressions
-
-pub operand_len : (is_uleb : Bool) (width n : ℕ) → length (operand_bytes is_uleb width n) ≡ width
-operand_len true width n = padded_len width n
-operand_len false width n = le_len width n
 
 module _ {K : Type 0} (m n : Numbering K) (p q : ℕ) where
   parts_len : (parts : List Part) (refs : List K) → length (parts_bytes m p parts refs) ≡ length (parts_bytes n q parts refs)
@@ -33,7 +30,7 @@ module _ {K : Type 0} (m n : Numbering K) (p q : ℕ) where
   parts_len (Operand width uleb base ∷ parts) [] = refl
   parts_len (Operand width uleb base ∷ parts) (k ∷ refs) =
       let o = parts_len parts refs in
-      simp (length-append, operand_len) (omega (arith, o))
+      simp (length-append, number_len) (omega (arith, o))
 
   pub expr_len : (plain : Plain) (refs : List K) → length (expr_bytes m p plain refs) ≡ length (expr_bytes n q plain refs)
   expr_len (Expr parts) refs = parts_len parts refs

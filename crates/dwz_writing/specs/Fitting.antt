@@ -1,17 +1,18 @@
 -- Whether numbers and places fit where they are written.
 use Rattle.std.specs.Prelude.{◌≡◌, ℕ, suc, ◌+◌, ◌-◌, ◌<◌, ◌≤◌, ◌^◌, max, Bool, true, List, [], ◌∷◌}
-use Rattle.dwz_meanings.specs.Documents.{Attr, Compile, DwUnit, Entries, Kind, Node, OfType, Partial}
+use Rattle.dwz_meanings.specs.Documents.{Attr, Compile, DwUnit, Entries, Expr, Kind, Node, OfType, Part, Partial, Plain, Same}
+use Rattle.dwz_meanings.specs.Documents as document
 use Rattle.dwz_docs.specs.Entries.{Mode}
 use Rattle.dwz_docs.specs.Lists.{In}
 use Rattle.dwz_meanings.specs.Meanings.{Class, OfCommonEntry, OfExpression, OfInfoEntry, OfUnitEntry, class_of}
-use Rattle.dwz_writing.specs.Patching.{ExprFits}
+use Rattle.dwz_meanings.specs.Patching.{FitsIn}
 use Rattle.dwz_docs.specs.Trees.{End, Entry, size}
 use Rattle.dwz_docs.specs.Values.{written_rows}
 use Rattle.dwz_codes.specs.Rows.{RowView}
 use Rattle.dwz_seen.specs.Lists.{Each}
 use Rattle.dwz_writing.specs.Placing.{FitsSections, UnitsStand, sections}
 use Rattle.dwz_writing.specs.Sound.{SoundUnit}
-use Rattle.dwz_writing.specs.Writing.{Numbering}
+use Rattle.dwz_writing.specs.Writing.{Numbering, base_place}
 
 -- ---- numbers of entries
 
@@ -21,6 +22,19 @@ FitsUnit n unit k = (unit ≤ n.place k) × (n.place k - unit < 2 ^ 32)
 
 abbrev pub FitsInfo : {K : Type 0} → Numbering K → K → Type 0
 FitsInfo n k = n.place k < 2 ^ 32
+
+-- Each operand names one of these entries, in order, and the number of that one fits it. None is 0: where numbers are counted from the
+-- unit, an entry of the unit stands behind its first byte.
+abbrev pub OperandsFit : {K : Type 0} → Numbering K → ℕ → List Part → List K → Type 0
+OperandsFit n unit [] [] = Unit {0}
+OperandsFit n unit (Same bytes ∷ parts) refs = OperandsFit n unit parts refs
+OperandsFit n unit (document.Operand width uleb base ∷ parts) (k ∷ refs) =
+    (0 < n.place k - base_place unit base) × FitsIn uleb width (n.place k - base_place unit base) × OperandsFit n unit parts refs
+OperandsFit n unit _ _ = ⊥
+
+abbrev pub ExprFits : {K : Type 0} → Numbering K → ℕ → Plain → List K → Type 0
+ExprFits n unit (Expr parts) refs = OperandsFit n unit parts refs
+ExprFits n unit _ refs = ⊥
 
 -- the numbers that an attribute of a class stores, in a unit that begins at a place
 abbrev pub FitsAs : {K : Type 0} → Class → Numbering K → ℕ → Attr K → Type 0

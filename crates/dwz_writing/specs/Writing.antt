@@ -3,10 +3,11 @@ use Rattle.std.specs.Prelude.{ℕ, pos, suc, ◌+◌, ◌-◌, Bool, true, false
 use Rattle.dwz_model.specs.declared.place.Base.{Base}
 use Rattle.dwz_model.specs.declared.place.Base.TheVariants.{Unit as FromUnit, Info as FromInfo}
 use Rattle.dwz_model.specs.declared.place.Pair.{Pair}
-use Rattle.dwz_bytes.specs.Spelling.{le_bytes, padded, uleb}
+use Rattle.dwz_bytes.specs.Spelling.{le_bytes, uleb}
 use Rattle.dwz_docs.specs.Abbrevs.{Declaration, children_byte, table_bytes}
 use Rattle.dwz_meanings.specs.Documents.{Attr, Block, Compile, DwUnit, Entries, Expr, Kind, Node, OfType, Operand, Part, Partial, Plain, Same, Text}
 use Rattle.dwz_meanings.specs.Meanings.{Class, OfBlock, OfCommonEntry, OfExpression, OfInfoEntry, OfText, OfUnitEntry, class_of}
+use Rattle.dwz_meanings.specs.Patching.{number_bytes}
 use Rattle.dwz_docs.specs.Trees.{End, Entry}
 use Rattle.dwz_docs.specs.Values.{Bytes, Number, Raw, value_bytes}
 use Rattle.dwz_alike.specs.Deciding.{same_by, same_int}
@@ -36,16 +37,12 @@ abbrev pub base_place : ℕ → Base → ℕ
 base_place unit FromUnit = unit
 base_place unit FromInfo = 0
 
-abbrev pub operand_bytes : Bool → ℕ → ℕ → List ℕ
-operand_bytes true width number = padded width number
-operand_bytes false width number = le_bytes width number
-
 -- the bytes of an expression in a unit that begins at a place
 unfoldable pub parts_bytes : {K : Type 0} → Numbering K → ℕ → List Part → List K → List ℕ
 parts_bytes n unit [] refs = []
 parts_bytes n unit (Same bytes ∷ parts) refs = bytes ++ parts_bytes n unit parts refs
 parts_bytes n unit (Operand width uleb base ∷ parts) [] = []
-parts_bytes n unit (Operand width uleb base ∷ parts) (k ∷ refs) = operand_bytes uleb width (n.place k - base_place unit base) ++ parts_bytes n unit parts refs
+parts_bytes n unit (Operand width uleb base ∷ parts) (k ∷ refs) = number_bytes uleb width (n.place k - base_place unit base) ++ parts_bytes n unit parts refs
 
 abbrev pub expr_bytes : {K : Type 0} → Numbering K → ℕ → Plain → List K → List ℕ
 expr_bytes n unit (Expr parts) refs = parts_bytes n unit parts refs

@@ -1,0 +1,4 @@
+pub mod KeptLemmas
+pub mod LineLemmas
+pub mod PartLemmas
+pub mod StepLemmas

@@ -1,0 +1,23 @@
+use Rattle.std.proofs.Common.{◌≡◌, ◌∙◌, ◌++◌, ◌∷◌, [], List, true, false, sym, ap, append_assoc}
+use Rattle.dwz_alike.specs.Spots.{Spot}
+use Rattle.dwz_moving.specs.Plan.{pinned_first, row_staying}
+use Rattle.dwz_layout.specs.Lines.{Line, line, row_lines}
+use Rattle.dwz_layout.specs.Order.{import_lines, order_lines}
+use Rattle.dwz_layout.specs.Parts.{part_lines}
+use Rattle.dwz_layout.proofs.KeptLemmas.{both_parts}
+use Rattle.dwz_layout.proofs.LineLemmas.{order_one}
+use Rattle.dwz_layout.proofs.kept.put_kept.Goals as goal
+
+pub returns : goal.returns
+returns c = λ v row s.
+    let old : List (Line Spot) = order_lines v.names c.args.order.now.items in
+    let root : List (Line Spot) = line 1 v.names.root ∷ [] in
+    let p : List (Line Spot) = part_lines v 2 true row in
+    let q : List (Line Spot) = part_lines v 2 false row in
+    let last : List (Line Spot) = import_lines v.names c.args.imports.now in
+    let with_root : order_lines v.names c.push.new.self.items ≡ old ++ root = ap (order_lines v.names) c.in_ok-push.ensures.items ∙ order_one v.names c.args.order.now.items _ in
+    let with_first : order_lines v.names c.put_part.new.order.items ≡ (old ++ root) ++ p = c.in_ok-put_part.ensures v row s ∙ ap (λ (w : List (Line Spot)). w ++ p) with_root in
+    let with_others : order_lines v.names c.put_part-2.new.order.items ≡ ((old ++ root) ++ p) ++ q = c.in_ok-put_part-2.ensures v row s ∙ ap (λ (w : List (Line Spot)). w ++ q) with_first in
+    let with_all : order_lines v.names c.put_imports.new.order.items ≡ (((old ++ root) ++ p) ++ q) ++ last = c.in_ok-put_imports.ensures v.names ∙ ap (λ (w : List (Line Spot)). w ++ last) with_others in
+    let grouped : (((old ++ root) ++ p) ++ q) ++ last ≡ old ++ (root ++ ((p ++ q) ++ last)) = simp append_assoc in
+    with_all ∙ grouped ∙ ap (λ (w : List (Line Spot)). old ++ (root ++ (w ++ last))) (both_parts v row)

@@ -1,0 +1,5 @@
+pub mod Lines
+pub mod Order
+pub mod Outline
+pub mod Parts
+pub mod Shows

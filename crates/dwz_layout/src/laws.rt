@@ -1,0 +1,27 @@
+//! What an order of items is.
+ghost use Rattle.std.specs.Prelude.{◌≡◌, ℕ, List, [], ◌∷◌, ◌++◌, true, false};
+ghost use Rattle.dwz_alike.specs.Spots.{FileUnit, Row, Spot, row_of};
+ghost use Rattle.dwz_docs.specs.Trees.{End};
+ghost use Rattle.dwz_meanings.specs.Documents.{Compile, DwUnit, Entries};
+ghost use Rattle.dwz_moving.specs.Moves.{Move};
+ghost use Rattle.dwz_moving.specs.Plan.{imports, pinned_first, row_staying};
+ghost use Rattle.dwz_partition.specs.Shows.{import_row};
+ghost use Rattle.dwz_same.specs.Units.{changes, kept_unit, tree};
+ghost use Rattle.dwz_layout.specs.Lines.{line, lines, row_lines, steps_of, unit_lines, unit_steps};
+ghost use Rattle.dwz_layout.specs.Order.{Names, import_lines};
+ghost use Rattle.dwz_layout.specs.Shows.{NamesKept, view_of};
+
+/// Lines are what is written: by their depths alone they tell where children begin and lists of them end. Those of the entries of a
+/// row are those of its tops and spaces.
+pub fn line_laws()
+    ensures steps { (u : DwUnit Spot) → steps_of (unit_lines u) ≡ unit_steps u }
+    ensures tree { (f : Spot → Spot) (depth : ℕ) (row : Row) (last : Entries Spot) → lines depth (tree f row last) ≡ row_lines f depth row ++ lines depth last }
+{}
+
+/// What is appended of a unit that is kept are the lines of the unit after: of a compile unit of a file of which something moves,
+/// where the imports have these numbers; and of any other.
+pub fn order_laws()
+    ensures kept { (m : Move) (units : List (FileUnit Spot)) (i : ℕ) (u : FileUnit Spot) (n : Names Spot) (parts : List ℕ) → NamesKept m i u.unit n → u.unit.kind ≡ Compile → changes m units u.file ≡ true → imports i 0 m.parts ≡ import_row i parts
+        → let v = view_of m units n in line 1 n.root ∷ row_lines v.image 2 (pinned_first v.pinned (row_staying v.gone (row_of units i))) ++ import_lines n parts ≡ unit_lines (kept_unit m units i u) }
+    ensures whole { (m : Move) (units : List (FileUnit Spot)) (i : ℕ) (u : FileUnit Spot) (n : Names Spot) → NamesKept m i u.unit n → (u.unit.kind ≡ Compile → changes m units u.file ≡ false) → line 1 n.root ∷ lines 2 n.whole ≡ unit_lines (kept_unit m units i u) }
+{}

@@ -1,0 +1,10 @@
+//! What is written, in order.
+#![tactic(auto)]
+
+mod kept;
+mod laws;
+mod order;
+
+pub use kept::{put_kept, put_whole};
+pub use laws::{line_laws, order_laws};
+pub use order::{Item, Outer, What};

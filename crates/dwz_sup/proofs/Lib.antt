@@ -1,3 +1,4 @@
 pub mod HeaderSteps
 pub mod WrittenLemmas
 pub mod LengthLemmas
+pub mod CommonReads

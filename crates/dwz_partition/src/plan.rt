@@ -1,0 +1,184 @@
+//! The plan and how it is made.
+ghost use Rattle.std.specs.Prelude.{◌≡◌, ℕ, ◌+◌, ◌-◌, ◌<◌, ◌≤◌, ◌^◌, [], All, length, map, IfOk, slice_index, slice_index_or};
+ghost use Rattle.dwz_partition.specs.Planned.{partials, place, reps_of};
+ghost use Rattle.dwz_partition.specs.Gained.{IsPlanOf};
+ghost use Rattle.dwz_partition.specs.Rows.{given};
+
+use crate::gained::{homes_after, marks_of, partials_after};
+use crate::homes::{homes, stand_ins};
+use crate::parted::parted;
+use crate::reps::reps;
+use crate::units::{imports, kept};
+use crate::users::users;
+use dwz_groups::{Groups, Tops};
+use dwz_model::{NoMemory, Numbers};
+use std::alloc::Global;
+use std::marker::Model;
+
+/// Which files may share.
+#[derive(Clone, Copy, Debug, PartialEq, Eq)]
+pub enum Scope {
+    /// All files together.
+    Together,
+    /// Each file by itself.
+    Each,
+}
+
+/// Where a top goes.
+#[derive(Clone, Copy, Debug, PartialEq, Eq)]
+pub enum Home {
+    /// Into this partial unit, which is of the common file.
+    Common(u32),
+    /// Into this partial unit, which is of the top's own file.
+    Local(u32),
+    /// It stays in its unit.
+    Stay,
+}
+
+/// A partial unit.
+#[derive(Debug, Drop)]
+pub struct Partial {
+    /// The number of the file that it stands in; the common file's is the number of files.
+    pub file: u32,
+    /// The numbers of the units that import it, in order.
+    pub users: Numbers,
+    /// The numbers of its tops, in order.
+    pub tops: Numbers,
+}
+
+// If each top with a home moves: the partial units, which are the groups, and for each top where it goes and the first top
+// alike to it.
+#[derive(Drop)]
+struct Moves {
+    partials: Vec<Partial>,
+    homes: Vec<Home>,
+    reps: Vec<u32>,
+}
+
+fn moved(alloc: Global, tops: &Tops, least: &[u32], scope: Scope) -> Result<Moves, NoMemory>
+    requires rows { length tops.now.rows < 2 ^ 32 }
+    requires units { length tops.now.files_of_units < 2 ^ 32 }
+    requires least { length least.now ≡ length tops.now.rows }
+    requires inside { All (λ n. n < length tops.now.rows) least.now }
+    requires of_units { All (λ row. row.unit < length tops.now.files_of_units) tops.now.rows }
+    requires files { All (λ file. file < tops.now.files) tops.now.files_of_units }
+    ensures partials { IfOk result (λ m. m.partials.items ≡ partials (given scope tops.now least.now)) }
+    ensures few { IfOk result (λ m. length m.partials.items < 2 ^ 32) }
+    ensures homes { IfOk result (λ m. let g = given scope tops.now least.now in m.homes.items ≡ map (place g) g.rows) }
+    ensures reps { IfOk result (λ m. m.reps.items ≡ reps_of (given scope tops.now least.now)) }
+{
+    let files_of_units = tops.files_of_units.as_slice();
+    let reps = reps(alloc, tops, least, scope)?;
+    let users = users(
+        alloc,
+        tops.rows.as_slice(),
+        reps.as_slice(),
+        files_of_units.len(),
+    )?;
+    let parted = parted(alloc, &users, files_of_units, tops.files)?;
+    let homes = homes(alloc, reps.as_slice(), parted.of_movers.as_slice())?;
+    Ok(Moves {
+        partials: parted.partials,
+        homes,
+        reps,
+    })
+}
+
+/// Which tops move into which partial units, what the units keep, and which partial units they import (DWARF 5, 3.2.5).
+///
+/// Clauses see it as the record `Planned` of `specs/Planned.antt`.
+#[derive(Drop)]
+pub struct Plan {
+    partials: Vec<Partial>,
+    homes: Vec<Home>,
+    stand_ins: Vec<u32>,
+    kept: Groups,
+    imports: Groups,
+}
+
+impl Model for Plan {
+    ghost use Rattle.dwz_partition.specs.Planned.{Planned};
+
+    ghost Value = { Planned };
+
+    ghost view = { λ p. record { partials = p.partials.items; homes = p.homes.items; stand_ins = p.stand_ins.items; kept = p.kept; imports = p.imports } };
+}
+
+impl Plan {
+    /// The plan of tops, if for each top `least` has the least number of a top alike to it. Tops that can't be moved
+    /// are alike to none. Where each file is by itself, equal numbers in different files don't make tops alike.
+    /// A group of tops, those with the same users, moves if that saves more than it takes, or if a top of a group that
+    /// moves refers into it; all else stays.
+    pub fn make(alloc: Global, tops: &Tops, least: &[u32], scope: Scope) -> Result<Plan, NoMemory>
+        requires rows { length tops.now.rows < 2 ^ 32 }
+        requires units { length tops.now.files_of_units < 2 ^ 32 }
+        requires least { length least.now ≡ length tops.now.rows }
+        requires inside { All (λ n. n < length tops.now.rows) least.now }
+        requires of_units { All (λ row. row.unit < length tops.now.files_of_units) tops.now.rows }
+        requires files { All (λ file. file < tops.now.files) tops.now.files_of_units }
+        requires targets { length tops.now.targets ≡ length tops.now.rows }
+        requires inside_targets { All (λ ts. All (λ t. t < length tops.now.rows) ts) tops.now.targets }
+        ensures { IfOk result (λ plan. IsPlanOf (given scope tops.now least.now) plan) }
+    {
+        let moves = moved(alloc, tops, least, scope)?;
+        let units = tops.files_of_units.len();
+        let marks = marks_of(
+            alloc,
+            moves.partials.as_slice(),
+            moves.homes.as_slice(),
+            tops,
+        )?;
+        let homes = homes_after(alloc, moves.homes.as_slice(), marks.as_slice())?;
+        let partials = partials_after(alloc, moves.partials, marks.as_slice())?;
+        let stand_ins = stand_ins(alloc, homes.as_slice(), moves.reps.as_slice())?;
+        let kept = kept(alloc, tops.rows.as_slice(), homes.as_slice(), units)?;
+        let imports = imports(alloc, partials.as_slice(), units)?;
+        Ok(Plan {
+            partials,
+            homes,
+            stand_ins,
+            kept,
+            imports,
+        })
+    }
+
+    /// The partial units: those of the common file, and then those of each file. A partial unit's number is its place
+    /// here.
+    pub fn partials(&self) -> &[Partial]
+        ensures { result.now ≡ self.now.partials }
+    {
+        self.partials.as_slice()
+    }
+
+    /// Where a top goes.
+    pub fn home(&self, top: u32) -> Home
+        requires { top < length self.now.homes }
+        ensures { result ≡ slice_index_or self.now.homes top Home.Stay }
+    {
+        self.homes[top as usize]
+    }
+
+    /// What stands for a top after: the first top alike to it in its scope if it moves, and else itself.
+    pub fn stand_in(&self, top: u32) -> u32
+        requires { top < length self.now.stand_ins }
+        ensures { result ≡ slice_index self.now.stand_ins top }
+    {
+        self.stand_ins[top as usize]
+    }
+
+    /// The tops of a unit that stay: first the pinned ones and then the others, both in order.
+    pub fn kept(&self, unit: u32) -> &[u32]
+        requires { unit < length self.now.kept }
+        ensures { result.now ≡ slice_index_or self.now.kept unit [] }
+    {
+        self.kept.get(unit as usize)
+    }
+
+    /// The partial units that have a unit among their users, in order.
+    pub fn imports(&self, unit: u32) -> &[u32]
+        requires { unit < length self.now.imports }
+        ensures { result.now ≡ slice_index_or self.now.imports unit [] }
+    {
+        self.imports.get(unit as usize)
+    }
+}

@@ -8,3 +8,4 @@ pub mod OutsCarried
 pub mod OneLemmas
 pub mod WithinLemmas
 pub mod CommonLemmas
+pub mod AllLemmas

@@ -124,11 +124,11 @@ module _ (r : Run) (can : CanWrite r) (g : Spot → Place) (ok : IsPlacing r g) 
   common_good small =
       let c = can.common in
       units_good (common_forms r) spots_same OfAny (tells_common r) (common_units r.move) common_all (subst NoneTwice (common_names r) (file_once (files_out r) (run_once r can.apart) (common_out r) (common_there r))) c.carried c.closed (λ k is. absurd is)
-      (small, refl, units_texts [] (common_units r.move)) c.bases c.operands
+      (small, refl, units_texts [] (common_units r.move)) c.over.bases c.over.operands
 
   common_room : Each (UnitHasRoom n) (common_fitted r)
   unfolding common_fitted
-  common_room = can.common.room
+  common_room = can.common.over.room
 
   pub common_back : (out : List ℕ) → HasCommon out (common_sections r) (texts r) → FitsSections (common_sections r) → SaysPlaced r g None r.common out (common_fitted r)
   common_back out has small = said_placed (tells_common r) None r.common out (common_fitted r) (record {
@@ -158,11 +158,11 @@ module _ (r : Run) (can : CanWrite r) (g : Spot → Place) (ok : IsPlacing r g) 
       let c = can.file file there changed in
       units_good (file_forms r file) spots_same (OfFile (sources r file)) (tells r file) (out_units r.move r.units file) (file_all file) (subst NoneTwice names (file_once (files_out r) (run_once r can.apart) (file_out r file) (file_there r file there))) c.carried c.closed
       (λ k common own. not_common r can.apart file there k (entries_are_keys (common_fitted r) k common) (subst (In k) (sym names) own))
-      (small, λ s is. (ap (λ (x : Sources). x.strs) (sym is), ap (λ (x : Sources). x.line_strs) (sym is), ap (λ (x : Sources). x.offsets) (sym is), ap (λ (x : Sources). x.line) (sym is), ap (λ (x : Sources). x.offsets) (sym is))) c.bases c.operands
+      (small, λ s is. (ap (λ (x : Sources). x.strs) (sym is), ap (λ (x : Sources). x.line_strs) (sym is), ap (λ (x : Sources). x.offsets) (sym is), ap (λ (x : Sources). x.line) (sym is), ap (λ (x : Sources). x.offsets) (sym is))) c.over.bases c.over.operands
 
   file_room : (file : ℕ) → In file r.files → changes r.move r.units file ≡ true → Each (UnitHasRoom n) (fitted r file)
   unfolding fitted
-  file_room file there changed = (can.file file there changed).room
+  file_room file there changed = (can.file file there changed).over.room
 
   with_common : (common : Option (Common Place)) (out : List ℕ) (file : ℕ) → In file r.files → changes r.move r.units file ≡ true → HasSections (r.input file) out (sections_of r file) → FitsSections (sections_of r file)
       → ((k : Spot) → In k (all_entry_keys (common_fitted r)) → n.place k < 2 ^ 32) → ((k : Spot) → In k (all_entry_keys (common_fitted r)) → (c : Common Place) × (common ≡ Some c) × In (n.place k) c.entries × (c.place (n.place k) ≡ g k))

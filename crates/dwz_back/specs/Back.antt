@@ -60,26 +60,32 @@ tells r file = tells_of (sources r file) (all_entry_keys (fitted r file)) (all_e
 abbrev pub tells_common : Run → Tells Spot
 tells_common r = tells_of (common_sources (texts r)) (all_entry_keys (common_fitted r)) []
 
--- Each value of these units was read in such files, in the unit that it is said to come from; each reference names an entry of the file, or of the common file; roots say of slots and of a line
--- table what those units said; and the operands of expressions name entries as their numbers are counted, and have room for these.
-pub record IsReady (from : Sources → Type 0) (f : Forms Spot) (t : Tells Spot) (n : Numbering Spot) (units : List (DwUnit Spot)) : Type 0 where
-  pub carried : Each (λ u. CarriedUnit from (f.origin u.at) u) units
-  pub closed : ClosedIn t units
+-- What is asked of units besides, as long as it isn't shown of all: roots say of slots and of a line table what the units said that
+-- values come from, and no value of the common file numbers a file; the operands of expressions name entries as their numbers are
+-- counted, and have room for these.
+pub record StandOver (f : Forms Spot) (t : Tells Spot) (n : Numbering Spot) (units : List (DwUnit Spot)) : Type 0 where
   pub bases : Each (BasesStand f) units
   pub operands : Each (OperandsStand t) units
   pub room : Each (UnitHasRoom n) (fit_units f units)
+
+-- each value of these units was read in such files, in the unit that it is said to come from; each reference names an entry of the
+-- file, or of the common file
+pub record IsReady (from : Sources → Type 0) (f : Forms Spot) (t : Tells Spot) (n : Numbering Spot) (units : List (DwUnit Spot)) : Type 0 where
+  pub carried : Each (λ u. CarriedUnit from (f.origin u.at) u) units
+  pub closed : ClosedIn t units
+  pub over : StandOver f t n units
+
+abbrev pub FileOver : Run → ℕ → Type 0
+FileOver r file = StandOver (file_forms r file) (tells r file) (places r) (out_units r.move r.units file)
+
+abbrev pub CommonOver : Run → Type 0
+CommonOver r = StandOver (common_forms r) (tells_common r) (places r) (common_units r.move)
 
 -- no name stands twice, and the units of each file of which something moves, and of the common file, are ready
 pub record CanWrite (r : Run) : Type 0 where
   pub apart : NoneTwice (units_keys (all_units r.move r.units r.files))
   pub file : (file : ℕ) → In file r.files → changes r.move r.units file ≡ true → IsReady (OfFile (sources r file)) (file_forms r file) (tells r file) (places r) (out_units r.move r.units file)
   pub common : IsReady OfAny (common_forms r) (tells_common r) (places r) (common_units r.move)
-
--- what is asked of a file besides, as long as it isn't shown: roots say what the units said that values come from, and operands name entries and have room for their numbers
-pub record StandsOver (r : Run) (file : ℕ) : Type 0 where
-  pub bases : Each (BasesStand (file_forms r file)) (out_units r.move r.units file)
-  pub operands : Each (OperandsStand (tells r file)) (out_units r.move r.units file)
-  pub room : Each (UnitHasRoom (places r)) (fitted r file)
 
 -- places for the names of a run: in the common file, and in each file of which something moves, those where they are written
 pub record IsPlacing (r : Run) (g : Spot → Place) : Type 0 where
@@ -193,6 +199,6 @@ abbrev pub OneBackLaw : Type 0
 OneBackLaw =
     (l : Limits) (input : List ℕ) (raw : List RawUnit) (doc : Doc ℕ) → Reads l input raw doc → AreBytes (debug_info input) → Each BuiltUnit doc.units
     → (rule : Rule) → IsAlike Apart (units_of (doc ∷ [])) rule.alike → IsChoice (units_of (doc ∷ [])) rule
-    → PartsCarried (OfFile (sources_of input)) (one_run rule doc input).move (units_of (doc ∷ [])) (Local 0) → StandsOver (one_run rule doc input) 0
+    → PartsCarried (OfFile (sources_of input)) (one_run rule doc input).move (units_of (doc ∷ [])) (Local 0) → FileOver (one_run rule doc input) 0
     → changes (one_run rule doc input).move (units_of (doc ∷ [])) 0 ≡ true
     → (out : List ℕ) → HasSections input out (sections_of (one_run rule doc input) 0) → FitsSections (sections_of (one_run rule doc input) 0) → OneBack doc rule input out

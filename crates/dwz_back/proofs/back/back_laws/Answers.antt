@@ -1,3 +1,4 @@
+use Rattle.dwz_back.proofs.AllLemmas.{all_back, can_write}
 use Rattle.dwz_back.proofs.CommonLemmas.{common_within}
 use Rattle.dwz_back.proofs.OneLemmas.{one_back}
 use Rattle.dwz_back.proofs.ReadPlaces.{read_from}
@@ -32,3 +33,9 @@ returns-clause-within c = within
 
 pub returns-clause-common_within : goal.returns-clause-common_within
 returns-clause-common_within c = common_within
+
+pub returns-clause-can : goal.returns-clause-can
+returns-clause-can c = can_write
+
+pub returns-clause-all : goal.returns-clause-all
+returns-clause-all c = all_back

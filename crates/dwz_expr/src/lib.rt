@@ -4,11 +4,12 @@
 mod fields;
 mod laws;
 mod ops;
+mod reading;
 mod shapes;
 
 pub use dwz_meanings::Operand;
 pub use laws::first_fault_laws;
-pub use ops::{Ops, read_into};
+pub use reading::{Ops, read_into};
 
 #[cfg(test)]
 mod tests;

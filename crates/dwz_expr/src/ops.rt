@@ -1,11 +1,10 @@
-//! Expressions that are read.
+//! The operators of an expression, one by one.
 
-ghost use Rattle.std.specs.Prelude.{◌≡◌, ◌+◌, ◌-◌, ◌<◌, ◌≤◌, ◌^◌, [], IfOk, OnErr, length};
+ghost use Rattle.std.specs.Prelude.{◌≡◌, ◌+◌, ◌-◌, ◌<◌, ◌≤◌, ◌^◌, [], OnErr, length};
 ghost use Rattle.dwz_model.specs.declared.fault.ReadErr.TheVariants.{Refused};
 ghost use Rattle.dwz_model.specs.declared.place.Base.TheVariants.{Unit as FromUnit, Info as FromInfo};
-ghost use Rattle.dwz_meanings.specs.Exprs.{Entry4, EntryOrGeneric, EntryUleb, any_operands, bad_expr, expr_at, fields_of, unsupported};
-ghost use Rattle.dwz_docs.specs.Faults.{Answers, AnswersAt};
-ghost use Rattle.dwz_expr.specs.FirstFault.{AreAsked, ReadsInto};
+ghost use Rattle.dwz_meanings.specs.Exprs.{Entry4, EntryOrGeneric, EntryUleb, any_operands, bad_expr, fields_of, unsupported};
+ghost use Rattle.dwz_docs.specs.Faults.{AnswersAt};
 ghost use Rattle.dwz_expr.specs.Gathering.{Gathers, Grows, added, counted_at, field_into, fields_into, gathered, nested_into, op_into, operand4_at, operand_uleb_at, ops_into, shift, sized_at};
 ghost use Rattle.dwz_expr.specs.Flat.{HasNoExpression};
 
@@ -15,8 +14,6 @@ use dwz_bytes::Cursor;
 use dwz_codes::Shape;
 use dwz_meanings::Operand;
 use dwz_model::{Base, Fault, ReadErr, Reason};
-use std::alloc::Global;
-use std::marker::Model;
 
 // A bad expression at an operator.
 #[inline(always)]
@@ -283,7 +280,7 @@ fn nested(
 
 // The operators of an expression that has all the bytes, where so many expressions may be inside it in turn.
 #[cycle(inside)]
-fn all(
+pub(crate) fn all(
     inside: u8,
     bytes: &[u8],
     start: u64,
@@ -323,94 +320,4 @@ fn all(
         }
     }
     Ok(())
-}
-
-/// An expression that was read (DWARF 5, 2.5): its bytes, and the operands in it that name entries, those of expressions in it
-/// among them. Clauses see an `Expression`.
-#[derive(Drop)]
-pub struct Ops<'a> {
-    bytes: &'a [u8],
-    at: u64,
-    operands: Vec<Operand>,
-    address: bool,
-}
-
-impl<'a> Model for Ops<'a> {
-    ghost use Rattle.dwz_meanings.specs.Exprs.{Expression};
-
-    ghost Value = { Expression };
-
-    ghost view = { λ o. record { at = o.at; bytes = o.bytes.now; operands = o.operands.items; address = o.address } };
-}
-
-// How many expressions may be inside another one.
-const MOST_INSIDE: u8 = 8;
-
-/// Reads the expression whose bytes these are, and whose first byte stands at that place of the section with that code, and
-/// appends the operands in it that name entries. Answers whether it, or an expression in it, has an address or the index of one.
-///
-/// Refused exactly at the first operator that isn't read: as `UnsupportedOp` where its code has no row or one that says so, and
-/// else as `BadExpr` where its operands don't end in the expression, a number in them is too wide, or an expression is inside
-/// more than 8 others. Then the operands before it are appended, which are those that are looked up before: so the first of
-/// those that names no entry is the first fault, and where each does it is the one that is answered.
-pub fn read_into(
-    operands: &mut Vec<Operand>,
-    bytes: &[u8],
-    at: u64,
-    section: u8,
-) -> Result<bool, ReadErr>
-    requires { at + length bytes.now < 2 ^ 64 }
-    ensures found { ReadsInto section (record { at = at; rest = bytes.now }) (added operands.old.items operands.new.items) result }
-    ensures grows { Grows operands.old.items operands.new.items }
-{
-    let mut address = false;
-    all(MOST_INSIDE, bytes, at, section, operands, &mut address)?;
-    Ok(address)
-}
-
-impl<'a> Ops<'a> {
-    /// Reads an expression, as `read_into` does, with operands of its own. Where it is refused they are lost, so that only the
-    /// fault of layout is known.
-    pub fn read(alloc: Global, bytes: &'a [u8], at: u64, section: u8) -> Result<Ops<'a>, ReadErr>
-        requires { at + length bytes.now < 2 ^ 64 }
-        ensures answer { Answers (λ o. o) result (expr_at (any_operands section) (record { at = at; rest = bytes.now })) }
-        ensures asks { IfOk result (λ o. AreAsked section (record { at = at; rest = bytes.now }) o.operands) }
-    {
-        let mut operands = Vec::new(alloc);
-        let address = read_into(&mut operands, bytes, at, section)?;
-        Ok(Ops {
-            bytes,
-            at,
-            operands,
-            address,
-        })
-    }
-
-    /// The bytes that it was read from.
-    pub fn bytes(&self) -> &[u8]
-        ensures { result.now ≡ self.now.bytes }
-    {
-        self.bytes
-    }
-
-    /// The place of its first byte in its section.
-    pub fn at(&self) -> u64
-        ensures { result ≡ self.now.at }
-    {
-        self.at
-    }
-
-    /// The operands that name entries, in order.
-    pub fn operands(&self) -> &[Operand]
-        ensures { result.now ≡ self.now.operands }
-    {
-        &self.operands
-    }
-
-    /// Whether it, or an expression in it, has an address or the index of one.
-    pub fn has_address(&self) -> bool
-        ensures { result ≡ self.now.address }
-    {
-        self.address
-    }
 }

@@ -115,7 +115,8 @@ pub fn walk_into(operands: &mut Vec<Operand>, section: &[u8], at: u64) -> Result
         let place = cursor.at() as u64;
         let kind = byte(&mut cursor, bad_at(place))?;
         if kind == 0 {
-            return Ok(cursor.at() as u64);
+            let end = cursor.at() as u64;
+            return Ok(end);
         }
         let content = front(kind, place, &mut cursor)?;
         push_operands(content, operands)?;

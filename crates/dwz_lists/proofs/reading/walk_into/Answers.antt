@@ -74,4 +74,4 @@ returns-in_err-push_operands-clause-found c =
 pub returns-then-kind-eq0-clause-found : goal.returns-then-kind-eq0-clause-found
 returns-then-kind-eq0-clause-found c =
     let kind = kind_read c.bad_at.result c.loop-kind.cursor c.in_ok-kind.kind c.byte.new.cursor c.in_ok-kind.ensures in
-    walk_ends c.args.section.now c.args.at c.args.operands.now.items c.loop-kind.operands.items c.loop-kind.cursor c.byte.new.cursor c.in_ok-kind.kind c.at.result c.loop-kind.invariant.keeps kind c.if-kind-eq0.true c.at.ensures
+    walk_ends c.args.section.now c.args.at c.args.operands.now.items c.loop-kind.operands.items c.loop-kind.cursor c.byte.new.cursor c.in_ok-kind.kind c.at-end.result c.loop-kind.invariant.keeps kind c.if-kind-eq0.true c.at-end.ensures

@@ -1,7 +1,7 @@
 use Rattle.std.proofs.lemmas.Result.{err_from_is_err_and}
 use Rattle.dwz_expr.specs.Gathering.{added}
 use Rattle.dwz_expr.proofs.StopLemmas.{into_fails, into_gives}
-use Rattle.dwz_expr.proofs.ops.read_into.Goals as goal
+use Rattle.dwz_expr.proofs.reading.read_into.Goals as goal
 
 pub returns-in_err-all-clause-found : goal.returns-in_err-all-clause-found
 returns-in_err-all-clause-found c =

@@ -1,10 +1,11 @@
 -- All files that read can be written, and read back together.
-use Rattle.std.proofs.Common.{◌≡◌, ℕ, suc, ◌+◌, true, List, [], ◌∷◌, ◌++◌, map, length, refl, sym, ap, subst, ◌∙◌, inl, inr}
+use Rattle.std.proofs.Common.{◌≡◌, ℕ, suc, ◌+◌, true, List, [], ◌∷◌, ◌++◌, map, length, Option, Some, refl, sym, ap, subst, ◌∙◌, inl, inr}
 use Rattle.dwz_docs.specs.Lists.{In}
 use Rattle.dwz_docs.specs.Trees.{End, Entry}
 use Rattle.dwz_meanings.specs.Documents.{Attr, Doc, DwUnit, Entries, Node, unit_map}
-use Rattle.dwz_meanings.specs.Files.{sources_of}
-use Rattle.dwz_meanings.specs.Meanings.{Sources}
+use Rattle.dwz_docs.specs.Entries.{given}
+use Rattle.dwz_meanings.specs.Files.{around_of, debug_abbrev, debug_info, sources_of}
+use Rattle.dwz_meanings.specs.Meanings.{Common as CommonFile, Sources}
 use Rattle.dwz_alike.specs.Alike.{IsAlike, Scope}
 use Rattle.dwz_alike.specs.Spots.{FileUnit, PartialOf, Spot, Top, file_numbers, in_file, named, named_files, spot_in, spots_from, tops_of, units_of}
 use Rattle.dwz_seen.specs.Lists.{Each, Nth}
@@ -12,23 +13,26 @@ use Rattle.dwz_seen.proofs.Members.{each_of, in_cases, nth_in}
 use Rattle.dwz_moving.specs.Homes.{Common, IsChoice, Local, Rule}
 use Rattle.dwz_moving.specs.IsPlan.{Has, OfTop}
 use Rattle.dwz_moving.proofs.RowParts.{part_is as part_row_is}
-use Rattle.dwz_same.specs.After.{ArePlaced, FilesSame, Place, Replaces}
+use Rattle.dwz_same.specs.After.{ArePlaced, FilesSame, Place, Replaces, at_file}
 use Rattle.dwz_same.specs.Units.{all_units, changes, common_units, out_units, partial_units}
 use Rattle.dwz_same.proofs.FileLemmas.{files_same, replaced}
 use Rattle.dwz_same.proofs.HeldLemmas.{row_found}
 use Rattle.dwz_writing.specs.Bases.{Bases, bases_in}
 use Rattle.dwz_writing.specs.Carried.{CarriedAttr, CarriedEntries, CarriedNode, CarriedUnit, OfAny, OfFile}
 use Rattle.dwz_writing.proofs.CarriedMaps.{unit_carried}
-use Rattle.dwz_back.specs.AllFiles.{AllBack, AreMade, AreOver, AreRead}
-use Rattle.dwz_back.specs.Back.{AreAtOld, CanWrite, IsPlacing, IsReady, WasReadFrom, run_of, tells}
+use Rattle.dwz_back.specs.AllFiles.{AreMade, AreOver, AreRead, ReadBack, SaysStill}
+use Rattle.dwz_back.specs.Back.{CanWrite, IsReady, WasReadFrom, given_by, run_of, tells}
 use Rattle.dwz_back.specs.Files.{Run, common_forms, file_forms, origin_in, places, sources}
 use Rattle.dwz_back.proofs.CommonLemmas.{common_within}
 use Rattle.dwz_back.proofs.HomeLemmas.{parts_from}
 use Rattle.dwz_back.proofs.OriginLemmas.{bases_mapped, part_origin}
 use Rattle.dwz_back.proofs.OutsCarried.{new_carried, out_carried}
+use Rattle.dwz_back.proofs.ReadMode.{units_again, wider}
 use Rattle.dwz_back.proofs.ReadPlaces.{read_from}
 use Rattle.dwz_back.proofs.SameLemmas.{same_back}
 use Rattle.dwz_back.proofs.SaysLemmas.{common_back, file_back}
+use Rattle.dwz_back.proofs.StillMeans.{units_there}
+use Rattle.dwz_back.proofs.StillPlaces.{back_old, back_place, back_placing}
 use Rattle.dwz_back.proofs.WithinLemmas.{within}
 
 -- ---- what was read in a file was read in some file
@@ -126,11 +130,37 @@ module _ (scope : Scope) (docs : List (Doc ℕ)) (input : ℕ → List ℕ) (are
     common = record { carried = common_carried; closed = common_within scope docs rule placed is choice input; over = over.common };
   }
 
-  pub all_back : (g : Spot → Place) → IsPlacing r g → AreAtOld r g docs → (output : ℕ → List ℕ) (common : List ℕ) → AreMade r output common → AllBack scope docs rule input output common g
-  all_back g ok old output common made =
+  -- a file by itself says the same with a common file
+  still_says : (common : Option (CommonFile Place)) (file : ℕ) (doc : Doc ℕ) → Nth 0 docs file doc → SaysStill common file (input file) doc
+  still_says common file doc nth =
+      let o = are file doc nth in
+      record {
+        raw = o.raw;
+        says = record {
+          elf = o.reads.elf;
+          mode = wider (given o.limits.entries);
+          whole = refl;
+          partial = refl;
+          forms = refl;
+          spelled = units_again (debug_abbrev (input file)) (given o.limits.entries) refl o.raw 0 0 (debug_info (input file)) o.reads.spelled;
+          means = units_there (at_file file) common (around_of (input file) o.raw) refl o.raw doc.units o.reads.means;
+        };
+      }
+
+  pub all_back : (output : ℕ → List ℕ) (common : List ℕ) → AreMade r output common → ReadBack scope docs rule input output common
+  all_back output common made =
+      let g = back_place scope docs rule placed is choice input in
+      let ok = back_placing scope docs rule placed is choice input in
+      let old = back_old scope docs rule placed is choice input in
       let says = common_back r can_write g ok common made.common made.common_fits in
       record {
-        common = says;
-        file = λ file there changed. file_back r can_write g ok (output file) common made.common_fits says file there changed (made.file file there changed) (made.file_fits file there changed);
-        same = same_back scope docs rule placed is choice input g ok old;
+        place = g;
+        placing = ok;
+        old = old;
+        back = record {
+          common = says;
+          file = λ file there changed. file_back r can_write g ok (output file) common made.common_fits says file there changed (made.file file there changed) (made.file_fits file there changed);
+          still = λ file doc nth. still_says (Some (given_by r.common common says.raw)) file doc nth;
+          same = same_back scope docs rule placed is choice input g ok old;
+        };
       }

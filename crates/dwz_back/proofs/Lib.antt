@@ -8,4 +8,7 @@ pub mod OutsCarried
 pub mod OneLemmas
 pub mod WithinLemmas
 pub mod CommonLemmas
+pub mod ReadMode
+pub mod StillMeans
+pub mod StillPlaces
 pub mod AllLemmas

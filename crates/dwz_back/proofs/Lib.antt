@@ -4,6 +4,8 @@ pub mod SameLemmas
 pub mod ReadPlaces
 pub mod HomeLemmas
 pub mod OriginLemmas
+pub mod BasesLemmas
+pub mod SpaceLemmas
 pub mod OutsCarried
 pub mod OneLemmas
 pub mod WithinLemmas

@@ -9,13 +9,12 @@ use Rattle.dwz_meanings.specs.Files.{Limits, Reads, debug_info}
 use Rattle.dwz_seen.specs.Lists.{Each, Nth}
 use Rattle.dwz_alike.specs.Alike.{IsAlike, Scope}
 use Rattle.dwz_alike.specs.Spots.{Spot, units_of}
-use Rattle.dwz_moving.specs.Homes.{Common as InCommon, IsChoice, Local, Rule}
+use Rattle.dwz_moving.specs.Homes.{IsChoice, Local, Rule}
 use Rattle.dwz_same.specs.After.{Place, at_file}
 use Rattle.dwz_same.specs.Units.{changes}
-use Rattle.dwz_writing.specs.Carried.{BuiltUnit, OfAny, OfFile}
+use Rattle.dwz_writing.specs.Carried.{BuiltUnit, OfFile}
 use Rattle.dwz_writing.specs.Placing.{FitsSections}
 use Rattle.dwz_back.specs.Back.{AreAtOld, CanWrite, CommonOver, FileOver, IsPlacing, SameBack, SaysPlaced, SaysUnits, given_by, run_of}
-use Rattle.dwz_back.specs.Carrying.{PartsCarried}
 use Rattle.dwz_back.specs.Files.{HasCommon, HasSections, Run, common_fitted, common_sections, fitted, sections_of, sources, texts}
 
 -- the file with these bytes reads, and says a document whose attributes are among those that are written
@@ -32,9 +31,7 @@ AreRead input docs = (file : ℕ) (doc : Doc ℕ) → Nth 0 docs file doc → Is
 
 -- what else is asked of the units after: of the common file, and of each file of which something moves
 pub record AreOver (r : Run) : Type 0 where
-  pub common_parts : PartsCarried OfAny r.move r.units InCommon
   pub common : CommonOver r
-  pub parts : (file : ℕ) → In file r.files → changes r.move r.units file ≡ true → PartsCarried (OfFile (sources r file)) r.move r.units (Local file)
   pub file : (file : ℕ) → In file r.files → changes r.move r.units file ≡ true → FileOver r file
 
 -- the common file, and each file of which something moves, were made so

@@ -1,5 +1,5 @@
 -- All files that read can be written, and read back together.
-use Rattle.std.proofs.Common.{◌≡◌, ℕ, suc, ◌+◌, Bool, true, false, List, [], ◌∷◌, ◌++◌, map, length, Option, Some, refl, sym, ap, subst, ◌∙◌, arith, inl, inr}
+use Rattle.std.proofs.Common.{◌≡◌, ℕ, suc, Bool, true, false, List, [], ◌∷◌, map, Option, Some, refl, sym, subst, arith, inl, inr}
 use Rattle.dwz_docs.specs.Lists.{In}
 use Rattle.dwz_docs.specs.Trees.{End, Entry}
 use Rattle.dwz_meanings.specs.Documents.{Attr, Doc, DwUnit, Entries, Node, unit_map}
@@ -7,10 +7,10 @@ use Rattle.dwz_docs.specs.Entries.{given}
 use Rattle.dwz_meanings.specs.Files.{around_of, debug_abbrev, debug_info, sources_of}
 use Rattle.dwz_meanings.specs.Meanings.{Common as CommonFile, Sources}
 use Rattle.dwz_alike.specs.Alike.{IsAlike, Scope}
-use Rattle.dwz_alike.specs.Spots.{FileUnit, PartialOf, Spot, Top, file_numbers, in_file, named, named_files, spot_in, spots_from, tops_of, units_of}
+use Rattle.dwz_alike.specs.Spots.{FileUnit, PartialOf, Spot, Top, file_numbers, in_file, named, named_files, spot_in, spots_from, units_of}
 use Rattle.dwz_seen.specs.Lists.{Each, Nth}
 use Rattle.dwz_seen.proofs.Members.{each_of, in_cases, nth_in}
-use Rattle.dwz_moving.specs.Homes.{Common, Home, IsChoice, Local, Rule}
+use Rattle.dwz_moving.specs.Homes.{Common, Home, IsChoice, Rule}
 use Rattle.dwz_moving.specs.Moves.{line_attrs, line_in, names_path, plan, root_in_part}
 use Rattle.dwz_moving.specs.Plan.{PartialUnit}
 use Rattle.dwz_moving.specs.IsPlan.{Has, OfTop}
@@ -25,7 +25,7 @@ use Rattle.dwz_writing.proofs.CarriedMaps.{unit_carried}
 use Rattle.dwz_back.specs.AllFiles.{AreMade, AreOver, AreRead, ReadBack, SaysStill}
 use Rattle.dwz_back.specs.Carrying.{RootsCarried}
 use Rattle.dwz_back.specs.Back.{CanWrite, IsReady, WasReadFrom, given_by, run_of, tells}
-use Rattle.dwz_back.specs.Files.{Run, common_forms, file_forms, fitted, origin_in, places, sources}
+use Rattle.dwz_back.specs.Files.{Run, file_forms, fitted, origin_in, places, sources}
 use Rattle.dwz_back.proofs.BasesLemmas.{out_bases}
 use Rattle.dwz_back.proofs.CommonLemmas.{common_within}
 use Rattle.dwz_back.proofs.HomeLemmas.{parts_from}

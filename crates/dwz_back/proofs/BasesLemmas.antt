@@ -1,7 +1,7 @@
 -- An old unit that is kept says of slots and of a line table what it said.
 use Rattle.std.proofs.Common.{◌≡◌, ℕ, false, refl, sym, ap, subst, ◌∙◌, arith}
 use Rattle.dwz_docs.specs.Lists.{In}
-use Rattle.dwz_meanings.specs.Documents.{Attr, Compile, DwUnit, Kind, OfType, Partial, kind_map}
+use Rattle.dwz_meanings.specs.Documents.{Compile, DwUnit, Kind, OfType, Partial, kind_map}
 use Rattle.dwz_seen.specs.Lists.{Each, Nth}
 use Rattle.dwz_seen.specs.Seen.{IsPartial}
 use Rattle.dwz_seen.proofs.Members.{each_append, each_of, in_left}
@@ -10,7 +10,7 @@ use Rattle.dwz_moving.specs.Homes.{Local}
 use Rattle.dwz_moving.specs.Moves.{Move, image_in}
 use Rattle.dwz_same.specs.After.{AreOld, IsNamedBelow}
 use Rattle.dwz_same.specs.Units.{kept_unit, kept_units, out_units, partial_units}
-use Rattle.dwz_writing.specs.Bases.{Bases, bases_in}
+use Rattle.dwz_writing.specs.Bases.{bases_in}
 use Rattle.dwz_writing.specs.Carried.{BasesStand, ComesFromItself, FileStands}
 use Rattle.dwz_writing.specs.Fitting.{EachAttr}
 use Rattle.dwz_writing.specs.Placing.{Forms, Holder, OldUnit, holder_of}

@@ -1,5 +1,5 @@
 -- One file by itself.
-use Rattle.std.proofs.Common.{◌≡◌, ℕ, true, false, List, [], ◌∷◌, ◌++◌, map, refl, sym, ap, subst, ◌∙◌, inl, inr}
+use Rattle.std.proofs.Common.{◌≡◌, ℕ, true, false, List, [], ◌∷◌, map, refl, sym, ap, subst, ◌∙◌, inl, inr}
 use Rattle.std.proofs.lemmas.List.{append-nil}
 use Rattle.dwz_meanings.specs.Documents.{Doc, DwUnit, unit_map}
 use Rattle.dwz_meanings.specs.Files.{Limits, Reads, debug_info, sources_of}
@@ -10,11 +10,11 @@ use Rattle.dwz_docs.specs.Values.{AreBytes}
 use Rattle.dwz_alike.specs.Alike.{Apart, IsAlike}
 use Rattle.dwz_alike.specs.Spots.{FileUnit, Spot, file_numbers, in_file, named_files, spot_in, spots_from, units_of}
 use Rattle.dwz_seen.specs.Lists.{Each, Nth}
-use Rattle.dwz_seen.specs.Seen.{Closed, Seen, all_seen, seen_below, seen_roots}
+use Rattle.dwz_seen.specs.Seen.{Seen, all_seen, seen_below, seen_roots}
 use Rattle.dwz_seen.proofs.Members.{nth_in}
-use Rattle.dwz_moving.specs.Homes.{IsChoice, Local, Rule}
+use Rattle.dwz_moving.specs.Homes.{IsChoice, Rule}
 use Rattle.dwz_same.specs.After.{ArePlaced, FilesSame, Replaces}
-use Rattle.dwz_same.specs.Units.{all_units, changes, common_units, file_units, out_units}
+use Rattle.dwz_same.specs.Units.{all_units, changes, common_units, out_units}
 use Rattle.dwz_same.proofs.FileLemmas.{files_same, replaced}
 use Rattle.dwz_writing.specs.Bases.{Bases, bases_in}
 use Rattle.dwz_writing.specs.Carried.{BasesStand, BuiltUnit, CarriedUnit, ClosedIn, OfAny, OfFile, OperandsStand}

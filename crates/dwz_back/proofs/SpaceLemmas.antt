@@ -1,9 +1,9 @@
 -- The spaces of a partial unit hold names that were read.
-use Rattle.std.proofs.Common.{◌≡◌, ℕ, ℤ, ◌+◌, Bool, true, false, List, [], ◌∷◌, ◌++◌, ◌==◌, Option, Some, None, map, cond, eqb, eqb-true, refl, sym, ap, subst, ◌∙◌, arith, inl, inr}
+use Rattle.std.proofs.Common.{◌≡◌, ℕ, ℤ, Bool, true, false, List, [], ◌∷◌, ◌++◌, ◌==◌, Option, Some, None, cond, eqb, eqb-true, refl, sym, ap, subst, ◌∙◌, arith, inl, inr}
 use Rattle.dwz_docs.specs.Entries.{RawAttr}
 use Rattle.dwz_docs.specs.Lists.{In}
 use Rattle.dwz_docs.specs.Trees.{End, Entry}
-use Rattle.dwz_meanings.specs.Documents.{Attr, Entries, Node, Num, File, Plain, Sec, Text, Value, first_named, language, only, value_map}
+use Rattle.dwz_meanings.specs.Documents.{Attr, Entries, Node, File, Sec, Text, Value, first_named, language, only, value_map}
 use Rattle.dwz_meanings.specs.Meanings.{Class, IfSo, IsFileBy, IsLocList, MeansAs, OfAddress, OfBlock, OfCommonEntry, OfCommonText, OfConstant, OfExpression, OfFlag, OfIndex, OfInfoEntry, OfListIndex, OfOffset, OfSignature, OfText, OfTextBySlot, OfTextInLineStr, OfTextInStr, OfUnitEntry, Scope, Sources, Unread, class_of, constant_value, names_file, names_list, number_of, offset_of, stmt_list}
 use Rattle.dwz_seen.specs.Lists.{Each, Nth}
 use Rattle.dwz_seen.specs.Spaces.{space_text, text_at, text_in}

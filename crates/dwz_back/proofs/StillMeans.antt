@@ -3,7 +3,7 @@ use Rattle.std.proofs.Common.{◌≡◌, ℕ, ℤ, Bool, true, false, List, [], 
 use Rattle.dwz_model.specs.declared.place.Base.{Base}
 use Rattle.dwz_model.specs.declared.place.Base.TheVariants.{Unit as FromUnit, Info as FromInfo}
 use Rattle.dwz_docs.specs.Entries.{RawAttr, RawEntry}
-use Rattle.dwz_docs.specs.Lists.{In, has}
+use Rattle.dwz_docs.specs.Lists.{has}
 use Rattle.dwz_docs.specs.Trees.{End, Entry, Forest}
 use Rattle.dwz_docs.specs.Units.{CompileUnit, PartialUnit, RawKind, RawUnit, TypeUnit}
 use Rattle.dwz_meanings.specs.declared.exprs.Operand.{Operand}
@@ -11,7 +11,7 @@ use Rattle.dwz_meanings.specs.Documents.{Attr, DwUnit, Entries, Expr, File, Kind
 use Rattle.dwz_meanings.specs.Exprs.{ExprContext, SpellsExpr, parts_of}
 use Rattle.dwz_meanings.specs.LocLists.{SpellsList}
 use Rattle.dwz_meanings.specs.Sequences.{StandsFrom}
-use Rattle.dwz_meanings.specs.Meanings.{Around, Class, Common, IfSo, IsExpression, IsFileBy, IsLocList, IsTextIn, MeanAttrs, MeanEntries, MeanUnits, MeansAs, MeansKind, MeansNode, MeansUnit, OfAddress, OfBlock, OfCommonEntry, OfCommonText, OfConstant, OfExpression, OfFlag, OfIndex, OfInfoEntry, OfListIndex, OfOffset, OfSignature, OfText, OfTextBySlot, OfTextInLineStr, OfTextInStr, OfUnitEntry, Scope, Unread, bytes_of, class_of, constant_value, content_at, entries_for, expr_context, leads_to, names_file, names_list, number_of, offset_of, scope_of, stmt_list, target_of, targets, without_siblings}
+use Rattle.dwz_meanings.specs.Meanings.{Around, Class, Common, IfSo, IsExpression, IsFileBy, IsLocList, IsTextIn, MeanAttrs, MeanEntries, MeanUnits, MeansAs, MeansKind, MeansNode, OfAddress, OfBlock, OfCommonEntry, OfCommonText, OfConstant, OfExpression, OfFlag, OfIndex, OfInfoEntry, OfListIndex, OfOffset, OfSignature, OfText, OfTextBySlot, OfTextInLineStr, OfTextInStr, OfUnitEntry, Scope, Unread, bytes_of, class_of, constant_value, content_at, entries_for, expr_context, leads_to, names_file, names_list, number_of, offset_of, scope_of, stmt_list, target_of, targets, without_siblings}
 use Rattle.dwz_meanings.specs.Shared.{operands_of}
 
 -- the same sections, with other places, and beside a common file

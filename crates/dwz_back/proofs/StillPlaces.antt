@@ -1,9 +1,9 @@
 -- There are places for all names: those where names are written, and in a file of which nothing moves the old ones.
-use Rattle.std.proofs.Common.{◌≡◌, ℕ, suc, Bool, true, false, List, [], ◌∷◌, ◌==◌, ◌||◌, map, refl, sym, ap, subst, ◌∙◌, arith, eqb-true, inl, inr}
+use Rattle.std.proofs.Common.{◌≡◌, ℕ, suc, Bool, true, false, List, [], ◌∷◌, ◌==◌, ◌||◌, map, refl, sym, ap, subst, ◌∙◌, arith, inl, inr}
 use Rattle.std.proofs.lemmas.Bool.{eq-eqb, ne_eqb, or_left, or_right}
 use Rattle.dwz_docs.specs.Lists.{In}
 use Rattle.dwz_docs.specs.Trees.{End, Entry}
-use Rattle.dwz_meanings.specs.Documents.{Attr, Compile, Doc, DwUnit, Entries, Kind, Node, OfType, Partial, kind_map, unit_map}
+use Rattle.dwz_meanings.specs.Documents.{Compile, Doc, DwUnit, Entries, Kind, Node, OfType, Partial, kind_map, unit_map}
 use Rattle.dwz_seen.specs.Lists.{Each, Nth}
 use Rattle.dwz_seen.specs.Seen.{Closed, IsShown, Named, Seen, all_seen, named_map, named_value, see, seen, seen_below, seen_roots}
 use Rattle.dwz_seen.specs.Shown.{AreShown, HaveMains, OnePlace, UnitsShown, unit_keys, units_keys}
@@ -14,10 +14,10 @@ use Rattle.dwz_alike.specs.Alike.{IsAlike, Scope}
 use Rattle.dwz_alike.specs.Spots.{Spot, file_numbers, units_of}
 use Rattle.dwz_moving.specs.Homes.{IsChoice, Rule}
 use Rattle.dwz_same.specs.After.{ArePlaced, FilesSame, Place, StandsAt, at_file}
-use Rattle.dwz_same.specs.Units.{all_units, changes, common_units, file_units, out_units}
+use Rattle.dwz_same.specs.Units.{changes, common_units, file_units, out_units}
 use Rattle.dwz_same.proofs.FileLemmas.{files_same}
 use Rattle.dwz_back.specs.Back.{AreAtOld, IsPlacing, run_of}
-use Rattle.dwz_back.specs.Files.{Run, common_fitted, file_of_name, fitted, place_of}
+use Rattle.dwz_back.specs.Files.{Run, file_of_name, place_of}
 use Rattle.dwz_back.proofs.NameLemmas.{fitted_names, name_in_common, name_in_file}
 use Rattle.dwz_back.proofs.SameLemmas.{numbers_in}
 use Rattle.dwz_back.proofs.WithinLemmas.{closed_at}

@@ -9,13 +9,13 @@ use Rattle.dwz_meanings.specs.Files.{Limits, Reads, debug_info}
 use Rattle.dwz_seen.specs.Lists.{Each, Nth}
 use Rattle.dwz_alike.specs.Alike.{IsAlike, Scope}
 use Rattle.dwz_alike.specs.Spots.{Spot, units_of}
-use Rattle.dwz_moving.specs.Homes.{IsChoice, Local, Rule}
+use Rattle.dwz_moving.specs.Homes.{IsChoice, Rule}
 use Rattle.dwz_same.specs.After.{Place, at_file}
 use Rattle.dwz_same.specs.Units.{changes}
-use Rattle.dwz_writing.specs.Carried.{BuiltUnit, OfFile}
+use Rattle.dwz_writing.specs.Carried.{BuiltUnit}
 use Rattle.dwz_writing.specs.Placing.{FitsSections}
 use Rattle.dwz_back.specs.Back.{AreAtOld, CanWrite, CommonOver, FileOver, IsPlacing, SameBack, SaysPlaced, SaysUnits, given_by, run_of}
-use Rattle.dwz_back.specs.Files.{HasCommon, HasSections, Run, common_fitted, common_sections, fitted, sections_of, sources, texts}
+use Rattle.dwz_back.specs.Files.{HasCommon, HasSections, Run, common_fitted, common_sections, fitted, sections_of, texts}
 
 -- the file with these bytes reads, and says a document whose attributes are among those that are written
 pub record IsRead (bytes : List ℕ) (doc : Doc ℕ) : Type 0 where

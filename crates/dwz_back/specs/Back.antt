@@ -9,7 +9,7 @@ use Rattle.dwz_meanings.specs.Meanings.{Around, Common, MeanUnits, Sources, all_
 use Rattle.dwz_docs.specs.Units.{RawUnit, SpellsUnits}
 use Rattle.dwz_docs.specs.Values.{AreBytes}
 use Rattle.dwz_seen.specs.Lists.{Each, NoneTwice, Nth}
-use Rattle.dwz_seen.specs.Seen.{Closed, IsPartial, SameAlong}
+use Rattle.dwz_seen.specs.Seen.{IsPartial, SameAlong}
 use Rattle.dwz_seen.specs.Shown.{OnePlace, UnitsShown, units_keys}
 use Rattle.dwz_alike.specs.Alike.{Apart, IsAlike, Scope}
 use Rattle.dwz_alike.specs.Spots.{Spot, file_numbers, units_of}
@@ -18,7 +18,7 @@ use Rattle.dwz_moving.specs.Moves.{plan}
 use Rattle.dwz_moving.specs.Plan.{image}
 use Rattle.dwz_same.specs.After.{ArePlaced, Place, at_file, name_in, placed_from}
 use Rattle.dwz_same.specs.Images.{IsAlone, OneImage}
-use Rattle.dwz_same.specs.Units.{all_units, changes, common_units, out_units, units_at}
+use Rattle.dwz_same.specs.Units.{all_units, changes, common_units, out_units}
 use Rattle.dwz_writing.specs.Bases.{bases_in}
 use Rattle.dwz_writing.specs.Carried.{BasesStand, BuiltUnit, CarriedUnit, ClosedIn, OfAny, OfFile, OperandsStand}
 use Rattle.dwz_writing.specs.Fitting.{UnitHasRoom, back_forms}

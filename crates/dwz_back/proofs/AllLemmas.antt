@@ -1,34 +1,42 @@
 -- All files that read can be written, and read back together.
-use Rattle.std.proofs.Common.{◌≡◌, ℕ, suc, ◌+◌, true, List, [], ◌∷◌, ◌++◌, map, length, refl, sym, ap, subst, ◌∙◌, inl, inr}
+use Rattle.std.proofs.Common.{◌≡◌, ℕ, suc, Bool, true, false, List, [], ◌∷◌, map, Option, Some, refl, sym, subst, arith, inl, inr}
 use Rattle.dwz_docs.specs.Lists.{In}
 use Rattle.dwz_docs.specs.Trees.{End, Entry}
 use Rattle.dwz_meanings.specs.Documents.{Attr, Doc, DwUnit, Entries, Node, unit_map}
-use Rattle.dwz_meanings.specs.Files.{sources_of}
-use Rattle.dwz_meanings.specs.Meanings.{Sources}
+use Rattle.dwz_docs.specs.Entries.{given}
+use Rattle.dwz_meanings.specs.Files.{around_of, debug_abbrev, debug_info, sources_of}
+use Rattle.dwz_meanings.specs.Meanings.{Common as CommonFile, Sources}
 use Rattle.dwz_alike.specs.Alike.{IsAlike, Scope}
-use Rattle.dwz_alike.specs.Spots.{FileUnit, PartialOf, Spot, Top, file_numbers, in_file, named, named_files, spot_in, spots_from, tops_of, units_of}
+use Rattle.dwz_alike.specs.Spots.{FileUnit, PartialOf, Spot, Top, file_numbers, in_file, named, named_files, spot_in, spots_from, units_of}
 use Rattle.dwz_seen.specs.Lists.{Each, Nth}
 use Rattle.dwz_seen.proofs.Members.{each_of, in_cases, nth_in}
-use Rattle.dwz_moving.specs.Homes.{Common, IsChoice, Local, Rule}
+use Rattle.dwz_moving.specs.Homes.{Common, Home, IsChoice, Rule}
+use Rattle.dwz_moving.specs.Moves.{line_attrs, line_in, names_path, plan, root_in_part}
+use Rattle.dwz_moving.specs.Plan.{PartialUnit}
 use Rattle.dwz_moving.specs.IsPlan.{Has, OfTop}
 use Rattle.dwz_moving.proofs.RowParts.{part_is as part_row_is}
-use Rattle.dwz_same.specs.After.{ArePlaced, FilesSame, Place, Replaces}
+use Rattle.dwz_same.specs.After.{ArePlaced, FilesSame, Place, Replaces, at_file}
 use Rattle.dwz_same.specs.Units.{all_units, changes, common_units, out_units, partial_units}
 use Rattle.dwz_same.proofs.FileLemmas.{files_same, replaced}
-use Rattle.dwz_same.proofs.HeldLemmas.{row_found}
+use Rattle.dwz_same.proofs.HeldLemmas.{part_found, row_found}
 use Rattle.dwz_writing.specs.Bases.{Bases, bases_in}
 use Rattle.dwz_writing.specs.Carried.{CarriedAttr, CarriedEntries, CarriedNode, CarriedUnit, OfAny, OfFile}
 use Rattle.dwz_writing.proofs.CarriedMaps.{unit_carried}
-use Rattle.dwz_back.specs.AllFiles.{AllBack, AreMade, AreOver, AreRead}
-use Rattle.dwz_back.specs.Back.{AreAtOld, CanWrite, IsPlacing, IsReady, WasReadFrom, run_of, tells}
-use Rattle.dwz_back.specs.Files.{Run, common_forms, file_forms, origin_in, places, sources}
+use Rattle.dwz_back.specs.AllFiles.{AreMade, AreOver, AreRead, ReadBack, SaysStill}
+use Rattle.dwz_back.specs.Carrying.{RootsCarried}
+use Rattle.dwz_back.specs.Back.{CanWrite, IsReady, WasReadFrom, given_by, run_of, tells}
+use Rattle.dwz_back.specs.Files.{Run, file_forms, fitted, origin_in, places, sources}
+use Rattle.dwz_back.proofs.BasesLemmas.{out_bases}
 use Rattle.dwz_back.proofs.CommonLemmas.{common_within}
 use Rattle.dwz_back.proofs.HomeLemmas.{parts_from}
 use Rattle.dwz_back.proofs.OriginLemmas.{bases_mapped, part_origin}
-use Rattle.dwz_back.proofs.OutsCarried.{new_carried, out_carried}
+use Rattle.dwz_back.proofs.OutsCarried.{new_carried, out_carried, part_spaces}
+use Rattle.dwz_back.proofs.ReadMode.{units_again, wider}
 use Rattle.dwz_back.proofs.ReadPlaces.{read_from}
 use Rattle.dwz_back.proofs.SameLemmas.{same_back}
 use Rattle.dwz_back.proofs.SaysLemmas.{common_back, file_back}
+use Rattle.dwz_back.proofs.StillMeans.{units_there}
+use Rattle.dwz_back.proofs.StillPlaces.{back_old, back_place, back_placing}
 use Rattle.dwz_back.proofs.WithinLemmas.{within}
 
 -- ---- what was read in a file was read in some file
@@ -78,6 +86,20 @@ all_placed : (own : ℕ) (input : ℕ → List ℕ) (docs : List (Doc ℕ)) → 
 all_placed own input [] read = tt
 all_placed own input (doc ∷ docs) read = ((read own doc (inl (refl, refl))).placed, all_placed (suc own) input docs (λ file d nth. read file d (inr nth)))
 
+-- ---- the root of a partial unit of the common file
+
+common_root : (units : List (FileUnit Spot)) (origin : Bases) (part : PartialUnit) → part.home ≡ Common → Each (CarriedAttr OfAny origin) (line_attrs units part)
+unfolding line_attrs
+common_root units origin part home = by (names_path part) where
+  by : (b : Bool) → Each (CarriedAttr OfAny origin) (elim b as (λ _. List (Attr Spot)) [ true ↦ line_in units part.home part.tops ∷ [] | false ↦ [] ])
+  by true = (subst (λ (h : Home). CarriedAttr OfAny origin (line_in units h part.tops)) (sym home) (inr (inr (record { name = refl; form = refl; place = 0; raw = refl; fits = omega arith; value = refl }))), tt)
+  by false = tt
+
+common_roots : (rule : Rule) (units : List (FileUnit Spot)) (files : List ℕ) → RootsCarried OfAny (plan rule units files) units Common
+common_roots rule units files n part nth home =
+    let m = plan rule units files in
+    subst (λ (o : Option PartialUnit). Each (CarriedAttr OfAny (origin_in m units (PartialOf n))) (root_in_part units o)) (sym (part_found 0 m.parts n n part nth (omega arith))) (common_root units (origin_in m units (PartialOf n)) part home)
+
 -- ---- all files
 
 module _ (scope : Scope) (docs : List (Doc ℕ)) (input : ℕ → List ℕ) (are : AreRead input docs) (rule : Rule) (is : IsAlike scope (units_of docs) rule.alike) (choice : IsChoice (units_of docs) rule)
@@ -101,11 +123,16 @@ module _ (scope : Scope) (docs : List (Doc ℕ)) (input : ℕ → List ℕ) (are
   unit_read i u nth = files_carried input 0 0 0 docs read u (nth_in 0 (units_of docs) i u nth)
 
   file_ready : (file : ℕ) → In file r.files → changes r.move r.units file ≡ true → IsReady (OfFile (sources r file)) (file_forms r file) (tells r file) (places r) (out_units r.move r.units file)
+  unfolding fitted
   file_ready file there changed = record {
     carried = out_carried (OfFile (sources r file)) scope (units_of docs) rule is choice r.files whole.old whole.held file
-        (λ i u nth of_file. subst (λ (n : ℕ). CarriedUnit (OfFile (sources_of (input n))) (bases_in u.unit) u.unit) of_file (unit_read i u nth)) (over.parts file there changed);
+        (λ i u nth of_file. subst (λ (n : ℕ). CarriedUnit (OfFile (sources_of (input n))) (bases_in u.unit) u.unit) of_file (unit_read i u nth)) ((over.file file there changed).roots);
     closed = within scope docs rule placed is choice input file;
-    over = over.file file there changed;
+    over = record {
+      bases = out_bases r file whole.old (over.file file there changed).lines;
+      operands = (over.file file there changed).operands;
+      room = (over.file file there changed).room;
+    };
   }
 
   common_carried : Each (λ u. CarriedUnit OfAny (origin_in r.move r.units u.at) u) (common_units r.move)
@@ -116,7 +143,8 @@ module _ (scope : Scope) (docs : List (Doc ℕ)) (input : ℕ → List ℕ) (are
       (((part_row_is o.number o.part).tops_are names t).0 (subst (Has names (OfTop t)) (row_found rule (units_of docs) r.files o.number o.part o.nth) has)).0 in
       subst (λ (u : DwUnit Spot). CarriedUnit OfAny (origin_in r.move r.units u.at) u) o.is
       (new_carried OfAny (units_of docs) r.move whole.old whole.held (λ x. Unit {0}) (λ i u nth file. any_unit (OfFile (sources_of (input u.file))) (bases_in u.unit) u.unit (unit_read i u nth))
-      o.number o.part o.nth (origin_in r.move r.units (PartialOf o.number)) (over.common_parts o.number o.part o.nth o.home_is) (part_origin scope (units_of docs) rule is choice r.files o.number o.part o.nth)
+      o.number o.part o.nth (origin_in r.move r.units (PartialOf o.number)) (common_roots rule (units_of docs) r.files o.number o.part o.nth o.home_is)
+      (part_spaces OfAny scope (units_of docs) rule is choice r.files o.number o.part o.nth (λ t in_part i u nth of. any_unit (OfFile (sources_of (input u.file))) (bases_in u.unit) u.unit (unit_read i u nth))) (part_origin scope (units_of docs) rule is choice r.files o.number o.part o.nth)
       (λ names t there in_part. tt) holds)))
 
   pub can_write : CanWrite r
@@ -126,11 +154,37 @@ module _ (scope : Scope) (docs : List (Doc ℕ)) (input : ℕ → List ℕ) (are
     common = record { carried = common_carried; closed = common_within scope docs rule placed is choice input; over = over.common };
   }
 
-  pub all_back : (g : Spot → Place) → IsPlacing r g → AreAtOld r g docs → (output : ℕ → List ℕ) (common : List ℕ) → AreMade r output common → AllBack scope docs rule input output common g
-  all_back g ok old output common made =
+  -- a file by itself says the same with a common file
+  still_says : (common : Option (CommonFile Place)) (file : ℕ) (doc : Doc ℕ) → Nth 0 docs file doc → SaysStill common file (input file) doc
+  still_says common file doc nth =
+      let o = are file doc nth in
+      record {
+        raw = o.raw;
+        says = record {
+          elf = o.reads.elf;
+          mode = wider (given o.limits.entries);
+          whole = refl;
+          partial = refl;
+          forms = refl;
+          spelled = units_again (debug_abbrev (input file)) (given o.limits.entries) refl o.raw 0 0 (debug_info (input file)) o.reads.spelled;
+          means = units_there (at_file file) common (around_of (input file) o.raw) refl o.raw doc.units o.reads.means;
+        };
+      }
+
+  pub all_back : (output : ℕ → List ℕ) (common : List ℕ) → AreMade r output common → ReadBack scope docs rule input output common
+  all_back output common made =
+      let g = back_place scope docs rule placed is choice input in
+      let ok = back_placing scope docs rule placed is choice input in
+      let old = back_old scope docs rule placed is choice input in
       let says = common_back r can_write g ok common made.common made.common_fits in
       record {
-        common = says;
-        file = λ file there changed. file_back r can_write g ok (output file) common made.common_fits says file there changed (made.file file there changed) (made.file_fits file there changed);
-        same = same_back scope docs rule placed is choice input g ok old;
+        place = g;
+        placing = ok;
+        old = old;
+        back = record {
+          common = says;
+          file = λ file there changed. file_back r can_write g ok (output file) common made.common_fits says file there changed (made.file file there changed) (made.file_fits file there changed);
+          still = λ file doc nth. still_says (Some (given_by r.common common says.raw)) file doc nth;
+          same = same_back scope docs rule placed is choice input g ok old;
+        };
       }

@@ -1,27 +1,27 @@
 -- What is in the common file refers to what is in the common file.
-use Rattle.std.proofs.Common.{◌≡◌, ◌≢◌, ◌⊎◌, ℕ, suc, Bool, true, false, List, [], ◌∷◌, ◌++◌, map, refl, sym, ap, subst, ◌∙◌, arith, inl, inr}
-use Rattle.dwz_meanings.specs.Documents.{Attr, Compile, Doc, DwUnit, Entries, Kind, Node, OfType, Partial, attr_map, entries_map, language, node_map}
+use Rattle.std.proofs.Common.{◌≡◌, ◌≢◌, ℕ, true, List, [], ◌∷◌, map, refl, sym, ap, subst, ◌∙◌, inl, inr}
+use Rattle.dwz_meanings.specs.Documents.{Attr, Compile, Doc, DwUnit, Entries, Kind, OfType, Partial, attr_map, language}
 use Rattle.dwz_docs.specs.Lists.{In}
 use Rattle.dwz_docs.specs.Trees.{End, Entry}
 use Rattle.dwz_seen.specs.Lists.{Each, Nth}
-use Rattle.dwz_seen.specs.Seen.{Closed, Named, Seen, all_seen, named_map, named_value, see, seen, seen_below, seen_map, seen_roots}
-use Rattle.dwz_seen.proofs.Members.{each_in, in_cases, in_left, in_map, in_map_from, in_right, nth_in}
+use Rattle.dwz_seen.specs.Seen.{Named, Seen, all_seen, named_value, seen, seen_below, seen_map, seen_roots}
+use Rattle.dwz_seen.proofs.Members.{each_in, in_cases, in_map, in_map_from, nth_in}
 use Rattle.dwz_seen.proofs.SeenLemmas.{entry_seen, root_from, seen_from}
 use Rattle.dwz_seen.proofs.ShownLemmas.{attr_from}
 use Rattle.dwz_alike.specs.Alike.{IsAlike, Scope}
-use Rattle.dwz_alike.specs.Spots.{FileUnit, InType, LabelledTop, RootOf, SpaceAt, Spot, Top, Within, name_list, row_of, row_tops, tops_of, units_of}
+use Rattle.dwz_alike.specs.Spots.{FileUnit, InType, RootOf, SpaceAt, Spot, Top, Within, name_list, row_of, tops_of, units_of}
 use Rattle.dwz_alike.proofs.AlikePer.{alike_per}
 use Rattle.dwz_alike.proofs.RowLemmas.{unit_row}
 use Rattle.dwz_alike.proofs.Targets.{Inside, RefTo, RefsOf, RefsOfAttr, RefsOfTop}
 use Rattle.dwz_alike.proofs.Tops.{row_top, unit_of}
 use Rattle.dwz_moving.specs.Homes.{Common, Home, IsChoice, Local, Rule, Stay, candidate, file_of, home, is_home, moves, rep, users}
-use Rattle.dwz_moving.specs.IsPlan.{Has, IsHome, IsPart, OfSpace, OfTop}
+use Rattle.dwz_moving.specs.IsPlan.{Has, IsHome, IsPart, OfTop}
 use Rattle.dwz_moving.specs.Moves.{Move, image_in, plan, seen_top}
-use Rattle.dwz_moving.specs.Plan.{PartialUnit, partials, stand_in}
+use Rattle.dwz_moving.specs.Plan.{PartialUnit, stand_in}
 use Rattle.dwz_moving.proofs.HomeLemmas.{home_is}
 use Rattle.dwz_moving.proofs.PlanLemmas.{are_parts}
 use Rattle.dwz_moving.proofs.RowParts.{part_is}
-use Rattle.dwz_moving.proofs.StandLemmas.{fair, targets_move, targets_used}
+use Rattle.dwz_moving.proofs.StandLemmas.{targets_move, targets_used}
 use Rattle.dwz_moving.proofs.UserLemmas.{Fair, home_same, leads, move_stand, moving}
 use Rattle.dwz_same.specs.After.{AreOld, ArePlaced, IsNamedBelow}
 use Rattle.dwz_same.specs.Held.{IsHeld, NameNone}

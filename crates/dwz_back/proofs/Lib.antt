@@ -4,8 +4,13 @@ pub mod SameLemmas
 pub mod ReadPlaces
 pub mod HomeLemmas
 pub mod OriginLemmas
+pub mod BasesLemmas
+pub mod SpaceLemmas
 pub mod OutsCarried
 pub mod OneLemmas
 pub mod WithinLemmas
 pub mod CommonLemmas
+pub mod ReadMode
+pub mod StillMeans
+pub mod StillPlaces
 pub mod AllLemmas

@@ -1,5 +1,5 @@
 -- One file by itself.
-use Rattle.std.proofs.Common.{◌≡◌, ℕ, true, false, List, [], ◌∷◌, ◌++◌, map, refl, sym, ap, subst, ◌∙◌, inl, inr}
+use Rattle.std.proofs.Common.{◌≡◌, ℕ, true, false, List, [], ◌∷◌, map, refl, sym, ap, subst, ◌∙◌, inl, inr}
 use Rattle.std.proofs.lemmas.List.{append-nil}
 use Rattle.dwz_meanings.specs.Documents.{Doc, DwUnit, unit_map}
 use Rattle.dwz_meanings.specs.Files.{Limits, Reads, debug_info, sources_of}
@@ -10,11 +10,11 @@ use Rattle.dwz_docs.specs.Values.{AreBytes}
 use Rattle.dwz_alike.specs.Alike.{Apart, IsAlike}
 use Rattle.dwz_alike.specs.Spots.{FileUnit, Spot, file_numbers, in_file, named_files, spot_in, spots_from, units_of}
 use Rattle.dwz_seen.specs.Lists.{Each, Nth}
-use Rattle.dwz_seen.specs.Seen.{Closed, Seen, all_seen, seen_below, seen_roots}
+use Rattle.dwz_seen.specs.Seen.{Seen, all_seen, seen_below, seen_roots}
 use Rattle.dwz_seen.proofs.Members.{nth_in}
-use Rattle.dwz_moving.specs.Homes.{IsChoice, Local, Rule}
+use Rattle.dwz_moving.specs.Homes.{IsChoice, Rule}
 use Rattle.dwz_same.specs.After.{ArePlaced, FilesSame, Replaces}
-use Rattle.dwz_same.specs.Units.{all_units, changes, common_units, file_units, out_units}
+use Rattle.dwz_same.specs.Units.{all_units, changes, common_units, out_units}
 use Rattle.dwz_same.proofs.FileLemmas.{files_same, replaced}
 use Rattle.dwz_writing.specs.Bases.{Bases, bases_in}
 use Rattle.dwz_writing.specs.Carried.{BasesStand, BuiltUnit, CarriedUnit, ClosedIn, OfAny, OfFile, OperandsStand}
@@ -22,8 +22,8 @@ use Rattle.dwz_writing.specs.Fitting.{UnitHasRoom}
 use Rattle.dwz_writing.specs.Placing.{FitsSections, fit_units}
 use Rattle.dwz_writing.proofs.CarriedMaps.{unit_carried}
 use Rattle.dwz_back.specs.Back.{CanWrite, FileOver, IsReady, OneBack, WasReadFrom, one_run, tells, tells_common}
-use Rattle.dwz_back.specs.Carrying.{PartsCarried}
-use Rattle.dwz_back.specs.Files.{HasSections, Run, common_forms, file_forms, place_of, places, sections_of, sources}
+use Rattle.dwz_back.specs.Files.{HasSections, Run, common_forms, file_forms, fitted, place_of, places, sections_of, sources}
+use Rattle.dwz_back.proofs.BasesLemmas.{out_bases}
 use Rattle.dwz_back.proofs.HomeLemmas.{no_common}
 use Rattle.dwz_back.proofs.OutsCarried.{out_carried}
 use Rattle.dwz_back.proofs.OriginLemmas.{bases_mapped}
@@ -66,7 +66,7 @@ module _ (from : Sources → Type 0) (doc : Doc ℕ) (carried : Each (λ v. Carr
 
 module _ (l : Limits) (input : List ℕ) (raw : List RawUnit) (doc : Doc ℕ) (reads : Reads l input raw doc) (are : AreBytes (debug_info input)) (built : Each BuiltUnit doc.units)
     (rule : Rule) (is : IsAlike Apart (units_of (doc ∷ [])) rule.alike) (choice : IsChoice (units_of (doc ∷ [])) rule)
-    (own : PartsCarried (OfFile (sources_of input)) (one_run rule doc input).move (units_of (doc ∷ [])) (Local 0)) (over : FileOver (one_run rule doc input) 0) where
+    (over : FileOver (one_run rule doc input) 0) where
   abbrev docs : List (Doc ℕ)
   docs = doc ∷ []
 
@@ -90,10 +90,11 @@ module _ (l : Limits) (input : List ℕ) (raw : List RawUnit) (doc : Doc ℕ) (r
   none_shared = no_common (units_of docs) rule is r.files r.move refl
 
   ready : IsReady (OfFile (sources r 0)) (file_forms r 0) (tells r 0) (places r) (out_units r.move r.units 0)
+  unfolding fitted
   ready = record {
-    carried = out_carried (OfFile (sources_of input)) Apart (units_of docs) rule is choice r.files whole.old whole.held 0 (λ i u nth file. named_carried (OfFile (sources_of input)) doc was_read.carried i u nth) own;
+    carried = out_carried (OfFile (sources_of input)) Apart (units_of docs) rule is choice r.files whole.old whole.held 0 (λ i u nth file. named_carried (OfFile (sources_of input)) doc was_read.carried i u nth) over.roots;
     closed = within Apart docs rule placed is choice (λ file. input) 0;
-    over = over;
+    over = record { bases = out_bases r 0 whole.old over.lines; operands = over.operands; room = over.room };
   }
 
   none_fitted : fit_units (common_forms r) (common_units r.move) ≡ []

@@ -1,21 +1,20 @@
 -- The tops of a partial unit come from one unit, its first user.
-use Rattle.std.proofs.Common.{◌≡◌, ℕ, zero, suc, ◌+◌, ◌<◌, ◌≤◌, Bool, true, false, List, [], ◌∷◌, ◌++◌, map, Option, Some, cond, eqb, refl, sym, ap, subst, ◌∙◌, arith, inl, inr}
+use Rattle.std.proofs.Common.{◌≡◌, ℕ, zero, suc, ◌+◌, ◌<◌, ◌≤◌, Bool, true, false, List, [], ◌∷◌, map, Option, Some, cond, eqb, refl, sym, ap, subst, ◌∙◌, arith, inl, inr}
 use Rattle.dwz_docs.specs.Lists.{In}
 use Rattle.dwz_meanings.specs.Documents.{Attr, DwUnit, attr_map, first_named, unit_map}
 use Rattle.dwz_seen.specs.Lists.{EachPair, Nth}
-use Rattle.dwz_seen.proofs.Members.{each_in, each_of, nth_from, nth_in, pair_append}
+use Rattle.dwz_seen.proofs.Members.{each_in, each_of, nth_from, pair_append}
 use Rattle.dwz_alike.specs.Alike.{IsAlike, Scope}
-use Rattle.dwz_alike.specs.Spots.{FileUnit, PartialOf, Row, Spot, Top, UnitOf, row_below, row_tops, top_count, tops_from, tops_of}
+use Rattle.dwz_alike.specs.Spots.{FileUnit, PartialOf, Row, Spot, Top, row_below, row_tops, top_count, tops_from, tops_of}
 use Rattle.dwz_alike.proofs.AlikePer.{alike_per}
 use Rattle.dwz_alike.proofs.RowLemmas.{from_row, row_here, top_of}
 use Rattle.dwz_alike.proofs.Tops.{tops_rise}
 use Rattle.dwz_moving.specs.Homes.{IsChoice, Rule, is_home, moves, rep, users}
-use Rattle.dwz_moving.specs.IsPlan.{IsPart}
 use Rattle.dwz_moving.specs.Moves.{Move, first_unit, plan}
 use Rattle.dwz_moving.specs.Plan.{PartialUnit, partials}
 use Rattle.dwz_moving.proofs.UserLemmas.{Fair, moves_self, rep_is, used, used_by}
 use Rattle.dwz_same.proofs.HeldLemmas.{part_found}
-use Rattle.dwz_writing.specs.Bases.{Bases, bases_in, offset_in}
+use Rattle.dwz_writing.specs.Bases.{bases_in, offset_in}
 use Rattle.dwz_back.specs.Files.{bases_at, origin_in, unit_in_part}
 use Rattle.dwz_back.proofs.HomeLemmas.{part_is}
 

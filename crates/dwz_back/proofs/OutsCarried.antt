@@ -15,7 +15,8 @@ use Rattle.dwz_moving.specs.Homes.{IsChoice, Local, Rule}
 use Rattle.dwz_moving.specs.Moves.{Move, image_in, plan}
 use Rattle.dwz_moving.proofs.RowParts.{part_is as part_row_is}
 use Rattle.dwz_same.proofs.HeldLemmas.{row_found}
-use Rattle.dwz_back.proofs.HomeLemmas.{kept_from, parts_from, top_file}
+use Rattle.dwz_back.proofs.HomeLemmas.{kept_from, part_is, parts_from, top_file}
+use Rattle.dwz_back.proofs.SpaceLemmas.{NameCarried, space_carried, top_names}
 use Rattle.dwz_moving.specs.Plan.{PartialUnit, import_of, imports, kept_row}
 use Rattle.dwz_moving.proofs.KeptLemmas.{are_imports}
 use Rattle.dwz_moving.proofs.RowParts.{kept_is}
@@ -25,11 +26,11 @@ use Rattle.dwz_same.specs.Units.{changes, kept_below, kept_unit, kept_units, out
 use Rattle.dwz_same.proofs.KindLemmas.{kept_kinded}
 use Rattle.dwz_same.proofs.NodeLemmas.{EntryOfTop, FromLast, FromSpace, FromTop, NodeFrom, below_row, node_from, top_below, type_kept, under_below}
 use Rattle.dwz_same.proofs.OldRows.{item_under, row_kinded, tops_among}
-use Rattle.dwz_writing.specs.Carried.{CarriedEntries, CarriedNode, CarriedUnit}
+use Rattle.dwz_writing.specs.Carried.{CarriedAttr, CarriedEntries, CarriedNode, CarriedUnit}
 use Rattle.dwz_writing.specs.Meant.{KindSays, entry_keys}
 use Rattle.dwz_writing.proofs.CarriedMaps.{entries_carried, kind_carried, node_carried, unit_carried}
 use Rattle.dwz_writing.specs.Bases.{Bases, bases_in}
-use Rattle.dwz_back.specs.Carrying.{PartCarried, PartsCarried}
+use Rattle.dwz_back.specs.Carrying.{RootsCarried}
 use Rattle.dwz_back.specs.Files.{bases_at, origin_in}
 use Rattle.dwz_back.proofs.OriginLemmas.{bases_found, part_origin}
 
@@ -60,12 +61,12 @@ module _ (from : Sources → Type 0) (units : List (FileUnit Spot)) (m : Move) (
       (below_node from (bases_in o.unit.unit) o.unit.unit.below (are t.unit o.unit o.nth (subst Good o.file_is good)).below d
       (top_below o.unit.file t.unit (language o.unit.unit) [] r.first (row_of units t.unit) o.unit.unit.below r.is t o.in_row d x))
 
-  pub new_carried : (n : ℕ) (part : PartialUnit) → Nth 0 m.parts n part → (origin : Bases) → PartCarried from origin m n → ((t : Top) → In t part.tops → bases_at units t.unit ≡ origin) → ((names : List (List ℕ)) (t : Top) → In t (tops_of units) → In t part.tops → Good t.file)
+  pub new_carried : (n : ℕ) (part : PartialUnit) → Nth 0 m.parts n part → (origin : Bases) → Each (CarriedAttr from origin) (m.roots n) → ((names : List (List ℕ)) (d : Node Spot) → Has names (OfSpace d) (m.rows n) → CarriedNode from origin d) → ((t : Top) → In t part.tops → bases_at units t.unit ≡ origin) → ((names : List (List ℕ)) (t : Top) → In t (tops_of units) → In t part.tops → Good t.file)
       → ((names : List (List ℕ)) (t : Top) → Has names (OfTop t) (m.rows n) → In t part.tops) → CarriedUnit from origin (partial_unit m n)
-  new_carried n part nth origin own same good tops = record {
+  new_carried n part nth origin root spaces same good tops = record {
     kind = refl;
     main = tt;
-    root = record { some_tag = omega arith; tag_fits = omega arith; attrs = own.root };
+    root = record { some_tag = omega arith; tag_fits = omega arith; attrs = root };
     below = nodes_below from origin (tree f (m.rows n) End) (λ e h. go e (node_from f (m.rows n) End (held.kinds n part nth) e h));
   }
     where
@@ -74,7 +75,7 @@ module _ (from : Sources → Type 0) (units : List (FileUnit Spot)) (m : Move) (
           (let there = held.tops n part nth names t has in
           let in_part = tops names t has in
           subst (CarriedNode from origin) (sym y) (node_carried from origin f d (subst (λ (b : Bases). CarriedNode from b d) (same t in_part) (top_carried t there (good names t there in_part) d x))))
-      go e (FromSpace names d has y) = subst (CarriedNode from origin) (sym y) (node_carried from origin f d (own.spaces names d has))
+      go e (FromSpace names d has y) = subst (CarriedNode from origin) (sym y) (node_carried from origin f d (spaces names d has))
       go e (FromLast z) = absurd z
 
   import_below : (origin : Bases) (i : ℕ) (e : Node Spot) → IsBelow e (imports i 0 m.parts) → CarriedNode from origin e
@@ -120,10 +121,23 @@ module _ (from : Sources → Type 0) (units : List (FileUnit Spot)) (m : Move) (
         below = below_carried i u nth good u.unit.kind refl (changes m units u.file);
       }
 
+-- ---- the spaces of a partial unit
+
+pub part_spaces : (from : Sources → Type 0) (scope : Scope) (units : List (FileUnit Spot)) (rule : Rule) → (is : IsAlike scope units rule.alike) → (choice : IsChoice units rule) → (files : List ℕ)
+    → (n : ℕ) (part : PartialUnit) → Nth 0 (plan rule units files).parts n part → ((t : Top) → In t part.tops → (i : ℕ) (u : FileUnit Spot) → Nth 0 units i u → u.file ≡ t.file → CarriedUnit from (bases_in u.unit) u.unit)
+    → (names : List (List ℕ)) (d : Node Spot) → Has names (OfSpace d) ((plan rule units files).rows n) → CarriedNode from (origin_in (plan rule units files) units (PartialOf n)) d
+part_spaces from scope units rule is choice files n part nth are names d has =
+    let origin = origin_in (plan rule units files) units (PartialOf n) in
+    let o = (part_row_is n part).spaces_are names d (subst (Has names (OfSpace d)) (row_found rule units files n part nth) has) in
+    let b = ((part_is scope units rule is choice files n part nth).tops o.top).0 o.there in
+    let s = top_names from units o.top b.there (are o.top o.there) o.name o.from in
+    subst (CarriedNode from origin) (sym o.is)
+    (space_carried from origin n o.chain o.depth o.name (subst (λ (w : Bases). NameCarried from w o.name) (part_origin scope units rule is choice files n part nth o.top o.there) s))
+
 -- ---- the units of a file
 
 module _ (from : Sources → Type 0) (scope : Scope) (units : List (FileUnit Spot)) (rule : Rule) (is : IsAlike scope units rule.alike) (choice : IsChoice units rule) (files : List ℕ) (old : AreOld units) (held : IsHeld units (plan rule units files)) (file : ℕ)
-    (are : (i : ℕ) (u : FileUnit Spot) → Nth 0 units i u → u.file ≡ file → CarriedUnit from (bases_in u.unit) u.unit) (own : PartsCarried from (plan rule units files) units (Local file)) where
+    (are : (i : ℕ) (u : FileUnit Spot) → Nth 0 units i u → u.file ≡ file → CarriedUnit from (bases_in u.unit) u.unit) (own : RootsCarried from (plan rule units files) units (Local file)) where
   abbrev m : Move
   m = plan rule units files
 
@@ -136,7 +150,8 @@ module _ (from : Sources → Type 0) (scope : Scope) (units : List (FileUnit Spo
       let o = parts_from m (Local file) 0 m.parts v there in
       let holds : (names : List (List ℕ)) (t : Top) → Has names (OfTop t) (m.rows o.number) → In t o.part.tops = λ names t has.
       (((part_row_is o.number o.part).tops_are names t).0 (subst (Has names (OfTop t)) (row_found rule units files o.number o.part o.nth) has)).0 in
-      subst IsCarried o.is (new_carried from units m old held (λ x. x ≡ file) are o.number o.part o.nth (origin_in m units (PartialOf o.number)) (own o.number o.part o.nth o.home_is) (part_origin scope units rule is choice files o.number o.part o.nth)
+      subst IsCarried o.is (new_carried from units m old held (λ x. x ≡ file) are o.number o.part o.nth (origin_in m units (PartialOf o.number)) (own o.number o.part o.nth o.home_is)
+      (part_spaces from scope units rule is choice files o.number o.part o.nth (λ t in_part i u nth of. are i u nth (of ∙ top_file scope units rule is choice files file o.number o.part o.nth o.home_is t in_part))) (part_origin scope units rule is choice files o.number o.part o.nth)
       (λ names t there in_part. top_file scope units rule is choice files file o.number o.part o.nth o.home_is t in_part) holds)
 
   old_carried : (v : DwUnit Spot) → In v (kept_units m units file 0 units) → IsCarried v

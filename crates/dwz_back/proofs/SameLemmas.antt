@@ -51,7 +51,7 @@ shown_append g [] b (y ∷ c) d h k = absurd h
 shown_append g (x ∷ a) b [] d h k = absurd h
 shown_append g (x ∷ a) b (y ∷ c) d h k = (h.0, shown_append g a b c d h.1 k)
 
-numbers_in : (s : ℕ) (docs : List (Doc ℕ)) (file : ℕ) → In file (file_numbers s docs) → file < s + length docs
+pub numbers_in : (s : ℕ) (docs : List (Doc ℕ)) (file : ℕ) → In file (file_numbers s docs) → file < s + length docs
 unfolding file_numbers
 numbers_in s [] file is = absurd is
 numbers_in s (doc ∷ docs) file (inl e) = omega (arith, e)

@@ -1,8 +1,8 @@
 -- What is written of files is what they say.
-use Rattle.std.proofs.Common.{◌≡◌, ℕ, ◌<◌, ◌^◌, true, false, List, [], length, map, Option, Some, None, refl, sym, ap, subst, ◌∙◌, arith}
+use Rattle.std.proofs.Common.{◌≡◌, ℕ, ◌<◌, ◌^◌, true, List, [], length, map, Option, Some, None, refl, sym, ap, subst, ◌∙◌, arith}
 use Rattle.dwz_meanings.specs.Documents.{DwUnit}
 use Rattle.dwz_docs.specs.ElfFaults.{IsElfFault}
-use Rattle.dwz_meanings.specs.Files.{debug_abbrev, debug_info, section_of, sources_of}
+use Rattle.dwz_meanings.specs.Files.{debug_abbrev, debug_info, sources_of}
 use Rattle.dwz_docs.specs.Lists.{In}
 use Rattle.dwz_meanings.specs.Meanings.{Common, Sources}
 use Rattle.dwz_docs.specs.Units.{SpellsUnits}

@@ -365,7 +365,7 @@ block_closed file own unit top doc placed = by (own == file) refl where
       (subst (λ (w : List (DwUnit Spot)). Closed w) (sym (at_own file (named unit top doc.units))) whole)
   by false e = subst (λ (w : List (DwUnit Spot)). Closed w) (sym (at_other file own (named unit top doc.units) e)) none_closed
 
-closed_at : (file own unit top : ℕ) (docs : List (Doc ℕ)) → Each (λ doc. ArePlaced doc.units) docs → Closed (units_at file (named_files own unit top docs))
+pub closed_at : (file own unit top : ℕ) (docs : List (Doc ℕ)) → Each (λ doc. ArePlaced doc.units) docs → Closed (units_at file (named_files own unit top docs))
 unfolding named_files units_at
 closed_at file own unit top [] placed = none_closed
 closed_at file own unit top (doc ∷ docs) placed =

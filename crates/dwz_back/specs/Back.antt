@@ -9,7 +9,7 @@ use Rattle.dwz_meanings.specs.Meanings.{Around, Common, MeanUnits, Sources, all_
 use Rattle.dwz_docs.specs.Units.{RawUnit, SpellsUnits}
 use Rattle.dwz_docs.specs.Values.{AreBytes}
 use Rattle.dwz_seen.specs.Lists.{Each, NoneTwice, Nth}
-use Rattle.dwz_seen.specs.Seen.{Closed, SameAlong}
+use Rattle.dwz_seen.specs.Seen.{IsPartial, SameAlong}
 use Rattle.dwz_seen.specs.Shown.{OnePlace, UnitsShown, units_keys}
 use Rattle.dwz_alike.specs.Alike.{Apart, IsAlike, Scope}
 use Rattle.dwz_alike.specs.Spots.{Spot, file_numbers, units_of}
@@ -18,14 +18,14 @@ use Rattle.dwz_moving.specs.Moves.{plan}
 use Rattle.dwz_moving.specs.Plan.{image}
 use Rattle.dwz_same.specs.After.{ArePlaced, Place, at_file, name_in, placed_from}
 use Rattle.dwz_same.specs.Images.{IsAlone, OneImage}
-use Rattle.dwz_same.specs.Units.{all_units, changes, common_units, out_units, units_at}
+use Rattle.dwz_same.specs.Units.{all_units, changes, common_units, out_units}
 use Rattle.dwz_writing.specs.Bases.{bases_in}
 use Rattle.dwz_writing.specs.Carried.{BasesStand, BuiltUnit, CarriedUnit, ClosedIn, OfAny, OfFile, OperandsStand}
 use Rattle.dwz_writing.specs.Fitting.{UnitHasRoom, back_forms}
 use Rattle.dwz_writing.specs.Meant.{Tells, all_entry_keys, placed_units}
 use Rattle.dwz_writing.specs.Placing.{FitsSections, Forms, fit_units}
 use Rattle.dwz_writing.specs.Writing.{Numbering}
-use Rattle.dwz_back.specs.Carrying.{PartsCarried}
+use Rattle.dwz_back.specs.Carrying.{RootsCarried}
 use Rattle.dwz_back.specs.Files.{HasCommon, HasSections, Run, common_fitted, common_forms, common_sections, common_sources, file_forms, fitted, place_of, places, sections_of, sources, texts}
 
 -- ---- the relation: what a file says
@@ -60,9 +60,8 @@ tells r file = tells_of (sources r file) (all_entry_keys (fitted r file)) (all_e
 abbrev pub tells_common : Run → Tells Spot
 tells_common r = tells_of (common_sources (texts r)) (all_entry_keys (common_fitted r)) []
 
--- What is asked of units besides, as long as it isn't shown of all: roots say of slots and of a line table what the units said that
--- values come from, and no value of the common file numbers a file; the operands of expressions name entries as their numbers are
--- counted, and have room for these.
+-- roots say of slots and of a line table what the units said that values come from; and the operands of expressions name entries as
+-- their numbers are counted, and have room for these
 pub record StandOver (f : Forms Spot) (t : Tells Spot) (n : Numbering Spot) (units : List (DwUnit Spot)) : Type 0 where
   pub bases : Each (BasesStand f) units
   pub operands : Each (OperandsStand t) units
@@ -75,9 +74,15 @@ pub record IsReady (from : Sources → Type 0) (f : Forms Spot) (t : Tells Spot)
   pub closed : ClosedIn t units
   pub over : StandOver f t n units
 
-abbrev pub FileOver : Run → ℕ → Type 0
-FileOver r file = StandOver (file_forms r file) (tells r file) (places r) (out_units r.move r.units file)
+-- What is asked of a file of which something moves, as long as it isn't shown of all: the root of each partial unit has the line table that
+-- was read, and that is the one by which its files are numbered; and operands name entries, and have room for their numbers.
+pub record FileOver (r : Run) (file : ℕ) : Type 0 where
+  pub roots : RootsCarried (OfFile (sources r file)) r.move r.units (Local file)
+  pub lines : (v : DwUnit Spot) → In v (out_units r.move r.units file) → IsPartial v.kind → BasesStand (file_forms r file) v
+  pub operands : Each (OperandsStand (tells r file)) (out_units r.move r.units file)
+  pub room : Each (UnitHasRoom (places r)) (fitted r file)
 
+-- and of the common file: that none of its values numbers a file, which isn't written yet, and the same of operands
 abbrev pub CommonOver : Run → Type 0
 CommonOver r = StandOver (common_forms r) (tells_common r) (places r) (common_units r.move)
 
@@ -199,6 +204,6 @@ abbrev pub OneBackLaw : Type 0
 OneBackLaw =
     (l : Limits) (input : List ℕ) (raw : List RawUnit) (doc : Doc ℕ) → Reads l input raw doc → AreBytes (debug_info input) → Each BuiltUnit doc.units
     → (rule : Rule) → IsAlike Apart (units_of (doc ∷ [])) rule.alike → IsChoice (units_of (doc ∷ [])) rule
-    → PartsCarried (OfFile (sources_of input)) (one_run rule doc input).move (units_of (doc ∷ [])) (Local 0) → FileOver (one_run rule doc input) 0
+    → FileOver (one_run rule doc input) 0
     → changes (one_run rule doc input).move (units_of (doc ∷ [])) 0 ≡ true
     → (out : List ℕ) → HasSections input out (sections_of (one_run rule doc input) 0) → FitsSections (sections_of (one_run rule doc input) 0) → OneBack doc rule input out

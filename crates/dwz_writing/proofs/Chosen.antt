@@ -173,11 +173,11 @@ module _ {K : Type 0} (P Q R : Attr K → Type 0) (join : (a : Attr K) → P a �
   join_entries (Entry e children next) p q = (join_attrs e.attrs p.0 q.0, join_entries children p.1 q.1, join_entries next p.2 q.2)
 
 module _ {K : Type 0} (P : Attr K → Type 0) (all : (a : Attr K) → P a) where
-  all_attrs : (attrs : List (Attr K)) → Each P attrs
+  pub all_attrs : (attrs : List (Attr K)) → Each P attrs
   all_attrs [] = tt
   all_attrs (a ∷ attrs) = (all a, all_attrs attrs)
 
-  all_entries : (g : Entries K) → EachAttr P g
+  pub all_entries : (g : Entries K) → EachAttr P g
   all_entries End = tt
   all_entries (Entry e children next) = (all_attrs e.attrs, all_entries children, all_entries next)
 

@@ -1,10 +1,9 @@
 -- Lines of chains and of their tops, one more at the end.
-use Rattle.std.proofs.Common.{◌≡◌, ℕ, zero, suc, ◌+◌, ◌-◌, ◌<◌, ◌≤◌, List, [], ◌∷◌, ◌++◌, length, get_or, take, Some, slice_get, refl, sym, ap, subst, ◌∙◌, append_assoc, arith, length-append}
+use Rattle.std.proofs.Common.{◌≡◌, ℕ, zero, suc, ◌+◌, ◌-◌, ◌<◌, ◌≤◌, List, [], ◌∷◌, ◌++◌, length, get_or, Some, slice_get, refl, sym, ap, subst, ◌∙◌, append_assoc, arith, length-append}
 use Rattle.std.proofs.lemmas.List.{append-nil}
-use Rattle.dwz_layout.specs.declared.order.Item.{Item}
 use Rattle.dwz_layout.specs.declared.order.What.TheVariants.{InChain, Top}
 use Rattle.dwz_layout.specs.declared.partial.SpaceRow.{SpaceRow}
-use Rattle.dwz_layout.specs.Chains.{Up, down, path_lines, tops_lines}
+use Rattle.dwz_layout.specs.Chains.{Up, chain_lines, chains_lines, down, path_lines, tops_lines}
 use Rattle.dwz_layout.specs.Lines.{Line, line, lines}
 use Rattle.dwz_layout.specs.Order.{Names, what_lines}
 
@@ -95,3 +94,19 @@ depth_none rows inner (s ∷ ups) none u = absurd (omega (arith, u.2, none))
 pub lines_none : {K : Type 0} (n : Names K) (rows : List SpaceRow) (inner chain : ℕ) (ups : List ℕ) (old : List (Line K)) → inner ≡ 0 → Up rows inner ups → old ≡ old ++ path_lines n chain 0 (down ups)
 lines_none n rows inner chain [] old none u = path_none n chain old
 lines_none n rows inner chain (s ∷ ups) old none u = absurd (omega (arith, u.2, none))
+
+-- ---- one chain more at the end
+
+pub chains_more : {K : Type 0} (n : Names K) (path : ℕ → List ℕ) (chain : ℕ) (gs : List (List ℕ)) (g : List ℕ)
+    → chains_lines n path chain (gs ++ g ∷ []) ≡ chains_lines n path chain gs ++ chain_lines n (chain + length gs) (path (get_or g 0 0)) g
+unfolding chains_lines
+chains_more {K} n path chain [] g = append-nil _ ∙ (let e : chain ≡ chain + 0 = omega arith in λ i. chain_lines n (e i) (path (get_or g 0 0)) g)
+chains_more {K} n path chain (h ∷ gs) g =
+    let here : List (Line K) = chain_lines n chain (path (get_or h 0 0)) h in
+    let e : suc chain + length gs ≡ chain + suc (length gs) = omega arith in
+    ap (λ (w : List (Line K)). here ++ w) (chains_more n path (suc chain) gs g ∙ (λ i. chains_lines n path (suc chain) gs ++ chain_lines n (e i) (path (get_or g 0 0)) g))
+    ∙ sym (append_assoc here (chains_lines n path (suc chain) gs) (chain_lines n (chain + suc (length gs)) (path (get_or g 0 0)) g))
+
+pub chains_none : {K : Type 0} (n : Names K) (path : ℕ → List ℕ) (so_far : List (Line K)) → so_far ≡ so_far ++ chains_lines n path 0 []
+unfolding chains_lines
+chains_none n path so_far = sym (append-nil so_far)

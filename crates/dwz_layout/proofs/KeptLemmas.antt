@@ -1,19 +1,21 @@
 -- What is appended of a kept unit is the unit after.
-use Rattle.std.proofs.Common.{◌≡◌, ℕ, Bool, true, false, List, [], ◌∷◌, ◌++◌, refl, sym, ap, ◌∙◌, append_assoc}
-use Rattle.dwz_meanings.specs.Documents.{Compile, Entries, Kind, OfType, Partial, entries_map}
+use Rattle.std.proofs.Common.{◌≡◌, ℕ, Bool, true, false, List, [], ◌∷◌, ◌++◌, map, refl, sym, ap, ◌∙◌}
+use Rattle.dwz_meanings.specs.Documents.{Compile, Kind, OfType, Partial, entries_map}
 use Rattle.dwz_docs.specs.Trees.{End}
-use Rattle.dwz_alike.specs.Spots.{FileUnit, Row, Spot, row_of}
+use Rattle.dwz_alike.specs.Spots.{FileUnit, Row, SpaceName, Spot}
 use Rattle.dwz_moving.specs.Moves.{Move, image_in}
-use Rattle.dwz_moving.specs.Plan.{import_of, imports, kept_row, pinned_first, pinned_of, row_part, row_staying}
+use Rattle.dwz_moving.specs.Plan.{PartialUnit, import_of, part_row, imports, kept_row, pinned_first, row_staying}
 use Rattle.dwz_partition.specs.Shows.{import_row}
-use Rattle.dwz_same.specs.Units.{changes, kept_below, kept_unit, tree}
-use Rattle.dwz_alike.specs.Spots.{Nothing}
+use Rattle.dwz_same.specs.Units.{changes, kept_below, kept_unit, partial_root, partial_unit, tree}
+use Rattle.std.proofs.lemmas.List.{append-nil}
+use Rattle.dwz_layout.specs.Chains.{NamesPartial, ShowsSpaced, partial_lines}
 use Rattle.dwz_layout.specs.Lines.{Line, line, lines, row_lines, unit_lines}
 use Rattle.dwz_layout.specs.Order.{Names, import_lines}
 use Rattle.dwz_layout.specs.Outline.{View}
 use Rattle.dwz_layout.specs.Parts.{part_lines}
 use Rattle.dwz_layout.specs.Shows.{NamesKept}
 use Rattle.dwz_layout.proofs.LineLemmas.{tree_lines}
+use Rattle.dwz_layout.proofs.RowChains.{partial_row}
 use Rattle.dwz_layout.proofs.PartLemmas.{first_lines, part_is}
 
 pub import_lines_are : (unit : ℕ) (n : Names Spot) (parts : List ℕ) → ((part : ℕ) → n.import part ≡ import_of unit part) → lines 2 (import_row unit parts) ≡ import_lines n parts
@@ -47,3 +49,12 @@ whole_lines m units i u n names stays =
     by true Compile h = absurd (let e : true ≡ false = h refl in cc)
     by true (OfType signature main) h = refl
     by true Partial h = refl
+
+-- a partial unit
+pub partial_is : (m : Move) (k : ℕ) (part : PartialUnit) (said : ℕ → SpaceName) (n : Names Spot) (path : ℕ → List ℕ) (l : ℕ → ℕ) → NamesPartial m k said n → ShowsSpaced (image_in m) said n path l part.tops → m.rows k ≡ part_row k part
+    → partial_lines n path l (map (λ t. t.number) part.tops) ≡ unit_lines (partial_unit m k)
+unfolding lines
+partial_is m k part said n path l names shown row =
+    let below : lines 2 (tree (image_in m) (m.rows k) End) ≡ row_lines (image_in m) 2 (part_row k part) =
+    tree_lines (image_in m) 2 (m.rows k) End ∙ append-nil (row_lines (image_in m) 2 (m.rows k)) ∙ ap (row_lines (image_in m) 2) row in
+    (λ i. line 1 (names.root i) ∷ sym (partial_row (image_in m) said n path l k names.in_chain part shown) i) ∙ ap (λ (w : List (Line Spot)). line 1 (partial_root m k) ∷ w) (sym below)

@@ -1,4 +1,5 @@
 pub mod ChainLemmas
+pub mod GroupLemmas
 pub mod KeptLemmas
 pub mod LineLemmas
 pub mod PartLemmas

@@ -1,6 +1,5 @@
 -- The parts of rows, pinned or not: what follows them, and what stays.
 use Rattle.std.proofs.Common.{◌≡◌, ℕ, suc, ◌||◌, ◌&&◌, not, cond, Bool, true, false, List, [], ◌∷◌, ◌++◌, refl, sym, ap, ◌∙◌, append_assoc}
-use Rattle.std.proofs.lemmas.List.{append-nil}
 use Rattle.dwz_meanings.specs.Documents.{entries_map, node_map}
 use Rattle.dwz_alike.specs.Deciding.{same_bool}
 use Rattle.dwz_alike.specs.Spots.{ASpace, ATop, Nothing, Row, Spot}

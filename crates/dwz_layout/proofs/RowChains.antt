@@ -1,10 +1,11 @@
 -- The row of a partial unit: its tops in no space, and chains of spaces with the tops in them.
-use Rattle.std.proofs.Common.{◌≡◌, ℕ, suc, ◌+◌, ◌==◌, ◌⊎◌, inl, inr, not, cond, Bool, true, false, List, [], ◌∷◌, ◌++◌, length, map, filter, get_or, refl, sym, ap, subst, ◌∙◌, append_assoc, arith, eq-eqb, eqb-true}
+use Rattle.std.proofs.Common.{◌≡◌, ℕ, suc, ◌+◌, ◌==◌, inl, inr, not, cond, Bool, true, false, List, [], ◌∷◌, ◌++◌, length, map, filter, get_or, refl, sym, ap, subst, ◌∙◌, append_assoc, arith, eq-eqb, eqb-true}
 use Rattle.std.proofs.lemmas.Bool.{both_ways, ne_eqb, not-true}
 use Rattle.std.proofs.lemmas.List.{append-nil}
 use Rattle.dwz_meanings.specs.Documents.{entries_map, node_map}
 use Rattle.dwz_docs.specs.Lists.{In}
-use Rattle.dwz_seen.proofs.Members.{in_filter_from}
+use Rattle.dwz_seen.proofs.Members.{in_filter_from, in_map}
+use Rattle.dwz_partition.proofs.ListFacts.{map_in, map_map}
 use Rattle.dwz_alike.specs.Spots.{ASpace, ATop, Nothing, Row, SpaceName, Spot, Top}
 use Rattle.dwz_moving.specs.Plan.{PartialUnit, beside, chain_down, chains, in_root, leading, part_row, same_names, space_entry, top_row}
 use Rattle.dwz_layout.specs.Chains.{ShowsSpaced, chain_lines, chains_by, chains_lines, firsts_by, path_lines, tops_lines}
@@ -25,7 +26,7 @@ within {X} p q (x ∷ xs) h = by (q x) (p x) refl refl (within p q xs h)
     by false false e g more = more
 
 -- a test of items is one of what they are mapped to
-mapped : {X Y : Type 0} (g : X → Y) (p : X → Bool) (q : Y → Bool) (xs : List X) → ((x : X) → In x xs → p x ≡ q (g x)) → map g (filter p xs) ≡ filter q (map g xs)
+pub mapped : {X Y : Type 0} (g : X → Y) (p : X → Bool) (q : Y → Bool) (xs : List X) → ((x : X) → In x xs → p x ≡ q (g x)) → map g (filter p xs) ≡ filter q (map g xs)
 mapped g p q [] h = refl
 mapped {X} {Y} g p q (x ∷ xs) h = by (p x) (h x (inl refl)) (mapped g p q xs (λ y is. h y (inr is)))
   where
@@ -124,3 +125,43 @@ module _ (f : Spot → Spot) (said : ℕ → SpaceName) (n : Names Spot) (path :
         ∙ (λ i. chain_lines n chain (sym lead i) (of_list tops t)) in
         beside_lines f 2 (chain_down k chain 0 t.spaces inner) (chains k tops (suc chain) leads)
         ∙ (λ i. own i ++ leads_lines tops leads (suc chain) shown (λ u is. there u (inr is)) (λ u is. first u (inr is)) i)
+
+    -- the tops in spaces, and those in none
+    abbrev spaced : List Top → List Top
+    spaced tops = filter (λ t. not (in_root t)) tops
+
+    abbrev spaced_numbers : List Top → List ℕ
+    spaced_numbers tops = filter (λ t. not (l t == 0)) (map number tops)
+
+    spaced_are : (tops : List Top) → ShowsSpaced f said n path l tops → map number (spaced tops) ≡ spaced_numbers tops
+    spaced_are tops shown = mapped number (λ t. not (in_root t)) (λ t. not (l t == 0)) tops (λ t is. ap not (shown.root t is))
+
+    -- those of the list of a top in spaces are in spaces
+    list_spaced : (tops : List Top) → ShowsSpaced f said n path l tops → (t : Top) → In t (spaced tops) → filter (λ u. l t.number == l u) (spaced_numbers tops) ≡ of_list tops t
+    list_spaced tops shown t is =
+        let parts = in_filter_from (λ u. not (in_root u)) t tops is in
+        let some : l t.number == 0 ≡ false = sym (shown.root t parts.0) ∙ not-true (in_root t) parts.1 in
+        within (λ u. l t.number == l u) (λ u. not (l u == 0)) (map number tops)
+        (λ u e. ap not (ap (λ (a : ℕ). a == 0) (sym (eqb-true (l t.number) (l u) e)) ∙ some))
+
+    pub partial_row : (part : PartialUnit) → ShowsSpaced f said n path l part.tops
+        → row_lines f 2 (part_row k part) ≡ tops_lines n 2 (filter (λ t. l t == 0) (map number part.tops)) ++ chains_lines n path 0 (chains_by l (spaced_numbers part.tops))
+    unfolding chains_by
+    partial_row part shown =
+        let tops : List Top = part.tops in
+        let leads : List Top = leading (spaced tops) in
+        let in_spaced : (t : Top) → In t leads → In t (spaced tops) = λ t is. leading_in t (spaced tops) is in
+        let from : (t : Top) → In t (spaced tops) → In t tops = λ t is. (in_filter_from (λ u. not (in_root u)) t tops is).0 in
+        let unspaced : map number (filter in_root tops) ≡ filter (λ t. l t == 0) (map number tops) = mapped number in_root (λ t. l t == 0) tops (λ t is. shown.root t is) in
+        let numbers_are : map number leads ≡ firsts_by l (spaced_numbers tops) =
+        leading_are l (spaced tops) (λ t u p q. shown.same t u (from t p) (from u q)) ∙ ap (firsts_by l) (spaced_are tops shown) in
+        let first : (t : Top) → In t leads → (rest : List ℕ) × (of_list tops t ≡ t.number ∷ rest) = λ t is.
+        (let o = first_of_list l (spaced_numbers tops) t.number (subst (λ (w : List ℕ). In t.number w) numbers_are (in_map number t leads is)) in
+        (o.0, sym (list_spaced tops shown t (in_spaced t is)) ∙ o.1)) in
+        let groups : map (of_list tops) leads ≡ map (λ t. filter (λ u. l t == l u) (spaced_numbers tops)) (firsts_by l (spaced_numbers tops)) =
+        map_in (of_list tops) (λ t. filter (λ u. l t.number == l u) (spaced_numbers tops)) leads (λ t is. sym (list_spaced tops shown t (in_spaced t is)))
+        ∙ sym (map_map (λ t. filter (λ u. l t == l u) (spaced_numbers tops)) number leads)
+        ∙ ap (map (λ t. filter (λ u. l t == l u) (spaced_numbers tops))) numbers_are in
+        top_lines 2 (filter in_root tops) (chains k tops 0 leads) (λ t is. shown.node t (in_filter_from in_root t tops is).0) (λ t is. shown.below t (in_filter_from in_root t tops is).0)
+        ∙ (λ i. tops_lines n 2 (unspaced i) ++ leads_lines tops leads 0 shown (λ t is. from t (in_spaced t is)) first i)
+        ∙ ap (λ (gs : List (List ℕ)). tops_lines n 2 (filter (λ t. l t == 0) (map number tops)) ++ chains_lines n path 0 gs) groups

@@ -1,5 +1,5 @@
 -- What is written of a partial unit: the tops that stand in no space, and chains of spaces with the tops that stand in them.
-use Rattle.std.specs.Prelude.{◌≡◌, ℕ, zero, suc, ◌+◌, ◌≤◌, Bool, Some, List, [], ◌∷◌, ◌++◌, ◌==◌, filter, length, map, not, slice_get, slice_index, slice_index_or}
+use Rattle.std.specs.Prelude.{◌≡◌, ℕ, suc, ◌+◌, ◌<◌, ◌≤◌, Some, List, [], ◌∷◌, ◌++◌, ◌==◌, filter, length, map, not, slice_get, slice_index, slice_index_or}
 use Rattle.dwz_meanings.specs.Documents.{entries_map, node_map}
 use Rattle.dwz_docs.specs.Lists.{In}
 use Rattle.dwz_alike.specs.Spots.{SpaceName, Spot, Top}
@@ -69,6 +69,15 @@ down (s ∷ spaces) = down spaces ++ s ∷ []
 -- a space stands behind the one that it stands in
 abbrev pub IsRising : List SpaceRow → Type 0
 IsRising rows = (k : ℕ) (row : SpaceRow) → slice_get rows k ≡ Some row → row.outer ≤ k
+
+-- a chain has a first top, which is one of those whose spaces are known
+pub record IsChain (of_tops : List TopSpaces) (tops : List ℕ) : Type 0 where
+  pub some : 0 < length tops
+  pub inside : slice_index tops 0 < length of_tops
+
+-- the spaces of the first top of each chain
+abbrev pub AreUp : List SpaceRow → List TopSpaces → (ups : ℕ → List ℕ) → List (List ℕ) → Type 0
+AreUp rows of_tops ups chains = (tops : List ℕ) → In tops chains → Up rows (inner_at of_tops (slice_index tops 0)) (ups (slice_index tops 0))
 
 -- ---- what numbers stand for in the partial unit with that number
 

@@ -1,4 +1,5 @@
 pub mod Chains
+pub mod Grouping
 pub mod Lines
 pub mod Order
 pub mod Outline

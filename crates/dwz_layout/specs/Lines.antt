@@ -1,5 +1,5 @@
 -- Units entry by entry: in preorder with their depths, and as steps into entries and out of lists of children (DWARF 5, 2.3).
-use Rattle.std.specs.Prelude.{◌≡◌, ℕ, suc, ◌-◌, Bool, true, false, List, [], ◌∷◌, ◌++◌, nat_lt, replicate}
+use Rattle.std.specs.Prelude.{ℕ, suc, ◌-◌, Bool, true, false, List, [], ◌∷◌, ◌++◌, nat_lt, replicate}
 use Rattle.dwz_meanings.specs.Documents.{DwUnit, Entries, Node, entries_map, node_map}
 use Rattle.dwz_docs.specs.Trees.{End, Entry}
 use Rattle.dwz_alike.specs.Spots.{ASpace, ATop, Nothing, Row, Spot}

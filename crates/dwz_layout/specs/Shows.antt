@@ -1,7 +1,7 @@
 -- What numbers stand for in the units after.
 use Rattle.std.specs.Prelude.{◌≡◌, ℕ, List}
 use Rattle.dwz_meanings.specs.Documents.{DwUnit, entries_map, node_map}
-use Rattle.dwz_alike.specs.Spots.{FileUnit, Row, Spot}
+use Rattle.dwz_alike.specs.Spots.{FileUnit, Spot}
 use Rattle.dwz_moving.specs.Moves.{Move, image_in}
 use Rattle.dwz_moving.specs.Plan.{import_of, pinned_of}
 use Rattle.dwz_layout.specs.Order.{Names}

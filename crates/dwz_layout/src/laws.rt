@@ -1,12 +1,13 @@
 //! What an order of items is.
-ghost use Rattle.std.specs.Prelude.{◌≡◌, ℕ, List, [], ◌∷◌, ◌++◌, true, false};
-ghost use Rattle.dwz_alike.specs.Spots.{FileUnit, Row, Spot, row_of};
+ghost use Rattle.std.specs.Prelude.{◌≡◌, ℕ, List, [], ◌∷◌, ◌++◌, true, false, map};
+ghost use Rattle.dwz_alike.specs.Spots.{FileUnit, Row, SpaceName, Spot, row_of};
 ghost use Rattle.dwz_docs.specs.Trees.{End};
 ghost use Rattle.dwz_meanings.specs.Documents.{Compile, DwUnit, Entries};
-ghost use Rattle.dwz_moving.specs.Moves.{Move};
-ghost use Rattle.dwz_moving.specs.Plan.{imports, pinned_first, row_staying};
+ghost use Rattle.dwz_moving.specs.Moves.{Move, image_in};
+ghost use Rattle.dwz_moving.specs.Plan.{PartialUnit, imports, part_row, pinned_first, row_staying};
 ghost use Rattle.dwz_partition.specs.Shows.{import_row};
-ghost use Rattle.dwz_same.specs.Units.{changes, kept_unit, tree};
+ghost use Rattle.dwz_same.specs.Units.{changes, kept_unit, partial_unit, tree};
+ghost use Rattle.dwz_layout.specs.Chains.{NamesPartial, ShowsSpaced, partial_lines};
 ghost use Rattle.dwz_layout.specs.Lines.{line, lines, row_lines, steps_of, unit_lines, unit_steps};
 ghost use Rattle.dwz_layout.specs.Order.{Names, import_lines};
 ghost use Rattle.dwz_layout.specs.Shows.{NamesKept, view_of};
@@ -24,4 +25,6 @@ pub fn order_laws()
     ensures kept { (m : Move) (units : List (FileUnit Spot)) (i : ℕ) (u : FileUnit Spot) (n : Names Spot) (parts : List ℕ) → NamesKept m i u.unit n → u.unit.kind ≡ Compile → changes m units u.file ≡ true → imports i 0 m.parts ≡ import_row i parts
         → let v = view_of m units n in line 1 n.root ∷ row_lines v.image 2 (pinned_first v.pinned (row_staying v.gone (row_of units i))) ++ import_lines n parts ≡ unit_lines (kept_unit m units i u) }
     ensures whole { (m : Move) (units : List (FileUnit Spot)) (i : ℕ) (u : FileUnit Spot) (n : Names Spot) → NamesKept m i u.unit n → (u.unit.kind ≡ Compile → changes m units u.file ≡ false) → line 1 n.root ∷ lines 2 n.whole ≡ unit_lines (kept_unit m units i u) }
+    ensures parts { (m : Move) (k : ℕ) (part : PartialUnit) (said : ℕ → SpaceName) (n : Names Spot) (path : ℕ → List ℕ) (l : ℕ → ℕ) → NamesPartial m k said n → ShowsSpaced (image_in m) said n path l part.tops → m.rows k ≡ part_row k part
+        → partial_lines n path l (map (λ t. t.number) part.tops) ≡ unit_lines (partial_unit m k) }
 {}

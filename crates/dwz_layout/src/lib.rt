@@ -1,6 +1,7 @@
 //! What is written, in order.
 #![tactic(auto)]
 
+mod chains;
 mod kept;
 mod laws;
 mod order;
@@ -9,4 +10,4 @@ mod partial;
 pub use kept::{put_kept, put_whole};
 pub use laws::{line_laws, order_laws};
 pub use order::{Item, Outer, What};
-pub use partial::{SpaceRow, TopSpaces};
+pub use partial::{SpaceRow, TopSpaces, put_partial};

@@ -1,4 +1,4 @@
-use Rattle.std.proofs.Common.{◌≡◌, ◌∙◌, ◌∷◌, ◌++◌, ◌≤◌, [], List, length, sym, ap, subst, arith}
+use Rattle.std.proofs.Common.{◌≡◌, ◌∙◌, ◌∷◌, ◌++◌, List, length, sym, ap, subst, arith}
 use Rattle.dwz_layout.specs.declared.order.Outer.{Outer}
 use Rattle.dwz_layout.specs.Order.{order_lines}
 use Rattle.dwz_layout.specs.Parts.{part_lines}

@@ -1,7 +1,6 @@
-use Rattle.std.proofs.Common.{◌≡◌, ◌∙◌, ◌++◌, ◌∷◌, [], List, true, false, sym, ap, append_assoc}
+use Rattle.std.proofs.Common.{◌≡◌, ◌∙◌, ◌++◌, ◌∷◌, [], List, true, false, ap, append_assoc}
 use Rattle.dwz_alike.specs.Spots.{Spot}
-use Rattle.dwz_moving.specs.Plan.{pinned_first, row_staying}
-use Rattle.dwz_layout.specs.Lines.{Line, line, row_lines}
+use Rattle.dwz_layout.specs.Lines.{Line, line}
 use Rattle.dwz_layout.specs.Order.{import_lines, order_lines}
 use Rattle.dwz_layout.specs.Parts.{part_lines}
 use Rattle.dwz_layout.proofs.KeptLemmas.{both_parts}

@@ -16,3 +16,4 @@ pub mod StandLemmas
 pub mod ApartLemmas
 pub mod SharedLaw
 pub mod OperandSteps
+pub mod FileSteps

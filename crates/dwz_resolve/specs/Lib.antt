@@ -7,3 +7,4 @@ pub mod State
 pub mod Resolved
 pub mod Said
 pub mod Operands
+pub mod FileRows

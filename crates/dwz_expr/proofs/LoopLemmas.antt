@@ -216,7 +216,7 @@ same_grow pre = let none : drop (length pre) pre ≡ [] = drop_of_length-le pre 
 pub none_added : (pre : List Operand) → added pre pre ≡ []
 none_added pre = drop_of_length-le pre (omega arith)
 
-more_added : (pre ops new own : List Operand) → Grows pre ops → new ≡ ops ++ own → added pre new ≡ added pre ops ++ own
+pub more_added : (pre ops new own : List Operand) → Grows pre ops → new ≡ ops ++ own → added pre new ≡ added pre ops ++ own
 more_added pre ops new own grows is =
     ap (drop (length pre)) (is ∙ ap (λ (w : List Operand). w ++ own) grows ∙ append_assoc pre (added pre ops) own) ∙ drop-append_seam pre (added pre ops ++ own)
 

@@ -7,15 +7,13 @@ ghost use Rattle.dwz_docs.specs.Faults.{AnswersAt};
 ghost use Rattle.dwz_meanings.specs.LocLists.{bad_list};
 ghost use Rattle.dwz_docs.specs.Values;
 ghost use Rattle.dwz_codes.specs.ListKinds.{list_kind_rows};
-ghost use Rattle.dwz_lists.specs.Gathering.{field_into, fields_into, kind_into};
+ghost use Rattle.dwz_lists.specs.Gathering.{content_at, content_of, front_at, kind_front};
 
 use dwz_bytes::Cursor;
-use dwz_expr::Ops;
 use dwz_model::{Fault, ReadErr, Reason};
-use std::alloc::Global;
 
 // The section `.debug_loclists` in faults.
-const LISTS: u8 = 7;
+pub(crate) const LISTS: u8 = 7;
 
 // A bad list at a place.
 #[inline(always)]
@@ -32,8 +30,7 @@ pub(crate) fn bad_at(at: u64) -> Fault
 // An unsigned number.
 #[inline(always)]
 fn uleb(cursor: &mut Cursor, bad: Fault) -> Result<u64, ReadErr>
-    ensures number { AnswersAt (λ x. x) cursor.new result (or_fault bad (uleb_at cursor.old)) }
-    ensures end { cursor.new.at + length cursor.new.rest ≡ cursor.old.at + length cursor.old.rest }
+    ensures { AnswersAt (λ x. x) cursor.new result (or_fault bad (uleb_at cursor.old)) }
 {
     match cursor.uleb() {
         Ok(number) => Ok(number),
@@ -74,86 +71,71 @@ fn run<'a>(cursor: &mut Cursor<'a>, bad: Fault, count: usize) -> Result<&'a [u8]
     }
 }
 
-// An expression behind its length.
-fn expression<'a>(
-    alloc: Global,
-    cursor: &mut Cursor<'a>,
-    bad: Fault,
-    exprs: &mut Vec<Ops<'a>>,
-) -> Result<(), ReadErr>
-    requires { cursor.old.at + length cursor.old.rest < 2 ^ 64 }
-    ensures { AnswersAt (λ _. exprs.new.items) cursor.new result (field_into bad Inside exprs.old.items cursor.old) }
+// The bytes of an expression, and the place of the first of them.
+#[derive(Clone, Copy)]
+pub(crate) struct Content<'a> {
+    pub(crate) at: u64,
+    pub(crate) bytes: &'a [u8],
+}
+
+// The bytes of an expression, behind their number.
+fn one_content<'a>(cursor: &mut Cursor<'a>, bad: Fault) -> Result<Option<Content<'a>>, ReadErr>
+    ensures { AnswersAt content_of cursor.new result (content_at bad cursor.old) }
 {
     let count = uleb(cursor, bad)?;
-    let place = cursor.at() as u64;
-    let content = run(cursor, bad, count as usize)?;
-    exprs.push(Ops::read(alloc, content, place, LISTS)?)?;
-    Ok(())
+    let at = cursor.at() as u64;
+    let bytes = run(cursor, bad, count as usize)?;
+    Ok(Some(Content { at, bytes }))
 }
 
 // Two unsigned numbers, and an expression.
-#[tactic(auto, unfolding(crate::specs::Gathering::fields_into))]
-fn pair<'a>(
-    alloc: Global,
-    cursor: &mut Cursor<'a>,
-    bad: Fault,
-    exprs: &mut Vec<Ops<'a>>,
-) -> Result<(), ReadErr>
-    requires { cursor.old.at + length cursor.old.rest < 2 ^ 64 }
-    ensures { AnswersAt (λ _. exprs.new.items) cursor.new result (fields_into bad (Unsigned ∷ Unsigned ∷ Inside ∷ []) exprs.old.items cursor.old) }
+#[tactic(auto, unfolding(crate::specs::Gathering::front_at))]
+fn pair<'a>(cursor: &mut Cursor<'a>, bad: Fault) -> Result<Option<Content<'a>>, ReadErr>
+    ensures { AnswersAt content_of cursor.new result (front_at bad (Unsigned ∷ Unsigned ∷ Inside ∷ []) cursor.old) }
 {
     uleb(cursor, bad)?;
     uleb(cursor, bad)?;
-    expression(alloc, cursor, bad, exprs)?;
-    Ok(())
+    one_content(cursor, bad)
 }
 
-// What stands behind the kind of an entry at that place.
-#[tactic(auto, unfolding(crate::specs::Gathering::fields_into, dwz_codes::specs::ListKinds::list_kind_rows))]
-pub(crate) fn entry<'a>(
-    alloc: Global,
+// What stands behind the kind of an entry at that place, whose expression comes last, if it has one.
+#[tactic(auto, unfolding(crate::specs::Gathering::front_at, dwz_codes::specs::ListKinds::list_kind_rows))]
+pub(crate) fn front<'a>(
     kind: u8,
     at: u64,
     cursor: &mut Cursor<'a>,
-    exprs: &mut Vec<Ops<'a>>,
-) -> Result<(), ReadErr>
-    requires some { kind ≡ 0 → ⊥ }
-    requires short { cursor.old.at + length cursor.old.rest < 2 ^ 64 }
-    ensures { AnswersAt (λ _. exprs.new.items) cursor.new result (kind_into at (fields_of (Values.shape_of list_kind_rows kind)) exprs.old.items cursor.old) }
+) -> Result<Option<Content<'a>>, ReadErr>
+    requires { kind ≡ 0 → ⊥ }
+    ensures { AnswersAt content_of cursor.new result (kind_front at (fields_of (Values.shape_of list_kind_rows kind)) cursor.old) }
 {
     let bad = bad_at(at);
     match kind {
         1 => {
             uleb(cursor, bad)?;
-            Ok(())
+            Ok(None)
         }
-        2 => pair(alloc, cursor, bad, exprs),
-        3 => pair(alloc, cursor, bad, exprs),
-        4 => pair(alloc, cursor, bad, exprs),
-        5 => {
-            expression(alloc, cursor, bad, exprs)?;
-            Ok(())
-        }
+        2 => pair(cursor, bad),
+        3 => pair(cursor, bad),
+        4 => pair(cursor, bad),
+        5 => one_content(cursor, bad),
         6 => {
             address(cursor, bad)?;
-            Ok(())
+            Ok(None)
         }
         7 => {
             address(cursor, bad)?;
             address(cursor, bad)?;
-            expression(alloc, cursor, bad, exprs)?;
-            Ok(())
+            one_content(cursor, bad)
         }
         8 => {
             address(cursor, bad)?;
             uleb(cursor, bad)?;
-            expression(alloc, cursor, bad, exprs)?;
-            Ok(())
+            one_content(cursor, bad)
         }
         9 => {
             uleb(cursor, bad)?;
             uleb(cursor, bad)?;
-            Ok(())
+            Ok(None)
         }
         _ => Err(ReadErr::Refused(bad)),
     }

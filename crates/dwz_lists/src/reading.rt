@@ -4,11 +4,13 @@ ghost use Rattle.std.specs.Prelude.{◌≡◌, ◌<◌, length};
 ghost use Rattle.dwz_docs.specs.Faults.{Answers};
 ghost use Rattle.dwz_meanings.specs.LocLists.{list_at};
 ghost use Rattle.dwz_meanings.specs.Sequences.{read_from};
-ghost use Rattle.dwz_lists.specs.Gathering.{in_lists};
+ghost use Rattle.dwz_expr.specs.Gathering.{Grows, added};
+ghost use Rattle.dwz_lists.specs.FirstFault.{WalksInto};
+ghost use Rattle.dwz_lists.specs.Gathering.{Adds, IsShort, content_of, exprs_with, in_lists};
 
-use crate::fields::{bad_at, byte, entry};
+use crate::fields::{Content, LISTS, bad_at, byte, front};
 use dwz_bytes::Cursor;
-use dwz_expr::Ops;
+use dwz_expr::{Operand, Ops, read_into};
 use dwz_model::ReadErr;
 use std::alloc::Global;
 use std::marker::Model;
@@ -44,6 +46,39 @@ impl<'a> LocationList<'a> {
     }
 }
 
+// Reads the expression that is there, and appends it.
+fn push_expr<'a>(
+    alloc: Global,
+    content: Option<Content<'a>>,
+    exprs: &mut Vec<Ops<'a>>,
+) -> Result<(), ReadErr>
+    requires { IsShort (content_of content) }
+    ensures { Answers (λ _. exprs.new.items) result (exprs_with in_lists exprs.old.items (content_of content.entry)) }
+{
+    match content {
+        None => Ok(()),
+        Some(content) => {
+            exprs.push(Ops::read(alloc, content.bytes, content.at, LISTS)?)?;
+            Ok(())
+        }
+    }
+}
+
+// Reads the expression that is there, and appends its operands.
+fn push_operands(content: Option<Content>, operands: &mut Vec<Operand>) -> Result<(), ReadErr>
+    requires { IsShort (content_of content) }
+    ensures adds { Adds (content_of content.entry) (added operands.old.items operands.new.items) result }
+    ensures grows { Grows operands.old.items operands.new.items }
+{
+    match content {
+        None => Ok(()),
+        Some(content) => {
+            read_into(operands, content.bytes, content.at, LISTS)?;
+            Ok(())
+        }
+    }
+}
+
 /// Reads the location list at a place of `.debug_loclists`, in bytes from the section's first. Refused exactly at the first
 /// entry that isn't read: as `BadList` at its kind, where that isn't in the table or what stands behind it isn't whole or too
 /// wide; and with the fault of an expression at that fault's own place.
@@ -60,6 +95,29 @@ pub fn walk<'a>(alloc: Global, section: &'a [u8], at: u64) -> Result<LocationLis
             let end = cursor.at() as u64;
             return Ok(LocationList { exprs, end });
         }
-        entry(alloc, kind, place, &mut cursor, &mut exprs)?;
+        let content = front(kind, place, &mut cursor)?;
+        push_expr(alloc, content, &mut exprs)?;
+    }
+}
+
+/// Reads the location list at a place of `.debug_loclists`, as `walk` does, appends the operands of its expressions that name
+/// entries, and answers the place behind the list.
+///
+/// Where it is refused, the operands before the fault are appended, which are those that are looked up before: so the first of
+/// those that names no entry is the first fault, and where each does it is the one that is answered.
+pub fn walk_into(operands: &mut Vec<Operand>, section: &[u8], at: u64) -> Result<u64, ReadErr>
+    requires { at < length section.now }
+    ensures found { WalksInto section.now at (added operands.old.items operands.new.items) result }
+    ensures grows { Grows operands.old.items operands.new.items }
+{
+    let mut cursor = Cursor::new(section, at as usize);
+    loop {
+        let place = cursor.at() as u64;
+        let kind = byte(&mut cursor, bad_at(place))?;
+        if kind == 0 {
+            return Ok(cursor.at() as u64);
+        }
+        let content = front(kind, place, &mut cursor)?;
+        push_operands(content, operands)?;
     }
 }

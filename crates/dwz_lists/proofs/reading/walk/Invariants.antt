@@ -1,13 +1,14 @@
 use Rattle.std.proofs.Common.{◌≡◌, ◌+◌, [], length}
 use Rattle.dwz_bytes.specs.Input.{input}
 use Rattle.dwz_meanings.specs.LocLists.{bad_list}
-use Rattle.dwz_lists.specs.Gathering.{row_into}
+use Rattle.dwz_lists.specs.Gathering.{in_lists, row_into}
+use Rattle.dwz_lists.proofs.WalkLemmas.{goes_on}
 use Rattle.dwz_lists.proofs.reading.walk.Given as goal
 
 abbrev pub invariant-loop-exprs : goal.invariant-loop-exprs
 invariant-loop-exprs l = record {
   within : l.cursor.at + length l.cursor.rest ≡ length l.section;
-  same : row_into (bad_list l.at) l.exprs.items l.cursor ≡ row_into (bad_list l.at) [] (input l.section l.at);
+  same : row_into in_lists (bad_list l.at) l.exprs.items l.cursor ≡ row_into in_lists (bad_list l.at) [] (input l.section l.at);
 }
 
 abbrev pub decreases-loop-exprs : goal.decreases-loop-exprs

@@ -11,7 +11,7 @@ use Rattle.dwz_model.specs.declared.fault.ReadErr.{ReadErr}
 use Rattle.dwz_model.specs.declared.fault.ReadErr.TheVariants.{NoMemory, Refused}
 use Rattle.dwz_model.specs.declared.fault.Reason.TheVariants.{BadFile}
 use Rattle.dwz_bytes.specs.Reading.{◌>>=◌}
-use Rattle.dwz_docs.specs.Faults.{Fails, info_fault}
+use Rattle.dwz_docs.specs.Faults.{Answers, Fails, info_fault}
 use Rattle.dwz_meanings.specs.LineTables.{FileTable, nth_path}
 use Rattle.dwz_meanings.specs.Meanings.{Sources, path_by}
 use Rattle.dwz_resolve.specs.FileRows.{HasTable, KnowTables, SaysFile, file_there, row_there, table_at, unless_none}
@@ -63,3 +63,27 @@ module _ (sources : Sources) where
             subst (λ (p : ℕ). HasTable sources new.tables.items p n) at (subst (λ (k : ℕ). HasTable sources new.tables.items place k) one last)
         | inr other ↦ has_more sources old.tables.items new.tables.items t q n tables (h.known q n (sym (updates q ∙ cond-false (nat_eq place q) (Some number) (get nat_eq old.places q) other) ∙ e))
       ] }, last)
+
+pub no_path : (o : Option (List ℕ)) → None ≡ o → o ≡ None
+no_path o e = sym e
+
+-- ---- what a value says
+
+row_whole : (sources : Sources) (files : Files) (line : Option ℕ) (place table at : ℕ) (z : ℤ) (there : Bool) → line ≡ Some place → HasTable sources files.tables.items place table
+    → ((t : FileTable) → slice_get files.tables.items table ≡ Some t → there ≡ is_some (path_by t z)) → file_there sources line at z ≡ unless_none at there
+row_whole sources files line place table at z there is has row =
+    ap (λ (o : Option ℕ). file_there sources o at z) is ∙ ap (λ (r : Result FileTable Fault). r >>= row_there at z) has.read ∙ ap (unless_none at) (sym (row has.table has.there))
+
+pub says_row : (sources : Sources) (files : Files) (line : Option ℕ) (place table at : ℕ) (z : ℤ) (there : Bool) (result : Result (Unit {0}) ReadErr) → line ≡ Some place → KnowTables sources files → HasTable sources files.tables.items place table
+    → ((t : FileTable) → slice_get files.tables.items table ≡ Some t → there ≡ is_some (path_by t z)) → Answers {X = Unit {0}} (λ u. tt) result (unless_none at there) → SaysFile sources line at z files result
+says_row sources files line place table at z there (Ok y) is know has row h = (know, row_whole sources files line place table at z there is has row ∙ h)
+says_row sources files line place table at z there (Err NoMemory) is know has row h = tt
+says_row sources files line place table at z there (Err (Refused f)) is know has row h = row_whole sources files line place table at z there is has row ∙ h
+
+pub table_fails : (sources : Sources) (line : Option ℕ) (place at : ℕ) (z : ℤ) (e : ReadErr) → line ≡ Some place → Fails e (table_at sources place) → Fails e (file_there sources line at z)
+table_fails sources line place at z NoMemory is h = tt
+table_fails sources line place at z (Refused f) is h = ap (λ (o : Option ℕ). file_there sources o at z) is ∙ ap (λ (r : Result FileTable Fault). r >>= row_there at z) h
+
+pub row_fails : (sources : Sources) (line : Option ℕ) (at : ℕ) (z : ℤ) (e : ReadErr) → e ≡ NoMemory → Fails e (file_there sources line at z)
+row_fails sources line at z NoMemory h = tt
+row_fails sources line at z (Refused f) h = absurd cc

@@ -8,3 +8,4 @@ pub mod Resolved
 pub mod Said
 pub mod Operands
 pub mod FileRows
+pub mod ListSteps

@@ -56,7 +56,7 @@ pub(crate) fn entry_of(
 
 // Whether memory ran out.
 #[inline(always)]
-fn is_no_memory(read: &Result<bool, ReadErr>) -> bool
+pub(crate) fn is_no_memory<T>(read: &Result<T, ReadErr>) -> bool
     ensures { result ≡ lacks_memory read.now }
 {
     match read {

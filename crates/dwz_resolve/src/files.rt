@@ -117,7 +117,7 @@ impl Files {
             sections.strs.bytes,
             place,
         )?;
-        let number = self.tables.len();
+        let number = self.tables.as_slice().len();
         self.tables.push(table)?;
         self.places.insert(place, number)?;
         Ok(number)

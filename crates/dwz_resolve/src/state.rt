@@ -5,6 +5,7 @@ ghost use Rattle.std.specs.Prelude.{◌≡◌, []};
 use crate::lists::Lists;
 use dwz_expr::Operand;
 use std::alloc::Global;
+use std::collections::HashMap;
 
 /// What is kept of the values that were looked at.
 #[derive(Drop)]
@@ -30,6 +31,7 @@ impl State {
                 rows: Vec::new(alloc),
                 operands: Vec::new(alloc),
                 slots: Vec::new(alloc),
+                seen: HashMap::new(alloc),
             },
             operands: Vec::new(alloc),
         }

@@ -17,3 +17,4 @@ pub mod ApartLemmas
 pub mod SharedLaw
 pub mod OperandSteps
 pub mod FileSteps
+pub mod ListSteps

@@ -1,5 +1,5 @@
 -- Line tables that were read, and what values that number files say.
-use Rattle.std.specs.Prelude.{◌≡◌, ℕ, ℤ, Bool, true, false, List, map, Option, Some, None, Result, Ok, Err, nat_eq, slice_get}
+use Rattle.std.specs.Prelude.{◌≡◌, ℕ, ℤ, Bool, true, false, List, map, Option, Some, None, Result, Ok, Err, nat_eq, if◌then◌else◌, slice_get}
 use Rattle.std.specs.Option.{is_some}
 use Rattle.std.specs.HashMap.{get}
 use Rattle.dwz_model.specs.declared.fault.Fault.{Fault}
@@ -8,7 +8,7 @@ use Rattle.dwz_model.specs.declared.fault.Reason.TheVariants.{BadFile}
 use Rattle.dwz_bytes.specs.Reading.{◌>>=◌}
 use Rattle.dwz_docs.specs.Faults.{Fails, info_fault}
 use Rattle.dwz_meanings.specs.LineTables.{FileTable, file_table_at}
-use Rattle.dwz_meanings.specs.Meanings.{Sources, is_zero, path_by, texts_of}
+use Rattle.dwz_meanings.specs.Meanings.{Sources, is_zero, names_file, path_by, texts_of}
 use Rattle.dwz_resolve.specs.declared.files.Files.{Files}
 
 -- the table at a place
@@ -47,3 +47,11 @@ file_there sources (Some place) at number = table_at sources place >>= row_there
 abbrev pub SaysFile : {Y : Type 0} → Sources → Option ℕ → ℕ → ℤ → Files → Result Y ReadErr → Type 0
 SaysFile sources line at number files (Ok y) = KnowTables sources files × (file_there sources line at number ≡ Ok tt)
 SaysFile sources line at number files (Err e) = Fails e (file_there sources line at number)
+
+-- the same of a number that may be one of a file
+abbrev pub number_there : Sources → Option ℕ → ℕ → ℕ → ℤ → Result (Unit {0}) Fault
+number_there sources line name at number = if names_file name then file_there sources line at number else Ok tt
+
+abbrev pub SaysConstant : {Y : Type 0} → Sources → Option ℕ → ℕ → ℕ → ℤ → Files → Result Y ReadErr → Type 0
+SaysConstant sources line name at number files (Ok y) = KnowTables sources files × (number_there sources line name at number ≡ Ok tt)
+SaysConstant sources line name at number files (Err e) = Fails e (number_there sources line name at number)

@@ -9,9 +9,10 @@ ghost use Rattle.dwz_meanings.specs.Meanings.{path_by};
 ghost use Rattle.dwz_model.specs.declared.fault.ReadErr.TheVariants.{NoMemory, Refused};
 ghost use Rattle.dwz_model.specs.declared.fault.Reason.TheVariants.{BadFile};
 ghost use Rattle.dwz_docs.specs.Faults.{Answers, info_fault};
-ghost use Rattle.dwz_resolve.specs.FileRows.{FindsTable, KnowTables, SaysFile, unless_none};
+ghost use Rattle.dwz_resolve.specs.FileRows.{FindsTable, KnowTables, SaysConstant, SaysFile, unless_none};
 ghost use Rattle.dwz_resolve.specs.Resolved.{sources_view};
 
+use crate::here::Here;
 use crate::sections::Sections;
 use dwz_forms::Raw;
 use dwz_lines::FileTable;
@@ -127,7 +128,7 @@ impl Files {
     pub(crate) fn check(
         &mut self,
         sections: &Sections,
-        line: Option<u64>,
+        line: Option<u128>,
         at: u64,
         raw: &Raw,
     ) -> Result<(), ReadErr>
@@ -137,10 +138,40 @@ impl Files {
         match line {
             None => unless_missing(number == 0, at),
             Some(place) => {
-                let table = self.table(sections, place)?;
+                if place > u64::MAX as u128 {
+                    return Err(ReadErr::NoMemory);
+                }
+                let table = self.table(sections, place as u64)?;
                 let is_there = has_row(&self.tables, table, number)?;
                 unless_missing(is_there, at)
             }
         }
+    }
+}
+
+// Whether values of an attribute number files: `DW_AT_decl_file` and `DW_AT_call_file`.
+#[inline(always)]
+fn names_file(name: u16) -> bool
+    ensures { result ≡ Meanings.names_file name }
+{
+    name == 0x3a || name == 0x58
+}
+
+/// Goes on where a number says something: one of a file is that of a row of the unit's line table.
+#[inline(always)]
+pub(crate) fn check_constant(
+    sections: &Sections,
+    here: &Here,
+    at: u64,
+    name: u16,
+    raw: &Raw,
+    files: &mut Files,
+) -> Result<(), ReadErr>
+    ensures { KnowTables (sources_view sections.now) files.old → SaysConstant (sources_view sections.now) here.now.line name at (Meanings.number_of (raw_view raw.now)) files.new result }
+{
+    if names_file(name) {
+        files.check(sections, here.line, at, raw)
+    } else {
+        Ok(())
     }
 }

@@ -18,3 +18,4 @@ pub mod SharedLaw
 pub mod OperandSteps
 pub mod FileSteps
 pub mod ListSteps
+pub mod ConstantSteps

@@ -1,6 +1,7 @@
 //! Location lists that attributes name (DWARF 5, 2.6.2 and 7.29).
 
-ghost use Rattle.std.specs.Prelude.{◌≡◌, ◌≤◌, ◌<◌, ◌^◌, List, length};
+ghost use Rattle.std.specs.Prelude.{◌≡◌, ◌≤◌, ◌<◌, ◌^◌, List, Some, true, length, nat_eq};
+ghost use Rattle.std.specs.HashMap.{get};
 ghost use Rattle.dwz_docs.specs.Units.{RawUnit, entries_in};
 ghost use Rattle.dwz_docs.specs.Faults.{info_fault};
 ghost use Rattle.dwz_meanings.specs.Meanings;
@@ -135,6 +136,18 @@ fn walk(
     Ok(())
 }
 
+// Whether a place was seen last in that unit.
+fn was_seen(seen: &HashMap<u64, u32>, place: u64, unit: u32) -> bool
+    ensures { result ≡ true → get nat_eq seen.now place ≡ Some unit }
+{
+    if let Some(number) = seen.get(&place) {
+        if *number == unit {
+            return true;
+        }
+    }
+    false
+}
+
 // The same, where the unit didn't name it before.
 fn walk_once(
     units: &Units,
@@ -147,10 +160,8 @@ fn walk_once(
     requires place { place < length sections.now.lists.now }
     ensures { (u : RawUnit) (before : List NamedList) → IsHere (units_of units.now) u here.now → StateIn sections.now (units_of units.now) u here.now before state.old → Walks (units_of units.now) (scope_in sections.now (units_of units.now) u) here.now.number place before state.old state.new result }
 {
-    if let Some(number) = state.lists.seen.get(&place) {
-        if *number == here.number {
-            return Ok(());
-        }
+    if was_seen(&state.lists.seen, place, here.number) {
+        return Ok(());
     }
     walk(units, sections, here, place, state)
 }

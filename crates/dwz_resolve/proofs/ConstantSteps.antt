@@ -56,9 +56,9 @@ constant_goes raw s n before st files a line result is k h =
     subst (λ (r : Result Found Fault). Goes raw (IsState raw s n) before st (record st { files = files }) result r)
     (sym (ap (λ (o : Option ℕ). map_ok (found_in []) (if names_file a.pair.name then file_by o s a else Ok (constant_value a))) (sym is) ∙ constant_found s a line))
     (by result h) where
-  by : {Z : Type 0} → (r : Result Z ReadErr) → SaysConstant s.around.sources line a.pair.name a.at (number_of a.raw) files r → Goes raw (IsState raw s n) before st (record st { files = files }) r (map_ok none_found (number_there s.around.sources line a.pair.name a.at (number_of a.raw)))
-  by (Ok y) g =
-      subst (λ (r : Result Found Fault). Goes {Y = Unit {0}} raw (IsState raw s n) before st (record st { files = files }) (Ok tt) r) (sym (ap (map_ok none_found) g.1))
-      (added_none raw (IsState raw s n) before st (record st { files = files }) refl (with_files raw s n before st files g.0 k))
-  by (Err NoMemory) g = tt
-  by (Err (Refused f)) g = ap (map_ok none_found) g
+      by : {Z : Type 0} → (r : Result Z ReadErr) → SaysConstant s.around.sources line a.pair.name a.at (number_of a.raw) files r → Goes raw (IsState raw s n) before st (record st { files = files }) r (map_ok none_found (number_there s.around.sources line a.pair.name a.at (number_of a.raw)))
+      by (Ok y) g =
+          subst (λ (r : Result Found Fault). Goes {Y = Unit {0}} raw (IsState raw s n) before st (record st { files = files }) (Ok tt) r) (sym (ap (map_ok none_found) g.1))
+          (added_none raw (IsState raw s n) before st (record st { files = files }) refl (with_files raw s n before st files g.0 k))
+      by (Err NoMemory) g = tt
+      by (Err (Refused f)) g = ap (map_ok none_found) g

@@ -54,15 +54,19 @@ module _ (sources : Sources) where
   pub know_more : (old new : Files) (t : FileTable) (place number : ℕ) → KnowTables sources old → new.tables.items ≡ old.tables.items ++ t ∷ [] → number ≡ length old.tables.items → table_at sources place ≡ Ok t
       → ((q : ℕ) → get nat_eq new.places q ≡ cond (nat_eq place q) (Some number) (get nat_eq old.places q)) → KnowTables sources new × HasTable sources new.tables.items place number
   know_more old new t place number h tables len read updates =
-      let last : HasTable sources new.tables.items place number = has_last sources old.tables.items new.tables.items t place number tables len read in
-      (record { known = λ q n e. elim (cases_Bool (nat_eq place q)) [
-        | inl same ↦
-            let at : place ≡ q = eqb-true place q same in
-            let both : Some number ≡ Some n = sym (updates q ∙ cond-true (nat_eq place q) (Some number) (get nat_eq old.places q) same) ∙ e in
-            let one : number ≡ n = cc in
-            subst (λ (p : ℕ). HasTable sources new.tables.items p n) at (subst (λ (k : ℕ). HasTable sources new.tables.items place k) one last)
-        | inr other ↦ has_more sources old.tables.items new.tables.items t q n tables (h.known q n (sym (updates q ∙ cond-false (nat_eq place q) (Some number) (get nat_eq old.places q) other) ∙ e))
-      ] }, last)
+      let last : HasTable sources new.tables.items place number = has_last sources old.tables.items new.tables.items t place number tables len read in (
+        record {
+          known = λ q n e. elim (cases_Bool (nat_eq place q)) [
+            | inl same ↦
+                let at : place ≡ q = eqb-true place q same in
+                let both : Some number ≡ Some n = sym (updates q ∙ cond-true (nat_eq place q) (Some number) (get nat_eq old.places q) same) ∙ e in
+                let one : number ≡ n = cc in
+                subst (λ (p : ℕ). HasTable sources new.tables.items p n) at (subst (λ (k : ℕ). HasTable sources new.tables.items place k) one last)
+            | inr other ↦ has_more sources old.tables.items new.tables.items t q n tables (h.known q n (sym (updates q ∙ cond-false (nat_eq place q) (Some number) (get nat_eq old.places q) other) ∙ e))
+          ];
+        },
+        last,
+      )
 
 pub no_path : (o : Option (List ℕ)) → None ≡ o → o ≡ None
 no_path o e = sym e

@@ -97,17 +97,17 @@ pub indexed_goes : {Y : Type 0} (raw : List RawUnit) (s : Scope ℕ) (n index : 
     → Goes raw (IsState raw s n) before old new result (map_ok (found_in (by_base s (offset_of a) (loclists_base s))) (list_from s a (loclists_base s)))
 indexed_goes {Y} raw s n index base a before old new result is based h =
     by (loclists_base s) result (subst (λ (b : Option ℕ). AddsIndexed raw s n b a.at (offset_of a) before old new result) based (subst (λ (o : ℕ). AddsIndexed raw s n base a.at o before old new result) is h)) where
-  in_slot : (b : ℕ) (o : Option ℕ) (r : Result Y ReadErr) → BySlot raw s n b a.at (offset_of a) o before old new r → Goes raw (IsState raw s n) before old new r (map_ok (found_in (by_offset s b (offset_of a) o)) (list_by s a b o))
-  in_slot b None (Ok y) g = absurd g
-  in_slot b None (Err NoMemory) g = tt
-  in_slot b None (Err (Refused f)) g = let same : info_fault a.at BadList ≡ f = cc in ap (λ (x : Fault). Err x) same
-  in_slot b (Some offset) r g = adds_goes raw s n (Some (slot_place b (offset_of a))) (b + offset) a before old new r g
+      in_slot : (b : ℕ) (o : Option ℕ) (r : Result Y ReadErr) → BySlot raw s n b a.at (offset_of a) o before old new r → Goes raw (IsState raw s n) before old new r (map_ok (found_in (by_offset s b (offset_of a) o)) (list_by s a b o))
+      in_slot b None (Ok y) g = absurd g
+      in_slot b None (Err NoMemory) g = tt
+      in_slot b None (Err (Refused f)) g = let same : info_fault a.at BadList ≡ f = cc in ap (λ (x : Fault). Err x) same
+      in_slot b (Some offset) r g = adds_goes raw s n (Some (slot_place b (offset_of a))) (b + offset) a before old new r g
 
-  by : (o : Option ℕ) (r : Result Y ReadErr) → AddsIndexed raw s n o a.at (offset_of a) before old new r → Goes raw (IsState raw s n) before old new r (map_ok (found_in (by_base s (offset_of a) o)) (list_from s a o))
-  by None (Ok y) g = absurd g
-  by None (Err NoMemory) g = tt
-  by None (Err (Refused f)) g = let same : info_fault a.at BadList ≡ f = cc in ap (λ (x : Fault). Err x) same
-  by (Some b) r g = in_slot b (slot s.around.sources.lists b (offset_of a)) r g
+      by : (o : Option ℕ) (r : Result Y ReadErr) → AddsIndexed raw s n o a.at (offset_of a) before old new r → Goes raw (IsState raw s n) before old new r (map_ok (found_in (by_base s (offset_of a) o)) (list_from s a o))
+      by None (Ok y) g = absurd g
+      by None (Err NoMemory) g = tt
+      by None (Err (Refused f)) g = let same : info_fault a.at BadList ≡ f = cc in ap (λ (x : Fault). Err x) same
+      by (Some b) r g = in_slot b (slot s.around.sources.lists b (offset_of a)) r g
 
 pub no_base_fails : (raw : List RawUnit) (s : Scope ℕ) (n at index : ℕ) (base : Option ℕ) (before : List NamedList) (old new : State) (e : ReadErr) → base ≡ None → e ≡ Refused (info_fault at BadList) → AddsIndexed {Y = Unit {0}} raw s n base at index before old new (Err e)
 no_base_fails raw s n at index None before old new NoMemory is same = tt
@@ -118,9 +118,9 @@ pub no_slot_fails : (raw : List RawUnit) (s : Scope ℕ) (n at index b : ℕ) (b
 no_slot_fails raw s n at index b base before old new e is none same =
     subst (λ (o : Option ℕ). AddsIndexed {Y = Unit {0}} raw s n o at index before old new (Err e)) (sym is)
     (subst (λ (o : Option ℕ). BySlot {Y = Unit {0}} raw s n b at index o before old new (Err e)) (sym none) (by e same)) where
-  by : (x : ReadErr) → x ≡ Refused (info_fault at BadList) → Fails {Y = LocList} x (no_list at)
-  by NoMemory eq = tt
-  by (Refused f) eq = let one : info_fault at BadList ≡ f = cc in ap (λ (y : Fault). Err y) one
+      by : (x : ReadErr) → x ≡ Refused (info_fault at BadList) → Fails {Y = LocList} x (no_list at)
+      by NoMemory eq = tt
+      by (Refused f) eq = let one : info_fault at BadList ≡ f = cc in ap (λ (y : Fault). Err y) one
 
 pub by_slot : {Y : Type 0} (raw : List RawUnit) (s : Scope ℕ) (n at index b offset place p : ℕ) (base : Option ℕ) (before : List NamedList) (old new : State) (result : Result Y ReadErr) → base ≡ Some b → slot s.around.sources.lists b index ≡ Some offset → place ≡ b + offset → p ≡ slot_place b index
     → AddsAt raw s n (Some p) at place before old new result → AddsIndexed raw s n base at index before old new result

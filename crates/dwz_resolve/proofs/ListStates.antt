@@ -149,9 +149,12 @@ shows_again raw named m l lists m_in unit from list none k =
       within = k.within;
       rows = λ l0 is. elim (in_both l0 named (l ∷ []) is) [
         | inl here ↦ k.rows l0 here
-        | inr there ↦ (let r = k.rows m m_in in let row = r.2 in
-            (r.0, r.1, subst (λ (x : NamedList). IsRowOf raw lists.operands.items x r.0) (in_last l0 l there)
-            (record { from = row.from ∙ from; end = row.end ∙ ap (λ (x : LocList). x.end) list; own = row.own ∙ (λ i. map (of_unit (unit i)) (operands_of (list i).exprs)) })))
+        | inr there ↦ (let r = k.rows m m_in in let row = r.2 in (
+          r.0,
+          r.1,
+          subst (λ (x : NamedList). IsRowOf raw lists.operands.items x r.0) (in_last l0 l there)
+              (record { from = row.from ∙ from; end = row.end ∙ ap (λ (x : LocList). x.end) list; own = row.own ∙ (λ i. map (of_unit (unit i)) (operands_of (list i).exprs)) }),
+        ))
       ];
       lists_of = λ w is. (let r = k.lists_of w is in (r.0, in_left r.0 named (l ∷ []) r.1, r.2));
       slots = λ l0 slot is e. elim (in_both l0 named (l ∷ []) is) [
@@ -170,7 +173,7 @@ pub shows_slot : (raw : List RawUnit) (named : List NamedList) (l m : NamedList)
 shows_slot raw named l m p old new none slot_is unit from list rows operands slots k =
     let row_of : (l0 : NamedList) (w : ListRow) → IsRowOf raw old.operands.items l0 w → IsRowOf raw new.operands.items l0 w = λ l0 w r. subst (λ (xs : List ListOperand). IsRowOf raw xs l0 w) (sym operands) r in
     let moved : (w : ListRow) → IsRowOf raw old.operands.items l w → IsRowOf raw new.operands.items m w = λ w r. (let q = row_of l w r in
-        record { from = q.from ∙ sym from; end = q.end ∙ ap (λ (x : LocList). x.end) (sym list); own = q.own ∙ (λ i. map (of_unit (sym unit i)) (operands_of (sym list i).exprs)) }) in
+    record { from = q.from ∙ sym from; end = q.end ∙ ap (λ (x : LocList). x.end) (sym list); own = q.own ∙ (λ i. map (of_unit (sym unit i)) (operands_of (sym list i).exprs)) }) in
     let was : (w : ListRow) → In w new.rows.items → In w old.rows.items = λ w is. subst (λ (xs : List ListRow). In w xs) rows is in
     let now : (w : ListRow) → In w old.rows.items → In w new.rows.items = λ w is. subst (λ (xs : List ListRow). In w xs) (sym rows) is in
     record {
@@ -190,9 +193,9 @@ shows_slot raw named l m p old new none slot_is unit from list rows operands slo
       ];
       slots_of = λ slot is. elim (in_both slot old.slots.items (p ∷ []) (subst (λ (xs : List ℕ). In slot xs) slots is)) [
         | inl here ↦ (let r = k.slots_of slot here in elim (in_both r.0 named (l ∷ []) r.1) [
-            | inl front ↦ (r.0, in_left r.0 named (m ∷ []) front, r.2)
-            | inr there ↦ absurd (let no : None ≡ Some slot = sym none ∙ ap (λ (x : NamedList). x.slot) (in_last r.0 l there) ∙ r.2 in cc)
-          ])
+          | inl front ↦ (r.0, in_left r.0 named (m ∷ []) front, r.2)
+          | inr there ↦ absurd (let no : None ≡ Some slot = sym none ∙ ap (λ (x : NamedList). x.slot) (in_last r.0 l there) ∙ r.2 in cc)
+        ])
         | inr there ↦ (m, at_end named m, slot_is ∙ ap (λ (n : ℕ). Some n) (in_last slot p there))
       ];
       operands_of = λ o is. (let r = k.operands_of o (subst (λ (xs : List ListOperand). In o xs) operands is) in (r.0, now r.0 r.1, subst (λ (xs : List ListOperand). In o (own_rows xs r.0)) (sym operands) r.2));
@@ -206,11 +209,14 @@ seen_again : (s : Scope ℕ) (n : ℕ) (named : List NamedList) (l : NamedList) 
 seen_again s n named l seen h = λ place number e. (let r = h place number e in (r.0, λ same. (let q = r.1 same in (q.0, in_left q.0 named (l ∷ []) q.1, q.2))))
 
 seen_slot : (s : Scope ℕ) (n : ℕ) (named : List NamedList) (l m : NamedList) (seen : ℕ → Option ℕ) → m.unit ≡ l.unit → m.from ≡ l.from → m.list ≡ l.list → WereSeen s n (named ++ l ∷ []) seen → WereSeen s n (named ++ m ∷ []) seen
-seen_slot s n named l m seen unit from list h = λ place number e. (let r = h place number e in (r.0, λ same. (let q = r.1 same in elim (in_both q.0 named (l ∷ []) q.1) [
-  | inl here ↦ (q.0, in_left q.0 named (m ∷ []) here, q.2)
-  | inr there ↦ (let at = subst (λ (x : NamedList). IsListAt s place x) (sym (in_last q.0 l there)) q.2 in
-      (m, at_end named m, record { unit = unit ∙ at.unit; from = from ∙ at.from; read = at.read ∙ ap (λ (x : LocList). Ok x) (sym list) }))
-])))
+seen_slot s n named l m seen unit from list h = λ place number e. (let r = h place number e in (
+  r.0,
+  λ same. (let q = r.1 same in elim (in_both q.0 named (l ∷ []) q.1) [
+    | inl here ↦ (q.0, in_left q.0 named (m ∷ []) here, q.2)
+    | inr there ↦ (let at = subst (λ (x : NamedList). IsListAt s place x) (sym (in_last q.0 l there)) q.2 in
+        (m, at_end named m, record { unit = unit ∙ at.unit; from = from ∙ at.from; read = at.read ∙ ap (λ (x : LocList). Ok x) (sym list) }))
+  ]),
+))
 
 seen_more : (s : Scope ℕ) (n place : ℕ) (named : List NamedList) (l : NamedList) (old new : ℕ → Option ℕ) → IsListAt s place l → ((q : ℕ) → new q ≡ cond (nat_eq place q) (Some n) (old q)) → WereSeen s n named old → WereSeen s n (named ++ l ∷ []) new
 seen_more s n place named l old new at updates h = λ q number e. elim (cases_Bool (nat_eq place q)) [

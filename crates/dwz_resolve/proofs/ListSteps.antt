@@ -69,9 +69,9 @@ module _ (raw : List RawUnit) (s : Scope ℕ) (n : ℕ) (operands : List Operand
         ];
         named = first_of (is_named s) (take k operands) (o ∷ []) h.named ∙ one_named (is_named s) o named;
       }) where
-    last : (p : ListOperand) → In p (x ∷ []) → p.unit ≡ n
-    last p (inl same) = sym (ap (λ (y : ListOperand). y.unit) same) ∙ unit
-    last p (inr there) = absurd there
+        last : (p : ListOperand) → In p (x ∷ []) → p.unit ≡ n
+        last p (inl same) = sym (ap (λ (y : ListOperand). y.unit) same) ∙ unit
+        last p (inr there) = absurd there
 
   pub kept_unnamed : (old mid : List ListOperand) (k : ℕ) (d : Operand) → k < length operands → is_named s (get_or operands k d) ≡ false → AreOperands raw s n (take k operands) old mid → IsUnnamed s 7 operands (bad_operand (expr_context s 7) (get_or operands k d).at)
   kept_unnamed old mid k d lt none h =

@@ -71,14 +71,7 @@ fn add_as(
             here.at as u128 + offset,
             &mut state.refs,
         ),
-        Class::InfoEntry => add_entry(
-            units,
-            0,
-            units.entries(),
-            at,
-            offset,
-            &mut state.refs,
-        ),
+        Class::InfoEntry => add_entry(units, 0, units.entries(), at, offset, &mut state.refs),
         Class::Signature => Ok(()),
         Class::Offset => add_offset(units, sections, here, at, pair.name, offset, state),
         Class::Expression => add_expression(units, sections, here, end, raw, state),
@@ -147,12 +140,7 @@ fn add_values(
 }
 
 // Adds what the entries of a unit name.
-fn add_unit(
-    units: &Units,
-    sections: &Sections,
-    n: u32,
-    state: &mut State,
-) -> Result<(), ReadErr>
+fn add_unit(units: &Units, sections: &Sections, n: u32, state: &mut State) -> Result<(), ReadErr>
     requires { n < length (units_of units.now) }
     ensures { (u : RawUnit) (before : List NamedList) → slice_get (units_of units.now) n ≡ Some u → StateAt sections.now (units_of units.now) n before state.old → Goes (units_of units.now) (StateAt sections.now (units_of units.now) (n + 1)) before state.old state.new result (unit_named (around sections.now (units_of units.now)) u) }
 {

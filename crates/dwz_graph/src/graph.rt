@@ -12,8 +12,8 @@ ghost use Rattle.dwz_graph.specs.Files.{FilesAnswer, HasFile, HasRead, docs_of, 
 ghost use Rattle.dwz_unit.specs.Rows.{units_of};
 
 use crate::file::{File, Left, read_file};
-use dwz_resolve::ListOperand;
 use dwz_model::{GraphErr, ReadErr, Refusal};
+use dwz_resolve::ListOperand;
 use std::alloc::Global;
 use std::marker::Model;
 

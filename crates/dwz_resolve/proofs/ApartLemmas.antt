@@ -158,13 +158,13 @@ parted_behind rows place low high stop h =
       before = λ k r e l. let below = h.below k l in let is = ends_at rows k r e in omega arith;
       after = λ k r e l. (let is = ends_at rows k r e in let at = at_within rows k r e in let above = h.above k (omega arith) (omega arith) in omega arith);
     } where
-  ends_at : (rows : List ListOperand) (k : ℕ) (r : ListOperand) → slice_get rows k ≡ Some r → get_or (ends rows) k 0 ≡ r.at + r.width
-  ends_at rows k r e = get_or_from_slice_get (ends rows) k (r.at + r.width) 0 (slice_get-map (λ (o : ListOperand). o.at + o.width) rows k ∙ ap (option_map (λ (o : ListOperand). o.at + o.width)) e)
+      ends_at : (rows : List ListOperand) (k : ℕ) (r : ListOperand) → slice_get rows k ≡ Some r → get_or (ends rows) k 0 ≡ r.at + r.width
+      ends_at rows k r e = get_or_from_slice_get (ends rows) k (r.at + r.width) 0 (slice_get-map (λ (o : ListOperand). o.at + o.width) rows k ∙ ap (option_map (λ (o : ListOperand). o.at + o.width)) e)
 
-  at_within : (rows : List ListOperand) (k : ℕ) (r : ListOperand) → slice_get rows k ≡ Some r → k < length rows
-  at_within [] k r e = absurd cc
-  at_within (o ∷ rows) zero r e = omega arith
-  at_within (o ∷ rows) (suc k) r e = let more = at_within rows k r e in omega arith
+      at_within : (rows : List ListOperand) (k : ℕ) (r : ListOperand) → slice_get rows k ≡ Some r → k < length rows
+      at_within [] k r e = absurd cc
+      at_within (o ∷ rows) zero r e = omega arith
+      at_within (o ∷ rows) (suc k) r e = let more = at_within rows k r e in omega arith
 
 pub map_get : {X : Type 0} (f : X → ℕ) (xs : List X) (k : ℕ) (d : X) → k < length xs → get_or (map f xs) k 0 ≡ f (get_or xs k d)
 map_get f [] k d l = absurd (omega arith)
@@ -385,11 +385,11 @@ among_first xs k o p rise e is lt =
           let high = ap (λ (w : ListOperand). w.at) b in
           absurd (omega arith)
     ] where
-  in_first : (xs : List ListOperand) (i k : ℕ) (p : ListOperand) → slice_get xs i ≡ Some p → i < k → In p (take k xs)
-  in_first [] i k p e l = absurd cc
-  in_first (x ∷ xs) i zero p e l = absurd (omega arith)
-  in_first (x ∷ xs) zero (suc k) p e l = inl (let same : x ≡ p = cc in same)
-  in_first (x ∷ xs) (suc i) (suc k) p e l = inr (in_first xs i k p e (omega arith))
+      in_first : (xs : List ListOperand) (i k : ℕ) (p : ListOperand) → slice_get xs i ≡ Some p → i < k → In p (take k xs)
+      in_first [] i k p e l = absurd cc
+      in_first (x ∷ xs) i zero p e l = absurd (omega arith)
+      in_first (x ∷ xs) zero (suc k) p e l = inl (let same : x ≡ p = cc in same)
+      in_first (x ∷ xs) (suc i) (suc k) p e l = inr (in_first xs i k p e (omega arith))
 
 before_or_at : (xs : List ListOperand) (k : ℕ) (o p : ListOperand) → Rise xs → slice_get xs k ≡ Some o → In p (take k xs) → p.at ≤ o.at
 before_or_at xs k o p rise e is =
@@ -402,12 +402,12 @@ before_or_at xs k o p rise e is =
     let high = ap (λ (w : ListOperand). w.at) a in
     let low = ap (λ (w : ListOperand). w.at) b in
     omega arith where
-  index_of : (xs : List ListOperand) (k : ℕ) (p : ListOperand) → In p (take k xs) → (i : ℕ) × (i < k) × (slice_get xs i ≡ Some p)
-  index_of [] zero p is = absurd is
-  index_of [] (suc k) p is = absurd is
-  index_of (x ∷ xs) zero p is = absurd is
-  index_of (x ∷ xs) (suc k) p (inl e) = (0, omega arith, ap (λ (w : ListOperand). Some w) e)
-  index_of (x ∷ xs) (suc k) p (inr later) = let r = index_of xs k p later in let lt = r.1 in (suc r.0, omega arith, r.2)
+      index_of : (xs : List ListOperand) (k : ℕ) (p : ListOperand) → In p (take k xs) → (i : ℕ) × (i < k) × (slice_get xs i ≡ Some p)
+      index_of [] zero p is = absurd is
+      index_of [] (suc k) p is = absurd is
+      index_of (x ∷ xs) zero p is = absurd is
+      index_of (x ∷ xs) (suc k) p (inl e) = (0, omega arith, ap (λ (w : ListOperand). Some w) e)
+      index_of (x ∷ xs) (suc k) p (inr later) = let r = index_of xs k p later in let lt = r.1 in (suc r.0, omega arith, r.2)
 
 pub clash_found : (xs kept : List ListOperand) (last : Option ListOperand) (end k : ℕ) (o : ListOperand) → Rise xs → slice_get xs k ≡ Some o → repeats_last last o ≡ false → o.at < end → Passed (take k xs) kept last end → FindsApart xs kept (Some o.at)
 clash_found xs kept None end k o rise e other lt h = absurd (let none = h.last_is in omega arith)

@@ -16,3 +16,8 @@ pub mod StandLemmas
 pub mod ApartLemmas
 pub mod SharedLaw
 pub mod OperandSteps
+pub mod FileSteps
+pub mod ListSteps
+pub mod ConstantSteps
+pub mod ListStates
+pub mod ListGoes

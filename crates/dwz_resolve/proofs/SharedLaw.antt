@@ -191,13 +191,17 @@ module _ (raw : List RawUnit) (named : List NamedList) (lists : Lists) (shows : 
           let end = l.2.end in
           let low = g.2 in
           let to = in_list in
-          inr (inl (l.0, l.1, record {
-            byte = b;
-            has = of_row;
-            from = (let r : l.0.from ≤ b = omega arith in r);
-            to = (let r : b < l.0.list.end = omega arith in r);
-            others = λ p own h. (decides_any (has_byte b) (λ p. HasByte p b) (has_decides b) (own_operands l.0)).no e (p, own, h);
-          }))
+          inr (inl (
+            l.0,
+            l.1,
+            record {
+              byte = b;
+              has = of_row;
+              from = (let r : l.0.from ≤ b = omega arith in r);
+              to = (let r : b < l.0.list.end = omega arith in r);
+              others = λ p own h. (decides_any (has_byte b) (λ p. HasByte p b) (has_decides b) (own_operands l.0)).no e (p, own, h);
+            },
+          ))
       by true e =
           let p = (decides_any (has_byte b) (λ p. HasByte p b) (has_decides b) (own_operands l.0)).yes e in
           let o = own_kept l.0 w l.2 p.0 p.1 in

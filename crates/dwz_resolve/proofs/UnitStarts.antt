@@ -60,9 +60,9 @@ module _ (abbrevs : List ℕ) (room : ℕ) where
       let parts = length-append one.header (one.tree ++ one.padding) in
       let rest = starts_ascend raw _ (start + length a) b is.second in
       (omega arith, lower (starts raw) (start + length a) (u.at + 1) (start + length bytes) (omega arith) (subst (λ (k : ℕ). Ascend (start + length a) (starts raw) k) len rest)) where
-    lower : (ps : List ℕ) (a c b : ℕ) → c ≤ a → Ascend a ps b → Ascend c ps b
-    lower [] a c b le h = omega (arith, le, h)
-    lower (p ∷ ps) a c b le h = (omega (arith, le, h.0), h.1)
+        lower : (ps : List ℕ) (a c b : ℕ) → c ≤ a → Ascend a ps b → Ascend c ps b
+        lower [] a c b le h = omega (arith, le, h)
+        lower (p ∷ ps) a c b le h = (omega (arith, le, h.0), h.1)
 
 -- ---- of units that are read
 

@@ -20,7 +20,7 @@ loop-low-preserved-then-row-place c =
       order = omega arith;
       within = omega arith;
       parted = λ top rows. parted_up (ends c.args.kept.now) c.args.place c.loop-low.low c.loop-low.high _ _ (ends_rise c.args.kept.now 0 top rows) (omega arith) (omega arith)
-      (map_get (λ (o : ListOperand). o.at + o.width) c.args.kept.now _ _ (omega arith)) c.if-row-place.true (c.loop-low.invariant.parted top rows);
+          (map_get (λ (o : ListOperand). o.at + o.width) c.args.kept.now _ _ (omega arith)) c.if-row-place.true (c.loop-low.invariant.parted top rows);
     }
 
 pub loop-low-preserved : goal.loop-low-preserved
@@ -32,7 +32,7 @@ loop-low-preserved c =
       order = omega arith;
       within = omega arith;
       parted = λ top rows. parted_down (ends c.args.kept.now) c.args.place c.loop-low.low c.loop-low.high _ _ (ends_rise c.args.kept.now 0 top rows) (omega arith) (omega arith)
-      (map_get (λ (o : ListOperand). o.at + o.width) c.args.kept.now _ _ (omega arith)) c.if-row-place.false (c.loop-low.invariant.parted top rows);
+          (map_get (λ (o : ListOperand). o.at + o.width) c.args.kept.now _ _ (omega arith)) c.if-row-place.false (c.loop-low.invariant.parted top rows);
     }
 
 pub returns-clause-behind : goal.returns-clause-behind

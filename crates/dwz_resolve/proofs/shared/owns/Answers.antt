@@ -17,7 +17,7 @@ loop-low-preserved-then-at-place-2 c =
     record {
       within = omega arith;
       searched = λ top rows. search_up (places_of_rows c.args.own.now) 0 (length c.args.own.now) c.args.place c.loop-low.low c.loop-low.high _ _ (rows_rise c.args.own.now 0 top rows) (omega arith) (omega arith) (omega arith)
-      (map_get (λ (o : ListOperand). o.at) c.args.own.now _ _ (omega arith)) c.if-at-place-2.true (c.loop-low.invariant.searched top rows);
+          (map_get (λ (o : ListOperand). o.at) c.args.own.now _ _ (omega arith)) c.if-at-place-2.true (c.loop-low.invariant.searched top rows);
     }
 
 pub loop-low-preserved : goal.loop-low-preserved
@@ -28,7 +28,7 @@ loop-low-preserved c =
     record {
       within = omega arith;
       searched = λ top rows. search_down (places_of_rows c.args.own.now) 0 (length c.args.own.now) c.args.place c.loop-low.low c.loop-low.high _ _ (rows_rise c.args.own.now 0 top rows) (omega arith) (omega arith) (omega arith)
-      (map_get (λ (o : ListOperand). o.at) c.args.own.now _ _ (omega arith)) (above _ _ c.if-at-place.false c.if-at-place-2.false) (c.loop-low.invariant.searched top rows);
+          (map_get (λ (o : ListOperand). o.at) c.args.own.now _ _ (omega arith)) (above _ _ c.if-at-place.false c.if-at-place-2.false) (c.loop-low.invariant.searched top rows);
     }
 
 pub returns-then-at-place : goal.returns-then-at-place

@@ -16,3 +16,6 @@ pub mod StandLemmas
 pub mod ApartLemmas
 pub mod SharedLaw
 pub mod OperandSteps
+pub mod FileSteps
+pub mod ListSteps
+pub mod ConstantSteps

@@ -33,9 +33,13 @@ looks_up raw s o first end place (Some i) among within is found none =
     (omega arith, found.2 ∙ is, among_there raw first end i (target_of s o) (entries_for s o.base) among within found.0 found.1 (found.2 ∙ is))
 looks_up raw s o first end place None among within is found none = among_none raw first end (target_of s o) (entries_for s o.base) among (λ i low high e. none refl i low high (e ∙ sym is))
 
+pub below : (raw : List RawUnit) (first end : ℕ) (r : Option ℕ) (place : ℕ) → end ≤ entries_in raw → IfSome r (λ i. (first ≤ i) × (i < end) × (place_at raw i ≡ place)) → IfSome r (λ i. i < entries_in raw)
+below raw first end (Some i) place le h = let lt = h.1 in omega arith
+below raw first end None place le h = tt
+
 -- ---- operand by operand
 
-first_of : (names : Operand → Bool) (xs ys : List Operand) → first_unnamed names xs ≡ None → first_unnamed names (xs ++ ys) ≡ first_unnamed names ys
+pub first_of : (names : Operand → Bool) (xs ys : List Operand) → first_unnamed names xs ≡ None → first_unnamed names (xs ++ ys) ≡ first_unnamed names ys
 unfolding first_unnamed
 first_of names [] ys e = refl
 first_of names (o ∷ xs) ys e = by (names o) refl (λ g. first_of names xs ys g) where
@@ -43,11 +47,11 @@ first_of names (o ∷ xs) ys e = by (names o) refl (λ g. first_of names xs ys g
   by true t next = cond-true (names o) (first_unnamed names (xs ++ ys)) (Some o) t ∙ next (sym (cond-true (names o) (first_unnamed names xs) (Some o) t) ∙ e)
   by false f next = absurd (let bad : Some o ≡ None = sym (cond-false (names o) (first_unnamed names xs) (Some o) f) ∙ e in cc)
 
-one_named : (names : Operand → Bool) (o : Operand) → names o ≡ true → first_unnamed names (o ∷ []) ≡ None
+pub one_named : (names : Operand → Bool) (o : Operand) → names o ≡ true → first_unnamed names (o ∷ []) ≡ None
 unfolding first_unnamed
 one_named names o t = cond-true (names o) None (Some o) t
 
-one_unnamed : (names : Operand → Bool) (o : Operand) (rest : List Operand) → names o ≡ false → first_unnamed names (o ∷ rest) ≡ Some o
+pub one_unnamed : (names : Operand → Bool) (o : Operand) (rest : List Operand) → names o ≡ false → first_unnamed names (o ∷ rest) ≡ Some o
 unfolding first_unnamed
 one_unnamed names o rest f = cond-false (names o) (first_unnamed names rest) (Some o) f
 

@@ -7,3 +7,5 @@ pub mod State
 pub mod Resolved
 pub mod Said
 pub mod Operands
+pub mod FileRows
+pub mod ListSteps

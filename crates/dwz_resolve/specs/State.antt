@@ -1,15 +1,31 @@
 -- What is kept of the values that were looked at.
-use Rattle.std.specs.Prelude.{◌≡◌, ℕ, List}
+use Rattle.std.specs.Prelude.{◌≡◌, ℕ, ◌<◌, ◌≤◌, List, Option, Some, Ok, nat_eq}
+use Rattle.std.specs.HashMap.{HashMap, get}
 use Rattle.dwz_docs.specs.Units.{RawUnit}
-use Rattle.dwz_meanings.specs.Meanings.{Around, Scope}
-use Rattle.dwz_meanings.specs.Shared.{NamedList}
+use Rattle.dwz_meanings.specs.Meanings.{Around, Scope, list_read}
+use Rattle.dwz_meanings.specs.Shared.{NamedList, OneOf}
 use Rattle.dwz_resolve.specs.declared.state.State.{State}
+use Rattle.dwz_resolve.specs.FileRows.{KnowTables}
 use Rattle.dwz_resolve.specs.ListRows.{Shows}
+
+-- the list that stands at a place, as the unit names it
+pub record IsListAt (s : Scope ℕ) (place : ℕ) (l : NamedList) : Type 0 where
+  pub unit : l.unit ≡ s.unit
+  pub from : l.from ≡ place
+  pub read : list_read s place ≡ Ok l.list
+
+-- each place that was seen last in the n-th unit is that of a list which this unit names
+abbrev pub WereSeen : Scope ℕ → ℕ → List NamedList → (ℕ → Option ℕ) → Type 0
+WereSeen s n named seen = (place number : ℕ) → seen place ≡ Some number → (number ≤ n) × (number ≡ n → OneOf named (IsListAt s place))
 
 -- behind values of the units before the n-th, and of some of that one, whose scope this is; these lists are named
 pub record IsState (raw : List RawUnit) (s : Scope ℕ) (n : ℕ) (named : List NamedList) (st : State) : Type 0 where
   pub shows : Shows raw named st.lists
+  pub tables : KnowTables s.around.sources st.files
+  pub seen : WereSeen s n named (get nat_eq st.lists.seen)
 
 -- the same, behind the units before the n-th
 pub record IsBehind (raw : List RawUnit) (around : Around ℕ) (n : ℕ) (named : List NamedList) (st : State) : Type 0 where
   pub shows : Shows raw named st.lists
+  pub tables : KnowTables around.sources st.files
+  pub seen : (place number : ℕ) → get nat_eq st.lists.seen place ≡ Some number → number < n

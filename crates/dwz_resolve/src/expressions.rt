@@ -1,6 +1,6 @@
 //! Expressions that values are (DWARF 5, 2.5), and the entries that their operands name.
 
-ghost use Rattle.std.specs.Prelude.{◌≡◌, ◌-◌, ◌≤◌, List, length};
+ghost use Rattle.std.specs.Prelude.{◌≡◌, ◌-◌, ◌<◌, ◌≤◌, List, length, IfSome};
 ghost use Rattle.dwz_docs.specs.Units.{RawUnit, entries_in};
 ghost use Rattle.dwz_forms.specs.RawValues.{raw_view};
 ghost use Rattle.dwz_meanings.specs.Meanings;
@@ -40,7 +40,8 @@ pub(crate) fn entry_of(
     operand: &Operand,
 ) -> Option<u32>
     requires { here.now.end ≤ entries_in (units_of units.now) }
-    ensures { (u : RawUnit) → IsHere (units_of units.now) u here.now → LooksUp (units_of units.now) (scope_in sections.now (units_of units.now) u) operand.now result }
+    ensures within { IfSome result (λ i. i < entries_in (units_of units.now)) }
+    ensures looks { (u : RawUnit) → IsHere (units_of units.now) u here.now → LooksUp (units_of units.now) (scope_in sections.now (units_of units.now) u) operand.now result }
 {
     let _sections = sections;
     match operand.base {
@@ -56,7 +57,7 @@ pub(crate) fn entry_of(
 
 // Whether memory ran out.
 #[inline(always)]
-fn is_no_memory(read: &Result<bool, ReadErr>) -> bool
+pub(crate) fn is_no_memory<T>(read: &Result<T, ReadErr>) -> bool
     ensures { result ≡ lacks_memory read.now }
 {
     match read {

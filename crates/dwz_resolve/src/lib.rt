@@ -3,6 +3,7 @@
 
 mod class;
 mod expressions;
+mod files;
 mod find;
 mod here;
 mod kinds;

@@ -3,8 +3,9 @@
 ghost use Rattle.std.specs.Prelude.{◌≡◌, ℕ, ◌+◌, ◌<◌, ◌≤◌, List, [], Some, length, slice_get};
 ghost use Rattle.dwz_docs.specs.Units.{RawUnit, entries_in};
 ghost use Rattle.dwz_meanings.specs.Meanings;
-ghost use Rattle.dwz_meanings.specs.Meanings.{as_class};
+ghost use Rattle.dwz_meanings.specs.Meanings.{as_class, not_built};
 ghost use Rattle.dwz_meanings.specs.NamedLists.{lists_as};
+ghost use Rattle.dwz_model.specs.declared.fault.ReadErr.TheVariants.{Refused};
 ghost use Rattle.dwz_meanings.specs.Shared.{NamedList};
 ghost use Rattle.dwz_resolve.specs.Classes.{class_view};
 ghost use Rattle.dwz_resolve.specs.Named.{attr_named, entry_named, found_in, map_ok, unit_named, units_named};
@@ -13,15 +14,27 @@ ghost use Rattle.dwz_unit.specs.Rows.{EntryRow, rows_of, units_of};
 
 use crate::class::{Class, class_of};
 use crate::expressions::add_expression;
+use crate::files::check_constant;
 use crate::here::{Here, here_of};
 use crate::kinds::check_kind;
-use crate::references::add_entry;
+use crate::references::{add_entry, bad_reference};
 use crate::sections::{Sections, offset_of};
 use crate::state::State;
-use crate::strings::{check_text, has_slot_text};
+use crate::strings::{bad_string, check_text, has_slot_text};
 use dwz_forms::Raw;
-use dwz_model::{Pair, ReadErr};
+use dwz_model::{Fault, Pair, ReadErr, Reason};
 use dwz_unit::{Units, Values, known_value};
+
+// No such form is read.
+fn not_built() -> ReadErr
+    ensures { result ≡ Refused not_built }
+{
+    ReadErr::Refused(Fault {
+        section: 0,
+        at: 0,
+        reason: Reason::NotBuilt,
+    })
+}
 
 // Adds what a value of that class names.
 #[inline(always)]
@@ -43,7 +56,7 @@ fn add_as(
     match class {
         Class::Address => Ok(()),
         Class::Block => Ok(()),
-        Class::Constant => Err(ReadErr::NoMemory),
+        Class::Constant => check_constant(sections, here, at, pair.name, raw, &mut state.files),
         Class::Flag => Ok(()),
         Class::Text => Ok(()),
         Class::TextInStr => check_text(sections.strs.has(offset), at),
@@ -70,9 +83,9 @@ fn add_as(
         Class::Expression => add_expression(units, sections, here, end, raw, state),
         Class::ListIndex => Err(ReadErr::NoMemory),
         Class::Index => Ok(()),
-        Class::CommonEntry => Err(ReadErr::NoMemory),
-        Class::CommonText => Err(ReadErr::NoMemory),
-        Class::Unread => Err(ReadErr::NoMemory),
+        Class::CommonEntry => Err(bad_reference(at)),
+        Class::CommonText => Err(bad_string(at)),
+        Class::Unread => Err(not_built()),
     }
 }
 

@@ -15,7 +15,8 @@ use dwz_unit::Units;
 
 const INFO: u8 = 1;
 
-fn bad_reference(at: u64) -> ReadErr
+/// No entry begins where a value says.
+pub(crate) fn bad_reference(at: u64) -> ReadErr
     ensures { result ≡ Refused (info_fault at BadReference) }
 {
     ReadErr::Refused(Fault {

@@ -167,7 +167,7 @@ fn foreign_to_list(kept: &[ListOperand], operands: &[ListOperand], list: &ListRo
     ensures { (top high : ℕ) → Rows 0 kept.now top → Rows 0 (own_rows operands.now list.now) high → FindsForeign kept.now (row_test operands.now list.now) result }
 {
     let own = &operands[list.first..list.last];
-    foreign(kept, list.from as u64, list.end as u64, own)
+    foreign(kept, list.from, list.end, own)
 }
 
 // The place of the first of the rows that has a byte of a slot.

@@ -1,10 +1,15 @@
 //! What is kept of the values that were looked at.
 
-ghost use Rattle.std.specs.Prelude.{◌≡◌, []};
+ghost use Rattle.std.specs.Prelude.{◌≡◌, ℕ, [], None, nat_eq};
+ghost use Rattle.std.specs.HashMap.{get};
+ghost use Rattle.dwz_meanings.specs.Meanings.{Sources};
+ghost use Rattle.dwz_resolve.specs.FileRows.{KnowTables};
 
+use crate::files::Files;
 use crate::lists::Lists;
 use dwz_expr::Operand;
 use std::alloc::Global;
+use std::collections::HashMap;
 
 /// What is kept of the values that were looked at.
 #[derive(Drop)]
@@ -13,6 +18,8 @@ pub(crate) struct State {
     pub refs: Vec<u32>,
     /// The location lists that they name.
     pub lists: Lists,
+    /// The line tables that they name rows of.
+    pub files: Files,
     /// Operands of the expression that was read last, kept for the room that they have.
     pub operands: Vec<Operand>,
 }
@@ -23,6 +30,8 @@ impl State {
         ensures rows { result.lists.rows.items ≡ [] }
         ensures operands { result.lists.operands.items ≡ [] }
         ensures slots { result.lists.slots.items ≡ [] }
+        ensures seen { (place : ℕ) → get nat_eq result.lists.seen place ≡ None }
+        ensures tables { (sources : Sources) → KnowTables sources result.files }
     {
         State {
             refs: Vec::new(alloc),
@@ -30,7 +39,9 @@ impl State {
                 rows: Vec::new(alloc),
                 operands: Vec::new(alloc),
                 slots: Vec::new(alloc),
+                seen: HashMap::new(alloc),
             },
+            files: Files::new(alloc),
             operands: Vec::new(alloc),
         }
     }

@@ -11,7 +11,8 @@ use dwz_model::{Fault, ReadErr, Reason};
 
 const INFO: u8 = 1;
 
-fn bad_string(at: u64) -> ReadErr
+/// No text stands where a value says.
+pub(crate) fn bad_string(at: u64) -> ReadErr
     ensures { result ≡ Refused (info_fault at BadString) }
 {
     ReadErr::Refused(Fault {

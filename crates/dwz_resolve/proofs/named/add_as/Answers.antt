@@ -13,6 +13,7 @@ use Rattle.dwz_resolve.specs.Classes.{class_view}
 use Rattle.dwz_resolve.specs.Named.{Found, found_in, map_ok}
 use Rattle.dwz_resolve.specs.Resolved.{Goes, StateIn, places, scope_in, stored}
 use Rattle.dwz_unit.specs.Rows.{units_of}
+use Rattle.dwz_resolve.proofs.ConstantSteps.{constant_goes}
 use Rattle.dwz_resolve.proofs.NamedSteps.{entry_goes}
 use Rattle.dwz_resolve.proofs.PlaceLemmas.{all_are}
 use Rattle.dwz_resolve.proofs.TextSteps.{IsTest, plain_goes, slot_tells, test_goes, text_tells}
@@ -122,3 +123,12 @@ returns-in-Expression c = λ u before here k. (
     let a = stored c.args.at c.args.end c.args.pair.now c.args.raw.now in
     let K = StateIn c.args.sections.now raw u c.args.here.now in
     subst (λ (r : Result Found Fault). Goes raw K before c.args.state.now c.add_expression.new.state c.add_expression.result r) (ap (named_as s a) (sym c.in-Expression.is)) (c.add_expression.ensures u before here k))
+
+pub returns-in-Constant : goal.returns-in-Constant
+returns-in-Constant c = λ u before here k. (
+    let raw = units_of c.args.units.now in
+    let s = scope_in c.args.sections.now raw u in
+    let a = stored c.args.at c.args.end c.args.pair.now c.args.raw.now in
+    let K = StateIn c.args.sections.now raw u c.args.here.now in
+    subst (λ (r : Result Found Fault). Goes raw K before c.args.state.now (record c.args.state.now { files = c.check_constant.new.files }) c.check_constant.result r) (ap (named_as s a) (sym c.in-Constant.is))
+    (constant_goes raw s c.args.here.now.number before c.args.state.now c.check_constant.new.files a c.args.here.now.line c.check_constant.result here.line k (c.check_constant.ensures k.tables)))

@@ -16,7 +16,7 @@ returns-in_err-add_units-clause-answers c =
     let raw = units_of c.args.units.now in
     let a = around c.args.sections.now raw in
     let n = c.new-state.ensures in
-    rw (p.1, p.2) (said_fail a raw c.args.sections.now.aranges.now c.in_err-add_units.field-0.0 (c.in_err-add_units.ensures (none_behind raw a c.new-state.result n.rows n.operands n.slots)))
+    rw (p.1, p.2) (said_fail a raw c.args.sections.now.aranges.now c.in_err-add_units.field-0.0 (c.in_err-add_units.ensures (none_behind raw a c.new-state.result n.rows n.operands n.slots n.seen (n.tables a.sources))))
 
 pub returns-in_err-check_ranges-clause-answers : goal.returns-in_err-check_ranges-clause-answers
 returns-in_err-check_ranges-clause-answers c =
@@ -24,7 +24,7 @@ returns-in_err-check_ranges-clause-answers c =
     let raw = units_of c.args.units.now in
     let a = around c.args.sections.now raw in
     let n = c.new-state.ensures in
-    let added = c.in_ok-add_units.ensures (none_behind raw a c.new-state.result n.rows n.operands n.slots) in
+    let added = c.in_ok-add_units.ensures (none_behind raw a c.new-state.result n.rows n.operands n.slots n.seen (n.tables a.sources)) in
     rw (p.1, p.2) (sets_fail a raw c.args.sections.now.aranges.now (map (place_at raw) added.more) added.lists c.in_err-check_ranges.field-0.0 added.is c.in_err-check_ranges.ensures)
 
 pub unshared-requires : goal.unshared-requires
@@ -32,7 +32,7 @@ unshared-requires c =
     let raw = units_of c.args.units.now in
     let a = around c.args.sections.now raw in
     let n = c.new-state.ensures in
-    let added = c.in_ok-add_units.ensures (none_behind raw a c.new-state.result n.rows n.operands n.slots) in
+    let added = c.in_ok-add_units.ensures (none_behind raw a c.new-state.result n.rows n.operands n.slots n.seen (n.tables a.sources)) in
     added.keeps.shows.within
 
 pub returns-in_err-operands-clause-answers : goal.returns-in_err-operands-clause-answers
@@ -41,7 +41,7 @@ returns-in_err-operands-clause-answers c =
     let raw = units_of c.args.units.now in
     let a = around c.args.sections.now raw in
     let n = c.new-state.ensures in
-    let added = c.in_ok-add_units.ensures (none_behind raw a c.new-state.result n.rows n.operands n.slots) in
+    let added = c.in_ok-add_units.ensures (none_behind raw a c.new-state.result n.rows n.operands n.slots n.seen (n.tables a.sources)) in
     rw (p.1, p.2) (lists_fail a raw c.args.sections.now.aranges.now (map (place_at raw) added.more) added.lists c.in_err-operands.field-0.0 added.is c.in_ok-check_ranges.ensures (c.in_err-operands.ensures.err raw added.lists added.keeps.shows (starts_distinct c.args.units.now)))
 
 pub returns-clause-within : goal.returns-clause-within
@@ -49,7 +49,7 @@ returns-clause-within c =
     let raw = units_of c.args.units.now in
     let a = around c.args.sections.now raw in
     let n = c.new-state.ensures in
-    let added = c.in_ok-add_units.ensures (none_behind raw a c.new-state.result n.rows n.operands n.slots) in
+    let added = c.in_ok-add_units.ensures (none_behind raw a c.new-state.result n.rows n.operands n.slots n.seen (n.tables a.sources)) in
     let same = added.refs ∙ ap (λ (w : List ℕ). w ++ added.more) n.refs in
     subst (λ (w : List ℕ). AreEntries raw w) (sym same) added.within
 
@@ -58,7 +58,7 @@ returns-clause-operands c =
     let raw = units_of c.args.units.now in
     let a = around c.args.sections.now raw in
     let n = c.new-state.ensures in
-    let added = c.in_ok-add_units.ensures (none_behind raw a c.new-state.result n.rows n.operands n.slots) in
+    let added = c.in_ok-add_units.ensures (none_behind raw a c.new-state.result n.rows n.operands n.slots n.seen (n.tables a.sources)) in
     let un = c.in_ok-operands.ensures.ok raw added.lists added.keeps.shows (starts_distinct c.args.units.now) in
     subst (λ (ls : List NamedList). AreRows ls (map (operand_view raw) c.in_ok-operands.operands.items)) (sym (lists_said a raw (map (place_at raw) added.more) added.lists added.is)) un.1
 
@@ -67,7 +67,7 @@ returns-clause-answers c =
     let raw = units_of c.args.units.now in
     let a = around c.args.sections.now raw in
     let n = c.new-state.ensures in
-    let added = c.in_ok-add_units.ensures (none_behind raw a c.new-state.result n.rows n.operands n.slots) in
+    let added = c.in_ok-add_units.ensures (none_behind raw a c.new-state.result n.rows n.operands n.slots n.seen (n.tables a.sources)) in
     let un = c.in_ok-operands.ensures.ok raw added.lists added.keeps.shows (starts_distinct c.args.units.now) in
     let same = added.refs ∙ ap (λ (w : List ℕ). w ++ added.more) n.refs in
     all_said a raw c.args.sections.now.aranges.now (map (place_at raw) added.more) added.lists added.is c.in_ok-check_ranges.ensures un.0 ∙ ap (λ (w : List ℕ). Ok (map (place_at raw) w)) (sym same)

@@ -1,0 +1,89 @@
+-- Line tables that are read once each, and rows in them.
+use Rattle.std.proofs.Common.{◌≡◌, ℕ, zero, suc, ◌+◌, ◌<◌, ◌≤◌, Bool, true, false, cond, List, [], ◌∷◌, ◌++◌, length, map, Option, Some, None, Result, Ok, Err, pos, negsuc, slice_get, nat_eq, refl, sym, ap, subst, ◌∙◌, inl, inr, arith}
+use Rattle.std.specs.Prelude.{ℤ}
+use Rattle.std.specs.Option.{is_some}
+use lib.Signed.{lt_z}
+use Rattle.dwz_resolve.specs.declared.files.Files.{Files}
+use Rattle.std.specs.HashMap.{get}
+use Rattle.std.proofs.lemmas.Bool.{cases_Bool, cond-false, cond-true, eqb-true, false≢true, ltb-true}
+use Rattle.dwz_model.specs.declared.fault.Fault.{Fault}
+use Rattle.dwz_model.specs.declared.fault.ReadErr.{ReadErr}
+use Rattle.dwz_model.specs.declared.fault.ReadErr.TheVariants.{NoMemory, Refused}
+use Rattle.dwz_model.specs.declared.fault.Reason.TheVariants.{BadFile}
+use Rattle.dwz_bytes.specs.Reading.{◌>>=◌}
+use Rattle.dwz_docs.specs.Faults.{Answers, Fails, info_fault}
+use Rattle.dwz_meanings.specs.LineTables.{FileTable, nth_path}
+use Rattle.dwz_meanings.specs.Meanings.{Sources, path_by}
+use Rattle.dwz_resolve.specs.FileRows.{HasTable, KnowTables, SaysFile, file_there, row_there, table_at, unless_none}
+
+pub none_past : (paths : List (List ℕ)) (m n : ℕ) → m ≤ n → nth_path paths m ≡ None → nth_path paths n ≡ None
+unfolding nth_path
+none_past [] m n le e = refl
+none_past (p ∷ paths) zero n le e = absurd cc
+none_past (p ∷ paths) (suc m) zero le e = absurd (omega arith)
+none_past (p ∷ paths) (suc m) (suc n) le e = none_past paths m n (omega arith) e
+
+get_front : {X : Type 0} (xs ys : List X) (k : ℕ) (x : X) → slice_get xs k ≡ Some x → slice_get (xs ++ ys) k ≡ Some x
+get_front [] ys k x e = absurd cc
+get_front (y ∷ xs) ys zero x e = e
+get_front (y ∷ xs) ys (suc k) x e = get_front xs ys k x e
+
+get_end : {X : Type 0} (xs : List X) (x : X) → slice_get (xs ++ x ∷ []) (length xs) ≡ Some x
+get_end [] x = refl
+get_end (y ∷ xs) x = get_end xs x
+
+pub has_more : (sources : Sources) (tables new : List FileTable) (t : FileTable) (place number : ℕ) → new ≡ tables ++ t ∷ [] → HasTable sources tables place number → HasTable sources new place number
+has_more sources tables new t place number e h = record { table = h.table; there = ap (λ (w : List FileTable). slice_get w number) e ∙ get_front tables (t ∷ []) number h.table h.there; read = h.read }
+
+pub has_last : (sources : Sources) (tables new : List FileTable) (t : FileTable) (place number : ℕ) → new ≡ tables ++ t ∷ [] → number ≡ length tables → table_at sources place ≡ Ok t → HasTable sources new place number
+has_last sources tables new t place number e len read = record { table = t; there = (λ i. slice_get (e i) (len i)) ∙ get_end tables t; read = read }
+
+pub past_all : (t : FileTable) (z : ℤ) → lt_z (pos 18446744073709551615) z ≡ true → nth_path t.paths 18446744073709551615 ≡ None → false ≡ is_some (path_by t z)
+past_all t (pos n) above none = let lt = ltb-true 18446744073709551615 n above in sym (ap (λ (o : Option (List ℕ)). is_some o) (none_past t.paths 18446744073709551615 n (omega arith) none))
+past_all t (negsuc n) above none = refl
+
+pub plain_number : (z y : ℤ) → y ≡ z → lt_z (pos 18446744073709551615) y ≡ true → lt_z (pos 18446744073709551615) z ≡ true
+plain_number z y e h = ap (λ (x : ℤ). lt_z (pos 18446744073709551615) x) (sym e) ∙ h
+
+-- ---- the tables that are known
+
+module _ (sources : Sources) where
+  pub know_none : (files : Files) → ((place : ℕ) → get nat_eq files.places place ≡ None) → KnowTables sources files
+  know_none files none = record { known = λ place number e. absurd (let both : None ≡ Some number = sym (none place) ∙ e in cc) }
+
+  pub know_more : (old new : Files) (t : FileTable) (place number : ℕ) → KnowTables sources old → new.tables.items ≡ old.tables.items ++ t ∷ [] → number ≡ length old.tables.items → table_at sources place ≡ Ok t
+      → ((q : ℕ) → get nat_eq new.places q ≡ cond (nat_eq place q) (Some number) (get nat_eq old.places q)) → KnowTables sources new × HasTable sources new.tables.items place number
+  know_more old new t place number h tables len read updates =
+      let last : HasTable sources new.tables.items place number = has_last sources old.tables.items new.tables.items t place number tables len read in
+      (record { known = λ q n e. elim (cases_Bool (nat_eq place q)) [
+        | inl same ↦
+            let at : place ≡ q = eqb-true place q same in
+            let both : Some number ≡ Some n = sym (updates q ∙ cond-true (nat_eq place q) (Some number) (get nat_eq old.places q) same) ∙ e in
+            let one : number ≡ n = cc in
+            subst (λ (p : ℕ). HasTable sources new.tables.items p n) at (subst (λ (k : ℕ). HasTable sources new.tables.items place k) one last)
+        | inr other ↦ has_more sources old.tables.items new.tables.items t q n tables (h.known q n (sym (updates q ∙ cond-false (nat_eq place q) (Some number) (get nat_eq old.places q) other) ∙ e))
+      ] }, last)
+
+pub no_path : (o : Option (List ℕ)) → None ≡ o → o ≡ None
+no_path o e = sym e
+
+-- ---- what a value says
+
+row_whole : (sources : Sources) (files : Files) (line : Option ℕ) (place table at : ℕ) (z : ℤ) (there : Bool) → line ≡ Some place → HasTable sources files.tables.items place table
+    → ((t : FileTable) → slice_get files.tables.items table ≡ Some t → there ≡ is_some (path_by t z)) → file_there sources line at z ≡ unless_none at there
+row_whole sources files line place table at z there is has row =
+    ap (λ (o : Option ℕ). file_there sources o at z) is ∙ ap (λ (r : Result FileTable Fault). r >>= row_there at z) has.read ∙ ap (unless_none at) (sym (row has.table has.there))
+
+pub says_row : (sources : Sources) (files : Files) (line : Option ℕ) (place table at : ℕ) (z : ℤ) (there : Bool) (result : Result (Unit {0}) ReadErr) → line ≡ Some place → KnowTables sources files → HasTable sources files.tables.items place table
+    → ((t : FileTable) → slice_get files.tables.items table ≡ Some t → there ≡ is_some (path_by t z)) → Answers {X = Unit {0}} (λ u. tt) result (unless_none at there) → SaysFile sources line at z files result
+says_row sources files line place table at z there (Ok y) is know has row h = (know, row_whole sources files line place table at z there is has row ∙ h)
+says_row sources files line place table at z there (Err NoMemory) is know has row h = tt
+says_row sources files line place table at z there (Err (Refused f)) is know has row h = row_whole sources files line place table at z there is has row ∙ h
+
+pub table_fails : (sources : Sources) (line : Option ℕ) (place at : ℕ) (z : ℤ) (e : ReadErr) → line ≡ Some place → Fails e (table_at sources place) → Fails e (file_there sources line at z)
+table_fails sources line place at z NoMemory is h = tt
+table_fails sources line place at z (Refused f) is h = ap (λ (o : Option ℕ). file_there sources o at z) is ∙ ap (λ (r : Result FileTable Fault). r >>= row_there at z) h
+
+pub row_fails : (sources : Sources) (line : Option ℕ) (at : ℕ) (z : ℤ) (e : ReadErr) → e ≡ NoMemory → Fails e (file_there sources line at z)
+row_fails sources line at z NoMemory h = tt
+row_fails sources line at z (Refused f) h = absurd cc

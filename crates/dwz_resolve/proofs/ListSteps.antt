@@ -1,0 +1,79 @@
+-- Operands of a list are looked up one after the other, and kept.
+use Rattle.std.proofs.Common.{◌≡◌, ℕ, zero, suc, ◌+◌, ◌-◌, ◌<◌, ◌≤◌, ◌^◌, Bool, true, false, List, [], ◌∷◌, ◌++◌, length, map, take, drop, get_or, Option, Some, None, Result, Ok, Err, slice_get, refl, sym, ap, subst, ◌∙◌, inl, inr, arith}
+use Rattle.std.specs.Option.{option_map}
+use Rattle.std.proofs.lemmas.Option.{get_or_from_slice_get, slice_get-map}
+use Rattle.std.proofs.lemmas.List.{append-nil, append_assoc, map-append, take-append-drop, take_all}
+use Rattle.dwz_model.specs.declared.fault.Fault.{Fault}
+use Rattle.dwz_model.specs.declared.fault.ReadErr.{ReadErr}
+use Rattle.dwz_model.specs.declared.fault.ReadErr.TheVariants.{NoMemory, Refused}
+use Rattle.dwz_model.specs.declared.place.Base.{Base}
+use Rattle.dwz_model.specs.declared.place.Base.TheVariants.{Unit as FromUnit, Info as FromInfo}
+use Rattle.dwz_docs.specs.Lists.{In}
+use Rattle.dwz_docs.specs.Units.{RawUnit}
+use Rattle.dwz_meanings.specs.declared.exprs.Operand.{Operand}
+use Rattle.dwz_meanings.specs.Exprs.{bad_operand, first_unnamed}
+use Rattle.dwz_meanings.specs.Meanings.{Scope, expr_context, leads_to, target_of}
+use Rattle.dwz_meanings.specs.Shared.{of_unit}
+use Rattle.dwz_resolve.specs.declared.operands.ListOperand.{ListOperand}
+use Rattle.dwz_resolve.specs.ListRows.{number_for, operand_view, start_of}
+use Rattle.dwz_resolve.specs.ListSteps.{AreOperands, AreSmall, NamesRows}
+use Rattle.dwz_resolve.specs.Operands.{IsUnnamed, LooksUp, is_named}
+use Rattle.dwz_resolve.specs.Resolved.{place_at}
+use Rattle.dwz_resolve.proofs.ApartLemmas.{got_at, in_both, in_left, in_right}
+use Rattle.dwz_resolve.proofs.OperandSteps.{first_of, one_named, one_unnamed}
+use Rattle.dwz_resolve.proofs.RowLemmas.{drop_here, take_here}
+
+pub start_is : (raw : List RawUnit) (n : ℕ) (u : RawUnit) → slice_get raw n ≡ Some u → start_of raw n ≡ u.at
+start_is raw n u is = get_or_from_slice_get (map (λ (x : RawUnit). x.at) raw) n u.at 0 (slice_get-map (λ (x : RawUnit). x.at) raw n ∙ ap (option_map (λ (x : RawUnit). x.at)) is)
+
+number_is : (s : Scope ℕ) (base : Base) (number : ℕ) → number_for base s.unit (leads_to s base number) ≡ number
+number_is s FromUnit number = omega arith
+number_is s FromInfo number = refl
+
+pub view_is : (raw : List RawUnit) (s : Scope ℕ) (k : ListOperand) (o : Operand) → start_of raw k.unit ≡ s.unit → k.at ≡ o.at → k.width ≡ o.width → k.uleb ≡ o.uleb → k.base ≡ o.base → k.place.offset ≡ target_of s o → operand_view raw k ≡ of_unit s.unit o
+view_is raw s k o start at width uleb base place =
+    let number : number_for k.base (start_of raw k.unit) k.place.offset ≡ o.number = (λ i. number_for (base i) (start i) (place i)) ∙ number_is s o.base o.number in
+    (λ i. record { unit = start i; operand = record { at = at i; width = width i; uleb = uleb i; base = base i; number = number i } })
+
+module _ (raw : List RawUnit) (s : Scope ℕ) (n : ℕ) (operands : List Operand) where
+  pub kept_none : (old : List ListOperand) → AreOperands raw s n (take 0 operands) old old
+  unfolding first_unnamed
+  kept_none old = record { more = []; added = sym (append-nil old); views = λ small. refl; units = λ o is. absurd is; named = refl }
+
+  pub kept_more : (old mid new : List ListOperand) (k : ℕ) (d : Operand) (x : ListOperand) → k < length operands → is_named s (get_or operands k d) ≡ true → new ≡ mid ++ x ∷ [] → x.unit ≡ n
+      → ((get_or operands k d).at < 2 ^ 32 → operand_view raw x ≡ of_unit s.unit (get_or operands k d)) → AreOperands raw s n (take k operands) old mid → AreOperands raw s n (take (k + 1) operands) old new
+  kept_more old mid new k d x lt named e unit view h =
+      let o = get_or operands k d in
+      subst (λ (w : List Operand). AreOperands raw s n w old new) (sym (take_here operands k o (got_at operands k d lt))) (record {
+        more = h.more ++ x ∷ [];
+        added = e ∙ ap (λ (w : List ListOperand). w ++ x ∷ []) h.added ∙ append_assoc old h.more (x ∷ []);
+        views = λ small.
+            map-append (operand_view raw) h.more (x ∷ [])
+            ∙ (λ j. h.views (λ p is. small p (in_left p (take k operands) (o ∷ []) is)) j ++ view (small o (in_right o (take k operands) (o ∷ []) (inl refl))) j ∷ [])
+            ∙ sym (map-append (of_unit s.unit) (take k operands) (o ∷ []));
+        units = λ p is. elim (in_both p h.more (x ∷ []) is) [
+          | inl here ↦ h.units p here
+          | inr there ↦ last p there
+        ];
+        named = first_of (is_named s) (take k operands) (o ∷ []) h.named ∙ one_named (is_named s) o named;
+      }) where
+    last : (p : ListOperand) → In p (x ∷ []) → p.unit ≡ n
+    last p (inl same) = sym (ap (λ (y : ListOperand). y.unit) same) ∙ unit
+    last p (inr there) = absurd there
+
+  pub kept_unnamed : (old mid : List ListOperand) (k : ℕ) (d : Operand) → k < length operands → is_named s (get_or operands k d) ≡ false → AreOperands raw s n (take k operands) old mid → IsUnnamed s 7 operands (bad_operand (expr_context s 7) (get_or operands k d).at)
+  kept_unnamed old mid k d lt none h =
+      let o = get_or operands k d in
+      record {
+        operand = o;
+        first = ap (first_unnamed (is_named s)) (sym (take-append-drop k operands) ∙ ap (λ (w : List Operand). take k operands ++ w) (drop_here operands k o (got_at operands k d lt)))
+            ∙ first_of (is_named s) (take k operands) (o ∷ drop (k + 1) operands) h.named ∙ one_unnamed (is_named s) o (drop (k + 1) operands) none;
+        placed = refl;
+      }
+
+  pub kept_all : (old new : List ListOperand) (k : ℕ) → length operands ≤ k → AreOperands raw s n (take k operands) old new → AreOperands raw s n operands old new
+  kept_all old new k le h = subst (λ (w : List Operand). AreOperands raw s n w old new) (take_all k operands le) h
+
+pub kept_fail : (raw : List RawUnit) (s : Scope ℕ) (n : ℕ) (operands : List Operand) (old new : List ListOperand) (e : ReadErr) (f : Fault) → e ≡ Refused f → IsUnnamed s 7 operands f → NamesRows {Y = Unit {0}} raw s n operands old new (Err e)
+kept_fail raw s n operands old new NoMemory f is h = tt
+kept_fail raw s n operands old new (Refused g) f is h = let same : g ≡ f = cc in subst (λ (x : Fault). IsUnnamed s 7 operands x) (sym same) h

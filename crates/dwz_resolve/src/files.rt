@@ -1,0 +1,177 @@
+//! Files that values number (DWARF 5, 2.14 and 6.2.4): rows of their unit's line table.
+
+ghost use Rattle.std.specs.Prelude.{◌≡◌, IfOk, IfErr, Some, slice_get};
+ghost use Rattle.std.specs.Option.{is_some};
+ghost use Rattle.dwz_forms.specs.RawValues.{raw_view};
+ghost use Rattle.dwz_meanings.specs.LineTables.{FileTable as Paths};
+ghost use Rattle.dwz_meanings.specs.Meanings;
+ghost use Rattle.dwz_meanings.specs.Meanings.{path_by};
+ghost use Rattle.dwz_model.specs.declared.fault.ReadErr.TheVariants.{NoMemory, Refused};
+ghost use Rattle.dwz_model.specs.declared.fault.Reason.TheVariants.{BadFile};
+ghost use Rattle.dwz_docs.specs.Faults.{Answers, info_fault};
+ghost use Rattle.dwz_resolve.specs.FileRows.{FindsTable, KnowTables, SaysConstant, SaysFile, unless_none};
+ghost use Rattle.dwz_resolve.specs.Resolved.{sources_view};
+
+use crate::here::Here;
+use crate::sections::Sections;
+use dwz_forms::Raw;
+use dwz_lines::FileTable;
+use dwz_model::{Fault, ReadErr, Reason};
+use std::alloc::Global;
+use std::collections::HashMap;
+
+/// The line tables that were read.
+#[derive(Drop)]
+pub(crate) struct Files {
+    pub alloc: Global,
+    /// The tables.
+    pub tables: Vec<FileTable>,
+    /// The number of the table at a place of `.debug_line`.
+    pub places: HashMap<u64, usize>,
+}
+
+// The section `.debug_info` in faults.
+const INFO: u8 = 1;
+
+fn bad_file(at: u64) -> ReadErr
+    ensures { result ≡ Refused (info_fault at BadFile) }
+{
+    ReadErr::Refused(Fault {
+        section: INFO,
+        at,
+        reason: Reason::BadFile,
+    })
+}
+
+// The number that a value stores.
+#[inline(always)]
+fn number_of(raw: &Raw) -> i128
+    ensures { result ≡ Meanings.number_of (raw_view raw.now) }
+{
+    match raw {
+        Raw::Number(number) => *number,
+        Raw::Bytes(_) => 0,
+    }
+}
+
+// Whether a table has a file of that number. No table in memory has 2^64 files.
+#[inline(always)]
+fn has_path(table: &FileTable, number: i128) -> Result<bool, ReadErr>
+    ensures ok { IfOk result (λ b. b ≡ is_some (path_by table.now number)) }
+    ensures err { IfErr result (λ e. e ≡ NoMemory) }
+{
+    if number < 0 {
+        return Ok(false);
+    }
+    if number > u64::MAX as i128 {
+        return match table.path(u64::MAX) {
+            None => Ok(false),
+            Some(_) => Err(ReadErr::NoMemory),
+        };
+    }
+    Ok(table.path(number as u64).is_some())
+}
+
+// The same of the table with a number.
+#[inline(always)]
+fn has_row(tables: &[FileTable], table: usize, number: i128) -> Result<bool, ReadErr>
+    ensures ok { (t : Paths) → slice_get tables.now table ≡ Some t → IfOk result (λ b. b ≡ is_some (path_by t number)) }
+    ensures err { IfErr result (λ e. e ≡ NoMemory) }
+{
+    if table >= tables.len() {
+        return Ok(false);
+    }
+    has_path(&tables[table], number)
+}
+
+// Goes on where a file is there.
+#[inline(always)]
+fn unless_missing(is_there: bool, at: u64) -> Result<(), ReadErr>
+    ensures { Answers (λ u. tt) result (unless_none at is_there) }
+{
+    if is_there { Ok(()) } else { Err(bad_file(at)) }
+}
+
+impl Files {
+    /// None was read.
+    pub(crate) fn new(alloc: Global) -> Files
+        ensures { (sources : Meanings.Sources) → KnowTables sources result }
+    {
+        Files {
+            alloc,
+            tables: Vec::new(alloc),
+            places: HashMap::new(alloc),
+        }
+    }
+
+    /// The number of the table at a place, which is read unless it was read before.
+    fn table(&mut self, sections: &Sections, place: u64) -> Result<usize, ReadErr>
+        ensures { KnowTables (sources_view sections.now) self.old → FindsTable (sources_view sections.now) place self.new result }
+    {
+        if let Some(table) = self.places.get(&place) {
+            return Ok(*table);
+        }
+        let table = FileTable::read(
+            self.alloc,
+            sections.line,
+            sections.line_strs.bytes,
+            sections.strs.bytes,
+            place,
+        )?;
+        let number = self.tables.as_slice().len();
+        self.tables.push(table)?;
+        self.places.insert(place, number)?;
+        Ok(number)
+    }
+
+    /// Goes on where a value that stands at a place numbers a file of its unit, whose line table begins at `line`, if it has one.
+    pub(crate) fn check(
+        &mut self,
+        sections: &Sections,
+        line: Option<u128>,
+        at: u64,
+        raw: &Raw,
+    ) -> Result<(), ReadErr>
+        ensures { KnowTables (sources_view sections.now) self.old → SaysFile (sources_view sections.now) line at (Meanings.number_of (raw_view raw.now)) self.new result }
+    {
+        let number = number_of(raw);
+        match line {
+            None => unless_missing(number == 0, at),
+            Some(place) => {
+                if place > u64::MAX as u128 {
+                    return Err(ReadErr::NoMemory);
+                }
+                let table = self.table(sections, place as u64)?;
+                let is_there = has_row(&self.tables, table, number)?;
+                unless_missing(is_there, at)
+            }
+        }
+    }
+}
+
+// Whether values of an attribute number files: `DW_AT_decl_file` and `DW_AT_call_file`.
+#[inline(always)]
+fn names_file(name: u16) -> bool
+    ensures { result ≡ Meanings.names_file name }
+{
+    name == 0x3a || name == 0x58
+}
+
+/// Goes on where a number says something: one of a file is that of a row of the unit's line table.
+#[inline(always)]
+pub(crate) fn check_constant(
+    sections: &Sections,
+    here: &Here,
+    at: u64,
+    name: u16,
+    raw: &Raw,
+    files: &mut Files,
+) -> Result<(), ReadErr>
+    ensures { KnowTables (sources_view sections.now) files.old → SaysConstant (sources_view sections.now) here.now.line name at (Meanings.number_of (raw_view raw.now)) files.new result }
+{
+    if names_file(name) {
+        files.check(sections, here.line, at, raw)
+    } else {
+        Ok(())
+    }
+}

@@ -19,3 +19,5 @@ pub mod OperandSteps
 pub mod FileSteps
 pub mod ListSteps
 pub mod ConstantSteps
+pub mod ListStates
+pub mod ListGoes

@@ -12,9 +12,21 @@ use Rattle.dwz_docs.specs.Lists.{In}
 use Rattle.dwz_docs.specs.Units.{RawUnit}
 use Rattle.dwz_meanings.specs.declared.exprs.Operand.{Operand}
 use Rattle.dwz_meanings.specs.Exprs.{bad_operand, first_unnamed}
-use Rattle.dwz_meanings.specs.Meanings.{Scope, expr_context, leads_to, target_of}
-use Rattle.dwz_meanings.specs.Shared.{of_unit}
+use Rattle.dwz_meanings.specs.Meanings.{Scope, expr_context, leads_to, list_read, target_of}
+use Rattle.dwz_meanings.specs.LocLists.{LocList, list_at}
+use Rattle.dwz_meanings.specs.Sequences.{read_from}
+use Rattle.dwz_meanings.specs.Shared.{NamedList, of_unit, operands_of}
+use Rattle.dwz_docs.specs.Faults.{Fails}
+use Rattle.dwz_expr.specs.FirstFault.{unless_one}
+use Rattle.dwz_expr.specs.Gathering.{added}
+use Rattle.dwz_lists.specs.FirstFault.{AreAsked, WalksInto}
+use Rattle.dwz_lists.specs.Gathering.{in_lists}
+use Rattle.dwz_resolve.specs.declared.lists.ListRow.{ListRow}
+use Rattle.dwz_resolve.specs.declared.lists.Lists.{Lists}
+use Rattle.dwz_resolve.specs.ListSteps.{named_list}
+use Rattle.dwz_resolve.proofs.ListStates.{IsAdded, rows_stand, small_stand, stands_here}
 use Rattle.dwz_resolve.specs.declared.operands.ListOperand.{ListOperand}
+use Rattle.dwz_resolve.specs.Apart.{Rows}
 use Rattle.dwz_resolve.specs.ListRows.{number_for, operand_view, start_of}
 use Rattle.dwz_resolve.specs.ListSteps.{AreOperands, AreSmall, NamesRows}
 use Rattle.dwz_resolve.specs.Operands.{IsUnnamed, LooksUp, is_named}
@@ -77,3 +89,72 @@ module _ (raw : List RawUnit) (s : Scope ℕ) (n : ℕ) (operands : List Operand
 pub kept_fail : (raw : List RawUnit) (s : Scope ℕ) (n : ℕ) (operands : List Operand) (old new : List ListOperand) (e : ReadErr) (f : Fault) → e ≡ Refused f → IsUnnamed s 7 operands f → NamesRows {Y = Unit {0}} raw s n operands old new (Err e)
 kept_fail raw s n operands old new NoMemory f is h = tt
 kept_fail raw s n operands old new (Refused g) f is h = let same : g ≡ f = cc in subst (λ (x : Fault). IsUnnamed s 7 operands x) (sym same) h
+
+-- ---- a list that is read
+
+-- what stands there, and its operands
+pub record WasRead (s : Scope ℕ) (place end : ℕ) (operands : List Operand) : Type 0 where
+  pub list : LocList
+  pub read : list_read s place ≡ Ok list
+  pub ends : list.end ≡ end
+  pub has : operands_of list.exprs ≡ operands
+
+module _ (raw : List RawUnit) (s : Scope ℕ) (n place : ℕ) (operands : List Operand) where
+  asks_list : (r : Result ℕ ReadErr) → (r ≡ Err NoMemory → ⊥) → WalksInto s.around.sources.lists place operands r → AreAsked s.around.sources.lists place operands
+  asks_list (Ok end) some w = w.1
+  asks_list (Err NoMemory) some w = absurd (some refl)
+  asks_list (Err (Refused f)) some w = w.1
+
+  all_asked : AreAsked s.around.sources.lists place operands → first_unnamed (is_named s) operands ≡ None → list_read s place ≡ read_from (list_at in_lists) s.around.sources.lists place
+  all_asked asks none = asks (expr_context s 7) refl ∙ ap (unless_one (expr_context s 7) (read_from (list_at in_lists) s.around.sources.lists place)) none
+
+  pub list_unnamed : (e : ReadErr) (r : Result ℕ ReadErr) (old new : List ListOperand) → (r ≡ Err NoMemory → ⊥) → WalksInto s.around.sources.lists place operands r → NamesRows {Y = Unit {0}} raw s n operands old new (Err e) → Fails e (list_read s place)
+  list_unnamed NoMemory r old new some w h = tt
+  list_unnamed (Refused f) r old new some w h =
+      asks_list r some w (expr_context s 7) refl ∙ ap (unless_one (expr_context s 7) (read_from (list_at in_lists) s.around.sources.lists place)) h.first ∙ ap (λ (x : Fault). Err x) (sym h.placed)
+
+  refused_by : (e : ReadErr) → WalksInto s.around.sources.lists place operands (Err e) → first_unnamed (is_named s) operands ≡ None → Fails e (list_read s place)
+  refused_by NoMemory w none = tt
+  refused_by (Refused f) w none = all_asked w.1 none ∙ w.0
+
+  pub list_refused : (r : Result ℕ ReadErr) (e : ReadErr) → r ≡ Err e → WalksInto s.around.sources.lists place operands r → first_unnamed (is_named s) operands ≡ None → Fails e (list_read s place)
+  list_refused r e is w none = refused_by e (subst (λ (x : Result ℕ ReadErr). WalksInto s.around.sources.lists place operands x) is w) none
+
+  read_by : (end : ℕ) → WalksInto s.around.sources.lists place operands (Ok end) → first_unnamed (is_named s) operands ≡ None → WasRead s place end operands
+  read_by end w none = record { list = w.0.list; read = all_asked w.1 none ∙ w.0.read; ends = w.0.ends; has = w.0.has }
+
+  pub list_was_read : (r : Result ℕ ReadErr) (end : ℕ) → r ≡ Ok end → WalksInto s.around.sources.lists place operands r → first_unnamed (is_named s) operands ≡ None → WasRead s place end operands
+  list_was_read r end is w none = read_by end (subst (λ (x : Result ℕ ReadErr). WalksInto s.around.sources.lists place operands x) is w) none
+
+  pub list_added : (end : ℕ) (w : ListRow) (old new : Lists) (h : WasRead s place end operands) → place < length s.around.sources.lists → length s.around.sources.lists < 2 ^ 32 → n < length raw
+      → AreOperands raw s n operands old.operands.items new.operands.items → w.from ≡ place → w.end ≡ end → w.first ≡ length old.operands.items → w.last ≡ length new.operands.items
+      → new.rows.items ≡ old.rows.items ++ w ∷ [] → new.slots.items ≡ old.slots.items → IsAdded raw (named_list s None place h.list) old new
+  list_added end w old new h lt short within a from ends first last rows slots =
+      let here = stands_here s place h.list lt h.read in
+      let low = here.within in
+      let small : AreSmall operands = subst (λ (os : List Operand). AreSmall os) h.has (small_stand (operands_of h.list.exprs) (place + 1) h.list.end (omega arith) here.stand) in
+      let views : map (operand_view raw) a.more ≡ map (of_unit s.unit) (operands_of h.list.exprs) = a.views small ∙ ap (map (of_unit s.unit)) (sym h.has) in
+      record {
+        more = a.more;
+        w = w;
+        no_slot = refl;
+        from = from;
+        end = ends ∙ sym h.ends;
+        first = first;
+        last = last;
+        operands = a.added;
+        rows = rows;
+        slots = slots;
+        views = views;
+        units = λ o is. (let same = a.units o is in omega arith);
+        stand = subst (λ (p : ℕ). Rows (p + 1) a.more w.end) (sym from) (subst (λ (p : ℕ). Rows (place + 1) a.more p) (h.ends ∙ sym ends) (rows_stand raw s.unit a.more (operands_of h.list.exprs) (place + 1) h.list.end views here.stand));
+      }
+
+-- what the call on the code's own row says
+pub walks_row : (section : List ℕ) (place : ℕ) (cleared operands shown : List Operand) (r : Result ℕ ReadErr) → cleared ≡ [] → shown ≡ operands → WalksInto section place (added cleared operands) r → WalksInto section place shown r
+walks_row section place cleared operands shown r none same w = subst (λ (os : List Operand). WalksInto section place os r) (ap (λ (x : List Operand). added x operands) none ∙ sym same) w
+
+pub below_length : {X : Type 0} (xs : List X) (k : ℕ) (x : X) → slice_get xs k ≡ Some x → k < length xs
+below_length [] k x e = absurd cc
+below_length (y ∷ xs) zero x e = omega arith
+below_length (y ∷ xs) (suc k) x e = let r = below_length xs k x e in omega arith

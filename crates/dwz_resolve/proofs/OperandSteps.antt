@@ -152,5 +152,5 @@ reads_row at end bytes own cleared operands shown r is place none same reads =
     let here : i ≡ j = λ k. record { at = (place ∙ ap (λ (b : List ℕ). end - length b) is) k; rest = is k } in
     subst (λ (os : List Operand). ReadsInto 1 j os r) (ap (λ (w : List Operand). added w operands) none ∙ sym same) (subst (λ (x : Input). ReadsInto 1 x (added cleared operands) r) here reads)
 
-pub has_memory : (r : Result Bool ReadErr) → lacks_memory r ≡ false → r ≡ Err NoMemory → ⊥
-has_memory r e is = false≢true (sym e ∙ ap (λ (x : Result Bool ReadErr). lacks_memory x) is)
+pub has_memory : {X : Type 0} (r : Result X ReadErr) → lacks_memory r ≡ false → r ≡ Err NoMemory → ⊥
+has_memory {X} r e is = false≢true (sym e ∙ ap (λ (x : Result X ReadErr). lacks_memory x) is)

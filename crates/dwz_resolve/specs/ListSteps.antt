@@ -1,13 +1,21 @@
 -- The operands of a list, as they are kept.
-use Rattle.std.specs.Prelude.{◌≡◌, ℕ, ◌+◌, ◌<◌, ◌^◌, List, [], ◌∷◌, ◌++◌, length, map, None, Result, Ok, Err}
+use Rattle.std.specs.Prelude.{◌≡◌, ℕ, ◌+◌, ◌<◌, ◌^◌, Bool, true, false, List, [], ◌∷◌, ◌++◌, length, map, Option, Some, None, Result, Ok, Err, nat_lt, if◌then◌else◌}
+use Rattle.dwz_model.specs.declared.fault.Fault.{Fault}
+use Rattle.dwz_model.specs.declared.fault.Reason.TheVariants.{BadList}
+use Rattle.dwz_docs.specs.Faults.{Fails, info_fault}
+use Rattle.dwz_docs.specs.Texts.{slot, slot_place}
 use Rattle.dwz_model.specs.declared.fault.ReadErr.{ReadErr}
 use Rattle.dwz_model.specs.declared.fault.ReadErr.TheVariants.{NoMemory, Refused}
 use Rattle.dwz_docs.specs.Lists.{In}
 use Rattle.dwz_docs.specs.Units.{RawUnit}
 use Rattle.dwz_meanings.specs.declared.exprs.Operand.{Operand}
 use Rattle.dwz_meanings.specs.Exprs.{first_unnamed}
-use Rattle.dwz_meanings.specs.Meanings.{Scope}
-use Rattle.dwz_meanings.specs.Shared.{of_unit}
+use Rattle.dwz_meanings.specs.LocLists.{LocList}
+use Rattle.dwz_meanings.specs.Meanings.{Scope, list_read, names_list}
+use Rattle.dwz_meanings.specs.Shared.{NamedList, of_unit}
+use Rattle.dwz_resolve.specs.declared.lists.ListSlot.{ListSlot}
+use Rattle.dwz_resolve.specs.declared.state.State.{State}
+use Rattle.dwz_resolve.specs.State.{IsState}
 use Rattle.dwz_resolve.specs.declared.operands.ListOperand.{ListOperand}
 use Rattle.dwz_resolve.specs.ListRows.{operand_view}
 use Rattle.dwz_resolve.specs.Operands.{IsUnnamed, is_named}
@@ -28,3 +36,58 @@ abbrev pub NamesRows : {Y : Type 0} → List RawUnit → Scope ℕ → ℕ → L
 NamesRows raw s n operands old new (Ok y) = AreOperands raw s n operands old new
 NamesRows raw s n operands old new (Err NoMemory) = Unit {0}
 NamesRows raw s n operands old new (Err (Refused f)) = IsUnnamed s 7 operands f
+
+-- ---- a list
+
+abbrev pub named_list : Scope ℕ → Option ℕ → ℕ → LocList → NamedList
+named_list s slot place list = record { unit = s.unit; from = place; slot = slot; list = list }
+
+-- a list stands at the place, and it is kept as one that is named, through that slot if there is one
+pub record HasList (raw : List RawUnit) (s : Scope ℕ) (n : ℕ) (slot : Option ℕ) (place : ℕ) (before : List NamedList) (old new : State) : Type 0 where
+  pub list : LocList
+  pub read : list_read s place ≡ Ok list
+  pub refs : new.refs.items ≡ old.refs.items
+  pub keeps : IsState raw s n (before ++ named_list s slot place list ∷ []) new
+
+abbrev pub Walks : {Y : Type 0} → List RawUnit → Scope ℕ → ℕ → ℕ → List NamedList → State → State → Result Y ReadErr → Type 0
+Walks raw s n place before old new (Ok y) = HasList raw s n None place before old new
+Walks raw s n place before old new (Err e) = Fails e (list_read s place)
+
+-- the list at a place that a value names
+abbrev pub list_there : Scope ℕ → ℕ → ℕ → Result LocList Fault
+list_there s at place = if nat_lt place (length s.around.sources.lists) then list_read s place else Err (info_fault at BadList)
+
+abbrev pub AddsAt : {Y : Type 0} → List RawUnit → Scope ℕ → ℕ → Option ℕ → ℕ → ℕ → List NamedList → State → State → Result Y ReadErr → Type 0
+AddsAt raw s n slot at place before old new (Ok y) = (place < length s.around.sources.lists) × HasList raw s n slot place before old new
+AddsAt raw s n slot at place before old new (Err e) = Fails e (list_there s at place)
+
+abbrev pub AddsList : {Y : Type 0} → List RawUnit → Scope ℕ → ℕ → ℕ → ℕ → List NamedList → State → State → Result Y ReadErr → Type 0
+AddsList raw s n at place before old new result = AddsAt raw s n None at place before old new result
+
+-- the list of an offset, if it is one's
+abbrev pub IsUnchanged : {Y : Type 0} → State → State → Result Y ReadErr → Type 0
+IsUnchanged old new (Ok y) = new ≡ old
+IsUnchanged old new (Err e) = ⊥
+
+abbrev pub AddsIf : {Y : Type 0} → Bool → List RawUnit → Scope ℕ → ℕ → ℕ → ℕ → List NamedList → State → State → Result Y ReadErr → Type 0
+AddsIf true raw s n at offset before old new result = AddsList raw s n at offset before old new result
+AddsIf false raw s n at offset before old new result = IsUnchanged old new result
+
+abbrev pub AddsOffset : {Y : Type 0} → List RawUnit → Scope ℕ → ℕ → ℕ → ℕ → ℕ → List NamedList → State → State → Result Y ReadErr → Type 0
+AddsOffset raw s n name at offset before old new result = AddsIf (names_list name) raw s n at offset before old new result
+
+-- the slot of an index, and the place of the list that it holds
+abbrev pub IsSlotAt : List ℕ → ℕ → ℕ → Option ListSlot → Type 0
+IsSlotAt section base index None = slot section base index ≡ None
+IsSlotAt section base index (Some x) = (offset : ℕ) × (slot section base index ≡ Some offset) × (x.at ≡ slot_place base index) × (x.place ≡ base + offset)
+
+-- the list of an index
+abbrev pub BySlot : {Y : Type 0} → List RawUnit → Scope ℕ → ℕ → ℕ → ℕ → ℕ → Option ℕ → List NamedList → State → State → Result Y ReadErr → Type 0
+BySlot raw s n base at index None before old new (Ok y) = ⊥
+BySlot raw s n base at index None before old new (Err e) = Fails {Y = LocList} e (Err (info_fault at BadList))
+BySlot raw s n base at index (Some offset) before old new result = AddsAt raw s n (Some (slot_place base index)) at (base + offset) before old new result
+
+abbrev pub AddsIndexed : {Y : Type 0} → List RawUnit → Scope ℕ → ℕ → Option ℕ → ℕ → ℕ → List NamedList → State → State → Result Y ReadErr → Type 0
+AddsIndexed raw s n None at index before old new (Ok y) = ⊥
+AddsIndexed raw s n None at index before old new (Err e) = Fails {Y = LocList} e (Err (info_fault at BadList))
+AddsIndexed raw s n (Some base) at index before old new result = BySlot raw s n base at index (slot s.around.sources.lists base index) before old new result

@@ -1,17 +1,25 @@
 //! Location lists that attributes name (DWARF 5, 2.6.2 and 7.29).
 
-ghost use Rattle.std.specs.Prelude.{◌≡◌, ◌≤◌, ◌<◌, ◌^◌};
+ghost use Rattle.std.specs.Prelude.{◌≡◌, ◌≤◌, ◌<◌, ◌^◌, List, Some, true, length, nat_eq};
+ghost use Rattle.std.specs.HashMap.{get};
 ghost use Rattle.dwz_docs.specs.Units.{RawUnit, entries_in};
-ghost use Rattle.dwz_resolve.specs.ListSteps.{NamesRows};
-ghost use Rattle.dwz_resolve.specs.Resolved.{IsHere, place_at, scope_in};
+ghost use Rattle.dwz_docs.specs.Faults.{info_fault};
+ghost use Rattle.dwz_meanings.specs.Meanings;
+ghost use Rattle.dwz_meanings.specs.Shared.{NamedList};
+ghost use Rattle.dwz_model.specs.declared.fault.ReadErr.TheVariants.{Refused};
+ghost use Rattle.dwz_model.specs.declared.fault.Reason.TheVariants.{BadList};
+ghost use Rattle.dwz_resolve.specs.ListSteps.{AddsIndexed, AddsList, AddsOffset, IsSlotAt, NamesRows, Walks};
+ghost use Rattle.dwz_resolve.specs.Resolved.{IsHere, StateIn, place_at, scope_in};
 ghost use Rattle.dwz_unit.specs.Rows.{units_of};
 
-use crate::expressions::{bad_operand, entry_of};
+use crate::expressions::{bad_operand, entry_of, is_no_memory};
 use crate::here::Here;
 use crate::operands::ListOperand;
-use crate::sections::Sections;
+use crate::sections::{Sections, slot};
+use crate::state::State;
 use dwz_expr::Operand;
-use dwz_model::{Place, ReadErr};
+use dwz_lists::walk_into;
+use dwz_model::{Fault, Place, ReadErr, Reason};
 use dwz_unit::Units;
 use std::collections::HashMap;
 
@@ -84,5 +92,189 @@ fn name_operands(
             None => return Err(bad_operand(LISTS, operand.at)),
         }
     }
+    Ok(())
+}
+
+// Reads the list at a place, with the entries that its operands name.
+fn walk(
+    units: &Units,
+    sections: &Sections,
+    here: &Here,
+    place: u64,
+    state: &mut State,
+) -> Result<(), ReadErr>
+    requires here { here.now.end ≤ entries_in (units_of units.now) }
+    requires place { place < length sections.now.lists.now }
+    ensures { (u : RawUnit) (before : List NamedList) → IsHere (units_of units.now) u here.now → StateIn sections.now (units_of units.now) u here.now before state.old → Walks (units_of units.now) (scope_in sections.now (units_of units.now) u) here.now.number place before state.old state.new result }
+{
+    if sections.lists.len() > u32::MAX as usize {
+        return Err(ReadErr::NoMemory);
+    }
+    state.operands.clear();
+    let first = state.lists.operands.as_slice().len();
+    let read = walk_into(&mut state.operands, sections.lists, place);
+    if is_no_memory(&read) {
+        return Err(ReadErr::NoMemory);
+    }
+    name_operands(
+        units,
+        sections,
+        here,
+        state.file,
+        &state.operands,
+        &mut state.lists.operands,
+    )?;
+    let end = read?;
+    let last = state.lists.operands.as_slice().len();
+    state.lists.rows.push(ListRow {
+        from: place,
+        end,
+        first,
+        last,
+    })?;
+    state.lists.seen.insert(place, here.number)?;
+    Ok(())
+}
+
+// Whether a place was seen last in that unit.
+fn was_seen(seen: &HashMap<u64, u32>, place: u64, unit: u32) -> bool
+    ensures { result ≡ true → get nat_eq seen.now place ≡ Some unit }
+{
+    if let Some(number) = seen.get(&place) {
+        if *number == unit {
+            return true;
+        }
+    }
+    false
+}
+
+// The same, where the unit didn't name it before.
+fn walk_once(
+    units: &Units,
+    sections: &Sections,
+    here: &Here,
+    place: u64,
+    state: &mut State,
+) -> Result<(), ReadErr>
+    requires here { here.now.end ≤ entries_in (units_of units.now) }
+    requires place { place < length sections.now.lists.now }
+    ensures { (u : RawUnit) (before : List NamedList) → IsHere (units_of units.now) u here.now → StateIn sections.now (units_of units.now) u here.now before state.old → Walks (units_of units.now) (scope_in sections.now (units_of units.now) u) here.now.number place before state.old state.new result }
+{
+    if was_seen(&state.lists.seen, place, here.number) {
+        return Ok(());
+    }
+    walk(units, sections, here, place, state)
+}
+
+const INFO: u8 = 1;
+
+fn bad_list(at: u64) -> ReadErr
+    ensures { result ≡ Refused (info_fault at BadList) }
+{
+    ReadErr::Refused(Fault {
+        section: INFO,
+        at,
+        reason: Reason::BadList,
+    })
+}
+
+// Adds the list at a place that a value names.
+fn add_list(
+    units: &Units,
+    sections: &Sections,
+    here: &Here,
+    at: u64,
+    place: u128,
+    state: &mut State,
+) -> Result<(), ReadErr>
+    requires { here.now.end ≤ entries_in (units_of units.now) }
+    ensures { (u : RawUnit) (before : List NamedList) → IsHere (units_of units.now) u here.now → StateIn sections.now (units_of units.now) u here.now before state.old → AddsList (units_of units.now) (scope_in sections.now (units_of units.now) u) here.now.number at place before state.old state.new result }
+{
+    if place >= sections.lists.len() as u128 {
+        return Err(bad_list(at));
+    }
+    walk_once(units, sections, here, place as u64, state)
+}
+
+// Whether the offsets that an attribute holds are those of lists (DWARF 5, 7.5.5, class loclist).
+#[inline(always)]
+#[tactic(auto, unfolding(dwz_docs::specs::Lists::has))]
+fn names_list(name: u16) -> bool
+    ensures { result ≡ Meanings.names_list name }
+{
+    name == 0x02
+        || name == 0x19
+        || name == 0x2a
+        || name == 0x38
+        || name == 0x40
+        || name == 0x46
+        || name == 0x48
+        || name == 0x4a
+        || name == 0x4d
+}
+
+/// Adds the list that an offset names, if it is one's.
+pub(crate) fn add_offset(
+    units: &Units,
+    sections: &Sections,
+    here: &Here,
+    at: u64,
+    name: u16,
+    offset: u128,
+    state: &mut State,
+) -> Result<(), ReadErr>
+    requires { here.now.end ≤ entries_in (units_of units.now) }
+    ensures { (u : RawUnit) (before : List NamedList) → IsHere (units_of units.now) u here.now → StateIn sections.now (units_of units.now) u here.now before state.old → AddsOffset (units_of units.now) (scope_in sections.now (units_of units.now) u) here.now.number name at offset before state.old state.new result }
+{
+    if names_list(name) {
+        add_list(units, sections, here, at, offset, state)
+    } else {
+        Ok(())
+    }
+}
+
+// A slot of the section, and where the list begins that it holds.
+#[derive(Clone, Copy)]
+struct ListSlot {
+    at: u128,
+    place: u128,
+}
+
+// The slot of an index.
+fn slot_at(section: &[u8], base: u128, index: u128) -> Option<ListSlot>
+    ensures { IsSlotAt section.now base index result }
+{
+    match slot(section, base, index) {
+        None => None,
+        Some(offset) => Some(ListSlot {
+            at: base + 4 * index,
+            place: base + offset as u128,
+        }),
+    }
+}
+
+/// Adds the list that an index names.
+pub(crate) fn add_indexed(
+    units: &Units,
+    sections: &Sections,
+    here: &Here,
+    at: u64,
+    index: u128,
+    state: &mut State,
+) -> Result<(), ReadErr>
+    requires { here.now.end ≤ entries_in (units_of units.now) }
+    ensures { (u : RawUnit) (before : List NamedList) → IsHere (units_of units.now) u here.now → StateIn sections.now (units_of units.now) u here.now before state.old → AddsIndexed (units_of units.now) (scope_in sections.now (units_of units.now) u) here.now.number here.now.lists at index before state.old state.new result }
+{
+    let Some(base) = here.lists else {
+        return Err(bad_list(at));
+    };
+    let Some(slot) = slot_at(sections.lists, base, index) else {
+        return Err(bad_list(at));
+    };
+    add_list(units, sections, here, at, slot.place, state)?;
+    if slot.at > u32::MAX as u128 {
+        return Err(ReadErr::NoMemory);
+    }
+    state.lists.slots.push(slot.at as u32)?;
     Ok(())
 }

@@ -17,6 +17,7 @@ use crate::expressions::add_expression;
 use crate::files::check_constant;
 use crate::here::{Here, here_of};
 use crate::kinds::check_kind;
+use crate::lists::{add_indexed, add_offset};
 use crate::references::{add_entry, bad_reference};
 use crate::sections::{Sections, offset_of};
 use crate::state::State;
@@ -79,9 +80,9 @@ fn add_as(
             &mut state.refs,
         ),
         Class::Signature => Ok(()),
-        Class::Offset => Err(ReadErr::NoMemory),
+        Class::Offset => add_offset(units, sections, here, at, pair.name, offset, state),
         Class::Expression => add_expression(units, sections, here, end, raw, state),
-        Class::ListIndex => Err(ReadErr::NoMemory),
+        Class::ListIndex => add_indexed(units, sections, here, at, offset, state),
         Class::Index => Ok(()),
         Class::CommonEntry => Err(bad_reference(at)),
         Class::CommonText => Err(bad_string(at)),

@@ -43,8 +43,7 @@ pub fn resolve(
     ensures operands { IfOk result (λ r. AreRows (lists_of_units (around sections.now (units_of units.now)) (units_of units.now)) (map (operand_view (units_of units.now)) r.operands.items)) }
     ensures answers { Answers (λ r. map (place_at (units_of units.now)) r.refs.items) result (map_ok units_refs (said (around sections.now (units_of units.now)) (units_of units.now) sections.now.aranges.now)) }
 {
-    let _file = file;
-    let mut state = State::new(alloc);
+    let mut state = State::new(alloc, file);
     add_units(units, sections, &mut state)?;
     check_ranges(units, sections.aranges)?;
     let operands = unshared(alloc, &state.lists)?;

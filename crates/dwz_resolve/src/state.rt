@@ -14,6 +14,8 @@ use std::collections::HashMap;
 /// What is kept of the values that were looked at.
 #[derive(Drop)]
 pub(crate) struct State {
+    /// The number of the file.
+    pub file: u32,
     /// The numbers of the entries that they name.
     pub refs: Vec<u32>,
     /// The location lists that they name.
@@ -25,7 +27,7 @@ pub(crate) struct State {
 }
 
 impl State {
-    pub(crate) fn new(alloc: Global) -> State
+    pub(crate) fn new(alloc: Global, file: u32) -> State
         ensures refs { result.refs.items ≡ [] }
         ensures rows { result.lists.rows.items ≡ [] }
         ensures operands { result.lists.operands.items ≡ [] }
@@ -34,6 +36,7 @@ impl State {
         ensures tables { (sources : Sources) → KnowTables sources result.files }
     {
         State {
+            file,
             refs: Vec::new(alloc),
             lists: Lists {
                 rows: Vec::new(alloc),

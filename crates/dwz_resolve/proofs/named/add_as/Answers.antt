@@ -14,6 +14,7 @@ use Rattle.dwz_resolve.specs.Named.{Found, found_in, map_ok}
 use Rattle.dwz_resolve.specs.Resolved.{Goes, StateIn, places, scope_in, stored}
 use Rattle.dwz_unit.specs.Rows.{units_of}
 use Rattle.dwz_resolve.proofs.ConstantSteps.{constant_goes}
+use Rattle.dwz_resolve.proofs.ListGoes.{indexed_goes, offset_goes}
 use Rattle.dwz_resolve.proofs.NamedSteps.{entry_goes}
 use Rattle.dwz_resolve.proofs.PlaceLemmas.{all_are}
 use Rattle.dwz_resolve.proofs.TextSteps.{IsTest, plain_goes, slot_tells, test_goes, text_tells}
@@ -132,3 +133,21 @@ returns-in-Constant c = λ u before here k. (
     let K = StateIn c.args.sections.now raw u c.args.here.now in
     subst (λ (r : Result Found Fault). Goes raw K before c.args.state.now (record c.args.state.now { files = c.check_constant.new.files }) c.check_constant.result r) (ap (named_as s a) (sym c.in-Constant.is))
     (constant_goes raw s c.args.here.now.number before c.args.state.now c.check_constant.new.files a c.args.here.now.line c.check_constant.result here.line k (c.check_constant.ensures k.tables)))
+
+pub returns-in-Offset : goal.returns-in-Offset
+returns-in-Offset c = λ u before here k. (
+    let raw = units_of c.args.units.now in
+    let s = scope_in c.args.sections.now raw u in
+    let a = stored c.args.at c.args.end c.args.pair.now c.args.raw.now in
+    let K = StateIn c.args.sections.now raw u c.args.here.now in
+    subst (λ (r : Result Found Fault). Goes raw K before c.args.state.now c.add_offset.new.state c.add_offset.result r) (ap (named_as s a) (sym c.in-Offset.is))
+    (offset_goes raw s c.args.here.now.number c.offset_of-offset.result a before c.args.state.now c.add_offset.new.state c.add_offset.result c.offset_of-offset.ensures.value k (c.add_offset.ensures u before here k)))
+
+pub returns-in-ListIndex : goal.returns-in-ListIndex
+returns-in-ListIndex c = λ u before here k. (
+    let raw = units_of c.args.units.now in
+    let s = scope_in c.args.sections.now raw u in
+    let a = stored c.args.at c.args.end c.args.pair.now c.args.raw.now in
+    let K = StateIn c.args.sections.now raw u c.args.here.now in
+    subst (λ (r : Result Found Fault). Goes raw K before c.args.state.now c.add_indexed.new.state c.add_indexed.result r) (ap (named_as s a) (sym c.in-ListIndex.is))
+    (indexed_goes raw s c.args.here.now.number c.offset_of-offset.result c.args.here.now.lists a before c.args.state.now c.add_indexed.new.state c.add_indexed.result c.offset_of-offset.ensures.value here.lists (c.add_indexed.ensures u before here k)))

@@ -1,0 +1,12 @@
+use Rattle.std.proofs.Common.{true, sym, ◌∙◌}
+use Rattle.dwz_meanings.specs.Meanings.{names_list}
+use Rattle.dwz_unit.specs.Rows.{units_of}
+use Rattle.dwz_resolve.specs.Resolved.{scope_in}
+use Rattle.dwz_resolve.proofs.ListGoes.{adds_if}
+use Rattle.dwz_resolve.proofs.lists.add_offset.Goals as goal
+
+pub returns-then-names_list : goal.returns-then-names_list
+returns-then-names_list c = λ u before here k. (
+    let raw = units_of c.args.units.now in
+    let s = scope_in c.args.sections.now raw u in
+    adds_if raw s c.args.here.now.number c.args.at c.args.offset true (names_list c.args.name) before c.args.state.now c.add_list.new.state c.add_list.result (sym c.if-names_list.true ∙ c.names_list.ensures) (c.add_list.ensures u before here k))

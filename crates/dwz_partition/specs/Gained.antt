@@ -48,6 +48,11 @@ groups_of g = map (λ a. group_of (place g a)) g.rows
 abbrev pub part_seed : List ℕ → Partial → Bool
 part_seed ws part = gains_alone (length part.users) (weight_of ws part.tops)
 
+-- of these partial units, where tops go there, those are marked that gain
+abbrev pub AreMarks : List ℕ → List (List ℕ) → List Partial → List Place → List Bool → Type 0
+AreMarks weights targets parts places marks =
+    IsSpread (grouped (length parts) (edges_from (map group_of places) (map group_of places) targets)) (map (part_seed weights) parts) marks
+
 -- the marks of the groups that gain by themselves have spread to those that they refer into
 abbrev pub IsGaining : Given → List Bool → Type 0
 IsGaining g marks = IsSpread (grouped (length (partials g)) (edges_from (groups_of g) (groups_of g) g.targets)) (map (part_seed g.weights) (partials g)) marks

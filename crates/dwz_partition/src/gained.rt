@@ -1,9 +1,7 @@
 //! What is left of a plan: the partial units that gain.
 ghost use Rattle.std.specs.Prelude.{◌≡◌, ℕ, ◌+◌, ◌-◌, ◌<◌, ◌≤◌, ◌^◌, ◌++◌, All, length, map, IfOk, slice_index, slice_index_or, ◌∷◌, []};
-ghost use Rattle.dwz_gain.specs.Gaining.{AreNumbers, edges_from, weights_of};
-ghost use Rattle.dwz_groups.specs.Groups.{grouped};
-ghost use Rattle.dwz_spread.specs.Spreading.{IsSpread};
-ghost use Rattle.dwz_partition.specs.Gained.{among, before, group_of, part_seed, place_after};
+ghost use Rattle.dwz_gain.specs.Gaining.{AreNumbers, weights_of};
+ghost use Rattle.dwz_partition.specs.Gained.{AreMarks, among, before, group_of, part_seed, place_after};
 
 use crate::plan::{Home, Partial};
 use dwz_gain::{gaining, gains_by_itself};
@@ -156,7 +154,7 @@ pub(crate) fn marks_of(
     requires homes { All (λ h. AreNumbers (length partials.now) (group_of h)) homes.now }
     requires len { length homes.now ≡ length tops.now.targets }
     requires targets { All (λ ts. All (λ t. t < length homes.now) ts) tops.now.targets }
-    ensures { IfOk result (λ marks. IsSpread (grouped (length partials.now) (edges_from (map group_of homes.now) (map group_of homes.now) tops.now.targets)) (map (part_seed (weights_of tops.now.rows)) partials.now) marks.items) }
+    ensures { IfOk result (λ marks. AreMarks (weights_of tops.now.rows) tops.now.targets partials.now homes.now marks.items) }
 {
     let groups = groups_of(alloc, homes)?;
     let seeds = seeds(alloc, partials, tops.rows.as_slice())?;

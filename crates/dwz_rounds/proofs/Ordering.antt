@@ -10,8 +10,7 @@ use Rattle.std.proofs.lemmas.List.{get_or-map, map-append, take_more}
 use Rattle.std.proofs.lemmas.List.Sorted.{ranks_by, sorted_far}
 use Rattle.std.proofs.lemmas.Map.Text.{is_eq-slice_cmp}
 use Rattle.std.proofs.lemmas.Slice.Eq.{bytes_eq-Decides}
-use Rattle.dwz_bucket.specs.Fnv.{hash_of}
-use Rattle.dwz_rounds.specs.Keys.{key_at}
+use Rattle.dwz_rounds.specs.Keys.{key_at, words_hash}
 use Rattle.dwz_rounds.specs.declared.order.Keyed.{Keyed}
 use Rattle.dwz_rounds.specs.Order.{nodes_of, keys_of, AreTogether, IsNew, IsNewAt}
 use Rattle.std.proofs.Math.ListN.{get_or-append, get_or-map as map-get_or}
@@ -60,7 +59,7 @@ row_cmp a b = ordering_then (by_hash a b) (ordering_then (by_key a b) (by_node a
 row_total : IsTotalOrder row_cmp
 row_total = then_total (on_total (λ r. r.hash) nat_cmp_total) (then_total (on_total (λ r. r.key.now) nat_list_cmp_total) (on_total (λ r. r.node) nat_cmp_total))
 
-module _ (rows : List Keyed) (up : IsSorted row_cmp rows) (hashed : All (λ r. r.hash ≡ hash_of r.key.now) rows) (d : Keyed) where
+module _ (rows : List Keyed) (up : IsSorted row_cmp rows) (hashed : All (λ r. r.hash ≡ words_hash r.key.now) rows) (d : Keyed) where
   abbrev at : ℕ → Keyed
   at i = get_or rows i d
 
@@ -68,7 +67,7 @@ module _ (rows : List Keyed) (up : IsSorted row_cmp rows) (hashed : All (λ r. r
   far i j le l = sorted_far (λ x y. is_lt (row_cmp x y)) (ranks_by row_total (λ r. r)) rows up i j d le l
 
   same-hash : (i j : ℕ) → i < length rows → j < length rows → (at i).key.now ≡ (at j).key.now → (at i).hash ≡ (at j).hash
-  same-hash i j li lj e = hashed i d li ∙ (ap hash_of e ∙ sym (hashed j d lj))
+  same-hash i j li lj e = hashed i d li ∙ (ap words_hash e ∙ sym (hashed j d lj))
 
   hash-between : (i j k : ℕ) → i ≤ j → j ≤ k → k < length rows → (at i).key.now ≡ (at k).key.now → ((at i).hash ≡ (at j).hash) × ((at j).hash ≡ (at k).hash)
   hash-between i j k a b l e =
@@ -108,7 +107,7 @@ module _ (rows : List Keyed) (up : IsSorted row_cmp rows) (hashed : All (λ r. r
     rising = λ i j le l e. let r = node-rising i j le l (sym (key-is i (omega arith)) ∙ (e ∙ key-is j l)) in let x = node-is i (omega arith) in let y = node-is j l in omega arith;
   }
 
-pub together : (rows : List Keyed) → IsSorted row_cmp rows → All (λ r. r.hash ≡ hash_of r.key.now) rows → AreTogether rows
+pub together : (rows : List Keyed) → IsSorted row_cmp rows → All (λ r. r.hash ≡ words_hash r.key.now) rows → AreTogether rows
 together [] up hashed = record { between = λ i j k a b l. absurd (omega arith); rising = λ i j le l. absurd (omega arith) }
 together (r ∷ rs) up hashed = together-from (r ∷ rs) up hashed r
 

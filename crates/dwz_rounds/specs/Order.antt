@@ -3,7 +3,7 @@ use Rattle.std.specs.Prelude.{◌≡◌, ℕ, suc, ◌<◌, ◌≤◌, true, fal
 use Rattle.dwz_rounds.specs.Keys.{key_at}
 use Rattle.dwz_rounds.specs.declared.order.Keyed.{Keyed}
 
--- the nodes of rows, and the bytes of their keys
+-- the nodes of rows, and their keys
 abbrev pub nodes_of : List Keyed → List ℕ
 nodes_of rows = map (λ r. r.node) rows
 

@@ -1,9 +1,9 @@
 -- Nodes that are numbered by class, and those whose sources have to be looked at again.
-use Rattle.std.specs.Prelude.{◌≡◌, ℕ, ◌<◌, ◌≤◌, ◌⊎◌, ◌^◌, ◌∷◌, All, Contains, List, length, slice_index}
+use Rattle.std.specs.Prelude.{◌≡◌, ℕ, ◌<◌, ◌≤◌, ◌⊎◌, ◌∷◌, Contains, List, length, slice_index}
 use Rattle.dwz_nodes.specs.Graph.{Node, targets_at}
 use Rattle.dwz_nodes.specs.Looks.{Alike}
 use Rattle.dwz_nodes.specs.Back.{sources_at}
-use Rattle.dwz_rounds.specs.Keys.{key, key_at, bytes_of}
+use Rattle.dwz_rounds.specs.Keys.{key, key_at}
 use Rattle.dwz_rounds.specs.Turns.{Among}
 
 -- a has one of these among its targets
@@ -30,11 +30,10 @@ pub record IsVisit (g : List Node) (numbers pending visit wholes : List ℕ) : T
 abbrev pub own_key : List Node → List ℕ → ℕ → List ℕ
 own_key g numbers a = slice_index numbers a ∷ key g numbers a
 
--- the own keys of the nodes of the list, in bytes
+-- the own keys of the nodes of the list
 pub record AreOwnKeys (g : List Node) (numbers visit : List ℕ) (keys : List (List ℕ)) : Type 0 where
   pub len : length keys ≡ length visit
-  pub each : (i : ℕ) → i < length visit → key_at keys i ≡ bytes_of (own_key g numbers (slice_index visit i))
-  pub fits : (i : ℕ) → i < length visit → All (λ w. w < 2 ^ 32) (own_key g numbers (slice_index visit i))
+  pub each : (i : ℕ) → i < length visit → key_at keys i ≡ own_key g numbers (slice_index visit i)
 
 -- What a pass over the nodes to look at makes of the numbers: where their own keys differ they have different numbers, and where they
 -- are the same one number, which is a new one, or the old one where the class was taken whole. All others keep their number.

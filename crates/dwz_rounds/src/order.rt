@@ -1,11 +1,9 @@
 //! Nodes in the order of their keys, so that those with one key stand together.
 ghost use Rattle.std.specs.Prelude.{◌≡◌, ℕ, ◌<◌, All, IfOk, IsPermutation, length, slice_index};
-ghost use Rattle.dwz_rounds.specs.Keys.{key_at};
-ghost use Rattle.dwz_bucket.specs.Fnv.{hash_of};
+ghost use Rattle.dwz_rounds.specs.Keys.{key_at, words_hash};
 ghost use Rattle.dwz_rounds.specs.Order.{nodes_of, keys_of, AreTogether, IsNew, AreGroups};
 
-use crate::keys::{Keys, is_same_key};
-use dwz_bucket::hash;
+use crate::keys::{Keys, hash_words, is_same_key};
 use dwz_model::NoMemory;
 use std::alloc::Global;
 
@@ -13,7 +11,7 @@ use std::alloc::Global;
 #[derive(Clone, Copy, PartialEq, Eq, PartialOrd, Ord)]
 pub(crate) struct Keyed<'k> {
     hash: u64,
-    key: &'k [u8],
+    key: &'k [u32],
     node: u32,
 }
 
@@ -33,13 +31,13 @@ pub(crate) fn rows_of<'k>(
     requires { length keys.now ≡ length nodes.now }
     ensures nodes { IfOk result (λ rows. nodes_of rows.items ≡ nodes.now) }
     ensures keys { IfOk result (λ rows. keys_of rows.items ≡ keys.now) }
-    ensures hashed { IfOk result (λ rows. All (λ r. r.hash ≡ hash_of r.key.now) rows.items) }
+    ensures hashed { IfOk result (λ rows. All (λ r. r.hash ≡ words_hash r.key.now) rows.items) }
 {
     let mut rows = Vec::with_capacity(alloc, nodes.len())?;
     for at in 0..nodes.len() {
         let key = keys.get(at);
         rows.push(Keyed {
-            hash: hash(key),
+            hash: hash_words(key),
             key,
             node: nodes[at],
         })?;
@@ -56,14 +54,14 @@ pub(crate) fn rows_at<'k>(
     requires { All (λ a. a < length keys.now) nodes.now }
     ensures nodes { IfOk result (λ rows. nodes_of rows.items ≡ nodes.now) }
     ensures keys { IfOk result (λ rows. All (λ r. r.key.now ≡ key_at keys.now r.node) rows.items) }
-    ensures hashed { IfOk result (λ rows. All (λ r. r.hash ≡ hash_of r.key.now) rows.items) }
+    ensures hashed { IfOk result (λ rows. All (λ r. r.hash ≡ words_hash r.key.now) rows.items) }
 {
     let mut rows = Vec::with_capacity(alloc, nodes.len())?;
     for at in 0..nodes.len() {
         let node = nodes[at];
         let key = keys.get(node as usize);
         rows.push(Keyed {
-            hash: hash(key),
+            hash: hash_words(key),
             key,
             node,
         })?;
@@ -96,7 +94,7 @@ fn mark_groups(alloc: Global, rows: &[Keyed<'_>]) -> Result<Groups, NoMemory>
 
 /// The nodes of the rows, those with one key together and in ascending order.
 pub(crate) fn groups_of(alloc: Global, mut rows: Vec<Keyed<'_>>) -> Result<Groups, NoMemory>
-    requires { All (λ r. r.hash ≡ hash_of r.key.now) rows.items }
+    requires { All (λ r. r.hash ≡ words_hash r.key.now) rows.items }
     ensures { IfOk result (λ groups. (ordered : _) × IsPermutation rows.entry.items ordered × AreGroups ordered groups.nodes.items groups.news.items) }
 {
     rows.sort_unstable();

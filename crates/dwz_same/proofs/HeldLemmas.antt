@@ -27,7 +27,7 @@ use Rattle.dwz_same.proofs.OldRows.{row_kinded, space_before, top_names, tops_so
 
 -- ---- the rows of the plan
 
-part_found : (s : ℕ) (parts : List PartialUnit) (n k : ℕ) (part : PartialUnit) → Nth s parts n part → n ≡ s + k → part_at k parts ≡ Some part
+pub part_found : (s : ℕ) (parts : List PartialUnit) (n k : ℕ) (part : PartialUnit) → Nth s parts n part → n ≡ s + k → part_at k parts ≡ Some part
 unfolding part_at
 part_found s [] n k part h e = absurd h
 part_found s (p ∷ parts) n zero part (inl x) e = ap (λ (w : PartialUnit). Some w) x.1

@@ -1,12 +1,11 @@
-use Rattle.std.proofs.Common.{◌≡◌, ℕ, ◌<◌, ◌^◌, All, length}
+use Rattle.std.proofs.Common.{◌≡◌, ℕ, ◌<◌, length}
 use Rattle.std.specs.Prelude.{slice_index}
-use Rattle.dwz_rounds.specs.Keys.{key_at, bytes_of}
+use Rattle.dwz_rounds.specs.Keys.{key_at}
 use Rattle.dwz_rounds.specs.Pending.{own_key}
 use Rattle.dwz_rounds.proofs.keys.fill_own.Given as goal
 
 abbrev pub invariant-loop-a : goal.invariant-loop-a
 invariant-loop-a l = record {
   len : length l.keys ≡ l.a-index;
-  each : (i : ℕ) → i < l.a-index → key_at l.keys i ≡ bytes_of (own_key l.nodes l.numbers (slice_index l.visit i));
-  fits : (i : ℕ) → i < l.a-index → All (λ w. w < 2 ^ 32) (own_key l.nodes l.numbers (slice_index l.visit i));
+  each : (i : ℕ) → i < l.a-index → key_at l.keys i ≡ own_key l.nodes l.numbers (slice_index l.visit i);
 }

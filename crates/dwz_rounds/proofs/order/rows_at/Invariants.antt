@@ -1,6 +1,5 @@
 use Rattle.std.proofs.Common.{◌≡◌, All, length, take}
-use Rattle.dwz_bucket.specs.Fnv.{hash_of}
-use Rattle.dwz_rounds.specs.Keys.{key_at}
+use Rattle.dwz_rounds.specs.Keys.{key_at, words_hash}
 use Rattle.dwz_rounds.specs.Order.{nodes_of}
 use Rattle.dwz_rounds.proofs.order.rows_at.Given as goal
 
@@ -9,5 +8,5 @@ invariant-loop-at l = record {
   len : length l.rows.items ≡ l.at;
   nodes : nodes_of l.rows.items ≡ take l.at l.nodes;
   keys : All (λ r. r.key.now ≡ key_at l.keys r.node) l.rows.items;
-  hashed : All (λ r. r.hash ≡ hash_of r.key.now) l.rows.items;
+  hashed : All (λ r. r.hash ≡ words_hash r.key.now) l.rows.items;
 }

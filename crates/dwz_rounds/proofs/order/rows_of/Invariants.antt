@@ -1,5 +1,5 @@
 use Rattle.std.proofs.Common.{◌≡◌, All, length, take}
-use Rattle.dwz_bucket.specs.Fnv.{hash_of}
+use Rattle.dwz_rounds.specs.Keys.{words_hash}
 use Rattle.dwz_rounds.specs.Order.{nodes_of, keys_of}
 use Rattle.dwz_rounds.proofs.order.rows_of.Given as goal
 
@@ -8,5 +8,5 @@ invariant-loop-at l = record {
   len : length l.rows.items ≡ l.at;
   nodes : nodes_of l.rows.items ≡ take l.at l.nodes;
   keys : keys_of l.rows.items ≡ take l.at l.keys;
-  hashed : All (λ r. r.hash ≡ hash_of r.key.now) l.rows.items;
+  hashed : All (λ r. r.hash ≡ words_hash r.key.now) l.rows.items;
 }

@@ -1,0 +1,136 @@
+-- All files that read can be written, and read back together.
+use Rattle.std.proofs.Common.{◌≡◌, ℕ, suc, ◌+◌, true, List, [], ◌∷◌, ◌++◌, map, length, refl, sym, ap, subst, ◌∙◌, inl, inr}
+use Rattle.dwz_docs.specs.Lists.{In}
+use Rattle.dwz_docs.specs.Trees.{End, Entry}
+use Rattle.dwz_meanings.specs.Documents.{Attr, Doc, DwUnit, Entries, Node, unit_map}
+use Rattle.dwz_meanings.specs.Files.{sources_of}
+use Rattle.dwz_meanings.specs.Meanings.{Sources}
+use Rattle.dwz_alike.specs.Alike.{IsAlike, Scope}
+use Rattle.dwz_alike.specs.Spots.{FileUnit, PartialOf, Spot, Top, file_numbers, in_file, named, named_files, spot_in, spots_from, tops_of, units_of}
+use Rattle.dwz_seen.specs.Lists.{Each, Nth}
+use Rattle.dwz_seen.proofs.Members.{each_of, in_cases, nth_in}
+use Rattle.dwz_moving.specs.Homes.{Common, IsChoice, Local, Rule}
+use Rattle.dwz_moving.specs.IsPlan.{Has, OfTop}
+use Rattle.dwz_moving.proofs.RowParts.{part_is as part_row_is}
+use Rattle.dwz_same.specs.After.{ArePlaced, FilesSame, Place, Replaces}
+use Rattle.dwz_same.specs.Units.{all_units, changes, common_units, out_units, partial_units}
+use Rattle.dwz_same.proofs.FileLemmas.{files_same, replaced}
+use Rattle.dwz_same.proofs.HeldLemmas.{row_found}
+use Rattle.dwz_writing.specs.Bases.{Bases, bases_in}
+use Rattle.dwz_writing.specs.Carried.{CarriedAttr, CarriedEntries, CarriedNode, CarriedUnit, OfAny, OfFile}
+use Rattle.dwz_writing.proofs.CarriedMaps.{unit_carried}
+use Rattle.dwz_back.specs.AllFiles.{AllBack, AreMade, AreOver, AreRead}
+use Rattle.dwz_back.specs.Back.{AreAtOld, CanWrite, IsPlacing, IsReady, WasReadFrom, run_of, tells}
+use Rattle.dwz_back.specs.Files.{Run, common_forms, file_forms, origin_in, places, sources}
+use Rattle.dwz_back.proofs.CommonLemmas.{common_within}
+use Rattle.dwz_back.proofs.HomeLemmas.{parts_from}
+use Rattle.dwz_back.proofs.OriginLemmas.{bases_mapped, part_origin}
+use Rattle.dwz_back.proofs.OutsCarried.{new_carried, out_carried}
+use Rattle.dwz_back.proofs.ReadPlaces.{read_from}
+use Rattle.dwz_back.proofs.SameLemmas.{same_back}
+use Rattle.dwz_back.proofs.SaysLemmas.{common_back, file_back}
+use Rattle.dwz_back.proofs.WithinLemmas.{within}
+
+-- ---- what was read in a file was read in some file
+
+module _ {K : Type 0} (from : Sources → Type 0) (origin : Bases) where
+  any_attr : (a : Attr K) → CarriedAttr from origin a → CarriedAttr OfAny origin a
+  any_attr a (inl c) = inl (record { was_read = c.was_read; file = tt; unit = c.unit; stored = c.stored; built = c.built })
+  any_attr a (inr r) = inr r
+
+  any_attrs : (attrs : List (Attr K)) → Each (CarriedAttr from origin) attrs → Each (CarriedAttr OfAny origin) attrs
+  any_attrs [] h = tt
+  any_attrs (a ∷ attrs) h = (any_attr a h.0, any_attrs attrs h.1)
+
+  any_node : (e : Node K) → CarriedNode from origin e → CarriedNode OfAny origin e
+  any_node e h = record { some_tag = h.some_tag; tag_fits = h.tag_fits; attrs = any_attrs e.attrs h.attrs }
+
+  any_entries : (g : Entries K) → CarriedEntries from origin g → CarriedEntries OfAny origin g
+  any_entries End h = tt
+  any_entries (Entry e children next) h = (any_node e h.0, any_entries children h.1, any_entries next h.2)
+
+  any_unit : (u : DwUnit K) → CarriedUnit from origin u → CarriedUnit OfAny origin u
+  any_unit u h = record { kind = h.kind; main = h.main; root = any_node u.root h.root; below = any_entries u.below h.below }
+
+-- ---- the units before
+
+abbrev WasRead : (ℕ → List ℕ) → FileUnit Spot → Type 0
+WasRead input u = CarriedUnit (OfFile (sources_of (input u.file))) (bases_in u.unit) u.unit
+
+file_carried : (input : ℕ → List ℕ) (file : ℕ) (f : ℕ → Spot) (some : List (DwUnit ℕ)) → Each (λ v. CarriedUnit (OfFile (sources_of (input file))) (bases_in v) v) some → (u : FileUnit Spot) → In u (map (in_file file) (map (unit_map f) some)) → WasRead input u
+file_carried input file f [] are u there = absurd there
+file_carried input file f (v ∷ some) are u (inl e) =
+    subst (WasRead input) e (subst (λ (b : Bases). CarriedUnit (OfFile (sources_of (input file))) b (unit_map f v)) (sym (bases_mapped f v)) (unit_carried (OfFile (sources_of (input file))) (bases_in v) f v are.0))
+file_carried input file f (v ∷ some) are u (inr r) = file_carried input file f some are.1 u r
+
+abbrev Read : (ℕ → List ℕ) → ℕ → List (Doc ℕ) → Type 0
+Read input own docs = (file : ℕ) (doc : Doc ℕ) → Nth own docs file doc → WasReadFrom (sources_of (input file)) doc.units
+
+files_carried : (input : ℕ → List ℕ) (own unit top : ℕ) (docs : List (Doc ℕ)) → Read input own docs → (u : FileUnit Spot) → In u (named_files own unit top docs) → WasRead input u
+unfolding named_files
+files_carried input own unit top [] read u there = absurd there
+files_carried input own unit top (doc ∷ docs) read u there = elim (in_cases u (map (in_file own) (named unit top doc.units)) _ there) [
+  | inl a ↦ file_carried input own (spot_in (spots_from unit top doc.units)) doc.units (read own doc (inl (refl, refl))).carried u a
+  | inr b ↦ files_carried input (suc own) _ _ docs (λ file d nth. read file d (inr nth)) u b
+]
+
+all_placed : (own : ℕ) (input : ℕ → List ℕ) (docs : List (Doc ℕ)) → Read input own docs → Each (λ doc. ArePlaced doc.units) docs
+all_placed own input [] read = tt
+all_placed own input (doc ∷ docs) read = ((read own doc (inl (refl, refl))).placed, all_placed (suc own) input docs (λ file d nth. read file d (inr nth)))
+
+-- ---- all files
+
+module _ (scope : Scope) (docs : List (Doc ℕ)) (input : ℕ → List ℕ) (are : AreRead input docs) (rule : Rule) (is : IsAlike scope (units_of docs) rule.alike) (choice : IsChoice (units_of docs) rule)
+    (over : AreOver (run_of rule docs input)) where
+  abbrev r : Run
+  r = run_of rule docs input
+
+  read : Read input 0 docs
+  read file doc nth = (let o = are file doc nth in read_from o.limits (input file) o.raw doc o.reads o.are_bytes o.built)
+
+  placed : Each (λ doc. ArePlaced doc.units) docs
+  placed = all_placed 0 input docs read
+
+  together : FilesSame scope docs rule (file_numbers 0 docs)
+  together = files_same scope docs rule placed is choice
+
+  whole : Replaces (units_of docs) r.move (all_units r.move r.units r.files)
+  whole = replaced scope docs rule placed is choice
+
+  unit_read : (i : ℕ) (u : FileUnit Spot) → Nth 0 (units_of docs) i u → WasRead input u
+  unit_read i u nth = files_carried input 0 0 0 docs read u (nth_in 0 (units_of docs) i u nth)
+
+  file_ready : (file : ℕ) → In file r.files → changes r.move r.units file ≡ true → IsReady (OfFile (sources r file)) (file_forms r file) (tells r file) (places r) (out_units r.move r.units file)
+  file_ready file there changed = record {
+    carried = out_carried (OfFile (sources r file)) scope (units_of docs) rule is choice r.files whole.old whole.held file
+        (λ i u nth of_file. subst (λ (n : ℕ). CarriedUnit (OfFile (sources_of (input n))) (bases_in u.unit) u.unit) of_file (unit_read i u nth)) (over.parts file there changed);
+    closed = within scope docs rule placed is choice input file;
+    over = over.file file there changed;
+  }
+
+  common_carried : Each (λ u. CarriedUnit OfAny (origin_in r.move r.units u.at) u) (common_units r.move)
+  unfolding common_units
+  common_carried = each_of (λ u. CarriedUnit OfAny (origin_in r.move r.units u.at) u) (partial_units r.move Common 0 r.move.parts) (λ v there.
+      (let o = parts_from r.move Common 0 r.move.parts v there in
+      let holds : (names : List (List ℕ)) (t : Top) → Has names (OfTop t) (r.move.rows o.number) → In t o.part.tops = λ names t has.
+      (((part_row_is o.number o.part).tops_are names t).0 (subst (Has names (OfTop t)) (row_found rule (units_of docs) r.files o.number o.part o.nth) has)).0 in
+      subst (λ (u : DwUnit Spot). CarriedUnit OfAny (origin_in r.move r.units u.at) u) o.is
+      (new_carried OfAny (units_of docs) r.move whole.old whole.held (λ x. Unit {0}) (λ i u nth file. any_unit (OfFile (sources_of (input u.file))) (bases_in u.unit) u.unit (unit_read i u nth))
+      o.number o.part o.nth (origin_in r.move r.units (PartialOf o.number)) (over.common_parts o.number o.part o.nth o.home_is) (part_origin scope (units_of docs) rule is choice r.files o.number o.part o.nth)
+      (λ names t there in_part. tt) holds)))
+
+  pub can_write : CanWrite r
+  can_write = record {
+    apart = together.apart;
+    file = file_ready;
+    common = record { carried = common_carried; closed = common_within scope docs rule placed is choice input; over = over.common };
+  }
+
+  pub all_back : (g : Spot → Place) → IsPlacing r g → AreAtOld r g docs → (output : ℕ → List ℕ) (common : List ℕ) → AreMade r output common → AllBack scope docs rule input output common g
+  all_back g ok old output common made =
+      let says = common_back r can_write g ok common made.common made.common_fits in
+      record {
+        common = says;
+        file = λ file there changed. file_back r can_write g ok (output file) common made.common_fits says file there changed (made.file file there changed) (made.file_fits file there changed);
+        same = same_back scope docs rule placed is choice input g ok old;
+      }

@@ -1,0 +1,11 @@
+pub mod NameLemmas
+pub mod SaysLemmas
+pub mod SameLemmas
+pub mod ReadPlaces
+pub mod HomeLemmas
+pub mod OriginLemmas
+pub mod OutsCarried
+pub mod OneLemmas
+pub mod WithinLemmas
+pub mod CommonLemmas
+pub mod AllLemmas

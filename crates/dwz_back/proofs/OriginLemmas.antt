@@ -1,0 +1,111 @@
+-- The tops of a partial unit come from one unit, its first user.
+use Rattle.std.proofs.Common.{◌≡◌, ℕ, zero, suc, ◌+◌, ◌<◌, ◌≤◌, Bool, true, false, List, [], ◌∷◌, ◌++◌, map, Option, Some, cond, eqb, refl, sym, ap, subst, ◌∙◌, arith, inl, inr}
+use Rattle.dwz_docs.specs.Lists.{In}
+use Rattle.dwz_meanings.specs.Documents.{Attr, DwUnit, attr_map, first_named, unit_map}
+use Rattle.dwz_seen.specs.Lists.{EachPair, Nth}
+use Rattle.dwz_seen.proofs.Members.{each_in, each_of, nth_from, nth_in, pair_append}
+use Rattle.dwz_alike.specs.Alike.{IsAlike, Scope}
+use Rattle.dwz_alike.specs.Spots.{FileUnit, PartialOf, Row, Spot, Top, UnitOf, row_below, row_tops, top_count, tops_from, tops_of}
+use Rattle.dwz_alike.proofs.AlikePer.{alike_per}
+use Rattle.dwz_alike.proofs.RowLemmas.{from_row, row_here, top_of}
+use Rattle.dwz_alike.proofs.Tops.{tops_rise}
+use Rattle.dwz_moving.specs.Homes.{IsChoice, Rule, is_home, moves, rep, users}
+use Rattle.dwz_moving.specs.IsPlan.{IsPart}
+use Rattle.dwz_moving.specs.Moves.{Move, first_unit, plan}
+use Rattle.dwz_moving.specs.Plan.{PartialUnit, partials}
+use Rattle.dwz_moving.proofs.UserLemmas.{Fair, moves_self, rep_is, used, used_by}
+use Rattle.dwz_same.proofs.HeldLemmas.{part_found}
+use Rattle.dwz_writing.specs.Bases.{Bases, bases_in, offset_in}
+use Rattle.dwz_back.specs.Files.{bases_at, origin_in, unit_in_part}
+use Rattle.dwz_back.proofs.HomeLemmas.{part_is}
+
+-- ---- tops stand in the order of their units
+
+abbrev InOrder : Top → Top → Type 0
+InOrder a b = a.unit ≤ b.unit
+
+later_unit : (s n : ℕ) (units : List (FileUnit Spot)) (t : Top) → In t (tops_from s n units) → s ≤ t.unit
+later_unit s n units t h = let o = top_of s n units t h in nth_from s units t.unit o.unit o.nth
+
+here_unit : (s n : ℕ) (f : FileUnit Spot) (units : List (FileUnit Spot)) (t : Top) → In t (row_tops (row_below f.file s n f.unit f.unit.kind)) → t.unit ≡ s
+here_unit s n f units t h = (from_row s n (f ∷ units) s t (subst (λ (w : Row). In t (row_tops w)) (sym (row_here s n f units s refl)) h)).1
+
+one_unit : (s : ℕ) (tops : List Top) → ((t : Top) → In t tops → t.unit ≡ s) → EachPair InOrder tops
+one_unit s [] same = tt
+one_unit s (t ∷ tops) same = (each_of (InOrder t) tops (λ u is. omega (arith, same t (inl refl), same u (inr is))), one_unit s tops (λ u is. same u (inr is)))
+
+units_rise : (s n : ℕ) (units : List (FileUnit Spot)) → EachPair InOrder (tops_from s n units)
+unfolding tops_from
+units_rise s n [] = tt
+units_rise s n (f ∷ units) =
+    let m = n + top_count f.unit.kind f.unit.below in
+    pair_append InOrder (row_tops (row_below f.file s n f.unit f.unit.kind)) (tops_from (suc s) m units) (one_unit s (row_tops (row_below f.file s n f.unit f.unit.kind)) (here_unit s n f units)) (units_rise (suc s) m units)
+    (λ x y a b. omega (arith, here_unit s n f units x a, later_unit (suc s) m units y b))
+
+ordered : (tops : List Top) (a b : Top) → EachPair InOrder tops → EachPair (λ x y. x.number < y.number) tops → In a tops → In b tops → a.number ≤ b.number → a.unit ≤ b.unit
+ordered [] a b o r p q le = absurd p
+ordered (t ∷ tops) a b o r (inl p) (inl q) le = omega (arith, ap (λ (w : Top). w.unit) (sym p ∙ q))
+ordered (t ∷ tops) a b o r (inl p) (inr q) le = subst (λ (w : Top). w.unit ≤ b.unit) p (each_in (InOrder t) b tops o.0 q)
+ordered (t ∷ tops) a b o r (inr p) (inl q) le = (let first = each_in (λ y. t.number < y.number) a tops r.0 p in absurd (omega (arith, first, ap (λ (w : Top). w.number) q)))
+ordered (t ∷ tops) a b o r (inr p) (inr q) le = ordered tops a b o.1 r.1 p q le
+
+-- ---- what a root says
+
+pub bases_found : (units : List (FileUnit Spot)) (s k n : ℕ) (u : FileUnit Spot) → Nth s units n u → n ≡ s + k → bases_at units k ≡ bases_in u.unit
+unfolding bases_at
+bases_found [] s k n u h e = absurd h
+bases_found (f ∷ units) s zero n u (inl x) e = ap (λ (w : FileUnit Spot). bases_in w.unit) x.1
+bases_found (f ∷ units) s zero n u (inr r) e = absurd (omega (arith, e, nth_from (suc s) units n u r))
+bases_found (f ∷ units) s (suc k) n u (inl x) e = absurd (omega (arith, x.0, e))
+bases_found (f ∷ units) s (suc k) n u (inr r) e = bases_found units (suc s) k n u r (omega (arith, e))
+
+-- it says the same where places get names
+first_mapped : {P Q : Type 0} (f : P → Q) (name : ℕ) (attrs : List (Attr P)) → offset_in (first_named name (map (attr_map f) attrs)) ≡ offset_in (first_named name attrs)
+unfolding first_named
+first_mapped f name [] = refl
+first_mapped f name (a ∷ attrs) = by (first_mapped f name attrs) (eqb a.name name) where
+  by : offset_in (first_named name (map (attr_map f) attrs)) ≡ offset_in (first_named name attrs) → (b : Bool) → offset_in (cond b (Some (attr_map f a)) (first_named name (map (attr_map f) attrs))) ≡ offset_in (cond b (Some a) (first_named name attrs))
+  by rest true = refl
+  by rest false = rest
+
+pub bases_mapped : {P Q : Type 0} (f : P → Q) (u : DwUnit P) → bases_in (unit_map f u) ≡ bases_in u
+bases_mapped f u =
+    ap (λ (o : Option ℕ). record { slots = o; line = offset_in (first_named 0x10 (map (attr_map f) u.root.attrs)) }) (first_mapped f 0x72 u.root.attrs)
+    ∙ ap (λ (o : Option ℕ). record { slots = offset_in (first_named 0x72 u.root.attrs); line = o }) (first_mapped f 0x10 u.root.attrs)
+
+first_there : (tops : List Top) (t : Top) → In t tops → (x : Top) × In x tops × (x.unit ≡ first_unit tops)
+first_there [] t h = absurd h
+first_there (x ∷ tops) t h = (x, inl refl, refl)
+
+module _ (scope : Scope) (units : List (FileUnit Spot)) (rule : Rule) (is : IsAlike scope units rule.alike) (choice : IsChoice units rule) (files : List ℕ) where
+  abbrev m : Move
+  m = plan rule units files
+
+  -- a top that stands for those alike to it is of the first unit that has one
+  first_user : (t : Top) → In t (tops_of units) → moves rule units t.number ≡ true → rep rule.alike units t.number ≡ t.number → (u : ℕ) → In u (users rule.alike units t.number) → t.unit ≤ u
+  first_user t there moved own u user =
+      let fair : Fair units rule = record { per = alike_per scope units rule.alike is; choice = choice } in
+      let o = used_by rule.alike units t.number u user in
+      let first = rep_is rule.alike units t.number t there (moves_self units rule fair t.number moved) in
+      let least = first.least (tops_rise units) o.top o.there o.alike_is in
+      let le = ordered (tops_of units) t o.top (units_rise 0 0 units) (tops_rise units) there o.there (omega (arith, least, own)) in
+      omega (arith, le, o.unit_is)
+
+  not_before : (n : ℕ) (part : PartialUnit) → Nth 0 (partials rule units files) n part → (a b : Top) → In a part.tops → In b part.tops → a.unit ≤ b.unit
+  not_before n part nth a b x y =
+      let fair : Fair units rule = record { per = alike_per scope units rule.alike is; choice = choice } in
+      let p = part_is scope units rule is choice files n part nth in
+      let ha = (p.tops a).0 x in
+      let hb = (p.tops b).0 y in
+      let moves_b : moves rule units b.number ≡ true = ap is_home hb.home ∙ p.moves in
+      let user = used rule.alike units b.number b hb.there (moves_self units rule fair b.number moves_b) in
+      first_user a ha.there (ap is_home ha.home ∙ p.moves) ha.rep b.unit (subst (In b.unit) (hb.users ∙ sym ha.users) user)
+
+  -- what is known of the unit of such a top
+  pub part_origin : (n : ℕ) (part : PartialUnit) → Nth 0 m.parts n part → (t : Top) → In t part.tops → bases_at units t.unit ≡ origin_in m units (PartialOf n)
+  part_origin n part nth t there =
+      let o = first_there part.tops t there in
+      let a = not_before n part nth t o.0 there o.1 in
+      let b = not_before n part nth o.0 t o.1 there in
+      let same : t.unit ≡ first_unit part.tops = omega (arith, a, b, o.2) in
+      ap (bases_at units) (same ∙ ap unit_in_part (sym (part_found 0 m.parts n n part nth (omega arith))))

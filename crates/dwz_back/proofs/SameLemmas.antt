@@ -1,0 +1,164 @@
+-- What all files say is shown by the units after, and each name has one place.
+use Rattle.std.proofs.Common.{◌≡◌, ◌⊎◌, ℕ, suc, ◌+◌, ◌<◌, Bool, true, false, List, [], ◌∷◌, ◌++◌, length, map, refl, sym, ap, subst, ◌∙◌, arith}
+use Rattle.std.proofs.Math.Logic.{inl, inr}
+use Rattle.dwz_meanings.specs.Documents.{Attr, Doc, DwUnit, Entries, Node}
+use Rattle.dwz_docs.specs.Lists.{In}
+use Rattle.dwz_docs.specs.Trees.{End, Entry}
+use Rattle.dwz_alike.specs.Alike.{IsAlike, Scope}
+use Rattle.dwz_alike.specs.Spots.{Spot, file_numbers, same_spot, units_of}
+use Rattle.dwz_seen.specs.Lists.{Each, Nth}
+use Rattle.dwz_seen.specs.Seen.{Named, IsShown, named_map, named_value}
+use Rattle.dwz_seen.specs.Shown.{AreShown, OnePlace, UnitsShown, units_keys}
+use Rattle.dwz_seen.proofs.Members.{in_cases}
+use Rattle.dwz_moving.specs.Homes.{IsChoice, Rule}
+use Rattle.dwz_same.specs.After.{ArePlaced, FilesSame, Place, at_file}
+use Rattle.dwz_same.specs.Units.{all_units, changes, common_units, file_units, out_units}
+use Rattle.dwz_same.proofs.FileLemmas.{files_same}
+use Rattle.dwz_writing.specs.Meant.{placed_attr, placed_entries, placed_node, placed_units}
+use Rattle.dwz_writing.specs.Placing.{FileFit, Fit, fit, fit_attr, fit_node, fit_unit, fit_units, unit_fit, with_keys}
+use Rattle.dwz_writing.specs.Writing.{Numbering}
+use Rattle.dwz_writing.proofs.Chosen.{fit_units_fixed}
+use Rattle.dwz_writing.proofs.Places.{numbering_stands}
+use Rattle.dwz_writing.proofs.Rising.{place_one}
+use Rattle.dwz_writing.proofs.SameLemmas.{spots_same}
+use Rattle.dwz_back.specs.Back.{AreAtOld, IsPlacing, SameBack, all_back, back_units, files_back, run_of}
+use Rattle.dwz_back.specs.Files.{Run, common_fitted, common_forms, common_out, file_forms, file_out, files_out, fitted, places}
+use Rattle.dwz_back.proofs.NameLemmas.{common_names, common_there, file_there, fitted_names, keys_append, run_once}
+
+-- ---- forms and numbers aren't seen
+
+module _ {K P : Type 0} (n : Numbering K) (g : K → P) (unit : ℕ) (f : Fit K) where
+  attrs_shown : (attrs : List (Attr K)) → map named_value (map (placed_attr n g unit) (map (fit_attr f) attrs)) ≡ map (named_map g) (map named_value attrs)
+  attrs_shown [] = refl
+  attrs_shown (a ∷ attrs) = ap (λ (w : List (Named P)). named_map g (named_value a) ∷ w) (attrs_shown attrs)
+
+  node_shown : (e : Node K) → IsShown g e (placed_node n g unit (fit_node f e))
+  node_shown e = record { at = refl; tag = refl; attrs = attrs_shown e.attrs }
+
+  entries_shown : (t : Entries K) → AreShown g t (placed_entries n g unit (fit f t))
+  unfolding fit placed_entries
+  entries_shown End = tt
+  entries_shown (Entry e children next) = (node_shown e, entries_shown children, entries_shown next)
+
+units_shown : {K P : Type 0} (n : Numbering K) (g : K → P) (f : FileFit K) (units : List (DwUnit K)) → UnitsShown g units (placed_units n g (map (fit_unit f) units))
+units_shown n g f [] = tt
+units_shown n g f (u ∷ units) =
+    (record { kind = refl; root = node_shown n g (n.place u.at) (unit_fit f u) u.root; below = entries_shown n g (n.place u.at) (unit_fit f u) u.below }, units_shown n g f units)
+
+shown_append : {P Q : Type 0} (g : P → Q) (a b : List (DwUnit P)) (c d : List (DwUnit Q)) → UnitsShown g a c → UnitsShown g b d → UnitsShown g (a ++ b) (c ++ d)
+shown_append g [] b [] d h k = k
+shown_append g [] b (y ∷ c) d h k = absurd h
+shown_append g (x ∷ a) b [] d h k = absurd h
+shown_append g (x ∷ a) b (y ∷ c) d h k = (h.0, shown_append g a b c d h.1 k)
+
+numbers_in : (s : ℕ) (docs : List (Doc ℕ)) (file : ℕ) → In file (file_numbers s docs) → file < s + length docs
+unfolding file_numbers
+numbers_in s [] file is = absurd is
+numbers_in s (doc ∷ docs) file (inl e) = omega (arith, e)
+numbers_in s (doc ∷ docs) file (inr r) = (let o = numbers_in (suc s) docs file r in omega (arith, o))
+
+module _ (scope : Scope) (docs : List (Doc ℕ)) (rule : Rule) (placed : Each (λ doc. ArePlaced doc.units) docs) (is : IsAlike scope (units_of docs) rule.alike) (choice : IsChoice (units_of docs) rule)
+    (input : ℕ → List ℕ) (g : Spot → Place) (ok : IsPlacing (run_of rule docs input) g) (old : AreAtOld (run_of rule docs input) g docs) where
+  abbrev r : Run
+  r = run_of rule docs input
+
+  abbrev n : Numbering Spot
+  n = places r
+
+  together : FilesSame scope docs rule (file_numbers 0 docs)
+  together = files_same scope docs rule placed is choice
+
+  common_shown : UnitsShown g (common_units r.move) (placed_units n g (common_fitted r))
+  unfolding common_fitted fit_units
+  common_shown = units_shown n g (with_keys (common_forms r) (units_keys (common_units r.move))) (common_units r.move)
+
+  written_shown : (file : ℕ) → UnitsShown g (out_units r.move r.units file) (placed_units n g (fitted r file))
+  unfolding fitted fit_units
+  written_shown file = units_shown n g (with_keys (file_forms r file) (units_keys (out_units r.move r.units file))) (out_units r.move r.units file)
+
+  file_shown : (file : ℕ) (doc : Doc ℕ) → Nth 0 docs file doc → UnitsShown g (out_units r.move r.units file) (back_units r g (changes r.move r.units file) file doc)
+  file_shown file doc nth = by (changes r.move r.units file) refl where
+    by : (b : Bool) → changes r.move r.units file ≡ b → UnitsShown g (out_units r.move r.units file) (back_units r g b file doc)
+    by true e = written_shown file
+    by false e = old.shown file doc nth e
+
+  files_shown : (s : ℕ) (some : List (Doc ℕ)) → ((file : ℕ) (doc : Doc ℕ) → Nth s some file doc → Nth 0 docs file doc) → UnitsShown g (file_units r.move r.units (file_numbers s some)) (files_back r g s some)
+  unfolding file_units files_back file_numbers
+  files_shown s [] into = tt
+  files_shown s (doc ∷ some) into =
+      shown_append g (out_units r.move r.units s) (file_units r.move r.units (file_numbers (suc s) some)) (back_units r g (changes r.move r.units s) s doc) (files_back r g (suc s) some)
+      (file_shown s doc (into s doc (inl (refl, refl)))) (files_shown (suc s) some (λ file d nth. into file d (inr nth)))
+
+  all_shown : UnitsShown g (all_units r.move r.units r.files) (all_back r g docs)
+  all_shown = shown_append g (common_units r.move) (file_units r.move r.units r.files) (placed_units n g (common_fitted r)) (files_back r g 0 docs) common_shown (files_shown 0 docs (λ file d nth. nth))
+
+  -- ---- each name has one place
+
+  -- where a name stands
+  record NameIn (k : Spot) : Type 0 where
+    file : ℕ
+    there : In file r.files
+    is_in : In k (units_keys (out_units r.move r.units file))
+
+  name_files : (files : List ℕ) → ((f : ℕ) → In f files → In f r.files) → (k : Spot) → In k (units_keys (file_units r.move r.units files)) → NameIn k
+  unfolding file_units units_keys
+  name_files [] into k h = absurd h
+  name_files (f ∷ files) into k h = elim (in_cases k (units_keys (out_units r.move r.units f)) (units_keys (file_units r.move r.units files)) (subst (In k) (keys_append (out_units r.move r.units f) (file_units r.move r.units files)) h)) [
+    | inl a ↦ record { file = f; there = into f (inl refl); is_in = a }
+    | inr b ↦ name_files files (λ x there. into x (inr there)) k b
+  ]
+
+  name_in : (k : Spot) → In k (units_keys (all_units r.move r.units r.files)) → In k (units_keys (common_units r.move)) ⊎ NameIn k
+  name_in k h = elim (in_cases k (units_keys (common_units r.move)) (units_keys (file_units r.move r.units r.files)) (subst (In k) (keys_append (common_units r.move) (file_units r.move r.units r.files)) h)) [
+    | inl a ↦ inl a
+    | inr b ↦ inr (name_files r.files (λ f there. there) k b)
+  ]
+
+  common_place : (k : Spot) → In k (units_keys (common_units r.move)) → at_file r.common (n.place k) ≡ g k
+  common_place k h = ok.common k (subst (In k) (sym (common_names r)) h)
+
+  file_place : (file : ℕ) → In file r.files → changes r.move r.units file ≡ true → (k : Spot) → In k (units_keys (out_units r.move r.units file)) → at_file file (n.place k) ≡ g k
+  file_place file there changed k h = ok.written file there changed k (subst (In k) (sym (fitted_names r file)) h)
+
+  number_of : (k : Spot) (o : NameIn k) → (g k).file ≡ o.file
+  number_of k o = by (changes r.move r.units o.file) refl where
+    by : (b : Bool) → changes r.move r.units o.file ≡ b → (g k).file ≡ o.file
+    by true e = sym (ap (λ (p : Place). p.file) (file_place o.file o.there e k o.is_in))
+    by false e = old.file o.file o.there e k o.is_in
+
+  common_one : OnePlace g (common_units r.move)
+  unfolding common_fitted
+  common_one x y a b e =
+      let stands = numbering_stands same_spot spots_same (files_out r) (run_once r together.apart) (common_out r) (common_there r) (fit_units_fixed (common_forms r) (common_units r.move)) in
+      let same : n.place x ≡ n.place y = ap (λ (p : Place). p.at) (common_place x a ∙ e ∙ sym (common_place y b)) in
+      place_one n (common_fitted r) stands x y (subst (In x) (sym (common_names r)) a) (subst (In y) (sym (common_names r)) b) same
+
+  file_one : (file : ℕ) → In file r.files → OnePlace g (out_units r.move r.units file)
+  unfolding fitted
+  file_one file there x y a b e = by (changes r.move r.units file) refl where
+    by : (c : Bool) → changes r.move r.units file ≡ c → x ≡ y
+    by false c = old.one file there c x y a b e
+    by true c =
+        (let stands = numbering_stands same_spot spots_same (files_out r) (run_once r together.apart) (file_out r file) (file_there r file there) (fit_units_fixed (file_forms r file) (out_units r.move r.units file)) in
+        let same : n.place x ≡ n.place y = ap (λ (p : Place). p.at) (file_place file there c x a ∙ e ∙ sym (file_place file there c y b)) in
+        place_one n (fitted r file) stands x y (subst (In x) (sym (fitted_names r file)) a) (subst (In y) (sym (fitted_names r file)) b) same)
+
+  apart_from : (k l : Spot) → In k (units_keys (common_units r.move)) → NameIn l → g k ≡ g l → ⊥
+  apart_from k l a o e =
+      let number : r.common ≡ o.file = ap (λ (p : Place). p.file) (common_place k a ∙ e) ∙ number_of l o in
+      let less = numbers_in 0 docs o.file o.there in
+      omega (arith, number, less)
+
+  one_place : OnePlace g (all_units r.move r.units r.files)
+  one_place x y a b e = elim (name_in x a) [
+    | inl p ↦ elim (name_in y b) [ inl q ↦ common_one x y p q e | inr q ↦ absurd (apart_from x y p q e) ]
+    | inr p ↦ elim (name_in y b) [
+      | inl q ↦ absurd (apart_from y x q p (sym e))
+      | inr q ↦
+          let number : p.file ≡ q.file = sym (number_of x p) ∙ ap (λ (w : Place). w.file) e ∙ number_of y q in
+          file_one q.file q.there x y (subst (λ (f : ℕ). In x (units_keys (out_units r.move r.units f))) number p.is_in) q.is_in e
+    ]
+  ]
+
+  pub same_back : SameBack scope docs rule input g
+  same_back = record { same = together.same g (all_back r g docs) all_shown one_place; alone = together.alone g one_place; images = together.images g one_place }

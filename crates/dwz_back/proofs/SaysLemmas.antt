@@ -1,0 +1,203 @@
+-- What is written of files is what they say.
+use Rattle.std.proofs.Common.{◌≡◌, ℕ, ◌<◌, ◌^◌, true, false, List, [], length, map, Option, Some, None, refl, sym, ap, subst, ◌∙◌, arith}
+use Rattle.dwz_meanings.specs.Documents.{DwUnit}
+use Rattle.dwz_docs.specs.ElfFaults.{IsElfFault}
+use Rattle.dwz_meanings.specs.Files.{debug_abbrev, debug_info, section_of, sources_of}
+use Rattle.dwz_docs.specs.Lists.{In}
+use Rattle.dwz_meanings.specs.Meanings.{Common, Sources}
+use Rattle.dwz_docs.specs.Units.{SpellsUnits}
+use Rattle.dwz_alike.specs.Spots.{Spot, same_spot}
+use Rattle.dwz_seen.specs.Lists.{Each, NoneTwice}
+use Rattle.dwz_seen.specs.Shown.{units_keys}
+use Rattle.dwz_seen.proofs.Members.{in_map}
+use Rattle.dwz_same.specs.After.{Place, at_file}
+use Rattle.dwz_same.specs.Units.{all_units, changes, common_units, out_units}
+use Rattle.dwz_writing.specs.Carried.{OfAny, OfFile}
+use Rattle.dwz_writing.specs.Fitting.{AreWritable, UnitFits, UnitHasRoom, mode_for}
+use Rattle.dwz_writing.specs.Meant.{IsAround, Tells, UnitsSay, all_entry_keys}
+use Rattle.dwz_writing.specs.Placing.{FitsSections, UnitsStand, sections, texts_bytes}
+use Rattle.dwz_writing.specs.Sound.{SoundUnit}
+use Rattle.dwz_writing.specs.Writing.{Numbering, tables_of}
+use Rattle.dwz_writing.proofs.Chosen.{fit_units_all, fit_units_fixed, units_good}
+use Rattle.dwz_writing.proofs.Places.{numbering_stands}
+use Rattle.dwz_writing.proofs.PoolLemmas.{units_texts}
+use Rattle.dwz_writing.proofs.RawUnits.{raw_units}
+use Rattle.dwz_writing.proofs.Rising.{entries_are_keys, place_within}
+use Rattle.dwz_writing.proofs.SameLemmas.{spots_same}
+use Rattle.dwz_writing.proofs.UnitsMean.{all_raw}
+use Rattle.dwz_writing.proofs.UnitsSpelled.{units_len}
+use Rattle.dwz_writing.proofs.WriteLaws.{fits, is_roomy, means, spelled}
+use Rattle.dwz_back.specs.Back.{CanWrite, IsPlacing, SaysPlaced, around_in, given_by, tells, tells_common}
+use Rattle.dwz_back.specs.Files.{HasCommon, HasSections, Run, common_fitted, common_forms, common_out, common_sections, file_forms, file_out, files_out, fitted, place_of, places, sections_of, sources, texts}
+use Rattle.dwz_back.proofs.NameLemmas.{common_names, common_there, file_once, file_there, fitted_names, name_in_common, name_in_file, not_common, run_once}
+
+-- the places where names are written are such places
+pub written_places : (r : Run) → NoneTwice (units_keys (all_units r.move r.units r.files)) → IsPlacing r (place_of r)
+written_places r once = record {
+  common = λ k is. ap (λ (f : ℕ). at_file f ((places r).place k)) (sym (name_in_common r once k is));
+  written = λ file there changed k is. ap (λ (f : ℕ). at_file f ((places r).place k)) (sym (name_in_file r once file there k is));
+}
+
+module _ (r : Run) (can : CanWrite r) (g : Spot → Place) (ok : IsPlacing r g) where
+  abbrev n : Numbering Spot
+  n = places r
+
+  common_stands : UnitsStand n (common_fitted r) 0
+  unfolding common_fitted
+  common_stands = numbering_stands same_spot spots_same (files_out r) (run_once r can.apart) (common_out r) (common_there r) (fit_units_fixed (common_forms r) (common_units r.move))
+
+  file_stands : (file : ℕ) → In file r.files → UnitsStand n (fitted r file) 0
+  unfolding fitted
+  file_stands file there = numbering_stands same_spot spots_same (files_out r) (run_once r can.apart) (file_out r file) (file_there r file there) (fit_units_fixed (file_forms r file) (out_units r.move r.units file))
+
+  common_all : all_entry_keys (common_fitted r) ≡ all_entry_keys (common_units r.move)
+  unfolding common_fitted
+  common_all = fit_units_all (common_forms r) (common_units r.move)
+
+  file_all : (file : ℕ) → all_entry_keys (fitted r file) ≡ all_entry_keys (out_units r.move r.units file)
+  unfolding fitted
+  file_all file = fit_units_all (file_forms r file) (out_units r.move r.units file)
+
+  -- places in the common file are small
+  common_small : FitsSections (common_sections r) → (k : Spot) → In k (all_entry_keys (common_fitted r)) → n.place k < 2 ^ 32
+  unfolding sections
+  common_small small k is =
+      let within = place_within n (common_fitted r) common_stands k (entries_are_keys (common_fitted r) k is) in
+      let len = units_len n (tables_of [] (common_fitted r)) (common_fitted r) in
+      let few = small.0 in
+      omega (arith, within, len, few)
+
+  -- ---- what is said, whatever surrounds it
+
+  record Said (t : Tells Spot) (common : Option (Common Place)) (number : ℕ) (bytes : List ℕ) (units : List (DwUnit Spot)) : Type 0 where
+    all : t.all ≡ all_entry_keys units
+    good : Each SoundUnit units × UnitsSay t units
+    stands : UnitsStand n units 0
+    elf : (f : _) → IsElfFault bytes f → ⊥
+    info : debug_info bytes ≡ (sections n units).info
+    abbrevs : debug_abbrev bytes ≡ (sections n units).abbrevs
+    strs : (sources_of bytes).strs ≡ t.strs
+    line_strs : (sources_of bytes).line_strs ≡ t.line_strs
+    offsets : (sources_of bytes).offsets ≡ t.offsets
+    line : (sources_of bytes).line ≡ t.line
+    room : Each (UnitHasRoom n) units
+    small : FitsSections (sections n units)
+    common_few : (k : Spot) → In k t.common → n.place k < 2 ^ 32
+    own : (k : Spot) → In k (units_keys units) → at_file number (n.place k) ≡ g k
+    given : (k : Spot) → In k t.common → (c : Common Place) × (common ≡ Some c) × In (n.place k) c.entries × (c.place (n.place k) ≡ g k)
+
+  said_placed : (t : Tells Spot) (common : Option (Common Place)) (number : ℕ) (bytes : List ℕ) (units : List (DwUnit Spot)) → Said t common number bytes units → SaysPlaced r g common number bytes units
+  said_placed t common number bytes units s =
+      let w : AreWritable n t.common units = record { sound = s.good.0; stands = s.stands; room = s.room; fits = s.small; common_fits = s.common_few } in
+      let fit : Each (UnitFits n) units = fits n t.common units t s.all refl w s.good.1 in
+      let raw = raw_units n (tables_of [] units) units in
+      let entries = all_raw n (tables_of [] units) units in
+      let mode = mode_for units in
+      let spells : SpellsUnits (sections n units).abbrevs mode 0 raw 0 (sections n units).info = spelled n t.common units mode w fit (is_roomy units) in
+      let around : IsAround n g t (units_keys units) (around_in common number bytes raw) = record {
+        strs = s.strs;
+        line_strs = s.line_strs;
+        offsets = s.offsets;
+        line = s.line;
+        all = entries ∙ ap (λ (ks : List Spot). map n.place ks) (sym s.all);
+        place = s.own;
+        common = s.given;
+      } in
+      record {
+        raw = raw;
+        says = record {
+          elf = s.elf;
+          mode = mode;
+          whole = refl;
+          partial = refl;
+          forms = refl;
+          spelled = subst (λ (info : List ℕ). SpellsUnits (debug_abbrev bytes) mode 0 raw 0 info) (sym s.info) (subst (λ (abbrevs : List ℕ). SpellsUnits abbrevs mode 0 raw 0 (sections n units).info) (sym s.abbrevs) spells);
+          means = means n g units t (around_in common number bytes raw) s.all around s.good.0 fit s.good.1;
+        };
+        entries = entries;
+      }
+
+  -- ---- the common file
+
+  common_good : length (texts_bytes (texts r)) < 2 ^ 32 → Each SoundUnit (common_fitted r) × UnitsSay (tells_common r) (common_fitted r)
+  unfolding common_fitted
+  common_good small =
+      let c = can.common in
+      units_good (common_forms r) spots_same OfAny (tells_common r) (common_units r.move) common_all (subst NoneTwice (common_names r) (file_once (files_out r) (run_once r can.apart) (common_out r) (common_there r))) c.carried c.closed (λ k is. absurd is)
+      (small, refl, units_texts [] (common_units r.move)) c.over.bases c.over.operands
+
+  common_room : Each (UnitHasRoom n) (common_fitted r)
+  unfolding common_fitted
+  common_room = can.common.over.room
+
+  pub common_back : (out : List ℕ) → HasCommon out (common_sections r) (texts r) → FitsSections (common_sections r) → SaysPlaced r g None r.common out (common_fitted r)
+  common_back out has small = said_placed (tells_common r) None r.common out (common_fitted r) (record {
+    all = refl;
+    good = common_good (subst (λ (w : Sources). length w.strs < 2 ^ 32) has.sources has.small);
+    stands = common_stands;
+    elf = has.elf;
+    info = has.info;
+    abbrevs = has.abbrevs;
+    strs = ap (λ (w : Sources). w.strs) has.sources;
+    line_strs = ap (λ (w : Sources). w.line_strs) has.sources;
+    offsets = ap (λ (w : Sources). w.offsets) has.sources;
+    line = ap (λ (w : Sources). w.line) has.sources;
+    room = common_room;
+    small = small;
+    common_few = λ k is. absurd is;
+    own = ok.common;
+    given = λ k is. absurd is;
+  })
+
+  -- ---- a file
+
+  file_good : (file : ℕ) → In file r.files → changes r.move r.units file ≡ true → length (sources r file).strs < 2 ^ 32 → Each SoundUnit (fitted r file) × UnitsSay (tells r file) (fitted r file)
+  unfolding fitted
+  file_good file there changed small =
+      let names = fitted_names r file in
+      let c = can.file file there changed in
+      units_good (file_forms r file) spots_same (OfFile (sources r file)) (tells r file) (out_units r.move r.units file) (file_all file) (subst NoneTwice names (file_once (files_out r) (run_once r can.apart) (file_out r file) (file_there r file there))) c.carried c.closed
+      (λ k common own. not_common r can.apart file there k (entries_are_keys (common_fitted r) k common) (subst (In k) (sym names) own))
+      (small, λ s is. (ap (λ (x : Sources). x.strs) (sym is), ap (λ (x : Sources). x.line_strs) (sym is), ap (λ (x : Sources). x.offsets) (sym is), ap (λ (x : Sources). x.line) (sym is), ap (λ (x : Sources). x.offsets) (sym is))) c.over.bases c.over.operands
+
+  file_room : (file : ℕ) → In file r.files → changes r.move r.units file ≡ true → Each (UnitHasRoom n) (fitted r file)
+  unfolding fitted
+  file_room file there changed = (can.file file there changed).over.room
+
+  with_common : (common : Option (Common Place)) (out : List ℕ) (file : ℕ) → In file r.files → changes r.move r.units file ≡ true → HasSections (r.input file) out (sections_of r file) → FitsSections (sections_of r file)
+      → ((k : Spot) → In k (all_entry_keys (common_fitted r)) → n.place k < 2 ^ 32) → ((k : Spot) → In k (all_entry_keys (common_fitted r)) → (c : Common Place) × (common ≡ Some c) × In (n.place k) c.entries × (c.place (n.place k) ≡ g k))
+      → SaysPlaced r g common file out (fitted r file)
+  with_common common out file there changed has small few given = said_placed (tells r file) common file out (fitted r file) (record {
+    all = refl;
+    good = file_good file there changed (subst (λ (w : Sources). length w.strs < 2 ^ 32) has.sources has.small);
+    stands = file_stands file there;
+    elf = has.elf;
+    info = has.info;
+    abbrevs = has.abbrevs;
+    strs = ap (λ (x : Sources). x.strs) has.sources;
+    line_strs = ap (λ (x : Sources). x.line_strs) has.sources;
+    offsets = ap (λ (x : Sources). x.offsets) has.sources;
+    line = ap (λ (x : Sources). x.line) has.sources;
+    room = file_room file there changed;
+    small = small;
+    common_few = few;
+    own = ok.written file there changed;
+    given = given;
+  })
+
+  pub file_back : (out common : List ℕ) → FitsSections (common_sections r) → (c : SaysPlaced r g None r.common common (common_fitted r)) → (file : ℕ) → In file r.files → changes r.move r.units file ≡ true
+      → HasSections (r.input file) out (sections_of r file) → FitsSections (sections_of r file) → SaysPlaced r g (Some (given_by r.common common c.raw)) file out (fitted r file)
+  file_back out common common_fits c file there changed has small = with_common (Some (given_by r.common common c.raw)) out file there changed has small (common_small common_fits) (λ k is. (
+    given_by r.common common c.raw,
+    refl,
+    subst (In (n.place k)) (sym c.entries) (in_map n.place k (all_entry_keys (common_fitted r)) is),
+    ok.common k (entries_are_keys (common_fitted r) k is),
+  ))
+
+  none_common : common_units r.move ≡ [] → (k : Spot) → In k (all_entry_keys (common_fitted r)) → ⊥
+  unfolding all_entry_keys
+  none_common none k is = subst (In k) (common_all ∙ ap (λ (us : List (DwUnit Spot)). all_entry_keys us) none) is
+
+  pub alone_back : (out : List ℕ) → common_units r.move ≡ [] → (file : ℕ) → In file r.files → changes r.move r.units file ≡ true → HasSections (r.input file) out (sections_of r file) → FitsSections (sections_of r file)
+      → SaysPlaced r g None file out (fitted r file)
+  alone_back out none file there changed has small = with_common None out file there changed has small (λ k is. absurd (none_common none k is)) (λ k is. absurd (none_common none k is))

@@ -1,0 +1,204 @@
+-- What files say that are read back with a common file.
+use Rattle.std.specs.Prelude.{◌≡◌, ℕ, suc, Bool, true, false, List, [], ◌∷◌, ◌++◌, length, map, Option, Some, None}
+use Rattle.dwz_meanings.specs.Documents.{Doc, DwUnit, unit_map}
+use Rattle.dwz_docs.specs.ElfFaults.{IsElfFault}
+use Rattle.dwz_docs.specs.Entries.{Mode}
+use Rattle.dwz_meanings.specs.Files.{Limits, Reads, debug_abbrev, debug_info, section_of, sources_of}
+use Rattle.dwz_docs.specs.Lists.{In}
+use Rattle.dwz_meanings.specs.Meanings.{Around, Common, MeanUnits, Sources, all_places}
+use Rattle.dwz_docs.specs.Units.{RawUnit, SpellsUnits}
+use Rattle.dwz_docs.specs.Values.{AreBytes}
+use Rattle.dwz_seen.specs.Lists.{Each, NoneTwice, Nth}
+use Rattle.dwz_seen.specs.Seen.{Closed, SameAlong}
+use Rattle.dwz_seen.specs.Shown.{OnePlace, UnitsShown, units_keys}
+use Rattle.dwz_alike.specs.Alike.{Apart, IsAlike, Scope}
+use Rattle.dwz_alike.specs.Spots.{Spot, file_numbers, units_of}
+use Rattle.dwz_moving.specs.Homes.{IsChoice, Local, Rule, moves}
+use Rattle.dwz_moving.specs.Moves.{plan}
+use Rattle.dwz_moving.specs.Plan.{image}
+use Rattle.dwz_same.specs.After.{ArePlaced, Place, at_file, name_in, placed_from}
+use Rattle.dwz_same.specs.Images.{IsAlone, OneImage}
+use Rattle.dwz_same.specs.Units.{all_units, changes, common_units, out_units, units_at}
+use Rattle.dwz_writing.specs.Bases.{bases_in}
+use Rattle.dwz_writing.specs.Carried.{BasesStand, BuiltUnit, CarriedUnit, ClosedIn, OfAny, OfFile, OperandsStand}
+use Rattle.dwz_writing.specs.Fitting.{UnitHasRoom, back_forms}
+use Rattle.dwz_writing.specs.Meant.{Tells, all_entry_keys, placed_units}
+use Rattle.dwz_writing.specs.Placing.{FitsSections, Forms, fit_units}
+use Rattle.dwz_writing.specs.Writing.{Numbering}
+use Rattle.dwz_back.specs.Carrying.{PartsCarried}
+use Rattle.dwz_back.specs.Files.{HasCommon, HasSections, Run, common_fitted, common_forms, common_sections, common_sources, file_forms, fitted, place_of, places, sections_of, sources, texts}
+
+-- ---- the relation: what a file says
+
+-- what a common file with this number gives to the others: its entries, and its texts
+abbrev pub given_by : ℕ → List ℕ → List RawUnit → Common Place
+given_by number bytes raw = record { entries = all_places raw; place = at_file number; strs = section_of bytes 3 }
+
+abbrev pub around_in : Option (Common Place) → ℕ → List ℕ → List RawUnit → Around Place
+around_in common number bytes raw = record { sources = sources_of bytes; all = all_places raw; place = at_file number; common = common }
+
+-- The file with a number has no fault of an ELF file; its units, of which some may be partial, with the forms that lead to a common
+-- file, are spelled, and mean these. No limit on depth or on entries is asked of it.
+pub record SaysUnits (common : Option (Common Place)) (number : ℕ) (bytes : List ℕ) (raw : List RawUnit) (units : List (DwUnit Place)) : Type 0 where
+  pub elf : (f : _) → IsElfFault bytes f → ⊥
+  pub mode : Mode
+  pub whole : mode.whole ≡ true
+  pub partial : mode.partial ≡ true
+  pub forms : mode.forms ≡ back_forms
+  pub spelled : SpellsUnits (debug_abbrev bytes) mode 0 raw 0 (debug_info bytes)
+  pub means : MeanUnits (around_in common number bytes raw) raw units
+
+-- ---- what is asked of a run, so that what it writes reads back
+
+-- what a file's units are written for
+abbrev pub tells_of : Sources → (all common : List Spot) → Tells Spot
+tells_of s all common = record { strs = s.strs; line_strs = s.line_strs; offsets = s.offsets; line = s.line; all = all; common = common }
+
+abbrev pub tells : Run → ℕ → Tells Spot
+tells r file = tells_of (sources r file) (all_entry_keys (fitted r file)) (all_entry_keys (common_fitted r))
+
+abbrev pub tells_common : Run → Tells Spot
+tells_common r = tells_of (common_sources (texts r)) (all_entry_keys (common_fitted r)) []
+
+-- What is asked of units besides, as long as it isn't shown of all: roots say of slots and of a line table what the units said that
+-- values come from, and no value of the common file numbers a file; the operands of expressions name entries as their numbers are
+-- counted, and have room for these.
+pub record StandOver (f : Forms Spot) (t : Tells Spot) (n : Numbering Spot) (units : List (DwUnit Spot)) : Type 0 where
+  pub bases : Each (BasesStand f) units
+  pub operands : Each (OperandsStand t) units
+  pub room : Each (UnitHasRoom n) (fit_units f units)
+
+-- each value of these units was read in such files, in the unit that it is said to come from; each reference names an entry of the
+-- file, or of the common file
+pub record IsReady (from : Sources → Type 0) (f : Forms Spot) (t : Tells Spot) (n : Numbering Spot) (units : List (DwUnit Spot)) : Type 0 where
+  pub carried : Each (λ u. CarriedUnit from (f.origin u.at) u) units
+  pub closed : ClosedIn t units
+  pub over : StandOver f t n units
+
+abbrev pub FileOver : Run → ℕ → Type 0
+FileOver r file = StandOver (file_forms r file) (tells r file) (places r) (out_units r.move r.units file)
+
+abbrev pub CommonOver : Run → Type 0
+CommonOver r = StandOver (common_forms r) (tells_common r) (places r) (common_units r.move)
+
+-- no name stands twice, and the units of each file of which something moves, and of the common file, are ready
+pub record CanWrite (r : Run) : Type 0 where
+  pub apart : NoneTwice (units_keys (all_units r.move r.units r.files))
+  pub file : (file : ℕ) → In file r.files → changes r.move r.units file ≡ true → IsReady (OfFile (sources r file)) (file_forms r file) (tells r file) (places r) (out_units r.move r.units file)
+  pub common : IsReady OfAny (common_forms r) (tells_common r) (places r) (common_units r.move)
+
+-- places for the names of a run: in the common file, and in each file of which something moves, those where they are written
+pub record IsPlacing (r : Run) (g : Spot → Place) : Type 0 where
+  pub common : (k : Spot) → In k (units_keys (common_fitted r)) → at_file r.common ((places r).place k) ≡ g k
+  pub written : (file : ℕ) → In file r.files → changes r.move r.units file ≡ true → (k : Spot) → In k (units_keys (fitted r file)) → at_file file ((places r).place k) ≡ g k
+
+-- the file says these units, at the places of their names, which are the places of all its entries
+pub record SaysPlaced (r : Run) (g : Spot → Place) (common : Option (Common Place)) (number : ℕ) (bytes : List ℕ) (units : List (DwUnit Spot)) : Type 0 where
+  pub raw : List RawUnit
+  pub says : SaysUnits common number bytes raw (placed_units (places r) g units)
+  pub entries : all_places raw ≡ map (places r).place (all_entry_keys units)
+
+-- ---- laws
+
+-- where each name stands once, the places where names are written are such places
+abbrev pub PlacingLaw : Type 0
+PlacingLaw = (r : Run) → NoneTwice (units_keys (all_units r.move r.units r.files)) → IsPlacing r (place_of r)
+
+-- a common file that was made so says its units, at their places
+abbrev pub CommonBackLaw : Type 0
+CommonBackLaw =
+    (r : Run) (g : Spot → Place) (out : List ℕ) → CanWrite r → IsPlacing r g → HasCommon out (common_sections r) (texts r) → FitsSections (common_sections r)
+    → SaysPlaced r g None r.common out (common_fitted r)
+
+-- a file that was made so says its units, at their places, where it is read with the common file
+abbrev pub FileBackLaw : Type 0
+FileBackLaw =
+    (r : Run) (g : Spot → Place) (out common : List ℕ) → CanWrite r → IsPlacing r g → FitsSections (common_sections r) → (c : SaysPlaced r g None r.common common (common_fitted r))
+    → (file : ℕ) → In file r.files → changes r.move r.units file ≡ true → HasSections (r.input file) out (sections_of r file) → FitsSections (sections_of r file)
+    → SaysPlaced r g (Some (given_by r.common common c.raw)) file out (fitted r file)
+
+-- and where nothing is in the common file, also by itself
+abbrev pub AloneBackLaw : Type 0
+AloneBackLaw =
+    (r : Run) (g : Spot → Place) (out : List ℕ) → CanWrite r → IsPlacing r g → common_units r.move ≡ []
+    → (file : ℕ) → In file r.files → changes r.move r.units file ≡ true → HasSections (r.input file) out (sections_of r file) → FitsSections (sections_of r file)
+    → SaysPlaced r g None file out (fitted r file)
+
+-- ---- what all files say together
+
+-- the run of files that say these documents, with the bytes of each
+abbrev pub run_of : Rule → List (Doc ℕ) → (ℕ → List ℕ) → Run
+run_of rule docs input = record { move = plan rule (units_of docs) (file_numbers 0 docs); units = units_of docs; files = file_numbers 0 docs; input = input; common = length docs }
+
+abbrev pub back_units : Run → (Spot → Place) → Bool → ℕ → Doc ℕ → List (DwUnit Place)
+back_units r g true file doc = placed_units (places r) g (fitted r file)
+back_units r g false file doc = map (unit_map (at_file file)) doc.units
+
+-- of each file what it says: its new units, or where nothing of it moves those that it said
+unfoldable pub files_back : Run → (Spot → Place) → ℕ → List (Doc ℕ) → List (DwUnit Place)
+files_back r g file [] = []
+files_back r g file (doc ∷ docs) = back_units r g (changes r.move r.units file) file doc ++ files_back r g (suc file) docs
+
+-- with the common file
+abbrev pub all_back : Run → (Spot → Place) → List (Doc ℕ) → List (DwUnit Place)
+all_back r g docs = placed_units (places r) g (common_fitted r) ++ files_back r g 0 docs
+
+-- and in a file of which nothing moves they are those at which its units were read, one for each name
+pub record AreAtOld (r : Run) (g : Spot → Place) (docs : List (Doc ℕ)) : Type 0 where
+  pub shown : (file : ℕ) (doc : Doc ℕ) → Nth 0 docs file doc → changes r.move r.units file ≡ false → UnitsShown g (out_units r.move r.units file) (map (unit_map (at_file file)) doc.units)
+  pub file : (file : ℕ) → In file r.files → changes r.move r.units file ≡ false → (k : Spot) → In k (units_keys (out_units r.move r.units file)) → (g k).file ≡ file
+  pub one : (file : ℕ) → In file r.files → changes r.move r.units file ≡ false → OnePlace g (out_units r.move r.units file)
+
+-- what all files say, the common one among them, is the same as what was read, along images; and entries share an image exactly where
+-- they move and nothing tells them apart
+pub record SameBack (scope : Scope) (docs : List (Doc ℕ)) (rule : Rule) (input : ℕ → List ℕ) (g : Spot → Place) : Type 0 where
+  pub same : SameAlong (λ p. g (image rule (units_of docs) (name_in docs p))) (placed_from 0 docs) (all_back (run_of rule docs input) g docs)
+  pub alone : IsAlone (units_of docs) (λ s. g (image rule (units_of docs) s))
+  pub images : OneImage scope (units_of docs) (λ n. moves rule (units_of docs) n ≡ true) (λ s. g (image rule (units_of docs) s))
+
+abbrev pub SameBackLaw : Type 0
+SameBackLaw =
+    (scope : Scope) (docs : List (Doc ℕ)) (rule : Rule) → Each (λ doc. ArePlaced doc.units) docs → IsAlike scope (units_of docs) rule.alike → IsChoice (units_of docs) rule
+    → (input : ℕ → List ℕ) (g : Spot → Place) → IsPlacing (run_of rule docs input) g → AreAtOld (run_of rule docs input) g docs → SameBack scope docs rule input g
+
+-- ---- what is read
+
+-- the places of units of a file differ, and each value was read in the file with these sections
+pub record WasReadFrom (sources : Sources) (units : List (DwUnit ℕ)) : Type 0 where
+  pub placed : ArePlaced units
+  pub carried : Each (λ u. CarriedUnit (OfFile sources) (bases_in u) u) units
+
+-- so is each file that reads, if its attributes are among those that are written
+abbrev pub ReadLaw : Type 0
+ReadLaw =
+    (l : Limits) (input : List ℕ) (raw : List RawUnit) (doc : Doc ℕ) → Reads l input raw doc → AreBytes (debug_info input) → Each BuiltUnit doc.units → WasReadFrom (sources_of input) doc.units
+
+-- after, each reference of a file names an entry of it, or of the common file
+abbrev pub WithinLaw : Type 0
+WithinLaw =
+    (scope : Scope) (docs : List (Doc ℕ)) (rule : Rule) → Each (λ doc. ArePlaced doc.units) docs → IsAlike scope (units_of docs) rule.alike → IsChoice (units_of docs) rule
+    → (input : ℕ → List ℕ) (file : ℕ) → ClosedIn (tells (run_of rule docs input) file) (out_units (run_of rule docs input).move (units_of docs) file)
+
+-- and each of the common file an entry of that
+abbrev pub CommonWithinLaw : Type 0
+CommonWithinLaw =
+    (scope : Scope) (docs : List (Doc ℕ)) (rule : Rule) → Each (λ doc. ArePlaced doc.units) docs → IsAlike scope (units_of docs) rule.alike → IsChoice (units_of docs) rule
+    → (input : ℕ → List ℕ) → ClosedIn (tells_common (run_of rule docs input)) (common_units (run_of rule docs input).move)
+
+-- ---- one file by itself
+
+abbrev pub one_run : Rule → Doc ℕ → List ℕ → Run
+one_run rule doc input = run_of rule (doc ∷ []) (λ file. input)
+
+-- the file that was made from one that reads says its new units by itself, and they are the same as what was read
+pub record OneBack (doc : Doc ℕ) (rule : Rule) (input out : List ℕ) : Type 0 where
+  pub says : SaysPlaced (one_run rule doc input) (place_of (one_run rule doc input)) None 0 out (fitted (one_run rule doc input) 0)
+  pub same : SameBack Apart (doc ∷ []) rule (λ file. input) (place_of (one_run rule doc input))
+
+abbrev pub OneBackLaw : Type 0
+OneBackLaw =
+    (l : Limits) (input : List ℕ) (raw : List RawUnit) (doc : Doc ℕ) → Reads l input raw doc → AreBytes (debug_info input) → Each BuiltUnit doc.units
+    → (rule : Rule) → IsAlike Apart (units_of (doc ∷ [])) rule.alike → IsChoice (units_of (doc ∷ [])) rule
+    → PartsCarried (OfFile (sources_of input)) (one_run rule doc input).move (units_of (doc ∷ [])) (Local 0) → FileOver (one_run rule doc input) 0
+    → changes (one_run rule doc input).move (units_of (doc ∷ [])) 0 ≡ true
+    → (out : List ℕ) → HasSections input out (sections_of (one_run rule doc input) 0) → FitsSections (sections_of (one_run rule doc input) 0) → OneBack doc rule input out

@@ -1,0 +1,111 @@
+-- What is written for files and a common one: their units, with the forms of their values, where their names stand, and their sections.
+use Rattle.std.specs.Prelude.{◌≡◌, ℕ, zero, suc, ◌<◌, ◌^◌, true, false, List, [], ◌∷◌, map, length, Option, Some, None}
+use Rattle.dwz_meanings.specs.Documents.{DwUnit}
+use Rattle.dwz_docs.specs.ElfFaults.{IsElfFault}
+use Rattle.dwz_meanings.specs.Files.{debug_abbrev, debug_info, section_of, sources_of}
+use Rattle.dwz_meanings.specs.Meanings.{Sources}
+use Rattle.dwz_alike.specs.Spots.{FileUnit, PartialOf, Spot, UnitOf, same_spot}
+use Rattle.dwz_moving.specs.Moves.{Move, first_unit, part_at}
+use Rattle.dwz_moving.specs.Plan.{PartialUnit}
+use Rattle.dwz_same.specs.After.{Place, at_file}
+use Rattle.dwz_same.specs.Units.{common_units, out_units}
+use Rattle.dwz_writing.specs.Bases.{Bases, bases_in, no_bases}
+use Rattle.dwz_writing.specs.Placing.{FileOut, Forms, UnitSections, file_in, fit_units, numbering, sections, texts_bytes, texts_of}
+use Rattle.dwz_writing.specs.Writing.{Numbering}
+
+-- what is written of: a move of the tops of units of these files, the bytes of each file as it was read, and the number of the common
+-- file
+pub record Run : Type 0 where
+  pub move : Move
+  pub units : List (FileUnit Spot)
+  pub files : List ℕ
+  pub input : ℕ → List ℕ
+  pub common : ℕ
+
+-- the sections of a file as it was read
+abbrev pub sources : Run → ℕ → Sources
+sources r file = sources_of (r.input file)
+
+-- the texts of the common file
+abbrev pub texts : Run → List (List ℕ)
+texts r = texts_of [] (common_units r.move)
+
+-- ---- the unit that values come from: an old unit's own, and a partial unit's those of the unit that its first top comes from
+
+-- what the root says of the unit with that number
+unfoldable pub bases_at : List (FileUnit Spot) → ℕ → Bases
+bases_at [] i = no_bases
+bases_at (f ∷ units) zero = bases_in f.unit
+bases_at (f ∷ units) (suc i) = bases_at units i
+
+abbrev pub unit_in_part : Option PartialUnit → ℕ
+unit_in_part None = 0
+unit_in_part (Some part) = first_unit part.tops
+
+abbrev pub origin_in : Move → List (FileUnit Spot) → Spot → Bases
+origin_in m units (UnitOf i) = bases_at units i
+origin_in m units (PartialOf n) = bases_at units (unit_in_part (part_at n m.parts))
+origin_in m units _ = no_bases
+
+-- ---- the units with the forms of their values
+
+abbrev pub common_forms : Run → Forms Spot
+common_forms r = record { same = same_spot; is_common = true; texts = texts r; offsets = []; origin = origin_in r.move r.units }
+
+abbrev pub file_forms : Run → ℕ → Forms Spot
+file_forms r file = record { same = same_spot; is_common = false; texts = texts r; offsets = (sources r file).offsets; origin = origin_in r.move r.units }
+
+-- the units of the common file, and those of a file, with the forms of their values
+unfoldable pub common_fitted : Run → List (DwUnit Spot)
+common_fitted r = fit_units (common_forms r) (common_units r.move)
+
+unfoldable pub fitted : Run → ℕ → List (DwUnit Spot)
+fitted r file = fit_units (file_forms r file) (out_units r.move r.units file)
+
+abbrev pub common_out : Run → FileOut Spot
+common_out r = record { number = r.common; units = common_fitted r }
+
+abbrev pub file_out : Run → ℕ → FileOut Spot
+file_out r file = record { number = file; units = fitted r file }
+
+abbrev pub files_out : Run → List (FileOut Spot)
+files_out r = common_out r ∷ map (file_out r) r.files
+
+-- where names stand, each in its own file
+abbrev pub places : Run → Numbering Spot
+places r = numbering same_spot (files_out r)
+
+abbrev pub file_of_name : Run → Spot → ℕ
+file_of_name r s = file_in same_spot (files_out r) s
+
+abbrev pub place_of : Run → Spot → Place
+place_of r s = at_file (file_of_name r s) ((places r).place s)
+
+-- the new sections of a file of which something moves
+abbrev pub sections_of : Run → ℕ → UnitSections
+sections_of r file = sections (places r) (fitted r file)
+
+abbrev pub common_sections : Run → UnitSections
+common_sections r = sections (places r) (common_fitted r)
+
+-- ---- what files hold that were made so
+
+-- a file without a fault, that has these two sections, and else those of the file from which it was made; its texts are few
+pub record HasSections (input out : List ℕ) (s : UnitSections) : Type 0 where
+  pub elf : (f : _) → IsElfFault out f → ⊥
+  pub info : debug_info out ≡ s.info
+  pub abbrevs : debug_abbrev out ≡ s.abbrevs
+  pub sources : sources_of out ≡ sources_of input
+  pub small : length (section_of out 3) < 2 ^ 32
+
+-- `.debug_str` of the common file, which has no other section that values speak of
+abbrev pub common_sources : List (List ℕ) → Sources
+common_sources texts = record { strs = texts_bytes texts; line_strs = []; offsets = []; line = []; lists = [] }
+
+-- a common file without a fault, that has these two sections, and texts
+pub record HasCommon (out : List ℕ) (s : UnitSections) (texts : List (List ℕ)) : Type 0 where
+  pub elf : (f : _) → IsElfFault out f → ⊥
+  pub info : debug_info out ≡ s.info
+  pub abbrevs : debug_abbrev out ≡ s.abbrevs
+  pub sources : sources_of out ≡ common_sources texts
+  pub small : length (section_of out 3) < 2 ^ 32

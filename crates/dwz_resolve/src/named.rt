@@ -1,11 +1,13 @@
 //! What the values of entries name, or the first fault.
 
 ghost use Rattle.std.specs.Prelude.{◌≡◌, ℕ, ◌+◌, ◌<◌, ◌≤◌, List, [], Some, length, slice_get};
+ghost use Rattle.dwz_docs.specs.Faults.{info_fault};
 ghost use Rattle.dwz_docs.specs.Units.{RawUnit, entries_in};
 ghost use Rattle.dwz_meanings.specs.Meanings;
-ghost use Rattle.dwz_meanings.specs.Meanings.{as_class, not_built};
+ghost use Rattle.dwz_meanings.specs.Meanings.{as_class};
 ghost use Rattle.dwz_meanings.specs.NamedLists.{lists_as};
 ghost use Rattle.dwz_model.specs.declared.fault.ReadErr.TheVariants.{Refused};
+ghost use Rattle.dwz_model.specs.declared.fault.Reason.TheVariants.{UnsupportedForm};
 ghost use Rattle.dwz_meanings.specs.Shared.{NamedList};
 ghost use Rattle.dwz_resolve.specs.Classes.{class_view};
 ghost use Rattle.dwz_resolve.specs.Named.{attr_named, entry_named, found_in, map_ok, unit_named, units_named};
@@ -27,13 +29,13 @@ use dwz_model::{Fault, Pair, ReadErr, Reason};
 use dwz_unit::{Units, Values, known_value};
 
 // No such form is read.
-fn not_built() -> ReadErr
-    ensures { result ≡ Refused not_built }
+fn unread(at: u64, form: u64) -> ReadErr
+    ensures { result ≡ Refused (info_fault at (UnsupportedForm form)) }
 {
     ReadErr::Refused(Fault {
-        section: 0,
-        at: 0,
-        reason: Reason::NotBuilt,
+        section: 1,
+        at,
+        reason: Reason::UnsupportedForm { form },
     })
 }
 
@@ -79,7 +81,7 @@ fn add_as(
         Class::Index => Ok(()),
         Class::CommonEntry => Err(bad_reference(at)),
         Class::CommonText => Err(bad_string(at)),
-        Class::Unread => Err(not_built()),
+        Class::Unread => Err(unread(at, pair.form)),
     }
 }
 

@@ -1,4 +1,4 @@
-//! For each file that is named: how many units and entries it has, or the first fault of its sections and its units.
+//! For each file that is named: how many units and entries it has, or its first fault.
 //!
 //! It shows what the readers answer, beside a model that was written independently.
 #![tactic(auto)]
@@ -6,21 +6,22 @@
 mod walk;
 
 use anyhow::Context;
-use dwz_model::{Fault, ReadErr};
+use dwz_model::{GraphErr, Refusal};
 use std::alloc::Global;
 use std::rt::{Env, Files};
 use std::{env, fs};
 use walk::{Counts, walk};
 
 // A line for a file with this content.
-fn report(rt: &impl Print, name: &str, answer: Result<Counts, ReadErr>) -> anyhow::Result<()> {
+fn report(rt: &impl Print, name: &str, answer: Result<Counts, GraphErr>) -> anyhow::Result<()> {
     match answer {
         Ok(Counts { units, entries }) => {
             println!(rt; "{name}: {units} units, {entries} entries")?;
         }
         Err(
-            ReadErr::Refused(
-                Fault {
+            GraphErr::Refused(
+                Refusal {
+                    file: _,
                     section,
                     at,
                     reason,
@@ -29,7 +30,7 @@ fn report(rt: &impl Print, name: &str, answer: Result<Counts, ReadErr>) -> anyho
         ) => {
             println!(rt; "{name}: section {section} at {at}: {reason:?}")?;
         }
-        Err(ReadErr::NoMemory) => println!(rt; "{name}: out of memory")?,
+        Err(GraphErr::NoMemory) => println!(rt; "{name}: out of memory")?,
     }
     Ok(())
 }
@@ -37,7 +38,8 @@ fn report(rt: &impl Print, name: &str, answer: Result<Counts, ReadErr>) -> anyho
 fn run<R: Env + Files + Print + AllocGlobal>(rt: &R, alloc: Global) -> anyhow::Result<()> {
     for name in env::args(rt)?.skip(1) {
         let bytes = fs::read(rt, name.as_str()).context(format_args!("reading {name}"))?;
-        report(rt, name.as_str(), walk(alloc, &bytes))?;
+        let files = vec![in alloc; bytes]?;
+        report(rt, name.as_str(), walk(alloc, files.as_slice()))?;
     }
     Ok(())
 }

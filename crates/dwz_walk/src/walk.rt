@@ -1,25 +1,13 @@
-//! What is read of a file.
+//! What is read of files.
 
-ghost use Rattle.std.specs.Prelude.{◌≡◌, length};
-ghost use Rattle.dwz_docs.specs.Faults.{Answers};
-ghost use Rattle.dwz_docs.specs.Units.{entries_in};
-ghost use Rattle.dwz_walk.specs.Walk;
-ghost use Rattle.dwz_walk.specs.Counting.{ShowsCounts};
+ghost use Rattle.std.specs.Prelude.{◌≡◌, ℕ, ◌<◌, ◌^◌, List, Some, length, map, slice_get, IfOk};
+ghost use Rattle.dwz_graph.specs.Files.{FilesAnswer, docs_of};
+ghost use Rattle.dwz_meanings.specs.Files.{files_meaning, no_files_before};
+ghost use Rattle.dwz_walk.specs.Counting.{AreCounted};
 
-use dwz_elf::Elf;
-use dwz_model::{Fault, ReadErr, Reason};
-use dwz_unit::Units;
+use dwz_graph::Graph;
+use dwz_model::GraphErr;
 use std::alloc::Global;
-
-// No file is longer, in bytes.
-const LONGEST_FILE: usize = 1 << 28;
-
-// No files have more entries.
-const MOST_ENTRIES: u32 = 1 << 24;
-
-const INFO: u8 = 1;
-
-const ABBREV: u8 = 2;
 
 /// How many units and entries a file has.
 #[derive(Clone, Copy, Debug, PartialEq, Eq)]
@@ -28,23 +16,17 @@ pub(crate) struct Counts {
     pub(crate) entries: u32,
 }
 
-/// Reads a file: its sections, and then its units. Refused with the first fault.
-pub(crate) fn walk(alloc: Global, bytes: &[u8]) -> Result<Counts, ReadErr>
-    ensures { ShowsCounts result (Walk.walk bytes.now) }
+/// Reads files, to the last fault that they may have, and counts the units and the entries of the first.
+pub(crate) fn walk(alloc: Global, files: &[Vec<u8>]) -> Result<Counts, GraphErr>
+    requires some { 0 < length files.now }
+    requires few { length files.now < 2 ^ 32 }
+    ensures reads { FilesAnswer (λ c. docs_of (map (λ v. v.items) files.now)) result (files_meaning no_files_before 0 (map (λ v. v.items) files.now)) }
+    ensures counts { IfOk result (λ c. (bytes : List ℕ) → slice_get (map (λ v. v.items) files.now) 0 ≡ Some bytes → AreCounted bytes c) }
 {
-    if bytes.len() > LONGEST_FILE {
-        return Err(ReadErr::Refused(Fault {
-            section: 0,
-            at: 0,
-            reason: Reason::FileSize,
-        }));
-    }
-    let elf = Elf::read(alloc, bytes)?;
-    let info = elf.content(bytes, INFO);
-    let abbrev = elf.content(bytes, ABBREV);
-    let units = Units::read(alloc, info, abbrev, MOST_ENTRIES)?;
+    let graph = Graph::read(alloc, files)?;
+    let file = graph.file(0);
     Ok(Counts {
-        units: units.len(),
-        entries: units.entries(),
+        units: file.units.len(),
+        entries: file.units.entries(),
     })
 }

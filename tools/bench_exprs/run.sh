@@ -1,0 +1,21 @@
+#!/bin/sh
+# Builds the benchmark in a copy of the repository, and runs it: tools/bench_exprs/run.sh [FOLDER FOR THE COPY]
+set -eu
+here=$(cd "$(dirname "$0")" && pwd)
+top=$(cd "$here/../.." && pwd)
+copy=${1:-$(mktemp -d)}
+mkdir -p "$copy/crates"
+cp "$top/HANDLES" "$copy/"
+for crate in dwz_model dwz_bytes dwz_codes dwz_docs dwz_meanings dwz_expr; do
+    (cd "$top/crates" && tar cf - --exclude=out "$crate") | tar xf - -C "$copy/crates"
+    grep "^$crate[ :]" "$top/crates.txt"
+done > "$copy/crates.txt"
+bench=$copy/crates/bench_exprs
+mkdir -p "$bench/src"
+cp "$here/main.rt.txt" "$bench/src/main.rt"
+echo "bench_exprs: dwz_model dwz_meanings dwz_expr" >> "$copy/crates.txt"
+python3 "$here/make.py" 1000000 "$bench"
+cd "$copy"
+[ -d .git ] || git init -q
+cd crates/bench_exprs
+rt run

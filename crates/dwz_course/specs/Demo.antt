@@ -28,7 +28,7 @@ asked o = asked_by o.demo o
 -- ---- the lengths of all files together, in bytes
 
 abbrev pub old_length : Summary → ℕ
-old_length s = sum_by (λ file. file.1.0) s.files
+old_length s = sum_by (λ file. file.1) s.files
 
 abbrev pub common_length : Option (Text × ℕ) → ℕ
 common_length None = 0
@@ -36,7 +36,7 @@ common_length (Some common) = common.1
 
 -- and afterwards, with the common file; one of which nothing moves stays as long as it was
 abbrev pub new_length : Summary → ℕ
-new_length s = common_length s.common + sum_by (λ file. unwrap_or file.1.1 file.1.0) s.files
+new_length s = common_length s.common + sum_by (λ file. unwrap_or file.2 file.1) s.files
 
 -- these lengths are numbers of 64 bits
 pub record HasLengths (s : Summary) : Type 0 where

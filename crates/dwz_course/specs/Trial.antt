@@ -1,10 +1,13 @@
--- What the work of the tests gives.
+-- What the work of the tests makes and gives.
 use Rattle.std.specs.Prelude.{ℕ, List, [], ◌∷◌, ◌++◌, map, codes, Option, Some, None, option_map, if◌then◌else◌, ◌==◌}
 use Rattle.dwz_model.specs.declared.fault.Reason.TheVariants.{UnsupportedForm}
 use Rattle.dwz_outside.specs.declared.puts.Put.{Put}
 use Rattle.dwz_words.specs.declared.options.Options.{Options}
 use Rattle.dwz_course.specs.declared.output.Output.{Output}
 use Rattle.dwz_course.specs.Outcome.{Outcome, refuses, writes}
+
+abbrev pub trial_made : ℕ → List (List ℕ)
+trial_made n = codes "old 1" ∷ codes "old 2" ∷ []
 
 abbrev pub new_file : List ℕ → Put
 new_file name = record { name = name; bytes = codes "new" }

@@ -5,4 +5,4 @@ use Rattle.dwz_course.specs.Demo.{new_length}
 use Rattle.dwz_course.proofs.demo.new_length.Given as goal
 
 abbrev pub invariant-loop-file : goal.invariant-loop-file
-invariant-loop-file l = l.len + sum_by (λ file. unwrap_or file.1.1 file.1.0) (drop l.file-index l.file-items) ≡ new_length l.summary
+invariant-loop-file l = l.len + sum_by (λ file. unwrap_or file.2 file.1) (drop l.file-index l.file-items) ≡ new_length l.summary

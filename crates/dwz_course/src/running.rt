@@ -58,12 +58,7 @@ fn ended<F: Files, W: Work>(alloc: Global, words: &[Vec<u8>], files: &mut F, wor
 }
 
 // The run of lawful words that name FILEs.
-fn with_files<F: Files, W: Work>(
-    alloc: Global,
-    options: &Options,
-    files: &mut F,
-    work: &W,
-) -> Ended
+fn with_files<F: Files, W: Work>(alloc: Global, options: &Options, files: &mut F, work: &W) -> Ended
     requires { options.now.demo ≡ None }
     ensures { (words : List (List ℕ)) → Lawful words options.now → EndsFor W.makes W.gives words (F.told files.old) (F.told files.new) (status_of result) (text_of result) }
 {

@@ -1,5 +1,5 @@
 -- How a run ends, and what it leaves.
-use Rattle.std.specs.Prelude.{◌≡◌, ◌⊎◌, ℕ, List, [], ◌∷◌, ◌++◌, Option, Some, None, IfSome, Contains, if◌then◌else◌}
+use Rattle.std.specs.Prelude.{◌≡◌, ◌⊎◌, ℕ, List, [], ◌∷◌, ◌++◌, Option, Some, None, IfSome, IsSome, Contains, if◌then◌else◌}
 use Rattle.dwz_outside.specs.declared.puts.Put.{Put}
 use Rattle.dwz_outside.specs.Counts.{Rose}
 use Rattle.dwz_outside.specs.Store.{Store}
@@ -33,15 +33,10 @@ pub record Came (makes : ℕ → List (List ℕ)) (gives : Giving) (words : List
 
 -- ---- before the text is written
 
--- all puts are done; a demonstration has none, and gets nothing either
-abbrev pub AllDone : Option ℕ → Told → Told → List Put → Type 0
-AllDone None old new puts = PutsDone old new puts
-AllDone (Some n) old new puts = new ≡ old
-
--- nothing was put; a demonstration gets nothing either
-abbrev pub NothingPut : Option ℕ → Told → Told → Type 0
-NothingPut None old new = LeavesPuts old new
-NothingPut (Some n) old new = new ≡ old
+-- what is put: nothing for a demonstration
+abbrev pub puts_by : Option ℕ → Output → List Put
+puts_by None out = out.puts
+puts_by (Some n) out = []
 
 -- what is said of an output: a line for each file, or one line of a demonstration
 abbrev pub output_text : Option ℕ → Output → List ℕ
@@ -55,15 +50,14 @@ done_text o out = if o.quiet then [] else output_text o.demo out
 -- what each status says of the words, of the files before and after, and of the text
 abbrev pub EndsFor : (ℕ → List (List ℕ)) → Giving → List (List ℕ) → Told → Told → Status → List ℕ → Type 0
 EndsFor makes gives words old new Done text =
-    (out : Output) × (came : Came makes gives words old (writes out)) × AllDone came.options.demo old new out.puts × (text ≡ done_text came.options out)
+    (out : Output) × (came : Came makes gives words old (writes out)) × PutsDone old new (puts_by came.options.demo out) × (text ≡ done_text came.options out)
 EndsFor makes gives words old new Refused text =
-    (r : Refusal) × (came : Came makes gives words old (refuses r)) × NothingPut came.options.demo old new
-    × (text ≡ refusal_text (name_of (asked came.options) r.file) r)
+    (r : Refusal) × (came : Came makes gives words old (refuses r)) × LeavesPuts old new × (text ≡ refusal_text (name_of (asked came.options) r.file) r)
 EndsFor makes gives words old new Usage text = ((o : Options) → ¬ (Lawful words o)) × (new ≡ old) × (text ≡ usage_text)
 EndsFor makes gives words old new ReadFault text =
     (name : List ℕ) × (o : Options) × Lawful words o × Contains o.files name × FailedRead old new name × LeavesPuts old new × (text ≡ read_text name)
 EndsFor makes gives words old new WriteFault text =
-    (out : Output) × (came : Came makes gives words old (writes out)) × (came.options.demo ≡ None) × (name : List ℕ) × PutsStopped old new out.puts name
+    (out : Output) × (came : Came makes gives words old (writes out)) × (name : List ℕ) × PutsStopped old new (puts_by came.options.demo out) name
     × (text ≡ write_text name)
 EndsFor makes gives words old new NoMemory text = LeavesPuts old new × (text ≡ memory_text)
 EndsFor makes gives words old new ConsoleFault text = ⊥
@@ -105,6 +99,10 @@ pub record Ends (makes : ℕ → List (List ℕ)) (gives : Giving) (words : List
   pub text : List ℕ
   pub files : EndsFor makes gives words old new (before_text status) text
   pub console : Says shown shown_new status text
+
+-- a demonstration neither gets nor puts
+abbrev pub LeavesFiles : List (List ℕ) → Told → Told → Type 0
+LeavesFiles words old new = (o : Options) → Lawful words o → IsSome o.demo → new ≡ old
 
 -- ---- the other way round
 

@@ -3,7 +3,7 @@
 ghost use Rattle.std.specs.Prelude.{◌≡◌, ◌<◌, ◌≤◌, ℕ, List, Some, None, [], IfOk, get_or, length, map};
 ghost use Rattle.dwz_course.specs.Demo.{HasLengths};
 ghost use Rattle.dwz_course.specs.Ended.{IsSaid, status_of, text_of};
-ghost use Rattle.dwz_course.specs.Ends.{Complete, Ends, EndsFor, Refuses, done_text};
+ghost use Rattle.dwz_course.specs.Ends.{Complete, Ends, EndsFor, LeavesFiles, Refuses, done_text};
 ghost use Rattle.dwz_course.specs.Outcome.{name_of};
 ghost use Rattle.dwz_course.specs.Ready.{ready_of};
 ghost use Rattle.dwz_course.specs.declared.status.Status.TheVariants.{ReadFault, Refused};
@@ -37,6 +37,7 @@ pub fn run_course<F: Files, C: Console, W: Work>(
     ensures ends { Ends W.makes W.gives (bytes_of words.now) (F.told files.old) (F.told files.new) (C.shown console.old) (C.shown console.new) result }
     ensures complete { Complete W.makes W.gives (bytes_of words.now) (F.told files.old) (F.told files.new) (C.shown console.old) (C.shown console.new) result }
     ensures refuses { Refuses W.makes W.gives (bytes_of words.now) (F.told files.old) (F.told files.new) result }
+    ensures demo { LeavesFiles (bytes_of words.now) (F.told files.old) (F.told files.new) }
 {
     let end = ended(alloc, words, files, work);
     say(console, &end)
@@ -44,7 +45,8 @@ pub fn run_course<F: Files, C: Console, W: Work>(
 
 // What a run does, beside the console.
 fn ended<F: Files, W: Work>(alloc: Global, words: &[Vec<u8>], files: &mut F, work: &W) -> Ended
-    ensures { EndsFor W.makes W.gives (bytes_of words.now) (F.told files.old) (F.told files.new) (status_of result) (text_of result) }
+    ensures ends { EndsFor W.makes W.gives (bytes_of words.now) (F.told files.old) (F.told files.new) (status_of result) (text_of result) }
+    ensures demo { LeavesFiles (bytes_of words.now) (F.told files.old) (F.told files.new) }
 {
     let options = match parse(alloc, words) {
         Ok(options) => options,

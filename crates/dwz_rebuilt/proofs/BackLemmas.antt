@@ -11,7 +11,7 @@ use Rattle.dwz_docs.specs.ElfHeaders.{file_header, has_relocations, is_compresse
 use Rattle.dwz_docs.specs.ElfNames.{names_header, sections_in}
 use Rattle.dwz_docs.specs.ElfReading.{first_in, header_fault, identification_fault, missing_fault, names_fault, unkept_fault}
 use Rattle.dwz_docs.proofs.ElfFaultLemmas.{header_is_sound, identification_is_sound, in_order, kept_is_sound, missing_is_sound, names_is_sound}
-use Rattle.dwz_rebuilt.specs.BackFaults.{IsAllowed, IsBackFault, IsSupThere}
+use Rattle.dwz_docs.specs.ElfBack.{IsAllowed, IsBackFault, IsSupThere}
 use Rattle.dwz_rebuilt.proofs.FaultLemmas.{HasGoodFields}
 
 -- of fields that are good no row holds, but perhaps that of one section header more

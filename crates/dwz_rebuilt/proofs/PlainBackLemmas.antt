@@ -16,7 +16,7 @@ use Rattle.dwz_docs.proofs.PlainFaults.{debug_there, fields_fine, headers_ok, id
 use Rattle.dwz_docs.proofs.PlainReads.{contents_seen, fields_read, sections_are}
 use Rattle.dwz_meanings.specs.Files.{section_of, sources_of}
 use Rattle.dwz_meanings.specs.Meanings.{Sources}
-use Rattle.dwz_rebuilt.specs.BackFaults.{IsBackFault}
+use Rattle.dwz_docs.specs.ElfBack.{IsBackFault}
 use Rattle.dwz_rebuilt.specs.PlainBack.{OnlySup, plain_content, sources_in, supplementary_file}
 use Rattle.dwz_rebuilt.proofs.BackLemmas.{IsPlainSup, no_back_fault}
 use Rattle.dwz_rebuilt.proofs.FaultLemmas.{HasGoodFields, good_fields}

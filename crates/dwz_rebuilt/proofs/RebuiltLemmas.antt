@@ -21,7 +21,7 @@ use Rattle.dwz_docs.specs.PlainFile.{section_read}
 use Rattle.dwz_docs.proofs.PlainFaults.{header_fine, none_or}
 use Rattle.dwz_docs.proofs.PlainReads.{all_fields, header_of, header_read}
 use Rattle.dwz_meanings.specs.Files.{section_of}
-use Rattle.dwz_rebuilt.specs.BackFaults.{IsBackFault}
+use Rattle.dwz_docs.specs.ElfBack.{IsBackFault}
 use Rattle.dwz_rebuilt.specs.Rebuilt.{CanBeMade, HasSameFields, IsCarried, IsSup, IsTableField, new_file, new_for}
 use Rattle.dwz_rebuilt.proofs.BackLemmas.{IsPlainSup, no_back_fault}
 use Rattle.dwz_rebuilt.proofs.FaultLemmas.{HasGoodFields, HasNoFault, ends_there, fields_good, good_fields, is_faultless, long_enough, names_good, names_there, names_within, no_faults, same_identification, table_some}

@@ -6,7 +6,7 @@ ghost use Rattle.dwz_docs.specs.Supplementary.{sup_bytes};
 ghost use Rattle.dwz_meanings.specs.Files.{debug_abbrev, debug_aranges, debug_info, section_of, sources_of};
 ghost use Rattle.dwz_model.specs.declared.fault.Fault.{Fault};
 ghost use Rattle.dwz_model.specs.declared.sections.Sections.{Sections};
-ghost use Rattle.dwz_rebuilt.specs.BackFaults.{IsBackFault};
+ghost use Rattle.dwz_docs.specs.ElfBack.{IsBackFault};
 ghost use Rattle.dwz_rebuilt.specs.PlainBack.{OnlySup, plain_content, sources_in, supplementary_file};
 
 /// A file of the plain layout whose sections are known, none of them an index: it has no fault of a file that is read back, and the

@@ -8,7 +8,7 @@ ghost use Rattle.dwz_docs.specs.ElfNames.{sections_in};
 ghost use Rattle.dwz_docs.specs.ElfReading.{elf_fault, elf_of, section_range};
 ghost use Rattle.dwz_meanings.specs.Files.{section_of};
 ghost use Rattle.dwz_model.specs.declared.fault.Fault.{Fault};
-ghost use Rattle.dwz_rebuilt.specs.BackFaults.{IsBackFault};
+ghost use Rattle.dwz_docs.specs.ElfBack.{IsBackFault};
 ghost use Rattle.dwz_rebuilt.specs.Rebuilt.{CanBeMade, HasSameFields, IsCarried, IsSup, IsTableField, new_file, new_for};
 
 /// The file that is made from one without a fault, with new contents for some of its sections, and perhaps with `.debug_sup`

@@ -1,16 +1,15 @@
 -- Names in a name table that got longer, and which sections are `.debug_sup`.
-use Rattle.std.proofs.Common.{◌≡◌, ◌≢◌, ◌⊎◌, inl, inr, ℕ, zero, suc, ◌+◌, ◌<◌, ◌≤◌, Bool, true, false, cond, eqb, List, [], ◌∷◌, ◌++◌, length, map, drop, Option, Some, None, refl, sym, ap, ◌∙◌, codes, arith}
+use Rattle.std.proofs.Common.{◌≡◌, ◌⊎◌, inl, inr, ℕ, zero, suc, ◌≤◌, Bool, true, false, cond, eqb, List, [], ◌∷◌, ◌++◌, length, map, drop, Option, Some, None, refl, ap, ◌∙◌, codes, arith}
 use Rattle.std.specs.Prelude.{◌||◌, ◌&&◌, option_map, is_some, slice_get}
 use Rattle.std.specs.List.{list_any}
 use Rattle.std.specs.Str.{bytes_eq}
-use Rattle.std.proofs.lemmas.Bool.{and_parts, cases_lt, eqb-true, false_from_ne_true, or_left, or_right}
+use Rattle.std.proofs.lemmas.Bool.{and_parts, cases_lt, eqb-true, false_from_ne_true, or_left}
 use Rattle.std.proofs.lemmas.List.{drop_all, drop-append-le}
 use Rattle.dwz_model.specs.declared.fault.Reason.TheVariants.{Compressed, Index}
 use Rattle.dwz_docs.specs.declared.elf.Header.{Header}
-use Rattle.dwz_docs.specs.declared.elf.Name.{Name}
 use Rattle.dwz_docs.specs.declared.elf.Section.{Section}
 use Rattle.dwz_docs.specs.ElfHeaders.{has_relocations, is_compressed, is_there}
-use Rattle.dwz_docs.specs.ElfNames.{code_of, known_name, name_at, name_in, section_of}
+use Rattle.dwz_docs.specs.ElfNames.{known_name, name_at, name_in, section_of}
 use Rattle.dwz_docs.specs.ElfReading.{fault_if, first_in, has_code, is_rewritten, range_in, unkept_fault}
 use Rattle.dwz_docs.proofs.OffsetLemmas.{drop-of}
 use Rattle.dwz_rebuilt.proofs.SectionLemmas.{or_none, test_false}

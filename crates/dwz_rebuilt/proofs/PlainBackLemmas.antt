@@ -1,21 +1,19 @@
 -- A file of the plain layout is read back: its sections by their codes, and that it has no fault but `.debug_sup`.
-use Rattle.std.proofs.Common.{◌≡◌, ◌≢◌, ◌⊎◌, inl, inr, ℕ, zero, suc, ◌+◌, ◌*◌, ◌<◌, ◌≤◌, Bool, true, false, cond, eqb, List, [], ◌∷◌, ◌++◌, length, map, All, Option, Some, None, refl, sym, ap, subst, ◌∙◌, codes, arith}
+use Rattle.std.proofs.Common.{◌≡◌, ◌≢◌, ◌⊎◌, inl, inr, ℕ, zero, suc, ◌+◌, ◌*◌, Bool, true, false, cond, eqb, List, [], ◌∷◌, ◌++◌, length, map, All, Option, Some, None, refl, sym, ap, subst, ◌∙◌, codes, arith}
 use Rattle.std.specs.Prelude.{bit_and, not, slice_get, unwrap_or}
-use Rattle.std.proofs.lemmas.Bool.{eq-eqb, eqb-false, ne_eqb}
+use Rattle.std.proofs.lemmas.Bool.{ne_eqb}
 use Rattle.dwz_model.specs.declared.fault.Fault.{Fault}
 use Rattle.dwz_model.specs.declared.fault.Reason.TheVariants.{Index}
 use Rattle.dwz_model.specs.declared.sections.Sections.{Sections}
-use Rattle.dwz_docs.specs.declared.elf.FileHeader.{FileHeader}
 use Rattle.dwz_docs.specs.declared.elf.Section.{Section}
 use Rattle.dwz_docs.specs.ElfHeaders.{content, file_header}
 use Rattle.dwz_docs.specs.ElfNames.{code_of, known_name, sections_in}
 use Rattle.dwz_docs.specs.ElfReading.{bytes_in, fault_if, field_fault, first_in, has_code, header_fault, missing_fault, range_in, section_range, unkept_fault}
-use Rattle.dwz_docs.specs.PlainFile.{AreKnown, FitsPlain, PlainSection, common_sections, contents_read, if_there, plain_file, plain_headers_at, plain_names, plain_names_at, plain_section, plain_sections, section_names, section_read, sections_read, text_section_of}
+use Rattle.dwz_docs.specs.PlainFile.{AreKnown, FitsPlain, PlainSection, common_sections, if_there, plain_file, plain_headers_at, plain_names, plain_names_at, plain_section, plain_sections, section_names, section_read, sections_read, text_section_of}
 use Rattle.dwz_docs.specs.Supplementary.{sup_bytes}
 use Rattle.dwz_docs.proofs.PlainFaults.{debug_there, fields_fine, headers_ok, identification_fine, kept_one, names_fine, null_fine}
 use Rattle.dwz_docs.proofs.PlainReads.{contents_seen, fields_read, sections_are}
 use Rattle.dwz_meanings.specs.Files.{section_of, sources_of}
-use Rattle.dwz_meanings.specs.Meanings.{Sources}
 use Rattle.dwz_docs.specs.ElfBack.{IsBackFault}
 use Rattle.dwz_rebuilt.specs.PlainBack.{OnlySup, plain_content, sources_in, supplementary_file}
 use Rattle.dwz_rebuilt.proofs.BackLemmas.{IsPlainSup, no_back_fault}

@@ -4,13 +4,13 @@ use Rattle.std.specs.Prelude.{◌||◌, ◌&&◌, option_map, is_some, slice_get
 use Rattle.std.specs.List.{list_any}
 use Rattle.std.specs.Str.{bytes_eq}
 use Rattle.std.proofs.lemmas.Bool.{and_parts, cases_lt, eqb-true, false_from_ne_true, or_left}
-use Rattle.std.proofs.lemmas.List.{drop_all, drop-append-le}
+use Rattle.std.proofs.lemmas.List.{drop_all, drop-append-le, length-drop, length-take}
 use Rattle.dwz_model.specs.declared.fault.Reason.TheVariants.{Compressed, Index}
 use Rattle.dwz_docs.specs.declared.elf.Header.{Header}
 use Rattle.dwz_docs.specs.declared.elf.Section.{Section}
 use Rattle.dwz_docs.specs.ElfHeaders.{has_relocations, is_compressed, is_there}
 use Rattle.dwz_docs.specs.ElfNames.{known_name, name_at, name_in, section_of}
-use Rattle.dwz_docs.specs.ElfReading.{fault_if, first_in, has_code, is_rewritten, range_in, unkept_fault}
+use Rattle.dwz_docs.specs.ElfReading.{bytes_in, fault_if, first_in, has_code, is_rewritten, range_in, unkept_fault}
 use Rattle.dwz_docs.proofs.OffsetLemmas.{drop-of}
 use Rattle.dwz_rebuilt.proofs.SectionLemmas.{or_none, test_false}
 use Rattle.dwz_rebuilt.proofs.TableLemmas.{SameName}
@@ -119,6 +119,11 @@ range_behind code (x ∷ xs) ys none = by (has_code code x) none (range_behind c
 pub range_front : (code : ℕ) (xs ys : List Section) → range_in ys code ≡ None → range_in (xs ++ ys) code ≡ range_in xs code
 range_front code [] ys none = none
 range_front code (x ∷ xs) ys none = ap (λ (o : Option (ℕ × ℕ)). cond (has_code code x) (Some (x.header.offset, x.header.size)) o) (range_front code xs ys none)
+
+-- the bytes of a range are no more than there are
+pub range_short : (bytes : List ℕ) (o : Option (ℕ × ℕ)) → length (bytes_in bytes o) ≤ length bytes
+range_short bytes None = omega arith
+range_short bytes (Some range) = omega (arith, length-take range.1 (drop range.0 bytes), length-drop range.0 bytes)
 
 -- ---- a section of two lists
 

@@ -1,5 +1,5 @@
 -- A file of the plain layout is read back: its sections by their codes, and that it has no fault but `.debug_sup`.
-use Rattle.std.proofs.Common.{◌≡◌, ◌≢◌, ◌⊎◌, inl, inr, ℕ, zero, suc, ◌+◌, ◌*◌, Bool, true, false, cond, eqb, List, [], ◌∷◌, ◌++◌, length, map, All, Option, Some, None, refl, sym, ap, subst, ◌∙◌, codes, arith}
+use Rattle.std.proofs.Common.{◌≡◌, ◌<◌, ◌^◌, ◌≢◌, ◌⊎◌, inl, inr, ℕ, zero, suc, ◌+◌, ◌*◌, Bool, true, false, cond, eqb, List, [], ◌∷◌, ◌++◌, length, map, All, Option, Some, None, refl, sym, ap, subst, ◌∙◌, codes, arith}
 use Rattle.std.specs.Prelude.{bit_and, not, slice_get, unwrap_or}
 use Rattle.std.proofs.lemmas.Bool.{ne_eqb}
 use Rattle.dwz_model.specs.declared.fault.Fault.{Fault}
@@ -18,7 +18,7 @@ use Rattle.dwz_docs.specs.ElfBack.{IsBackFault}
 use Rattle.dwz_rebuilt.specs.PlainBack.{OnlySup, plain_content, sources_in, supplementary_file}
 use Rattle.dwz_rebuilt.proofs.BackLemmas.{IsPlainSup, no_back_fault}
 use Rattle.dwz_rebuilt.proofs.FaultLemmas.{HasGoodFields, good_fields}
-use Rattle.dwz_rebuilt.proofs.NameLemmas.{in_both}
+use Rattle.dwz_rebuilt.proofs.NameLemmas.{in_both, range_short}
 
 -- ---- contents by codes
 
@@ -238,3 +238,7 @@ module _ (machine flags : ℕ) (s : Sections) (sum : List ℕ) (fits : FitsPlain
       let line = by_code 6 (λ e. absurd cc) ∙ in_line s sum in
       let lists = by_code 7 (λ e. absurd cc) ∙ in_lists s sum in
       (λ j. record { strs = strs j; line_strs = line_strs j; offsets = offsets j; line = line j; lists = lists j })
+
+  pub common_short : (code : ℕ) → length (section_of (supplementary_file machine flags s sum) code) < 2 ^ 32
+  unfolding section_of
+  common_short code = let small = fits.small in omega (arith, range_short (supplementary_file machine flags s sum) (section_range (sections_in (supplementary_file machine flags s sum)) code), small)

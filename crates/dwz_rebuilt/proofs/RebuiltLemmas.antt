@@ -26,7 +26,7 @@ use Rattle.dwz_rebuilt.specs.Rebuilt.{CanBeMade, HasSameFields, IsCarried, IsSup
 use Rattle.dwz_rebuilt.proofs.BackLemmas.{IsPlainSup, no_back_fault}
 use Rattle.dwz_rebuilt.proofs.FaultLemmas.{HasGoodFields, HasNoFault, ends_there, fields_good, good_fields, is_faultless, long_enough, names_good, names_there, names_within, no_faults, same_identification, table_some}
 use Rattle.dwz_rebuilt.proofs.MovedLemmas.{IsMadeAt, coded_content, made_one, names_content, placed_bytes}
-use Rattle.dwz_rebuilt.proofs.NameLemmas.{added_name_read, in_both, in_front, in_last, no_range, no_sup, range_behind, range_front, same_name}
+use Rattle.dwz_rebuilt.proofs.NameLemmas.{added_name_read, in_both, in_front, in_last, no_range, no_sup, range_behind, range_front, range_short, same_name}
 use Rattle.dwz_rebuilt.proofs.OldLemmas.{first_at, is_old, keep_programs, keep_some, names_no_code, no_content}
 use Rattle.dwz_rebuilt.proofs.PieceLemmas.{has_in, has_part, same_number}
 use Rattle.dwz_rebuilt.proofs.SectionLemmas.{IsMade, NotRewritten, all_kept, all_made, first_both, same_codes, same_contents, same_debug, same_headers, same_range}
@@ -550,6 +550,10 @@ module _ (input : List ℕ) (changes : Changes) (order : List (ℕ × ℕ)) (can
         by false false is also =
             ap (bytes_in (new_file input changes order)) (range_of code also)
             ∙ same_contents input (new_file input changes order) changes code (eqb-false code 0 is) (sections_in input) moved are_made (no_content (sections_in input) changes code can.can_change)
+
+  pub sections_short : (code : ℕ) → length (section_of (new_file input changes order) code) < 2 ^ 32
+  unfolding section_of
+  sections_short code = omega (arith, range_short (new_file input changes order) (section_range (sections_in (new_file input changes order)) code), short)
 
   -- ---- each section
 

@@ -2,7 +2,7 @@
 use Rattle.std.specs.Prelude.{◌≡◌, ℕ, List, [], ◌∷◌, true, Some, ◌==◌, if◌then◌else◌, unwrap_or}
 use Rattle.dwz_model.specs.declared.sections.Sections.{Sections}
 use Rattle.dwz_docs.specs.ElfNames.{code_of, known_name}
-use Rattle.dwz_docs.specs.PlainFile.{PlainSection, common_sections, plain_file}
+use Rattle.dwz_docs.specs.PlainFile.{FitsPlain, PlainSection, common_sections, plain_file}
 use Rattle.dwz_meanings.specs.Meanings.{Sources}
 
 -- the content of the first section with a code, or nothing
@@ -28,3 +28,8 @@ sources_in s = record {
   line = unwrap_or s.line [];
   lists = unwrap_or s.loclists [];
 }
+
+-- what holds of each such file whose numbers fit: of its sections, the checksum, and the file
+abbrev pub EachSupplementary : (Sections → List ℕ → List ℕ → Type 0) → Type 0
+EachSupplementary P =
+    (machine flags : ℕ) (s : Sections) (sum : List ℕ) → FitsPlain machine flags (common_sections s sum) → P s sum (supplementary_file machine flags s sum)

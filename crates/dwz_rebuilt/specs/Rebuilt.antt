@@ -1,10 +1,10 @@
 -- An ELF file that is made from another reads back: what is asked of the changes, and what stays (ElfLayout).
-use Rattle.std.specs.Prelude.{◌≡◌, ◌≢◌, ◌⊎◌, ℕ, ◌<◌, ◌≤◌, List, [], true, None, Option, Some, All, Any, codes, ◌==◌, if◌then◌else◌}
+use Rattle.std.specs.Prelude.{◌≡◌, ◌≢◌, ◌⊎◌, ℕ, ◌<◌, ◌≤◌, List, [], true, None, Option, Some, All, Any, slice_get, codes, ◌==◌, if◌then◌else◌}
 use Rattle.dwz_docs.specs.declared.elf.FileHeader.{FileHeader}
 use Rattle.dwz_docs.specs.declared.elf.NewContent.{NewContent}
 use Rattle.dwz_docs.specs.declared.elf.Section.{Section}
-use Rattle.dwz_docs.specs.ElfHeaders.{content, is_loaded, is_there}
-use Rattle.dwz_docs.specs.ElfLayout.{Changes, IsOrder, content_for, layout_fault, rebuilt, rebuilt_length, too_large}
+use Rattle.dwz_docs.specs.ElfHeaders.{content, file_header, is_loaded, is_there}
+use Rattle.dwz_docs.specs.ElfLayout.{Changes, IsOrder, content_at, content_for, layout_fault, rebuilt, rebuilt_length, too_large}
 use Rattle.dwz_docs.specs.ElfNames.{known_name, sections_in}
 use Rattle.dwz_docs.specs.ElfReading.{elf_fault, elf_of}
 
@@ -30,6 +30,10 @@ pub record CanBeMade (input : List ℕ) (changes : Changes) (order : List (ℕ �
 -- the file that is made
 abbrev pub new_file : List ℕ → Changes → List (ℕ × ℕ) → List ℕ
 new_file input changes order = rebuilt (elf_of input) changes input order
+
+-- what holds of each file that can be made: of the old file, the changes, and the new one
+abbrev pub EachMade : (List ℕ → Changes → List ℕ → Type 0) → Type 0
+EachMade P = (input : List ℕ) (changes : Changes) (order : List (ℕ × ℕ)) → CanBeMade input changes order → P input changes (new_file input changes order)
 
 -- ---- what it reads as
 
@@ -58,6 +62,17 @@ pub record IsSup (out sup : List ℕ) (s : Section) : Type 0 where
   pub flags : s.header.flags ≡ 0
   pub align : s.header.align ≡ 1
   pub holds : content out s.header ≡ sup
+
+-- each section that was there stands at its index
+abbrev pub AreCarried : List ℕ → Changes → List ℕ → Type 0
+AreCarried input changes out =
+    (k : ℕ) (s : Section) → slice_get (sections_in input) k ≡ Some s
+    → (t : Section) × (slice_get (sections_in out) k ≡ Some t) × IsCarried out (content_at (elf_of input) changes input k) s t
+
+-- what is added stands behind them
+abbrev pub IsAdded : List ℕ → Changes → List ℕ → Type 0
+IsAdded input changes out =
+    (sup : List ℕ) → changes.sup ≡ Some sup → (t : Section) × (slice_get (sections_in out) (file_header input).headers ≡ Some t) × IsSup out sup t
 
 -- the places of e_shoff and e_shnum, which say where the section header table is and how many headers it has
 abbrev pub IsTableField : ℕ → Type 0

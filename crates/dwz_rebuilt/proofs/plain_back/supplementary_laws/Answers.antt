@@ -1,4 +1,4 @@
-use Rattle.dwz_rebuilt.proofs.PlainBackLemmas.{abbrev_read, aranges_read, common_only, info_read, sources_read, sup_read}
+use Rattle.dwz_rebuilt.proofs.PlainBackLemmas.{abbrev_read, aranges_read, common_only, common_short, info_read, sources_read, sup_read}
 use Rattle.dwz_rebuilt.proofs.plain_back.supplementary_laws.Goals as goal
 
 pub returns-clause-only : goal.returns-clause-only
@@ -18,3 +18,6 @@ returns-clause-ranges c = aranges_read
 
 pub returns-clause-sup : goal.returns-clause-sup
 returns-clause-sup c = sup_read
+
+pub returns-clause-short : goal.returns-clause-short
+returns-clause-short c = common_short

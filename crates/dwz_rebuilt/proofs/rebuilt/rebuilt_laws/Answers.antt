@@ -1,4 +1,4 @@
-use Rattle.dwz_rebuilt.proofs.RebuiltLemmas.{back, carried, new_contents, reads_back, same_file, same_length, same_loaded, same_there, sup_added}
+use Rattle.dwz_rebuilt.proofs.RebuiltLemmas.{back, carried, new_contents, reads_back, same_file, same_length, same_loaded, same_there, sections_short, sup_added}
 use Rattle.dwz_rebuilt.proofs.rebuilt.rebuilt_laws.Goals as goal
 
 pub returns-clause-length : goal.returns-clause-length
@@ -18,6 +18,9 @@ returns-clause-contents c = new_contents
 
 pub returns-clause-there : goal.returns-clause-there
 returns-clause-there c = same_there
+
+pub returns-clause-short : goal.returns-clause-short
+returns-clause-short c = sections_short
 
 pub returns-clause-carried : goal.returns-clause-carried
 returns-clause-carried c = carried

@@ -17,7 +17,7 @@ use Rattle.dwz_docs.specs.PlainFile.{AreKnown, FitsPlain, PlainSection, index_fa
 use Rattle.dwz_docs.proofs.PlainLemmas.{headers_behind, length_plain}
 use Rattle.dwz_docs.proofs.PlainReads.{fields_read, names_header_is, parts, sections_are}
 
-none_or : (one other : Option Fault) → one ≡ None → other ≡ None → (one or other) ≡ None
+pub none_or : (one other : Option Fault) → one ≡ None → other ≡ None → (one or other) ≡ None
 none_or None other is other_is = other_is
 none_or (Some f) other is other_is = absurd cc
 
@@ -25,7 +25,7 @@ or_none : (one : Option Fault) → (one or None) ≡ one
 or_none None = refl
 or_none (Some f) = refl
 
-no_fault : (test : Bool) (reason : Reason) (at : ℕ) → test ≡ false → fault_if test reason at ≡ None
+pub no_fault : (test : Bool) (reason : Reason) (at : ℕ) → test ≡ false → fault_if test reason at ≡ None
 no_fault test reason at e = ap (λ (b : Bool). fault_if b reason at) e
 
 -- ---- each section header by itself
@@ -43,17 +43,18 @@ placed : (len at size : ℕ) → 64 ≤ at → at + size ≤ len → (b : Bool) 
 placed len at size low within true = or_from (ltb len (at + size)) (ltb at 64) (le-ltb len (at + size) within) (le-ltb at 64 low)
 placed len at size low within false = refl
 
-header_fine : (len index place name flags at size : ℕ) (text : List ℕ) (before : List Section) → 64 ≤ at → at + size ≤ len → length before < index
+-- of a section that isn't the name table, with a code that none before it has
+pub header_fine : (len index place name flags at size : ℕ) (text : List ℕ) (before : List Section) → 64 ≤ at → at + size ≤ len → length before ≢ index
     → (code_of text ≡ 0) ⊎ (list_any (has_code (code_of text)) before ≡ false) → header_fault len index before (section_read place name 1 flags at size 1 text) ≡ None
 unfolding header_fault
-header_fine len index place name flags at size text before low within less fresh =
+header_fine len index place name flags at size text before low within other fresh =
     no_fault _ _ _ (or_from (not (is_power_of_two 1)) _ (ap not one_power) (or_from (ltb 0 size && (ltb len (at + size) || ltb at 64)) _ (placed len at size low within (ltb 0 size)) (named fresh)))
   where
     named : (code_of text ≡ 0) ⊎ (list_any (has_code (code_of text)) before ≡ false) → (not (eqb (code_of text) 0) && (list_any (has_code (code_of text)) before || eqb (length before) index)) ≡ false
     named (inl none) = ap (λ (b : Bool). not b && (list_any (has_code (code_of text)) before || eqb (length before) index)) (eq-eqb (code_of text) 0 none)
     named (inr unused) = go (eqb (code_of text) 0) where
       apart : (list_any (has_code (code_of text)) before || eqb (length before) index) ≡ false
-      apart = or_from (list_any (has_code (code_of text)) before) (eqb (length before) index) unused (ne_eqb (length before) index (λ (e : length before ≡ index). omega (arith, e, less)))
+      apart = or_from (list_any (has_code (code_of text)) before) (eqb (length before) index) unused (ne_eqb (length before) index other)
 
       go : (b : Bool) → (not b && (list_any (has_code (code_of text)) before || eqb (length before) index)) ≡ false
       go true = refl
@@ -82,7 +83,7 @@ headers_fine len index before tail place name at (s ∷ sections) low within les
     let one = section_read place name 1 s.flags at (length s.bytes) 1 s.name in
     let bytes_len = length-append s.bytes (plain_contents sections) in
     let here : header_fault len index before one ≡ None =
-    header_fine len index place name s.flags at (length s.bytes) s.name before low (omega (arith, within, bytes_len)) (omega (arith, less)) fresh.0 in
+    header_fine len index place name s.flags at (length s.bytes) s.name before low (omega (arith, within, bytes_len)) (λ (e : length before ≡ index). omega (arith, e, less)) fresh.0 in
     let regrouped : before ++ sections_read place name at (s ∷ sections) ≡ (before ++ one ∷ []) ++ sections_read (place + 64) (name + (length s.name + 1)) (at + length s.bytes) sections =
     sym (append_assoc before (one ∷ []) (sections_read (place + 64) (name + (length s.name + 1)) (at + length s.bytes) sections)) in
     let others = headers_fine len index (before ++ one ∷ []) tail (place + 64) (name + (length s.name + 1)) (at + length s.bytes) sections (omega (arith, low)) (omega (arith, within, bytes_len))
@@ -119,7 +120,7 @@ abbrev index_of : List Section → Section → Option Fault
 index_of before s = fault_if s.name.is_index Index s.header.at
 
 -- of a section with bytes that isn't compressed
-kept_one : (all : List Section) (place name kind flags at size : ℕ) (text : List ℕ) → (kind ≡ 1) ⊎ (kind ≡ 3) → bit_and flags 0x800 ≡ 0
+pub kept_one : (all : List Section) (place name kind flags at size : ℕ) (text : List ℕ) → (kind ≡ 1) ⊎ (kind ≡ 3) → bit_and flags 0x800 ≡ 0
     → unkept_fault all (section_read place name kind flags at size 1 text) ≡ index_of [] (section_read place name kind flags at size 1 text)
 unfolding unkept_fault
 kept_one all place name kind flags at size text kinds plain = go kinds where
@@ -182,13 +183,13 @@ module _ (machine flags : ℕ) (sections : List PlainSection) (fits : FitsPlain 
   abbrev null_section : Section
   null_section = section_read (plain_headers_at sections) 0 0 0 0 0 0 []
 
-  identification_fine : identification_fault file ≡ None
+  pub identification_fine : identification_fault file ≡ None
   unfolding identification_fault
   identification_fine =
       let first : first_other 0 identification file ≡ None = ap (first_other 0 identification) (parts machine flags sections fits) ∙ identified _ in
       none_or _ _ (ap wrong_byte first) (no_fault _ _ _ (le-ltb (length file) 64 (omega (arith, len))))
 
-  fields_fine : field_fault (length file) (plain_fields machine flags sections) ≡ None
+  pub fields_fine : field_fault (length file) (plain_fields machine flags sections) ≡ None
   unfolding field_fault
   fields_fine =
       let n = length sections in
@@ -200,7 +201,7 @@ module _ (machine flags : ℕ) (sections : List PlainSection) (fits : FitsPlain 
       (none_or _ _ (no_fault _ _ _ (or_from (eqb (n + 1) 0) (not (ltb (n + 1) (n + 2))) (ne_eqb (n + 1) 0 (λ (e : n + 1 ≡ 0). omega (arith, e))) (ap not (lt-ltb (n + 1) (n + 2) (omega arith)))))
       (none_or _ _ (no_fault _ _ _ (le-ltb (length file) (plain_headers_at sections + 64 * (n + 2)) (omega (arith, len)))) refl)))))
 
-  names_fine : names_fault (length file) (names_header file) ≡ None
+  pub names_fine : names_fault (length file) (names_header file) ≡ None
   unfolding names_fault
   names_fine =
       let behind = headers_behind sections in
@@ -210,7 +211,7 @@ module _ (machine flags : ℕ) (sections : List PlainSection) (fits : FitsPlain 
   no_used : (k : ℕ) (d : PlainSection) → k < length sections → (code_of (get_or sections k d).name ≡ 0) ⊎ (list_any (has_code (code_of (get_or sections k d).name)) (null_section ∷ []) ≡ false)
   no_used k d lt = inr refl
 
-  headers_ok : first_in (header_fault (length file) (length sections + 1)) [] (plain_sections sections) ≡ None
+  pub headers_ok : first_in (header_fault (length file) (length sections + 1)) [] (plain_sections sections) ≡ None
   unfolding first_in header_fault
   headers_ok =
       let behind = headers_behind sections in
@@ -222,7 +223,7 @@ module _ (machine flags : ℕ) (sections : List PlainSection) (fits : FitsPlain 
       (headers_fine (length file) (length sections + 1) (null_section ∷ []) (last_section ∷ []) (plain_headers_at sections + 64) 1 64 sections (omega arith) (omega (arith, len, behind)) (omega arith)
       (fresh_of (λ c. list_any (has_code c) (null_section ∷ [])) sections known.different no_used) last)
 
-  null_fine : (all : List Section) → unkept_fault all null_section ≡ None
+  pub null_fine : (all : List Section) → unkept_fault all null_section ≡ None
   unfolding unkept_fault
   null_fine all = refl
 
@@ -236,7 +237,7 @@ module _ (machine flags : ℕ) (sections : List PlainSection) (fits : FitsPlain 
       let others = kept_all all (null_section ∷ []) (null_section ∷ []) (last_section ∷ []) (plain_headers_at sections + 64) 1 64 sections known.uncompressed last in
       (λ j. null_kept j or others j)
 
-  debug_there : missing_fault (plain_sections sections) ≡ None
+  pub debug_there : missing_fault (plain_sections sections) ≡ None
   unfolding missing_fault
   debug_there =
       let info = there 1 (plain_headers_at sections + 64) 1 64 null_section last_section sections known.info in

@@ -10,6 +10,7 @@ pub mod Abbrevs
 pub mod ElfHeaders
 pub mod ElfNames
 pub mod ElfFaults
+pub mod ElfBack
 pub mod ElfReading
 pub mod Trees
 pub mod ElfLayout

@@ -55,17 +55,6 @@ pub mod OldNames
 pub mod FileLemmas
 pub mod LawLemmas
 pub mod NodeLemmas
-pub mod ElfBytes
-pub mod ElfPlaces
-pub mod ElfTables
-pub mod ElfMoved
-pub mod ElfOld
-pub mod ElfShape
-pub mod ElfSections
-pub mod ElfNoFault
-pub mod ElfRebuiltLemmas
-pub mod ElfGiven
-mod ElfRebuiltRows
 pub mod OperandLemmas
 pub mod ReadPlaces
 mod PlanRows

@@ -13,7 +13,7 @@ use Rattle.dwz_docs.proofs.WrittenLemmas.{drop_bytes}
 use Rattle.dwz_output.specs.After.{ArePlaced, OnePlace, SameAlong, StandFor, UnitsShown, one_fitted, one_place_of}
 use Rattle.dwz_output.specs.Alike.{Apart, Each, IsAlike}
 use Rattle.dwz_output.specs.Carried.{BuiltUnit, CarriedUnit}
-use Rattle.dwz_output.specs.ElfRebuilt.{CanBeMade}
+use Rattle.dwz_rebuilt.specs.Rebuilt.{CanBeMade}
 use Rattle.dwz_output.specs.Fitting.{AreWritable, mode_for, places}
 use Rattle.dwz_output.specs.Meant.{Says, UnitsSay, placed_units}
 use Rattle.dwz_output.specs.Out.{FitsSections, IsOut, Rebuilds, alike_in, changes_of, fitted, has_changes, image_in, one_file, sections_of}

@@ -28,13 +28,13 @@ use Rattle.dwz_docs.proofs.ElfFaultLemmas.{elf_is_sound}
 use Rattle.dwz_meanings.proofs.FileLemmas.{file_agrees}
 use Rattle.dwz_docs.proofs.PartLemmas.{bind_ok}
 use Rattle.dwz_docs.proofs.UnitListLemmas.{some_unit}
-use Rattle.dwz_output.specs.ElfRebuilt.{CanBeGiven, CanBeMade, CanChange, new_file}
+use Rattle.dwz_rebuilt.specs.Rebuilt.{CanBeGiven, CanBeMade, CanChange, new_file}
 use Rattle.dwz_output.specs.Meant.{by_itself}
 use Rattle.dwz_output.specs.Out.{changes_of, has_changes, one_file}
 use Rattle.dwz_output.specs.Placing.{UnitSections}
 use Rattle.dwz_output.specs.Plan.{changes}
 use Rattle.dwz_output.specs.Spots.{named_files, tops_from, tops_of}
-use Rattle.dwz_output.proofs.ElfRebuiltLemmas.{new_contents, reads_back, same_file}
+use Rattle.dwz_rebuilt.proofs.RebuiltLemmas.{new_contents, reads_back, same_file}
 
 -- ---- a file that reads has no fault
 
@@ -122,7 +122,6 @@ can_change input s some =
     let Coded : NewContent → Type 0 = λ n. n.code ≢ 0 in
     let Given : NewContent → Type 0 = λ n. Any (CanBeGiven n) (sections_in input) in
     record {
-      none_added = refl;
       coded = All-cons Coded info (abbrevs ∷ []) (λ e. cc) (All-cons Coded abbrevs [] (λ e. cc) (All-nil Coded));
       given = All-cons Given info (abbrevs ∷ []) (can_give input info some.info) (All-cons Given abbrevs [] (can_give input abbrevs some.abbrevs) (All-nil Given));
     }
@@ -152,5 +151,5 @@ says_new input s order can =
       sources = sources_by _ _ _ _ _ _ _ _ _ _ (new_contents input change order can 3) (new_contents input change order can 4) (new_contents input change order can 5) (new_contents input change order can 6) (new_contents input change order can 7);
       ranges = new_contents input change order can 8;
       machine = ap (λ (h : FileHeader). h.machine) file;
-      elf = λ f is. (elf_is_sound out).none (reads_back input change order can) f is;
+      elf = λ f is. (elf_is_sound out).none (reads_back input change order can refl) f is;
     }

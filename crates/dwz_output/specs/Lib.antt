@@ -16,4 +16,3 @@ pub mod Carried
 pub mod After
 pub mod PlanLaws
 pub mod SameLaws
-pub mod ElfRebuilt

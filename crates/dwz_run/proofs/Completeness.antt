@@ -2,13 +2,14 @@
 use Rattle.std.proofs.Common.{◌≡◌, subst, refl, inl, inr, ⊎_elim, ℕ, List, [], ◌∷◌, Option, Some}
 use Rattle.std.specs.Prelude.{IfSome}
 use Rattle.dwz_outside.specs.Store.{Store, got}
+use Rattle.dwz_outside.specs.Told.{Told}
 use Rattle.dwz_docs.specs.ElfFaults.{file_fault}
 use Rattle.dwz_meanings.specs.Files.{IsFileFault, no_files_before}
 use Rattle.dwz_model.specs.declared.fault.Fault.{Fault}
 use Rattle.dwz_model.specs.declared.fault.Reason.TheVariants.{NotBuilt}
 use Rattle.dwz_run.specs.declared.status.Status.{Status}
 use Rattle.dwz_run.specs.declared.status.Status.TheVariants.{Done, Refused, Usage, ReadFault, WriteFault, NoMemory, ConsoleFault}
-use Rattle.dwz_run.specs.Ends.{Asked, AsksFor, Complete, Ends, Refuses, Told, WasRefused, WasTaken, Wrote}
+use Rattle.dwz_run.specs.Ends.{Asked, AsksFor, Complete, Ends, Refuses, WasRefused, WasTaken, Wrote}
 use Rattle.dwz_run.specs.Files.{MayBeRefused}
 use Rattle.dwz_run.specs.Profile.{InProfile}
 use Rattle.dwz_run.proofs.Answering.{not_both}

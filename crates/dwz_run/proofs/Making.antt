@@ -14,8 +14,8 @@ use Rattle.dwz_encode.specs.declared.sections.Sections.{Sections}
 use Rattle.dwz_model.specs.declared.fault.Fault.{Fault}
 use Rattle.dwz_output.specs.Out.{IsOut, Rebuilds, changes_of, has_changes, sections_of}
 use Rattle.dwz_output.specs.Placing.{UnitSections}
-use Rattle.dwz_output.proofs.ElfNoFault.{no_faults}
-use Rattle.dwz_output.proofs.ElfSections.{test_false}
+use Rattle.dwz_rebuilt.proofs.FaultLemmas.{no_faults}
+use Rattle.dwz_rebuilt.proofs.SectionLemmas.{test_false}
 use Rattle.dwz_run.specs.declared.faults.WriteErr.{WriteErr}
 use Rattle.dwz_run.specs.declared.faults.WriteErr.TheVariants.{TooLong, NoMemory as NoMemoryToWrite}
 use Rattle.dwz_run.specs.Files.{Writes}

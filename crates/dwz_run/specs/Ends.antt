@@ -2,20 +2,13 @@
 use Rattle.std.specs.Prelude.{◌≡◌, ◌⊎◌, ℕ, List, Option, Some, IfSome}
 use Rattle.dwz_outside.specs.Counts.{Rose}
 use Rattle.dwz_outside.specs.Store.{Store, got, put_in}
+use Rattle.dwz_outside.specs.Told.{Told}
 use Rattle.dwz_run.specs.declared.status.Status.{Status}
 use Rattle.dwz_run.specs.declared.status.Status.TheVariants.{Done, Refused, Usage, ReadFault, WriteFault, NoMemory, ConsoleFault}
 use Rattle.dwz_model.specs.declared.fault.Fault.{Fault}
 use Rattle.dwz_run.specs.Files.{IsReadBack, IsWritten, MayBeRefused}
 use Rattle.dwz_run.specs.Profile.{InProfile}
 use Rattle.dwz_run.specs.Words.{Lawful}
-
--- what the files tell of themselves
-pub record Told : Type 0 where
-  pub held : Option Store
-  pub read_faults : ℕ
-  pub write_faults : ℕ
-  pub last_read : Option (List ℕ)
-  pub last_write : Option (List ℕ)
 
 -- the words are lawful for these names
 pub record Asked (words : List (List ℕ)) : Type 0 where

@@ -24,15 +24,9 @@ pub fn run<Rt: Threads + Sync, F: Files, C: Console>(
     files: &mut F,
     console: &mut C,
 ) -> Status
-    ensures ends { Ends (map (λ w. w.items) words.now)
-        (record { held = F.held files.old; read_faults = F.read_faults files.old; write_faults = F.write_faults files.old; last_read = F.last_read files.old; last_write = F.last_write files.old })
-        (record { held = F.held files.new; read_faults = F.read_faults files.new; write_faults = F.write_faults files.new; last_read = F.last_read files.new; last_write = F.last_write files.new }) result }
-    ensures complete { Complete (map (λ w. w.items) words.now)
-        (record { held = F.held files.old; read_faults = F.read_faults files.old; write_faults = F.write_faults files.old; last_read = F.last_read files.old; last_write = F.last_write files.old })
-        (record { held = F.held files.new; read_faults = F.read_faults files.new; write_faults = F.write_faults files.new; last_read = F.last_read files.new; last_write = F.last_write files.new }) result }
-    ensures refuses { Refuses (map (λ w. w.items) words.now)
-        (record { held = F.held files.old; read_faults = F.read_faults files.old; write_faults = F.write_faults files.old; last_read = F.last_read files.old; last_write = F.last_write files.old })
-        (record { held = F.held files.new; read_faults = F.read_faults files.new; write_faults = F.write_faults files.new; last_read = F.last_read files.new; last_write = F.last_write files.new }) result }
+    ensures ends { Ends (map (λ w. w.items) words.now) (F.told files.old) (F.told files.new) result }
+    ensures complete { Complete (map (λ w. w.items) words.now) (F.told files.old) (F.told files.new) result }
+    ensures refuses { Refuses (map (λ w. w.items) words.now) (F.told files.old) (F.told files.new) result }
     ensures silent { console.new ≡ console.old }
 {
     handled(alloc, words, files)
@@ -40,9 +34,7 @@ pub fn run<Rt: Threads + Sync, F: Files, C: Console>(
 
 // What a run does, beside the console.
 fn handled<F: Files>(alloc: Global, words: &[Vec<u8>], files: &mut F) -> Status
-    ensures { Ends (map (λ w. w.items) words.now)
-        (record { held = F.held files.old; read_faults = F.read_faults files.old; write_faults = F.write_faults files.old; last_read = F.last_read files.old; last_write = F.last_write files.old })
-        (record { held = F.held files.new; read_faults = F.read_faults files.new; write_faults = F.write_faults files.new; last_read = F.last_read files.new; last_write = F.last_write files.new }) result }
+    ensures { Ends (map (λ w. w.items) words.now) (F.told files.old) (F.told files.new) result }
 {
     let Some(asked) = lawful_request(words) else {
         return Status::Usage;

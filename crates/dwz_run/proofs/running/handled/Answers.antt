@@ -9,27 +9,27 @@ some_name n = Some n
 pub returns-in-Err-Failed : goal.returns-in-Err-Failed
 returns-in-Err-Failed g c =
     let why = (rw c.in-Err-Failed.field-0-is at c.in-Err-Failed.ensures.failed) refl in
-    (record { out = c.in-Some.asked.out.now; file = c.in-Some.asked.file.now; lawful = c.in-Some.ensures.lawful }, why.0, why.1, c.get.ensures.held)
+    (record { out = c.in-Some.asked.out.now; file = c.in-Some.asked.file.now; lawful = c.in-Some.ensures.lawful }, why.rose, why.last, c.get.ensures.leaves.held)
 
 pub returns-in-Err-Refused : goal.returns-in-Err-Refused
 returns-in-Err-Refused g c = (
   record { out = c.in-Some.asked.out.now; file = c.in-Some.asked.file.now; lawful = c.in-Some.ensures.lawful },
   refused _ _ _ _ c.in-Err-Refused.field-0-0 c.deref.ensures.value c.in-Ok.ensures.content (rw c.in-Err-Refused.field-0-is at c.in-Err-Refused.ensures.refused),
-  c.get.ensures.held,
+  c.get.ensures.leaves.held,
 )
 
 pub returns-in-Ok-put : goal.returns-in-Ok-put
 returns-in-Ok-put g c = (
   record { out = c.in-Some.asked.out.now; file = c.in-Some.asked.file.now; lawful = c.in-Some.ensures.lawful },
-  wrote _ _ _ _ _ c.in-Ok.input.items c.deref.result.now c.in-Ok-one_file.output.items _ _ c.get.ensures.held c.deref.ensures.value c.in-Ok.ensures.content
+  wrote _ _ _ _ _ c.in-Ok.input.items c.deref.result.now c.in-Ok-one_file.output.items _ _ c.get.ensures.leaves.held c.deref.ensures.value c.in-Ok.ensures.content
       c.in-Ok-one_file.ensures.written c.in-Ok-one_file.ensures.back c.in-Ok-from_slice.ensures.items c.deref-2.ensures.value c.in-Ok-put.ensures.done,
 )
 
 pub returns : goal.returns
 returns g c = (
   record { out = c.in-Some.asked.out.now; file = c.in-Some.asked.file.now; lawful = c.in-Some.ensures.lawful },
-  subst (λ (n : ℕ). Rose n (g.F.Files.write_faults c.put.new.self)) c.get.ensures.writes.0 c.in-Err.ensures.failed.0,
-  c.in-Err.ensures.failed.1 ∙ ap some_name c.in-Ok-from_slice.ensures.items,
+  subst (λ (n : ℕ). Rose n (g.F.Files.told c.put.new.self).write_faults) c.get.ensures.leaves.faults c.in-Err.ensures.failed.rose,
+  c.in-Err.ensures.failed.last ∙ ap some_name c.in-Ok-from_slice.ensures.items,
   taken _ _ c.in-Ok.input.items c.deref.result.now c.in-Ok-one_file.output.items c.deref.ensures.value c.in-Ok.ensures.content c.in-Ok-one_file.ensures.written,
-  c.in-Err.ensures.not_done ∙ c.get.ensures.held,
+  c.in-Err.ensures.not_done ∙ c.get.ensures.leaves.held,
 )

@@ -1,0 +1,10 @@
+pub mod Gets
+pub mod Puts
+pub mod Outcome
+pub mod Demo
+pub mod Answers
+pub mod Ungot
+pub mod Ready
+pub mod Ended
+pub mod Ends
+pub mod Trial

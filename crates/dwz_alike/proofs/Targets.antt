@@ -177,7 +177,7 @@ pub record NodeWith (test : Node Spot → Bool) (f : Entries Spot) : Type 0 wher
   pub there : NodeIn node f
   pub passes : test node ≡ true
 
-entry_from : (test : Node Spot → Bool) (f : Entries Spot) → any_entry test f ≡ true → NodeWith test f
+pub entry_from : (test : Node Spot → Bool) (f : Entries Spot) → any_entry test f ≡ true → NodeWith test f
 unfolding any_entry
 entry_from test End e = absurd cc
 entry_from test (Entry d f g) e = elim (or_cases (test d) (any_entry test f || any_entry test g) e) [

@@ -29,6 +29,7 @@ use Rattle.dwz_back.specs.Files.{Run, file_forms, fitted, origin_in, places, sou
 use Rattle.dwz_back.proofs.BasesLemmas.{out_bases}
 use Rattle.dwz_back.proofs.CommonLemmas.{common_within}
 use Rattle.dwz_back.proofs.HomeLemmas.{parts_from}
+use Rattle.dwz_back.proofs.LineLemmas.{local_roots, part_bases}
 use Rattle.dwz_back.proofs.OriginLemmas.{bases_mapped, part_origin}
 use Rattle.dwz_back.proofs.OutsCarried.{new_carried, out_carried, part_spaces}
 use Rattle.dwz_back.proofs.ReadMode.{units_again, wider}
@@ -122,14 +123,18 @@ module _ (scope : Scope) (docs : List (Doc ℕ)) (input : ℕ → List ℕ) (are
   unit_read : (i : ℕ) (u : FileUnit Spot) → Nth 0 (units_of docs) i u → WasRead input u
   unit_read i u nth = files_carried input 0 0 0 docs read u (nth_in 0 (units_of docs) i u nth)
 
+  file_origins : (file : ℕ) (i : ℕ) (u : FileUnit Spot) → Nth 0 (units_of docs) i u → u.file ≡ file → CarriedUnit (OfFile (sources r file)) (bases_in u.unit) u.unit
+  file_origins file i u nth of_file = subst (λ (n : ℕ). CarriedUnit (OfFile (sources_of (input n))) (bases_in u.unit) u.unit) of_file (unit_read i u nth)
+
   file_ready : (file : ℕ) → In file r.files → changes r.move r.units file ≡ true → IsReady (OfFile (sources r file)) (file_forms r file) (tells r file) (places r) (out_units r.move r.units file)
   unfolding fitted
   file_ready file there changed = record {
-    carried = out_carried (OfFile (sources r file)) scope (units_of docs) rule is choice r.files whole.old whole.held file
-        (λ i u nth of_file. subst (λ (n : ℕ). CarriedUnit (OfFile (sources_of (input n))) (bases_in u.unit) u.unit) of_file (unit_read i u nth)) ((over.file file there changed).roots);
+    carried = out_carried (OfFile (sources r file)) scope (units_of docs) rule is choice r.files whole.old whole.held file (file_origins file)
+        (local_roots (OfFile (sources r file)) scope (units_of docs) rule is choice r.files whole.old whole.held file (file_origins file));
     closed = within scope docs rule placed is choice input file;
     over = record {
-      bases = out_bases r file whole.old (over.file file there changed).lines;
+      bases = out_bases r file whole.old
+          (λ n part nth home. part_bases (OfFile (sources r file)) scope (units_of docs) rule is choice r.files whole.old whole.held file (file_origins file) n part nth home (file_forms r file).texts (file_forms r file).offsets);
       operands = (over.file file there changed).operands;
       room = (over.file file there changed).room;
     };

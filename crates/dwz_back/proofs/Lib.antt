@@ -7,6 +7,7 @@ pub mod OriginLemmas
 pub mod BasesLemmas
 pub mod SpaceLemmas
 pub mod OutsCarried
+pub mod LineLemmas
 pub mod OneLemmas
 pub mod WithinLemmas
 pub mod CommonLemmas

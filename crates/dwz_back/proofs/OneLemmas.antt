@@ -25,6 +25,7 @@ use Rattle.dwz_back.specs.Back.{CanWrite, FileOver, IsReady, OneBack, WasReadFro
 use Rattle.dwz_back.specs.Files.{HasSections, Run, common_forms, file_forms, fitted, place_of, places, sections_of, sources}
 use Rattle.dwz_back.proofs.BasesLemmas.{out_bases}
 use Rattle.dwz_back.proofs.HomeLemmas.{no_common}
+use Rattle.dwz_back.proofs.LineLemmas.{local_roots, part_bases}
 use Rattle.dwz_back.proofs.OutsCarried.{out_carried}
 use Rattle.dwz_back.proofs.OriginLemmas.{bases_mapped}
 use Rattle.dwz_back.proofs.ReadPlaces.{read_from}
@@ -89,12 +90,17 @@ module _ (l : Limits) (input : List ℕ) (raw : List RawUnit) (doc : Doc ℕ) (r
   unfolding common_units
   none_shared = no_common (units_of docs) rule is r.files r.move refl
 
+  origins : (i : ℕ) (u : FileUnit Spot) → Nth 0 (units_of docs) i u → u.file ≡ 0 → CarriedUnit (OfFile (sources_of input)) (bases_in u.unit) u.unit
+  origins i u nth file = named_carried (OfFile (sources_of input)) doc was_read.carried i u nth
+
   ready : IsReady (OfFile (sources r 0)) (file_forms r 0) (tells r 0) (places r) (out_units r.move r.units 0)
   unfolding fitted
   ready = record {
-    carried = out_carried (OfFile (sources_of input)) Apart (units_of docs) rule is choice r.files whole.old whole.held 0 (λ i u nth file. named_carried (OfFile (sources_of input)) doc was_read.carried i u nth) over.roots;
+    carried = out_carried (OfFile (sources_of input)) Apart (units_of docs) rule is choice r.files whole.old whole.held 0 origins
+        (local_roots (OfFile (sources_of input)) Apart (units_of docs) rule is choice r.files whole.old whole.held 0 origins);
     closed = within Apart docs rule placed is choice (λ file. input) 0;
-    over = record { bases = out_bases r 0 whole.old over.lines; operands = over.operands; room = over.room };
+    over = record { bases = out_bases r 0 whole.old
+        (λ n part nth home. part_bases (OfFile (sources_of input)) Apart (units_of docs) rule is choice r.files whole.old whole.held 0 origins n part nth home (file_forms r 0).texts (file_forms r 0).offsets); operands = over.operands; room = over.room };
   }
 
   none_fitted : fit_units (common_forms r) (common_units r.move) ≡ []

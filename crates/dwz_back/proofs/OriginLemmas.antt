@@ -100,11 +100,14 @@ module _ (scope : Scope) (units : List (FileUnit Spot)) (rule : Rule) (is : IsAl
       let user = used rule.alike units b.number b hb.there (moves_self units rule fair b.number moves_b) in
       first_user a ha.there (ap is_home ha.home ∙ p.moves) ha.rep b.unit (subst (In b.unit) (hb.users ∙ sym ha.users) user)
 
-  -- what is known of the unit of such a top
-  pub part_origin : (n : ℕ) (part : PartialUnit) → Nth 0 m.parts n part → (t : Top) → In t part.tops → bases_at units t.unit ≡ origin_in m units (PartialOf n)
-  part_origin n part nth t there =
+  -- it is of the unit that the first of them is of
+  pub first_is : (n : ℕ) (part : PartialUnit) → Nth 0 m.parts n part → (t : Top) → In t part.tops → t.unit ≡ first_unit part.tops
+  first_is n part nth t there =
       let o = first_there part.tops t there in
       let a = not_before n part nth t o.0 there o.1 in
       let b = not_before n part nth o.0 t o.1 there in
-      let same : t.unit ≡ first_unit part.tops = omega (arith, a, b, o.2) in
-      ap (bases_at units) (same ∙ ap unit_in_part (sym (part_found 0 m.parts n n part nth (omega arith))))
+      omega (arith, a, b, o.2)
+
+  -- what is known of the unit of such a top
+  pub part_origin : (n : ℕ) (part : PartialUnit) → Nth 0 m.parts n part → (t : Top) → In t part.tops → bases_at units t.unit ≡ origin_in m units (PartialOf n)
+  part_origin n part nth t there = ap (bases_at units) (first_is n part nth t there ∙ ap unit_in_part (sym (part_found 0 m.parts n n part nth (omega arith))))

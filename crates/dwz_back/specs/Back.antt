@@ -9,11 +9,11 @@ use Rattle.dwz_meanings.specs.Meanings.{Around, Common, MeanUnits, Sources, all_
 use Rattle.dwz_docs.specs.Units.{RawUnit, SpellsUnits}
 use Rattle.dwz_docs.specs.Values.{AreBytes}
 use Rattle.dwz_seen.specs.Lists.{Each, NoneTwice, Nth}
-use Rattle.dwz_seen.specs.Seen.{IsPartial, SameAlong}
+use Rattle.dwz_seen.specs.Seen.{SameAlong}
 use Rattle.dwz_seen.specs.Shown.{OnePlace, UnitsShown, units_keys}
 use Rattle.dwz_alike.specs.Alike.{Apart, IsAlike, Scope}
 use Rattle.dwz_alike.specs.Spots.{Spot, file_numbers, units_of}
-use Rattle.dwz_moving.specs.Homes.{IsChoice, Local, Rule, moves}
+use Rattle.dwz_moving.specs.Homes.{IsChoice, Rule, moves}
 use Rattle.dwz_moving.specs.Moves.{plan}
 use Rattle.dwz_moving.specs.Plan.{image}
 use Rattle.dwz_same.specs.After.{ArePlaced, Place, at_file, name_in, placed_from}
@@ -25,7 +25,6 @@ use Rattle.dwz_writing.specs.Fitting.{UnitHasRoom, back_forms}
 use Rattle.dwz_writing.specs.Meant.{Tells, all_entry_keys, placed_units}
 use Rattle.dwz_writing.specs.Placing.{FitsSections, Forms, fit_units}
 use Rattle.dwz_writing.specs.Writing.{Numbering}
-use Rattle.dwz_back.specs.Carrying.{RootsCarried}
 use Rattle.dwz_back.specs.Files.{HasCommon, HasSections, Run, common_fitted, common_forms, common_sections, common_sources, file_forms, fitted, place_of, places, sections_of, sources, texts}
 
 -- ---- the relation: what a file says
@@ -74,11 +73,9 @@ pub record IsReady (from : Sources → Type 0) (f : Forms Spot) (t : Tells Spot)
   pub closed : ClosedIn t units
   pub over : StandOver f t n units
 
--- What is asked of a file of which something moves, as long as it isn't shown of all: the root of each partial unit has the line table that
--- was read, and that is the one by which its files are numbered; and operands name entries, and have room for their numbers.
+-- What is asked of a file of which something moves, as long as it isn't shown of all: that operands name entries, and have room for
+-- their numbers.
 pub record FileOver (r : Run) (file : ℕ) : Type 0 where
-  pub roots : RootsCarried (OfFile (sources r file)) r.move r.units (Local file)
-  pub lines : (v : DwUnit Spot) → In v (out_units r.move r.units file) → IsPartial v.kind → BasesStand (file_forms r file) v
   pub operands : Each (OperandsStand (tells r file)) (out_units r.move r.units file)
   pub room : Each (UnitHasRoom (places r)) (fitted r file)
 

@@ -32,7 +32,7 @@ use Rattle.dwz_writing.proofs.FilledParts.{expr_as_long}
 
 -- ---- an attribute that came from a file
 
-so : (b : Bool) (P Q : Type 0) → b ≡ true → IfSo b P Q → P
+pub so : (b : Bool) (P Q : Type 0) → b ≡ true → IfSo b P Q → P
 so true P Q e h = h
 so false P Q e h = absurd cc
 
@@ -301,7 +301,7 @@ module _ {K : Type 0} (from : Sources → Type 0) (origin : Bases) (a : Attr K) 
   pub came_is : Kinds
   came_is = by_class (class_of a.form) refl came.built (subst (λ (f : ℕ). MeansAs (class_of f) w.scope old w.read.value) same_form w.means.value)
 
-import_class : class_of 0x10 ≡ OfInfoEntry
+pub import_class : class_of 0x10 ≡ OfInfoEntry
 unfolding class_rows class_in
 import_class = refl
 
@@ -317,7 +317,7 @@ imports_is a is = record {
 
 -- ---- the line table of a partial unit
 
-no_list : names_list 0x10 ≡ false
+pub no_list : names_list 0x10 ≡ false
 unfolding has
 no_list = refl
 

@@ -8,7 +8,11 @@ pub mod BasesLemmas
 pub mod SpaceLemmas
 pub mod OutsCarried
 pub mod LineLemmas
+pub mod OperandLemmas
+pub mod ReadOperands
 pub mod OneLemmas
+pub mod AttrLemmas
+pub mod KeptLemmas
 pub mod WithinLemmas
 pub mod CommonLemmas
 pub mod ReadMode

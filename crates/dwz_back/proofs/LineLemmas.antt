@@ -18,7 +18,7 @@ use Rattle.dwz_alike.specs.Spots.{FileUnit, PartialOf, Spot, Top, same_spot}
 use Rattle.dwz_alike.proofs.Targets.{entry_from, top_false}
 use Rattle.dwz_alike.proofs.Tops.{unit_of}
 use Rattle.dwz_moving.specs.Homes.{Home, IsChoice, Local, Rule}
-use Rattle.dwz_moving.specs.IsPlan.{Has, OfSpace, OfTop}
+use Rattle.dwz_moving.specs.IsPlan.{Has, OfSpace, OfTop, SpaceOf}
 use Rattle.dwz_moving.specs.Moves.{Move, first_unit, has_path, image_in, line_attrs, line_in, line_of, names_path, plan, root_in_part, root_of}
 use Rattle.dwz_moving.specs.Plan.{PartialUnit}
 use Rattle.dwz_moving.proofs.RowParts.{part_is as part_row_is}
@@ -26,7 +26,7 @@ use Rattle.dwz_same.specs.After.{AreOld, IsBelow}
 use Rattle.dwz_same.specs.Held.{IsHeld}
 use Rattle.dwz_same.specs.Units.{partial_unit, tree}
 use Rattle.dwz_same.proofs.HeldLemmas.{part_found, row_found}
-use Rattle.dwz_same.proofs.NodeLemmas.{EntryOfTop, FromLast, FromSpace, FromTop, NodeFrom, node_from}
+use Rattle.dwz_same.proofs.NodeLemmas.{EntryOfTop}
 use Rattle.dwz_writing.specs.Bases.{Bases, bases_in, offset_in}
 use Rattle.dwz_writing.specs.Carried.{BasesStand, CameFrom, CarriedAttr, CarriedNode, CarriedUnit, FileStands, NamesLines, NumbersFile}
 use Rattle.dwz_writing.specs.Fitting.{EachAttr}
@@ -36,6 +36,7 @@ use Rattle.dwz_writing.proofs.StoredClasses.{offset_class}
 use Rattle.dwz_writing.proofs.ValuesMean.{not_so}
 use Rattle.dwz_back.specs.Carrying.{RootsCarried}
 use Rattle.dwz_back.specs.Files.{bases_at, origin_in}
+use Rattle.dwz_back.proofs.AttrLemmas.{new_attrs}
 use Rattle.dwz_back.proofs.HomeLemmas.{part_is, top_file}
 use Rattle.dwz_back.proofs.OriginLemmas.{bases_found, first_is, part_origin}
 use Rattle.dwz_back.proofs.OutsCarried.{top_carried}
@@ -161,16 +162,6 @@ module _ (from : Sources → Type 0) (origin : Bases) (a : Attr Spot) where
   names_lines (inr (inl i)) named formed = absurd (omega (arith, i.form, formed))
   names_lines (inr (inr l)) named formed = record { name = refl; form = refl; place = l.place; raw = l.raw; fits = l.fits; value = ap (λ (v : Value Spot). only v.plain) l.value }
 
--- ---- attributes of trees
-
-attrs_below : (P : Attr Spot → Type 0) (g : Entries Spot) → ((e : Node Spot) → IsBelow e g → Each P e.attrs) → EachAttr P g
-attrs_below P End are = tt
-attrs_below P (Entry d g k) are = (are d (inl refl), attrs_below P g (λ e h. are e (inr (inl h))), attrs_below P k (λ e h. are e (inr (inr h))))
-
-mapped_attrs : (P : Attr Spot → Type 0) (f : Spot → Spot) (attrs : List (Attr Spot)) → ((a : Attr Spot) → In a attrs → P (attr_map f a)) → Each P (map (attr_map f) attrs)
-mapped_attrs P f [] are = tt
-mapped_attrs P f (a ∷ attrs) are = (are a (inl refl), mapped_attrs P f attrs (λ b is. are b (inr is)))
-
 -- ---- the tops of a partial unit
 
 abbrev path_attr : Attr Spot → Bool
@@ -277,15 +268,15 @@ module _ (from : Sources → Type 0) (scope : InWhich) (units : List (FileUnit S
     root_good false e = subst (Each FileGood) (sym (lines_are false e)) tt
 
     below_good : EachAttr FileGood (tree (image_in m) (m.rows n) End)
-    below_good = attrs_below FileGood (tree (image_in m) (m.rows n) End) (λ e h. go e (node_from (image_in m) (m.rows n) End (held.kinds n part nth) e h)) where
-      go : (e : Node Spot) → NodeFrom (image_in m) (m.rows n) End e → Each FileGood e.attrs
-      go e (FromTop names t has d x y) =
-          (let in_part = ((part_row_is n part).tops_are names t).0 (subst (Has names (OfTop t)) (row_found rule units files n part nth) has) in
-          subst (λ (w : Node Spot). Each FileGood w.attrs) (sym y) (mapped_attrs FileGood (image_in m) d.attrs (λ a a_in numbers. own_line (names_path part) refl t in_part.0 d x a a_in numbers)))
-      go e (FromSpace names d has y) =
-          (let o = (part_row_is n part).spaces_are names d (subst (Has names (OfSpace d)) (row_found rule units files n part nth) has) in
-          subst (λ (w : Node Spot). Each FileGood w.attrs) (sym (y ∙ ap (node_map (image_in m)) o.is)) ((λ numbers. absurd (let z : names_file 0x03 ≡ true = numbers.1 in cc)), tt))
-      go e (FromLast z) = absurd z
+    below_good = new_attrs FileGood m n (held.kinds n part nth)
+        (λ names t has d x a a_in numbers. own_line (names_path part) refl t (((part_row_is n part).tops_are names t).0 (subst (Has names (OfTop t)) (row_found rule units files n part nth) has)).0 d x a a_in numbers)
+        (λ names d has a a_in numbers. space_good ((part_row_is n part).spaces_are names d (subst (Has names (OfSpace d)) (row_found rule units files n part nth) has)) a a_in numbers.1)
+      where
+        space_good : {names : List (List ℕ)} {d : Node Spot} → SpaceOf n part.tops names d → (a : Attr Spot) → In a d.attrs → names_file a.name ≡ true → (bases_in (partial_unit m n)).line ≡ origin.line
+        space_good o a a_in numbers = elim (subst (λ (w : Node Spot). In a w.attrs) o.is a_in) [
+          | inl e ↦ absurd (let z : names_file 0x03 ≡ true = ap (λ (b : Attr Spot). names_file b.name) e ∙ numbers in cc)
+          | inr x ↦ absurd x
+        ]
 
     pub part_bases : (texts : List (List ℕ)) (offsets : List ℕ) → BasesStand (record { same = same_spot; is_common = false; texts = texts; offsets = offsets; origin = origin_in m units }) (partial_unit m n)
     part_bases texts offsets = record { own = tt; root = root_good (names_path part) refl; below = below_good }

@@ -138,14 +138,14 @@ units_rise abbrevs mode before (u ∷ units) start bytes is =
 -- ---- the same places in what they mean
 
 -- what surrounds the units of a file by itself
-abbrev own : Sources → List ℕ → Around ℕ
+abbrev pub own : Sources → List ℕ → Around ℕ
 own sources all = record { sources = sources; all = all; place = λ n. n; common = None }
 
 map_same : (ps : List ℕ) → map (λ p. p) ps ≡ ps
 map_same [] = refl
 map_same (p ∷ ps) = ap (λ (w : List ℕ). p ∷ w) (map_same ps)
 
-entries_places : (s : Scope ℕ) (f : Forest RawEntry) (g : Entries ℕ) → s.around.place ≡ (λ n. n) → MeanEntries s f g → keys g ≡ places_in f
+pub entries_places : (s : Scope ℕ) (f : Forest RawEntry) (g : Entries ℕ) → s.around.place ≡ (λ n. n) → MeanEntries s f g → keys g ≡ places_in f
 entries_places s f g same h = keys_read s f g h ∙ ap (λ (p : ℕ → ℕ). map p (places_in f)) same ∙ map_same (places_in f)
 
 module _ (sources : Sources) (all : List ℕ) where
@@ -227,7 +227,7 @@ ops_named c IsExpr [] start bytes is = tt
 ops_named c IsExpr (x ∷ ops) start bytes is =
     subst (AreNamed c.names) (sym (operands_both x (joined ops))) (named_both c.names (operands_in x) (operands_in (joined ops)) is.first.named (ops_named c IsExpr ops _ is.second_bytes is.second))
 
-expr_named : (c : ExprContext) (e : Expression) (start : ℕ) (bytes : List ℕ) → SpellsExpr c e start bytes → AreNamed c.names e.operands
+pub expr_named : (c : ExprContext) (e : Expression) (start : ℕ) (bytes : List ℕ) → SpellsExpr c e start bytes → AreNamed c.names e.operands
 expr_named c e start bytes is = subst (λ (x : Expression). AreNamed c.names x.operands) (sym is.made) (ops_named c (SpellsWithin c most_inside) is.ops start bytes is.spelled)
 
 base_known : (s : Scope ℕ) (base : Base) (n : ℕ) → has n (entries_for s base) ≡ true → Known s n

@@ -23,6 +23,10 @@ use Rattle.dwz_same.proofs.OldRows.{InTop, IsSpaceSeen, Origin, raw_top, row_kin
 use Rattle.dwz_same.proofs.TreeLemmas.{seen_top_map, space_seen, tree_seen}
 use Rattle.dwz_writing.specs.Meant.{entry_keys}
 
+-- a name of no top that goes
+abbrev pub Stays : Move → Spot → Type 0
+Stays m k = (n : ℕ) (path : List ℕ) → k ≡ Within n path → m.gone n ≡ false
+
 module _ (units : List (FileUnit Spot)) (m : Move) (old : AreOld units) (i : ℕ) (u : FileUnit Spot) (nth : Nth 0 units i u) where
   abbrev f : Spot → Spot
   f = image_in m
@@ -48,11 +52,7 @@ module _ (units : List (FileUnit Spot)) (m : Move) (old : AreOld units) (i : ℕ
       let o = space_seen f (kept_row m.gone units i) (imports i 0 m.parts) names c ((kept_is m.gone units i names (OfSpace c)).1 (has, tt)) in
       (o.0, subst (λ (w : Entries Spot). In o.0 (seen w)) (sym (kept_compile m units i u kind change)) o.1, o.2)
 
-  -- a name of no top that goes
-  abbrev pub Stays : Spot → Type 0
-  Stays k = (n : ℕ) (path : List ℕ) → k ≡ Within n path → m.gone n ≡ false
-
-  below_stays : (d : Seen Spot) → In d (seen u.unit.below) → Stays d.at → (k : Kind Spot) → u.unit.kind ≡ k → (b : Bool) → changes m units u.file ≡ b → In (f d.at) (keys kept.below)
+  below_stays : (d : Seen Spot) → In d (seen u.unit.below) → Stays m d.at → (k : Kind Spot) → u.unit.kind ≡ k → (b : Bool) → changes m units u.file ≡ b → In (f d.at) (keys kept.below)
   below_stays d h stays k kind false c = seen_key kept.below (seen_map f d) (mapped_kept d h (kept_still m units i u c))
   below_stays d h stays (OfType signature main) kind true c = seen_key kept.below (seen_map f d) (mapped_kept d h (kept_type m units i u signature main kind))
   below_stays d h stays Partial kind true c = absurd (subst (λ (w : Kind Spot). IsNamedBelow i w (row_of units i) u.unit.below) kind (old.units_named i u nth).below)
@@ -67,6 +67,6 @@ module _ (units : List (FileUnit Spot)) (m : Move) (old : AreOld units) (i : ℕ
       go (IsSpaceSeen names s has at) = (let o = space_kept kind names s has c in subst (λ (k : Spot). In k (keys kept.below)) (o.2 ∙ ap f (sym at)) (seen_key kept.below o.0 o.1))
 
   -- an entry of no top that goes is an entry of what is kept
-  pub entry_stays : (d : Seen Spot) → (see u.unit.root u.unit.below ≡ d) ⊎ In d (seen u.unit.below) → Stays d.at → In (f d.at) (entry_keys kept)
+  pub entry_stays : (d : Seen Spot) → (see u.unit.root u.unit.below ≡ d) ⊎ In d (seen u.unit.below) → Stays m d.at → In (f d.at) (entry_keys kept)
   entry_stays d (inl e) stays = inl (ap (λ (w : Seen Spot). f w.at) e)
   entry_stays d (inr h) stays = inr (below_stays d h stays u.unit.kind refl (changes m units u.file) refl)

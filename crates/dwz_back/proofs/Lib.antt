@@ -10,6 +10,8 @@ pub mod OutsCarried
 pub mod LineLemmas
 pub mod OperandLemmas
 pub mod ReadOperands
+pub mod FreeOperands
+pub mod OutOperands
 pub mod OneLemmas
 pub mod AttrLemmas
 pub mod KeptLemmas

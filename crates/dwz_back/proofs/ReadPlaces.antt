@@ -291,7 +291,7 @@ seen_known s same _ _ h built e is a attr p ref = absurd h
 abbrev StandsAt : List (DwUnit ℕ) → ℕ → Type 0
 StandsAt units p = (d : Seen ℕ) × In d (all_seen units) × (d.at ≡ p)
 
-key_seen : (g : Entries ℕ) (p : ℕ) → In p (keys g) → (d : Seen ℕ) × In d (seen g) × (d.at ≡ p)
+pub key_seen : {P : Type 0} (g : Entries P) (p : P) → In p (keys g) → (d : Seen P) × In d (seen g) × (d.at ≡ p)
 unfolding keys seen
 key_seen End p h = absurd h
 key_seen (Entry e f g) p (inl x) = (see e f, inl refl, x)

@@ -164,11 +164,11 @@ text_for (OfType signature main) texts a = tt
 text_for Partial texts a = tt
 
 module _ {K : Type 0} (P Q R : Attr K → Type 0) (join : (a : Attr K) → P a → Q a → R a) where
-  join_attrs : (attrs : List (Attr K)) → Each P attrs → Each Q attrs → Each R attrs
+  pub join_attrs : (attrs : List (Attr K)) → Each P attrs → Each Q attrs → Each R attrs
   join_attrs [] p q = tt
   join_attrs (a ∷ attrs) p q = (join a p.0 q.0, join_attrs attrs p.1 q.1)
 
-  join_entries : (g : Entries K) → EachAttr P g → EachAttr Q g → EachAttr R g
+  pub join_entries : (g : Entries K) → EachAttr P g → EachAttr Q g → EachAttr R g
   join_entries End p q = tt
   join_entries (Entry e children next) p q = (join_attrs e.attrs p.0 q.0, join_entries children p.1 q.1, join_entries next p.2 q.2)
 

@@ -9,30 +9,37 @@ use Rattle.dwz_meanings.specs.Meanings.{Common as CommonFile, Sources}
 use Rattle.dwz_alike.specs.Alike.{IsAlike, Scope}
 use Rattle.dwz_alike.specs.Spots.{FileUnit, PartialOf, Spot, Top, file_numbers, in_file, named, named_files, spot_in, spots_from, units_of}
 use Rattle.dwz_seen.specs.Lists.{Each, Nth}
-use Rattle.dwz_seen.proofs.Members.{each_of, in_cases, nth_in}
+use Rattle.dwz_seen.proofs.Members.{each_more, each_of, in_cases, nth_in}
 use Rattle.dwz_moving.specs.Homes.{Common, Home, IsChoice, Rule}
 use Rattle.dwz_moving.specs.Moves.{line_attrs, line_in, names_path, plan, root_in_part}
 use Rattle.dwz_moving.specs.Plan.{PartialUnit}
 use Rattle.dwz_moving.specs.IsPlan.{Has, OfTop}
 use Rattle.dwz_moving.proofs.RowParts.{part_is as part_row_is}
 use Rattle.dwz_same.specs.After.{ArePlaced, FilesSame, Place, Replaces, at_file}
-use Rattle.dwz_same.specs.Units.{all_units, changes, common_units, out_units, partial_units}
+use Rattle.dwz_same.specs.Units.{all_units, changes, common_units, out_units, partial_units, units_at}
 use Rattle.dwz_same.proofs.FileLemmas.{files_same, replaced}
 use Rattle.dwz_same.proofs.HeldLemmas.{part_found, row_found}
 use Rattle.dwz_writing.specs.Bases.{Bases, bases_in}
-use Rattle.dwz_writing.specs.Carried.{CarriedAttr, CarriedEntries, CarriedNode, CarriedUnit, OfAny, OfFile}
+use Rattle.dwz_writing.specs.Carried.{CarriedAttr, CarriedEntries, CarriedNode, CarriedUnit, OfAny, OfFile, OperandsStand}
+use Rattle.dwz_writing.specs.Fitting.{UnitHasRoom}
+use Rattle.dwz_writing.specs.Meant.{all_entry_keys}
+use Rattle.dwz_writing.specs.Placing.{fit_units}
 use Rattle.dwz_writing.proofs.CarriedMaps.{unit_carried}
-use Rattle.dwz_back.specs.AllFiles.{AreMade, AreOver, AreRead, ReadBack, SaysStill}
+use Rattle.dwz_back.specs.AllFiles.{AreMade, AreOver, AreRead, IsRead, ReadBack, SaysStill}
 use Rattle.dwz_back.specs.Carrying.{RootsCarried}
-use Rattle.dwz_back.specs.Back.{CanWrite, IsReady, WasReadFrom, given_by, run_of, tells}
-use Rattle.dwz_back.specs.Files.{Run, file_forms, fitted, origin_in, places, sources}
+use Rattle.dwz_back.specs.Back.{CanWrite, IsReady, WasReadFrom, given_by, run_of, tells, tells_common}
+use Rattle.dwz_back.specs.Files.{Run, common_fitted, common_forms, file_forms, fitted, origin_in, places, sources}
 use Rattle.dwz_back.proofs.BasesLemmas.{out_bases}
 use Rattle.dwz_back.proofs.CommonLemmas.{common_within}
+use Rattle.dwz_back.proofs.FreeOperands.{UnitAsksNone, asks_operands, asks_room, home_asks}
 use Rattle.dwz_back.proofs.HomeLemmas.{parts_from}
 use Rattle.dwz_back.proofs.LineLemmas.{local_roots, part_bases}
+use Rattle.dwz_back.proofs.NameLemmas.{fitted_entries}
+use Rattle.dwz_back.proofs.OutOperands.{out_operands}
 use Rattle.dwz_back.proofs.OriginLemmas.{bases_mapped, part_origin}
 use Rattle.dwz_back.proofs.OutsCarried.{new_carried, out_carried, part_spaces}
 use Rattle.dwz_back.proofs.ReadMode.{units_again, wider}
+use Rattle.dwz_back.proofs.ReadOperands.{OperandsRead, file_read, files_read, reading}
 use Rattle.dwz_back.proofs.ReadPlaces.{read_from}
 use Rattle.dwz_back.proofs.SameLemmas.{same_back}
 use Rattle.dwz_back.proofs.SaysLemmas.{common_back, file_back}
@@ -126,19 +133,30 @@ module _ (scope : Scope) (docs : List (Doc ℕ)) (input : ℕ → List ℕ) (are
   file_origins : (file : ℕ) (i : ℕ) (u : FileUnit Spot) → Nth 0 (units_of docs) i u → u.file ≡ file → CarriedUnit (OfFile (sources r file)) (bases_in u.unit) u.unit
   file_origins file i u nth of_file = subst (λ (n : ℕ). CarriedUnit (OfFile (sources_of (input n))) (bases_in u.unit) u.unit) of_file (unit_read i u nth)
 
+  operands_read : (own : ℕ) (some : List (Doc ℕ)) → ((file : ℕ) (doc : Doc ℕ) → Nth own some file doc → IsRead (input file) doc) → Each (λ doc. OperandsRead doc.units) some
+  operands_read own [] each = tt
+  operands_read own (doc ∷ some) each = (let o = each own doc (inl (refl, refl)) in (file_read (sources_of (input own)) o.raw doc.units o.reads.means, operands_read (suc own) some (λ file d nth. each file d (inr nth))))
+
+  file_operands : (file : ℕ) → Each (λ v. CarriedUnit (OfFile (sources r file)) (origin_in r.move r.units v.at) v) (out_units r.move r.units file) → Each (OperandsStand (tells r file)) (out_units r.move r.units file)
+  file_operands file carried =
+      out_operands scope (units_of docs) rule is choice r.files whole.old whole.held file (tells r file) (λ k k_in. subst (In k) (sym (fitted_entries r file)) k_in) (OfFile (sources r file)) carried
+      (λ i u nth of_file. files_read 0 0 0 docs (operands_read 0 docs are) u (nth_in 0 (units_of docs) i u nth) (reading (all_entry_keys (units_at file (units_of docs)))) (λ k k_in. subst (λ (n : ℕ). In k (all_entry_keys (units_at n (units_of docs)))) of_file k_in))
+
   file_ready : (file : ℕ) → In file r.files → changes r.move r.units file ≡ true → IsReady (OfFile (sources r file)) (file_forms r file) (tells r file) (places r) (out_units r.move r.units file)
   unfolding fitted
-  file_ready file there changed = record {
-    carried = out_carried (OfFile (sources r file)) scope (units_of docs) rule is choice r.files whole.old whole.held file (file_origins file)
-        (local_roots (OfFile (sources r file)) scope (units_of docs) rule is choice r.files whole.old whole.held file (file_origins file));
-    closed = within scope docs rule placed is choice input file;
-    over = record {
-      bases = out_bases r file whole.old
-          (λ n part nth home. part_bases (OfFile (sources r file)) scope (units_of docs) rule is choice r.files whole.old whole.held file (file_origins file) n part nth home (file_forms r file).texts (file_forms r file).offsets);
-      operands = (over.file file there changed).operands;
-      room = (over.file file there changed).room;
-    };
-  }
+  file_ready file there changed =
+      let carried = out_carried (OfFile (sources r file)) scope (units_of docs) rule is choice r.files whole.old whole.held file (file_origins file)
+      (local_roots (OfFile (sources r file)) scope (units_of docs) rule is choice r.files whole.old whole.held file (file_origins file)) in
+      record {
+        carried = carried;
+        closed = within scope docs rule placed is choice input file;
+        over = record {
+          bases = out_bases r file whole.old
+              (λ n part nth home. part_bases (OfFile (sources r file)) scope (units_of docs) rule is choice r.files whole.old whole.held file (file_origins file) n part nth home (file_forms r file).texts (file_forms r file).offsets);
+          operands = file_operands file carried;
+          room = over.file file there changed;
+        };
+      }
 
   common_carried : Each (λ u. CarriedUnit OfAny (origin_in r.move r.units u.at) u) (common_units r.move)
   unfolding common_units
@@ -152,11 +170,22 @@ module _ (scope : Scope) (docs : List (Doc ℕ)) (input : ℕ → List ℕ) (are
       (part_spaces OfAny scope (units_of docs) rule is choice r.files o.number o.part o.nth (λ t in_part i u nth of. any_unit (OfFile (sources_of (input u.file))) (bases_in u.unit) u.unit (unit_read i u nth))) (part_origin scope (units_of docs) rule is choice r.files o.number o.part o.nth)
       (λ names t there in_part. tt) holds)))
 
+  common_asks : Each UnitAsksNone (common_units r.move)
+  unfolding common_units
+  common_asks = home_asks scope (units_of docs) rule is choice r.files whole.held Common OfAny common_carried
+
+  common_room : Each (UnitHasRoom (places r)) (fit_units (common_forms r) (common_units r.move))
+  common_room = asks_room (common_forms r) (places r) (common_units r.move) common_asks
+
   pub can_write : CanWrite r
   can_write = record {
     apart = together.apart;
     file = file_ready;
-    common = record { carried = common_carried; closed = common_within scope docs rule placed is choice input; over = over.common };
+    common = record {
+      carried = common_carried;
+      closed = common_within scope docs rule placed is choice input;
+      over = record { bases = over.common; operands = each_more UnitAsksNone (OperandsStand (tells_common r)) (common_units r.move) (asks_operands (tells_common r)) common_asks; room = common_room };
+    };
   }
 
   -- a file by itself says the same with a common file

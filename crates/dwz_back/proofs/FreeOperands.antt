@@ -8,7 +8,7 @@ use Rattle.dwz_meanings.specs.Documents.{Attr, DwUnit, Entries, Expr, Node, Part
 use Rattle.dwz_meanings.specs.Exprs.{Expression, parts_from, parts_of}
 use Rattle.dwz_meanings.specs.Meanings.{Class, IsExpression, MeansAs, OfCommonEntry, OfExpression, OfInfoEntry, OfOffset, OfTextBySlot, OfTextInLineStr, OfTextInStr, OfUnitEntry, Sources, class_in, class_of, class_rows, targets}
 use Rattle.dwz_seen.specs.Lists.{Each, Nth}
-use Rattle.dwz_seen.proofs.Members.{each_in, each_more}
+use Rattle.dwz_seen.proofs.Members.{each_in, each_more, each_of}
 use Rattle.dwz_alike.specs.Alike.{IsAlike, Movable, Scope, attr_binds, binding_forms, has_address, has_operand, holds_place, is_named, is_operand, leaves}
 use Rattle.dwz_alike.specs.Spots.{FileUnit, PartialOf, Spot, SpaceName, Top, tops_of}
 use Rattle.dwz_alike.proofs.Targets.{free_attr, not_named, or_left, or_right}
@@ -22,12 +22,12 @@ use Rattle.dwz_moving.proofs.StandLemmas.{fair}
 use Rattle.dwz_moving.proofs.UserLemmas.{moves_self}
 use Rattle.dwz_same.specs.After.{AreOld}
 use Rattle.dwz_same.specs.Held.{IsHeld}
-use Rattle.dwz_same.specs.Units.{partial_unit, tree}
+use Rattle.dwz_same.specs.Units.{partial_unit, partial_units, tree}
 use Rattle.dwz_same.proofs.HeldLemmas.{part_found, row_found}
 use Rattle.dwz_same.proofs.NodeLemmas.{EntryOfTop}
 use Rattle.dwz_writing.specs.Bases.{Bases, bases_in}
 use Rattle.dwz_writing.specs.Carried.{AttrOperands, CarriedAttr, CarriedEntries, CarriedUnit, ExprIn, OperandsStand, OperandsStandAs}
-use Rattle.dwz_writing.specs.Fitting.{EachAttr, ExprFits, HasRoom, HasRoomAs, OperandsFit, UnitHasRoom}
+use Rattle.dwz_writing.specs.Fitting.{EachAttr, ExprHasRoom, HasRoom, HasRoomAs, OperandsHaveRoom, UnitHasRoom}
 use Rattle.dwz_writing.specs.Meant.{OperandsIn, Own, Tells, own_of}
 use Rattle.dwz_writing.specs.Placing.{FileFit, Fit, Forms, Holder, InCommon, InFile, InUnit, CommonUnit, NewUnit, OldUnit, Reach, as_slot, as_text, fit, fit_as, fit_attr, fit_node, fit_unit, fit_units, reach_of, ref_form, unit_fit, with_form, with_keys}
 use Rattle.dwz_writing.specs.Writing.{Numbering}
@@ -38,7 +38,7 @@ use Rattle.dwz_seen.specs.Shown.{units_keys}
 use Rattle.dwz_writing.proofs.StoredClasses.{offset_class}
 use Rattle.dwz_back.specs.Files.{bases_at, origin_in}
 use Rattle.dwz_back.proofs.AttrLemmas.{new_attrs}
-use Rattle.dwz_back.proofs.HomeLemmas.{part_is}
+use Rattle.dwz_back.proofs.HomeLemmas.{part_is, parts_from as found_part}
 
 -- ---- an attribute that asks for no entry and no room
 
@@ -68,7 +68,7 @@ module _ {K : Type 0} (a : Attr K) where
   none_in [] at bytes e t own = tt
   none_in (o ∷ os) at bytes e t own = absurd cc
 
-  none_fit : (os : List Operand) (at : ℕ) (bytes : List ℕ) → os ≡ [] → (n : Numbering K) (unit : ℕ) → OperandsFit n unit (parts_from at bytes os) []
+  none_fit : (os : List Operand) (at : ℕ) (bytes : List ℕ) → os ≡ [] → (n : Numbering K) (unit : ℕ) → OperandsHaveRoom n unit (parts_from at bytes os) []
   unfolding parts_from
   none_fit [] at bytes e n unit = tt
   none_fit (o ∷ os) at bytes e n unit = absurd cc
@@ -78,7 +78,7 @@ module _ {K : Type 0} (a : Attr K) where
       let none = parts_free e.operands e.at e.bytes (sym (ap has_operand plain) ∙ free) in
       record {
         operands = λ t own. subst (λ (d : Class). OperandsStandAs d t own a) (sym class) (subst (λ (p : Plain). ExprIn t own p a.value.refs) (sym plain) (subst (OperandsIn t own (parts_of e)) (sym (refs none)) (none_in e.operands e.at e.bytes none t own)));
-        room = λ n unit. subst (λ (d : Class). HasRoomAs d n unit a) (sym class) (subst (λ (p : Plain). ExprFits n unit p a.value.refs) (sym plain) (subst (OperandsFit n unit (parts_of e)) (sym (refs none)) (none_fit e.operands e.at e.bytes none n unit)));
+        room = λ n unit. subst (λ (d : Class). HasRoomAs d n unit a) (sym class) (subst (λ (p : Plain). ExprHasRoom n unit p a.value.refs) (sym plain) (subst (OperandsHaveRoom n unit (parts_of e)) (sym (refs none)) (none_fit e.operands e.at e.bytes none n unit)));
       }
 
   -- what was read, and names no entry by an operand
@@ -236,3 +236,14 @@ module _ (scope : Scope) (units : List (FileUnit Spot)) (rule : Rule) (is : IsAl
           root_asks,
           join_entries (CarriedAttr from origin) IsFree AsksNone (λ a read none. free a from origin read none) below (carried_attrs from origin below carried.below) (new_attrs IsFree m n (held.kinds n part nth) tops_free spaces_free),
         )
+
+  -- nor of the partial units of a home
+  pub home_asks : (files : List ℕ) → IsHeld units (plan rule units files) → (h : Home) (from : Sources → Type 0) → Each (λ v. CarriedUnit from (origin_in (plan rule units files) units v.at) v) (partial_units (plan rule units files) h 0 (plan rule units files).parts)
+      → Each UnitAsksNone (partial_units (plan rule units files) h 0 (plan rule units files).parts)
+  home_asks files held h from carried =
+      let m = plan rule units files in
+      let new = partial_units m h 0 m.parts in
+      each_of UnitAsksNone new (λ v there.
+      (let o = found_part m h 0 m.parts v there in
+      let part = subst (λ (w : DwUnit Spot). CarriedUnit from (origin_in m units w.at) w) (sym o.is) (each_in (λ w. CarriedUnit from (origin_in m units w.at) w) v new carried there) in
+      subst UnitAsksNone o.is (part_asks files held o.number o.part o.nth from (origin_in m units (PartialOf o.number)) part)))

@@ -14,11 +14,12 @@ use Rattle.dwz_seen.specs.Seen.{Seen, all_seen, seen_below, seen_roots}
 use Rattle.dwz_seen.proofs.Members.{nth_in}
 use Rattle.dwz_moving.specs.Homes.{IsChoice, Rule}
 use Rattle.dwz_same.specs.After.{ArePlaced, FilesSame, Replaces}
-use Rattle.dwz_same.specs.Units.{all_units, changes, common_units, out_units}
+use Rattle.dwz_same.specs.Units.{all_units, changes, common_units, out_units, units_at}
 use Rattle.dwz_same.proofs.FileLemmas.{files_same, replaced}
 use Rattle.dwz_writing.specs.Bases.{Bases, bases_in}
 use Rattle.dwz_writing.specs.Carried.{BasesStand, BuiltUnit, CarriedUnit, ClosedIn, OfAny, OfFile, OperandsStand}
 use Rattle.dwz_writing.specs.Fitting.{UnitHasRoom}
+use Rattle.dwz_writing.specs.Meant.{all_entry_keys}
 use Rattle.dwz_writing.specs.Placing.{FitsSections, fit_units}
 use Rattle.dwz_writing.proofs.CarriedMaps.{unit_carried}
 use Rattle.dwz_back.specs.Back.{CanWrite, FileOver, IsReady, OneBack, WasReadFrom, one_run, tells, tells_common}
@@ -28,6 +29,9 @@ use Rattle.dwz_back.proofs.HomeLemmas.{no_common}
 use Rattle.dwz_back.proofs.LineLemmas.{local_roots, part_bases}
 use Rattle.dwz_back.proofs.OutsCarried.{out_carried}
 use Rattle.dwz_back.proofs.OriginLemmas.{bases_mapped}
+use Rattle.dwz_back.proofs.NameLemmas.{fitted_entries}
+use Rattle.dwz_back.proofs.OutOperands.{out_operands}
+use Rattle.dwz_back.proofs.ReadOperands.{file_read, files_read, reading}
 use Rattle.dwz_back.proofs.ReadPlaces.{read_from}
 use Rattle.dwz_back.proofs.WithinLemmas.{within}
 use Rattle.dwz_back.proofs.SameLemmas.{same_back}
@@ -95,13 +99,19 @@ module _ (l : Limits) (input : List ℕ) (raw : List RawUnit) (doc : Doc ℕ) (r
 
   ready : IsReady (OfFile (sources r 0)) (file_forms r 0) (tells r 0) (places r) (out_units r.move r.units 0)
   unfolding fitted
-  ready = record {
-    carried = out_carried (OfFile (sources_of input)) Apart (units_of docs) rule is choice r.files whole.old whole.held 0 origins
-        (local_roots (OfFile (sources_of input)) Apart (units_of docs) rule is choice r.files whole.old whole.held 0 origins);
-    closed = within Apart docs rule placed is choice (λ file. input) 0;
-    over = record { bases = out_bases r 0 whole.old
-        (λ n part nth home. part_bases (OfFile (sources_of input)) Apart (units_of docs) rule is choice r.files whole.old whole.held 0 origins n part nth home (file_forms r 0).texts (file_forms r 0).offsets); operands = over.operands; room = over.room };
-  }
+  ready =
+      let from : Sources → Type 0 = OfFile (sources_of input) in
+      let carried = out_carried from Apart (units_of docs) rule is choice r.files whole.old whole.held 0 origins (local_roots from Apart (units_of docs) rule is choice r.files whole.old whole.held 0 origins) in
+      record {
+        carried = carried;
+        closed = within Apart docs rule placed is choice (λ file. input) 0;
+        over = record {
+          bases = out_bases r 0 whole.old (λ n part nth home. part_bases from Apart (units_of docs) rule is choice r.files whole.old whole.held 0 origins n part nth home (file_forms r 0).texts (file_forms r 0).offsets);
+          operands = out_operands Apart (units_of docs) rule is choice r.files whole.old whole.held 0 (tells r 0) (λ k k_in. subst (In k) (sym (fitted_entries r 0)) k_in) from carried
+              (λ i u nth of_file. files_read 0 0 0 docs (file_read (sources_of input) raw doc.units reads.means, tt) u (nth_in 0 (units_of docs) i u nth) (reading (all_entry_keys (units_at 0 (units_of docs)))) (λ k k_in. subst (λ (n : ℕ). In k (all_entry_keys (units_at n (units_of docs)))) of_file k_in));
+          room = over;
+        };
+      }
 
   none_fitted : fit_units (common_forms r) (common_units r.move) ≡ []
   unfolding fit_units

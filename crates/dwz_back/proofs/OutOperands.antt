@@ -9,7 +9,7 @@ use Rattle.dwz_meanings.specs.Documents.{Attr, DwUnit, Entries, Node, attr_map}
 use Rattle.dwz_meanings.specs.Meanings.{Class, OfInfoEntry, Sources, class_of}
 use Rattle.dwz_seen.specs.Lists.{Each, Nth}
 use Rattle.dwz_seen.specs.Seen.{Seen, see, seen}
-use Rattle.dwz_seen.proofs.Members.{any_true, each_append, each_in, each_of, in_cases, in_filter_from, in_left, in_map_from, in_nth, in_right, nth_in}
+use Rattle.dwz_seen.proofs.Members.{any_true, each_append, each_in, each_more, each_of, each_split, in_cases, in_filter_from, in_left, in_map_from, in_nth, in_right, nth_in}
 use Rattle.dwz_alike.specs.Alike.{IsAlike, Scope, any_attr, any_entry, has_operand, is_in, is_named, names_in_unit, operand_names}
 use Rattle.dwz_alike.specs.Spots.{FileUnit, PartialOf, Spot, Within}
 use Rattle.dwz_alike.proofs.Targets.{entry_true, or_first, or_second}
@@ -25,10 +25,11 @@ use Rattle.dwz_writing.specs.Meant.{OperandIn, Own, Tells, all_entry_keys, entry
 use Rattle.dwz_writing.proofs.Carrying.{import_class}
 use Rattle.dwz_back.specs.Files.{origin_in}
 use Rattle.dwz_back.proofs.AttrLemmas.{attrs_in, attrs_mapped, kept_attrs}
-use Rattle.dwz_back.proofs.FreeOperands.{asks_operands, named_stays, part_asks}
-use Rattle.dwz_back.proofs.HomeLemmas.{kept_from, parts_from}
+use Rattle.dwz_back.proofs.FreeOperands.{UnitAsksNone, asks_operands, home_asks, named_stays}
+use Rattle.dwz_back.proofs.HomeLemmas.{kept_from}
 use Rattle.dwz_back.proofs.KeptLemmas.{Stays, entry_stays}
 use Rattle.dwz_back.proofs.OperandLemmas.{Names, attr_to}
+use Rattle.dwz_back.proofs.ReadOperands.{reading}
 use Rattle.dwz_back.proofs.ReadPlaces.{key_seen}
 use Rattle.dwz_back.proofs.WithinLemmas.{kept_to}
 
@@ -95,7 +96,7 @@ module _ (scope : Scope) (units : List (FileUnit Spot)) (rule : Rule) (is : IsAl
 
   module _ (t : Tells Spot) (into : (k : Spot) → In k (all_entry_keys (out_units m units file)) → In k t.all) where
     abbrev before : Tells Spot
-    before = record { strs = []; line_strs = []; offsets = []; line = []; all = all_entry_keys (units_at file units); common = [] }
+    before = reading (all_entry_keys (units_at file units))
 
     in_file : (i : ℕ) (u : FileUnit Spot) → Nth 0 units i u → u.file ≡ file → In (kept_unit m units i u) (out_units m units file)
     unfolding out_units
@@ -130,10 +131,6 @@ module _ (scope : Scope) (units : List (FileUnit Spot)) (rule : Rule) (is : IsAl
     out_operands from carried read =
         let new = partial_units m (Local file) 0 m.parts in
         let olds = kept_units m units file 0 units in
-        each_append (OperandsStand t) new olds
-        (each_of (OperandsStand t) new (λ v there.
-        (let o = parts_from m (Local file) 0 m.parts v there in
-        let is_carried = each_in (λ w. CarriedUnit from (origin_in m units w.at) w) v (new ++ olds) carried (in_left v new olds there) in
-        let part = subst (λ (w : DwUnit Spot). CarriedUnit from (origin_in m units w.at) w) (sym o.is) is_carried in
-        subst (OperandsStand t) o.is (asks_operands t (partial_unit m o.number) (part_asks scope units rule is choice files held o.number o.part o.nth from (origin_in m units (PartialOf o.number)) part)))))
+        let each = each_split (λ v. CarriedUnit from (origin_in m units v.at) v) new olds carried in
+        each_append (OperandsStand t) new olds (each_more UnitAsksNone (OperandsStand t) new (asks_operands t) (home_asks scope units rule is choice files held (Local file) from each.0))
         (each_of (OperandsStand t) olds (λ v there. (let o = kept_from m units file 0 units v there in subst (OperandsStand t) o.is (kept_operands o.number o.unit o.nth (read o.number o.unit o.nth o.file_is)))))

@@ -69,7 +69,8 @@ module _ (t : Tells ℕ) (w : Own ℕ) (s : Scope ℕ) (knows : Knows t w s) whe
 
 -- ---- in a file that is read
 
-abbrev pub reading : List ℕ → Tells ℕ
+-- what is told of a file is its entries
+abbrev pub reading : {K : Type 0} → List K → Tells K
 reading all = record { strs = []; line_strs = []; offsets = []; line = []; all = all; common = [] }
 
 module _ (sources : Sources) (all : List ℕ) where

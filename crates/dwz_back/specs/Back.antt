@@ -73,15 +73,14 @@ pub record IsReady (from : Sources → Type 0) (f : Forms Spot) (t : Tells Spot)
   pub closed : ClosedIn t units
   pub over : StandOver f t n units
 
--- What is asked of a file of which something moves, as long as it isn't shown of all: that operands name entries, and have room for
--- their numbers.
-pub record FileOver (r : Run) (file : ℕ) : Type 0 where
-  pub operands : Each (OperandsStand (tells r file)) (out_units r.move r.units file)
-  pub room : Each (UnitHasRoom (places r)) (fitted r file)
+-- What is asked of a file of which something moves: that operands have room for the numbers of what they name; where one has not, the
+-- run is refused.
+abbrev pub FileOver : Run → ℕ → Type 0
+FileOver r file = Each (UnitHasRoom (places r)) (fitted r file)
 
--- and of the common file: that none of its values numbers a file, which isn't written yet, and the same of operands
+-- and of the common file, as long as it has no line table: that none of its values numbers a file
 abbrev pub CommonOver : Run → Type 0
-CommonOver r = StandOver (common_forms r) (tells_common r) (places r) (common_units r.move)
+CommonOver r = Each (BasesStand (common_forms r)) (common_units r.move)
 
 -- no name stands twice, and the units of each file of which something moves, and of the common file, are ready
 pub record CanWrite (r : Run) : Type 0 where

@@ -72,8 +72,18 @@ EachAttr P End = Unit {0}
 EachAttr P (Entry e children next) = Each P e.attrs × EachAttr P children × EachAttr P next
 
 -- in an expression each operand has room for the number of the entry that it names
+abbrev pub OperandsHaveRoom : {K : Type 0} → Numbering K → ℕ → List Part → List K → Type 0
+OperandsHaveRoom n unit [] [] = Unit {0}
+OperandsHaveRoom n unit (Same bytes ∷ parts) refs = OperandsHaveRoom n unit parts refs
+OperandsHaveRoom n unit (document.Operand width uleb base ∷ parts) (k ∷ refs) = FitsIn uleb width (n.place k - base_place unit base) × OperandsHaveRoom n unit parts refs
+OperandsHaveRoom n unit _ _ = ⊥
+
+abbrev pub ExprHasRoom : {K : Type 0} → Numbering K → ℕ → Plain → List K → Type 0
+ExprHasRoom n unit (Expr parts) refs = OperandsHaveRoom n unit parts refs
+ExprHasRoom n unit _ refs = ⊥
+
 abbrev pub HasRoomAs : {K : Type 0} → Class → Numbering K → ℕ → Attr K → Type 0
-HasRoomAs OfExpression n unit a = ExprFits n unit a.value.plain a.value.refs
+HasRoomAs OfExpression n unit a = ExprHasRoom n unit a.value.plain a.value.refs
 HasRoomAs _ n unit a = Unit {0}
 
 abbrev pub HasRoom : {K : Type 0} → Numbering K → ℕ → Attr K → Type 0

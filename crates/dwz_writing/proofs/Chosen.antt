@@ -3,7 +3,7 @@ use Rattle.std.proofs.Common.{◌≡◌, ◌⊎◌, ℕ, ◌<◌, ◌^◌, Bool,
 use Rattle.std.proofs.Math.Logic.{inl, inr}
 use Rattle.dwz_meanings.specs.Documents.{Attr, Compile, DwUnit, Entries, Kind, OfType, Partial, Plain, first_named}
 use Rattle.dwz_docs.specs.Lists.{In}
-use Rattle.dwz_meanings.specs.Meanings.{Class, Sources}
+use Rattle.dwz_meanings.specs.Meanings.{Class, OfListIndex, OfOffset, Sources, names_list, class_of}
 use Rattle.dwz_docs.specs.Trees.{End, Entry}
 use Rattle.dwz_seen.specs.Lists.{Each}
 use Rattle.dwz_writing.specs.Bases.{Bases, bases_in, offset_in}
@@ -15,7 +15,9 @@ use Rattle.dwz_seen.specs.Shown.{unit_keys, units_keys}
 use Rattle.dwz_seen.specs.Seen.{Seen, all_seen, see, seen_below, seen_roots}
 use Rattle.dwz_writing.specs.Sound.{SoundAttr, SoundEntries, SoundUnit}
 use Rattle.dwz_seen.specs.Lists.{NoneTwice}
-use Rattle.dwz_writing.proofs.Carrying.{Computed, Reference, carried_is}
+use Rattle.dwz_writing.proofs.Carrying.{Computed, Listed, Reference, carried_is}
+use Rattle.dwz_writing.proofs.ReadAgain.{same_bases}
+use Rattle.dwz_writing.proofs.ValuesMean.{so_true, so_yes}
 use Rattle.dwz_writing.proofs.Places.{IsSame}
 use Rattle.dwz_seen.proofs.SeenLemmas.{root_in, seen_in}
 use Rattle.dwz_writing.proofs.Rising.{entries_are_keys}
@@ -46,12 +48,11 @@ first_fit x name (a ∷ attrs) = by (first_fit x name attrs) (eqb a.name name) w
   by rest false = rest
 
 bases_fit : {K : Type 0} (f : FileFit K) (u : DwUnit K) → bases_in (fit_unit f u) ≡ bases_in u
-bases_fit f u =
-    ap (λ (o : Option ℕ). record { slots = o; line = offset_in (first_named 0x10 (map (fit_attr (unit_fit f u)) u.root.attrs)) }) (first_fit (unit_fit f u) 0x72 u.root.attrs)
-    ∙ ap (λ (o : Option ℕ). record { slots = offset_in (first_named 0x72 u.root.attrs); line = o }) (first_fit (unit_fit f u) 0x10 u.root.attrs)
+bases_fit f u = same_bases _ _ _ _ _ _ (first_fit (unit_fit f u) 0x72 u.root.attrs) (first_fit (unit_fit f u) 0x10 u.root.attrs) (first_fit (unit_fit f u) 0x8c u.root.attrs)
 
 own_fit : {K : Type 0} (f : FileFit K) (u : DwUnit K) → own_of u ≡ own_of (fit_unit f u)
-own_fit {K} f u = ap (λ (ks : List K). record { keys = ks; bases = bases_in u }) (sym (fit_entry_keys f u)) ∙ ap (λ (b : Bases). record { keys = entry_keys (fit_unit f u); bases = b }) (sym (bases_fit f u))
+own_fit {K} f u =
+    ap (λ (ks : List K). record { at = u.at; keys = ks; bases = bases_in u }) (sym (fit_entry_keys f u)) ∙ ap (λ (b : Bases). record { at = u.at; keys = entry_keys (fit_unit f u); bases = b }) (sym (bases_fit f u))
 
 -- ---- each value is written as its form says
 
@@ -90,6 +91,12 @@ module _ {K : Type 0} (f : FileFit K) (is : IsSame f.same) (from : Sources → T
         says = subst (AttrSays t own) (sym stays) (subst (λ (c : Class). SaysAs c t own a) (sym k.class) (record { context = k.context; expression = k.expression; start = k.start; bytes = k.bytes; spelled = k.spelled; plain = k.plain; operands = operands }));
       }
 
+  list_good : (a : Attr K) → Listed a → AttrOperands t own a → Good t own (fit_attr x a)
+  list_good a k there = record { sound = subst SoundAttr (sym (k.stays x)) k.sound; says = subst (AttrSays t own) (sym (k.stays x)) (by k.class) } where
+    by : ((class_of a.form ≡ OfOffset) × (names_list a.name ≡ true)) ⊎ (class_of a.form ≡ OfListIndex) → AttrSays t own a
+    by (inl c) = subst (λ (d : Class). SaysAs d t own a) (sym c.0) (so_yes (names_list a.name) _ _ c.1 (so_true (names_list a.name) _ _ c.1 (subst (λ (d : Class). OperandsStandAs d t own a) c.0 there)))
+    by (inr c) = subst (λ (d : Class). SaysAs d t own a) (sym c) (subst (λ (d : Class). OperandsStandAs d t own a) c there)
+
   attr_good : (a : Attr K) → CarriedAttr from (f.origin u.at) a → Each (λ k. In k t.all ⊎ In k t.common) a.value.refs → At a → Good t own (fit_attr x a)
   attr_good a carried names at = elim (carried_is from (f.origin u.at) a carried) [
     | inl r ↦ record { sound = subst SoundAttr (sym (form_is a r x)) (chosen_sound a r (reach_by (has_key f.same r.target (unit_keys u)) (has_key f.same r.target f.keys))); says = ref_says a r (subst (Each (λ k. In k t.all ⊎ In k t.common)) (refs_are a r) names).0 }
@@ -101,7 +108,10 @@ module _ {K : Type 0} (f : FileFit K) (is : IsSame f.same) (from : Sources → T
           | inl n ↦ file_good from (f.origin u.at) t own a n (holder_of f.is_common u.kind) x itself sections_at at.0.1
           | inr other ↦ elim other [
             | inl k ↦ expression_good a k at.1
-            | inr o ↦ record { sound = subst SoundAttr (sym (o.stays x)) o.sound; says = subst (AttrSays t own) (sym (o.stays x)) (o.says t own) }
+            | inr final ↦ elim final [
+              | inl k ↦ list_good a k at.1
+              | inr o ↦ record { sound = subst SoundAttr (sym (o.stays x)) o.sound; says = subst (AttrSays t own) (sym (o.stays x)) (o.says t own) }
+            ]
           ]
         ]
       ]

@@ -3,7 +3,7 @@ use Rattle.std.proofs.Common.{◌≡◌, ℕ, ℤ, pos, ◌<◌, ◌^◌, List, 
 use Rattle.std.proofs.Math.Logic.{inl, inr}
 use Rattle.dwz_meanings.specs.Documents.{Attr, Text, Value, only}
 use Rattle.dwz_docs.specs.Lists.{In}
-use Rattle.dwz_meanings.specs.Meanings.{Class, OfCommonEntry, OfInfoEntry, OfTextInStr, OfUnitEntry, Sources, class_in, class_of, class_rows, names_file}
+use Rattle.dwz_meanings.specs.Meanings.{Class, OfCommonEntry, OfInfoEntry, OfTextInStr, OfUnitEntry, Sources, class_in, class_of, class_rows, names_file, texts_of}
 use Rattle.dwz_bytes.specs.Spelling.{le_bytes, reach}
 use Rattle.dwz_bytes.proofs.FixedLemmas.{fixed_written}
 use Rattle.dwz_codes.specs.Forms.{form_rows}
@@ -15,10 +15,10 @@ use Rattle.dwz_docs.specs.Values.{Number, SpellsShape, constant_of, shape_of, wr
 use Rattle.dwz_seen.specs.Lists.{Each}
 use Rattle.dwz_writing.specs.Bases.{Bases}
 use Rattle.dwz_writing.specs.Carried.{AttrTexts, ComesFromItself, FileStands, TextAs}
-use Rattle.dwz_writing.specs.Meant.{AttrSays, FileSays, Own, SaysAs, Tells}
+use Rattle.dwz_writing.specs.Meant.{AttrSays, FileSays, Own, SaysAs, Tells, told_texts}
 use Rattle.dwz_writing.specs.Placing.{CommonUnit, Fit, Holder, InCommon, InFile, InUnit, NewUnit, OldUnit, Reach, as_slot, as_text, fit_as, fit_attr, has_key, reach_by, reach_of, ref_form, slot_number, text_place, texts_bytes, with_form}
 use Rattle.dwz_writing.specs.Sound.{HasBytes, IsBuiltAs, SoundAttr, StoresAs}
-use Rattle.dwz_writing.proofs.Carrying.{Filed, Placed, Reference, Slotted, tells_of}
+use Rattle.dwz_writing.proofs.Carrying.{Filed, Placed, Reference, Slotted}
 use Rattle.dwz_writing.specs.Writing.{or_zero, pair_of, text_in}
 use Rattle.dwz_writing.proofs.PoolLemmas.{le_are, pool_stands}
 use Rattle.std.proofs.lemmas.List.{length-append}
@@ -221,7 +221,7 @@ module _ {K : Type 0} (from : Sources → Type 0) (origin : Bases) (t : Tells K)
 -- ---- files
 
 module _ {K : Type 0} (from : Sources → Type 0) (origin : Bases) (t : Tells K) (own : Own K) (a : Attr K) (p : Filed from origin a) where
-  told : (offsets : List ℕ) → SourcesAt from offsets t → (o : Option ℕ) → FileSays (tells_of p.sources) o a → FileSays t o a
+  told : (offsets : List ℕ) → SourcesAt from offsets t → (o : Option ℕ) → FileSays (texts_of p.sources) p.sources.line o a → FileSays (told_texts t) t.line o a
   told offsets same None says = says
   told offsets same (Some place) says =
       let e = same p.sources p.file in
@@ -238,7 +238,7 @@ module _ {K : Type 0} (from : Sources → Type 0) (origin : Bases) (t : Tells K)
   file_told : (offsets : List ℕ) → SourcesAt from offsets t → own.bases.line ≡ origin.line → Good t own a
   file_told offsets same line = record {
     sound = p.sound;
-    says = subst (λ (d : Class). SaysAs d t own a) (sym p.numbers.0) (so_yes (names_file a.name) _ _ p.numbers.1 (subst (λ (o : Option ℕ). FileSays t o a) (sym line) (told offsets same origin.line p.says)));
+    says = subst (λ (d : Class). SaysAs d t own a) (sym p.numbers.0) (so_yes (names_file a.name) _ _ p.numbers.1 (subst (λ (o : Option ℕ). FileSays (told_texts t) t.line o a) (sym line) (told offsets same origin.line p.says)));
   }
 
   pub file_good : (h : Holder) (f : Fit K) → ComesFromItself h own.bases origin → SectionsAt h from f t → FileStands h own.bases.line origin.line a → Good t own (fit_attr f a)

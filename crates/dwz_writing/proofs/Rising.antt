@@ -1,17 +1,20 @@
 -- Places rise from key to key, so two keys with one place are one key, and each stands within its unit.
-use Rattle.std.proofs.Common.{◌≡◌, ℕ, ◌+◌, ◌-◌, ◌^◌, ◌<◌, ◌≤◌, List, [], ◌∷◌, ◌++◌, length, sym, ap, subst, ◌∙◌, arith}
+use Rattle.std.proofs.Common.{◌≡◌, ℕ, ◌+◌, ◌-◌, ◌^◌, ◌<◌, ◌≤◌, Bool, true, false, List, [], ◌∷◌, ◌++◌, length, map, sym, ap, subst, ◌∙◌, arith}
 use Rattle.std.proofs.Math.Logic.{inl, inr}
 use Rattle.std.proofs.lemmas.List.{length-append}
-use Rattle.dwz_meanings.specs.Documents.{Attr, Compile, DwUnit, Entries, Kind, OfType, Operand, Part, Partial, Plain, Same}
+use Rattle.dwz_meanings.specs.Documents.{Attr, Compile, DwUnit, Entries, Kind, OfType, Operand, Part, Partial, Plain, Same, Sec, Value, only}
+use Rattle.dwz_bytes.specs.Spelling.{reach}
+use Rattle.dwz_meanings.specs.Patching.{FitsIn}
+use Rattle.dwz_alike.specs.Alike.{joined_parts}
 use Rattle.dwz_meanings.specs.Exprs.{parts_of}
 use Rattle.dwz_model.specs.declared.place.Base.{Base}
 use Rattle.dwz_model.specs.declared.place.Base.TheVariants.{Unit as FromUnit, Info as FromInfo}
 use Rattle.dwz_docs.specs.Lists.{In}
-use Rattle.dwz_meanings.specs.Meanings.{Class, OfCommonEntry, OfExpression, OfInfoEntry, OfUnitEntry, class_of}
+use Rattle.dwz_meanings.specs.Meanings.{Class, IfSo, OfCommonEntry, OfExpression, OfInfoEntry, OfListIndex, OfOffset, OfUnitEntry, class_of, names_list}
 use Rattle.dwz_docs.specs.Trees.{End, Entry}
 use Rattle.dwz_seen.specs.Lists.{Each}
-use Rattle.dwz_writing.specs.Fitting.{AttrFits, EachAttr, EntriesFit, ExprFits, ExprHasRoom, FitsAs, FitsInfo, FitsUnit, HasRoom, HasRoomAs, KindFits, OperandsFit, OperandsHaveRoom, UnitFits, UnitHasRoom}
-use Rattle.dwz_writing.specs.Meant.{AttrSays, EntriesSay, ExprSays, KindSays, OperandIn, OperandsIn, Own, SaysAs, Tells, UnitSays, UnitsSay, all_entry_keys, entry_keys, own_of}
+use Rattle.dwz_writing.specs.Fitting.{AttrFits, EachAttr, EntriesFit, ExprFits, FitsAs, FitsInfo, FitsUnit, FitsWidth, HasRoom, HasRoomAs, KindFits, ListFits, OperandsFit, OperandsHaveRoom, PlainHasRoom, UnitFits, UnitHasRoom}
+use Rattle.dwz_writing.specs.Meant.{AttrSays, EntriesSay, ExprSays, KindSays, ListSays, OperandIn, OperandsIn, Own, SaysAs, Tells, UnitSays, UnitsSay, all_entry_keys, entry_keys, own_of}
 use Rattle.dwz_writing.specs.Placing.{Stands, UnitStands, UnitsStand}
 use Rattle.dwz_seen.specs.Shown.{keys, unit_keys, units_keys}
 use Rattle.dwz_writing.specs.Writing.{Numbering, Shape, base_place, header_size, if_any, node_bytes, spelled, table_of, tree_bytes, unit_size}
@@ -138,27 +141,48 @@ module _ {K : Type 0} (n : Numbering K) where
 
 module _ {K : Type 0} (n : Numbering K) (unit : ℕ) (t : Tells K) (own : Own K) (inside : (k : K) → In k own.keys → FitsUnit n unit k) (behind : (k : K) → In k own.keys → unit < n.place k) (small : (k : K) → In k t.all → FitsInfo n k) (above : (k : K) → In k t.all → 0 < n.place k)
     (common : (k : K) → In k t.common → FitsInfo n k) where
-  operand_above : (base : Base) (k : K) → OperandIn t own base k → 0 < n.place k - base_place unit base
-  operand_above FromUnit k is = (let b = behind k is in omega (arith, b))
-  operand_above FromInfo k is = (let b = above k is in omega (arith, b))
+  -- the number of an operand, which names an entry, and has room for it
+  record Counts (base : Base) (k : K) : Type 0 where
+    is_above : 0 < n.place k - base_place unit base
+    is_few : n.place k - base_place unit base < 2 ^ 32
+
+  counts : (base : Base) (k : K) → OperandIn t own base k → Counts base k
+  counts FromUnit k is = (let b = behind k is in let i = inside k is in record { is_above = omega (arith, b); is_few = i.1 })
+  counts FromInfo k is = (let b = above k is in let i = small k is in record { is_above = omega (arith, b); is_few = omega (arith, i) })
+
+  fits_in : (uleb : Bool) (width number : ℕ) → 0 < number → number < 2 ^ 32 → FitsWidth uleb width number → FitsIn uleb width number
+  fits_in true width number some few fits = (some, fits, omega (arith, few))
+  fits_in false width number some few fits = fits
 
   operands_fit : (parts : List Part) (refs : List K) → OperandsHaveRoom n unit parts refs → OperandsIn t own parts refs → OperandsFit n unit parts refs
   operands_fit [] [] room says = tt
   operands_fit [] (k ∷ refs) room says = absurd says
   operands_fit (Same bytes ∷ parts) refs room says = operands_fit parts refs room says
   operands_fit (Operand width uleb base ∷ parts) [] room says = absurd says
-  operands_fit (Operand width uleb base ∷ parts) (k ∷ refs) room says = (operand_above base k says.0, room.0, operands_fit parts refs room.1 says.1)
+  operands_fit (Operand width uleb base ∷ parts) (k ∷ refs) room says =
+      let c = counts base k says.0 in (c.is_above, fits_in uleb width (n.place k - base_place unit base) c.is_above c.is_few room.0, operands_fit parts refs room.1 says.1)
 
-  expr_fits : (a : Attr K) → ExprHasRoom n unit a.value.plain a.value.refs → ExprSays t own a → ExprFits n unit a.value.plain a.value.refs
+  expr_fits : (a : Attr K) → PlainHasRoom n unit a.value.plain a.value.refs → ExprSays t own a → ExprFits n unit a.value.plain a.value.refs
   expr_fits a room says =
-      let parts = subst (λ (p : Plain). ExprHasRoom n unit p a.value.refs) says.plain room in
+      let parts = subst (λ (p : Plain). PlainHasRoom n unit p a.value.refs) says.plain room in
       subst (λ (p : Plain). ExprFits n unit p a.value.refs) (sym says.plain) (operands_fit (parts_of says.expression) a.value.refs parts says.operands)
+
+  list_fits : (a : Attr K) → PlainHasRoom n unit a.value.plain a.value.refs → ListSays t own a → ListFits n unit a.value.plain a.value.refs
+  list_fits a room says =
+      let parts = subst (λ (p : Plain). PlainHasRoom n unit p a.value.refs) says.plain room in
+      subst (λ (p : Plain). ListFits n unit p a.value.refs) (sym says.plain) (operands_fit (joined_parts (map parts_of says.list.list.exprs)) a.value.refs parts says.operands)
+
+  offset_fits : (a : Attr K) (b : Bool) → PlainHasRoom n unit a.value.plain a.value.refs → IfSo b (ListSays t own a) (a.value ≡ only (Sec (reach a.raw))) → ListFits n unit a.value.plain a.value.refs
+  offset_fits a true room says = list_fits a room says
+  offset_fits a false room says = subst (λ (v : Value K). ListFits n unit v.plain v.refs) (sym says) tt
 
   as_fits : (c : Class) (a : Attr K) → HasRoomAs c n unit a → SaysAs c t own a → FitsAs c n unit a
   as_fits OfUnitEntry a room says = each_more (λ k. In k own.keys) (FitsUnit n unit) a.value.refs inside says
   as_fits OfInfoEntry a room says = each_more (λ k. In k t.all) (FitsInfo n) a.value.refs small says
   as_fits OfCommonEntry a room says = each_more (λ k. In k t.common) (FitsInfo n) a.value.refs common says
   as_fits OfExpression a room says = expr_fits a room says
+  as_fits OfOffset a room says = offset_fits a (names_list a.name) room says
+  as_fits OfListIndex a room says = list_fits a room says
   as_fits _ a room says = tt
 
   node_fits : (attrs : List (Attr K)) → Each (HasRoom n unit) attrs → Each (AttrSays t own) attrs → Each (AttrFits n unit) attrs

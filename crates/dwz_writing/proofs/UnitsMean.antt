@@ -122,6 +122,10 @@ module _ {K P : Type 0} (n : Numbering K) (g : K → P) (tables : List (List ℕ
         line = is.line;
         slots = base_raw n unit 0x72 u.root.attrs _;
         table = base_raw n unit 0x10 u.root.attrs _;
+        lists_base = base_raw n unit 0x8c u.root.attrs _;
+        own_at = refl;
+        none_shared = is.none_shared;
+        lists = is.lists;
         unit = refl;
         own_are = own_raw n tables u;
         all_are = is.all;

@@ -5,7 +5,7 @@ use Rattle.dwz_docs.specs.Abbrevs.{SpellsPair}
 use Rattle.dwz_meanings.specs.Documents.{Attr, DwUnit, Entries, Expr, Node, Plain, Sec, only, ref}
 use Rattle.dwz_docs.specs.Entries.{RawAttr}
 use Rattle.dwz_docs.specs.Lists.{In}
-use Rattle.dwz_meanings.specs.Meanings.{Class, OfConstant, OfExpression, OfTextBySlot, OfTextInLineStr, OfTextInStr, Sources, class_of, names_file}
+use Rattle.dwz_meanings.specs.Meanings.{Class, IfSo, OfConstant, OfExpression, OfListIndex, OfOffset, OfTextBySlot, OfTextInLineStr, OfTextInStr, Sources, class_of, names_file, names_list}
 use Rattle.dwz_docs.specs.Trees.{End, Entry}
 use Rattle.dwz_docs.specs.Values.{AreBytes, SpellsValue}
 use Rattle.dwz_seen.specs.Lists.{Each}
@@ -15,7 +15,7 @@ use Rattle.dwz_writing.specs.Bases.{Bases, bases_in, bases_of}
 use Rattle.dwz_writing.specs.Fitting.{EachAttr}
 use Rattle.dwz_writing.specs.Placing.{CommonUnit, Forms, Holder, NewUnit, OldUnit, holder_of, texts_bytes}
 use Rattle.dwz_writing.specs.Writing.{text_in}
-use Rattle.dwz_writing.specs.Meant.{KindSays, OperandsIn, Own, Tells, WasRead, entry_keys, own_of}
+use Rattle.dwz_writing.specs.Meant.{KindSays, ListSays, OperandsIn, Own, Tells, WasRead, entry_keys, own_of}
 use Rattle.dwz_writing.specs.Sound.{IsBuilt, SoundKind}
 
 -- where an attribute may have been read: in the file with these sections, or in any file
@@ -141,13 +141,15 @@ pub record BasesStand {K : Type 0} (f : Forms K) (u : DwUnit K) : Type 0 where
   pub root : Each (FileStands (holder_of f.is_common u.kind) (bases_in u).line (f.origin u.at).line) u.root.attrs
   pub below : EachAttr (FileStands (holder_of f.is_common u.kind) (bases_in u).line (f.origin u.at).line) u.below
 
--- the operands of an expression name entries of its unit, or of the file, as their numbers are counted
+-- the operands of an expression name entries of its unit, or of the file, as their numbers are counted, and so do those of a list
 abbrev pub ExprIn : {K : Type 0} → Tells K → Own K → Plain → List K → Type 0
 ExprIn t own (Expr parts) refs = OperandsIn t own parts refs
 ExprIn t own _ refs = ⊥
 
 abbrev pub OperandsStandAs : {K : Type 0} → Class → Tells K → Own K → Attr K → Type 0
 OperandsStandAs OfExpression t own a = ExprIn t own a.value.plain a.value.refs
+OperandsStandAs OfOffset t own a = IfSo (names_list a.name) (ListSays t own a) (Unit {0})
+OperandsStandAs OfListIndex t own a = ListSays t own a
 OperandsStandAs _ t own a = Unit {0}
 
 abbrev pub AttrOperands : {K : Type 0} → Tells K → Own K → Attr K → Type 0

@@ -4,9 +4,9 @@ use Rattle.std.specs.List.{list_any}
 use Rattle.dwz_docs.specs.Lists.{In, has}
 use Rattle.dwz_docs.specs.Trees.{End, Entry}
 use Rattle.dwz_meanings.specs.declared.exprs.Operand.{Operand}
-use Rattle.dwz_meanings.specs.Documents.{Attr, DwUnit, Entries, Expr, Node, Part, Plain, Text, Value, attr_map, node_map, only, value_map}
+use Rattle.dwz_meanings.specs.Documents.{Attr, DwUnit, Entries, Expr, Loc, Node, Part, Plain, Sec, Text, Value, attr_map, node_map, only, value_map}
 use Rattle.dwz_meanings.specs.Exprs.{Expression, parts_from, parts_of}
-use Rattle.dwz_meanings.specs.Meanings.{Class, IsExpression, MeansAs, OfCommonEntry, OfExpression, OfInfoEntry, OfOffset, OfTextBySlot, OfTextInLineStr, OfTextInStr, OfUnitEntry, Sources, class_in, class_of, class_rows, targets}
+use Rattle.dwz_meanings.specs.Meanings.{Class, IsExpression, IsListBySlot, MeansAs, OfCommonEntry, OfExpression, OfInfoEntry, OfListIndex, OfOffset, OfTextBySlot, OfTextInLineStr, OfTextInStr, OfUnitEntry, Sources, class_in, class_of, class_rows, names_list, offset_of, targets}
 use Rattle.dwz_seen.specs.Lists.{Each, Nth}
 use Rattle.dwz_seen.proofs.Members.{each_in, each_more, each_of}
 use Rattle.dwz_alike.specs.Alike.{IsAlike, Movable, Scope, attr_binds, binding_forms, has_address, has_operand, holds_place, is_named, is_operand, leaves}
@@ -27,15 +27,16 @@ use Rattle.dwz_same.proofs.HeldLemmas.{part_found, row_found}
 use Rattle.dwz_same.proofs.NodeLemmas.{EntryOfTop}
 use Rattle.dwz_writing.specs.Bases.{Bases, bases_in}
 use Rattle.dwz_writing.specs.Carried.{AttrOperands, CarriedAttr, CarriedEntries, CarriedUnit, ExprIn, OperandsStand, OperandsStandAs}
-use Rattle.dwz_writing.specs.Fitting.{EachAttr, ExprHasRoom, HasRoom, HasRoomAs, OperandsHaveRoom, UnitHasRoom}
+use Rattle.dwz_writing.specs.Fitting.{EachAttr, HasRoom, HasRoomAs, OperandsHaveRoom, PlainHasRoom, UnitHasRoom}
 use Rattle.dwz_writing.specs.Meant.{OperandsIn, Own, Tells, own_of}
 use Rattle.dwz_writing.specs.Placing.{FileFit, Fit, Forms, Holder, InCommon, InFile, InUnit, CommonUnit, NewUnit, OldUnit, Reach, as_slot, as_text, fit, fit_as, fit_attr, fit_node, fit_unit, fit_units, reach_of, ref_form, unit_fit, with_form, with_keys}
 use Rattle.dwz_writing.specs.Writing.{Numbering}
 use Rattle.dwz_writing.proofs.CarriedMaps.{attr_carried}
-use Rattle.dwz_writing.proofs.Carrying.{import_class}
-use Rattle.dwz_writing.proofs.Chosen.{join_entries}
+use Rattle.dwz_writing.proofs.Carrying.{import_class, no_list}
+use Rattle.dwz_writing.proofs.Chosen.{join_attrs, join_entries}
 use Rattle.dwz_seen.specs.Shown.{units_keys}
-use Rattle.dwz_writing.proofs.StoredClasses.{offset_class}
+use Rattle.dwz_writing.proofs.StoredClasses.{list_form, offset_class, offset_form}
+use Rattle.dwz_writing.proofs.ValuesMean.{not_so, so_not}
 use Rattle.dwz_back.specs.Files.{bases_at, origin_in}
 use Rattle.dwz_back.proofs.AttrLemmas.{new_attrs}
 use Rattle.dwz_back.proofs.HomeLemmas.{part_is, parts_from as found_part}
@@ -46,16 +47,23 @@ pub record AsksNone {K : Type 0} (a : Attr K) : Type 0 where
   pub operands : (t : Tells K) (own : Own K) → AttrOperands t own a
   pub room : (n : Numbering K) (unit : ℕ) → HasRoom n unit a
 
-module _ {K : Type 0} (a : Attr K) where
-  not_so : (c : Class) → class_of a.form ≡ c → (c ≡ OfExpression → ⊥) → AsksNone a
-  not_so c e none = record { operands = λ t own. subst (λ (d : Class). OperandsStandAs d t own a) (sym e) (operands c none t own); room = λ n unit. subst (λ (d : Class). HasRoomAs d n unit a) (sym e) (room c none n unit) } where
-    operands : (c : Class) → (c ≡ OfExpression → ⊥) → (t : Tells K) (own : Own K) → OperandsStandAs c t own a
-    operands OfExpression none t own = absurd (none refl)
-    operands _ none t own = tt
+abbrev is_loc : Plain → Bool
+is_loc (Loc exprs) = true
+is_loc _ = false
 
-    room : (c : Class) → (c ≡ OfExpression → ⊥) → (n : Numbering K) (unit : ℕ) → HasRoomAs c n unit a
-    room OfExpression none n unit = absurd (none refl)
-    room _ none n unit = tt
+-- an expression of it names no entry by an operand, and it names no location list
+pub record IsFree {K : Type 0} (a : Attr K) : Type 0 where
+  pub expression : class_of a.form ≡ OfExpression → has_operand a.value.plain ≡ false
+  pub offset : class_of a.form ≡ OfOffset → names_list a.name ≡ false
+  pub index : class_of a.form ≡ OfListIndex → is_loc a.value.plain ≡ false
+
+free_map : {K L : Type 0} (f : K → L) (a : Attr K) → IsFree a → IsFree (attr_map f a)
+free_map f a is = record { expression = is.expression; offset = is.offset; index = is.index }
+
+module _ {K : Type 0} (a : Attr K) where
+  asks_as : (c : Class) → class_of a.form ≡ c → ((t : Tells K) (own : Own K) → OperandsStandAs c t own a) → ((n : Numbering K) (unit : ℕ) → HasRoomAs c n unit a) → AsksNone a
+  asks_as c e operands room =
+      record { operands = λ t own. subst (λ (d : Class). OperandsStandAs d t own a) (sym e) (operands t own); room = λ n unit. subst (λ (d : Class). HasRoomAs d n unit a) (sym e) (room n unit) }
 
   -- an expression of no operands
   parts_free : (os : List Operand) (at : ℕ) (bytes : List ℕ) → list_any is_operand (parts_from at bytes os) ≡ false → os ≡ []
@@ -76,25 +84,45 @@ module _ {K : Type 0} (a : Attr K) where
   expr_free : (e : Expression) → class_of a.form ≡ OfExpression → a.value.plain ≡ Expr (parts_of e) → (e.operands ≡ [] → a.value.refs ≡ []) → has_operand a.value.plain ≡ false → AsksNone a
   expr_free e class plain refs free =
       let none = parts_free e.operands e.at e.bytes (sym (ap has_operand plain) ∙ free) in
-      record {
-        operands = λ t own. subst (λ (d : Class). OperandsStandAs d t own a) (sym class) (subst (λ (p : Plain). ExprIn t own p a.value.refs) (sym plain) (subst (OperandsIn t own (parts_of e)) (sym (refs none)) (none_in e.operands e.at e.bytes none t own)));
-        room = λ n unit. subst (λ (d : Class). HasRoomAs d n unit a) (sym class) (subst (λ (p : Plain). ExprHasRoom n unit p a.value.refs) (sym plain) (subst (OperandsHaveRoom n unit (parts_of e)) (sym (refs none)) (none_fit e.operands e.at e.bytes none n unit)));
-      }
+      asks_as OfExpression class
+      (λ t own. subst (λ (p : Plain). ExprIn t own p a.value.refs) (sym plain) (subst (OperandsIn t own (parts_of e)) (sym (refs none)) (none_in e.operands e.at e.bytes none t own)))
+      (λ n unit. subst (λ (p : Plain). PlainHasRoom n unit p a.value.refs) (sym plain) (subst (OperandsHaveRoom n unit (parts_of e)) (sym (refs none)) (none_fit e.operands e.at e.bytes none n unit)))
 
-  -- what was read, and names no entry by an operand
-  pub free : (from : Sources → Type 0) (origin : Bases) → CarriedAttr from origin a → has_operand a.value.plain ≡ false → AsksNone a
+  -- an offset that is no list's
+  offset_free : class_of a.form ≡ OfOffset → names_list a.name ≡ false → (place : ℕ) → a.value ≡ only (Sec place) → AsksNone a
+  offset_free class none place value =
+      asks_as OfOffset class (λ t own. so_not (names_list a.name) _ _ none tt) (λ n unit. subst (λ (v : Value K). PlainHasRoom n unit v.plain v.refs) (sym value) tt)
+
+  -- what was read, and is free
+  pub free : (from : Sources → Type 0) (origin : Bases) → CarriedAttr from origin a → IsFree a → AsksNone a
   free from origin (inl came) none = by (class_of a.form) refl where
+    value : a.value ≡ value_map came.was_read.name came.was_read.read.value
+    value = ap (λ (b : Attr K). b.value) came.was_read.same
+
+    means : (c : Class) → class_of a.form ≡ c → MeansAs c came.was_read.scope came.was_read.old came.was_read.read.value
+    means c e =
+        let w = came.was_read in
+        let form : w.old.pair.form ≡ a.form = sym w.means.form ∙ sym (ap (λ (b : Attr K). b.form) w.same) in
+        subst (λ (d : Class). MeansAs d w.scope w.old w.read.value) (ap class_of form ∙ e) w.means.value
+
     by : (c : Class) → class_of a.form ≡ c → AsksNone a
     by OfExpression e =
         let w = came.was_read in
-        let form : w.old.pair.form ≡ a.form = sym w.means.form ∙ sym (ap (λ (b : Attr K). b.form) w.same) in
-        let m : IsExpression w.scope w.old w.read.value = subst (λ (c : Class). MeansAs c w.scope w.old w.read.value) (ap class_of form ∙ e) w.means.value in
-        let value : a.value ≡ value_map w.name w.read.value = ap (λ (b : Attr K). b.value) w.same in
+        let m : IsExpression w.scope w.old w.read.value = means OfExpression e in
         expr_free m.expression e (ap (λ (v : Value K). v.plain) value ∙ ap (λ (v : Value ℕ). v.plain) m.value)
-        (λ empty. ap (λ (v : Value K). v.refs) value ∙ ap (λ (v : Value ℕ). map w.name v.refs) m.value ∙ ap (λ (os : List Operand). map w.name (targets w.scope os)) empty) none
-    by c e = not_so c e (λ x. cc)
-  free from origin (inr (inl i)) none = not_so OfInfoEntry (ap class_of i.form ∙ import_class) (λ x. cc)
-  free from origin (inr (inr l)) none = not_so OfOffset (ap class_of l.form ∙ offset_class) (λ x. cc)
+        (λ empty. ap (λ (v : Value K). v.refs) value ∙ ap (λ (v : Value ℕ). map w.name v.refs) m.value ∙ ap (λ (os : List Operand). map w.name (targets w.scope os)) empty) (none.expression e)
+    by OfOffset e =
+        let w = came.was_read in
+        let name : w.old.pair.name ≡ a.name = sym w.means.name ∙ sym (ap (λ (b : Attr K). b.name) w.same) in
+        let m = not_so (names_list w.old.pair.name) _ _ (ap names_list name ∙ none.offset e) (means OfOffset e) in
+        offset_free e (none.offset e) (offset_of w.old) (value ∙ ap (λ (v : Value ℕ). value_map w.name v) m)
+    by OfListIndex e =
+        let w = came.was_read in
+        let m : IsListBySlot w.scope (offset_of w.old) w.read.value = means OfListIndex e in
+        absurd (let z : true ≡ false = sym (ap (λ (v : Value K). is_loc v.plain) value ∙ ap (λ (v : Value ℕ). is_loc v.plain) m.list.value) ∙ none.index e in cc)
+    by c e = asks_as c e (λ t own. tt) (λ n unit. tt)
+  free from origin (inr (inl i)) none = asks_as OfInfoEntry (ap class_of i.form ∙ import_class) (λ t own. tt) (λ n unit. tt)
+  free from origin (inr (inr l)) none = offset_free (ap class_of l.form ∙ offset_class) (none.offset (ap class_of l.form ∙ offset_class)) l.place l.value
 
 -- ---- with its form
 
@@ -168,12 +196,13 @@ asks_room f n units asks = units_room (with_keys f (units_keys units)) n units a
 
 -- ---- partial units
 
-abbrev IsFree : Attr Spot → Type 0
-IsFree a = has_operand a.value.plain ≡ false
-
 carried_attrs : {K : Type 0} (from : Sources → Type 0) (origin : Bases) (g : Entries K) → CarriedEntries from origin g → EachAttr (CarriedAttr from origin) g
 carried_attrs from origin End h = tt
 carried_attrs from origin (Entry e children next) h = (h.0.attrs, carried_attrs from origin children h.1, carried_attrs from origin next h.2)
+
+no_space_list : names_list 0x03 ≡ false
+unfolding has
+no_space_list = refl
 
 module _ (scope : Scope) (units : List (FileUnit Spot)) (rule : Rule) (is : IsAlike scope units rule.alike) (choice : IsChoice units rule) where
   -- what moves is movable
@@ -191,10 +220,19 @@ module _ (scope : Scope) (units : List (FileUnit Spot)) (rule : Rule) (is : IsAl
         absurd (let z : true ≡ false = sym named ∙ ap (is_named units) (sym free.number) ∙ none in cc)
 
   top_free : (t : Top) → In t (tops_of units) → moves rule units t.number ≡ true → (d : Node Spot) → EntryOfTop d t → (a : Attr Spot) → In a d.attrs → IsFree a
+  unfolding has
   top_free t there e d x a a_in =
       let one = free_attr units t there (moving_free t.number e) d x a a_in in
+      let form = or_left (has a.form binding_forms) (holds_place a.value.plain || list_any (leaves (tops_of units) t.unit) a.value.refs) one in
       let rest = or_right (has a.form binding_forms) (holds_place a.value.plain || list_any (leaves (tops_of units) t.unit) a.value.refs) one in
-      or_left (has_operand a.value.plain) (has_address a.value.plain) (or_left (holds_place a.value.plain) (list_any (leaves (tops_of units) t.unit) a.value.refs) rest)
+      record {
+        expression = λ c. or_left (has_operand a.value.plain) (has_address a.value.plain) (or_left (holds_place a.value.plain) (list_any (leaves (tops_of units) t.unit) a.value.refs) rest);
+        offset = λ c. absurd (bound a.form 0x17 (offset_form a.form c) refl form);
+        index = λ c. absurd (bound a.form 0x22 (list_form a.form c) refl form);
+      }
+    where
+      bound : (f g : ℕ) → f ≡ g → has g binding_forms ≡ true → has f binding_forms ≡ false → ⊥
+      bound f g same binds none = (let z : true ≡ false = sym binds ∙ ap (λ (x : ℕ). has x binding_forms) (sym same) ∙ none in cc)
 
   module _ (files : List ℕ) (held : IsHeld units (plan rule units files)) (n : ℕ) (part : PartialUnit) (nth : Nth 0 (plan rule units files).parts n part) where
     abbrev m : Move
@@ -212,7 +250,18 @@ module _ (scope : Scope) (units : List (FileUnit Spot)) (rule : Rule) (is : IsAl
     spaces_free : (names : List (List ℕ)) (d : Node Spot) → Has names (OfSpace d) (m.rows n) → (a : Attr Spot) → In a d.attrs → IsFree a
     spaces_free names d h a a_in =
         let o = (part_row_is n part).spaces_are names d (subst (Has names (OfSpace d)) (row_found rule units files n part nth) h) in
-        elim (subst (λ (w : Node Spot). In a w.attrs) o.is a_in) [ inl e ↦ ap (λ (b : Attr Spot). has_operand b.value.plain) (sym e) | inr x ↦ absurd x ]
+        elim (subst (λ (w : Node Spot). In a w.attrs) o.is a_in) [
+          | inl e ↦ subst IsFree e (record { expression = λ c. refl; offset = λ c. no_space_list; index = λ c. refl })
+          | inr x ↦ absurd x
+        ]
+
+    line_name : (h : Home) → (line_in units h part.tops).name ≡ 0x10
+    line_name Common = refl
+    line_name (Local file) = by (first_named 0x10 (root_of units (first_unit part.tops))) where
+      by : (o : Option (Attr Spot)) → (line_of o).name ≡ 0x10
+      by None = refl
+      by (Some a) = refl
+    line_name Stay = refl
 
     line_form : (h : Home) → (line_in units h part.tops).form ≡ 0x17
     line_form Common = refl
@@ -222,19 +271,29 @@ module _ (scope : Scope) (units : List (FileUnit Spot)) (rule : Rule) (is : IsAl
       by (Some a) = refl
     line_form Stay = refl
 
-    root_asks : Each AsksNone (m.roots n)
+    root_free : Each IsFree (m.roots n)
     unfolding line_attrs
-    root_asks = subst (Each AsksNone) (sym (ap (root_in_part units) (part_found 0 m.parts n n part nth (omega arith)))) (by (names_path part)) where
-      by : (b : Bool) → Each AsksNone (elim b as (λ _. List (Attr Spot)) [ true ↦ line_in units part.home part.tops ∷ [] | false ↦ [] ])
-      by true = (not_so (line_in units part.home part.tops) OfOffset (ap class_of (line_form part.home) ∙ offset_class) (λ x. cc), tt)
+    root_free = subst (Each IsFree) (sym (ap (root_in_part units) (part_found 0 m.parts n n part nth (omega arith)))) (by (names_path part)) where
+      class : class_of (line_in units part.home part.tops).form ≡ OfOffset
+      class = ap class_of (line_form part.home) ∙ offset_class
+
+      by : (b : Bool) → Each IsFree (elim b as (λ _. List (Attr Spot)) [ true ↦ line_in units part.home part.tops ∷ [] | false ↦ [] ])
+      by true = (
+        record {
+          expression = λ c. absurd (let z : OfExpression ≡ OfOffset = sym c ∙ class in cc);
+          offset = λ c. ap names_list (line_name part.home) ∙ no_list;
+          index = λ c. absurd (let z : OfListIndex ≡ OfOffset = sym c ∙ class in cc);
+        },
+        tt,
+      )
       by false = tt
 
     -- none of its attributes asks for an entry or for room
     pub part_asks : (from : Sources → Type 0) (origin : Bases) → CarriedUnit from origin (partial_unit m n) → UnitAsksNone (partial_unit m n)
     part_asks from origin carried =
         let below = tree (image_in m) (m.rows n) End in (
-          root_asks,
-          join_entries (CarriedAttr from origin) IsFree AsksNone (λ a read none. free a from origin read none) below (carried_attrs from origin below carried.below) (new_attrs IsFree m n (held.kinds n part nth) tops_free spaces_free),
+          join_attrs (CarriedAttr from origin) IsFree AsksNone (λ a read none. free a from origin read none) (m.roots n) carried.root.attrs root_free,
+          join_entries (CarriedAttr from origin) IsFree AsksNone (λ a read none. free a from origin read none) below (carried_attrs from origin below carried.below) (new_attrs IsFree m n (held.kinds n part nth) (λ names t h d x a a_in. free_map (image_in m) a (tops_free names t h d x a a_in)) (λ names d h a a_in. free_map (image_in m) a (spaces_free names d h a a_in))),
         )
 
   -- nor of the partial units of a home

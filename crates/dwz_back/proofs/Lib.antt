@@ -1,6 +1,8 @@
 pub mod NameLemmas
 pub mod SaysLemmas
 pub mod SameLemmas
+pub mod ReadBuilt
+pub mod ReadNamed
 pub mod ReadPlaces
 pub mod HomeLemmas
 pub mod OriginLemmas
@@ -10,9 +12,9 @@ pub mod OutsCarried
 pub mod LineLemmas
 pub mod OperandLemmas
 pub mod ReadOperands
+pub mod NamedOperands
 pub mod FreeOperands
 pub mod OutOperands
-pub mod OneLemmas
 pub mod AttrLemmas
 pub mod KeptLemmas
 pub mod WithinLemmas
@@ -21,3 +23,4 @@ pub mod ReadMode
 pub mod StillMeans
 pub mod StillPlaces
 pub mod AllLemmas
+pub mod OneLemmas

@@ -15,6 +15,7 @@ use Rattle.dwz_moving.specs.Plan.{PartialUnit, partials}
 use Rattle.dwz_moving.proofs.UserLemmas.{Fair, moves_self, rep_is, used, used_by}
 use Rattle.dwz_same.proofs.HeldLemmas.{part_found}
 use Rattle.dwz_writing.specs.Bases.{bases_in, offset_in}
+use Rattle.dwz_writing.proofs.ReadAgain.{same_bases}
 use Rattle.dwz_back.specs.Files.{bases_at, origin_in, unit_in_part}
 use Rattle.dwz_back.proofs.HomeLemmas.{part_is}
 
@@ -68,9 +69,7 @@ first_mapped f name (a ∷ attrs) = by (first_mapped f name attrs) (eqb a.name n
   by rest false = rest
 
 pub bases_mapped : {P Q : Type 0} (f : P → Q) (u : DwUnit P) → bases_in (unit_map f u) ≡ bases_in u
-bases_mapped f u =
-    ap (λ (o : Option ℕ). record { slots = o; line = offset_in (first_named 0x10 (map (attr_map f) u.root.attrs)) }) (first_mapped f 0x72 u.root.attrs)
-    ∙ ap (λ (o : Option ℕ). record { slots = offset_in (first_named 0x72 u.root.attrs); line = o }) (first_mapped f 0x10 u.root.attrs)
+bases_mapped f u = same_bases _ _ _ _ _ _ (first_mapped f 0x72 u.root.attrs) (first_mapped f 0x10 u.root.attrs) (first_mapped f 0x8c u.root.attrs)
 
 first_there : (tops : List Top) (t : Top) → In t tops → (x : Top) × In x tops × (x.unit ≡ first_unit tops)
 first_there [] t h = absurd h

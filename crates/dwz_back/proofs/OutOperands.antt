@@ -28,7 +28,8 @@ use Rattle.dwz_back.proofs.AttrLemmas.{attrs_in, attrs_mapped, kept_attrs}
 use Rattle.dwz_back.proofs.FreeOperands.{UnitAsksNone, asks_operands, home_asks, named_stays}
 use Rattle.dwz_back.proofs.HomeLemmas.{kept_from}
 use Rattle.dwz_back.proofs.KeptLemmas.{Stays, entry_stays}
-use Rattle.dwz_back.proofs.OperandLemmas.{Names, attr_to}
+use Rattle.dwz_back.proofs.OperandLemmas.{Follows, attr_to}
+use Rattle.dwz_back.proofs.OriginLemmas.{bases_mapped}
 use Rattle.dwz_back.proofs.ReadOperands.{reading}
 use Rattle.dwz_back.proofs.ReadPlaces.{key_seen}
 use Rattle.dwz_back.proofs.WithinLemmas.{kept_to}
@@ -94,9 +95,10 @@ module _ (scope : Scope) (units : List (FileUnit Spot)) (rule : Rule) (is : IsAl
       let o = unit_seen u.unit k there in
       subst (λ (s : Spot). In (f s) (entry_keys (kept_unit m units i u))) o.2 (entry_stays units m old i u nth o.0 o.1 (subst (Stays m) (sym o.2) stays))
 
-  module _ (t : Tells Spot) (into : (k : Spot) → In k (all_entry_keys (out_units m units file)) → In k t.all) where
-    abbrev before : Tells Spot
-    before = reading (all_entry_keys (units_at file units))
+  -- the location lists and the names of places of the file are told, and its entries
+  module _ (t : Tells Spot) (name : ℕ → Spot) (told : (n : ℕ) → t.name n ≡ f (name n)) (into : (k : Spot) → In k (all_entry_keys (out_units m units file)) → In k t.all) where
+    abbrev pub before : Tells Spot
+    before = reading t.lists t.named name (all_entry_keys (units_at file units))
 
     in_file : (i : ℕ) (u : FileUnit Spot) → Nth 0 units i u → u.file ≡ file → In (kept_unit m units i u) (out_units m units file)
     unfolding out_units
@@ -114,8 +116,17 @@ module _ (scope : Scope) (units : List (FileUnit Spot)) (rule : Rule) (is : IsAl
       abbrev own : Own Spot
       own = own_of (kept_unit m units i u)
 
+      follows : Follows f before (own_of u.unit) t own
+      follows = record {
+        lists = refl;
+        named = refl;
+        name = told;
+        at = (old.units_named i u nth).unit ∙ ap f (sym (old.units_named i u nth).unit);
+        base = ap (λ (b : Bases). b.lists) (bases_mapped f u.unit);
+      }
+
       attr_there : (e : Node Spot) → IsEntryOf e u.unit → (a : Attr Spot) → In a e.attrs → AttrOperands before (own_of u.unit) a → AttrOperands t own (attr_map f a)
-      attr_there e entry a a_in h = attr_to f before (own_of u.unit) t own a (λ base k k_in names. operand_there i u nth base k (operand_stays i u nth e entry a a_in k k_in names)) h
+      attr_there e entry a a_in h = attr_to f before (own_of u.unit) t own follows a (λ base k k_in names. operand_there i u nth base k (operand_stays i u nth e entry a a_in k k_in names)) h
 
       kept_operands : OperandsStand t (kept_unit m units i u)
       kept_operands = (

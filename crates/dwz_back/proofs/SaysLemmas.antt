@@ -14,7 +14,7 @@ use Rattle.dwz_same.specs.After.{Place, at_file}
 use Rattle.dwz_same.specs.Units.{all_units, changes, common_units, out_units}
 use Rattle.dwz_writing.specs.Carried.{OfAny, OfFile}
 use Rattle.dwz_writing.specs.Fitting.{AreWritable, UnitFits, UnitHasRoom, mode_for}
-use Rattle.dwz_writing.specs.Meant.{IsAround, Tells, UnitsSay, all_entry_keys}
+use Rattle.dwz_writing.specs.Meant.{AreRenumbered, IsAround, Tells, UnitsSay, all_entry_keys}
 use Rattle.dwz_writing.specs.Placing.{FitsSections, UnitsStand, sections, texts_bytes}
 use Rattle.dwz_writing.specs.Sound.{SoundUnit}
 use Rattle.dwz_writing.specs.Writing.{Numbering, tables_of}
@@ -27,8 +27,9 @@ use Rattle.dwz_writing.proofs.SameLemmas.{spots_same}
 use Rattle.dwz_writing.proofs.UnitsMean.{all_raw}
 use Rattle.dwz_writing.proofs.UnitsSpelled.{units_len}
 use Rattle.dwz_writing.proofs.WriteLaws.{fits, is_roomy, means, spelled}
-use Rattle.dwz_back.specs.Back.{CanWrite, IsPlacing, SaysPlaced, around_in, given_by, tells, tells_common}
-use Rattle.dwz_back.specs.Files.{HasCommon, HasSections, Run, common_fitted, common_forms, common_out, common_sections, file_forms, file_out, files_out, fitted, place_of, places, sections_of, sources, texts}
+use Rattle.dwz_back.specs.Back.{CanWrite, IsPlacing, SaysPlaced, around_in, given_by}
+use Rattle.dwz_meanings.specs.Shared.{ListOperand, NoneShared, operands_in_lists}
+use Rattle.dwz_back.specs.Files.{HasCommon, HasSections, Run, common_fitted, common_forms, common_out, common_sections, file_forms, file_out, files_out, fitted, place_of, places, sections_of, sources, tells, tells_common, texts}
 use Rattle.dwz_back.proofs.NameLemmas.{common_names, common_there, file_once, file_there, fitted_names, name_in_common, name_in_file, not_common, run_once}
 
 -- the places where names are written are such places
@@ -37,6 +38,10 @@ written_places r once = record {
   common = λ k is. ap (λ (f : ℕ). at_file f ((places r).place k)) (sym (name_in_common r once k is));
   written = λ file there changed k is. ap (λ (f : ℕ). at_file f ((places r).place k)) (sym (name_in_file r once file there k is));
 }
+
+no_operands : (o : ListOperand) → In o (operands_in_lists []) → ⊥
+unfolding operands_in_lists
+no_operands o there = there
 
 module _ (r : Run) (can : CanWrite r) (g : Spot → Place) (ok : IsPlacing r g) where
   abbrev n : Numbering Spot
@@ -80,6 +85,8 @@ module _ (r : Run) (can : CanWrite r) (g : Spot → Place) (ok : IsPlacing r g) 
     line_strs : (sources_of bytes).line_strs ≡ t.line_strs
     offsets : (sources_of bytes).offsets ≡ t.offsets
     line : (sources_of bytes).line ≡ t.line
+    none_shared : NoneShared t.named
+    lists : AreRenumbered n t (sources_of bytes).lists
     room : Each (UnitHasRoom n) units
     small : FitsSections (sections n units)
     common_few : (k : Spot) → In k t.common → n.place k < 2 ^ 32
@@ -99,6 +106,8 @@ module _ (r : Run) (can : CanWrite r) (g : Spot → Place) (ok : IsPlacing r g) 
         line_strs = s.line_strs;
         offsets = s.offsets;
         line = s.line;
+        none_shared = s.none_shared;
+        lists = s.lists;
         all = entries ∙ ap (λ (ks : List Spot). map n.place ks) (sym s.all);
         place = s.own;
         common = s.given;
@@ -142,6 +151,8 @@ module _ (r : Run) (can : CanWrite r) (g : Spot → Place) (ok : IsPlacing r g) 
     line_strs = ap (λ (w : Sources). w.line_strs) has.sources;
     offsets = ap (λ (w : Sources). w.offsets) has.sources;
     line = ap (λ (w : Sources). w.line) has.sources;
+    none_shared = can.common.over.lists;
+    lists = subst (λ (w : Sources). AreRenumbered n (tells_common r) w.lists) (sym has.sources) (record { number = λ p. 0; are = λ l there. absurd there; patched = record { len = refl; written = λ o there. absurd (no_operands o there); others = λ b none. refl } });
     room = common_room;
     small = small;
     common_few = λ k is. absurd is;
@@ -164,20 +175,22 @@ module _ (r : Run) (can : CanWrite r) (g : Spot → Place) (ok : IsPlacing r g) 
   unfolding fitted
   file_room file there changed = (can.file file there changed).over.room
 
-  with_common : (common : Option (Common Place)) (out : List ℕ) (file : ℕ) → In file r.files → changes r.move r.units file ≡ true → HasSections (r.input file) out (sections_of r file) → FitsSections (sections_of r file)
+  with_common : (common : Option (Common Place)) (out : List ℕ) (file : ℕ) → In file r.files → changes r.move r.units file ≡ true → HasSections r file out → FitsSections (sections_of r file)
       → ((k : Spot) → In k (all_entry_keys (common_fitted r)) → n.place k < 2 ^ 32) → ((k : Spot) → In k (all_entry_keys (common_fitted r)) → (c : Common Place) × (common ≡ Some c) × In (n.place k) c.entries × (c.place (n.place k) ≡ g k))
       → SaysPlaced r g common file out (fitted r file)
   with_common common out file there changed has small few given = said_placed (tells r file) common file out (fitted r file) (record {
     all = refl;
-    good = file_good file there changed (subst (λ (w : Sources). length w.strs < 2 ^ 32) has.sources has.small);
+    good = file_good file there changed (subst (λ (w : List ℕ). length w < 2 ^ 32) has.strs has.small);
     stands = file_stands file there;
     elf = has.elf;
     info = has.info;
     abbrevs = has.abbrevs;
-    strs = ap (λ (x : Sources). x.strs) has.sources;
-    line_strs = ap (λ (x : Sources). x.line_strs) has.sources;
-    offsets = ap (λ (x : Sources). x.offsets) has.sources;
-    line = ap (λ (x : Sources). x.line) has.sources;
+    strs = has.strs;
+    line_strs = has.line_strs;
+    offsets = has.offsets;
+    line = has.line;
+    none_shared = (can.file file there changed).over.lists;
+    lists = has.lists;
     room = file_room file there changed;
     small = small;
     common_few = few;
@@ -186,7 +199,7 @@ module _ (r : Run) (can : CanWrite r) (g : Spot → Place) (ok : IsPlacing r g) 
   })
 
   pub file_back : (out common : List ℕ) → FitsSections (common_sections r) → (c : SaysPlaced r g None r.common common (common_fitted r)) → (file : ℕ) → In file r.files → changes r.move r.units file ≡ true
-      → HasSections (r.input file) out (sections_of r file) → FitsSections (sections_of r file) → SaysPlaced r g (Some (given_by r.common common c.raw)) file out (fitted r file)
+      → HasSections r file out → FitsSections (sections_of r file) → SaysPlaced r g (Some (given_by r.common common c.raw)) file out (fitted r file)
   file_back out common common_fits c file there changed has small = with_common (Some (given_by r.common common c.raw)) out file there changed has small (common_small common_fits) (λ k is. (
     given_by r.common common c.raw,
     refl,
@@ -198,6 +211,6 @@ module _ (r : Run) (can : CanWrite r) (g : Spot → Place) (ok : IsPlacing r g) 
   unfolding all_entry_keys
   none_common none k is = subst (In k) (common_all ∙ ap (λ (us : List (DwUnit Spot)). all_entry_keys us) none) is
 
-  pub alone_back : (out : List ℕ) → common_units r.move ≡ [] → (file : ℕ) → In file r.files → changes r.move r.units file ≡ true → HasSections (r.input file) out (sections_of r file) → FitsSections (sections_of r file)
+  pub alone_back : (out : List ℕ) → common_units r.move ≡ [] → (file : ℕ) → In file r.files → changes r.move r.units file ≡ true → HasSections r file out → FitsSections (sections_of r file)
       → SaysPlaced r g None file out (fitted r file)
   alone_back out none file there changed has small = with_common None out file there changed has small (λ k is. absurd (none_common none k is)) (λ k is. absurd (none_common none k is))

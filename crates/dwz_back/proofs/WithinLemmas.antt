@@ -39,7 +39,8 @@ use Rattle.dwz_same.proofs.FileLemmas.{replaced}
 use Rattle.dwz_writing.specs.Carried.{ClosedIn}
 use Rattle.dwz_writing.specs.Meant.{all_entry_keys, entry_keys}
 use Rattle.dwz_writing.proofs.ChosenNames.{all_seen_key}
-use Rattle.dwz_back.specs.Back.{run_of, tells}
+use Rattle.dwz_back.specs.Back.{run_of}
+use Rattle.dwz_back.specs.Files.{Stored, tells}
 use Rattle.dwz_back.proofs.HomeLemmas.{kept_from, parts_from, top_file}
 use Rattle.dwz_back.proofs.KeptLemmas.{mapped_kept, space_kept, top_kept}
 use Rattle.dwz_back.proofs.NameLemmas.{common_entries, fitted_entries}
@@ -369,7 +370,7 @@ closed_at file own unit top (doc ∷ docs) placed =
 
 -- each reference of a file names an entry of it, or of the common file
 pub within : (scope : Scope) (docs : List (Doc ℕ)) (rule : Rule) → Each (λ doc. ArePlaced doc.units) docs → IsAlike scope (units_of docs) rule.alike → IsChoice (units_of docs) rule
-    → (input : ℕ → List ℕ) (file : ℕ) → ClosedIn (tells (run_of rule docs input) file) (out_units (run_of rule docs input).move (units_of docs) file)
+    → (input : Stored) (file : ℕ) → ClosedIn (tells (run_of rule docs input) file) (out_units (run_of rule docs input).move (units_of docs) file)
 within scope docs rule placed is choice input file e a k there attr ref =
     let r = run_of rule docs input in
     let whole = replaced scope docs rule placed is choice in

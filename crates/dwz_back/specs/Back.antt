@@ -20,12 +20,13 @@ use Rattle.dwz_same.specs.After.{ArePlaced, Place, at_file, name_in, placed_from
 use Rattle.dwz_same.specs.Images.{IsAlone, OneImage}
 use Rattle.dwz_same.specs.Units.{all_units, changes, common_units, out_units}
 use Rattle.dwz_writing.specs.Bases.{bases_in}
-use Rattle.dwz_writing.specs.Carried.{BasesStand, BuiltUnit, CarriedUnit, ClosedIn, OfAny, OfFile, OperandsStand}
+use Rattle.dwz_writing.specs.Carried.{BasesStand, CarriedUnit, ClosedIn, OfAny, OfFile, OperandsStand}
 use Rattle.dwz_writing.specs.Fitting.{UnitHasRoom, back_forms}
 use Rattle.dwz_writing.specs.Meant.{Tells, all_entry_keys, placed_units}
 use Rattle.dwz_writing.specs.Placing.{FitsSections, Forms, fit_units}
 use Rattle.dwz_writing.specs.Writing.{Numbering}
-use Rattle.dwz_back.specs.Files.{HasCommon, HasSections, Run, common_fitted, common_forms, common_sections, common_sources, file_forms, fitted, place_of, places, sections_of, sources, texts}
+use Rattle.dwz_back.specs.Files.{HasCommon, HasSections, Run, Stored, common_fitted, common_forms, common_sections, file_forms, fitted, place_of, places, sections_of, sources, tells, tells_common, texts}
+use Rattle.dwz_meanings.specs.Shared.{NoneShared}
 
 -- ---- the relation: what a file says
 
@@ -49,20 +50,11 @@ pub record SaysUnits (common : Option (Common Place)) (number : ℕ) (bytes : Li
 
 -- ---- what is asked of a run, so that what it writes reads back
 
--- what a file's units are written for
-abbrev pub tells_of : Sources → (all common : List Spot) → Tells Spot
-tells_of s all common = record { strs = s.strs; line_strs = s.line_strs; offsets = s.offsets; line = s.line; all = all; common = common }
-
-abbrev pub tells : Run → ℕ → Tells Spot
-tells r file = tells_of (sources r file) (all_entry_keys (fitted r file)) (all_entry_keys (common_fitted r))
-
-abbrev pub tells_common : Run → Tells Spot
-tells_common r = tells_of (common_sources (texts r)) (all_entry_keys (common_fitted r)) []
-
--- roots say of slots and of a line table what the units said that values come from; and the operands of expressions name entries as
--- their numbers are counted, and have room for these
+-- roots say of slots and of a line table what the units said that values come from; location lists shared nothing; and operands name
+-- entries as their numbers are counted, and have room for these
 pub record StandOver (f : Forms Spot) (t : Tells Spot) (n : Numbering Spot) (units : List (DwUnit Spot)) : Type 0 where
   pub bases : Each (BasesStand f) units
+  pub lists : NoneShared t.named
   pub operands : Each (OperandsStand t) units
   pub room : Each (UnitHasRoom n) (fit_units f units)
 
@@ -115,21 +107,21 @@ CommonBackLaw =
 abbrev pub FileBackLaw : Type 0
 FileBackLaw =
     (r : Run) (g : Spot → Place) (out common : List ℕ) → CanWrite r → IsPlacing r g → FitsSections (common_sections r) → (c : SaysPlaced r g None r.common common (common_fitted r))
-    → (file : ℕ) → In file r.files → changes r.move r.units file ≡ true → HasSections (r.input file) out (sections_of r file) → FitsSections (sections_of r file)
+    → (file : ℕ) → In file r.files → changes r.move r.units file ≡ true → HasSections r file out → FitsSections (sections_of r file)
     → SaysPlaced r g (Some (given_by r.common common c.raw)) file out (fitted r file)
 
 -- and where nothing is in the common file, also by itself
 abbrev pub AloneBackLaw : Type 0
 AloneBackLaw =
     (r : Run) (g : Spot → Place) (out : List ℕ) → CanWrite r → IsPlacing r g → common_units r.move ≡ []
-    → (file : ℕ) → In file r.files → changes r.move r.units file ≡ true → HasSections (r.input file) out (sections_of r file) → FitsSections (sections_of r file)
+    → (file : ℕ) → In file r.files → changes r.move r.units file ≡ true → HasSections r file out → FitsSections (sections_of r file)
     → SaysPlaced r g None file out (fitted r file)
 
 -- ---- what all files say together
 
 -- the run of files that say these documents, with the bytes of each
-abbrev pub run_of : Rule → List (Doc ℕ) → (ℕ → List ℕ) → Run
-run_of rule docs input = record { move = plan rule (units_of docs) (file_numbers 0 docs); units = units_of docs; files = file_numbers 0 docs; input = input; common = length docs }
+abbrev pub run_of : Rule → List (Doc ℕ) → Stored → Run
+run_of rule docs input = record { move = plan rule (units_of docs) (file_numbers 0 docs); units = units_of docs; files = file_numbers 0 docs; input = input; name = name_in docs; common = length docs }
 
 abbrev pub back_units : Run → (Spot → Place) → Bool → ℕ → Doc ℕ → List (DwUnit Place)
 back_units r g true file doc = placed_units (places r) g (fitted r file)
@@ -152,7 +144,7 @@ pub record AreAtOld (r : Run) (g : Spot → Place) (docs : List (Doc ℕ)) : Typ
 
 -- what all files say, the common one among them, is the same as what was read, along images; and entries share an image exactly where
 -- they move and nothing tells them apart
-pub record SameBack (scope : Scope) (docs : List (Doc ℕ)) (rule : Rule) (input : ℕ → List ℕ) (g : Spot → Place) : Type 0 where
+pub record SameBack (scope : Scope) (docs : List (Doc ℕ)) (rule : Rule) (input : Stored) (g : Spot → Place) : Type 0 where
   pub same : SameAlong (λ p. g (image rule (units_of docs) (name_in docs p))) (placed_from 0 docs) (all_back (run_of rule docs input) g docs)
   pub alone : IsAlone (units_of docs) (λ s. g (image rule (units_of docs) s))
   pub images : OneImage scope (units_of docs) (λ n. moves rule (units_of docs) n ≡ true) (λ s. g (image rule (units_of docs) s))
@@ -160,7 +152,7 @@ pub record SameBack (scope : Scope) (docs : List (Doc ℕ)) (rule : Rule) (input
 abbrev pub SameBackLaw : Type 0
 SameBackLaw =
     (scope : Scope) (docs : List (Doc ℕ)) (rule : Rule) → Each (λ doc. ArePlaced doc.units) docs → IsAlike scope (units_of docs) rule.alike → IsChoice (units_of docs) rule
-    → (input : ℕ → List ℕ) (g : Spot → Place) → IsPlacing (run_of rule docs input) g → AreAtOld (run_of rule docs input) g docs → SameBack scope docs rule input g
+    → (input : Stored) (g : Spot → Place) → IsPlacing (run_of rule docs input) g → AreAtOld (run_of rule docs input) g docs → SameBack scope docs rule input g
 
 -- ---- what is read
 
@@ -169,37 +161,41 @@ pub record WasReadFrom (sources : Sources) (units : List (DwUnit ℕ)) : Type 0 
   pub placed : ArePlaced units
   pub carried : Each (λ u. CarriedUnit (OfFile sources) (bases_in u) u) units
 
--- so is each file that reads, if its attributes are among those that are written
+-- so is each file that reads
 abbrev pub ReadLaw : Type 0
 ReadLaw =
-    (l : Limits) (input : List ℕ) (raw : List RawUnit) (doc : Doc ℕ) → Reads l input raw doc → AreBytes (debug_info input) → Each BuiltUnit doc.units → WasReadFrom (sources_of input) doc.units
+    (l : Limits) (input : List ℕ) (raw : List RawUnit) (doc : Doc ℕ) → Reads l input raw doc → AreBytes (debug_info input) → WasReadFrom (sources_of input) doc.units
 
 -- after, each reference of a file names an entry of it, or of the common file
 abbrev pub WithinLaw : Type 0
 WithinLaw =
     (scope : Scope) (docs : List (Doc ℕ)) (rule : Rule) → Each (λ doc. ArePlaced doc.units) docs → IsAlike scope (units_of docs) rule.alike → IsChoice (units_of docs) rule
-    → (input : ℕ → List ℕ) (file : ℕ) → ClosedIn (tells (run_of rule docs input) file) (out_units (run_of rule docs input).move (units_of docs) file)
+    → (input : Stored) (file : ℕ) → ClosedIn (tells (run_of rule docs input) file) (out_units (run_of rule docs input).move (units_of docs) file)
 
 -- and each of the common file an entry of that
 abbrev pub CommonWithinLaw : Type 0
 CommonWithinLaw =
     (scope : Scope) (docs : List (Doc ℕ)) (rule : Rule) → Each (λ doc. ArePlaced doc.units) docs → IsAlike scope (units_of docs) rule.alike → IsChoice (units_of docs) rule
-    → (input : ℕ → List ℕ) → ClosedIn (tells_common (run_of rule docs input)) (common_units (run_of rule docs input).move)
+    → (input : Stored) → ClosedIn (tells_common (run_of rule docs input)) (common_units (run_of rule docs input).move)
 
 -- ---- one file by itself
 
-abbrev pub one_run : Rule → Doc ℕ → List ℕ → Run
-one_run rule doc input = run_of rule (doc ∷ []) (λ file. input)
+-- the file as it is stored
+abbrev pub one_stored : List ℕ → List RawUnit → Stored
+one_stored input raw = record { bytes = λ file. input; raw = λ file. raw }
+
+abbrev pub one_run : Rule → Doc ℕ → List ℕ → List RawUnit → Run
+one_run rule doc input raw = run_of rule (doc ∷ []) (one_stored input raw)
 
 -- the file that was made from one that reads says its new units by itself, and they are the same as what was read
-pub record OneBack (doc : Doc ℕ) (rule : Rule) (input out : List ℕ) : Type 0 where
-  pub says : SaysPlaced (one_run rule doc input) (place_of (one_run rule doc input)) None 0 out (fitted (one_run rule doc input) 0)
-  pub same : SameBack Apart (doc ∷ []) rule (λ file. input) (place_of (one_run rule doc input))
+pub record OneBack (doc : Doc ℕ) (rule : Rule) (input : List ℕ) (raw : List RawUnit) (out : List ℕ) : Type 0 where
+  pub says : SaysPlaced (one_run rule doc input raw) (place_of (one_run rule doc input raw)) None 0 out (fitted (one_run rule doc input raw) 0)
+  pub same : SameBack Apart (doc ∷ []) rule (one_stored input raw) (place_of (one_run rule doc input raw))
 
 abbrev pub OneBackLaw : Type 0
 OneBackLaw =
-    (l : Limits) (input : List ℕ) (raw : List RawUnit) (doc : Doc ℕ) → Reads l input raw doc → AreBytes (debug_info input) → Each BuiltUnit doc.units
+    (l : Limits) (input : List ℕ) (raw : List RawUnit) (doc : Doc ℕ) → Reads l input raw doc → AreBytes (debug_info input)
     → (rule : Rule) → IsAlike Apart (units_of (doc ∷ [])) rule.alike → IsChoice (units_of (doc ∷ [])) rule
-    → FileOver (one_run rule doc input) 0
-    → changes (one_run rule doc input).move (units_of (doc ∷ [])) 0 ≡ true
-    → (out : List ℕ) → HasSections input out (sections_of (one_run rule doc input) 0) → FitsSections (sections_of (one_run rule doc input) 0) → OneBack doc rule input out
+    → FileOver (one_run rule doc input raw) 0
+    → changes (one_run rule doc input raw).move (units_of (doc ∷ [])) 0 ≡ true
+    → (out : List ℕ) → HasSections (one_run rule doc input raw) 0 out → FitsSections (sections_of (one_run rule doc input raw) 0) → OneBack doc rule input raw out

@@ -2,10 +2,14 @@
 use Rattle.std.specs.Prelude.{◌≡◌, ℕ, zero, suc, ◌<◌, ◌^◌, true, false, List, [], ◌∷◌, map, length, Option, Some, None}
 use Rattle.dwz_meanings.specs.Documents.{DwUnit}
 use Rattle.dwz_docs.specs.ElfFaults.{IsElfFault}
-use Rattle.dwz_meanings.specs.Files.{debug_abbrev, debug_info, section_of, sources_of}
+use Rattle.dwz_docs.specs.Units.{RawUnit}
+use Rattle.dwz_meanings.specs.Files.{around_of, debug_abbrev, debug_info, section_of, sources_of}
+use Rattle.dwz_meanings.specs.NamedLists.{lists_of_units}
+use Rattle.dwz_meanings.specs.Shared.{NamedList}
+use Rattle.dwz_writing.specs.Meant.{AreRenumbered, Tells, all_entry_keys}
 use Rattle.dwz_meanings.specs.Meanings.{Sources}
 use Rattle.dwz_alike.specs.Spots.{FileUnit, PartialOf, Spot, UnitOf, same_spot}
-use Rattle.dwz_moving.specs.Moves.{Move, first_unit, part_at}
+use Rattle.dwz_moving.specs.Moves.{Move, first_unit, image_in, part_at}
 use Rattle.dwz_moving.specs.Plan.{PartialUnit}
 use Rattle.dwz_same.specs.After.{Place, at_file}
 use Rattle.dwz_same.specs.Units.{common_units, out_units}
@@ -13,18 +17,24 @@ use Rattle.dwz_writing.specs.Bases.{Bases, bases_in, no_bases}
 use Rattle.dwz_writing.specs.Placing.{FileOut, Forms, UnitSections, file_in, fit_units, numbering, sections, texts_bytes, texts_of}
 use Rattle.dwz_writing.specs.Writing.{Numbering}
 
--- what is written of: a move of the tops of units of these files, the bytes of each file as it was read, and the number of the common
--- file
+-- files as they are stored: the bytes of each, and its units
+pub record Stored : Type 0 where
+  pub bytes : ℕ → List ℕ
+  pub raw : ℕ → List RawUnit
+
+-- what is written of: a move of the tops of units of these files, the files as they were stored, the names of what stood at places, and
+-- the number of the common file
 pub record Run : Type 0 where
   pub move : Move
   pub units : List (FileUnit Spot)
   pub files : List ℕ
-  pub input : ℕ → List ℕ
+  pub input : Stored
+  pub name : Place → Spot
   pub common : ℕ
 
 -- the sections of a file as it was read
 abbrev pub sources : Run → ℕ → Sources
-sources r file = sources_of (r.input file)
+sources r file = sources_of (r.input.bytes file)
 
 -- the texts of the common file
 abbrev pub texts : Run → List (List ℕ)
@@ -88,14 +98,57 @@ sections_of r file = sections (places r) (fitted r file)
 abbrev pub common_sections : Run → UnitSections
 common_sections r = sections (places r) (common_fitted r)
 
+-- ---- what units are written for
+
+-- the location lists that the units of a file named, as it was read
+abbrev pub lists_named : Run → ℕ → List NamedList
+lists_named r file = lists_of_units (around_of (r.input.bytes file) (r.input.raw file)) (r.input.raw file)
+
+-- the name after of what stood at a place
+abbrev pub name_after : Run → ℕ → ℕ → Spot
+name_after r file p = image_in r.move (r.name (at_file file p))
+
+-- what a file's units are written for
+abbrev pub tells : Run → ℕ → Tells Spot
+tells r file = record {
+  strs = (sources r file).strs;
+  line_strs = (sources r file).line_strs;
+  offsets = (sources r file).offsets;
+  line = (sources r file).line;
+  lists = (sources r file).lists;
+  named = lists_named r file;
+  name = name_after r file;
+  all = all_entry_keys (fitted r file);
+  common = all_entry_keys (common_fitted r);
+}
+
+-- and those of the common file, which has no section of the files but its own texts
+abbrev pub tells_common : Run → Tells Spot
+tells_common r = record {
+  strs = texts_bytes (texts r);
+  line_strs = [];
+  offsets = [];
+  line = [];
+  lists = [];
+  named = [];
+  name = name_after r r.common;
+  all = all_entry_keys (common_fitted r);
+  common = [];
+}
+
 -- ---- what files hold that were made so
 
--- a file without a fault, that has these two sections, and else those of the file from which it was made; its texts are few
-pub record HasSections (input out : List ℕ) (s : UnitSections) : Type 0 where
+-- A file without a fault has these two sections; in its location lists stand the numbers of where things stand; and it has the other
+-- sections of which values speak as they were read. Its texts are few.
+pub record HasSections (r : Run) (file : ℕ) (out : List ℕ) : Type 0 where
   pub elf : (f : _) → IsElfFault out f → ⊥
-  pub info : debug_info out ≡ s.info
-  pub abbrevs : debug_abbrev out ≡ s.abbrevs
-  pub sources : sources_of out ≡ sources_of input
+  pub info : debug_info out ≡ (sections_of r file).info
+  pub abbrevs : debug_abbrev out ≡ (sections_of r file).abbrevs
+  pub strs : (sources_of out).strs ≡ (sources r file).strs
+  pub line_strs : (sources_of out).line_strs ≡ (sources r file).line_strs
+  pub offsets : (sources_of out).offsets ≡ (sources r file).offsets
+  pub line : (sources_of out).line ≡ (sources r file).line
+  pub lists : AreRenumbered (places r) (tells r file) (sources_of out).lists
   pub small : length (section_of out 3) < 2 ^ 32
 
 -- `.debug_str` of the common file, which has no other section that values speak of

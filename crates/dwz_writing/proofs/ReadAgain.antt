@@ -139,7 +139,7 @@ pub same_bases : (a b c d e f : Option ℕ) → a ≡ b → c ≡ d → e ≡ f 
 same_bases a b c d e f p q r =
     ap (λ (o : Option ℕ). record { slots = o; line = c; lists = e }) p ∙ ap (λ (o : Option ℕ). record { slots = b; line = o; lists = e }) q ∙ ap (λ (o : Option ℕ). record { slots = b; line = d; lists = o }) r
 
-bases_read : (s : Scope ℕ) (attrs : List (Attr ℕ)) → MeanAttrs s (without_siblings s.root.attrs) attrs
+pub bases_read : (s : Scope ℕ) (attrs : List (Attr ℕ)) → MeanAttrs s (without_siblings s.root.attrs) attrs
     → (let y : Bases = record { slots = offset_in (first_named 0x72 attrs); line = offset_in (first_named 0x10 attrs); lists = offset_in (first_named 0x8c attrs) } in bases_of s ≡ y)
 bases_read s attrs means = same_bases _ _ _ _ _ _
     (ap base_in (sym (first_stays 0x72 s.root.attrs refl)) ∙ base_read s 0x72 (without_siblings s.root.attrs) attrs means)

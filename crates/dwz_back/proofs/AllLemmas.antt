@@ -44,7 +44,8 @@ use Rattle.dwz_back.proofs.ReadOperands.{file_read, lists_in, reading}
 use Rattle.dwz_meanings.specs.Shared.{NoneShared, operands_in_lists}
 use Rattle.dwz_back.proofs.ReadPlaces.{read_from}
 use Rattle.dwz_back.proofs.SameLemmas.{same_back}
-use Rattle.dwz_back.proofs.SaysLemmas.{common_back, file_back}
+use Rattle.dwz_back.proofs.SaysLemmas.{common_back, file_back, ranges_back}
+use Rattle.dwz_back.proofs.RangeLemmas.{named_at, stand_after}
 use Rattle.dwz_back.proofs.StillMeans.{units_there}
 use Rattle.dwz_back.proofs.StillPlaces.{back_old, back_place, back_placing}
 use Rattle.dwz_back.proofs.WithinLemmas.{within}
@@ -203,6 +204,9 @@ module _ (scope : Scope) (docs : List (Doc ℕ)) (input : Stored) (are : AreRead
   can_write = record {
     apart = together.apart;
     file = file_ready;
+    units = λ file there.
+        (let o = doc_at 0 docs file there in
+        stand_after r whole.old file (sources_of (input.bytes file)) _ o.0.units (are file o.0 o.1).reads.means (λ v v_in. named_at 0 0 0 docs file o.0 o.1 v v_in));
     common = record {
       carried = common_carried;
       closed = common_within scope docs rule placed is choice input;
@@ -223,6 +227,7 @@ module _ (scope : Scope) (docs : List (Doc ℕ)) (input : Stored) (are : AreRead
           partial = refl;
           forms = refl;
           spelled = units_again (debug_abbrev (input.bytes file)) (given o.limits.entries) refl (input.raw file) 0 0 (debug_info (input.bytes file)) o.reads.spelled;
+          ranges = o.reads.ranges;
           means = units_there (at_file file) common (around_of (input.bytes file) (input.raw file)) refl (input.raw file) doc.units o.reads.means;
         };
       }
@@ -233,13 +238,15 @@ module _ (scope : Scope) (docs : List (Doc ℕ)) (input : Stored) (are : AreRead
       let ok = back_placing scope docs rule placed is choice input in
       let old = back_old scope docs rule placed is choice input in
       let says = common_back r can_write g ok common made.common made.common_fits in
+      let file_says = λ (file : ℕ) (there : In file r.files) (changed : changes r.move r.units file ≡ true). file_back r can_write g ok (output file) common made.common_fits says file there changed (made.file file there changed) (made.file_fits file there changed) in
       record {
         place = g;
         placing = ok;
         old = old;
         back = record {
           common = says;
-          file = λ file there changed. file_back r can_write g ok (output file) common made.common_fits says file there changed (made.file file there changed) (made.file_fits file there changed);
+          file = file_says;
+          ranges = λ file there changed. ranges_back r can_write g ok (Some (given_by r.common common says.raw)) (output file) file there changed (made.file file there changed) (made.file_fits file there changed) (file_says file there changed);
           still = λ file doc nth. still_says (Some (given_by r.common common says.raw)) file doc nth;
           same = same_back scope docs rule placed is choice input g ok old;
         };

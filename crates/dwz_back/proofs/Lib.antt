@@ -18,6 +18,7 @@ pub mod OutOperands
 pub mod AttrLemmas
 pub mod KeptLemmas
 pub mod WithinLemmas
+pub mod RangeLemmas
 pub mod CommonLemmas
 pub mod ReadMode
 pub mod StillMeans

@@ -13,7 +13,7 @@ use Rattle.dwz_moving.specs.Homes.{IsChoice, Rule}
 use Rattle.dwz_same.specs.After.{Place, at_file}
 use Rattle.dwz_same.specs.Units.{changes}
 use Rattle.dwz_writing.specs.Placing.{FitsSections}
-use Rattle.dwz_back.specs.Back.{AreAtOld, CanWrite, CommonOver, FileOver, IsPlacing, SameBack, SaysPlaced, SaysUnits, given_by, run_of}
+use Rattle.dwz_back.specs.Back.{AreAtOld, CanWrite, CommonOver, FileOver, IsPlacing, RangesBack, SameBack, SaysPlaced, SaysUnits, given_by, run_of}
 use Rattle.dwz_back.specs.Files.{HasCommon, HasSections, Run, Stored, common_fitted, common_sections, fitted, sections_of, texts}
 
 -- the file with these bytes and units reads, and says a document
@@ -43,12 +43,14 @@ pub record SaysStill (common : Option (Common Place)) (file : ℕ) (bytes : List
   pub raw : List RawUnit
   pub says : SaysUnits common file bytes raw (map (unit_map (at_file file)) doc.units)
 
--- The common file says its units, at these places; with it each file of which something moves says its own, and a file that stays as
--- it was read says what it said. All files together say the same as what was read.
+-- The common file says its units, at these places; with it each file of which something moves says its own, and has its address ranges,
+-- and a file that stays as it was read says what it said. All files together say the same as what was read.
 pub record AllBack (scope : Scope) (docs : List (Doc ℕ)) (rule : Rule) (input : Stored) (output : ℕ → List ℕ) (common_bytes : List ℕ) (g : Spot → Place) : Type 0 where
   pub common : SaysPlaced (run_of rule docs input) g None (run_of rule docs input).common common_bytes (common_fitted (run_of rule docs input))
   pub file : (file : ℕ) → In file (run_of rule docs input).files → changes (run_of rule docs input).move (units_of docs) file ≡ true
       → SaysPlaced (run_of rule docs input) g (Some (given_by (run_of rule docs input).common common_bytes common.raw)) file (output file) (fitted (run_of rule docs input) file)
+  pub ranges : (number : ℕ) → (there : In number (run_of rule docs input).files) → (changed : changes (run_of rule docs input).move (units_of docs) number ≡ true)
+      → RangesBack (run_of rule docs input) number (output number) (file number there changed).raw
   pub still : (file : ℕ) (doc : Doc ℕ) → Nth 0 docs file doc → SaysStill (Some (given_by (run_of rule docs input).common common_bytes common.raw)) file (input.bytes file) doc
   pub same : SameBack scope docs rule input g
 

@@ -3,13 +3,13 @@ use Rattle.std.specs.Prelude.{◌≡◌, ℕ, suc, Bool, true, false, List, [], 
 use Rattle.dwz_meanings.specs.Documents.{Doc, DwUnit, unit_map}
 use Rattle.dwz_docs.specs.ElfFaults.{IsElfFault}
 use Rattle.dwz_docs.specs.Entries.{Mode}
-use Rattle.dwz_meanings.specs.Files.{Limits, Reads, debug_abbrev, debug_info, section_of, sources_of}
+use Rattle.dwz_meanings.specs.Files.{HaveGoodRanges, Limits, Reads, debug_abbrev, debug_aranges, debug_info, is_place_of, section_of, sources_of}
 use Rattle.dwz_docs.specs.Lists.{In}
 use Rattle.dwz_meanings.specs.Meanings.{Around, Common, MeanUnits, Sources, all_places}
 use Rattle.dwz_docs.specs.Units.{RawUnit, SpellsUnits}
 use Rattle.dwz_docs.specs.Values.{AreBytes}
 use Rattle.dwz_seen.specs.Lists.{Each, NoneTwice, Nth}
-use Rattle.dwz_seen.specs.Seen.{SameAlong}
+use Rattle.dwz_seen.specs.Seen.{IsPartial, SameAlong}
 use Rattle.dwz_seen.specs.Shown.{OnePlace, UnitsShown, units_keys}
 use Rattle.dwz_alike.specs.Alike.{Apart, IsAlike, Scope}
 use Rattle.dwz_alike.specs.Spots.{Spot, file_numbers, units_of}
@@ -25,8 +25,10 @@ use Rattle.dwz_writing.specs.Fitting.{UnitHasRoom, back_forms}
 use Rattle.dwz_writing.specs.Meant.{Tells, all_entry_keys, placed_units}
 use Rattle.dwz_writing.specs.Placing.{FitsSections, Forms, fit_units}
 use Rattle.dwz_writing.specs.Writing.{Numbering}
-use Rattle.dwz_back.specs.Files.{HasCommon, HasSections, Run, Stored, common_fitted, common_forms, common_sections, file_forms, fitted, place_of, places, sections_of, sources, tells, tells_common, texts}
+use Rattle.dwz_back.specs.Files.{HasCommon, HasSections, Run, Stored, common_fitted, common_forms, common_sections, file_forms, fitted, name_after, place_of, places, sections_of, sources, tells, tells_common, texts}
 use Rattle.dwz_meanings.specs.Shared.{NoneShared}
+use Rattle.dwz_meanings.specs.Patching.{of_units}
+use Rattle.dwz_meanings.specs.Ranges.{RangeSet, SpellsSets}
 
 -- ---- the relation: what a file says
 
@@ -38,7 +40,8 @@ abbrev pub around_in : Option (Common Place) → ℕ → List ℕ → List RawUn
 around_in common number bytes raw = record { sources = sources_of bytes; all = all_places raw; place = at_file number; common = common }
 
 -- The file with a number has no fault of an ELF file; its units, of which some may be partial, with the forms that lead to a common
--- file, are spelled, and mean these. No limit on depth or on entries is asked of it.
+-- file, are spelled, and mean these. Each set of address ranges is of one of the units that aren't partial. No limit on depth or on
+-- entries is asked of it.
 pub record SaysUnits (common : Option (Common Place)) (number : ℕ) (bytes : List ℕ) (raw : List RawUnit) (units : List (DwUnit Place)) : Type 0 where
   pub elf : (f : _) → IsElfFault bytes f → ⊥
   pub mode : Mode
@@ -47,6 +50,7 @@ pub record SaysUnits (common : Option (Common Place)) (number : ℕ) (bytes : Li
   pub forms : mode.forms ≡ back_forms
   pub spelled : SpellsUnits (debug_abbrev bytes) mode 0 raw 0 (debug_info bytes)
   pub means : MeanUnits (around_in common number bytes raw) raw units
+  pub ranges : HaveGoodRanges bytes raw
 
 -- ---- what is asked of a run, so that what it writes reads back
 
@@ -74,10 +78,21 @@ FileOver r file = Each (UnitHasRoom (places r)) (fitted r file)
 abbrev pub CommonOver : Run → Type 0
 CommonOver r = Each (BasesStand (common_forms r)) (common_units r.move)
 
+-- each unit of a file that was read stands after, as no partial unit, at its name
+pub record StandsAfter (r : Run) (file place : ℕ) : Type 0 where
+  pub unit : DwUnit Spot
+  pub there : In unit (out_units r.move r.units file)
+  pub kind : IsPartial unit.kind → ⊥
+  pub at : unit.at ≡ name_after r file place
+
+abbrev pub AllStandAfter : Run → ℕ → Type 0
+AllStandAfter r file = (place : ℕ) → is_place_of (r.input.raw file) place ≡ true → StandsAfter r file place
+
 -- no name stands twice, and the units of each file of which something moves, and of the common file, are ready
 pub record CanWrite (r : Run) : Type 0 where
   pub apart : NoneTwice (units_keys (all_units r.move r.units r.files))
   pub file : (file : ℕ) → In file r.files → changes r.move r.units file ≡ true → IsReady (OfFile (sources r file)) (file_forms r file) (tells r file) (places r) (out_units r.move r.units file)
+  pub units : (file : ℕ) → In file r.files → AllStandAfter r file
   pub common : IsReady OfAny (common_forms r) (tells_common r) (places r) (common_units r.move)
 
 -- places for the names of a run: in the common file, and in each file of which something moves, those where they are written
@@ -109,6 +124,18 @@ FileBackLaw =
     (r : Run) (g : Spot → Place) (out common : List ℕ) → CanWrite r → IsPlacing r g → FitsSections (common_sections r) → (c : SaysPlaced r g None r.common common (common_fitted r))
     → (file : ℕ) → In file r.files → changes r.move r.units file ≡ true → HasSections r file out → FitsSections (sections_of r file)
     → SaysPlaced r g (Some (given_by r.common common c.raw)) file out (fitted r file)
+
+-- each set of address ranges is of the unit of which it was, where that stands after
+pub record RangesBack (r : Run) (file : ℕ) (out : List ℕ) (raw : List RawUnit) : Type 0 where
+  pub sets : List RangeSet
+  pub before : SpellsSets (is_place_of (r.input.raw file)) sets 0 (debug_aranges (r.input.bytes file))
+  pub after : SpellsSets (is_place_of raw) (of_units sets (map (λ s. (places r).place (name_after r file s.unit)) sets)) 0 (debug_aranges out)
+
+abbrev pub RangesBackLaw : Type 0
+RangesBackLaw =
+    (r : Run) (g : Spot → Place) (common : Option (Common Place)) (out : List ℕ) → CanWrite r → IsPlacing r g
+    → (file : ℕ) → In file r.files → changes r.move r.units file ≡ true → HasSections r file out → FitsSections (sections_of r file)
+    → (says : SaysPlaced r g common file out (fitted r file)) → RangesBack r file out says.raw
 
 -- and where nothing is in the common file, also by itself
 abbrev pub AloneBackLaw : Type 0

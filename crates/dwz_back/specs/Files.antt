@@ -3,7 +3,9 @@ use Rattle.std.specs.Prelude.{◌≡◌, ℕ, zero, suc, ◌<◌, ◌^◌, true,
 use Rattle.dwz_meanings.specs.Documents.{DwUnit}
 use Rattle.dwz_docs.specs.ElfFaults.{IsElfFault}
 use Rattle.dwz_docs.specs.Units.{RawUnit}
-use Rattle.dwz_meanings.specs.Files.{around_of, debug_abbrev, debug_info, section_of, sources_of}
+use Rattle.dwz_meanings.specs.Files.{around_of, debug_abbrev, debug_aranges, debug_info, is_place_of, section_of, sources_of}
+use Rattle.dwz_meanings.specs.Patching.{with_units}
+use Rattle.dwz_meanings.specs.Ranges.{RangeSet, SpellsSets}
 use Rattle.dwz_meanings.specs.NamedLists.{lists_of_units}
 use Rattle.dwz_meanings.specs.Shared.{NamedList}
 use Rattle.dwz_writing.specs.Meant.{AreRenumbered, Tells, all_entry_keys}
@@ -138,8 +140,14 @@ tells_common r = record {
 
 -- ---- what files hold that were made so
 
--- A file without a fault has these two sections; in its location lists stand the numbers of where things stand; and it has the other
--- sections of which values speak as they were read. Its texts are few.
+-- each set of address ranges has the offset of the same unit where it stands after, and else the bytes that were there (DWARF 5, 6.1.2)
+pub record AreRanged (r : Run) (file : ℕ) (new : List ℕ) : Type 0 where
+  pub sets : List RangeSet
+  pub spelled : SpellsSets (is_place_of (r.input.raw file)) sets 0 (debug_aranges (r.input.bytes file))
+  pub are : new ≡ with_units sets (map (λ s. (places r).place (name_after r file s.unit)) sets) (debug_aranges (r.input.bytes file))
+
+-- A file without a fault has these two sections; in its location lists and in its address ranges stand the numbers of where things
+-- stand; and it has the other sections of which values speak as they were read. Its texts are few.
 pub record HasSections (r : Run) (file : ℕ) (out : List ℕ) : Type 0 where
   pub elf : (f : _) → IsElfFault out f → ⊥
   pub info : debug_info out ≡ (sections_of r file).info
@@ -149,16 +157,18 @@ pub record HasSections (r : Run) (file : ℕ) (out : List ℕ) : Type 0 where
   pub offsets : (sources_of out).offsets ≡ (sources r file).offsets
   pub line : (sources_of out).line ≡ (sources r file).line
   pub lists : AreRenumbered (places r) (tells r file) (sources_of out).lists
+  pub ranges : AreRanged r file (debug_aranges out)
   pub small : length (section_of out 3) < 2 ^ 32
 
 -- `.debug_str` of the common file, which has no other section that values speak of
 abbrev pub common_sources : List (List ℕ) → Sources
 common_sources texts = record { strs = texts_bytes texts; line_strs = []; offsets = []; line = []; lists = [] }
 
--- a common file without a fault, that has these two sections, and texts
+-- a common file without a fault, that has these two sections, and texts; it has no address ranges
 pub record HasCommon (out : List ℕ) (s : UnitSections) (texts : List (List ℕ)) : Type 0 where
   pub elf : (f : _) → IsElfFault out f → ⊥
   pub info : debug_info out ≡ s.info
   pub abbrevs : debug_abbrev out ≡ s.abbrevs
   pub sources : sources_of out ≡ common_sources texts
+  pub ranges : debug_aranges out ≡ []
   pub small : length (section_of out 3) < 2 ^ 32

@@ -1,5 +1,5 @@
 -- All files that read can be written, and read back together.
-use Rattle.std.proofs.Common.{◌≡◌, ℕ, suc, Bool, true, false, List, [], ◌∷◌, map, Option, Some, refl, sym, ap, subst, arith, inl, inr}
+use Rattle.std.proofs.Common.{◌≡◌, ℕ, suc, Bool, true, false, List, [], ◌∷◌, map, Option, Some, None, refl, sym, ap, subst, arith, inl, inr}
 use Rattle.dwz_docs.specs.Lists.{In}
 use Rattle.dwz_docs.specs.Trees.{End, Entry}
 use Rattle.dwz_meanings.specs.Documents.{Attr, Doc, DwUnit, Entries, Node, unit_map}
@@ -46,6 +46,7 @@ use Rattle.dwz_back.proofs.ReadPlaces.{read_from}
 use Rattle.dwz_back.proofs.SameLemmas.{same_back}
 use Rattle.dwz_back.proofs.SaysLemmas.{common_back, file_back, ranges_back}
 use Rattle.dwz_back.proofs.RangeLemmas.{named_at, stand_after}
+use Rattle.dwz_back.proofs.StillLists.{still_none}
 use Rattle.dwz_back.proofs.StillMeans.{units_there}
 use Rattle.dwz_back.proofs.StillPlaces.{back_old, back_place, back_placing}
 use Rattle.dwz_back.proofs.WithinLemmas.{within}
@@ -228,6 +229,7 @@ module _ (scope : Scope) (docs : List (Doc ℕ)) (input : Stored) (are : AreRead
           forms = refl;
           spelled = units_again (debug_abbrev (input.bytes file)) (given o.limits.entries) refl (input.raw file) 0 0 (debug_info (input.bytes file)) o.reads.spelled;
           ranges = o.reads.ranges;
+          lists = still_none (sources_of (input.bytes file)) _ (at_file file) common (λ n. n) None (input.raw file) o.reads.lists;
           means = units_there (at_file file) common (around_of (input.bytes file) (input.raw file)) refl (input.raw file) doc.units o.reads.means;
         };
       }

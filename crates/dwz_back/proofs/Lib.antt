@@ -23,5 +23,6 @@ pub mod CommonLemmas
 pub mod ReadMode
 pub mod StillMeans
 pub mod StillPlaces
+pub mod StillLists
 pub mod AllLemmas
 pub mod OneLemmas

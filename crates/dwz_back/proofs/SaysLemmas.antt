@@ -25,6 +25,7 @@ use Rattle.dwz_writing.specs.Sound.{SoundUnit}
 use Rattle.dwz_writing.specs.Writing.{Numbering, tables_of}
 use Rattle.dwz_writing.proofs.Chosen.{fit_units_all, fit_units_fixed, units_good}
 use Rattle.dwz_writing.proofs.Places.{numbering_stands}
+use Rattle.dwz_writing.proofs.ListsAgain.{units_share_none}
 use Rattle.dwz_writing.proofs.PoolLemmas.{units_texts}
 use Rattle.dwz_writing.proofs.RawUnits.{raw_units}
 use Rattle.dwz_writing.proofs.Rising.{entries_are_keys, place_within}
@@ -140,6 +141,7 @@ module _ (r : Run) (can : CanWrite r) (g : Spot → Place) (ok : IsPlacing r g) 
           spelled = subst (λ (info : List ℕ). SpellsUnits (debug_abbrev bytes) mode 0 raw 0 info) (sym s.info) (subst (λ (abbrevs : List ℕ). SpellsUnits abbrevs mode 0 raw 0 (sections n units).info) (sym s.abbrevs) spells);
           means = meant;
           ranges = record { sets = sets.0; spelled = sets.1 };
+          lists = units_share_none n g (tables_of [] units) t (units_keys units) (around_in common number bytes raw) around (λ k there. entries_are_keys units k (subst (In k) s.all there)) units (λ k there. there) s.good.0 fit s.good.1;
         };
         entries = entries;
       }

@@ -26,6 +26,7 @@ use Rattle.dwz_writing.specs.Meant.{Tells, all_entry_keys, placed_units}
 use Rattle.dwz_writing.specs.Placing.{FitsSections, Forms, fit_units}
 use Rattle.dwz_writing.specs.Writing.{Numbering}
 use Rattle.dwz_back.specs.Files.{HasCommon, HasSections, Run, Stored, common_fitted, common_forms, common_sections, file_forms, fitted, name_after, place_of, places, sections_of, sources, tells, tells_common, texts}
+use Rattle.dwz_meanings.specs.NamedLists.{lists_of_units}
 use Rattle.dwz_meanings.specs.Shared.{NoneShared}
 use Rattle.dwz_meanings.specs.Patching.{of_units}
 use Rattle.dwz_meanings.specs.Ranges.{RangeSet, SpellsSets}
@@ -40,8 +41,8 @@ abbrev pub around_in : Option (Common Place) → ℕ → List ℕ → List RawUn
 around_in common number bytes raw = record { sources = sources_of bytes; all = all_places raw; place = at_file number; common = common }
 
 -- The file with a number has no fault of an ELF file; its units, of which some may be partial, with the forms that lead to a common
--- file, are spelled, and mean these. Each set of address ranges is of one of the units that aren't partial. No limit on depth or on
--- entries is asked of it.
+-- file, are spelled, and mean these. Each set of address ranges is of one of the units that aren't partial; and no location list shares
+-- a byte with an operand of another. No limit on depth or on entries is asked of it.
 pub record SaysUnits (common : Option (Common Place)) (number : ℕ) (bytes : List ℕ) (raw : List RawUnit) (units : List (DwUnit Place)) : Type 0 where
   pub elf : (f : _) → IsElfFault bytes f → ⊥
   pub mode : Mode
@@ -51,6 +52,7 @@ pub record SaysUnits (common : Option (Common Place)) (number : ℕ) (bytes : Li
   pub spelled : SpellsUnits (debug_abbrev bytes) mode 0 raw 0 (debug_info bytes)
   pub means : MeanUnits (around_in common number bytes raw) raw units
   pub ranges : HaveGoodRanges bytes raw
+  pub lists : NoneShared (lists_of_units (around_in common number bytes raw) raw)
 
 -- ---- what is asked of a run, so that what it writes reads back
 

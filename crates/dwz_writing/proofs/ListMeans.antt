@@ -12,7 +12,7 @@ use Rattle.dwz_meanings.specs.Exprs.{AreNamed, Expression, parts_from, parts_of}
 use Rattle.dwz_meanings.specs.Meanings.{Class, MeansValue, OfListIndex, OfOffset, Scope, class_of, entries_for, expr_context, leads_to, loclists_base, number_of, offset_of, target_of, targets}
 use Rattle.dwz_meanings.specs.NamedLists.{NamesAs, NamesList}
 use Rattle.dwz_meanings.specs.Patching.{AllFit, FitsIn}
-use Rattle.dwz_meanings.specs.PatchedLists.{CanHave, IsPatched, NamesAlike, list_value, with_number}
+use Rattle.dwz_meanings.specs.PatchedLists.{CanHave, IsPatched, NamesAlike, list_value, named_with, with_number}
 use Rattle.dwz_meanings.specs.Shared.{NamedList, operands_of, own_operands}
 use Rattle.dwz_meanings.proofs.NamedAgain.{names_again}
 use Rattle.dwz_alike.specs.Alike.{joined_parts}
@@ -127,9 +127,13 @@ module _ {K P : Type 0} (n : Numbering K) (g : K → P) (unit : ℕ) (t : Tells 
   same_refs (o ∷ os) h =
       ap (λ (p : P). p ∷ targets s (map (with_number number) os)) (ap s.around.place h.0.leads ∙ h.0.place) ∙ ap (λ (w : List P). g (key o) ∷ w) (same_refs os h.1)
 
-  -- an attribute that stores the same number names the list with its new numbers
-  pub list_means : ListFits n unit a.value.plain a.value.refs → (b : RawAttr) → b.pair.form ≡ a.form → b.pair.name ≡ a.name → number_of b.raw ≡ a.raw → MeansValue s b (value_map g a.value)
-  list_means fits b form name raw =
+  -- the list with its new numbers, as one of this unit
+  abbrev pub again : NamedList
+  again = named_with (λ u. s.unit) number l
+
+  -- an attribute that stores the same number names it, and means that
+  both : ListFits n unit a.value.plain a.value.refs → (b : RawAttr) → b.pair.form ≡ a.form → b.pair.name ≡ a.name → number_of b.raw ≡ a.raw → NamesList s b again × MeansValue s b (value_map g a.value)
+  both fits b form name raw =
       let exprs = l.list.exprs in
       let fits' = subst (OperandsFit n unit (joined_parts (map parts_of exprs))) says.refs (subst (λ (p : Plain). ListFits n unit p a.value.refs) says.plain fits) in
       let stands = subst (OperandsIn t own (joined_parts (map parts_of exprs))) says.refs says.operands in
@@ -137,7 +141,16 @@ module _ {K P : Type 0} (n : Numbering K) (g : K → P) (unit : ℕ) (t : Tells 
       let alike : NamesAlike says.scope s says.old b = record { form = form ∙ sym says.form; name = name ∙ sym says.name; offset = ap reach (raw ∙ sym says.raw); base = is.lists_base ∙ sym says.base } in
       let patched = subst (λ (w : List ℕ). IsPatched t.named number w s.around.sources.lists) (sym says.section) is.lists.patched in
       let can : CanHave (expr_context s 7) number l = record { fit = fit_in (own_operands l) lead; named = named_in (own_operands l) lead } in
-      let means = (names_again t.named number says.scope s says.old b l is.none_shared says.there patched can alike says.names).1 in
+      let named = names_again t.named number says.scope s says.old b l is.none_shared says.there patched can alike says.names in
       let refs = same_refs (own_operands l) lead ∙ ap (map g) (sym says.refs) in
       let same : list_value s number l ≡ value_map g a.value = ap (λ (w : List P). record { plain = Loc (map parts_of exprs); refs = w }) refs ∙ ap (λ (p : Plain). record { plain = p; refs = map g a.value.refs }) (sym says.plain) in
-      subst (MeansValue s b) same means
+      (named.0, subst (MeansValue s b) same named.1)
+
+  pub list_means : ListFits n unit a.value.plain a.value.refs → (b : RawAttr) → b.pair.form ≡ a.form → b.pair.name ≡ a.name → number_of b.raw ≡ a.raw → MeansValue s b (value_map g a.value)
+  list_means fits b form name raw = (both fits b form name raw).1
+
+  pub list_again : ListFits n unit a.value.plain a.value.refs → (b : RawAttr) → b.pair.form ≡ a.form → b.pair.name ≡ a.name → number_of b.raw ≡ a.raw → NamesList s b again
+  list_again fits b form name raw = (both fits b form name raw).0
+
+  pub unit_again : n.place (t.name l.unit) ≡ s.unit
+  unit_again = ap n.place (ap t.name (names_unit says.scope says.old l says.names) ∙ says.unit) ∙ is.own_at ∙ sym is.unit

@@ -193,6 +193,10 @@ rows_long (path ∷ paths) =
     let rest = rows_long paths in
     omega (arith, rest, length-append (path ++ 0 ∷ 0 ∷ []) (rows_bytes paths), length-append path (0 ∷ 0 ∷ []))
 
+paths_long : (paths : List (List ℕ)) → length paths ≤ length (with_row_0 paths)
+paths_long [] = omega arith
+paths_long (path ∷ paths) = omega arith
+
 and_so : (a b : Bool) → a ≡ true → b ≡ true → (a && b) ≡ true
 and_so true b e f = f
 and_so false b e f = absurd cc
@@ -270,6 +274,10 @@ module _ (paths : List (List ℕ)) (some : 0 < length paths) (are : AreTexts pat
   few_rows =
       let long = rows_long rows in
       omega (arith, long, bytes_len, short, length-append ((standard ++ one_directory) ++ file_formats) (uleb (length rows) ++ rows_bytes rows), length-append (uleb (length rows)) (rows_bytes rows))
+
+  -- there are few paths
+  pub header_many : length paths < 2 ^ 32
+  header_many = (let long = paths_long paths in let few = rows_long rows in omega (arith, long, few, bytes_len, short, length-append ((standard ++ one_directory) ++ file_formats) (uleb (length rows) ++ rows_bytes rows), length-append (uleb (length rows)) (rows_bytes rows)))
 
   all_tables : Tables
   all_tables = tables_with dirs_table (files_table rows)

@@ -18,7 +18,7 @@ use Rattle.dwz_docs.proofs.WrittenLemmas.{same_shape}
 use Rattle.dwz_writing.specs.Carried.{CameFrom, CarriedAttr, Imports, NamesLines, NumbersFile}
 use Rattle.dwz_writing.specs.Bases.{Bases}
 use Rattle.dwz_writing.specs.Meant.{AttrSays, FileSays, Own, SaysAs, Tells, WasRead}
-use Rattle.dwz_writing.specs.Placing.{Chosen, Fit, as_entry, as_read, fit_as, fit_attr, with_form, zeros}
+use Rattle.dwz_writing.specs.Placing.{Chosen, Fit, as_constant, as_entry, as_file, as_read, fit_as, fit_attr, with_form, zeros}
 use Rattle.dwz_writing.specs.Sound.{HasBytes, IsBuiltAs, SoundAttr, StoresAs}
 use Rattle.dwz_writing.specs.Writing.{block_in, expr_bytes, pair_of, text_in}
 use Rattle.dwz_writing.proofs.ValuesMean.{not_so, plain_is, so_not}
@@ -84,7 +84,7 @@ pub record Filed {K : Type 0} (from : Sources → Type 0) (origin : Bases) (a : 
   pub file : from sources
   pub numbers : NumbersFile a
   pub says : FileSays (texts_of sources) sources.line origin.line a
-  pub stays : (f : Fit K) → fit_attr f a ≡ a
+  pub chosen : (f : Fit K) → fit_attr f a ≡ with_form a (as_file f.holder f a)
   pub sound : SoundAttr a
 
 -- an expression
@@ -225,10 +225,10 @@ module _ {K : Type 0} (from : Sources → Type 0) (origin : Bases) (a : Attr K) 
     file = came.file;
     numbers = (e, names);
     says = subst (λ (o : Option ℕ). FileSays (texts_of w.scope.around.sources) w.scope.around.sources.line o a) (ap (λ (b : Bases). b.line) came.unit) (file_by (stmt_list w.scope) (so (names_file old.pair.name) _ _ (ap names_file same_name ∙ names) m));
-    stays = λ f. ap (λ (d : Class). with_form a (fit_as d f a)) e;
+    chosen = λ f. ap (λ (d : Class). with_form a (fit_as d f a)) e ∙ ap (λ (b : Bool). with_form a (as_constant b f a)) names;
     sound = other_sound (subst (λ (d : Class). StoresAs d a) (sym e) (number OfConstant e refl (λ x. cc) has_bytes));
   }))))
-  constant e false names m = inr (inr (inr (inr (inr (inr (other OfConstant e (λ f. refl) (number OfConstant e refl (λ x. cc)) (λ r t own. so_not (names_file a.name) _ _ names r)))))))
+  constant e false names m = inr (inr (inr (inr (inr (inr (other OfConstant e (λ f. ap (λ (b : Bool). as_constant b f a) names) (number OfConstant e refl (λ x. cc)) (λ r t own. so_not (names_file a.name) _ _ names r)))))))
 
   plain_is_expr : (m : IsExpression w.scope old w.read.value) → a.value.plain ≡ Expr (parts_of m.expression)
   plain_is_expr m = ap (λ (v : Value K). v.plain) same_value ∙ ap (λ (v : Value ℕ). v.plain) m.value

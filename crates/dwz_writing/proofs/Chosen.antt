@@ -7,10 +7,11 @@ use Rattle.dwz_meanings.specs.Meanings.{Class, OfListIndex, OfOffset, Sources, n
 use Rattle.dwz_docs.specs.Trees.{End, Entry}
 use Rattle.dwz_seen.specs.Lists.{Each}
 use Rattle.dwz_writing.specs.Bases.{Bases, bases_in, offset_in}
-use Rattle.dwz_writing.specs.Carried.{ApartIn, BasesStand, CarriedAttr, CarriedEntries, CarriedUnit, ClosedIn, AttrOperands, ComesFromItself, ExprIn, FileStands, OperandsStand, OperandsStandAs, SectionsStand, UnitTexts}
+use Rattle.dwz_writing.specs.Carried.{ApartIn, AttrPaths, AttrTexts, BasesStand, CarriedAttr, CarriedEntries, CarriedUnit, ClosedIn, AttrOperands, ComesFromItself, ExprIn, FileStands, OperandsStand, OperandsStandAs, SectionsStand, UnitPaths, UnitTexts}
+use Rattle.dwz_meanings.specs.LinesWritten.{AreTexts}
 use Rattle.dwz_writing.specs.Fitting.{EachAttr}
 use Rattle.dwz_writing.specs.Meant.{AttrSays, EntriesSay, KindSays, NodeSays, Own, SaysAs, Tells, UnitSays, UnitsSay, all_entry_keys, entry_keys, own_of}
-use Rattle.dwz_writing.specs.Placing.{FileFit, Fit, Forms, Holder, fit, fit_as, fit_attr, fit_node, fit_unit, fit_units, has_key, holder_of, reach_by, ref_form, texts_bytes, unit_fit, with_form, with_keys}
+use Rattle.dwz_writing.specs.Placing.{FileFit, Fit, Forms, Holder, fit, fit_as, fit_attr, fit_node, fit_unit, fit_units, has_key, holder_of, lines_bytes, reach_by, ref_form, texts_bytes, unit_fit, with_form, with_keys}
 use Rattle.dwz_seen.specs.Shown.{unit_keys, units_keys}
 use Rattle.dwz_seen.specs.Seen.{Seen, all_seen, see, seen_below, seen_roots}
 use Rattle.dwz_writing.specs.Sound.{SoundAttr, SoundEntries, SoundUnit}
@@ -65,7 +66,7 @@ module _ {K : Type 0} (f : FileFit K) (is : IsSame f.same) (from : Sources → T
   own = own_of u
 
   abbrev At : Attr K → Type 0
-  At a = AttrAt (holder_of f.is_common u.kind) f.texts (bases_in u).line (f.origin u.at).line a × AttrOperands t own a
+  At a = AttrAt (holder_of f.is_common u.kind) f.texts f.paths (bases_in u).line (f.origin u.at).line a × AttrOperands t own a
 
   -- a name of the unit that is an entry's is one of the unit's entries
   inside : (k : K) → In k t.all ⊎ In k t.common → has_key f.same k (unit_keys u) ≡ true → In k (entry_keys u)
@@ -105,7 +106,7 @@ module _ {K : Type 0} (f : FileFit K) (is : IsSame f.same) (from : Sources → T
       | inr more ↦ elim more [
         | inl s ↦ slot_good from (f.origin u.at) t small own a s (holder_of f.is_common u.kind) x refl refl itself sections_at at.0.0
         | inr last ↦ elim last [
-          | inl n ↦ file_good from (f.origin u.at) t own a n (holder_of f.is_common u.kind) x itself sections_at at.0.1
+          | inl n ↦ file_good from (f.origin u.at) t own a n (holder_of f.is_common u.kind) x refl itself sections_at at.0.0 at.0.1
           | inr other ↦ elim other [
             | inl k ↦ expression_good a k at.1
             | inr final ↦ elim final [
@@ -157,21 +158,22 @@ module _ {K : Type 0} (f : FileFit K) (is : IsSame f.same) (from : Sources → T
 
 -- ---- the units of a file
 
-sections_common : {K : Type 0} (kind : Kind K) (from : Sources → Type 0) (f : Forms K) (x : Fit K) (t : Tells K) (units : List (DwUnit K)) (b : Bool) → f.texts ≡ x.texts → f.offsets ≡ x.offsets → SectionsStand b from f t units → SectionsAt (holder_of b kind) from x t
-sections_common kind from f x t units true texts offsets at = at.1 ∙ ap texts_bytes texts
-sections_common Compile from f x t units false texts offsets at = subst (λ (w : List ℕ). SourcesAt from w t) offsets at.1
-sections_common (OfType signature main) from f x t units false texts offsets at = subst (λ (w : List ℕ). SourcesAt from w t) offsets at.1
-sections_common Partial from f x t units false texts offsets at = subst (λ (w : List ℕ). SourcesAt from w t) offsets at.1
+sections_common : {K : Type 0} (kind : Kind K) (from : Sources → Type 0) (f : Forms K) (x : Fit K) (t : Tells K) (units : List (DwUnit K)) (b : Bool) → f.texts ≡ x.texts → f.paths ≡ x.paths → f.offsets ≡ x.offsets → SectionsStand b from f t units → SectionsAt (holder_of b kind) from x t
+sections_common kind from f x t units true texts paths offsets at =
+    record { strs = at.1.strs ∙ ap texts_bytes texts; line = at.1.line ∙ ap lines_bytes paths; few = at.1.few; are_texts = subst AreTexts paths at.1.are_texts }
+sections_common Compile from f x t units false texts paths offsets at = subst (λ (w : List ℕ). SourcesAt from w t) offsets at.1
+sections_common (OfType signature main) from f x t units false texts paths offsets at = subst (λ (w : List ℕ). SourcesAt from w t) offsets at.1
+sections_common Partial from f x t units false texts paths offsets at = subst (λ (w : List ℕ). SourcesAt from w t) offsets at.1
 
 small_strs : {K : Type 0} (from : Sources → Type 0) (f : Forms K) (t : Tells K) (units : List (DwUnit K)) (b : Bool) → SectionsStand b from f t units → length t.strs < 2 ^ 32
 small_strs from f t units true at = at.0
 small_strs from f t units false at = at.0
 
--- the texts of the common file, and no others, are asked for
-text_for : {K : Type 0} (kind : Kind K) (texts : List (List ℕ)) (a : Attr K) → TextFor (holder_of false kind) texts a
-text_for Compile texts a = tt
-text_for (OfType signature main) texts a = tt
-text_for Partial texts a = tt
+-- the texts and paths of the common file, and no others, are asked for
+text_for : {K : Type 0} (kind : Kind K) (texts paths : List (List ℕ)) (a : Attr K) → TextFor (holder_of false kind) texts paths a
+text_for Compile texts paths a = tt
+text_for (OfType signature main) texts paths a = tt
+text_for Partial texts paths a = tt
 
 module _ {K : Type 0} (P Q R : Attr K → Type 0) (join : (a : Attr K) → P a → Q a → R a) where
   pub join_attrs : (attrs : List (Attr K)) → Each P attrs → Each Q attrs → Each R attrs
@@ -191,13 +193,16 @@ module _ {K : Type 0} (P : Attr K → Type 0) (all : (a : Attr K) → P a) where
   all_entries End = tt
   all_entries (Entry e children next) = (all_attrs e.attrs, all_entries children, all_entries next)
 
-record TextsFor {K : Type 0} (h : Holder) (texts : List (List ℕ)) (u : DwUnit K) : Type 0 where
-  root : Each (TextFor h texts) u.root.attrs
-  below : EachAttr (TextFor h texts) u.below
+record TextsFor {K : Type 0} (h : Holder) (texts paths : List (List ℕ)) (u : DwUnit K) : Type 0 where
+  root : Each (TextFor h texts paths) u.root.attrs
+  below : EachAttr (TextFor h texts paths) u.below
 
-texts_for : {K : Type 0} (u : DwUnit K) (from : Sources → Type 0) (f : Forms K) (t : Tells K) (units : List (DwUnit K)) (b : Bool) → In u units → SectionsStand b from f t units → TextsFor (holder_of b u.kind) f.texts u
-texts_for u from f t units true there at = (let is = each_in (UnitTexts f.texts) u units at.2 there in record { root = is.0; below = is.1 })
-texts_for u from f t units false there at = record { root = all_attrs _ (text_for u.kind f.texts) u.root.attrs; below = all_entries _ (text_for u.kind f.texts) u.below }
+texts_for : {K : Type 0} (u : DwUnit K) (from : Sources → Type 0) (f : Forms K) (t : Tells K) (units : List (DwUnit K)) (b : Bool) → In u units → SectionsStand b from f t units → TextsFor (holder_of b u.kind) f.texts f.paths u
+texts_for u from f t units true there at =
+    let is = each_in (UnitTexts f.texts) u units at.1.texts there in
+    let are = each_in (UnitPaths f.paths) u units at.1.paths there in
+    record { root = join_attrs (AttrTexts f.texts) (AttrPaths f.paths) _ (λ a p q. (p, q)) u.root.attrs is.0 are.0; below = join_entries (AttrTexts f.texts) (AttrPaths f.paths) _ (λ a p q. (p, q)) u.below is.1 are.1 }
+texts_for u from f t units false there at = record { root = all_attrs _ (text_for u.kind f.texts f.paths) u.root.attrs; below = all_entries _ (text_for u.kind f.texts f.paths) u.below }
 
 keys_within : {K : Type 0} (units : List (DwUnit K)) (u : DwUnit K) → In u units → (k : K) → In k (unit_keys u) → In k (units_keys units)
 unfolding units_keys
@@ -222,12 +227,12 @@ module _ {K : Type 0} (f : Forms K) (is : IsSame f.same) (from : Sources → Typ
       let exprs = each_in (OperandsStand t) u units operands there in
       let texts = texts_for u from f t units f.is_common there stand in
       let h = holder_of f.is_common u.kind in
-      unit_good file is from t (small_strs from f t units f.is_common stand) u within apart inside alone (sections_common u.kind from f (unit_fit file u) t units f.is_common refl refl stand) own.own
+      unit_good file is from t (small_strs from f t units f.is_common stand) u within apart inside alone (sections_common u.kind from f (unit_fit file u) t units f.is_common refl refl refl stand) own.own
       (each_in (λ v. CarriedUnit from (f.origin v.at) v) u units carried there) root below
-      (join_attrs (AttrAt h f.texts (bases_in u).line (f.origin u.at).line) (AttrOperands t (own_of u)) _ (λ a p q. (p, q)) u.root.attrs
-      (join_attrs (TextFor h f.texts) (FileStands h (bases_in u).line (f.origin u.at).line) (AttrAt h f.texts (bases_in u).line (f.origin u.at).line) (λ a p q. (p, q)) u.root.attrs texts.root own.root) exprs.0)
-      (join_entries (AttrAt h f.texts (bases_in u).line (f.origin u.at).line) (AttrOperands t (own_of u)) _ (λ a p q. (p, q)) u.below
-      (join_entries (TextFor h f.texts) (FileStands h (bases_in u).line (f.origin u.at).line) (AttrAt h f.texts (bases_in u).line (f.origin u.at).line) (λ a p q. (p, q)) u.below texts.below own.below) exprs.1)
+      (join_attrs (AttrAt h f.texts f.paths (bases_in u).line (f.origin u.at).line) (AttrOperands t (own_of u)) _ (λ a p q. (p, q)) u.root.attrs
+      (join_attrs (TextFor h f.texts f.paths) (FileStands h (bases_in u).line (f.origin u.at).line) (AttrAt h f.texts f.paths (bases_in u).line (f.origin u.at).line) (λ a p q. (p, q)) u.root.attrs texts.root own.root) exprs.0)
+      (join_entries (AttrAt h f.texts f.paths (bases_in u).line (f.origin u.at).line) (AttrOperands t (own_of u)) _ (λ a p q. (p, q)) u.below
+      (join_entries (TextFor h f.texts f.paths) (FileStands h (bases_in u).line (f.origin u.at).line) (AttrAt h f.texts f.paths (bases_in u).line (f.origin u.at).line) (λ a p q. (p, q)) u.below texts.below own.below) exprs.1)
 
   each_good : (some : List (DwUnit K)) → ((u : DwUnit K) → In u some → In u units) → Each SoundUnit (map (fit_unit file) some) × Each (UnitSays t) (map (fit_unit file) some)
   each_good [] into = (tt, tt)

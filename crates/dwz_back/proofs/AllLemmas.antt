@@ -20,7 +20,7 @@ use Rattle.dwz_same.specs.Units.{all_units, changes, common_units, out_units, pa
 use Rattle.dwz_same.proofs.FileLemmas.{files_same, replaced}
 use Rattle.dwz_same.proofs.HeldLemmas.{part_found, row_found}
 use Rattle.dwz_writing.specs.Bases.{Bases, bases_in}
-use Rattle.dwz_writing.specs.Carried.{CarriedAttr, CarriedEntries, CarriedNode, CarriedUnit, OfAny, OfFile, OperandsStand}
+use Rattle.dwz_writing.specs.Carried.{BasesStand, CarriedAttr, CarriedEntries, CarriedNode, CarriedUnit, OfAny, OfFile, OperandsStand}
 use Rattle.dwz_writing.specs.Fitting.{UnitHasRoom}
 use Rattle.dwz_writing.specs.Meant.{all_entry_keys}
 use Rattle.dwz_writing.specs.Placing.{fit_units}
@@ -28,12 +28,12 @@ use Rattle.dwz_writing.proofs.CarriedMaps.{unit_carried}
 use Rattle.dwz_back.specs.AllFiles.{AreMade, AreOver, AreRead, IsRead, ReadBack, SaysStill}
 use Rattle.dwz_back.specs.Carrying.{RootsCarried}
 use Rattle.dwz_back.specs.Back.{CanWrite, IsReady, WasReadFrom, given_by, run_of}
-use Rattle.dwz_back.specs.Files.{Run, Stored, common_forms, file_forms, fitted, lists_named, origin_in, places, sources, tells, tells_common}
+use Rattle.dwz_back.specs.Files.{Run, Stored, common_forms, file_forms, fitted, lists_named, origin_in, paths, places, sources, tells, tells_common, texts}
 use Rattle.dwz_back.proofs.BasesLemmas.{out_bases}
 use Rattle.dwz_back.proofs.CommonLemmas.{common_within}
 use Rattle.dwz_back.proofs.FreeOperands.{UnitAsksNone, asks_operands, asks_room, home_asks}
-use Rattle.dwz_back.proofs.HomeLemmas.{parts_from}
-use Rattle.dwz_back.proofs.LineLemmas.{local_roots, part_bases}
+use Rattle.dwz_back.proofs.HomeLemmas.{parts_from, top_file}
+use Rattle.dwz_back.proofs.LineLemmas.{common_bases, local_roots, part_bases}
 use Rattle.dwz_back.proofs.NameLemmas.{fitted_entries}
 use Rattle.dwz_back.proofs.OutOperands.{out_operands}
 use Rattle.dwz_back.proofs.OriginLemmas.{bases_mapped, part_origin}
@@ -169,16 +169,17 @@ module _ (scope : Scope) (docs : List (Doc ℕ)) (input : Stored) (are : AreRead
   unfolding fitted
   file_ready file there changed =
       let carried = out_carried (OfFile (sources r file)) scope (units_of docs) rule is choice r.files whole.old whole.held file (file_origins file)
-      (local_roots (OfFile (sources r file)) scope (units_of docs) rule is choice r.files whole.old whole.held file (file_origins file)) in
+      (local_roots (OfFile (sources r file)) scope (units_of docs) rule is choice r.files whole.old whole.held (λ x. x ≡ file) (file_origins file) file refl) in
       record {
         carried = carried;
         closed = within scope docs rule placed is choice input file;
         over = record {
           bases = out_bases r file whole.old
-              (λ n part nth home. part_bases (OfFile (sources r file)) scope (units_of docs) rule is choice r.files whole.old whole.held file (file_origins file) n part nth home (file_forms r file).texts (file_forms r file).offsets);
+              (λ n part nth home. part_bases (OfFile (sources r file)) scope (units_of docs) rule is choice r.files whole.old whole.held (λ x. x ≡ file) (file_origins file) n part nth
+              (top_file scope (units_of docs) rule is choice r.files file n part nth home) file home (file_forms r file).texts (file_forms r file).paths (file_forms r file).offsets);
           lists = file_lists file there;
           operands = file_operands file carried;
-          room = over.file file there changed;
+          room = over file there changed;
         };
       }
 
@@ -193,6 +194,15 @@ module _ (scope : Scope) (docs : List (Doc ℕ)) (input : Stored) (are : AreRead
       o.number o.part o.nth (origin_in r.move r.units (PartialOf o.number)) (common_roots rule (units_of docs) r.files o.number o.part o.nth o.home_is)
       (part_spaces OfAny scope (units_of docs) rule is choice r.files o.number o.part o.nth (λ t in_part i u nth of. any_unit (OfFile (sources_of (input.bytes u.file))) (bases_in u.unit) u.unit (unit_read i u nth))) (part_origin scope (units_of docs) rule is choice r.files o.number o.part o.nth)
       (λ names t there in_part. tt) holds)))
+
+  any_origins : (i : ℕ) (u : FileUnit Spot) → Nth 0 (units_of docs) i u → Unit {0} → CarriedUnit OfAny (bases_in u.unit) u.unit
+  any_origins i u nth of = any_unit (OfFile (sources_of (input.bytes u.file))) (bases_in u.unit) u.unit (unit_read i u nth)
+
+  bases_common : Each (BasesStand (common_forms r)) (common_units r.move)
+  unfolding common_units
+  bases_common = each_of (BasesStand (common_forms r)) (partial_units r.move Common 0 r.move.parts) (λ v there.
+      (let o = parts_from r.move Common 0 r.move.parts v there in
+      subst (BasesStand (common_forms r)) o.is (common_bases OfAny scope (units_of docs) rule is choice r.files whole.old whole.held (λ x. Unit {0}) any_origins o.number o.part o.nth (λ t in_part. tt) o.home_is (texts r) (paths r) [])))
 
   common_asks : Each UnitAsksNone (common_units r.move)
   unfolding common_units
@@ -211,7 +221,7 @@ module _ (scope : Scope) (docs : List (Doc ℕ)) (input : Stored) (are : AreRead
     common = record {
       carried = common_carried;
       closed = common_within scope docs rule placed is choice input;
-      over = record { bases = over.common; lists = none_named; operands = each_more UnitAsksNone (OperandsStand (tells_common r)) (common_units r.move) (asks_operands (tells_common r)) common_asks; room = common_room };
+      over = record { bases = bases_common; lists = none_named; operands = each_more UnitAsksNone (OperandsStand (tells_common r)) (common_units r.move) (asks_operands (tells_common r)) common_asks; room = common_room };
     };
   }
 

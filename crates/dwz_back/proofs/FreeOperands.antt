@@ -6,7 +6,7 @@ use Rattle.dwz_docs.specs.Trees.{End, Entry}
 use Rattle.dwz_meanings.specs.declared.exprs.Operand.{Operand}
 use Rattle.dwz_meanings.specs.Documents.{Attr, DwUnit, Entries, Expr, Loc, Node, Part, Plain, Sec, Text, Value, attr_map, node_map, only, value_map}
 use Rattle.dwz_meanings.specs.Exprs.{Expression, parts_from, parts_of}
-use Rattle.dwz_meanings.specs.Meanings.{Class, IsExpression, IsListBySlot, MeansAs, OfCommonEntry, OfExpression, OfInfoEntry, OfListIndex, OfOffset, OfTextBySlot, OfTextInLineStr, OfTextInStr, OfUnitEntry, Sources, class_in, class_of, class_rows, names_list, offset_of, targets}
+use Rattle.dwz_meanings.specs.Meanings.{Class, IsExpression, IsListBySlot, MeansAs, OfCommonEntry, OfConstant, OfExpression, OfInfoEntry, OfListIndex, OfOffset, OfTextBySlot, OfTextInLineStr, OfTextInStr, OfUnitEntry, Sources, class_in, class_of, class_rows, names_file, names_list, offset_of, targets}
 use Rattle.dwz_seen.specs.Lists.{Each, Nth}
 use Rattle.dwz_seen.proofs.Members.{each_in, each_more, each_of}
 use Rattle.dwz_alike.specs.Alike.{IsAlike, Movable, Scope, attr_binds, binding_forms, has_address, has_operand, holds_place, is_named, is_operand, leaves}
@@ -29,7 +29,7 @@ use Rattle.dwz_writing.specs.Bases.{Bases, bases_in}
 use Rattle.dwz_writing.specs.Carried.{AttrOperands, CarriedAttr, CarriedEntries, CarriedUnit, ExprIn, OperandsStand, OperandsStandAs}
 use Rattle.dwz_writing.specs.Fitting.{EachAttr, HasRoom, HasRoomAs, OperandsHaveRoom, PlainHasRoom, UnitHasRoom}
 use Rattle.dwz_writing.specs.Meant.{OperandsIn, Own, Tells, own_of}
-use Rattle.dwz_writing.specs.Placing.{FileFit, Fit, Forms, Holder, InCommon, InFile, InUnit, CommonUnit, NewUnit, OldUnit, Reach, as_slot, as_text, fit, fit_as, fit_attr, fit_node, fit_unit, fit_units, reach_of, ref_form, unit_fit, with_form, with_keys}
+use Rattle.dwz_writing.specs.Placing.{FileFit, Fit, Forms, Holder, InCommon, InFile, InUnit, CommonUnit, NewUnit, OldUnit, Reach, as_constant, as_file, as_slot, as_text, fit, fit_as, fit_attr, fit_node, fit_unit, fit_units, reach_of, ref_form, unit_fit, with_form, with_keys}
 use Rattle.dwz_writing.specs.Writing.{Numbering}
 use Rattle.dwz_writing.proofs.CarriedMaps.{attr_carried}
 use Rattle.dwz_writing.proofs.Carrying.{import_class, no_list}
@@ -145,6 +145,16 @@ module _ {K : Type 0} (x : Fit K) (n : Numbering K) (unit : ℕ) (a : Attr K) (a
   slot_room OldUnit = asks.room n unit
   slot_room NewUnit = tt
 
+  file_room : (h : Holder) → HasRoom n unit (with_form a (as_file h x a))
+  unfolding class_rows class_in
+  file_room CommonUnit = tt
+  file_room OldUnit = asks.room n unit
+  file_room NewUnit = asks.room n unit
+
+  constant_room : (b : Bool) → HasRoom n unit (with_form a (as_constant b x a))
+  constant_room true = file_room x.holder
+  constant_room false = asks.room n unit
+
   fit_room : HasRoom n unit (fit_attr x a)
   fit_room = by (class_of a.form) where
     by : (c : Class) → HasRoom n unit (with_form a (fit_as c x a))
@@ -154,6 +164,7 @@ module _ {K : Type 0} (x : Fit K) (n : Numbering K) (unit : ℕ) (a : Attr K) (a
     by OfTextInStr = text_room x.holder
     by OfTextInLineStr = text_room x.holder
     by OfTextBySlot = slot_room x.holder
+    by OfConstant = constant_room (names_file a.name)
     by _ = asks.room n unit
 
 -- ---- all attributes of a unit
@@ -162,7 +173,7 @@ abbrev pub UnitAsksNone : {K : Type 0} → DwUnit K → Type 0
 UnitAsksNone u = Each AsksNone u.root.attrs × EachAttr AsksNone u.below
 
 module _ {K : Type 0} (P Q : Attr K → Type 0) (more : (a : Attr K) → P a → Q a) where
-  entries_more : (g : Entries K) → EachAttr P g → EachAttr Q g
+  pub entries_more : (g : Entries K) → EachAttr P g → EachAttr Q g
   entries_more End h = tt
   entries_more (Entry e children next) h = (each_more P Q e.attrs more h.0, entries_more children h.1, entries_more next h.2)
 
@@ -196,7 +207,7 @@ asks_room f n units asks = units_room (with_keys f (units_keys units)) n units a
 
 -- ---- partial units
 
-carried_attrs : {K : Type 0} (from : Sources → Type 0) (origin : Bases) (g : Entries K) → CarriedEntries from origin g → EachAttr (CarriedAttr from origin) g
+pub carried_attrs : {K : Type 0} (from : Sources → Type 0) (origin : Bases) (g : Entries K) → CarriedEntries from origin g → EachAttr (CarriedAttr from origin) g
 carried_attrs from origin End h = tt
 carried_attrs from origin (Entry e children next) h = (h.0.attrs, carried_attrs from origin children h.1, carried_attrs from origin next h.2)
 

@@ -1,4 +1,5 @@
 pub mod NameLemmas
+pub mod PathLemmas
 pub mod SaysLemmas
 pub mod SameLemmas
 pub mod ReadBuilt

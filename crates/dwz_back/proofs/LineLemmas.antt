@@ -17,9 +17,9 @@ use Rattle.dwz_alike.specs.Alike.{IsAlike, Scope as InWhich, any_attr, any_entry
 use Rattle.dwz_alike.specs.Spots.{FileUnit, PartialOf, Spot, Top, same_spot}
 use Rattle.dwz_alike.proofs.Targets.{entry_from, top_false}
 use Rattle.dwz_alike.proofs.Tops.{unit_of}
-use Rattle.dwz_moving.specs.Homes.{Home, IsChoice, Local, Rule}
+use Rattle.dwz_moving.specs.Homes.{Common, Home, IsChoice, Local, Rule}
 use Rattle.dwz_moving.specs.IsPlan.{Has, OfSpace, OfTop, SpaceOf}
-use Rattle.dwz_moving.specs.Moves.{Move, first_unit, has_path, image_in, line_attrs, line_in, line_of, names_path, plan, root_in_part, root_of}
+use Rattle.dwz_moving.specs.Moves.{Move, first_unit, has_path, image_in, line_attr, line_attrs, line_in, line_of, names_path, plan, root_in_part, root_of}
 use Rattle.dwz_moving.specs.Plan.{PartialUnit}
 use Rattle.dwz_moving.proofs.RowParts.{part_is as part_row_is}
 use Rattle.dwz_same.specs.After.{AreOld, IsBelow}
@@ -28,9 +28,9 @@ use Rattle.dwz_same.specs.Units.{partial_unit, tree}
 use Rattle.dwz_same.proofs.HeldLemmas.{part_found, row_found}
 use Rattle.dwz_same.proofs.NodeLemmas.{EntryOfTop}
 use Rattle.dwz_writing.specs.Bases.{Bases, bases_in, offset_in}
-use Rattle.dwz_writing.specs.Carried.{BasesStand, CameFrom, CarriedAttr, CarriedNode, CarriedUnit, FileStands, NamesLines, NumbersFile}
+use Rattle.dwz_writing.specs.Carried.{BasesStand, CameFrom, CarriedAttr, CarriedNode, CarriedUnit, FileStands, LineFor, NamesLines, NumbersFile}
 use Rattle.dwz_writing.specs.Fitting.{EachAttr}
-use Rattle.dwz_writing.specs.Placing.{Forms, NewUnit}
+use Rattle.dwz_writing.specs.Placing.{CommonUnit, NewUnit}
 use Rattle.dwz_writing.proofs.Carrying.{import_class, no_list, so}
 use Rattle.dwz_writing.proofs.StoredClasses.{offset_class}
 use Rattle.dwz_writing.proofs.ValuesMean.{not_so}
@@ -164,6 +164,11 @@ module _ (from : Sources → Type 0) (origin : Bases) (a : Attr Spot) where
 
 -- ---- the tops of a partial unit
 
+line_for : (line : Option ℕ) (plain : Plain) → (has_path plain ≡ true → line ≡ Some 0) → (has_path plain ≡ false → line ≡ None) → LineFor line plain
+line_for line (File (Some path)) some none = some refl
+line_for line (File None) some none = none refl
+line_for line _ some none = none refl
+
 abbrev path_attr : Attr Spot → Bool
 path_attr a = has_path a.value.plain
 
@@ -186,50 +191,32 @@ path_there tops t there is = elim (or_cases (any_attr path_attr t.node) (any_ent
       record { top = t; there = there; node = n.node; entry = inr n.there; attr = o.one; is_in = o.there; path = o.passes }
 ]
 
-module _ (from : Sources → Type 0) (scope : InWhich) (units : List (FileUnit Spot)) (rule : Rule) (is : IsAlike scope units rule.alike) (choice : IsChoice units rule) (files : List ℕ) (old : AreOld units) (held : IsHeld units (plan rule units files)) (file : ℕ)
-    (are : (i : ℕ) (u : FileUnit Spot) → Nth 0 units i u → u.file ≡ file → CarriedUnit from (bases_in u.unit) u.unit) where
+module _ (from : Sources → Type 0) (scope : InWhich) (units : List (FileUnit Spot)) (rule : Rule) (is : IsAlike scope units rule.alike) (choice : IsChoice units rule) (files : List ℕ) (old : AreOld units) (held : IsHeld units (plan rule units files)) (Good : ℕ → Type 0)
+    (are : (i : ℕ) (u : FileUnit Spot) → Nth 0 units i u → Good u.file → CarriedUnit from (bases_in u.unit) u.unit) where
   abbrev m : Move
   m = plan rule units files
 
-  module _ (n : ℕ) (part : PartialUnit) (nth : Nth 0 m.parts n part) (home : part.home ≡ Local file) where
+  module _ (n : ℕ) (part : PartialUnit) (nth : Nth 0 m.parts n part) (good : (t : Top) → In t part.tops → Good t.file) where
     abbrev origin : Bases
     origin = origin_in m units (PartialOf n)
 
     attr_carried : (t : Top) → In t part.tops → (d : Node Spot) → EntryOfTop d t → (a : Attr Spot) → In a d.attrs → CarriedAttr from origin a
     attr_carried t there d x a a_in =
         let b = ((part_is scope units rule is choice files n part nth).tops t).0 there in
-        let c = top_carried from units m old held (λ k. k ≡ file) are t b.there (top_file scope units rule is choice files file n part nth home t there) d x in
+        let c = top_carried from units m old held Good are t b.there (good t there) d x in
         each_in (CarriedAttr from origin) a d.attrs (subst (λ (w : Bases). CarriedNode from w d) (part_origin scope units rule is choice files n part nth t there) c).attrs a_in
 
-    -- the line table of the unit that its tops come from
-    record HasLine : Type 0 where
-      attr : Attr Spot
-      found : first_named 0x10 (root_of units (first_unit part.tops)) ≡ Some attr
-      form : attr.form ≡ 0x17
-      lines : NamesLines (line_of (Some attr))
-      known : origin.line ≡ Some (reach attr.raw)
+    -- an entry of a top has a path
+    path_in : names_path part ≡ true → HasPath part.tops
+    path_in paths = (let t = any_from (any_in (any_attr path_attr)) part.tops paths in path_there part.tops t.one t.there t.passes)
 
-    has_line : names_path part ≡ true → HasLine
-    has_line paths =
-        let t = any_from (any_in (any_attr path_attr)) part.tops paths in
-        let p = path_there part.tops t.one t.there t.passes in
-        let b = ((part_is scope units rule is choice files n part nth).tops p.top).0 p.there in
-        let u = unit_of units p.top b.there in
-        let line = path_table from origin p.attr (attr_carried p.top p.there p.node p.entry p.attr p.is_in) p.path in
-        let known : (bases_in u.unit.unit).line ≡ Some line.0 = ap (λ (w : Bases). w.line) (sym (bases_found units 0 p.top.unit p.top.unit u.unit u.nth (omega arith)) ∙ part_origin scope units rule is choice files n part nth p.top p.there) ∙ line.1 in
-        let g = gives (first_named 0x10 u.unit.unit.root.attrs) line.0 known in
-        let first = first_is scope units rule is choice files n part nth p.top p.there in
-        let root = root_found units 0 p.top.unit p.top.unit u.unit u.nth (omega arith) in
-        let o = first_in from (bases_in u.unit.unit) 0x10 u.unit.unit.root.attrs g.attr g.found in
-        let of_file = sym u.file_is ∙ top_file scope units rule is choice files file n part nth home p.top p.there in
-        let carried = each_in (CarriedAttr from (bases_in u.unit.unit)) g.attr u.unit.unit.root.attrs (are p.top.unit u.unit u.nth of_file).root.attrs o.0 in
-        record {
-          attr = g.attr;
-          found = ap (first_named 0x10) (ap (root_of units) (sym first) ∙ root) ∙ g.found;
-          form = g.form;
-          lines = names_lines from (bases_in u.unit.unit) g.attr carried o.1 g.form;
-          known = line.1 ∙ sym known ∙ ap offset_in g.found ∙ offset_form g.attr g.form;
-        }
+    -- so the unit of its tops has a line table
+    table_in : (p : HasPath part.tops) → (place : ℕ) × (origin.line ≡ Some place)
+    table_in p = path_table from origin p.attr (attr_carried p.top p.there p.node p.entry p.attr p.is_in) p.path
+
+    -- and no entry of a top has one
+    no_path : names_path part ≡ false → (t : Top) → In t part.tops → (d : Node Spot) → EntryOfTop d t → (a : Attr Spot) → In a d.attrs → has_path a.value.plain ≡ false
+    no_path e t there d x a a_in = any_false path_attr a d.attrs a_in (top_false (any_attr path_attr) d t x (any_false (any_in (any_attr path_attr)) t part.tops there e))
 
     root_is : m.roots n ≡ line_attrs units part
     root_is = ap (root_in_part units) (part_found 0 m.parts n n part nth (omega arith))
@@ -241,46 +228,116 @@ module _ (from : Sources → Type 0) (scope : InWhich) (units : List (FileUnit S
     unfolding line_attrs
     lines_are b e = root_is ∙ ap LinesOf e
 
-    line_is : (h : HasLine) → line_in units part.home part.tops ≡ line_of (Some h.attr)
-    line_is h = ap (λ (w : Home). line_in units w part.tops) home ∙ ap line_of h.found
-
-    roots_carried : (b : Bool) → names_path part ≡ b → Each (CarriedAttr from origin) (m.roots n)
-    roots_carried true e = (let h = has_line e in subst (Each (CarriedAttr from origin)) (sym (lines_are true e)) (inr (inr (subst NamesLines (sym (line_is h)) h.lines)), tt))
-    roots_carried false e = subst (Each (CarriedAttr from origin)) (sym (lines_are false e)) tt
-
-    -- the root says of a line table what the unit said that the tops come from, where one of them numbers a file
-    own_line : (b : Bool) → names_path part ≡ b → (t : Top) → In t part.tops → (d : Node Spot) → EntryOfTop d t → (a : Attr Spot) → In a d.attrs → NumbersFile a → (bases_in (partial_unit m n)).line ≡ origin.line
-    unfolding first_named
-    own_line true e t there d x a a_in numbers =
-        let h = has_line e in
-        ap (λ (attrs : List (Attr Spot)). offset_in (first_named 0x10 attrs)) (lines_are true e ∙ ap (λ (l : Attr Spot). l ∷ []) (line_is h)) ∙ sym h.known
-    own_line false e t there d x a a_in numbers =
-        let none = any_false path_attr a d.attrs a_in (top_false (any_attr path_attr) d t x (any_false (any_in (any_attr path_attr)) t part.tops there e)) in
-        ap (λ (attrs : List (Attr Spot)). offset_in (first_named 0x10 attrs)) (lines_are false e) ∙ sym (none_table from origin a (attr_carried t there d x a a_in) numbers none)
-
-    abbrev FileGood : Attr Spot → Type 0
-    FileGood a = FileStands NewUnit (bases_in (partial_unit m n)).line origin.line a
-
-    root_good : (b : Bool) → names_path part ≡ b → Each FileGood (m.roots n)
-    root_good true e = subst (Each FileGood) (sym (lines_are true e ∙ ap (λ (l : Attr Spot). l ∷ []) (line_is (has_line e)))) (by (first_named 0x10 (root_of units (first_unit part.tops)))) where
-      by : (o : Option (Attr Spot)) → Each FileGood (line_of (Some (has_line e).attr) ∷ [])
-      by o = ((λ numbers. absurd (let z : names_file 0x10 ≡ true = numbers.1 in cc)), tt)
-    root_good false e = subst (Each FileGood) (sym (lines_are false e)) tt
-
-    below_good : EachAttr FileGood (tree (image_in m) (m.rows n) End)
-    below_good = new_attrs FileGood m n (held.kinds n part nth)
-        (λ names t has d x a a_in numbers. own_line (names_path part) refl t (((part_row_is n part).tops_are names t).0 (subst (Has names (OfTop t)) (row_found rule units files n part nth) has)).0 d x a a_in numbers)
-        (λ names d has a a_in numbers. space_good ((part_row_is n part).spaces_are names d (subst (Has names (OfSpace d)) (row_found rule units files n part nth) has)) a a_in numbers.1)
+    -- what holds of attributes of tops, and of those that number no file, holds of all below
+    files_below : (P : Attr Spot → Type 0) → ((t : Top) → In t part.tops → (d : Node Spot) → EntryOfTop d t → (a : Attr Spot) → In a d.attrs → P (attr_map (image_in m) a)) → ((a : Attr Spot) → names_file a.name ≡ false → P a)
+        → EachAttr P (tree (image_in m) (m.rows n) End)
+    files_below P tops others = new_attrs P m n (held.kinds n part nth)
+        (λ names t has d x a a_in. tops t (((part_row_is n part).tops_are names t).0 (subst (Has names (OfTop t)) (row_found rule units files n part nth) has)).0 d x a a_in)
+        (λ names d has a a_in. others (attr_map (image_in m) a) (space_name ((part_row_is n part).spaces_are names d (subst (Has names (OfSpace d)) (row_found rule units files n part nth) has)) a a_in))
       where
-        space_good : {names : List (List ℕ)} {d : Node Spot} → SpaceOf n part.tops names d → (a : Attr Spot) → In a d.attrs → names_file a.name ≡ true → (bases_in (partial_unit m n)).line ≡ origin.line
-        space_good o a a_in numbers = elim (subst (λ (w : Node Spot). In a w.attrs) o.is a_in) [
-          | inl e ↦ absurd (let z : names_file 0x03 ≡ true = ap (λ (b : Attr Spot). names_file b.name) e ∙ numbers in cc)
-          | inr x ↦ absurd x
-        ]
+        space_name : {names : List (List ℕ)} {d : Node Spot} → SpaceOf n part.tops names d → (a : Attr Spot) → In a d.attrs → names_file a.name ≡ false
+        space_name o a a_in = elim (subst (λ (w : Node Spot). In a w.attrs) o.is a_in) [ inl e ↦ ap (λ (b : Attr Spot). names_file b.name) (sym e) | inr x ↦ absurd x ]
 
-    pub part_bases : (texts : List (List ℕ)) (offsets : List ℕ) → BasesStand (record { same = same_spot; is_common = false; texts = texts; offsets = offsets; origin = origin_in m units }) (partial_unit m n)
-    part_bases texts offsets = record { own = tt; root = root_good (names_path part) refl; below = below_good }
+    -- ---- in a file
+
+    module _ (file : ℕ) (home : part.home ≡ Local file) where
+      -- the line table of the unit that its tops come from
+      record HasLine : Type 0 where
+        attr : Attr Spot
+        found : first_named 0x10 (root_of units (first_unit part.tops)) ≡ Some attr
+        form : attr.form ≡ 0x17
+        lines : NamesLines (line_of (Some attr))
+        known : origin.line ≡ Some (reach attr.raw)
+
+      has_line : names_path part ≡ true → HasLine
+      has_line paths =
+          let p = path_in paths in
+          let b = ((part_is scope units rule is choice files n part nth).tops p.top).0 p.there in
+          let u = unit_of units p.top b.there in
+          let line = table_in p in
+          let known : (bases_in u.unit.unit).line ≡ Some line.0 = ap (λ (w : Bases). w.line) (sym (bases_found units 0 p.top.unit p.top.unit u.unit u.nth (omega arith)) ∙ part_origin scope units rule is choice files n part nth p.top p.there) ∙ line.1 in
+          let g = gives (first_named 0x10 u.unit.unit.root.attrs) line.0 known in
+          let first = first_is scope units rule is choice files n part nth p.top p.there in
+          let root = root_found units 0 p.top.unit p.top.unit u.unit u.nth (omega arith) in
+          let o = first_in from (bases_in u.unit.unit) 0x10 u.unit.unit.root.attrs g.attr g.found in
+          let carried = each_in (CarriedAttr from (bases_in u.unit.unit)) g.attr u.unit.unit.root.attrs (are p.top.unit u.unit u.nth (subst Good u.file_is (good p.top p.there))).root.attrs o.0 in
+          record {
+            attr = g.attr;
+            found = ap (first_named 0x10) (ap (root_of units) (sym first) ∙ root) ∙ g.found;
+            form = g.form;
+            lines = names_lines from (bases_in u.unit.unit) g.attr carried o.1 g.form;
+            known = line.1 ∙ sym known ∙ ap offset_in g.found ∙ offset_form g.attr g.form;
+          }
+
+      line_is : (h : HasLine) → line_in units part.home part.tops ≡ line_of (Some h.attr)
+      line_is h = ap (λ (w : Home). line_in units w part.tops) home ∙ ap line_of h.found
+
+      roots_carried : (b : Bool) → names_path part ≡ b → Each (CarriedAttr from origin) (m.roots n)
+      roots_carried true e = (let h = has_line e in subst (Each (CarriedAttr from origin)) (sym (lines_are true e)) (inr (inr (subst NamesLines (sym (line_is h)) h.lines)), tt))
+      roots_carried false e = subst (Each (CarriedAttr from origin)) (sym (lines_are false e)) tt
+
+      -- the root says of a line table what the unit said that the tops come from, where one of them numbers a file
+      own_line : (b : Bool) → names_path part ≡ b → (t : Top) → In t part.tops → (d : Node Spot) → EntryOfTop d t → (a : Attr Spot) → In a d.attrs → NumbersFile a → (bases_in (partial_unit m n)).line ≡ origin.line
+      unfolding first_named
+      own_line true e t there d x a a_in numbers =
+          let h = has_line e in
+          ap (λ (attrs : List (Attr Spot)). offset_in (first_named 0x10 attrs)) (lines_are true e ∙ ap (λ (l : Attr Spot). l ∷ []) (line_is h)) ∙ sym h.known
+      own_line false e t there d x a a_in numbers =
+          ap (λ (attrs : List (Attr Spot)). offset_in (first_named 0x10 attrs)) (lines_are false e) ∙ sym (none_table from origin a (attr_carried t there d x a a_in) numbers (no_path e t there d x a a_in))
+
+      abbrev FileGood : Attr Spot → Type 0
+      FileGood a = FileStands NewUnit (bases_in (partial_unit m n)).line origin.line a
+
+      other_good : (a : Attr Spot) → names_file a.name ≡ false → FileGood a
+      other_good a none numbers = absurd (let z : true ≡ false = sym numbers.1 ∙ none in cc)
+
+      root_good : (b : Bool) → names_path part ≡ b → Each FileGood (m.roots n)
+      root_good true e = subst (Each FileGood) (sym (lines_are true e ∙ ap (λ (l : Attr Spot). l ∷ []) (line_is (has_line e)))) (other_good (line_of (Some (has_line e).attr)) refl, tt)
+      root_good false e = subst (Each FileGood) (sym (lines_are false e)) tt
+
+      pub part_bases : (texts paths : List (List ℕ)) (offsets : List ℕ) → BasesStand (record { same = same_spot; is_common = false; texts = texts; paths = paths; offsets = offsets; origin = origin_in m units }) (partial_unit m n)
+      part_bases texts paths offsets = record {
+        own = tt;
+        root = root_good (names_path part) refl;
+        below = files_below FileGood (λ t there d x a a_in numbers. own_line (names_path part) refl t there d x a a_in numbers) other_good;
+      }
+
+    -- ---- in the common file
+
+    module _ (home : part.home ≡ Common) where
+      zero_line : line_in units part.home part.tops ≡ line_attr (pos 0) (Sec 0)
+      zero_line = ap (λ (w : Home). line_in units w part.tops) home
+
+      -- the root names the line table of the common file just where an entry has a path
+      common_line : (b : Bool) → names_path part ≡ b → (t : Top) → In t part.tops → (d : Node Spot) → EntryOfTop d t → (a : Attr Spot) → In a d.attrs → NumbersFile a → LineFor (bases_in (partial_unit m n)).line a.value.plain
+      unfolding first_named
+      common_line true e t there d x a a_in numbers =
+          let line : (bases_in (partial_unit m n)).line ≡ Some 0 = ap (λ (attrs : List (Attr Spot)). offset_in (first_named 0x10 attrs)) (lines_are true e ∙ ap (λ (l : Attr Spot). l ∷ []) zero_line) in
+          line_for (bases_in (partial_unit m n)).line a.value.plain (λ path. line) (λ none.
+          (let table = table_in (path_in e) in
+          absurd (let z : Some table.0 ≡ None = sym table.1 ∙ none_table from origin a (attr_carried t there d x a a_in) numbers none in cc)))
+      common_line false e t there d x a a_in numbers =
+          let line : (bases_in (partial_unit m n)).line ≡ None = ap (λ (attrs : List (Attr Spot)). offset_in (first_named 0x10 attrs)) (lines_are false e) in
+          line_for (bases_in (partial_unit m n)).line a.value.plain (λ path. absurd (let z : true ≡ false = sym path ∙ no_path e t there d x a a_in in cc)) (λ none. line)
+
+      abbrev CommonGood : Attr Spot → Type 0
+      CommonGood a = FileStands CommonUnit (bases_in (partial_unit m n)).line origin.line a
+
+      other_common : (a : Attr Spot) → names_file a.name ≡ false → CommonGood a
+      other_common a none numbers = absurd (let z : true ≡ false = sym numbers.1 ∙ none in cc)
+
+      root_common : (b : Bool) → names_path part ≡ b → Each CommonGood (m.roots n)
+      root_common true e = subst (Each CommonGood) (sym (lines_are true e ∙ ap (λ (l : Attr Spot). l ∷ []) zero_line)) (other_common (line_attr (pos 0) (Sec 0)) refl, tt)
+      root_common false e = subst (Each CommonGood) (sym (lines_are false e)) tt
+
+      pub common_bases : (texts paths : List (List ℕ)) (offsets : List ℕ) → BasesStand (record { same = same_spot; is_common = true; texts = texts; paths = paths; offsets = offsets; origin = origin_in m units }) (partial_unit m n)
+      common_bases texts paths offsets = record {
+        own = tt;
+        root = root_common (names_path part) refl;
+        below = files_below CommonGood (λ t there d x a a_in numbers. common_line (names_path part) refl t there d x a a_in numbers) other_common;
+      }
 
   -- the roots of the partial units of a file are carried
-  pub local_roots : RootsCarried from m units (Local file)
-  local_roots n part nth home = roots_carried n part nth home (names_path part) refl
+  pub local_roots : (file : ℕ) → Good file → RootsCarried from m units (Local file)
+  local_roots file good n part nth home =
+      roots_carried n part nth (λ t there. subst Good (sym (top_file scope units rule is choice files file n part nth home t there)) good) file home (names_path part) refl

@@ -11,11 +11,10 @@ use Rattle.dwz_seen.specs.Lists.{Each, Nth}
 use Rattle.dwz_moving.specs.Homes.{IsChoice, Rule}
 use Rattle.dwz_same.specs.After.{ArePlaced}
 use Rattle.dwz_same.specs.Units.{changes, common_units}
-use Rattle.dwz_writing.specs.Carried.{BasesStand}
 use Rattle.dwz_writing.specs.Placing.{FitsSections}
 use Rattle.dwz_back.specs.AllFiles.{AreOver, AreRead}
 use Rattle.dwz_back.specs.Back.{CanWrite, FileOver, OneBack, one_run, one_stored}
-use Rattle.dwz_back.specs.Files.{HasSections, Run, Stored, common_forms, place_of, sections_of}
+use Rattle.dwz_back.specs.Files.{HasSections, Run, Stored, place_of, sections_of}
 use Rattle.dwz_back.proofs.AllLemmas.{can_write}
 use Rattle.dwz_back.proofs.HomeLemmas.{no_common}
 use Rattle.dwz_back.proofs.ReadPlaces.{read_from}
@@ -60,10 +59,7 @@ module _ (l : Limits) (input : List ℕ) (raw : List RawUnit) (doc : Doc ℕ) (r
   none_shared = no_common (units_of docs) rule is r.files r.move refl
 
   all_over : AreOver r
-  all_over = record {
-    common = subst (Each (BasesStand (common_forms r))) (sym none_shared) tt;
-    file = λ file there changed. subst (FileOver r) (sym (first_file doc file there)) over;
-  }
+  all_over file there changed = subst (FileOver r) (sym (first_file doc file there)) over
 
   can : CanWrite r
   can = can_write Apart docs stored are_read rule is choice all_over

@@ -20,13 +20,15 @@ use Rattle.dwz_same.specs.Units.{all_units, changes, common_units, out_units}
 use Rattle.dwz_writing.specs.Carried.{OfAny, OfFile}
 use Rattle.dwz_writing.specs.Fitting.{AreWritable, UnitFits, UnitHasRoom, mode_for}
 use Rattle.dwz_writing.specs.Meant.{AreRenumbered, IsAround, Tells, UnitsSay, all_entry_keys}
-use Rattle.dwz_writing.specs.Placing.{FitsSections, UnitsStand, sections, texts_bytes}
+use Rattle.dwz_writing.specs.Placing.{FitsSections, UnitsStand, lines_bytes, sections, texts_bytes}
 use Rattle.dwz_writing.specs.Sound.{SoundUnit}
 use Rattle.dwz_writing.specs.Writing.{Numbering, tables_of}
 use Rattle.dwz_writing.proofs.Chosen.{fit_units_all, fit_units_fixed, units_good}
 use Rattle.dwz_writing.proofs.Places.{numbering_stands}
 use Rattle.dwz_writing.proofs.ListsAgain.{units_share_none}
-use Rattle.dwz_writing.proofs.PoolLemmas.{units_texts}
+use Rattle.dwz_writing.proofs.PoolLemmas.{paths_texts, units_paths, units_texts}
+use Rattle.dwz_back.proofs.PathLemmas.{paths_carried}
+use Rattle.dwz_docs.specs.ElfLayout.{too_large}
 use Rattle.dwz_writing.proofs.RawUnits.{raw_units}
 use Rattle.dwz_writing.proofs.Rising.{entries_are_keys, place_within}
 use Rattle.dwz_writing.proofs.SameLemmas.{spots_same}
@@ -35,7 +37,7 @@ use Rattle.dwz_writing.proofs.UnitsSpelled.{units_len}
 use Rattle.dwz_writing.proofs.WriteLaws.{fits, is_roomy, means, spelled}
 use Rattle.dwz_back.specs.Back.{CanWrite, IsPlacing, RangesBack, SaysPlaced, around_in, given_by}
 use Rattle.dwz_meanings.specs.Shared.{ListOperand, NoneShared, operands_in_lists}
-use Rattle.dwz_back.specs.Files.{HasCommon, HasSections, Run, common_fitted, common_forms, common_out, common_sections, file_forms, file_out, files_out, fitted, name_after, place_of, places, sections_of, sources, tells, tells_common, texts}
+use Rattle.dwz_back.specs.Files.{HasCommon, HasSections, Run, common_fitted, common_forms, common_out, common_sections, file_forms, file_out, files_out, fitted, name_after, paths, place_of, places, sections_of, sources, tells, tells_common, texts}
 use Rattle.dwz_back.proofs.NameLemmas.{common_names, common_there, file_once, file_there, fitted_names, name_in_common, name_in_file, not_common, run_once}
 
 -- the places where names are written are such places
@@ -148,21 +150,28 @@ module _ (r : Run) (can : CanWrite r) (g : Spot → Place) (ok : IsPlacing r g) 
 
   -- ---- the common file
 
-  common_good : length (texts_bytes (texts r)) < 2 ^ 32 → Each SoundUnit (common_fitted r) × UnitsSay (tells_common r) (common_fitted r)
+  common_good : length (texts_bytes (texts r)) < 2 ^ 32 → length (lines_bytes (paths r)) < too_large → Each SoundUnit (common_fitted r) × UnitsSay (tells_common r) (common_fitted r)
   unfolding common_fitted
-  common_good small =
+  common_good small few =
       let c = can.common in
       units_good (common_forms r) spots_same OfAny (tells_common r) (common_units r.move) common_all (subst NoneTwice (common_names r) (file_once (files_out r) (run_once r can.apart) (common_out r) (common_there r))) c.carried c.closed (λ k is. absurd is)
-      (small, refl, units_texts [] (common_units r.move)) c.over.bases c.over.operands
+      (small, record {
+        strs = refl;
+        texts = units_texts [] (common_units r.move);
+        line = refl;
+        few = few;
+        are_texts = paths_texts (common_units r.move) (paths_carried OfAny (common_forms r).origin (common_units r.move) c.carried);
+        paths = units_paths [] (common_units r.move);
+      }) c.over.bases c.over.operands
 
   common_room : Each (UnitHasRoom n) (common_fitted r)
   unfolding common_fitted
   common_room = can.common.over.room
 
-  pub common_back : (out : List ℕ) → HasCommon out (common_sections r) (texts r) → FitsSections (common_sections r) → SaysPlaced r g None r.common out (common_fitted r)
+  pub common_back : (out : List ℕ) → HasCommon out (common_sections r) (texts r) (paths r) → FitsSections (common_sections r) → SaysPlaced r g None r.common out (common_fitted r)
   common_back out has small = said_placed (tells_common r) None r.common out (common_fitted r) (record {
     all = refl;
-    good = common_good (subst (λ (w : Sources). length w.strs < 2 ^ 32) has.sources has.small);
+    good = common_good (subst (λ (w : Sources). length w.strs < 2 ^ 32) has.sources has.small) (subst (λ (w : Sources). length w.line < too_large) has.sources has.few);
     stands = common_stands;
     elf = has.elf;
     info = has.info;

@@ -13,8 +13,8 @@ use Rattle.dwz_moving.specs.Homes.{IsChoice, Rule}
 use Rattle.dwz_same.specs.After.{Place, at_file}
 use Rattle.dwz_same.specs.Units.{changes}
 use Rattle.dwz_writing.specs.Placing.{FitsSections}
-use Rattle.dwz_back.specs.Back.{AreAtOld, CanWrite, CommonOver, FileOver, IsPlacing, RangesBack, SameBack, SaysPlaced, SaysUnits, given_by, run_of}
-use Rattle.dwz_back.specs.Files.{HasCommon, HasSections, Run, Stored, common_fitted, common_sections, fitted, sections_of, texts}
+use Rattle.dwz_back.specs.Back.{AreAtOld, CanWrite, FileOver, IsPlacing, RangesBack, SameBack, SaysPlaced, SaysUnits, given_by, run_of}
+use Rattle.dwz_back.specs.Files.{HasCommon, HasSections, Run, Stored, common_fitted, common_sections, fitted, paths, sections_of, texts}
 
 -- the file with these bytes and units reads, and says a document
 pub record IsRead (bytes : List ℕ) (raw : List RawUnit) (doc : Doc ℕ) : Type 0 where
@@ -26,14 +26,13 @@ pub record IsRead (bytes : List ℕ) (raw : List RawUnit) (doc : Doc ℕ) : Type
 abbrev pub AreRead : Stored → List (Doc ℕ) → Type 0
 AreRead input docs = (file : ℕ) (doc : Doc ℕ) → Nth 0 docs file doc → IsRead (input.bytes file) (input.raw file) doc
 
--- what else is asked of the units after: of the common file, and of each file of which something moves
-pub record AreOver (r : Run) : Type 0 where
-  pub common : CommonOver r
-  pub file : (file : ℕ) → In file r.files → changes r.move r.units file ≡ true → FileOver r file
+-- each file of which something moves has room for its operands
+abbrev pub AreOver : Run → Type 0
+AreOver r = (file : ℕ) → In file r.files → changes r.move r.units file ≡ true → FileOver r file
 
 -- the common file, and each file of which something moves, were made so
 pub record AreMade (r : Run) (output : ℕ → List ℕ) (common_bytes : List ℕ) : Type 0 where
-  pub common : HasCommon common_bytes (common_sections r) (texts r)
+  pub common : HasCommon common_bytes (common_sections r) (texts r) (paths r)
   pub common_fits : FitsSections (common_sections r)
   pub file : (file : ℕ) → In file r.files → changes r.move r.units file ≡ true → HasSections r file (output file)
   pub file_fits : (file : ℕ) → In file r.files → changes r.move r.units file ≡ true → FitsSections (sections_of r file)

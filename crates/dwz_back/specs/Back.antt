@@ -25,7 +25,7 @@ use Rattle.dwz_writing.specs.Fitting.{UnitHasRoom, back_forms}
 use Rattle.dwz_writing.specs.Meant.{Tells, all_entry_keys, placed_units}
 use Rattle.dwz_writing.specs.Placing.{FitsSections, Forms, fit_units}
 use Rattle.dwz_writing.specs.Writing.{Numbering}
-use Rattle.dwz_back.specs.Files.{HasCommon, HasSections, Run, Stored, common_fitted, common_forms, common_sections, file_forms, fitted, name_after, place_of, places, sections_of, sources, tells, tells_common, texts}
+use Rattle.dwz_back.specs.Files.{HasCommon, HasSections, Run, Stored, common_fitted, common_forms, common_sections, file_forms, fitted, name_after, paths, place_of, places, sections_of, sources, tells, tells_common, texts}
 use Rattle.dwz_meanings.specs.NamedLists.{lists_of_units}
 use Rattle.dwz_meanings.specs.Shared.{NoneShared}
 use Rattle.dwz_meanings.specs.Patching.{of_units}
@@ -76,10 +76,6 @@ pub record IsReady (from : Sources → Type 0) (f : Forms Spot) (t : Tells Spot)
 abbrev pub FileOver : Run → ℕ → Type 0
 FileOver r file = Each (UnitHasRoom (places r)) (fitted r file)
 
--- and of the common file, as long as it has no line table: that none of its values numbers a file
-abbrev pub CommonOver : Run → Type 0
-CommonOver r = Each (BasesStand (common_forms r)) (common_units r.move)
-
 -- each unit of a file that was read stands after, as no partial unit, at its name
 pub record StandsAfter (r : Run) (file place : ℕ) : Type 0 where
   pub unit : DwUnit Spot
@@ -117,7 +113,7 @@ PlacingLaw = (r : Run) → NoneTwice (units_keys (all_units r.move r.units r.fil
 -- a common file that was made so says its units, at their places
 abbrev pub CommonBackLaw : Type 0
 CommonBackLaw =
-    (r : Run) (g : Spot → Place) (out : List ℕ) → CanWrite r → IsPlacing r g → HasCommon out (common_sections r) (texts r) → FitsSections (common_sections r)
+    (r : Run) (g : Spot → Place) (out : List ℕ) → CanWrite r → IsPlacing r g → HasCommon out (common_sections r) (texts r) (paths r) → FitsSections (common_sections r)
     → SaysPlaced r g None r.common out (common_fitted r)
 
 -- a file that was made so says its units, at their places, where it is read with the common file

@@ -16,7 +16,8 @@ use Rattle.dwz_moving.specs.Plan.{PartialUnit}
 use Rattle.dwz_same.specs.After.{Place, at_file}
 use Rattle.dwz_same.specs.Units.{common_units, out_units}
 use Rattle.dwz_writing.specs.Bases.{Bases, bases_in, no_bases}
-use Rattle.dwz_writing.specs.Placing.{FileOut, Forms, UnitSections, file_in, fit_units, numbering, sections, texts_bytes, texts_of}
+use Rattle.dwz_writing.specs.Placing.{FileOut, Forms, UnitSections, file_in, fit_units, lines_bytes, numbering, paths_of, sections, texts_bytes, texts_of}
+use Rattle.dwz_docs.specs.ElfLayout.{too_large}
 use Rattle.dwz_writing.specs.Writing.{Numbering}
 
 -- files as they are stored: the bytes of each, and its units
@@ -42,6 +43,10 @@ sources r file = sources_of (r.input.bytes file)
 abbrev pub texts : Run → List (List ℕ)
 texts r = texts_of [] (common_units r.move)
 
+-- and the paths of its line table
+abbrev pub paths : Run → List (List ℕ)
+paths r = paths_of [] (common_units r.move)
+
 -- ---- the unit that values come from: an old unit's own, and a partial unit's those of the unit that its first top comes from
 
 -- what the root says of the unit with that number
@@ -62,10 +67,10 @@ origin_in m units _ = no_bases
 -- ---- the units with the forms of their values
 
 abbrev pub common_forms : Run → Forms Spot
-common_forms r = record { same = same_spot; is_common = true; texts = texts r; offsets = []; origin = origin_in r.move r.units }
+common_forms r = record { same = same_spot; is_common = true; texts = texts r; paths = paths r; offsets = []; origin = origin_in r.move r.units }
 
 abbrev pub file_forms : Run → ℕ → Forms Spot
-file_forms r file = record { same = same_spot; is_common = false; texts = texts r; offsets = (sources r file).offsets; origin = origin_in r.move r.units }
+file_forms r file = record { same = same_spot; is_common = false; texts = texts r; paths = paths r; offsets = (sources r file).offsets; origin = origin_in r.move r.units }
 
 -- the units of the common file, and those of a file, with the forms of their values
 unfoldable pub common_fitted : Run → List (DwUnit Spot)
@@ -124,13 +129,13 @@ tells r file = record {
   common = all_entry_keys (common_fitted r);
 }
 
--- and those of the common file, which has no section of the files but its own texts
+-- and those of the common file, which has no section of the files but its own texts and paths
 abbrev pub tells_common : Run → Tells Spot
 tells_common r = record {
   strs = texts_bytes (texts r);
   line_strs = [];
   offsets = [];
-  line = [];
+  line = lines_bytes (paths r);
   lists = [];
   named = [];
   name = name_after r r.common;
@@ -160,15 +165,16 @@ pub record HasSections (r : Run) (file : ℕ) (out : List ℕ) : Type 0 where
   pub ranges : AreRanged r file (debug_aranges out)
   pub small : length (section_of out 3) < 2 ^ 32
 
--- `.debug_str` of the common file, which has no other section that values speak of
-abbrev pub common_sources : List (List ℕ) → Sources
-common_sources texts = record { strs = texts_bytes texts; line_strs = []; offsets = []; line = []; lists = [] }
+-- `.debug_str` and `.debug_line` of the common file, which has no other section that values speak of
+abbrev pub common_sources : (texts paths : List (List ℕ)) → Sources
+common_sources texts paths = record { strs = texts_bytes texts; line_strs = []; offsets = []; line = lines_bytes paths; lists = [] }
 
--- a common file without a fault, that has these two sections, and texts; it has no address ranges
-pub record HasCommon (out : List ℕ) (s : UnitSections) (texts : List (List ℕ)) : Type 0 where
+-- a common file without a fault, that has these two sections, texts and paths; it has no address ranges; none of its sections is too long
+pub record HasCommon (out : List ℕ) (s : UnitSections) (texts paths : List (List ℕ)) : Type 0 where
   pub elf : (f : _) → IsElfFault out f → ⊥
   pub info : debug_info out ≡ s.info
   pub abbrevs : debug_abbrev out ≡ s.abbrevs
-  pub sources : sources_of out ≡ common_sources texts
+  pub sources : sources_of out ≡ common_sources texts paths
   pub ranges : debug_aranges out ≡ []
   pub small : length (section_of out 3) < 2 ^ 32
+  pub few : length (section_of out 6) < too_large

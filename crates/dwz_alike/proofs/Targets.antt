@@ -135,14 +135,22 @@ binds_false units t is m = go (binds_itself units t) refl where
   go true q = absurd (m.free 0 (t, is, refl, q))
   go false q = refl
 
-stays_in : (units : List (FileUnit Spot)) (t : Top) → In t (tops_of units) → Movable units t.number → (e : Node Spot) → NodeOf e t → (a : Attr Spot) → In a e.attrs → (s : Spot) → In s a.value.refs → RefTo (StandsIn (tops_of units) t.unit) s
-stays_in units t is m e node a attr s ref =
+-- no attribute of a movable top binds it
+pub free_attr : (units : List (FileUnit Spot)) (t : Top) → In t (tops_of units) → Movable units t.number → (e : Node Spot) → NodeOf e t → (a : Attr Spot) → In a e.attrs → attr_binds (tops_of units) t.unit a ≡ false
+free_attr units t is m e node a attr =
     let tops = tops_of units in
     let own = or_left (any_in (entry_binds tops t.unit) t) (is_named units t.number) (binds_false units t is m) in
     let entry = top_false (entry_binds tops t.unit) e t node own in
-    let attrs = or_right (e.tag == 0x3d) (any_attr (attr_binds tops t.unit) e) entry in
-    let one = any_false (attr_binds tops t.unit) a e.attrs attr attrs in
-    let rest = or_right (has a.form binding_forms) (holds_place a.value.plain || list_any (leaves tops t.unit) a.value.refs) one in
+    any_false (attr_binds tops t.unit) a e.attrs attr (or_right (e.tag == 0x3d) (any_attr (attr_binds tops t.unit) e) entry)
+
+-- and no operand names an entry of it
+pub not_named : (units : List (FileUnit Spot)) (t : Top) → In t (tops_of units) → Movable units t.number → is_named units t.number ≡ false
+not_named units t is m = or_right (any_in (entry_binds (tops_of units) t.unit) t) (is_named units t.number) (binds_false units t is m)
+
+stays_in : (units : List (FileUnit Spot)) (t : Top) → In t (tops_of units) → Movable units t.number → (e : Node Spot) → NodeOf e t → (a : Attr Spot) → In a e.attrs → (s : Spot) → In s a.value.refs → RefTo (StandsIn (tops_of units) t.unit) s
+stays_in units t is m e node a attr s ref =
+    let tops = tops_of units in
+    let rest = or_right (has a.form binding_forms) (holds_place a.value.plain || list_any (leaves tops t.unit) a.value.refs) (free_attr units t is m e node a attr) in
     let refs = or_right (holds_place a.value.plain) (list_any (leaves tops t.unit) a.value.refs) rest in
     inside_spot tops t.unit s (any_false (leaves tops t.unit) s a.value.refs ref refs)
 
@@ -177,7 +185,7 @@ pub record NodeWith (test : Node Spot → Bool) (f : Entries Spot) : Type 0 wher
   pub there : NodeIn node f
   pub passes : test node ≡ true
 
-entry_from : (test : Node Spot → Bool) (f : Entries Spot) → any_entry test f ≡ true → NodeWith test f
+pub entry_from : (test : Node Spot → Bool) (f : Entries Spot) → any_entry test f ≡ true → NodeWith test f
 unfolding any_entry
 entry_from test End e = absurd cc
 entry_from test (Entry d f g) e = elim (or_cases (test d) (any_entry test f || any_entry test g) e) [

@@ -1,5 +1,5 @@
 -- Which tops may move, and which are alike.
-use Rattle.std.specs.Prelude.{◌⊎◌, ◌≡◌, ℕ, zero, suc, Bool, true, false, List, [], ◌∷◌, Option, Some, None, Result, Ok, Err, ◌==◌, ◌&&◌, ◌||◌, not}
+use Rattle.std.specs.Prelude.{◌⊎◌, ◌≡◌, ℕ, zero, suc, Bool, true, false, List, [], ◌∷◌, ◌++◌, Option, Some, None, Result, Ok, Err, ◌==◌, ◌&&◌, ◌||◌, not}
 use Rattle.std.specs.List.{list_any}
 use Rattle.dwz_model.specs.declared.fault.Fault.{Fault}
 use Rattle.dwz_meanings.specs.Documents.{Attr, Entries, Expr, Loc, Node, Operand, Part, Plain, Same, Value}
@@ -37,6 +37,11 @@ abbrev pub has_operand : Plain → Bool
 has_operand (Expr parts) = list_any is_operand parts
 has_operand (Loc exprs) = list_any (list_any is_operand) exprs
 has_operand _ = false
+
+-- the parts of expressions, one behind the other
+unfoldable pub joined_parts : List (List Part) → List Part
+joined_parts [] = []
+joined_parts (parts ∷ exprs) = parts ++ joined_parts exprs
 
 -- what is read has an address
 abbrev pub says_address : Result Expression Fault → Bool

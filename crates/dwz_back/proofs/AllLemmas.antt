@@ -1,5 +1,5 @@
 -- All files that read can be written, and read back together.
-use Rattle.std.proofs.Common.{◌≡◌, ℕ, suc, Bool, true, false, List, [], ◌∷◌, map, Option, Some, refl, sym, subst, arith, inl, inr}
+use Rattle.std.proofs.Common.{◌≡◌, ℕ, suc, Bool, true, false, List, [], ◌∷◌, map, Option, Some, None, refl, sym, ap, subst, arith, inl, inr}
 use Rattle.dwz_docs.specs.Lists.{In}
 use Rattle.dwz_docs.specs.Trees.{End, Entry}
 use Rattle.dwz_meanings.specs.Documents.{Attr, Doc, DwUnit, Entries, Node, unit_map}
@@ -9,32 +9,44 @@ use Rattle.dwz_meanings.specs.Meanings.{Common as CommonFile, Sources}
 use Rattle.dwz_alike.specs.Alike.{IsAlike, Scope}
 use Rattle.dwz_alike.specs.Spots.{FileUnit, PartialOf, Spot, Top, file_numbers, in_file, named, named_files, spot_in, spots_from, units_of}
 use Rattle.dwz_seen.specs.Lists.{Each, Nth}
-use Rattle.dwz_seen.proofs.Members.{each_of, in_cases, nth_in}
+use Rattle.dwz_seen.proofs.Members.{each_more, each_of, in_cases, nth_in}
 use Rattle.dwz_moving.specs.Homes.{Common, Home, IsChoice, Rule}
 use Rattle.dwz_moving.specs.Moves.{line_attrs, line_in, names_path, plan, root_in_part}
 use Rattle.dwz_moving.specs.Plan.{PartialUnit}
 use Rattle.dwz_moving.specs.IsPlan.{Has, OfTop}
 use Rattle.dwz_moving.proofs.RowParts.{part_is as part_row_is}
-use Rattle.dwz_same.specs.After.{ArePlaced, FilesSame, Place, Replaces, at_file}
-use Rattle.dwz_same.specs.Units.{all_units, changes, common_units, out_units, partial_units}
+use Rattle.dwz_same.specs.After.{ArePlaced, FilesSame, Place, Replaces, at_file, name_in}
+use Rattle.dwz_same.specs.Units.{all_units, changes, common_units, out_units, partial_units, units_at}
 use Rattle.dwz_same.proofs.FileLemmas.{files_same, replaced}
 use Rattle.dwz_same.proofs.HeldLemmas.{part_found, row_found}
 use Rattle.dwz_writing.specs.Bases.{Bases, bases_in}
-use Rattle.dwz_writing.specs.Carried.{CarriedAttr, CarriedEntries, CarriedNode, CarriedUnit, OfAny, OfFile}
+use Rattle.dwz_writing.specs.Carried.{BasesStand, CarriedAttr, CarriedEntries, CarriedNode, CarriedUnit, OfAny, OfFile, OperandsStand}
+use Rattle.dwz_writing.specs.Fitting.{UnitHasRoom}
+use Rattle.dwz_writing.specs.Meant.{all_entry_keys}
+use Rattle.dwz_writing.specs.Placing.{fit_units}
 use Rattle.dwz_writing.proofs.CarriedMaps.{unit_carried}
-use Rattle.dwz_back.specs.AllFiles.{AreMade, AreOver, AreRead, ReadBack, SaysStill}
+use Rattle.dwz_back.specs.AllFiles.{AreMade, AreOver, AreRead, IsRead, ReadBack, SaysStill}
 use Rattle.dwz_back.specs.Carrying.{RootsCarried}
-use Rattle.dwz_back.specs.Back.{CanWrite, IsReady, WasReadFrom, given_by, run_of, tells}
-use Rattle.dwz_back.specs.Files.{Run, file_forms, fitted, origin_in, places, sources}
+use Rattle.dwz_back.specs.Back.{CanWrite, IsReady, WasReadFrom, given_by, run_of}
+use Rattle.dwz_back.specs.Files.{Run, Stored, common_forms, file_forms, fitted, lists_named, origin_in, paths, places, sources, tells, tells_common, texts}
 use Rattle.dwz_back.proofs.BasesLemmas.{out_bases}
 use Rattle.dwz_back.proofs.CommonLemmas.{common_within}
-use Rattle.dwz_back.proofs.HomeLemmas.{parts_from}
+use Rattle.dwz_back.proofs.FreeOperands.{UnitAsksNone, asks_operands, asks_room, home_asks}
+use Rattle.dwz_back.proofs.HomeLemmas.{parts_from, top_file}
+use Rattle.dwz_back.proofs.LineLemmas.{common_bases, local_roots, part_bases}
+use Rattle.dwz_back.proofs.NameLemmas.{fitted_entries}
+use Rattle.dwz_back.proofs.OutOperands.{out_operands}
 use Rattle.dwz_back.proofs.OriginLemmas.{bases_mapped, part_origin}
 use Rattle.dwz_back.proofs.OutsCarried.{new_carried, out_carried, part_spaces}
 use Rattle.dwz_back.proofs.ReadMode.{units_again, wider}
+use Rattle.dwz_back.proofs.NamedOperands.{IsTold, files_read}
+use Rattle.dwz_back.proofs.ReadOperands.{file_read, lists_in, reading}
+use Rattle.dwz_meanings.specs.Shared.{NoneShared, operands_in_lists}
 use Rattle.dwz_back.proofs.ReadPlaces.{read_from}
 use Rattle.dwz_back.proofs.SameLemmas.{same_back}
-use Rattle.dwz_back.proofs.SaysLemmas.{common_back, file_back}
+use Rattle.dwz_back.proofs.SaysLemmas.{common_back, file_back, ranges_back}
+use Rattle.dwz_back.proofs.RangeLemmas.{named_at, stand_after}
+use Rattle.dwz_back.proofs.StillLists.{still_none}
 use Rattle.dwz_back.proofs.StillMeans.{units_there}
 use Rattle.dwz_back.proofs.StillPlaces.{back_old, back_place, back_placing}
 use Rattle.dwz_back.proofs.WithinLemmas.{within}
@@ -100,18 +112,30 @@ common_roots rule units files n part nth home =
     let m = plan rule units files in
     subst (λ (o : Option PartialUnit). Each (CarriedAttr OfAny (origin_in m units (PartialOf n))) (root_in_part units o)) (sym (part_found 0 m.parts n n part nth (omega arith))) (common_root units (origin_in m units (PartialOf n)) part home)
 
+-- ---- location lists
+
+doc_at : (own : ℕ) (docs : List (Doc ℕ)) (file : ℕ) → In file (file_numbers own docs) → (doc : Doc ℕ) × Nth own docs file doc
+unfolding file_numbers
+doc_at own [] file there = absurd there
+doc_at own (doc ∷ docs) file (inl e) = (doc, inl (e, refl))
+doc_at own (doc ∷ docs) file (inr r) = (let o = doc_at (suc own) docs file r in (o.0, inr o.1))
+
+none_named : NoneShared []
+unfolding operands_in_lists
+none_named place shared = shared.1
+
 -- ---- all files
 
-module _ (scope : Scope) (docs : List (Doc ℕ)) (input : ℕ → List ℕ) (are : AreRead input docs) (rule : Rule) (is : IsAlike scope (units_of docs) rule.alike) (choice : IsChoice (units_of docs) rule)
+module _ (scope : Scope) (docs : List (Doc ℕ)) (input : Stored) (are : AreRead input docs) (rule : Rule) (is : IsAlike scope (units_of docs) rule.alike) (choice : IsChoice (units_of docs) rule)
     (over : AreOver (run_of rule docs input)) where
   abbrev r : Run
   r = run_of rule docs input
 
-  read : Read input 0 docs
-  read file doc nth = (let o = are file doc nth in read_from o.limits (input file) o.raw doc o.reads o.are_bytes o.built)
+  read : Read input.bytes 0 docs
+  read file doc nth = (let o = are file doc nth in read_from o.limits (input.bytes file) (input.raw file) doc o.reads o.are_bytes)
 
   placed : Each (λ doc. ArePlaced doc.units) docs
-  placed = all_placed 0 input docs read
+  placed = all_placed 0 input.bytes docs read
 
   together : FilesSame scope docs rule (file_numbers 0 docs)
   together = files_same scope docs rule placed is choice
@@ -119,21 +143,45 @@ module _ (scope : Scope) (docs : List (Doc ℕ)) (input : ℕ → List ℕ) (are
   whole : Replaces (units_of docs) r.move (all_units r.move r.units r.files)
   whole = replaced scope docs rule placed is choice
 
-  unit_read : (i : ℕ) (u : FileUnit Spot) → Nth 0 (units_of docs) i u → WasRead input u
-  unit_read i u nth = files_carried input 0 0 0 docs read u (nth_in 0 (units_of docs) i u nth)
+  unit_read : (i : ℕ) (u : FileUnit Spot) → Nth 0 (units_of docs) i u → WasRead input.bytes u
+  unit_read i u nth = files_carried input.bytes 0 0 0 docs read u (nth_in 0 (units_of docs) i u nth)
+
+  file_origins : (file : ℕ) (i : ℕ) (u : FileUnit Spot) → Nth 0 (units_of docs) i u → u.file ≡ file → CarriedUnit (OfFile (sources r file)) (bases_in u.unit) u.unit
+  file_origins file i u nth of_file = subst (λ (n : ℕ). CarriedUnit (OfFile (sources_of (input.bytes n))) (bases_in u.unit) u.unit) of_file (unit_read i u nth)
+
+  file_operands : (file : ℕ) → Each (λ v. CarriedUnit (OfFile (sources r file)) (origin_in r.move r.units v.at) v) (out_units r.move r.units file) → Each (OperandsStand (tells r file)) (out_units r.move r.units file)
+  file_operands file carried =
+      let name : ℕ → Spot = λ n. name_in docs (at_file file n) in
+      out_operands scope (units_of docs) rule is choice r.files whole.old whole.held file (tells r file) name (λ n. refl) (λ k k_in. subst (In k) (sym (fitted_entries r file)) k_in) (OfFile (sources r file)) carried
+      (λ i u nth of_file.
+      (let told : IsTold (sources_of (input.bytes u.file)) (input.raw u.file) (λ n. name_in docs (at_file u.file n)) (reading (sources r file).lists (lists_named r file) name (all_entry_keys (units_at file (units_of docs)))) = record {
+        lists = ap (λ (x : ℕ). (sources_of (input.bytes x)).lists) (sym of_file);
+        named = ap (λ (x : ℕ). lists_in (sources_of (input.bytes x)) (input.raw x)) (sym of_file);
+        name = λ n. ap (λ (x : ℕ). name_in docs (at_file x n)) (sym of_file);
+      } in
+      files_read input.bytes input.raw 0 0 0 docs (λ k d at. file_read (sources_of (input.bytes k)) (input.raw k) d.units (are k d at).reads.means) u (nth_in 0 (units_of docs) i u nth) _ told (λ k k_in. subst (λ (n : ℕ). In k (all_entry_keys (units_at n (units_of docs)))) of_file k_in)))
+
+  -- no list of a file shares a byte with an operand of another
+  file_lists : (file : ℕ) → In file r.files → NoneShared (lists_named r file)
+  file_lists file there = (let o = doc_at 0 docs file there in (are file o.0 o.1).reads.lists)
 
   file_ready : (file : ℕ) → In file r.files → changes r.move r.units file ≡ true → IsReady (OfFile (sources r file)) (file_forms r file) (tells r file) (places r) (out_units r.move r.units file)
   unfolding fitted
-  file_ready file there changed = record {
-    carried = out_carried (OfFile (sources r file)) scope (units_of docs) rule is choice r.files whole.old whole.held file
-        (λ i u nth of_file. subst (λ (n : ℕ). CarriedUnit (OfFile (sources_of (input n))) (bases_in u.unit) u.unit) of_file (unit_read i u nth)) ((over.file file there changed).roots);
-    closed = within scope docs rule placed is choice input file;
-    over = record {
-      bases = out_bases r file whole.old (over.file file there changed).lines;
-      operands = (over.file file there changed).operands;
-      room = (over.file file there changed).room;
-    };
-  }
+  file_ready file there changed =
+      let carried = out_carried (OfFile (sources r file)) scope (units_of docs) rule is choice r.files whole.old whole.held file (file_origins file)
+      (local_roots (OfFile (sources r file)) scope (units_of docs) rule is choice r.files whole.old whole.held (λ x. x ≡ file) (file_origins file) file refl) in
+      record {
+        carried = carried;
+        closed = within scope docs rule placed is choice input file;
+        over = record {
+          bases = out_bases r file whole.old
+              (λ n part nth home. part_bases (OfFile (sources r file)) scope (units_of docs) rule is choice r.files whole.old whole.held (λ x. x ≡ file) (file_origins file) n part nth
+              (top_file scope (units_of docs) rule is choice r.files file n part nth home) file home (file_forms r file).texts (file_forms r file).paths (file_forms r file).offsets);
+          lists = file_lists file there;
+          operands = file_operands file carried;
+          room = over file there changed;
+        };
+      }
 
   common_carried : Each (λ u. CarriedUnit OfAny (origin_in r.move r.units u.at) u) (common_units r.move)
   unfolding common_units
@@ -142,32 +190,57 @@ module _ (scope : Scope) (docs : List (Doc ℕ)) (input : ℕ → List ℕ) (are
       let holds : (names : List (List ℕ)) (t : Top) → Has names (OfTop t) (r.move.rows o.number) → In t o.part.tops = λ names t has.
       (((part_row_is o.number o.part).tops_are names t).0 (subst (Has names (OfTop t)) (row_found rule (units_of docs) r.files o.number o.part o.nth) has)).0 in
       subst (λ (u : DwUnit Spot). CarriedUnit OfAny (origin_in r.move r.units u.at) u) o.is
-      (new_carried OfAny (units_of docs) r.move whole.old whole.held (λ x. Unit {0}) (λ i u nth file. any_unit (OfFile (sources_of (input u.file))) (bases_in u.unit) u.unit (unit_read i u nth))
+      (new_carried OfAny (units_of docs) r.move whole.old whole.held (λ x. Unit {0}) (λ i u nth file. any_unit (OfFile (sources_of (input.bytes u.file))) (bases_in u.unit) u.unit (unit_read i u nth))
       o.number o.part o.nth (origin_in r.move r.units (PartialOf o.number)) (common_roots rule (units_of docs) r.files o.number o.part o.nth o.home_is)
-      (part_spaces OfAny scope (units_of docs) rule is choice r.files o.number o.part o.nth (λ t in_part i u nth of. any_unit (OfFile (sources_of (input u.file))) (bases_in u.unit) u.unit (unit_read i u nth))) (part_origin scope (units_of docs) rule is choice r.files o.number o.part o.nth)
+      (part_spaces OfAny scope (units_of docs) rule is choice r.files o.number o.part o.nth (λ t in_part i u nth of. any_unit (OfFile (sources_of (input.bytes u.file))) (bases_in u.unit) u.unit (unit_read i u nth))) (part_origin scope (units_of docs) rule is choice r.files o.number o.part o.nth)
       (λ names t there in_part. tt) holds)))
+
+  any_origins : (i : ℕ) (u : FileUnit Spot) → Nth 0 (units_of docs) i u → Unit {0} → CarriedUnit OfAny (bases_in u.unit) u.unit
+  any_origins i u nth of = any_unit (OfFile (sources_of (input.bytes u.file))) (bases_in u.unit) u.unit (unit_read i u nth)
+
+  bases_common : Each (BasesStand (common_forms r)) (common_units r.move)
+  unfolding common_units
+  bases_common = each_of (BasesStand (common_forms r)) (partial_units r.move Common 0 r.move.parts) (λ v there.
+      (let o = parts_from r.move Common 0 r.move.parts v there in
+      subst (BasesStand (common_forms r)) o.is (common_bases OfAny scope (units_of docs) rule is choice r.files whole.old whole.held (λ x. Unit {0}) any_origins o.number o.part o.nth (λ t in_part. tt) o.home_is (texts r) (paths r) [])))
+
+  common_asks : Each UnitAsksNone (common_units r.move)
+  unfolding common_units
+  common_asks = home_asks scope (units_of docs) rule is choice r.files whole.held Common OfAny common_carried
+
+  common_room : Each (UnitHasRoom (places r)) (fit_units (common_forms r) (common_units r.move))
+  common_room = asks_room (common_forms r) (places r) (common_units r.move) common_asks
 
   pub can_write : CanWrite r
   can_write = record {
     apart = together.apart;
     file = file_ready;
-    common = record { carried = common_carried; closed = common_within scope docs rule placed is choice input; over = over.common };
+    units = λ file there.
+        (let o = doc_at 0 docs file there in
+        stand_after r whole.old file (sources_of (input.bytes file)) _ o.0.units (are file o.0 o.1).reads.means (λ v v_in. named_at 0 0 0 docs file o.0 o.1 v v_in));
+    common = record {
+      carried = common_carried;
+      closed = common_within scope docs rule placed is choice input;
+      over = record { bases = bases_common; lists = none_named; operands = each_more UnitAsksNone (OperandsStand (tells_common r)) (common_units r.move) (asks_operands (tells_common r)) common_asks; room = common_room };
+    };
   }
 
   -- a file by itself says the same with a common file
-  still_says : (common : Option (CommonFile Place)) (file : ℕ) (doc : Doc ℕ) → Nth 0 docs file doc → SaysStill common file (input file) doc
+  still_says : (common : Option (CommonFile Place)) (file : ℕ) (doc : Doc ℕ) → Nth 0 docs file doc → SaysStill common file (input.bytes file) doc
   still_says common file doc nth =
       let o = are file doc nth in
       record {
-        raw = o.raw;
+        raw = input.raw file;
         says = record {
           elf = o.reads.elf;
           mode = wider (given o.limits.entries);
           whole = refl;
           partial = refl;
           forms = refl;
-          spelled = units_again (debug_abbrev (input file)) (given o.limits.entries) refl o.raw 0 0 (debug_info (input file)) o.reads.spelled;
-          means = units_there (at_file file) common (around_of (input file) o.raw) refl o.raw doc.units o.reads.means;
+          spelled = units_again (debug_abbrev (input.bytes file)) (given o.limits.entries) refl (input.raw file) 0 0 (debug_info (input.bytes file)) o.reads.spelled;
+          ranges = o.reads.ranges;
+          lists = still_none (sources_of (input.bytes file)) _ (at_file file) common (λ n. n) None (input.raw file) o.reads.lists;
+          means = units_there (at_file file) common (around_of (input.bytes file) (input.raw file)) refl (input.raw file) doc.units o.reads.means;
         };
       }
 
@@ -177,13 +250,15 @@ module _ (scope : Scope) (docs : List (Doc ℕ)) (input : ℕ → List ℕ) (are
       let ok = back_placing scope docs rule placed is choice input in
       let old = back_old scope docs rule placed is choice input in
       let says = common_back r can_write g ok common made.common made.common_fits in
+      let file_says = λ (file : ℕ) (there : In file r.files) (changed : changes r.move r.units file ≡ true). file_back r can_write g ok (output file) common made.common_fits says file there changed (made.file file there changed) (made.file_fits file there changed) in
       record {
         place = g;
         placing = ok;
         old = old;
         back = record {
           common = says;
-          file = λ file there changed. file_back r can_write g ok (output file) common made.common_fits says file there changed (made.file file there changed) (made.file_fits file there changed);
+          file = file_says;
+          ranges = λ file there changed. ranges_back r can_write g ok (Some (given_by r.common common says.raw)) (output file) file there changed (made.file file there changed) (made.file_fits file there changed) (file_says file there changed);
           still = λ file doc nth. still_says (Some (given_by r.common common says.raw)) file doc nth;
           same = same_back scope docs rule placed is choice input g ok old;
         };

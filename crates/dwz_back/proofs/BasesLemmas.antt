@@ -3,13 +3,13 @@ use Rattle.std.proofs.Common.{◌≡◌, ℕ, false, refl, sym, ap, subst, ◌�
 use Rattle.dwz_docs.specs.Lists.{In}
 use Rattle.dwz_meanings.specs.Documents.{Compile, DwUnit, Kind, OfType, Partial, kind_map}
 use Rattle.dwz_seen.specs.Lists.{Each, Nth}
-use Rattle.dwz_seen.specs.Seen.{IsPartial}
-use Rattle.dwz_seen.proofs.Members.{each_append, each_of, in_left}
+use Rattle.dwz_seen.proofs.Members.{each_append, each_of}
 use Rattle.dwz_alike.specs.Spots.{FileUnit, Spot, row_of}
 use Rattle.dwz_moving.specs.Homes.{Local}
 use Rattle.dwz_moving.specs.Moves.{Move, image_in}
+use Rattle.dwz_moving.specs.Plan.{PartialUnit}
 use Rattle.dwz_same.specs.After.{AreOld, IsNamedBelow}
-use Rattle.dwz_same.specs.Units.{kept_unit, kept_units, out_units, partial_units}
+use Rattle.dwz_same.specs.Units.{kept_unit, kept_units, out_units, partial_unit, partial_units}
 use Rattle.dwz_writing.specs.Bases.{bases_in}
 use Rattle.dwz_writing.specs.Carried.{BasesStand, ComesFromItself, FileStands}
 use Rattle.dwz_writing.specs.Fitting.{EachAttr}
@@ -45,11 +45,9 @@ module _ (r : Run) (file : ℕ) (old : AreOld r.units) where
       }
 
   -- so all units of the file do, where its partial units do
-  pub out_bases : ((v : DwUnit Spot) → In v (out_units m r.units file) → IsPartial v.kind → BasesStand f v) → Each (BasesStand f) (out_units m r.units file)
+  pub out_bases : ((n : ℕ) (part : PartialUnit) → Nth 0 m.parts n part → part.home ≡ Local file → BasesStand f (partial_unit m n)) → Each (BasesStand f) (out_units m r.units file)
   unfolding out_units
   out_bases parts =
       each_append (BasesStand f) (partial_units m (Local file) 0 m.parts) (kept_units m r.units file 0 r.units)
-      (each_of (BasesStand f) (partial_units m (Local file) 0 m.parts) (λ v there.
-      (let o = parts_from m (Local file) 0 m.parts v there in
-      parts v (in_left v (partial_units m (Local file) 0 m.parts) (kept_units m r.units file 0 r.units) there) (subst (λ (w : DwUnit Spot). IsPartial w.kind) o.is tt))))
+      (each_of (BasesStand f) (partial_units m (Local file) 0 m.parts) (λ v there. (let o = parts_from m (Local file) 0 m.parts v there in subst (BasesStand f) o.is (parts o.number o.part o.nth o.home_is))))
       (each_of (BasesStand f) (kept_units m r.units file 0 r.units) (λ v there. (let o = kept_from m r.units file 0 r.units v there in subst (BasesStand f) o.is (kept_bases o.number o.unit o.nth))))

@@ -36,7 +36,8 @@ use Rattle.dwz_same.proofs.TreeLemmas.{Behind, OfASpace, OfATop, TreeOrigin, see
 use Rattle.dwz_writing.specs.Carried.{ClosedIn}
 use Rattle.dwz_writing.specs.Meant.{all_entry_keys}
 use Rattle.dwz_writing.proofs.ChosenNames.{all_seen_key}
-use Rattle.dwz_back.specs.Back.{run_of, tells_common}
+use Rattle.dwz_back.specs.Back.{run_of}
+use Rattle.dwz_back.specs.Files.{Stored, tells_common}
 use Rattle.dwz_back.proofs.HomeLemmas.{parts_from}
 use Rattle.dwz_back.proofs.NameLemmas.{common_entries}
 use Rattle.dwz_back.proofs.WithinLemmas.{none_mapped, parts_to}
@@ -210,7 +211,7 @@ module _ (scope : Scope) (units : List (FileUnit Spot)) (rule : Rule) (is : IsAl
 
 -- each reference of the common file names an entry of it
 pub common_within : (scope : Scope) (docs : List (Doc ℕ)) (rule : Rule) → Each (λ doc. ArePlaced doc.units) docs → IsAlike scope (units_of docs) rule.alike → IsChoice (units_of docs) rule
-    → (input : ℕ → List ℕ) → ClosedIn (tells_common (run_of rule docs input)) (common_units (run_of rule docs input).move)
+    → (input : Stored) → ClosedIn (tells_common (run_of rule docs input)) (common_units (run_of rule docs input).move)
 common_within scope docs rule placed is choice input e a k there attr ref =
     let r = run_of rule docs input in
     let whole = replaced scope docs rule placed is choice in

@@ -1,40 +1,25 @@
 -- One file by itself.
-use Rattle.std.proofs.Common.{◌≡◌, ℕ, true, false, List, [], ◌∷◌, map, refl, sym, ap, subst, ◌∙◌, inl, inr}
-use Rattle.std.proofs.lemmas.List.{append-nil}
-use Rattle.dwz_meanings.specs.Documents.{Doc, DwUnit, unit_map}
-use Rattle.dwz_meanings.specs.Files.{Limits, Reads, debug_info, sources_of}
+use Rattle.std.proofs.Common.{◌≡◌, ℕ, true, false, List, [], ◌∷◌, refl, sym, ap, subst, ◌∙◌, inl, inr}
+use Rattle.dwz_meanings.specs.Documents.{Doc}
+use Rattle.dwz_meanings.specs.Files.{Limits, Reads, debug_info}
 use Rattle.dwz_docs.specs.Lists.{In}
-use Rattle.dwz_meanings.specs.Meanings.{Sources}
 use Rattle.dwz_docs.specs.Units.{RawUnit}
 use Rattle.dwz_docs.specs.Values.{AreBytes}
 use Rattle.dwz_alike.specs.Alike.{Apart, IsAlike}
-use Rattle.dwz_alike.specs.Spots.{FileUnit, Spot, file_numbers, in_file, named_files, spot_in, spots_from, units_of}
+use Rattle.dwz_alike.specs.Spots.{file_numbers, units_of}
 use Rattle.dwz_seen.specs.Lists.{Each, Nth}
-use Rattle.dwz_seen.specs.Seen.{Seen, all_seen, seen_below, seen_roots}
-use Rattle.dwz_seen.proofs.Members.{nth_in}
 use Rattle.dwz_moving.specs.Homes.{IsChoice, Rule}
-use Rattle.dwz_same.specs.After.{ArePlaced, FilesSame, Replaces}
-use Rattle.dwz_same.specs.Units.{all_units, changes, common_units, out_units}
-use Rattle.dwz_same.proofs.FileLemmas.{files_same, replaced}
-use Rattle.dwz_writing.specs.Bases.{Bases, bases_in}
-use Rattle.dwz_writing.specs.Carried.{BasesStand, BuiltUnit, CarriedUnit, ClosedIn, OfAny, OfFile, OperandsStand}
-use Rattle.dwz_writing.specs.Fitting.{UnitHasRoom}
-use Rattle.dwz_writing.specs.Placing.{FitsSections, fit_units}
-use Rattle.dwz_writing.proofs.CarriedMaps.{unit_carried}
-use Rattle.dwz_back.specs.Back.{CanWrite, FileOver, IsReady, OneBack, WasReadFrom, one_run, tells, tells_common}
-use Rattle.dwz_back.specs.Files.{HasSections, Run, common_forms, file_forms, fitted, place_of, places, sections_of, sources}
-use Rattle.dwz_back.proofs.BasesLemmas.{out_bases}
+use Rattle.dwz_same.specs.After.{ArePlaced}
+use Rattle.dwz_same.specs.Units.{changes, common_units}
+use Rattle.dwz_writing.specs.Placing.{FitsSections}
+use Rattle.dwz_back.specs.AllFiles.{AreOver, AreRead}
+use Rattle.dwz_back.specs.Back.{CanWrite, FileOver, OneBack, one_run, one_stored}
+use Rattle.dwz_back.specs.Files.{HasSections, Run, Stored, place_of, sections_of}
+use Rattle.dwz_back.proofs.AllLemmas.{can_write}
 use Rattle.dwz_back.proofs.HomeLemmas.{no_common}
-use Rattle.dwz_back.proofs.OutsCarried.{out_carried}
-use Rattle.dwz_back.proofs.OriginLemmas.{bases_mapped}
 use Rattle.dwz_back.proofs.ReadPlaces.{read_from}
-use Rattle.dwz_back.proofs.WithinLemmas.{within}
 use Rattle.dwz_back.proofs.SameLemmas.{same_back}
 use Rattle.dwz_back.proofs.SaysLemmas.{alone_back, written_places}
-
-none_seen : (e : Seen Spot) → In e (all_seen []) → ⊥
-unfolding seen_roots seen_below
-none_seen e h = h
 
 nth_first : (doc : Doc ℕ) (file : ℕ) (d : Doc ℕ) → Nth 0 (doc ∷ []) file d → In file (file_numbers 0 (doc ∷ []))
 unfolding file_numbers
@@ -51,78 +36,41 @@ is_first : (doc : Doc ℕ) → In 0 (file_numbers 0 (doc ∷ []))
 unfolding file_numbers
 is_first doc = inl refl
 
-module _ (from : Sources → Type 0) (doc : Doc ℕ) (carried : Each (λ v. CarriedUnit from (bases_in v) v) doc.units) where
-  filed_carried : (some : List (DwUnit ℕ)) (f : ℕ → Spot) → Each (λ v. CarriedUnit from (bases_in v) v) some → (u : FileUnit Spot) → In u (map (in_file 0) (map (unit_map f) some)) → CarriedUnit from (bases_in u.unit) u.unit
-  filed_carried [] f are u there = absurd there
-  filed_carried (v ∷ some) f are u (inl e) =
-      subst (λ (w : FileUnit Spot). CarriedUnit from (bases_in w.unit) w.unit) e (subst (λ (b : Bases). CarriedUnit from b (unit_map f v)) (sym (bases_mapped f v)) (unit_carried from (bases_in v) f v are.0))
-  filed_carried (v ∷ some) f are u (inr r) = filed_carried some f are.1 u r
-
-  named_carried : (i : ℕ) (u : FileUnit Spot) → Nth 0 (units_of (doc ∷ [])) i u → CarriedUnit from (bases_in u.unit) u.unit
-  unfolding named_files
-  named_carried i u nth =
-      let filed = map (in_file 0) (map (unit_map (spot_in (spots_from 0 0 doc.units))) doc.units) in
-      filed_carried doc.units (spot_in (spots_from 0 0 doc.units)) carried u (subst (In u) (append-nil filed) (nth_in 0 (units_of (doc ∷ [])) i u nth))
-
-module _ (l : Limits) (input : List ℕ) (raw : List RawUnit) (doc : Doc ℕ) (reads : Reads l input raw doc) (are : AreBytes (debug_info input)) (built : Each BuiltUnit doc.units)
-    (rule : Rule) (is : IsAlike Apart (units_of (doc ∷ [])) rule.alike) (choice : IsChoice (units_of (doc ∷ [])) rule)
-    (over : FileOver (one_run rule doc input) 0) where
+module _ (l : Limits) (input : List ℕ) (raw : List RawUnit) (doc : Doc ℕ) (reads : Reads l input raw doc) (are : AreBytes (debug_info input))
+    (rule : Rule) (is : IsAlike Apart (units_of (doc ∷ [])) rule.alike) (choice : IsChoice (units_of (doc ∷ [])) rule) (over : FileOver (one_run rule doc input raw) 0) where
   abbrev docs : List (Doc ℕ)
   docs = doc ∷ []
 
-  abbrev r : Run
-  r = one_run rule doc input
+  abbrev stored : Stored
+  stored = one_stored input raw
 
-  was_read : WasReadFrom (sources_of input) doc.units
-  was_read = read_from l input raw doc reads are built
+  abbrev r : Run
+  r = one_run rule doc input raw
 
   placed : Each (λ d. ArePlaced d.units) docs
-  placed = (was_read.placed, tt)
+  placed = ((read_from l input raw doc reads are).placed, tt)
 
-  together : FilesSame Apart docs rule (file_numbers 0 docs)
-  together = files_same Apart docs rule placed is choice
-
-  whole : Replaces (units_of docs) r.move (all_units r.move r.units r.files)
-  whole = replaced Apart docs rule placed is choice
+  are_read : AreRead stored docs
+  are_read file d (inl e) = record { limits = l; reads = subst (Reads l input raw) e.1 reads; are_bytes = are }
+  are_read file d (inr x) = absurd x
 
   none_shared : common_units r.move ≡ []
   unfolding common_units
   none_shared = no_common (units_of docs) rule is r.files r.move refl
 
-  ready : IsReady (OfFile (sources r 0)) (file_forms r 0) (tells r 0) (places r) (out_units r.move r.units 0)
-  unfolding fitted
-  ready = record {
-    carried = out_carried (OfFile (sources_of input)) Apart (units_of docs) rule is choice r.files whole.old whole.held 0 (λ i u nth file. named_carried (OfFile (sources_of input)) doc was_read.carried i u nth) over.roots;
-    closed = within Apart docs rule placed is choice (λ file. input) 0;
-    over = record { bases = out_bases r 0 whole.old over.lines; operands = over.operands; room = over.room };
-  }
-
-  none_fitted : fit_units (common_forms r) (common_units r.move) ≡ []
-  unfolding fit_units
-  none_fitted = ap (fit_units (common_forms r)) none_shared
+  all_over : AreOver r
+  all_over file there changed = subst (FileOver r) (sym (first_file doc file there)) over
 
   can : CanWrite r
-  can = record {
-    apart = together.apart;
-    file = λ file there changed. subst (λ (f : ℕ). IsReady (OfFile (sources r f)) (file_forms r f) (tells r f) (places r) (out_units r.move r.units f)) (sym (first_file doc file there)) ready;
-    common = record {
-      carried = subst (Each (λ u. CarriedUnit OfAny ((common_forms r).origin u.at) u)) (sym none_shared) tt;
-      closed = subst (ClosedIn (tells_common r)) (sym none_shared) (λ e a k there attr ref. absurd (none_seen e there));
-      over = record {
-        bases = subst (Each (BasesStand (common_forms r))) (sym none_shared) tt;
-        operands = subst (Each (OperandsStand (tells_common r))) (sym none_shared) tt;
-        room = subst (Each (UnitHasRoom (places r))) (sym none_fitted) tt;
-      };
-    };
-  }
+  can = can_write Apart docs stored are_read rule is choice all_over
 
-  pub one_back : changes r.move r.units 0 ≡ true → (out : List ℕ) → HasSections input out (sections_of r 0) → FitsSections (sections_of r 0) → OneBack doc rule input out
+  pub one_back : changes r.move r.units 0 ≡ true → (out : List ℕ) → HasSections r 0 out → FitsSections (sections_of r 0) → OneBack doc rule input raw out
   one_back changed out has small =
-      let ok = written_places r together.apart in
+      let ok = written_places r can.apart in
       let not_old : (file : ℕ) → In file r.files → changes r.move r.units file ≡ false → ⊥ = λ file there still. (let yes = subst (λ (f : ℕ). changes r.move r.units f ≡ true) (sym (first_file doc file there)) changed in let both : true ≡ false = sym yes ∙ still in cc) in
       record {
         says = alone_back r can (place_of r) ok out none_shared 0 (is_first doc) changed has small;
-        same = same_back Apart docs rule placed is choice (λ file. input) (place_of r) ok (record {
+        same = same_back Apart docs rule placed is choice stored (place_of r) ok (record {
           shown = λ file d nth still. absurd (not_old file (nth_first doc file d nth) still);
           file = λ file there still. absurd (not_old file there still);
           one = λ file there still. absurd (not_old file there still);

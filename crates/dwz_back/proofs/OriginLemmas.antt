@@ -15,6 +15,7 @@ use Rattle.dwz_moving.specs.Plan.{PartialUnit, partials}
 use Rattle.dwz_moving.proofs.UserLemmas.{Fair, moves_self, rep_is, used, used_by}
 use Rattle.dwz_same.proofs.HeldLemmas.{part_found}
 use Rattle.dwz_writing.specs.Bases.{bases_in, offset_in}
+use Rattle.dwz_writing.proofs.ReadAgain.{same_bases}
 use Rattle.dwz_back.specs.Files.{bases_at, origin_in, unit_in_part}
 use Rattle.dwz_back.proofs.HomeLemmas.{part_is}
 
@@ -68,9 +69,7 @@ first_mapped f name (a ∷ attrs) = by (first_mapped f name attrs) (eqb a.name n
   by rest false = rest
 
 pub bases_mapped : {P Q : Type 0} (f : P → Q) (u : DwUnit P) → bases_in (unit_map f u) ≡ bases_in u
-bases_mapped f u =
-    ap (λ (o : Option ℕ). record { slots = o; line = offset_in (first_named 0x10 (map (attr_map f) u.root.attrs)) }) (first_mapped f 0x72 u.root.attrs)
-    ∙ ap (λ (o : Option ℕ). record { slots = offset_in (first_named 0x72 u.root.attrs); line = o }) (first_mapped f 0x10 u.root.attrs)
+bases_mapped f u = same_bases _ _ _ _ _ _ (first_mapped f 0x72 u.root.attrs) (first_mapped f 0x10 u.root.attrs) (first_mapped f 0x8c u.root.attrs)
 
 first_there : (tops : List Top) (t : Top) → In t tops → (x : Top) × In x tops × (x.unit ≡ first_unit tops)
 first_there [] t h = absurd h
@@ -100,11 +99,14 @@ module _ (scope : Scope) (units : List (FileUnit Spot)) (rule : Rule) (is : IsAl
       let user = used rule.alike units b.number b hb.there (moves_self units rule fair b.number moves_b) in
       first_user a ha.there (ap is_home ha.home ∙ p.moves) ha.rep b.unit (subst (In b.unit) (hb.users ∙ sym ha.users) user)
 
-  -- what is known of the unit of such a top
-  pub part_origin : (n : ℕ) (part : PartialUnit) → Nth 0 m.parts n part → (t : Top) → In t part.tops → bases_at units t.unit ≡ origin_in m units (PartialOf n)
-  part_origin n part nth t there =
+  -- it is of the unit that the first of them is of
+  pub first_is : (n : ℕ) (part : PartialUnit) → Nth 0 m.parts n part → (t : Top) → In t part.tops → t.unit ≡ first_unit part.tops
+  first_is n part nth t there =
       let o = first_there part.tops t there in
       let a = not_before n part nth t o.0 there o.1 in
       let b = not_before n part nth o.0 t o.1 there in
-      let same : t.unit ≡ first_unit part.tops = omega (arith, a, b, o.2) in
-      ap (bases_at units) (same ∙ ap unit_in_part (sym (part_found 0 m.parts n n part nth (omega arith))))
+      omega (arith, a, b, o.2)
+
+  -- what is known of the unit of such a top
+  pub part_origin : (n : ℕ) (part : PartialUnit) → Nth 0 m.parts n part → (t : Top) → In t part.tops → bases_at units t.unit ≡ origin_in m units (PartialOf n)
+  part_origin n part nth t there = ap (bases_at units) (first_is n part nth t there ∙ ap unit_in_part (sym (part_found 0 m.parts n n part nth (omega arith))))

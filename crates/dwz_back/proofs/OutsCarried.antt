@@ -53,7 +53,7 @@ module _ (from : Sources → Type 0) (units : List (FileUnit Spot)) (m : Move) (
   abbrev f : Spot → Spot
   f = image_in m
 
-  top_carried : (t : Top) → In t (tops_of units) → Good t.file → (d : Node Spot) → EntryOfTop d t → CarriedNode from (bases_at units t.unit) d
+  pub top_carried : (t : Top) → In t (tops_of units) → Good t.file → (d : Node Spot) → EntryOfTop d t → CarriedNode from (bases_at units t.unit) d
   top_carried t there good d x =
       let o = unit_of units t there in
       let r = unit_row units t.unit o.unit o.nth o.compile in

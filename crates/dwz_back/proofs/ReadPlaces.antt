@@ -3,18 +3,19 @@ use Rattle.std.proofs.Common.{◌≡◌, ℕ, suc, ◌+◌, ◌<◌, ◌≤◌, 
 use Rattle.std.proofs.lemmas.Bool.{and_parts, or_cases}
 use Rattle.std.proofs.lemmas.List.{length-append}
 use Rattle.dwz_bytes.specs.Spelling.{IsGroups}
-use Rattle.dwz_meanings.specs.Documents.{Attr, Doc, DwUnit, Entries, Kind, Num, Plain, Value, only, ref}
+use Rattle.dwz_meanings.specs.Documents.{Attr, Doc, DwUnit, Entries, Kind, Num, Plain, Sec, Value, only, ref}
+use Rattle.dwz_meanings.specs.Shared.{operands_of}
+use Rattle.dwz_back.proofs.ReadBuilt.{own, units_built}
+use Rattle.dwz_back.proofs.ReadNamed.{expr_named, list_named}
 use Rattle.dwz_docs.specs.Entries.{Mode, RawAttr, RawEntry, SpellsEntry, SpellsFront, UnitContext, given, root_position}
 use Rattle.dwz_meanings.specs.Files.{Limits, Reads, debug_abbrev, debug_info, sources_of}
 use Rattle.dwz_docs.specs.Lists.{In, has}
 use Rattle.dwz_model.specs.declared.place.Base.{Base}
 use Rattle.dwz_model.specs.declared.place.Base.TheVariants.{Unit as FromUnit, Info as FromInfo}
 use Rattle.dwz_meanings.specs.declared.exprs.Operand.{Operand}
-use Rattle.dwz_meanings.specs.Exprs.{AreNamed, ExprContext, Expression, Found, SpellsExpr, SpellsOp, SpellsWithin, joined, most_inside, operands_in}
-use Rattle.dwz_meanings.specs.Sequences.{Spelling, SpellsAll}
+use Rattle.dwz_meanings.specs.Exprs.{AreNamed}
 use Rattle.dwz_meanings.proofs.MeaningLemmas.{has_in}
-use Rattle.dwz_meanings.proofs.StandLemmas.{operands_both}
-use Rattle.dwz_meanings.specs.Meanings.{Around, Class, MeanAttrs, MeanEntries, MeanUnits, MeansAs, MeansAttr, MeansKind, MeansUnit, OfAddress, OfBlock, OfCommonEntry, OfCommonText, OfConstant, OfExpression, OfFlag, OfIndex, OfInfoEntry, OfListIndex, OfOffset, OfSignature, OfText, OfTextBySlot, OfTextInLineStr, OfTextInStr, OfUnitEntry, Scope, Sources, IfSo, IsFileBy, Unread, all_places, class_of, entries_for, expr_context, kept_width, names_file, names_list, number_of, offset_of, places_in, places_of, scope_of, stmt_list, target_of, targets, without_siblings}
+use Rattle.dwz_meanings.specs.Meanings.{Around, Class, IsLocList, MeanAttrs, MeanEntries, MeanUnits, MeansAs, MeansAttr, MeansKind, MeansUnit, OfAddress, OfBlock, OfCommonEntry, OfCommonText, OfConstant, OfExpression, OfFlag, OfIndex, OfInfoEntry, OfListIndex, OfOffset, OfSignature, OfText, OfTextBySlot, OfTextInLineStr, OfTextInStr, OfUnitEntry, Scope, Sources, IfSo, IsFileBy, Unread, all_places, class_of, entries_for, expr_context, kept_width, names_file, names_list, number_of, offset_of, places_in, places_of, scope_of, stmt_list, target_of, targets, without_siblings}
 use Rattle.dwz_docs.specs.Trees.{End, Entry, Forest, IfChildren, Position, SpellsForest, behind, first_below}
 use Rattle.dwz_docs.specs.Units.{CompileUnit, PartialUnit, RawKind, RawUnit, SpellsTree, SpellsUnit, SpellsUnits, TypeUnit, entry_count, header_size, is_read, kind_by, unit_type}
 use Rattle.dwz_docs.specs.Values.{AreBytes}
@@ -24,12 +25,10 @@ use Rattle.dwz_seen.specs.Shown.{HaveMains, keys, unit_keys, units_keys}
 use Rattle.dwz_seen.proofs.Members.{each_in, in_cases, in_left, in_right}
 use Rattle.dwz_seen.proofs.SeenLemmas.{entry_seen, root_from, root_seen, seen_from}
 use Rattle.dwz_same.specs.After.{ArePlaced}
-use Rattle.dwz_writing.specs.Carried.{BuiltAttr, BuiltEntries, BuiltUnit, CarriedUnit, OfFile}
+use Rattle.dwz_writing.specs.Carried.{CarriedUnit, OfFile}
 use Rattle.dwz_writing.specs.Bases.{bases_in}
 use Rattle.dwz_writing.specs.Meant.{KindSays, entry_keys}
-use Rattle.dwz_writing.specs.Sound.{IsBuilt, IsBuiltAs}
 use Rattle.dwz_writing.proofs.ReadAgain.{keys_read, units_carried}
-use Rattle.dwz_writing.proofs.ValuesMean.{not_so}
 use Rattle.dwz_back.specs.Back.{WasReadFrom}
 
 -- ---- numbers that rise
@@ -137,15 +136,11 @@ units_rise abbrevs mode before (u ∷ units) start bytes is =
 
 -- ---- the same places in what they mean
 
--- what surrounds the units of a file by itself
-abbrev own : Sources → List ℕ → Around ℕ
-own sources all = record { sources = sources; all = all; place = λ n. n; common = None }
-
 map_same : (ps : List ℕ) → map (λ p. p) ps ≡ ps
 map_same [] = refl
 map_same (p ∷ ps) = ap (λ (w : List ℕ). p ∷ w) (map_same ps)
 
-entries_places : (s : Scope ℕ) (f : Forest RawEntry) (g : Entries ℕ) → s.around.place ≡ (λ n. n) → MeanEntries s f g → keys g ≡ places_in f
+pub entries_places : (s : Scope ℕ) (f : Forest RawEntry) (g : Entries ℕ) → s.around.place ≡ (λ n. n) → MeanEntries s f g → keys g ≡ places_in f
 entries_places s f g same h = keys_read s f g h ∙ ap (λ (p : ℕ → ℕ). map p (places_in f)) same ∙ map_same (places_in f)
 
 module _ (sources : Sources) (all : List ℕ) where
@@ -216,28 +211,22 @@ only_known s plain v e p is = absurd (subst (λ (w : Value ℕ). In p w.refs) e 
 ref_known : (s : Scope ℕ) (q : ℕ) (v : Value ℕ) → v ≡ ref q → (p : ℕ) → In p v.refs → q ≡ p
 ref_known s q v e p is = elim (subst (λ (w : Value ℕ). In p w.refs) e is) [ inl x ↦ x | inr r ↦ absurd r ]
 
--- each operand of an expression names an entry
-named_both : (names : Operand → Bool) (a b : List Operand) → AreNamed names a → AreNamed names b → AreNamed names (a ++ b)
-named_both names [] b h k = k
-named_both names (o ∷ a) b h k = (h.0, named_both names a b h.1 k)
-
-ops_named : (c : ExprContext) (IsExpr : Spelling Expression) (ops : List (List Found)) (start : ℕ) (bytes : List ℕ) → SpellsAll (SpellsOp c IsExpr) ops start bytes → AreNamed c.names (operands_in (joined ops))
-unfolding joined operands_in
-ops_named c IsExpr [] start bytes is = tt
-ops_named c IsExpr (x ∷ ops) start bytes is =
-    subst (AreNamed c.names) (sym (operands_both x (joined ops))) (named_both c.names (operands_in x) (operands_in (joined ops)) is.first.named (ops_named c IsExpr ops _ is.second_bytes is.second))
-
-expr_named : (c : ExprContext) (e : Expression) (start : ℕ) (bytes : List ℕ) → SpellsExpr c e start bytes → AreNamed c.names e.operands
-expr_named c e start bytes is = subst (λ (x : Expression). AreNamed c.names x.operands) (sym is.made) (ops_named c (SpellsWithin c most_inside) is.ops start bytes is.spelled)
-
 base_known : (s : Scope ℕ) (base : Base) (n : ℕ) → has n (entries_for s base) ≡ true → Known s n
 base_known s FromUnit n h = inl (has_in n s.own h)
 base_known s FromInfo n h = inr (has_in n s.around.all h)
 
-target_known : (s : Scope ℕ) → s.around.place ≡ (λ n. n) → (os : List Operand) → AreNamed (expr_context s 1).names os → (p : ℕ) → In p (targets s os) → Known s p
+target_known : (s : Scope ℕ) → s.around.place ≡ (λ n. n) → (os : List Operand) → AreNamed (λ o. has (target_of s o) (entries_for s o.base)) os → (p : ℕ) → In p (targets s os) → Known s p
 target_known s same [] named p is = absurd is
 target_known s same (o ∷ os) named p (inl e) = subst (Known s) (ap (λ (f : ℕ → ℕ). f (target_of s o)) (sym same) ∙ e) (base_known s o.base (target_of s o) named.0)
 target_known s same (o ∷ os) named p (inr r) = target_known s same os named.1 p r
+
+list_known : (s : Scope ℕ) → s.around.place ≡ (λ n. n) → (place : ℕ) (v : Value ℕ) → IsLocList s place v → (p : ℕ) → In p v.refs → Known s p
+list_known s same place v h p is =
+    target_known s same (operands_of h.list.exprs) (list_named (expr_context s 7) h.list place h.stands.front h.stands.spelled) p (subst (λ (w : Value ℕ). In p w.refs) h.value is)
+
+offset_known : (s : Scope ℕ) → s.around.place ≡ (λ n. n) → (a : RawAttr) (v : Value ℕ) (b : Bool) → IfSo b (IsLocList s (offset_of a) v) (v ≡ only (Sec (offset_of a))) → (p : ℕ) → In p v.refs → Known s p
+offset_known s same a v true h p is = list_known s same (offset_of a) v h p is
+offset_known s same a v false h p is = only_known s _ v h p is
 
 file_known : (s : Scope ℕ) (o : Option ℕ) (number : ℤ) (v : Value ℕ) → IsFileBy o s number v → (p : ℕ) → In p v.refs → Known s p
 file_known s None number v h p is = only_known s _ v h.1 p is
@@ -247,51 +236,48 @@ constant_known : (s : Scope ℕ) (a : RawAttr) (v : Value ℕ) (b : Bool) → If
 constant_known s a v true h p is = file_known s (stmt_list s) (number_of a.raw) v h p is
 constant_known s a v false h p is = only_known s _ v h p is
 
-class_known : (k : Class) (s : Scope ℕ) (same : (s.around.place ≡ (λ n. n)) × (s.around.common ≡ None)) (a : RawAttr) (v : Value ℕ) → IsBuiltAs k a.pair.name → MeansAs k s a v → (p : ℕ) → In p v.refs → Known s p
-class_known OfAddress s same a v built h p is = only_known s _ v h p is
-class_known OfBlock s same a v built h p is = only_known s _ v h p is
-class_known OfConstant s same a v built h p is = constant_known s a v (names_file a.pair.name) h p is
-class_known OfFlag s same a v built h p is = only_known s _ v h p is
-class_known OfText s same a v built h p is = only_known s _ v h p is
-class_known OfTextInStr s same a v built h p is = only_known s _ v h.value p is
-class_known OfTextInLineStr s same a v built h p is = only_known s _ v h.value p is
-class_known OfTextBySlot s same a v built h p is = only_known s _ v h.text.value p is
-class_known OfUnitEntry s same a v built h p is = inl (subst (λ (w : ℕ). In w s.own) (ap (λ (f : ℕ → ℕ). f (s.unit + offset_of a)) (sym same.0) ∙ ref_known s _ v h.1 p is) h.0)
-class_known OfInfoEntry s same a v built h p is = inr (subst (λ (w : ℕ). In w s.around.all) (ap (λ (f : ℕ → ℕ). f (offset_of a)) (sym same.0) ∙ ref_known s _ v h.1 p is) h.0)
-class_known OfSignature s same a v built h p is = only_known s _ v h p is
-class_known OfOffset s same a v built h p is = only_known s _ v (not_so (names_list a.pair.name) _ _ built h) p is
-class_known OfExpression s same a v built h p is = target_known s same.0 h.expression.operands (expr_named (expr_context s 1) h.expression _ _ h.spelled) p (subst (λ (w : Value ℕ). In p w.refs) h.value is)
-class_known OfListIndex s same a v built h p is = absurd built
-class_known OfIndex s same a v built h p is = only_known s _ v h p is
-class_known OfCommonEntry s same a v built h p is = absurd (let none = sym same.1 ∙ h.1 in cc)
-class_known OfCommonText s same a v built h p is = absurd built
-class_known Unread s same a v built h p is = absurd built
+class_known : (k : Class) (s : Scope ℕ) (same : (s.around.place ≡ (λ n. n)) × (s.around.common ≡ None)) (a : RawAttr) (v : Value ℕ) → MeansAs k s a v → (p : ℕ) → In p v.refs → Known s p
+class_known OfAddress s same a v h p is = only_known s _ v h p is
+class_known OfBlock s same a v h p is = only_known s _ v h p is
+class_known OfConstant s same a v h p is = constant_known s a v (names_file a.pair.name) h p is
+class_known OfFlag s same a v h p is = only_known s _ v h p is
+class_known OfText s same a v h p is = only_known s _ v h p is
+class_known OfTextInStr s same a v h p is = only_known s _ v h.value p is
+class_known OfTextInLineStr s same a v h p is = only_known s _ v h.value p is
+class_known OfTextBySlot s same a v h p is = only_known s _ v h.text.value p is
+class_known OfUnitEntry s same a v h p is = inl (subst (λ (w : ℕ). In w s.own) (ap (λ (f : ℕ → ℕ). f (s.unit + offset_of a)) (sym same.0) ∙ ref_known s _ v h.1 p is) h.0)
+class_known OfInfoEntry s same a v h p is = inr (subst (λ (w : ℕ). In w s.around.all) (ap (λ (f : ℕ → ℕ). f (offset_of a)) (sym same.0) ∙ ref_known s _ v h.1 p is) h.0)
+class_known OfSignature s same a v h p is = only_known s _ v h p is
+class_known OfOffset s same a v h p is = offset_known s same.0 a v (names_list a.pair.name) h p is
+class_known OfExpression s same a v h p is = target_known s same.0 h.expression.operands (expr_named (expr_context s 1) h.expression _ _ h.spelled) p (subst (λ (w : Value ℕ). In p w.refs) h.value is)
+class_known OfListIndex s same a v h p is = list_known s same.0 _ v h.list p is
+class_known OfIndex s same a v h p is = only_known s _ v h p is
+class_known OfCommonEntry s same a v h p is = absurd (let none = sym same.1 ∙ h.1 in cc)
+class_known OfCommonText s same a v h p is = absurd (let none = sym same.1 ∙ h.1 in cc)
+class_known Unread s same a v h p is = absurd h
 
-attr_built : (s : Scope ℕ) (r : RawAttr) (b : Attr ℕ) → MeansAttr s r b → BuiltAttr b → IsBuiltAs (class_of r.pair.form) r.pair.name
-attr_built s r b means built = subst (λ (name : ℕ). IsBuilt r.pair.form name) means.name (subst (λ (form : ℕ). IsBuilt form b.name) means.form built)
+attrs_known : (s : Scope ℕ) (same : (s.around.place ≡ (λ n. n)) × (s.around.common ≡ None)) (raw : List RawAttr) (attrs : List (Attr ℕ)) → MeanAttrs s raw attrs → (a : Named ℕ) → In a (map named_value attrs) → (p : ℕ) → In p a.value.refs → Known s p
+attrs_known s same [] [] h a is p ref = absurd is
+attrs_known s same (r ∷ raw) (b ∷ attrs) h a (inl x) p ref = class_known (class_of r.pair.form) s same r b.value h.0.value p (subst (λ (w : Named ℕ). In p w.value.refs) (sym x) ref)
+attrs_known s same (r ∷ raw) (b ∷ attrs) h a (inr y) p ref = attrs_known s same raw attrs h.1 a y p ref
+attrs_known s same _ _ h a is p ref = absurd h
 
-attrs_known : (s : Scope ℕ) (same : (s.around.place ≡ (λ n. n)) × (s.around.common ≡ None)) (raw : List RawAttr) (attrs : List (Attr ℕ)) → MeanAttrs s raw attrs → Each BuiltAttr attrs → (a : Named ℕ) → In a (map named_value attrs) → (p : ℕ) → In p a.value.refs → Known s p
-attrs_known s same [] [] h built a is p ref = absurd is
-attrs_known s same (r ∷ raw) (b ∷ attrs) h built a (inl x) p ref = class_known (class_of r.pair.form) s same r b.value (attr_built s r b h.0 built.0) h.0.value p (subst (λ (w : Named ℕ). In p w.value.refs) (sym x) ref)
-attrs_known s same (r ∷ raw) (b ∷ attrs) h built a (inr y) p ref = attrs_known s same raw attrs h.1 built.1 a y p ref
-attrs_known s same _ _ h built a is p ref = absurd h
-
-seen_known : (s : Scope ℕ) (same : (s.around.place ≡ (λ n. n)) × (s.around.common ≡ None)) (f : Forest RawEntry) (g : Entries ℕ) → MeanEntries s f g → BuiltEntries g → (e : Seen ℕ) → In e (seen g) → (a : Named ℕ) → In a e.attrs → (p : ℕ) → In p a.value.refs → Known s p
+seen_known : (s : Scope ℕ) (same : (s.around.place ≡ (λ n. n)) × (s.around.common ≡ None)) (f : Forest RawEntry) (g : Entries ℕ) → MeanEntries s f g → (e : Seen ℕ) → In e (seen g) → (a : Named ℕ) → In a e.attrs → (p : ℕ) → In p a.value.refs → Known s p
 unfolding seen
-seen_known s same End End h built e is a attr p ref = absurd is
-seen_known s same (Entry r f f') (Entry d g g') h built e (inl x) a attr p ref = attrs_known s same (without_siblings r.attrs) d.attrs h.0.attrs built.0 a (subst (λ (w : Seen ℕ). In a w.attrs) (sym x) attr) p ref
-seen_known s same (Entry r f f') (Entry d g g') h built e (inr y) a attr p ref = elim (in_cases e (seen g) (seen g') y) [
-  | inl b ↦ seen_known s same f g h.1 built.1 e b a attr p ref
-  | inr c ↦ seen_known s same f' g' h.2 built.2 e c a attr p ref
+seen_known s same End End h e is a attr p ref = absurd is
+seen_known s same (Entry r f f') (Entry d g g') h e (inl x) a attr p ref = attrs_known s same (without_siblings r.attrs) d.attrs h.0.attrs a (subst (λ (w : Seen ℕ). In a w.attrs) (sym x) attr) p ref
+seen_known s same (Entry r f f') (Entry d g g') h e (inr y) a attr p ref = elim (in_cases e (seen g) (seen g') y) [
+  | inl b ↦ seen_known s same f g h.1 e b a attr p ref
+  | inr c ↦ seen_known s same f' g' h.2 e c a attr p ref
 ]
-seen_known s same _ _ h built e is a attr p ref = absurd h
+seen_known s same _ _ h e is a attr p ref = absurd h
 
 -- ---- an entry stands at each place
 
 abbrev StandsAt : List (DwUnit ℕ) → ℕ → Type 0
 StandsAt units p = (d : Seen ℕ) × In d (all_seen units) × (d.at ≡ p)
 
-key_seen : (g : Entries ℕ) (p : ℕ) → In p (keys g) → (d : Seen ℕ) × In d (seen g) × (d.at ≡ p)
+pub key_seen : {P : Type 0} (g : Entries P) (p : P) → In p (keys g) → (d : Seen P) × In d (seen g) × (d.at ≡ p)
 unfolding keys seen
 key_seen End p h = absurd h
 key_seen (Entry e f g) p (inl x) = (see e f, inl refl, x)
@@ -323,7 +309,7 @@ own_known (w ∷ raw) u (inr r) p is = in_right p (places_of w) (all_places raw)
 
 -- ---- all of it
 
-module _ (abbrevs info : List ℕ) (mode : Mode) (raw : List RawUnit) (sources : Sources) (units : List (DwUnit ℕ)) (spelled : SpellsUnits abbrevs mode 0 raw 0 info) (means : MeanUnits (own sources (all_places raw)) raw units) (built : Each BuiltUnit units) where
+module _ (abbrevs info : List ℕ) (mode : Mode) (raw : List RawUnit) (sources : Sources) (units : List (DwUnit ℕ)) (spelled : SpellsUnits abbrevs mode 0 raw 0 info) (means : MeanUnits (own sources (all_places raw)) raw units) where
   read_apart : NoneTwice (units_keys units)
   read_apart = subst NoneTwice (sym (units_places sources (all_places raw) raw units means)) (rise_none 0 (all_raw_keys raw) (0 + length info) (units_rise abbrevs mode 0 raw 0 info spelled))
 
@@ -345,12 +331,12 @@ module _ (abbrevs info : List ℕ) (mode : Mode) (raw : List RawUnit) (sources :
         (let o = root_from units e x in
         let m = means_in sources (all_places raw) raw units means o.unit o.there in
         let s = scope_of (own sources (all_places raw)) m.unit in
-        known_stands m.unit m.there p (attrs_known s (refl, refl) (without_siblings m.unit.root.attrs) o.unit.root.attrs m.means.root.attrs (each_in BuiltUnit o.unit units built o.there).0 a (subst (λ (w : Seen ℕ). In a w.attrs) (sym o.is) attr) p ref))
+        known_stands m.unit m.there p (attrs_known s (refl, refl) (without_siblings m.unit.root.attrs) o.unit.root.attrs m.means.root.attrs a (subst (λ (w : Seen ℕ). In a w.attrs) (sym o.is) attr) p ref))
     | inr y ↦
         (let o = seen_from units e y in
         let m = means_in sources (all_places raw) raw units means o.unit o.there in
         let s = scope_of (own sources (all_places raw)) m.unit in
-        known_stands m.unit m.there p (seen_known s (refl, refl) m.unit.below o.unit.below m.means.below (each_in BuiltUnit o.unit units built o.there).1 e o.is a attr p ref))
+        known_stands m.unit m.there p (seen_known s (refl, refl) m.unit.below o.unit.below m.means.below e o.is a attr p ref))
   ]
 
   -- units that are read without partial units are placed
@@ -363,10 +349,10 @@ units_main : (from : Sources → Type 0) (units : List (DwUnit ℕ)) → Each (�
 units_main from units are = λ u there signature main e.
     (let c = each_in (λ w. CarriedUnit from (bases_in w) w) u units are there in subst (λ (k : Kind ℕ). KindSays (entry_keys u) k) e c.main)
 
-pub read_from : (l : Limits) (input : List ℕ) (raw : List RawUnit) (doc : Doc ℕ) → Reads l input raw doc → AreBytes (debug_info input) → Each BuiltUnit doc.units → WasReadFrom (sources_of input) doc.units
-read_from l input raw doc reads are built =
-    let carried = units_carried (debug_abbrev input) (given l.entries) refl (OfFile (sources_of input)) (own (sources_of input) (all_places raw)) refl raw doc.units 0 0 (debug_info input) reads.spelled reads.means are built in
+pub read_from : (l : Limits) (input : List ℕ) (raw : List RawUnit) (doc : Doc ℕ) → Reads l input raw doc → AreBytes (debug_info input) → WasReadFrom (sources_of input) doc.units
+read_from l input raw doc reads are =
+    let carried = units_carried (debug_abbrev input) (given l.entries) refl (OfFile (sources_of input)) (own (sources_of input) (all_places raw)) refl raw doc.units 0 0 (debug_info input) reads.spelled reads.means are (units_built (sources_of input) (all_places raw) raw doc.units reads.means) in
     record {
-      placed = read_placed (debug_abbrev input) (debug_info input) (given l.entries) raw (sources_of input) doc.units reads.spelled reads.means built refl (units_main (OfFile (sources_of input)) doc.units carried);
+      placed = read_placed (debug_abbrev input) (debug_info input) (given l.entries) raw (sources_of input) doc.units reads.spelled reads.means refl (units_main (OfFile (sources_of input)) doc.units carried);
       carried = carried;
     }

@@ -22,7 +22,7 @@ use Rattle.dwz_writing.proofs.Places.{numbering_stands}
 use Rattle.dwz_writing.proofs.Rising.{place_one}
 use Rattle.dwz_writing.proofs.SameLemmas.{spots_same}
 use Rattle.dwz_back.specs.Back.{AreAtOld, IsPlacing, SameBack, all_back, back_units, files_back, run_of}
-use Rattle.dwz_back.specs.Files.{Run, common_fitted, common_forms, common_out, file_forms, file_out, files_out, fitted, places}
+use Rattle.dwz_back.specs.Files.{Run, Stored, common_fitted, common_forms, common_out, file_forms, file_out, files_out, fitted, places}
 use Rattle.dwz_back.proofs.NameLemmas.{common_names, common_there, file_there, fitted_names, keys_append, run_once}
 
 -- ---- forms and numbers aren't seen
@@ -58,7 +58,7 @@ numbers_in s (doc ∷ docs) file (inl e) = omega (arith, e)
 numbers_in s (doc ∷ docs) file (inr r) = (let o = numbers_in (suc s) docs file r in omega (arith, o))
 
 module _ (scope : Scope) (docs : List (Doc ℕ)) (rule : Rule) (placed : Each (λ doc. ArePlaced doc.units) docs) (is : IsAlike scope (units_of docs) rule.alike) (choice : IsChoice (units_of docs) rule)
-    (input : ℕ → List ℕ) (g : Spot → Place) (ok : IsPlacing (run_of rule docs input) g) (old : AreAtOld (run_of rule docs input) g docs) where
+    (input : Stored) (g : Spot → Place) (ok : IsPlacing (run_of rule docs input) g) (old : AreAtOld (run_of rule docs input) g docs) where
   abbrev r : Run
   r = run_of rule docs input
 

@@ -1,34 +1,43 @@
 -- What is written of files is what they say.
-use Rattle.std.proofs.Common.{◌≡◌, ℕ, ◌<◌, ◌^◌, true, List, [], length, map, Option, Some, None, refl, sym, ap, subst, ◌∙◌, arith}
+use Rattle.std.proofs.Common.{◌≡◌, ℕ, ◌<◌, ◌^◌, true, List, [], length, map, Option, Some, None, refl, sym, ap, subst, ◌∙◌, arith, Bool, inl}
 use Rattle.dwz_meanings.specs.Documents.{DwUnit}
 use Rattle.dwz_docs.specs.ElfFaults.{IsElfFault}
-use Rattle.dwz_meanings.specs.Files.{debug_abbrev, debug_info, sources_of}
+use Rattle.dwz_meanings.specs.Files.{debug_abbrev, debug_aranges, debug_info, is_place_of, sources_of}
+use Rattle.dwz_meanings.specs.Patching.{of_units}
+use Rattle.dwz_meanings.specs.Ranges.{RangeSet, SpellsSets}
 use Rattle.dwz_docs.specs.Lists.{In}
 use Rattle.dwz_meanings.specs.Meanings.{Common, Sources}
 use Rattle.dwz_docs.specs.Units.{SpellsUnits}
 use Rattle.dwz_alike.specs.Spots.{Spot, same_spot}
 use Rattle.dwz_seen.specs.Lists.{Each, NoneTwice}
-use Rattle.dwz_seen.specs.Shown.{units_keys}
+use Rattle.dwz_seen.specs.Shown.{unit_keys, units_keys}
+use Rattle.dwz_seen.specs.Seen.{IsPartial}
+use Rattle.dwz_seen.proofs.ShownLemmas.{unit_key}
+use Rattle.dwz_back.proofs.RangeLemmas.{fit_there, place_back, ranged_spell}
 use Rattle.dwz_seen.proofs.Members.{in_map}
 use Rattle.dwz_same.specs.After.{Place, at_file}
 use Rattle.dwz_same.specs.Units.{all_units, changes, common_units, out_units}
 use Rattle.dwz_writing.specs.Carried.{OfAny, OfFile}
 use Rattle.dwz_writing.specs.Fitting.{AreWritable, UnitFits, UnitHasRoom, mode_for}
-use Rattle.dwz_writing.specs.Meant.{IsAround, Tells, UnitsSay, all_entry_keys}
-use Rattle.dwz_writing.specs.Placing.{FitsSections, UnitsStand, sections, texts_bytes}
+use Rattle.dwz_writing.specs.Meant.{AreRenumbered, IsAround, Tells, UnitsSay, all_entry_keys}
+use Rattle.dwz_writing.specs.Placing.{FitsSections, UnitsStand, lines_bytes, sections, texts_bytes}
 use Rattle.dwz_writing.specs.Sound.{SoundUnit}
 use Rattle.dwz_writing.specs.Writing.{Numbering, tables_of}
 use Rattle.dwz_writing.proofs.Chosen.{fit_units_all, fit_units_fixed, units_good}
 use Rattle.dwz_writing.proofs.Places.{numbering_stands}
-use Rattle.dwz_writing.proofs.PoolLemmas.{units_texts}
+use Rattle.dwz_writing.proofs.ListsAgain.{units_share_none}
+use Rattle.dwz_writing.proofs.PoolLemmas.{paths_texts, units_paths, units_texts}
+use Rattle.dwz_back.proofs.PathLemmas.{paths_carried}
+use Rattle.dwz_docs.specs.ElfLayout.{too_large}
 use Rattle.dwz_writing.proofs.RawUnits.{raw_units}
 use Rattle.dwz_writing.proofs.Rising.{entries_are_keys, place_within}
 use Rattle.dwz_writing.proofs.SameLemmas.{spots_same}
 use Rattle.dwz_writing.proofs.UnitsMean.{all_raw}
 use Rattle.dwz_writing.proofs.UnitsSpelled.{units_len}
 use Rattle.dwz_writing.proofs.WriteLaws.{fits, is_roomy, means, spelled}
-use Rattle.dwz_back.specs.Back.{CanWrite, IsPlacing, SaysPlaced, around_in, given_by, tells, tells_common}
-use Rattle.dwz_back.specs.Files.{HasCommon, HasSections, Run, common_fitted, common_forms, common_out, common_sections, file_forms, file_out, files_out, fitted, place_of, places, sections_of, sources, texts}
+use Rattle.dwz_back.specs.Back.{CanWrite, IsPlacing, RangesBack, SaysPlaced, around_in, given_by}
+use Rattle.dwz_meanings.specs.Shared.{ListOperand, NoneShared, operands_in_lists}
+use Rattle.dwz_back.specs.Files.{HasCommon, HasSections, Run, common_fitted, common_forms, common_out, common_sections, file_forms, file_out, files_out, fitted, name_after, paths, place_of, places, sections_of, sources, tells, tells_common, texts}
 use Rattle.dwz_back.proofs.NameLemmas.{common_names, common_there, file_once, file_there, fitted_names, name_in_common, name_in_file, not_common, run_once}
 
 -- the places where names are written are such places
@@ -37,6 +46,14 @@ written_places r once = record {
   common = λ k is. ap (λ (f : ℕ). at_file f ((places r).place k)) (sym (name_in_common r once k is));
   written = λ file there changed k is. ap (λ (f : ℕ). at_file f ((places r).place k)) (sym (name_in_file r once file there k is));
 }
+
+at_key : (u : DwUnit Spot) → In u.at (unit_keys u)
+unfolding unit_keys
+at_key u = inl refl
+
+no_operands : (o : ListOperand) → In o (operands_in_lists []) → ⊥
+unfolding operands_in_lists
+no_operands o there = there
 
 module _ (r : Run) (can : CanWrite r) (g : Spot → Place) (ok : IsPlacing r g) where
   abbrev n : Numbering Spot
@@ -58,14 +75,18 @@ module _ (r : Run) (can : CanWrite r) (g : Spot → Place) (ok : IsPlacing r g) 
   unfolding fitted
   file_all file = fit_units_all (file_forms r file) (out_units r.move r.units file)
 
-  -- places in the common file are small
-  common_small : FitsSections (common_sections r) → (k : Spot) → In k (all_entry_keys (common_fitted r)) → n.place k < 2 ^ 32
+  -- a name's place is small
+  few_places : (units : List (DwUnit Spot)) → UnitsStand n units 0 → FitsSections (sections n units) → (k : Spot) → In k (units_keys units) → n.place k < 2 ^ 32
   unfolding sections
-  common_small small k is =
-      let within = place_within n (common_fitted r) common_stands k (entries_are_keys (common_fitted r) k is) in
-      let len = units_len n (tables_of [] (common_fitted r)) (common_fitted r) in
+  few_places units stands small k is =
+      let within = place_within n units stands k is in
+      let len = units_len n (tables_of [] units) units in
       let few = small.0 in
       omega (arith, within, len, few)
+
+  -- places in the common file are small
+  common_small : FitsSections (common_sections r) → (k : Spot) → In k (all_entry_keys (common_fitted r)) → n.place k < 2 ^ 32
+  common_small small k is = few_places (common_fitted r) common_stands small k (entries_are_keys (common_fitted r) k is)
 
   -- ---- what is said, whatever surrounds it
 
@@ -80,6 +101,9 @@ module _ (r : Run) (can : CanWrite r) (g : Spot → Place) (ok : IsPlacing r g) 
     line_strs : (sources_of bytes).line_strs ≡ t.line_strs
     offsets : (sources_of bytes).offsets ≡ t.offsets
     line : (sources_of bytes).line ≡ t.line
+    none_shared : NoneShared t.named
+    lists : AreRenumbered n t (sources_of bytes).lists
+    ranges : (others : ℕ → Bool) → ((w : DwUnit Spot) → In w units → (IsPartial w.kind → ⊥) → (n.place w.at < 2 ^ 32) × (others (n.place w.at) ≡ true)) → (sets : List RangeSet) × SpellsSets others sets 0 (debug_aranges bytes)
     room : Each (UnitHasRoom n) units
     small : FitsSections (sections n units)
     common_few : (k : Spot) → In k t.common → n.place k < 2 ^ 32
@@ -99,10 +123,15 @@ module _ (r : Run) (can : CanWrite r) (g : Spot → Place) (ok : IsPlacing r g) 
         line_strs = s.line_strs;
         offsets = s.offsets;
         line = s.line;
+        none_shared = s.none_shared;
+        lists = s.lists;
         all = entries ∙ ap (λ (ks : List Spot). map n.place ks) (sym s.all);
         place = s.own;
         common = s.given;
       } in
+      let meant = means n g units t (around_in common number bytes raw) s.all around s.good.0 fit s.good.1 in
+      let back = place_back n g common number bytes raw units meant (λ w there. s.own w.at (unit_key units w w.at there (at_key w))) in
+      let sets = s.ranges (is_place_of raw) (λ w there whole. (few_places units s.stands s.small w.at (unit_key units w w.at there (at_key w)), back w there whole)) in
       record {
         raw = raw;
         says = record {
@@ -112,28 +141,37 @@ module _ (r : Run) (can : CanWrite r) (g : Spot → Place) (ok : IsPlacing r g) 
           partial = refl;
           forms = refl;
           spelled = subst (λ (info : List ℕ). SpellsUnits (debug_abbrev bytes) mode 0 raw 0 info) (sym s.info) (subst (λ (abbrevs : List ℕ). SpellsUnits abbrevs mode 0 raw 0 (sections n units).info) (sym s.abbrevs) spells);
-          means = means n g units t (around_in common number bytes raw) s.all around s.good.0 fit s.good.1;
+          means = meant;
+          ranges = record { sets = sets.0; spelled = sets.1 };
+          lists = units_share_none n g (tables_of [] units) t (units_keys units) (around_in common number bytes raw) around (λ k there. entries_are_keys units k (subst (In k) s.all there)) units (λ k there. there) s.good.0 fit s.good.1;
         };
         entries = entries;
       }
 
   -- ---- the common file
 
-  common_good : length (texts_bytes (texts r)) < 2 ^ 32 → Each SoundUnit (common_fitted r) × UnitsSay (tells_common r) (common_fitted r)
+  common_good : length (texts_bytes (texts r)) < 2 ^ 32 → length (lines_bytes (paths r)) < too_large → Each SoundUnit (common_fitted r) × UnitsSay (tells_common r) (common_fitted r)
   unfolding common_fitted
-  common_good small =
+  common_good small few =
       let c = can.common in
       units_good (common_forms r) spots_same OfAny (tells_common r) (common_units r.move) common_all (subst NoneTwice (common_names r) (file_once (files_out r) (run_once r can.apart) (common_out r) (common_there r))) c.carried c.closed (λ k is. absurd is)
-      (small, refl, units_texts [] (common_units r.move)) c.over.bases c.over.operands
+      (small, record {
+        strs = refl;
+        texts = units_texts [] (common_units r.move);
+        line = refl;
+        few = few;
+        are_texts = paths_texts (common_units r.move) (paths_carried OfAny (common_forms r).origin (common_units r.move) c.carried);
+        paths = units_paths [] (common_units r.move);
+      }) c.over.bases c.over.operands
 
   common_room : Each (UnitHasRoom n) (common_fitted r)
   unfolding common_fitted
   common_room = can.common.over.room
 
-  pub common_back : (out : List ℕ) → HasCommon out (common_sections r) (texts r) → FitsSections (common_sections r) → SaysPlaced r g None r.common out (common_fitted r)
+  pub common_back : (out : List ℕ) → HasCommon out (common_sections r) (texts r) (paths r) → FitsSections (common_sections r) → SaysPlaced r g None r.common out (common_fitted r)
   common_back out has small = said_placed (tells_common r) None r.common out (common_fitted r) (record {
     all = refl;
-    good = common_good (subst (λ (w : Sources). length w.strs < 2 ^ 32) has.sources has.small);
+    good = common_good (subst (λ (w : Sources). length w.strs < 2 ^ 32) has.sources has.small) (subst (λ (w : Sources). length w.line < too_large) has.sources has.few);
     stands = common_stands;
     elf = has.elf;
     info = has.info;
@@ -142,6 +180,9 @@ module _ (r : Run) (can : CanWrite r) (g : Spot → Place) (ok : IsPlacing r g) 
     line_strs = ap (λ (w : Sources). w.line_strs) has.sources;
     offsets = ap (λ (w : Sources). w.offsets) has.sources;
     line = ap (λ (w : Sources). w.line) has.sources;
+    none_shared = can.common.over.lists;
+    lists = subst (λ (w : Sources). AreRenumbered n (tells_common r) w.lists) (sym has.sources) (record { number = λ p. 0; are = λ l there. absurd there; patched = record { len = refl; written = λ o there. absurd (no_operands o there); others = λ b none. refl } });
+    ranges = λ others good. ([], has.ranges);
     room = common_room;
     small = small;
     common_few = λ k is. absurd is;
@@ -164,20 +205,32 @@ module _ (r : Run) (can : CanWrite r) (g : Spot → Place) (ok : IsPlacing r g) 
   unfolding fitted
   file_room file there changed = (can.file file there changed).over.room
 
-  with_common : (common : Option (Common Place)) (out : List ℕ) (file : ℕ) → In file r.files → changes r.move r.units file ≡ true → HasSections (r.input file) out (sections_of r file) → FitsSections (sections_of r file)
+  -- its sets of address ranges are of units after
+  file_ranged : (file : ℕ) → In file r.files → (out : List ℕ) (has : HasSections r file out) (others : ℕ → Bool) → ((w : DwUnit Spot) → In w (fitted r file) → (IsPartial w.kind → ⊥) → (n.place w.at < 2 ^ 32) × (others (n.place w.at) ≡ true))
+      → SpellsSets others (of_units has.ranges.sets (map (λ s. n.place (name_after r file s.unit)) has.ranges.sets)) 0 (debug_aranges out)
+  unfolding fitted
+  file_ranged file there out has others good = ranged_spell r file (can.units file there) (debug_aranges out) has.ranges others (λ u u_in whole.
+      (let w = fit_there (file_forms r file) (out_units r.move r.units file) u u_in in
+      let o = good w.0 w.1 (λ partial. whole (subst IsPartial w.3 partial)) in
+      subst (λ (k : Spot). (n.place k < 2 ^ 32) × (others (n.place k) ≡ true)) w.2 o))
+
+  with_common : (common : Option (Common Place)) (out : List ℕ) (file : ℕ) → In file r.files → changes r.move r.units file ≡ true → HasSections r file out → FitsSections (sections_of r file)
       → ((k : Spot) → In k (all_entry_keys (common_fitted r)) → n.place k < 2 ^ 32) → ((k : Spot) → In k (all_entry_keys (common_fitted r)) → (c : Common Place) × (common ≡ Some c) × In (n.place k) c.entries × (c.place (n.place k) ≡ g k))
       → SaysPlaced r g common file out (fitted r file)
   with_common common out file there changed has small few given = said_placed (tells r file) common file out (fitted r file) (record {
     all = refl;
-    good = file_good file there changed (subst (λ (w : Sources). length w.strs < 2 ^ 32) has.sources has.small);
+    good = file_good file there changed (subst (λ (w : List ℕ). length w < 2 ^ 32) has.strs has.small);
     stands = file_stands file there;
     elf = has.elf;
     info = has.info;
     abbrevs = has.abbrevs;
-    strs = ap (λ (x : Sources). x.strs) has.sources;
-    line_strs = ap (λ (x : Sources). x.line_strs) has.sources;
-    offsets = ap (λ (x : Sources). x.offsets) has.sources;
-    line = ap (λ (x : Sources). x.line) has.sources;
+    strs = has.strs;
+    line_strs = has.line_strs;
+    offsets = has.offsets;
+    line = has.line;
+    none_shared = (can.file file there changed).over.lists;
+    lists = has.lists;
+    ranges = λ others good. (_, file_ranged file there out has others good);
     room = file_room file there changed;
     small = small;
     common_few = few;
@@ -186,7 +239,7 @@ module _ (r : Run) (can : CanWrite r) (g : Spot → Place) (ok : IsPlacing r g) 
   })
 
   pub file_back : (out common : List ℕ) → FitsSections (common_sections r) → (c : SaysPlaced r g None r.common common (common_fitted r)) → (file : ℕ) → In file r.files → changes r.move r.units file ≡ true
-      → HasSections (r.input file) out (sections_of r file) → FitsSections (sections_of r file) → SaysPlaced r g (Some (given_by r.common common c.raw)) file out (fitted r file)
+      → HasSections r file out → FitsSections (sections_of r file) → SaysPlaced r g (Some (given_by r.common common c.raw)) file out (fitted r file)
   file_back out common common_fits c file there changed has small = with_common (Some (given_by r.common common c.raw)) out file there changed has small (common_small common_fits) (λ k is. (
     given_by r.common common c.raw,
     refl,
@@ -198,6 +251,17 @@ module _ (r : Run) (can : CanWrite r) (g : Spot → Place) (ok : IsPlacing r g) 
   unfolding all_entry_keys
   none_common none k is = subst (In k) (common_all ∙ ap (λ (us : List (DwUnit Spot)). all_entry_keys us) none) is
 
-  pub alone_back : (out : List ℕ) → common_units r.move ≡ [] → (file : ℕ) → In file r.files → changes r.move r.units file ≡ true → HasSections (r.input file) out (sections_of r file) → FitsSections (sections_of r file)
+  pub alone_back : (out : List ℕ) → common_units r.move ≡ [] → (file : ℕ) → In file r.files → changes r.move r.units file ≡ true → HasSections r file out → FitsSections (sections_of r file)
       → SaysPlaced r g None file out (fitted r file)
   alone_back out none file there changed has small = with_common None out file there changed has small (λ k is. absurd (none_common none k is)) (λ k is. absurd (none_common none k is))
+
+  -- the sets of address ranges of a file are of the units of which they were
+  pub ranges_back : (common : Option (Common Place)) (out : List ℕ) (file : ℕ) → In file r.files → changes r.move r.units file ≡ true → HasSections r file out → FitsSections (sections_of r file)
+      → (says : SaysPlaced r g common file out (fitted r file)) → RangesBack r file out says.raw
+  ranges_back common out file there changed has small says =
+      let back = place_back n g common file out says.raw (fitted r file) says.says.means (λ w w_in. ok.written file there changed w.at (unit_key (fitted r file) w w.at w_in (at_key w))) in
+      record {
+        sets = has.ranges.sets;
+        before = has.ranges.spelled;
+        after = file_ranged file there out has (is_place_of says.raw) (λ w w_in whole. (few_places (fitted r file) (file_stands file there) small w.at (unit_key (fitted r file) w w.at w_in (at_key w)), back w w_in whole));
+      }

@@ -75,7 +75,7 @@ module _ (from : Sources → Type 0) (origin : Bases) where
   abbrev pub NameCarried : SpaceName → Type 0
   NameCarried s = CarriedAttr {K = Spot} from origin (record { name = 0x03; form = s.form; raw = s.raw; value = only (Text s.text) })
 
-  first_in : (name : ℕ) (attrs : List (Attr Spot)) (a : Attr Spot) → first_named name attrs ≡ Some a → In a attrs × (a.name ≡ name)
+  pub first_in : (name : ℕ) (attrs : List (Attr Spot)) (a : Attr Spot) → first_named name attrs ≡ Some a → In a attrs × (a.name ≡ name)
   unfolding first_named
   first_in name [] a e = absurd cc
   first_in name (b ∷ attrs) a e = by (λ r. first_in name attrs a r) (eqb b.name name) refl e where

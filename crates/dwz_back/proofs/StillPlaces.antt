@@ -17,7 +17,7 @@ use Rattle.dwz_same.specs.After.{ArePlaced, FilesSame, Place, StandsAt, at_file}
 use Rattle.dwz_same.specs.Units.{changes, common_units, file_units, out_units}
 use Rattle.dwz_same.proofs.FileLemmas.{files_same}
 use Rattle.dwz_back.specs.Back.{AreAtOld, IsPlacing, run_of}
-use Rattle.dwz_back.specs.Files.{Run, file_of_name, place_of}
+use Rattle.dwz_back.specs.Files.{Run, Stored, file_of_name, place_of}
 use Rattle.dwz_back.proofs.NameLemmas.{fitted_names, name_in_common, name_in_file}
 use Rattle.dwz_back.proofs.SameLemmas.{numbers_in}
 use Rattle.dwz_back.proofs.WithinLemmas.{closed_at}
@@ -137,7 +137,7 @@ number_nth s (d ∷ docs) file (inr r) = (let o = number_nth (suc s) docs file r
 
 -- ---- the places
 
-module _ (scope : Scope) (docs : List (Doc ℕ)) (rule : Rule) (placed : Each (λ doc. ArePlaced doc.units) docs) (is : IsAlike scope (units_of docs) rule.alike) (choice : IsChoice (units_of docs) rule) (input : ℕ → List ℕ) where
+module _ (scope : Scope) (docs : List (Doc ℕ)) (rule : Rule) (placed : Each (λ doc. ArePlaced doc.units) docs) (is : IsAlike scope (units_of docs) rule.alike) (choice : IsChoice (units_of docs) rule) (input : Stored) where
   abbrev r : Run
   r = run_of rule docs input
 

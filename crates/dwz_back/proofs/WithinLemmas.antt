@@ -39,8 +39,10 @@ use Rattle.dwz_same.proofs.FileLemmas.{replaced}
 use Rattle.dwz_writing.specs.Carried.{ClosedIn}
 use Rattle.dwz_writing.specs.Meant.{all_entry_keys, entry_keys}
 use Rattle.dwz_writing.proofs.ChosenNames.{all_seen_key}
-use Rattle.dwz_back.specs.Back.{run_of, tells}
+use Rattle.dwz_back.specs.Back.{run_of}
+use Rattle.dwz_back.specs.Files.{Stored, tells}
 use Rattle.dwz_back.proofs.HomeLemmas.{kept_from, parts_from, top_file}
+use Rattle.dwz_back.proofs.KeptLemmas.{mapped_kept, space_kept, top_kept}
 use Rattle.dwz_back.proofs.NameLemmas.{common_entries, fitted_entries}
 
 -- an entry in spaces is seen
@@ -146,17 +148,10 @@ module _ (scope : Scope) (units : List (FileUnit Spot)) (rule : Rule) (is : IsAl
         let own = row_top units i t in_row in
         moved_seen t own.0 own.1 mv (seen_map f e) (subst (λ (w : List (Seen Spot)). In (seen_map f e) w) (sym (seen_top_map f t)) (in_map (seen_map f) e (raw_top t) h))
     top_there kind t in_row false mv change e h =
-        let r = unit_row units i u nth kind in
-        let o = tops_somewhere (row_of units i) (row_kinded u.file i (language u.unit) [] r.first (row_of units i) u.unit.below r.is) t in_row in
-        let stays = (kept_is m.gone units i o.names (OfTop t)).1 (o.has, mv) in
-        seen_in outs (kept_unit m units i u) (seen_map f e) (kept_in i u nth of_file)
-        (subst (λ (w : Entries Spot). In (seen_map f e) (seen w)) (sym (kept_compile m units i u kind change))
-        (tree_seen f (kept_row m.gone units i) (imports i 0 m.parts) o.names t stays (seen_map f e) (subst (λ (w : List (Seen Spot)). In (seen_map f e) w) (sym (seen_top_map f t)) (in_map (seen_map f) e (raw_top t) h))))
+        seen_in outs (kept_unit m units i u) (seen_map f e) (kept_in i u nth of_file) (top_kept units m old i u nth kind t in_row mv change e h)
 
     mapped_there : (d : Seen Spot) → In d (seen u.unit.below) → (kept_unit m units i u).below ≡ entries_map f u.unit.below → Stands (f d.at)
-    mapped_there d h below =
-        let there = subst (λ (w : List (Seen Spot)). In (seen_map f d) w) (sym (seen_entries f u.unit.below)) (in_map (seen_map f) d (seen u.unit.below) h) in
-        (seen_map f d, entry_seen outs (kept_unit m units i u) (seen_map f d) (kept_in i u nth of_file) (subst (λ (w : Entries Spot). In (seen_map f d) (seen w)) (sym below) there), refl)
+    mapped_there d h below = (seen_map f d, entry_seen outs (kept_unit m units i u) (seen_map f d) (kept_in i u nth of_file) (mapped_kept units m old i u nth d h below), refl)
 
     below_there : (d : Seen Spot) → In d (seen u.unit.below) → (k : Kind Spot) → u.unit.kind ≡ k → (b : Bool) → changes m units u.file ≡ b → Stands (f d.at)
     below_there d h k kind false c = mapped_there d h (kept_still m units i u c)
@@ -168,9 +163,8 @@ module _ (scope : Scope) (units : List (FileUnit Spot)) (rule : Rule) (is : IsAl
         go : Origin u.file i (language u.unit) (row_of units i) u.unit.below d → Stands (f d.at)
         go (InTop t there x) = (seen_map f d, in_right (seen_map f d) (seen_roots outs) (seen_below outs) (top_there kind t there (m.gone t.number) refl c d x), refl)
         go (IsSpaceSeen names c' has at) =
-            let o = space_seen f (kept_row m.gone units i) (imports i 0 m.parts) names c' ((kept_is m.gone units i names (OfSpace c')).1 (has, tt)) in
-            let v = kept_unit m units i u in
-            (o.0, entry_seen outs v o.0 (kept_in i u nth of_file) (subst (λ (w : Entries Spot). In o.0 (seen w)) (sym (kept_compile m units i u kind c)) o.1), o.2 ∙ ap f (sym at))
+            let o = space_kept units m old i u nth kind names c' has c in
+            (o.0, entry_seen outs (kept_unit m units i u) o.0 (kept_in i u nth of_file) o.1, o.2 ∙ ap f (sym at))
 
     root_there : Stands (f u.unit.root.at)
     root_there = (let v = kept_unit m units i u in (see v.root v.below, root_seen outs v (kept_in i u nth of_file), refl))
@@ -343,7 +337,7 @@ module _ (scope : Scope) (units : List (FileUnit Spot)) (rule : Rule) (is : IsAl
       let o = refs_stand before e a q there attr ref in
       subst (λ (x : Spot). In x (all_entry_keys outs)) o.2 (all_seen_key outs o.0 o.1)
 
-entries_append : (xs ys : List (DwUnit Spot)) → all_entry_keys (xs ++ ys) ≡ all_entry_keys xs ++ all_entry_keys ys
+pub entries_append : (xs ys : List (DwUnit Spot)) → all_entry_keys (xs ++ ys) ≡ all_entry_keys xs ++ all_entry_keys ys
 unfolding all_entry_keys
 entries_append [] ys = refl
 entries_append (x ∷ xs) ys = ap (λ (w : List Spot). entry_keys x ++ w) (entries_append xs ys) ∙ sym (append_assoc (entry_keys x) (all_entry_keys xs) (all_entry_keys ys))
@@ -376,7 +370,7 @@ closed_at file own unit top (doc ∷ docs) placed =
 
 -- each reference of a file names an entry of it, or of the common file
 pub within : (scope : Scope) (docs : List (Doc ℕ)) (rule : Rule) → Each (λ doc. ArePlaced doc.units) docs → IsAlike scope (units_of docs) rule.alike → IsChoice (units_of docs) rule
-    → (input : ℕ → List ℕ) (file : ℕ) → ClosedIn (tells (run_of rule docs input) file) (out_units (run_of rule docs input).move (units_of docs) file)
+    → (input : Stored) (file : ℕ) → ClosedIn (tells (run_of rule docs input) file) (out_units (run_of rule docs input).move (units_of docs) file)
 within scope docs rule placed is choice input file e a k there attr ref =
     let r = run_of rule docs input in
     let whole = replaced scope docs rule placed is choice in

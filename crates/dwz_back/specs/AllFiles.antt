@@ -6,39 +6,35 @@ use Rattle.dwz_docs.specs.Values.{AreBytes}
 use Rattle.dwz_meanings.specs.Documents.{Doc, unit_map}
 use Rattle.dwz_meanings.specs.Meanings.{Common}
 use Rattle.dwz_meanings.specs.Files.{Limits, Reads, debug_info}
-use Rattle.dwz_seen.specs.Lists.{Each, Nth}
+use Rattle.dwz_seen.specs.Lists.{Nth}
 use Rattle.dwz_alike.specs.Alike.{IsAlike, Scope}
 use Rattle.dwz_alike.specs.Spots.{Spot, units_of}
 use Rattle.dwz_moving.specs.Homes.{IsChoice, Rule}
 use Rattle.dwz_same.specs.After.{Place, at_file}
 use Rattle.dwz_same.specs.Units.{changes}
-use Rattle.dwz_writing.specs.Carried.{BuiltUnit}
 use Rattle.dwz_writing.specs.Placing.{FitsSections}
-use Rattle.dwz_back.specs.Back.{AreAtOld, CanWrite, CommonOver, FileOver, IsPlacing, SameBack, SaysPlaced, SaysUnits, given_by, run_of}
-use Rattle.dwz_back.specs.Files.{HasCommon, HasSections, Run, common_fitted, common_sections, fitted, sections_of, texts}
+use Rattle.dwz_back.specs.Back.{AreAtOld, CanWrite, FileOver, IsPlacing, RangesBack, SameBack, SaysPlaced, SaysUnits, given_by, run_of}
+use Rattle.dwz_back.specs.Files.{HasCommon, HasSections, Run, Stored, common_fitted, common_sections, fitted, paths, sections_of, texts}
 
--- the file with these bytes reads, and says a document whose attributes are among those that are written
-pub record IsRead (bytes : List ℕ) (doc : Doc ℕ) : Type 0 where
+-- the file with these bytes and units reads, and says a document
+pub record IsRead (bytes : List ℕ) (raw : List RawUnit) (doc : Doc ℕ) : Type 0 where
   pub limits : Limits
-  pub raw : List RawUnit
   pub reads : Reads limits bytes raw doc
   pub are_bytes : AreBytes (debug_info bytes)
-  pub built : Each BuiltUnit doc.units
 
 -- each file reads, and says the document with its number
-abbrev pub AreRead : (ℕ → List ℕ) → List (Doc ℕ) → Type 0
-AreRead input docs = (file : ℕ) (doc : Doc ℕ) → Nth 0 docs file doc → IsRead (input file) doc
+abbrev pub AreRead : Stored → List (Doc ℕ) → Type 0
+AreRead input docs = (file : ℕ) (doc : Doc ℕ) → Nth 0 docs file doc → IsRead (input.bytes file) (input.raw file) doc
 
--- what else is asked of the units after: of the common file, and of each file of which something moves
-pub record AreOver (r : Run) : Type 0 where
-  pub common : CommonOver r
-  pub file : (file : ℕ) → In file r.files → changes r.move r.units file ≡ true → FileOver r file
+-- each file of which something moves has room for its operands
+abbrev pub AreOver : Run → Type 0
+AreOver r = (file : ℕ) → In file r.files → changes r.move r.units file ≡ true → FileOver r file
 
 -- the common file, and each file of which something moves, were made so
 pub record AreMade (r : Run) (output : ℕ → List ℕ) (common_bytes : List ℕ) : Type 0 where
-  pub common : HasCommon common_bytes (common_sections r) (texts r)
+  pub common : HasCommon common_bytes (common_sections r) (texts r) (paths r)
   pub common_fits : FitsSections (common_sections r)
-  pub file : (file : ℕ) → In file r.files → changes r.move r.units file ≡ true → HasSections (r.input file) (output file) (sections_of r file)
+  pub file : (file : ℕ) → In file r.files → changes r.move r.units file ≡ true → HasSections r file (output file)
   pub file_fits : (file : ℕ) → In file r.files → changes r.move r.units file ≡ true → FitsSections (sections_of r file)
 
 -- a file that stays as it was read says with a common file what it said by itself
@@ -46,17 +42,19 @@ pub record SaysStill (common : Option (Common Place)) (file : ℕ) (bytes : List
   pub raw : List RawUnit
   pub says : SaysUnits common file bytes raw (map (unit_map (at_file file)) doc.units)
 
--- The common file says its units, at these places; with it each file of which something moves says its own, and a file that stays as
--- it was read says what it said. All files together say the same as what was read.
-pub record AllBack (scope : Scope) (docs : List (Doc ℕ)) (rule : Rule) (input output : ℕ → List ℕ) (common_bytes : List ℕ) (g : Spot → Place) : Type 0 where
+-- The common file says its units, at these places; with it each file of which something moves says its own, and has its address ranges,
+-- and a file that stays as it was read says what it said. All files together say the same as what was read.
+pub record AllBack (scope : Scope) (docs : List (Doc ℕ)) (rule : Rule) (input : Stored) (output : ℕ → List ℕ) (common_bytes : List ℕ) (g : Spot → Place) : Type 0 where
   pub common : SaysPlaced (run_of rule docs input) g None (run_of rule docs input).common common_bytes (common_fitted (run_of rule docs input))
   pub file : (file : ℕ) → In file (run_of rule docs input).files → changes (run_of rule docs input).move (units_of docs) file ≡ true
       → SaysPlaced (run_of rule docs input) g (Some (given_by (run_of rule docs input).common common_bytes common.raw)) file (output file) (fitted (run_of rule docs input) file)
-  pub still : (file : ℕ) (doc : Doc ℕ) → Nth 0 docs file doc → SaysStill (Some (given_by (run_of rule docs input).common common_bytes common.raw)) file (input file) doc
+  pub ranges : (number : ℕ) → (there : In number (run_of rule docs input).files) → (changed : changes (run_of rule docs input).move (units_of docs) number ≡ true)
+      → RangesBack (run_of rule docs input) number (output number) (file number there changed).raw
+  pub still : (file : ℕ) (doc : Doc ℕ) → Nth 0 docs file doc → SaysStill (Some (given_by (run_of rule docs input).common common_bytes common.raw)) file (input.bytes file) doc
   pub same : SameBack scope docs rule input g
 
 -- so it is at some places for names: those where they are written, and in files of which nothing moves the old ones
-pub record ReadBack (scope : Scope) (docs : List (Doc ℕ)) (rule : Rule) (input output : ℕ → List ℕ) (common_bytes : List ℕ) : Type 0 where
+pub record ReadBack (scope : Scope) (docs : List (Doc ℕ)) (rule : Rule) (input : Stored) (output : ℕ → List ℕ) (common_bytes : List ℕ) : Type 0 where
   pub place : Spot → Place
   pub placing : IsPlacing (run_of rule docs input) place
   pub old : AreAtOld (run_of rule docs input) place docs
@@ -65,11 +63,11 @@ pub record ReadBack (scope : Scope) (docs : List (Doc ℕ)) (rule : Rule) (input
 -- files that read can be written
 abbrev pub CanWriteLaw : Type 0
 CanWriteLaw =
-    (scope : Scope) (docs : List (Doc ℕ)) (input : ℕ → List ℕ) → AreRead input docs → (rule : Rule) → IsAlike scope (units_of docs) rule.alike → IsChoice (units_of docs) rule
+    (scope : Scope) (docs : List (Doc ℕ)) (input : Stored) → AreRead input docs → (rule : Rule) → IsAlike scope (units_of docs) rule.alike → IsChoice (units_of docs) rule
     → AreOver (run_of rule docs input) → CanWrite (run_of rule docs input)
 
 -- and what was made of them reads back as all that was read
 abbrev pub AllBackLaw : Type 0
 AllBackLaw =
-    (scope : Scope) (docs : List (Doc ℕ)) (input : ℕ → List ℕ) → AreRead input docs → (rule : Rule) → IsAlike scope (units_of docs) rule.alike → IsChoice (units_of docs) rule
+    (scope : Scope) (docs : List (Doc ℕ)) (input : Stored) → AreRead input docs → (rule : Rule) → IsAlike scope (units_of docs) rule.alike → IsChoice (units_of docs) rule
     → AreOver (run_of rule docs input) → (output : ℕ → List ℕ) (common : List ℕ) → AreMade (run_of rule docs input) output common → ReadBack scope docs rule input output common

@@ -3,7 +3,7 @@ use Rattle.std.specs.Prelude.{◌≡◌, ℕ, suc, Bool, true, false, List, [], 
 use Rattle.dwz_meanings.specs.Documents.{Doc, DwUnit, unit_map}
 use Rattle.dwz_docs.specs.ElfFaults.{IsElfFault}
 use Rattle.dwz_docs.specs.Entries.{Mode}
-use Rattle.dwz_meanings.specs.Files.{Limits, Reads, debug_abbrev, debug_info, section_of, sources_of}
+use Rattle.dwz_meanings.specs.Files.{HaveGoodRanges, Limits, Reads, debug_abbrev, debug_aranges, debug_info, is_place_of, section_of, sources_of}
 use Rattle.dwz_docs.specs.Lists.{In}
 use Rattle.dwz_meanings.specs.Meanings.{Around, Common, MeanUnits, Sources, all_places}
 use Rattle.dwz_docs.specs.Units.{RawUnit, SpellsUnits}
@@ -13,20 +13,23 @@ use Rattle.dwz_seen.specs.Seen.{IsPartial, SameAlong}
 use Rattle.dwz_seen.specs.Shown.{OnePlace, UnitsShown, units_keys}
 use Rattle.dwz_alike.specs.Alike.{Apart, IsAlike, Scope}
 use Rattle.dwz_alike.specs.Spots.{Spot, file_numbers, units_of}
-use Rattle.dwz_moving.specs.Homes.{IsChoice, Local, Rule, moves}
+use Rattle.dwz_moving.specs.Homes.{IsChoice, Rule, moves}
 use Rattle.dwz_moving.specs.Moves.{plan}
 use Rattle.dwz_moving.specs.Plan.{image}
 use Rattle.dwz_same.specs.After.{ArePlaced, Place, at_file, name_in, placed_from}
 use Rattle.dwz_same.specs.Images.{IsAlone, OneImage}
 use Rattle.dwz_same.specs.Units.{all_units, changes, common_units, out_units}
 use Rattle.dwz_writing.specs.Bases.{bases_in}
-use Rattle.dwz_writing.specs.Carried.{BasesStand, BuiltUnit, CarriedUnit, ClosedIn, OfAny, OfFile, OperandsStand}
+use Rattle.dwz_writing.specs.Carried.{BasesStand, CarriedUnit, ClosedIn, OfAny, OfFile, OperandsStand}
 use Rattle.dwz_writing.specs.Fitting.{UnitHasRoom, back_forms}
 use Rattle.dwz_writing.specs.Meant.{Tells, all_entry_keys, placed_units}
 use Rattle.dwz_writing.specs.Placing.{FitsSections, Forms, fit_units}
 use Rattle.dwz_writing.specs.Writing.{Numbering}
-use Rattle.dwz_back.specs.Carrying.{RootsCarried}
-use Rattle.dwz_back.specs.Files.{HasCommon, HasSections, Run, common_fitted, common_forms, common_sections, common_sources, file_forms, fitted, place_of, places, sections_of, sources, texts}
+use Rattle.dwz_back.specs.Files.{HasCommon, HasSections, Run, Stored, common_fitted, common_forms, common_sections, file_forms, fitted, name_after, paths, place_of, places, sections_of, sources, tells, tells_common, texts}
+use Rattle.dwz_meanings.specs.NamedLists.{lists_of_units}
+use Rattle.dwz_meanings.specs.Shared.{NoneShared}
+use Rattle.dwz_meanings.specs.Patching.{of_units}
+use Rattle.dwz_meanings.specs.Ranges.{RangeSet, SpellsSets}
 
 -- ---- the relation: what a file says
 
@@ -38,7 +41,8 @@ abbrev pub around_in : Option (Common Place) → ℕ → List ℕ → List RawUn
 around_in common number bytes raw = record { sources = sources_of bytes; all = all_places raw; place = at_file number; common = common }
 
 -- The file with a number has no fault of an ELF file; its units, of which some may be partial, with the forms that lead to a common
--- file, are spelled, and mean these. No limit on depth or on entries is asked of it.
+-- file, are spelled, and mean these. Each set of address ranges is of one of the units that aren't partial; and no location list shares
+-- a byte with an operand of another. No limit on depth or on entries is asked of it.
 pub record SaysUnits (common : Option (Common Place)) (number : ℕ) (bytes : List ℕ) (raw : List RawUnit) (units : List (DwUnit Place)) : Type 0 where
   pub elf : (f : _) → IsElfFault bytes f → ⊥
   pub mode : Mode
@@ -47,23 +51,16 @@ pub record SaysUnits (common : Option (Common Place)) (number : ℕ) (bytes : Li
   pub forms : mode.forms ≡ back_forms
   pub spelled : SpellsUnits (debug_abbrev bytes) mode 0 raw 0 (debug_info bytes)
   pub means : MeanUnits (around_in common number bytes raw) raw units
+  pub ranges : HaveGoodRanges bytes raw
+  pub lists : NoneShared (lists_of_units (around_in common number bytes raw) raw)
 
 -- ---- what is asked of a run, so that what it writes reads back
 
--- what a file's units are written for
-abbrev pub tells_of : Sources → (all common : List Spot) → Tells Spot
-tells_of s all common = record { strs = s.strs; line_strs = s.line_strs; offsets = s.offsets; line = s.line; all = all; common = common }
-
-abbrev pub tells : Run → ℕ → Tells Spot
-tells r file = tells_of (sources r file) (all_entry_keys (fitted r file)) (all_entry_keys (common_fitted r))
-
-abbrev pub tells_common : Run → Tells Spot
-tells_common r = tells_of (common_sources (texts r)) (all_entry_keys (common_fitted r)) []
-
--- roots say of slots and of a line table what the units said that values come from; and the operands of expressions name entries as
--- their numbers are counted, and have room for these
+-- roots say of slots and of a line table what the units said that values come from; location lists shared nothing; and operands name
+-- entries as their numbers are counted, and have room for these
 pub record StandOver (f : Forms Spot) (t : Tells Spot) (n : Numbering Spot) (units : List (DwUnit Spot)) : Type 0 where
   pub bases : Each (BasesStand f) units
+  pub lists : NoneShared t.named
   pub operands : Each (OperandsStand t) units
   pub room : Each (UnitHasRoom n) (fit_units f units)
 
@@ -74,22 +71,26 @@ pub record IsReady (from : Sources → Type 0) (f : Forms Spot) (t : Tells Spot)
   pub closed : ClosedIn t units
   pub over : StandOver f t n units
 
--- What is asked of a file of which something moves, as long as it isn't shown of all: the root of each partial unit has the line table that
--- was read, and that is the one by which its files are numbered; and operands name entries, and have room for their numbers.
-pub record FileOver (r : Run) (file : ℕ) : Type 0 where
-  pub roots : RootsCarried (OfFile (sources r file)) r.move r.units (Local file)
-  pub lines : (v : DwUnit Spot) → In v (out_units r.move r.units file) → IsPartial v.kind → BasesStand (file_forms r file) v
-  pub operands : Each (OperandsStand (tells r file)) (out_units r.move r.units file)
-  pub room : Each (UnitHasRoom (places r)) (fitted r file)
+-- What is asked of a file of which something moves: that operands have room for the numbers of what they name; where one has not, the
+-- run is refused.
+abbrev pub FileOver : Run → ℕ → Type 0
+FileOver r file = Each (UnitHasRoom (places r)) (fitted r file)
 
--- and of the common file: that none of its values numbers a file, which isn't written yet, and the same of operands
-abbrev pub CommonOver : Run → Type 0
-CommonOver r = StandOver (common_forms r) (tells_common r) (places r) (common_units r.move)
+-- each unit of a file that was read stands after, as no partial unit, at its name
+pub record StandsAfter (r : Run) (file place : ℕ) : Type 0 where
+  pub unit : DwUnit Spot
+  pub there : In unit (out_units r.move r.units file)
+  pub kind : IsPartial unit.kind → ⊥
+  pub at : unit.at ≡ name_after r file place
+
+abbrev pub AllStandAfter : Run → ℕ → Type 0
+AllStandAfter r file = (place : ℕ) → is_place_of (r.input.raw file) place ≡ true → StandsAfter r file place
 
 -- no name stands twice, and the units of each file of which something moves, and of the common file, are ready
 pub record CanWrite (r : Run) : Type 0 where
   pub apart : NoneTwice (units_keys (all_units r.move r.units r.files))
   pub file : (file : ℕ) → In file r.files → changes r.move r.units file ≡ true → IsReady (OfFile (sources r file)) (file_forms r file) (tells r file) (places r) (out_units r.move r.units file)
+  pub units : (file : ℕ) → In file r.files → AllStandAfter r file
   pub common : IsReady OfAny (common_forms r) (tells_common r) (places r) (common_units r.move)
 
 -- places for the names of a run: in the common file, and in each file of which something moves, those where they are written
@@ -112,28 +113,40 @@ PlacingLaw = (r : Run) → NoneTwice (units_keys (all_units r.move r.units r.fil
 -- a common file that was made so says its units, at their places
 abbrev pub CommonBackLaw : Type 0
 CommonBackLaw =
-    (r : Run) (g : Spot → Place) (out : List ℕ) → CanWrite r → IsPlacing r g → HasCommon out (common_sections r) (texts r) → FitsSections (common_sections r)
+    (r : Run) (g : Spot → Place) (out : List ℕ) → CanWrite r → IsPlacing r g → HasCommon out (common_sections r) (texts r) (paths r) → FitsSections (common_sections r)
     → SaysPlaced r g None r.common out (common_fitted r)
 
 -- a file that was made so says its units, at their places, where it is read with the common file
 abbrev pub FileBackLaw : Type 0
 FileBackLaw =
     (r : Run) (g : Spot → Place) (out common : List ℕ) → CanWrite r → IsPlacing r g → FitsSections (common_sections r) → (c : SaysPlaced r g None r.common common (common_fitted r))
-    → (file : ℕ) → In file r.files → changes r.move r.units file ≡ true → HasSections (r.input file) out (sections_of r file) → FitsSections (sections_of r file)
+    → (file : ℕ) → In file r.files → changes r.move r.units file ≡ true → HasSections r file out → FitsSections (sections_of r file)
     → SaysPlaced r g (Some (given_by r.common common c.raw)) file out (fitted r file)
+
+-- each set of address ranges is of the unit of which it was, where that stands after
+pub record RangesBack (r : Run) (file : ℕ) (out : List ℕ) (raw : List RawUnit) : Type 0 where
+  pub sets : List RangeSet
+  pub before : SpellsSets (is_place_of (r.input.raw file)) sets 0 (debug_aranges (r.input.bytes file))
+  pub after : SpellsSets (is_place_of raw) (of_units sets (map (λ s. (places r).place (name_after r file s.unit)) sets)) 0 (debug_aranges out)
+
+abbrev pub RangesBackLaw : Type 0
+RangesBackLaw =
+    (r : Run) (g : Spot → Place) (common : Option (Common Place)) (out : List ℕ) → CanWrite r → IsPlacing r g
+    → (file : ℕ) → In file r.files → changes r.move r.units file ≡ true → HasSections r file out → FitsSections (sections_of r file)
+    → (says : SaysPlaced r g common file out (fitted r file)) → RangesBack r file out says.raw
 
 -- and where nothing is in the common file, also by itself
 abbrev pub AloneBackLaw : Type 0
 AloneBackLaw =
     (r : Run) (g : Spot → Place) (out : List ℕ) → CanWrite r → IsPlacing r g → common_units r.move ≡ []
-    → (file : ℕ) → In file r.files → changes r.move r.units file ≡ true → HasSections (r.input file) out (sections_of r file) → FitsSections (sections_of r file)
+    → (file : ℕ) → In file r.files → changes r.move r.units file ≡ true → HasSections r file out → FitsSections (sections_of r file)
     → SaysPlaced r g None file out (fitted r file)
 
 -- ---- what all files say together
 
 -- the run of files that say these documents, with the bytes of each
-abbrev pub run_of : Rule → List (Doc ℕ) → (ℕ → List ℕ) → Run
-run_of rule docs input = record { move = plan rule (units_of docs) (file_numbers 0 docs); units = units_of docs; files = file_numbers 0 docs; input = input; common = length docs }
+abbrev pub run_of : Rule → List (Doc ℕ) → Stored → Run
+run_of rule docs input = record { move = plan rule (units_of docs) (file_numbers 0 docs); units = units_of docs; files = file_numbers 0 docs; input = input; name = name_in docs; common = length docs }
 
 abbrev pub back_units : Run → (Spot → Place) → Bool → ℕ → Doc ℕ → List (DwUnit Place)
 back_units r g true file doc = placed_units (places r) g (fitted r file)
@@ -156,7 +169,7 @@ pub record AreAtOld (r : Run) (g : Spot → Place) (docs : List (Doc ℕ)) : Typ
 
 -- what all files say, the common one among them, is the same as what was read, along images; and entries share an image exactly where
 -- they move and nothing tells them apart
-pub record SameBack (scope : Scope) (docs : List (Doc ℕ)) (rule : Rule) (input : ℕ → List ℕ) (g : Spot → Place) : Type 0 where
+pub record SameBack (scope : Scope) (docs : List (Doc ℕ)) (rule : Rule) (input : Stored) (g : Spot → Place) : Type 0 where
   pub same : SameAlong (λ p. g (image rule (units_of docs) (name_in docs p))) (placed_from 0 docs) (all_back (run_of rule docs input) g docs)
   pub alone : IsAlone (units_of docs) (λ s. g (image rule (units_of docs) s))
   pub images : OneImage scope (units_of docs) (λ n. moves rule (units_of docs) n ≡ true) (λ s. g (image rule (units_of docs) s))
@@ -164,7 +177,7 @@ pub record SameBack (scope : Scope) (docs : List (Doc ℕ)) (rule : Rule) (input
 abbrev pub SameBackLaw : Type 0
 SameBackLaw =
     (scope : Scope) (docs : List (Doc ℕ)) (rule : Rule) → Each (λ doc. ArePlaced doc.units) docs → IsAlike scope (units_of docs) rule.alike → IsChoice (units_of docs) rule
-    → (input : ℕ → List ℕ) (g : Spot → Place) → IsPlacing (run_of rule docs input) g → AreAtOld (run_of rule docs input) g docs → SameBack scope docs rule input g
+    → (input : Stored) (g : Spot → Place) → IsPlacing (run_of rule docs input) g → AreAtOld (run_of rule docs input) g docs → SameBack scope docs rule input g
 
 -- ---- what is read
 
@@ -173,37 +186,41 @@ pub record WasReadFrom (sources : Sources) (units : List (DwUnit ℕ)) : Type 0 
   pub placed : ArePlaced units
   pub carried : Each (λ u. CarriedUnit (OfFile sources) (bases_in u) u) units
 
--- so is each file that reads, if its attributes are among those that are written
+-- so is each file that reads
 abbrev pub ReadLaw : Type 0
 ReadLaw =
-    (l : Limits) (input : List ℕ) (raw : List RawUnit) (doc : Doc ℕ) → Reads l input raw doc → AreBytes (debug_info input) → Each BuiltUnit doc.units → WasReadFrom (sources_of input) doc.units
+    (l : Limits) (input : List ℕ) (raw : List RawUnit) (doc : Doc ℕ) → Reads l input raw doc → AreBytes (debug_info input) → WasReadFrom (sources_of input) doc.units
 
 -- after, each reference of a file names an entry of it, or of the common file
 abbrev pub WithinLaw : Type 0
 WithinLaw =
     (scope : Scope) (docs : List (Doc ℕ)) (rule : Rule) → Each (λ doc. ArePlaced doc.units) docs → IsAlike scope (units_of docs) rule.alike → IsChoice (units_of docs) rule
-    → (input : ℕ → List ℕ) (file : ℕ) → ClosedIn (tells (run_of rule docs input) file) (out_units (run_of rule docs input).move (units_of docs) file)
+    → (input : Stored) (file : ℕ) → ClosedIn (tells (run_of rule docs input) file) (out_units (run_of rule docs input).move (units_of docs) file)
 
 -- and each of the common file an entry of that
 abbrev pub CommonWithinLaw : Type 0
 CommonWithinLaw =
     (scope : Scope) (docs : List (Doc ℕ)) (rule : Rule) → Each (λ doc. ArePlaced doc.units) docs → IsAlike scope (units_of docs) rule.alike → IsChoice (units_of docs) rule
-    → (input : ℕ → List ℕ) → ClosedIn (tells_common (run_of rule docs input)) (common_units (run_of rule docs input).move)
+    → (input : Stored) → ClosedIn (tells_common (run_of rule docs input)) (common_units (run_of rule docs input).move)
 
 -- ---- one file by itself
 
-abbrev pub one_run : Rule → Doc ℕ → List ℕ → Run
-one_run rule doc input = run_of rule (doc ∷ []) (λ file. input)
+-- the file as it is stored
+abbrev pub one_stored : List ℕ → List RawUnit → Stored
+one_stored input raw = record { bytes = λ file. input; raw = λ file. raw }
+
+abbrev pub one_run : Rule → Doc ℕ → List ℕ → List RawUnit → Run
+one_run rule doc input raw = run_of rule (doc ∷ []) (one_stored input raw)
 
 -- the file that was made from one that reads says its new units by itself, and they are the same as what was read
-pub record OneBack (doc : Doc ℕ) (rule : Rule) (input out : List ℕ) : Type 0 where
-  pub says : SaysPlaced (one_run rule doc input) (place_of (one_run rule doc input)) None 0 out (fitted (one_run rule doc input) 0)
-  pub same : SameBack Apart (doc ∷ []) rule (λ file. input) (place_of (one_run rule doc input))
+pub record OneBack (doc : Doc ℕ) (rule : Rule) (input : List ℕ) (raw : List RawUnit) (out : List ℕ) : Type 0 where
+  pub says : SaysPlaced (one_run rule doc input raw) (place_of (one_run rule doc input raw)) None 0 out (fitted (one_run rule doc input raw) 0)
+  pub same : SameBack Apart (doc ∷ []) rule (one_stored input raw) (place_of (one_run rule doc input raw))
 
 abbrev pub OneBackLaw : Type 0
 OneBackLaw =
-    (l : Limits) (input : List ℕ) (raw : List RawUnit) (doc : Doc ℕ) → Reads l input raw doc → AreBytes (debug_info input) → Each BuiltUnit doc.units
+    (l : Limits) (input : List ℕ) (raw : List RawUnit) (doc : Doc ℕ) → Reads l input raw doc → AreBytes (debug_info input)
     → (rule : Rule) → IsAlike Apart (units_of (doc ∷ [])) rule.alike → IsChoice (units_of (doc ∷ [])) rule
-    → FileOver (one_run rule doc input) 0
-    → changes (one_run rule doc input).move (units_of (doc ∷ [])) 0 ≡ true
-    → (out : List ℕ) → HasSections input out (sections_of (one_run rule doc input) 0) → FitsSections (sections_of (one_run rule doc input) 0) → OneBack doc rule input out
+    → FileOver (one_run rule doc input raw) 0
+    → changes (one_run rule doc input raw).move (units_of (doc ∷ [])) 0 ≡ true
+    → (out : List ℕ) → HasSections (one_run rule doc input raw) 0 out → FitsSections (sections_of (one_run rule doc input raw) 0) → OneBack doc rule input raw out

@@ -2,33 +2,50 @@
 use Rattle.std.specs.Prelude.{◌≡◌, ℕ, zero, suc, ◌<◌, ◌^◌, true, false, List, [], ◌∷◌, map, length, Option, Some, None}
 use Rattle.dwz_meanings.specs.Documents.{DwUnit}
 use Rattle.dwz_docs.specs.ElfFaults.{IsElfFault}
-use Rattle.dwz_meanings.specs.Files.{debug_abbrev, debug_info, section_of, sources_of}
+use Rattle.dwz_docs.specs.Units.{RawUnit}
+use Rattle.dwz_meanings.specs.Files.{around_of, debug_abbrev, debug_aranges, debug_info, is_place_of, section_of, sources_of}
+use Rattle.dwz_meanings.specs.Patching.{with_units}
+use Rattle.dwz_meanings.specs.Ranges.{RangeSet, SpellsSets}
+use Rattle.dwz_meanings.specs.NamedLists.{lists_of_units}
+use Rattle.dwz_meanings.specs.Shared.{NamedList}
+use Rattle.dwz_writing.specs.Meant.{AreRenumbered, Tells, all_entry_keys}
 use Rattle.dwz_meanings.specs.Meanings.{Sources}
 use Rattle.dwz_alike.specs.Spots.{FileUnit, PartialOf, Spot, UnitOf, same_spot}
-use Rattle.dwz_moving.specs.Moves.{Move, first_unit, part_at}
+use Rattle.dwz_moving.specs.Moves.{Move, first_unit, image_in, part_at}
 use Rattle.dwz_moving.specs.Plan.{PartialUnit}
 use Rattle.dwz_same.specs.After.{Place, at_file}
 use Rattle.dwz_same.specs.Units.{common_units, out_units}
 use Rattle.dwz_writing.specs.Bases.{Bases, bases_in, no_bases}
-use Rattle.dwz_writing.specs.Placing.{FileOut, Forms, UnitSections, file_in, fit_units, numbering, sections, texts_bytes, texts_of}
+use Rattle.dwz_writing.specs.Placing.{FileOut, Forms, UnitSections, file_in, fit_units, lines_bytes, numbering, paths_of, sections, texts_bytes, texts_of}
+use Rattle.dwz_docs.specs.ElfLayout.{too_large}
 use Rattle.dwz_writing.specs.Writing.{Numbering}
 
--- what is written of: a move of the tops of units of these files, the bytes of each file as it was read, and the number of the common
--- file
+-- files as they are stored: the bytes of each, and its units
+pub record Stored : Type 0 where
+  pub bytes : ℕ → List ℕ
+  pub raw : ℕ → List RawUnit
+
+-- what is written of: a move of the tops of units of these files, the files as they were stored, the names of what stood at places, and
+-- the number of the common file
 pub record Run : Type 0 where
   pub move : Move
   pub units : List (FileUnit Spot)
   pub files : List ℕ
-  pub input : ℕ → List ℕ
+  pub input : Stored
+  pub name : Place → Spot
   pub common : ℕ
 
 -- the sections of a file as it was read
 abbrev pub sources : Run → ℕ → Sources
-sources r file = sources_of (r.input file)
+sources r file = sources_of (r.input.bytes file)
 
 -- the texts of the common file
 abbrev pub texts : Run → List (List ℕ)
 texts r = texts_of [] (common_units r.move)
+
+-- and the paths of its line table
+abbrev pub paths : Run → List (List ℕ)
+paths r = paths_of [] (common_units r.move)
 
 -- ---- the unit that values come from: an old unit's own, and a partial unit's those of the unit that its first top comes from
 
@@ -50,10 +67,10 @@ origin_in m units _ = no_bases
 -- ---- the units with the forms of their values
 
 abbrev pub common_forms : Run → Forms Spot
-common_forms r = record { same = same_spot; is_common = true; texts = texts r; offsets = []; origin = origin_in r.move r.units }
+common_forms r = record { same = same_spot; is_common = true; texts = texts r; paths = paths r; offsets = []; origin = origin_in r.move r.units }
 
 abbrev pub file_forms : Run → ℕ → Forms Spot
-file_forms r file = record { same = same_spot; is_common = false; texts = texts r; offsets = (sources r file).offsets; origin = origin_in r.move r.units }
+file_forms r file = record { same = same_spot; is_common = false; texts = texts r; paths = paths r; offsets = (sources r file).offsets; origin = origin_in r.move r.units }
 
 -- the units of the common file, and those of a file, with the forms of their values
 unfoldable pub common_fitted : Run → List (DwUnit Spot)
@@ -88,24 +105,76 @@ sections_of r file = sections (places r) (fitted r file)
 abbrev pub common_sections : Run → UnitSections
 common_sections r = sections (places r) (common_fitted r)
 
+-- ---- what units are written for
+
+-- the location lists that the units of a file named, as it was read
+abbrev pub lists_named : Run → ℕ → List NamedList
+lists_named r file = lists_of_units (around_of (r.input.bytes file) (r.input.raw file)) (r.input.raw file)
+
+-- the name after of what stood at a place
+abbrev pub name_after : Run → ℕ → ℕ → Spot
+name_after r file p = image_in r.move (r.name (at_file file p))
+
+-- what a file's units are written for
+abbrev pub tells : Run → ℕ → Tells Spot
+tells r file = record {
+  strs = (sources r file).strs;
+  line_strs = (sources r file).line_strs;
+  offsets = (sources r file).offsets;
+  line = (sources r file).line;
+  lists = (sources r file).lists;
+  named = lists_named r file;
+  name = name_after r file;
+  all = all_entry_keys (fitted r file);
+  common = all_entry_keys (common_fitted r);
+}
+
+-- and those of the common file, which has no section of the files but its own texts and paths
+abbrev pub tells_common : Run → Tells Spot
+tells_common r = record {
+  strs = texts_bytes (texts r);
+  line_strs = [];
+  offsets = [];
+  line = lines_bytes (paths r);
+  lists = [];
+  named = [];
+  name = name_after r r.common;
+  all = all_entry_keys (common_fitted r);
+  common = [];
+}
+
 -- ---- what files hold that were made so
 
--- a file without a fault, that has these two sections, and else those of the file from which it was made; its texts are few
-pub record HasSections (input out : List ℕ) (s : UnitSections) : Type 0 where
+-- each set of address ranges has the offset of the same unit where it stands after, and else the bytes that were there (DWARF 5, 6.1.2)
+pub record AreRanged (r : Run) (file : ℕ) (new : List ℕ) : Type 0 where
+  pub sets : List RangeSet
+  pub spelled : SpellsSets (is_place_of (r.input.raw file)) sets 0 (debug_aranges (r.input.bytes file))
+  pub are : new ≡ with_units sets (map (λ s. (places r).place (name_after r file s.unit)) sets) (debug_aranges (r.input.bytes file))
+
+-- A file without a fault has these two sections; in its location lists and in its address ranges stand the numbers of where things
+-- stand; and it has the other sections of which values speak as they were read. Its texts are few.
+pub record HasSections (r : Run) (file : ℕ) (out : List ℕ) : Type 0 where
+  pub elf : (f : _) → IsElfFault out f → ⊥
+  pub info : debug_info out ≡ (sections_of r file).info
+  pub abbrevs : debug_abbrev out ≡ (sections_of r file).abbrevs
+  pub strs : (sources_of out).strs ≡ (sources r file).strs
+  pub line_strs : (sources_of out).line_strs ≡ (sources r file).line_strs
+  pub offsets : (sources_of out).offsets ≡ (sources r file).offsets
+  pub line : (sources_of out).line ≡ (sources r file).line
+  pub lists : AreRenumbered (places r) (tells r file) (sources_of out).lists
+  pub ranges : AreRanged r file (debug_aranges out)
+  pub small : length (section_of out 3) < 2 ^ 32
+
+-- `.debug_str` and `.debug_line` of the common file, which has no other section that values speak of
+abbrev pub common_sources : (texts paths : List (List ℕ)) → Sources
+common_sources texts paths = record { strs = texts_bytes texts; line_strs = []; offsets = []; line = lines_bytes paths; lists = [] }
+
+-- a common file without a fault, that has these two sections, texts and paths; it has no address ranges; none of its sections is too long
+pub record HasCommon (out : List ℕ) (s : UnitSections) (texts paths : List (List ℕ)) : Type 0 where
   pub elf : (f : _) → IsElfFault out f → ⊥
   pub info : debug_info out ≡ s.info
   pub abbrevs : debug_abbrev out ≡ s.abbrevs
-  pub sources : sources_of out ≡ sources_of input
+  pub sources : sources_of out ≡ common_sources texts paths
+  pub ranges : debug_aranges out ≡ []
   pub small : length (section_of out 3) < 2 ^ 32
-
--- `.debug_str` of the common file, which has no other section that values speak of
-abbrev pub common_sources : List (List ℕ) → Sources
-common_sources texts = record { strs = texts_bytes texts; line_strs = []; offsets = []; line = []; lists = [] }
-
--- a common file without a fault, that has these two sections, and texts
-pub record HasCommon (out : List ℕ) (s : UnitSections) (texts : List (List ℕ)) : Type 0 where
-  pub elf : (f : _) → IsElfFault out f → ⊥
-  pub info : debug_info out ≡ s.info
-  pub abbrevs : debug_abbrev out ≡ s.abbrevs
-  pub sources : sources_of out ≡ common_sources texts
-  pub small : length (section_of out 3) < 2 ^ 32
+  pub few : length (section_of out 6) < too_large

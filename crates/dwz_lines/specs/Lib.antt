@@ -5,4 +5,3 @@ pub mod Paths
 pub mod Headers
 pub mod TableViews
 pub mod Sections
-pub mod Writing

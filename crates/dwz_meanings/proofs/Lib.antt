@@ -25,6 +25,8 @@ pub mod PatchedListLemmas
 pub mod NamedAgain
 pub mod WriteOver
 pub mod EndLemmas
+pub mod LinesWritten
+pub mod PathTexts
 mod ExprRows
 mod MeaningRows
 mod FileRows

@@ -119,7 +119,7 @@ module _ {P : Type 0} (s : Scope P) where
   as_is OfListIndex a l = slot_is (offset_of a) l
   as_is _ a l = none_named l
 
-  attr_is : (a : RawAttr) (l : NamedList) → In l (list_of_attr s a) ↔ NamesList s a l
+  pub attr_is : (a : RawAttr) (l : NamedList) → In l (list_of_attr s a) ↔ NamesList s a l
   unfolding list_of_attr
   attr_is a l = as_is (class_of a.pair.form) a l
 

@@ -10,3 +10,4 @@ pub mod NamedLists
 pub mod Files
 pub mod Patching
 pub mod PatchedLists
+pub mod LinesWritten

@@ -18,7 +18,7 @@ mod shared;
 
 pub use exprs::{Operand, expr_laws};
 pub use files::file_laws;
-pub use line_tables::line_laws;
+pub use line_tables::{line_laws, written_line_laws};
 pub use loc_lists::list_laws;
 pub use meanings::meaning_laws;
 pub use patched_lists::patched_list_laws;

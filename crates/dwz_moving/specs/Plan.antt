@@ -5,6 +5,7 @@ use Rattle.dwz_meanings.specs.Documents.{Attr, Entries, Expr, Loc, Node, Operand
 use Rattle.dwz_docs.specs.Lists.{has}
 use Rattle.dwz_docs.specs.Trees.{End, Entry}
 use Rattle.dwz_alike.specs.Alike.{any_attr, any_entry, is_in}
+unfoldable pub use Rattle.dwz_alike.specs.Alike.{joined_parts}
 use Rattle.dwz_alike.specs.Deciding.{Test, same_bool, same_by}
 use Rattle.dwz_alike.specs.Spots.{ASpace, ATop, FileUnit, Import, InChain, Nothing, PartialRoot, Row, SpaceName, Spot, Top, Within, name_list, row_of, same_numbers, same_spot, tops_of}
 use Rattle.dwz_moving.specs.Homes.{Common, Home, Local, Rule, home, moves, rep, same_home, users}
@@ -107,10 +108,6 @@ uleb_targets [] refs = []
 uleb_targets (Same bytes ∷ parts) refs = uleb_targets parts refs
 uleb_targets (Operand width uleb base ∷ parts) [] = []
 uleb_targets (Operand width uleb base ∷ parts) (r ∷ refs) = elim uleb as (λ _. List Spot) [ true ↦ r ∷ uleb_targets parts refs | false ↦ uleb_targets parts refs ]
-
-unfoldable pub joined_parts : List (List Part) → List Part
-joined_parts [] = []
-joined_parts (parts ∷ exprs) = parts ++ joined_parts exprs
 
 abbrev pub parts_of : Plain → List Part
 parts_of (Expr parts) = parts

@@ -45,7 +45,7 @@ module _ {K L : Type 0} (from : Sources → Type 0) (origin : Bases) (f : K → 
   lines_map : (a : Attr K) → NamesLines a → NamesLines (attr_map f a)
   lines_map a is = record { name = is.name; form = is.form; place = is.place; raw = is.raw; fits = is.fits; value = ap (λ (v : Value K). value_map f v) is.value }
 
-  attr_carried : (a : Attr K) → CarriedAttr from origin a → CarriedAttr from origin (attr_map f a)
+  pub attr_carried : (a : Attr K) → CarriedAttr from origin a → CarriedAttr from origin (attr_map f a)
   attr_carried a is = elim is [ inl c ↦ inl (came_map a c) | inr more ↦ elim more [ inl i ↦ inr (inl (import_map a i)) | inr l ↦ inr (inr (lines_map a l)) ] ]
 
   attrs_carried : (attrs : List (Attr K)) → Each (CarriedAttr from origin) attrs → Each (CarriedAttr from origin) (map (attr_map f) attrs)

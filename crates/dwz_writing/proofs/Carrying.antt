@@ -9,7 +9,7 @@ use Rattle.dwz_codes.specs.Forms.{form_rows}
 use Rattle.dwz_docs.specs.Abbrevs.{SpellsPair}
 use Rattle.dwz_meanings.specs.Documents.{Attr, Expr, Plain, Sec, Text, Value, only, ref, value_map}
 use Rattle.dwz_docs.specs.Entries.{RawAttr}
-use Rattle.dwz_meanings.specs.Meanings.{Class, IfSo, IsExpression, IsFileBy, MeansAs, OfAddress, OfBlock, OfCommonEntry, OfCommonText, OfConstant, OfExpression, OfFlag, OfIndex, OfInfoEntry, OfListIndex, OfOffset, OfSignature, OfText, OfTextBySlot, OfTextInLineStr, OfTextInStr, OfUnitEntry, Sources, Unread, bytes_of, class_in, class_of, class_rows, content_at, expr_context, names_file, names_list, number_of, path_by, stmt_list, target_of, targets}
+use Rattle.dwz_meanings.specs.Meanings.{Class, IfSo, IsExpression, IsFileBy, MeansAs, OfAddress, OfBlock, OfCommonEntry, OfCommonText, OfConstant, OfExpression, OfFlag, OfIndex, OfInfoEntry, OfListIndex, OfOffset, OfSignature, OfText, OfTextBySlot, OfTextInLineStr, OfTextInStr, OfUnitEntry, Sources, Unread, bytes_of, class_in, class_of, class_rows, content_at, expr_context, names_file, names_list, number_of, path_by, stmt_list, texts_of, target_of, targets}
 use Rattle.dwz_meanings.specs.declared.exprs.Operand.{Operand}
 use Rattle.dwz_meanings.specs.Exprs.{ExprContext, Expression, SpellsExpr, parts_of}
 use Rattle.dwz_docs.specs.Texts.{IsSlot, IsTextAt}
@@ -18,7 +18,7 @@ use Rattle.dwz_docs.proofs.WrittenLemmas.{same_shape}
 use Rattle.dwz_writing.specs.Carried.{CameFrom, CarriedAttr, Imports, NamesLines, NumbersFile}
 use Rattle.dwz_writing.specs.Bases.{Bases}
 use Rattle.dwz_writing.specs.Meant.{AttrSays, FileSays, Own, SaysAs, Tells, WasRead}
-use Rattle.dwz_writing.specs.Placing.{Chosen, Fit, as_entry, as_read, fit_as, fit_attr, with_form, zeros}
+use Rattle.dwz_writing.specs.Placing.{Chosen, Fit, as_constant, as_entry, as_file, as_read, fit_as, fit_attr, with_form, zeros}
 use Rattle.dwz_writing.specs.Sound.{HasBytes, IsBuiltAs, SoundAttr, StoresAs}
 use Rattle.dwz_writing.specs.Writing.{block_in, expr_bytes, pair_of, text_in}
 use Rattle.dwz_writing.proofs.ValuesMean.{not_so, plain_is, so_not}
@@ -32,7 +32,7 @@ use Rattle.dwz_writing.proofs.FilledParts.{expr_as_long}
 
 -- ---- an attribute that came from a file
 
-so : (b : Bool) (P Q : Type 0) → b ≡ true → IfSo b P Q → P
+pub so : (b : Bool) (P Q : Type 0) → b ≡ true → IfSo b P Q → P
 so true P Q e h = h
 so false P Q e h = absurd cc
 
@@ -78,17 +78,13 @@ pub record Slotted {K : Type 0} (from : Sources → Type 0) (origin : Bases) (a 
   pub sound : SoundAttr a
   pub class : class_of a.form ≡ OfTextBySlot
 
--- units of a file with these sections, of which nothing else is known
-abbrev pub tells_of : {K : Type 0} → Sources → Tells K
-tells_of s = record { strs = s.strs; line_strs = s.line_strs; offsets = s.offsets; line = s.line; all = []; common = [] }
-
 -- the number of a file
 pub record Filed {K : Type 0} (from : Sources → Type 0) (origin : Bases) (a : Attr K) : Type 0 where
   pub sources : Sources
   pub file : from sources
   pub numbers : NumbersFile a
-  pub says : FileSays (tells_of sources) origin.line a
-  pub stays : (f : Fit K) → fit_attr f a ≡ a
+  pub says : FileSays (texts_of sources) sources.line origin.line a
+  pub chosen : (f : Fit K) → fit_attr f a ≡ with_form a (as_file f.holder f a)
   pub sound : SoundAttr a
 
 -- an expression
@@ -100,6 +96,12 @@ pub record Computed {K : Type 0} (a : Attr K) : Type 0 where
   pub spelled : SpellsExpr context expression start bytes
   pub plain : a.value.plain ≡ Expr (parts_of expression)
   pub class : class_of a.form ≡ OfExpression
+  pub sound : SoundAttr a
+
+-- a location list
+pub record Listed {K : Type 0} (a : Attr K) : Type 0 where
+  pub class : ((class_of a.form ≡ OfOffset) × (names_list a.name ≡ true)) ⊎ (class_of a.form ≡ OfListIndex)
+  pub stays : (f : Fit K) → fit_attr f a ≡ a
   pub sound : SoundAttr a
 
 -- any other attribute, whose form stays
@@ -204,10 +206,10 @@ module _ {K : Type 0} (from : Sources → Type 0) (origin : Bases) (a : Attr K) 
   content c bytes e stores same h = subst (HasBytes a) (again_bytes c e stores ∙ ap (λ (b : List ℕ). Bytes b) same) h
 
   abbrev Kinds : Type 0
-  Kinds = Reference a ⊎ (Placed from a ⊎ (Slotted from origin a ⊎ (Filed from origin a ⊎ (Computed a ⊎ Other a))))
+  Kinds = Reference a ⊎ (Placed from a ⊎ (Slotted from origin a ⊎ (Filed from origin a ⊎ (Computed a ⊎ (Listed a ⊎ Other a)))))
 
   -- the file of a number, by the line table that the unit has
-  file_by : (o : Option ℕ) → IsFileBy o w.scope (number_of old.raw) w.read.value → FileSays (tells_of w.scope.around.sources) o a
+  file_by : (o : Option ℕ) → IsFileBy o w.scope (number_of old.raw) w.read.value → FileSays (texts_of w.scope.around.sources) w.scope.around.sources.line o a
   file_by None f = (sym same_raw ∙ f.0, same_value ∙ ap (λ (v : Value ℕ). value_map w.name v) f.1)
   file_by (Some place) f = record {
     table = f.table;
@@ -222,11 +224,11 @@ module _ {K : Type 0} (from : Sources → Type 0) (origin : Bases) (a : Attr K) 
     sources = w.scope.around.sources;
     file = came.file;
     numbers = (e, names);
-    says = subst (λ (o : Option ℕ). FileSays (tells_of w.scope.around.sources) o a) (ap (λ (b : Bases). b.line) came.unit) (file_by (stmt_list w.scope) (so (names_file old.pair.name) _ _ (ap names_file same_name ∙ names) m));
-    stays = λ f. ap (λ (d : Class). with_form a (fit_as d f a)) e;
+    says = subst (λ (o : Option ℕ). FileSays (texts_of w.scope.around.sources) w.scope.around.sources.line o a) (ap (λ (b : Bases). b.line) came.unit) (file_by (stmt_list w.scope) (so (names_file old.pair.name) _ _ (ap names_file same_name ∙ names) m));
+    chosen = λ f. ap (λ (d : Class). with_form a (fit_as d f a)) e ∙ ap (λ (b : Bool). with_form a (as_constant b f a)) names;
     sound = other_sound (subst (λ (d : Class). StoresAs d a) (sym e) (number OfConstant e refl (λ x. cc) has_bytes));
   }))))
-  constant e false names m = inr (inr (inr (inr (inr (other OfConstant e (λ f. refl) (number OfConstant e refl (λ x. cc)) (λ r t own. so_not (names_file a.name) _ _ names r))))))
+  constant e false names m = inr (inr (inr (inr (inr (inr (other OfConstant e (λ f. ap (λ (b : Bool). as_constant b f a) names) (number OfConstant e refl (λ x. cc)) (λ r t own. so_not (names_file a.name) _ _ names r)))))))
 
   plain_is_expr : (m : IsExpression w.scope old w.read.value) → a.value.plain ≡ Expr (parts_of m.expression)
   plain_is_expr m = ap (λ (v : Value K). v.plain) same_value ∙ ap (λ (v : Value ℕ). v.plain) m.value
@@ -242,11 +244,11 @@ module _ {K : Type 0} (from : Sources → Type 0) (origin : Bases) (a : Attr K) 
       omega (arith, block, as_long, same)
 
   by_class : (c : Class) → class_of a.form ≡ c → IsBuiltAs c a.name → MeansAs c w.scope old w.read.value → Kinds
-  by_class OfAddress e built m = inr (inr (inr (inr (inr (other OfAddress e (λ f. refl) (number OfAddress e refl (λ x. cc)) (λ r t own. r))))))
-  by_class OfBlock e built m = inr (inr (inr (inr (inr (other OfBlock e (λ f. refl) (content OfBlock _ e refl (sym (ap block_in (plain_of _ m)))) (λ r t own. r))))))
+  by_class OfAddress e built m = inr (inr (inr (inr (inr (inr (other OfAddress e (λ f. refl) (number OfAddress e refl (λ x. cc)) (λ r t own. r)))))))
+  by_class OfBlock e built m = inr (inr (inr (inr (inr (inr (other OfBlock e (λ f. refl) (content OfBlock _ e refl (sym (ap block_in (plain_of _ m)))) (λ r t own. r)))))))
   by_class OfConstant e built m = constant e (names_file a.name) refl m
-  by_class OfFlag e built m = inr (inr (inr (inr (inr (other OfFlag e (λ f. refl) (number OfFlag e refl (λ x. cc)) (λ r t own. r))))))
-  by_class OfText e built m = inr (inr (inr (inr (inr (other OfText e (λ f. refl) (content OfText _ e refl (sym (ap text_in (plain_of _ m)))) (λ r t own. r))))))
+  by_class OfFlag e built m = inr (inr (inr (inr (inr (inr (other OfFlag e (λ f. refl) (number OfFlag e refl (λ x. cc)) (λ r t own. r)))))))
+  by_class OfText e built m = inr (inr (inr (inr (inr (inr (other OfText e (λ f. refl) (content OfText _ e refl (sym (ap text_in (plain_of _ m)))) (λ r t own. r)))))))
   by_class OfTextInStr e built m = inr (inl (record {
     sources = w.scope.around.sources;
     file = came.file;
@@ -279,10 +281,18 @@ module _ {K : Type 0} (from : Sources → Type 0) (origin : Bases) (a : Attr K) 
   by_class OfUnitEntry e built m = inl (reference OfUnitEntry e (λ f. refl) _ (same_value ∙ ap (λ (v : Value ℕ). value_map w.name v) m.1))
   by_class OfInfoEntry e built m = inl (reference OfInfoEntry e (λ f. refl) _ (same_value ∙ ap (λ (v : Value ℕ). value_map w.name v) m.1))
   by_class OfCommonEntry e built m = inl (reference OfCommonEntry e (λ f. refl) _ (same_value ∙ ap (λ (v : Value ℕ). value_map w.name v) m.2.1))
-  by_class OfSignature e built m = inr (inr (inr (inr (inr (other OfSignature e (λ f. refl) (number OfSignature e refl (λ x. cc)) (λ r t own. r))))))
-  by_class OfOffset e built m =
-      let m' = not_so (names_list old.pair.name) _ _ (ap names_list same_name ∙ built) m in
-      inr (inr (inr (inr (inr (other OfOffset e (λ f. refl) (number OfOffset e refl (λ x. cc)) (λ r t own. same_value ∙ ap (λ (v : Value ℕ). value_map w.name v) m' ∙ ap (λ (z : ℤ). only (Sec (reach z))) same_raw))))))
+  by_class OfSignature e built m = inr (inr (inr (inr (inr (inr (other OfSignature e (λ f. refl) (number OfSignature e refl (λ x. cc)) (λ r t own. r)))))))
+  by_class OfOffset e built m = by (names_list a.name) refl where
+    by : (b : Bool) → names_list a.name ≡ b → Kinds
+    by true names = inr (inr (inr (inr (inr (inl (record {
+      class = inl (e, names);
+      stays = λ f. ap (λ (d : Class). with_form a (fit_as d f a)) e;
+      sound = other_sound (subst (λ (d : Class). StoresAs d a) (sym e) (number OfOffset e refl (λ x. cc) has_bytes));
+    }))))))
+    by false names =
+        (let m' = not_so (names_list old.pair.name) _ _ (ap names_list same_name ∙ names) m in
+        inr (inr (inr (inr (inr (inr (other OfOffset e (λ f. refl) (number OfOffset e refl (λ x. cc))
+        (λ r t own. so_not (names_list a.name) _ _ names (same_value ∙ ap (λ (v : Value ℕ). value_map w.name v) m' ∙ ap (λ (z : ℤ). only (Sec (reach z))) same_raw)))))))))
   by_class OfExpression e built m = inr (inr (inr (inr (inl (record {
     context = expr_context w.scope 1;
     expression = m.expression;
@@ -293,15 +303,19 @@ module _ {K : Type 0} (from : Sources → Type 0) (origin : Bases) (a : Attr K) 
     class = e;
     sound = other_sound (subst (λ (d : Class). StoresAs d a) (sym e) (record { form = expression_form a.form e; short = short_expr e m }));
   })))))
-  by_class OfListIndex e built m = absurd built
-  by_class OfIndex e built m = inr (inr (inr (inr (inr (other OfIndex e (λ f. refl) (number OfIndex e refl (λ x. cc)) (λ r t own. r))))))
+  by_class OfListIndex e built m = inr (inr (inr (inr (inr (inl (record {
+    class = inr e;
+    stays = λ f. ap (λ (d : Class). with_form a (fit_as d f a)) e;
+    sound = other_sound (subst (λ (d : Class). StoresAs d a) (sym e) (number OfListIndex e refl (λ x. cc) has_bytes));
+  }))))))
+  by_class OfIndex e built m = inr (inr (inr (inr (inr (inr (other OfIndex e (λ f. refl) (number OfIndex e refl (λ x. cc)) (λ r t own. r)))))))
   by_class OfCommonText e built m = absurd built
   by_class Unread e built m = absurd built
 
   pub came_is : Kinds
   came_is = by_class (class_of a.form) refl came.built (subst (λ (f : ℕ). MeansAs (class_of f) w.scope old w.read.value) same_form w.means.value)
 
-import_class : class_of 0x10 ≡ OfInfoEntry
+pub import_class : class_of 0x10 ≡ OfInfoEntry
 unfolding class_rows class_in
 import_class = refl
 
@@ -317,7 +331,7 @@ imports_is a is = record {
 
 -- ---- the line table of a partial unit
 
-no_list : names_list 0x10 ≡ false
+pub no_list : names_list 0x10 ≡ false
 unfolding has
 no_list = refl
 
@@ -339,12 +353,12 @@ lines_is a is =
         some_name = omega (arith, is.name);
         name_fits = omega (arith, is.name);
         no_sibling = λ e. omega (arith, is.name, e);
-        built = subst (λ (d : Class). IsBuiltAs d a.name) (sym class) (ap names_list is.name ∙ no_list);
+        built = subst (λ (d : Class). IsBuiltAs d a.name) (sym class) tt;
         constant = λ e. absurd (omega (arith, is.form, e));
         value = subst (λ (d : Class). StoresAs d a) (sym class) bytes;
       };
-      says = λ t own. subst (λ (d : Class). SaysAs d t own a) (sym class) (is.value ∙ ap (λ (z : ℤ). only (Sec (reach z))) (sym is.raw));
+      says = λ t own. subst (λ (d : Class). SaysAs d t own a) (sym class) (so_not (names_list a.name) _ _ (ap names_list is.name ∙ no_list) (is.value ∙ ap (λ (z : ℤ). only (Sec (reach z))) (sym is.raw)));
     }
 
-pub carried_is : {K : Type 0} (from : Sources → Type 0) (origin : Bases) (a : Attr K) → CarriedAttr from origin a → Reference a ⊎ (Placed from a ⊎ (Slotted from origin a ⊎ (Filed from origin a ⊎ (Computed a ⊎ Other a))))
-carried_is from origin a is = elim is [ inl c ↦ came_is from origin a c | inr more ↦ elim more [ inl i ↦ inl (imports_is a i) | inr l ↦ inr (inr (inr (inr (inr (lines_is a l))))) ] ]
+pub carried_is : {K : Type 0} (from : Sources → Type 0) (origin : Bases) (a : Attr K) → CarriedAttr from origin a → Reference a ⊎ (Placed from a ⊎ (Slotted from origin a ⊎ (Filed from origin a ⊎ (Computed a ⊎ (Listed a ⊎ Other a)))))
+carried_is from origin a is = elim is [ inl c ↦ came_is from origin a c | inr more ↦ elim more [ inl i ↦ inl (imports_is a i) | inr l ↦ inr (inr (inr (inr (inr (inr (lines_is a l)))))) ] ]

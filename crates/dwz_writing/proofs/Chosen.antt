@@ -3,19 +3,22 @@ use Rattle.std.proofs.Common.{◌≡◌, ◌⊎◌, ℕ, ◌<◌, ◌^◌, Bool,
 use Rattle.std.proofs.Math.Logic.{inl, inr}
 use Rattle.dwz_meanings.specs.Documents.{Attr, Compile, DwUnit, Entries, Kind, OfType, Partial, Plain, first_named}
 use Rattle.dwz_docs.specs.Lists.{In}
-use Rattle.dwz_meanings.specs.Meanings.{Class, Sources}
+use Rattle.dwz_meanings.specs.Meanings.{Class, OfListIndex, OfOffset, Sources, names_list, class_of}
 use Rattle.dwz_docs.specs.Trees.{End, Entry}
 use Rattle.dwz_seen.specs.Lists.{Each}
 use Rattle.dwz_writing.specs.Bases.{Bases, bases_in, offset_in}
-use Rattle.dwz_writing.specs.Carried.{ApartIn, BasesStand, CarriedAttr, CarriedEntries, CarriedUnit, ClosedIn, AttrOperands, ComesFromItself, ExprIn, FileStands, OperandsStand, OperandsStandAs, SectionsStand, UnitTexts}
+use Rattle.dwz_writing.specs.Carried.{ApartIn, AttrPaths, AttrTexts, BasesStand, CarriedAttr, CarriedEntries, CarriedUnit, ClosedIn, AttrOperands, ComesFromItself, ExprIn, FileStands, OperandsStand, OperandsStandAs, SectionsStand, UnitPaths, UnitTexts}
+use Rattle.dwz_meanings.specs.LinesWritten.{AreTexts}
 use Rattle.dwz_writing.specs.Fitting.{EachAttr}
 use Rattle.dwz_writing.specs.Meant.{AttrSays, EntriesSay, KindSays, NodeSays, Own, SaysAs, Tells, UnitSays, UnitsSay, all_entry_keys, entry_keys, own_of}
-use Rattle.dwz_writing.specs.Placing.{FileFit, Fit, Forms, Holder, fit, fit_as, fit_attr, fit_node, fit_unit, fit_units, has_key, holder_of, reach_by, ref_form, texts_bytes, unit_fit, with_form, with_keys}
+use Rattle.dwz_writing.specs.Placing.{FileFit, Fit, Forms, Holder, fit, fit_as, fit_attr, fit_node, fit_unit, fit_units, has_key, holder_of, lines_bytes, reach_by, ref_form, texts_bytes, unit_fit, with_form, with_keys}
 use Rattle.dwz_seen.specs.Shown.{unit_keys, units_keys}
 use Rattle.dwz_seen.specs.Seen.{Seen, all_seen, see, seen_below, seen_roots}
 use Rattle.dwz_writing.specs.Sound.{SoundAttr, SoundEntries, SoundUnit}
 use Rattle.dwz_seen.specs.Lists.{NoneTwice}
-use Rattle.dwz_writing.proofs.Carrying.{Computed, Reference, carried_is}
+use Rattle.dwz_writing.proofs.Carrying.{Computed, Listed, Reference, carried_is}
+use Rattle.dwz_writing.proofs.ReadAgain.{same_bases}
+use Rattle.dwz_writing.proofs.ValuesMean.{so_true, so_yes}
 use Rattle.dwz_writing.proofs.Places.{IsSame}
 use Rattle.dwz_seen.proofs.SeenLemmas.{root_in, seen_in}
 use Rattle.dwz_writing.proofs.Rising.{entries_are_keys}
@@ -46,12 +49,11 @@ first_fit x name (a ∷ attrs) = by (first_fit x name attrs) (eqb a.name name) w
   by rest false = rest
 
 bases_fit : {K : Type 0} (f : FileFit K) (u : DwUnit K) → bases_in (fit_unit f u) ≡ bases_in u
-bases_fit f u =
-    ap (λ (o : Option ℕ). record { slots = o; line = offset_in (first_named 0x10 (map (fit_attr (unit_fit f u)) u.root.attrs)) }) (first_fit (unit_fit f u) 0x72 u.root.attrs)
-    ∙ ap (λ (o : Option ℕ). record { slots = offset_in (first_named 0x72 u.root.attrs); line = o }) (first_fit (unit_fit f u) 0x10 u.root.attrs)
+bases_fit f u = same_bases _ _ _ _ _ _ (first_fit (unit_fit f u) 0x72 u.root.attrs) (first_fit (unit_fit f u) 0x10 u.root.attrs) (first_fit (unit_fit f u) 0x8c u.root.attrs)
 
 own_fit : {K : Type 0} (f : FileFit K) (u : DwUnit K) → own_of u ≡ own_of (fit_unit f u)
-own_fit {K} f u = ap (λ (ks : List K). record { keys = ks; bases = bases_in u }) (sym (fit_entry_keys f u)) ∙ ap (λ (b : Bases). record { keys = entry_keys (fit_unit f u); bases = b }) (sym (bases_fit f u))
+own_fit {K} f u =
+    ap (λ (ks : List K). record { at = u.at; keys = ks; bases = bases_in u }) (sym (fit_entry_keys f u)) ∙ ap (λ (b : Bases). record { at = u.at; keys = entry_keys (fit_unit f u); bases = b }) (sym (bases_fit f u))
 
 -- ---- each value is written as its form says
 
@@ -64,7 +66,7 @@ module _ {K : Type 0} (f : FileFit K) (is : IsSame f.same) (from : Sources → T
   own = own_of u
 
   abbrev At : Attr K → Type 0
-  At a = AttrAt (holder_of f.is_common u.kind) f.texts (bases_in u).line (f.origin u.at).line a × AttrOperands t own a
+  At a = AttrAt (holder_of f.is_common u.kind) f.texts f.paths (bases_in u).line (f.origin u.at).line a × AttrOperands t own a
 
   -- a name of the unit that is an entry's is one of the unit's entries
   inside : (k : K) → In k t.all ⊎ In k t.common → has_key f.same k (unit_keys u) ≡ true → In k (entry_keys u)
@@ -90,6 +92,12 @@ module _ {K : Type 0} (f : FileFit K) (is : IsSame f.same) (from : Sources → T
         says = subst (AttrSays t own) (sym stays) (subst (λ (c : Class). SaysAs c t own a) (sym k.class) (record { context = k.context; expression = k.expression; start = k.start; bytes = k.bytes; spelled = k.spelled; plain = k.plain; operands = operands }));
       }
 
+  list_good : (a : Attr K) → Listed a → AttrOperands t own a → Good t own (fit_attr x a)
+  list_good a k there = record { sound = subst SoundAttr (sym (k.stays x)) k.sound; says = subst (AttrSays t own) (sym (k.stays x)) (by k.class) } where
+    by : ((class_of a.form ≡ OfOffset) × (names_list a.name ≡ true)) ⊎ (class_of a.form ≡ OfListIndex) → AttrSays t own a
+    by (inl c) = subst (λ (d : Class). SaysAs d t own a) (sym c.0) (so_yes (names_list a.name) _ _ c.1 (so_true (names_list a.name) _ _ c.1 (subst (λ (d : Class). OperandsStandAs d t own a) c.0 there)))
+    by (inr c) = subst (λ (d : Class). SaysAs d t own a) (sym c) (subst (λ (d : Class). OperandsStandAs d t own a) c there)
+
   attr_good : (a : Attr K) → CarriedAttr from (f.origin u.at) a → Each (λ k. In k t.all ⊎ In k t.common) a.value.refs → At a → Good t own (fit_attr x a)
   attr_good a carried names at = elim (carried_is from (f.origin u.at) a carried) [
     | inl r ↦ record { sound = subst SoundAttr (sym (form_is a r x)) (chosen_sound a r (reach_by (has_key f.same r.target (unit_keys u)) (has_key f.same r.target f.keys))); says = ref_says a r (subst (Each (λ k. In k t.all ⊎ In k t.common)) (refs_are a r) names).0 }
@@ -98,10 +106,13 @@ module _ {K : Type 0} (f : FileFit K) (is : IsSame f.same) (from : Sources → T
       | inr more ↦ elim more [
         | inl s ↦ slot_good from (f.origin u.at) t small own a s (holder_of f.is_common u.kind) x refl refl itself sections_at at.0.0
         | inr last ↦ elim last [
-          | inl n ↦ file_good from (f.origin u.at) t own a n (holder_of f.is_common u.kind) x itself sections_at at.0.1
+          | inl n ↦ file_good from (f.origin u.at) t own a n (holder_of f.is_common u.kind) x refl itself sections_at at.0.0 at.0.1
           | inr other ↦ elim other [
             | inl k ↦ expression_good a k at.1
-            | inr o ↦ record { sound = subst SoundAttr (sym (o.stays x)) o.sound; says = subst (AttrSays t own) (sym (o.stays x)) (o.says t own) }
+            | inr final ↦ elim final [
+              | inl k ↦ list_good a k at.1
+              | inr o ↦ record { sound = subst SoundAttr (sym (o.stays x)) o.sound; says = subst (AttrSays t own) (sym (o.stays x)) (o.says t own) }
+            ]
           ]
         ]
       ]
@@ -147,28 +158,29 @@ module _ {K : Type 0} (f : FileFit K) (is : IsSame f.same) (from : Sources → T
 
 -- ---- the units of a file
 
-sections_common : {K : Type 0} (kind : Kind K) (from : Sources → Type 0) (f : Forms K) (x : Fit K) (t : Tells K) (units : List (DwUnit K)) (b : Bool) → f.texts ≡ x.texts → f.offsets ≡ x.offsets → SectionsStand b from f t units → SectionsAt (holder_of b kind) from x t
-sections_common kind from f x t units true texts offsets at = at.1 ∙ ap texts_bytes texts
-sections_common Compile from f x t units false texts offsets at = subst (λ (w : List ℕ). SourcesAt from w t) offsets at.1
-sections_common (OfType signature main) from f x t units false texts offsets at = subst (λ (w : List ℕ). SourcesAt from w t) offsets at.1
-sections_common Partial from f x t units false texts offsets at = subst (λ (w : List ℕ). SourcesAt from w t) offsets at.1
+sections_common : {K : Type 0} (kind : Kind K) (from : Sources → Type 0) (f : Forms K) (x : Fit K) (t : Tells K) (units : List (DwUnit K)) (b : Bool) → f.texts ≡ x.texts → f.paths ≡ x.paths → f.offsets ≡ x.offsets → SectionsStand b from f t units → SectionsAt (holder_of b kind) from x t
+sections_common kind from f x t units true texts paths offsets at =
+    record { strs = at.1.strs ∙ ap texts_bytes texts; line = at.1.line ∙ ap lines_bytes paths; few = at.1.few; are_texts = subst AreTexts paths at.1.are_texts }
+sections_common Compile from f x t units false texts paths offsets at = subst (λ (w : List ℕ). SourcesAt from w t) offsets at.1
+sections_common (OfType signature main) from f x t units false texts paths offsets at = subst (λ (w : List ℕ). SourcesAt from w t) offsets at.1
+sections_common Partial from f x t units false texts paths offsets at = subst (λ (w : List ℕ). SourcesAt from w t) offsets at.1
 
 small_strs : {K : Type 0} (from : Sources → Type 0) (f : Forms K) (t : Tells K) (units : List (DwUnit K)) (b : Bool) → SectionsStand b from f t units → length t.strs < 2 ^ 32
 small_strs from f t units true at = at.0
 small_strs from f t units false at = at.0
 
--- the texts of the common file, and no others, are asked for
-text_for : {K : Type 0} (kind : Kind K) (texts : List (List ℕ)) (a : Attr K) → TextFor (holder_of false kind) texts a
-text_for Compile texts a = tt
-text_for (OfType signature main) texts a = tt
-text_for Partial texts a = tt
+-- the texts and paths of the common file, and no others, are asked for
+text_for : {K : Type 0} (kind : Kind K) (texts paths : List (List ℕ)) (a : Attr K) → TextFor (holder_of false kind) texts paths a
+text_for Compile texts paths a = tt
+text_for (OfType signature main) texts paths a = tt
+text_for Partial texts paths a = tt
 
 module _ {K : Type 0} (P Q R : Attr K → Type 0) (join : (a : Attr K) → P a → Q a → R a) where
-  join_attrs : (attrs : List (Attr K)) → Each P attrs → Each Q attrs → Each R attrs
+  pub join_attrs : (attrs : List (Attr K)) → Each P attrs → Each Q attrs → Each R attrs
   join_attrs [] p q = tt
   join_attrs (a ∷ attrs) p q = (join a p.0 q.0, join_attrs attrs p.1 q.1)
 
-  join_entries : (g : Entries K) → EachAttr P g → EachAttr Q g → EachAttr R g
+  pub join_entries : (g : Entries K) → EachAttr P g → EachAttr Q g → EachAttr R g
   join_entries End p q = tt
   join_entries (Entry e children next) p q = (join_attrs e.attrs p.0 q.0, join_entries children p.1 q.1, join_entries next p.2 q.2)
 
@@ -181,13 +193,16 @@ module _ {K : Type 0} (P : Attr K → Type 0) (all : (a : Attr K) → P a) where
   all_entries End = tt
   all_entries (Entry e children next) = (all_attrs e.attrs, all_entries children, all_entries next)
 
-record TextsFor {K : Type 0} (h : Holder) (texts : List (List ℕ)) (u : DwUnit K) : Type 0 where
-  root : Each (TextFor h texts) u.root.attrs
-  below : EachAttr (TextFor h texts) u.below
+record TextsFor {K : Type 0} (h : Holder) (texts paths : List (List ℕ)) (u : DwUnit K) : Type 0 where
+  root : Each (TextFor h texts paths) u.root.attrs
+  below : EachAttr (TextFor h texts paths) u.below
 
-texts_for : {K : Type 0} (u : DwUnit K) (from : Sources → Type 0) (f : Forms K) (t : Tells K) (units : List (DwUnit K)) (b : Bool) → In u units → SectionsStand b from f t units → TextsFor (holder_of b u.kind) f.texts u
-texts_for u from f t units true there at = (let is = each_in (UnitTexts f.texts) u units at.2 there in record { root = is.0; below = is.1 })
-texts_for u from f t units false there at = record { root = all_attrs _ (text_for u.kind f.texts) u.root.attrs; below = all_entries _ (text_for u.kind f.texts) u.below }
+texts_for : {K : Type 0} (u : DwUnit K) (from : Sources → Type 0) (f : Forms K) (t : Tells K) (units : List (DwUnit K)) (b : Bool) → In u units → SectionsStand b from f t units → TextsFor (holder_of b u.kind) f.texts f.paths u
+texts_for u from f t units true there at =
+    let is = each_in (UnitTexts f.texts) u units at.1.texts there in
+    let are = each_in (UnitPaths f.paths) u units at.1.paths there in
+    record { root = join_attrs (AttrTexts f.texts) (AttrPaths f.paths) _ (λ a p q. (p, q)) u.root.attrs is.0 are.0; below = join_entries (AttrTexts f.texts) (AttrPaths f.paths) _ (λ a p q. (p, q)) u.below is.1 are.1 }
+texts_for u from f t units false there at = record { root = all_attrs _ (text_for u.kind f.texts f.paths) u.root.attrs; below = all_entries _ (text_for u.kind f.texts f.paths) u.below }
 
 keys_within : {K : Type 0} (units : List (DwUnit K)) (u : DwUnit K) → In u units → (k : K) → In k (unit_keys u) → In k (units_keys units)
 unfolding units_keys
@@ -212,12 +227,12 @@ module _ {K : Type 0} (f : Forms K) (is : IsSame f.same) (from : Sources → Typ
       let exprs = each_in (OperandsStand t) u units operands there in
       let texts = texts_for u from f t units f.is_common there stand in
       let h = holder_of f.is_common u.kind in
-      unit_good file is from t (small_strs from f t units f.is_common stand) u within apart inside alone (sections_common u.kind from f (unit_fit file u) t units f.is_common refl refl stand) own.own
+      unit_good file is from t (small_strs from f t units f.is_common stand) u within apart inside alone (sections_common u.kind from f (unit_fit file u) t units f.is_common refl refl refl stand) own.own
       (each_in (λ v. CarriedUnit from (f.origin v.at) v) u units carried there) root below
-      (join_attrs (AttrAt h f.texts (bases_in u).line (f.origin u.at).line) (AttrOperands t (own_of u)) _ (λ a p q. (p, q)) u.root.attrs
-      (join_attrs (TextFor h f.texts) (FileStands h (bases_in u).line (f.origin u.at).line) (AttrAt h f.texts (bases_in u).line (f.origin u.at).line) (λ a p q. (p, q)) u.root.attrs texts.root own.root) exprs.0)
-      (join_entries (AttrAt h f.texts (bases_in u).line (f.origin u.at).line) (AttrOperands t (own_of u)) _ (λ a p q. (p, q)) u.below
-      (join_entries (TextFor h f.texts) (FileStands h (bases_in u).line (f.origin u.at).line) (AttrAt h f.texts (bases_in u).line (f.origin u.at).line) (λ a p q. (p, q)) u.below texts.below own.below) exprs.1)
+      (join_attrs (AttrAt h f.texts f.paths (bases_in u).line (f.origin u.at).line) (AttrOperands t (own_of u)) _ (λ a p q. (p, q)) u.root.attrs
+      (join_attrs (TextFor h f.texts f.paths) (FileStands h (bases_in u).line (f.origin u.at).line) (AttrAt h f.texts f.paths (bases_in u).line (f.origin u.at).line) (λ a p q. (p, q)) u.root.attrs texts.root own.root) exprs.0)
+      (join_entries (AttrAt h f.texts f.paths (bases_in u).line (f.origin u.at).line) (AttrOperands t (own_of u)) _ (λ a p q. (p, q)) u.below
+      (join_entries (TextFor h f.texts f.paths) (FileStands h (bases_in u).line (f.origin u.at).line) (AttrAt h f.texts f.paths (bases_in u).line (f.origin u.at).line) (λ a p q. (p, q)) u.below texts.below own.below) exprs.1)
 
   each_good : (some : List (DwUnit K)) → ((u : DwUnit K) → In u some → In u units) → Each SoundUnit (map (fit_unit file) some) × Each (UnitSays t) (map (fit_unit file) some)
   each_good [] into = (tt, tt)

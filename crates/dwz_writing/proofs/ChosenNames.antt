@@ -3,13 +3,13 @@ use Rattle.std.proofs.Common.{◌≡◌, ◌⊎◌, Bool, true, false, List, [],
 use Rattle.std.proofs.Math.Logic.{inl, inr}
 use Rattle.dwz_meanings.specs.Documents.{Attr, DwUnit, Entries, Node}
 use Rattle.dwz_docs.specs.Lists.{In}
-use Rattle.dwz_meanings.specs.Meanings.{Class, OfCommonEntry, OfInfoEntry, OfTextBySlot, OfTextInLineStr, OfTextInStr, OfUnitEntry, class_in, class_of, class_rows}
+use Rattle.dwz_meanings.specs.Meanings.{Class, OfCommonEntry, OfConstant, OfInfoEntry, OfTextBySlot, OfTextInLineStr, OfTextInStr, OfUnitEntry, class_in, class_of, class_rows, names_file}
 use Rattle.dwz_bytes.specs.Spelling.{reach}
 use Rattle.dwz_docs.specs.Trees.{End, Entry}
 use Rattle.dwz_seen.specs.Lists.{Each}
 use Rattle.dwz_writing.specs.Bases.{offset_in}
 use Rattle.dwz_writing.specs.Meant.{Tells, all_entry_keys, entry_keys}
-use Rattle.dwz_writing.specs.Placing.{CommonUnit, FileFit, Fit, Holder, InCommon, InFile, InUnit, NewUnit, OldUnit, Reach, as_slot, as_text, fit, fit_as, fit_attr, fit_unit, has_key, reach_of, ref_form, unit_fit, with_form}
+use Rattle.dwz_writing.specs.Placing.{CommonUnit, FileFit, Fit, Holder, InCommon, InFile, InUnit, NewUnit, OldUnit, Reach, as_constant, as_file, as_slot, as_text, fit, fit_as, fit_attr, fit_unit, has_key, reach_of, ref_form, unit_fit, with_form}
 use Rattle.dwz_seen.specs.Shown.{keys, unit_keys, units_keys}
 use Rattle.dwz_seen.specs.Seen.{Named, Seen, all_seen, named_value, see, seen, seen_below, seen_roots}
 use Rattle.dwz_seen.specs.Lists.{NoneTwice}
@@ -44,7 +44,17 @@ same_offset x a c e other = by c where
   slots OldUnit = kept
   slots NewUnit = refl
 
+  files : (h : Holder) → offset_in (Some (with_form a (as_file h x a))) ≡ None
+  files CommonUnit = refl
+  files OldUnit = kept
+  files NewUnit = kept
+
+  constants : (b : Bool) → offset_in (Some (with_form a (as_constant b x a))) ≡ None
+  constants true = files x.holder
+  constants false = kept
+
   by : (d : Class) → offset_in (Some (with_form a (fit_as d x a))) ≡ None
+  by OfConstant = constants (names_file a.name)
   by OfUnitEntry = entry (reach_of x a.value.refs)
   by OfInfoEntry = entry (reach_of x a.value.refs)
   by OfCommonEntry = entry (reach_of x a.value.refs)
@@ -79,6 +89,16 @@ slot_fixed CommonUnit f a e = tt
 slot_fixed OldUnit f a e = e
 slot_fixed NewUnit f a e = tt
 
+file_fixed : {K : Type 0} (h : Holder) (f : Fit K) (a : Attr K) → FixedAs (class_of a.form) a → Fixed (with_form a (as_file h f a))
+unfolding class_rows class_in
+file_fixed CommonUnit f a e = tt
+file_fixed OldUnit f a e = e
+file_fixed NewUnit f a e = e
+
+constant_fixed : {K : Type 0} (b : Bool) (f : Fit K) (a : Attr K) → FixedAs (class_of a.form) a → Fixed (with_form a (as_constant b f a))
+constant_fixed true f a e = file_fixed f.holder f a e
+constant_fixed false f a e = e
+
 attr_fixed : {K : Type 0} (f : Fit K) (a : Attr K) → Fixed (fit_attr f a)
 attr_fixed f a = by (class_of a.form) refl where
   by : (c : Class) → class_of a.form ≡ c → Fixed (with_form a (fit_as c f a))
@@ -88,6 +108,7 @@ attr_fixed f a = by (class_of a.form) refl where
   by OfTextInStr e = text_fixed f.holder f a (subst (λ (d : Class). FixedAs d a) (sym e) tt)
   by OfTextInLineStr e = text_fixed f.holder f a (subst (λ (d : Class). FixedAs d a) (sym e) tt)
   by OfTextBySlot e = slot_fixed f.holder f a (subst (λ (d : Class). FixedAs d a) (sym e) tt)
+  by OfConstant e = constant_fixed (names_file a.name) f a (subst (λ (d : Class). FixedAs d a) (sym e) tt)
   by c e = subst (λ (d : Class). FixedAs d a) (sym e) tt
 
 attrs_fixed : {K : Type 0} (f : Fit K) (attrs : List (Attr K)) → Each Fixed (map (fit_attr f) attrs)

@@ -1,26 +1,32 @@
 -- References, texts and numbers of files whose forms are chosen are sound, and say what their forms say.
-use Rattle.std.proofs.Common.{◌≡◌, ℕ, ℤ, pos, ◌<◌, ◌^◌, List, [], ◌∷◌, ◌++◌, length, Option, Some, None, refl, sym, ap, subst, ◌∙◌, arith}
+use Rattle.std.proofs.Common.{◌≡◌, ℕ, ℤ, pos, ◌<◌, ◌^◌, List, [], ◌∷◌, ◌++◌, length, Option, Some, None, refl, sym, ap, subst, ◌∙◌, arith, Bool, true, false, suc}
 use Rattle.std.proofs.Math.Logic.{inl, inr}
-use Rattle.dwz_meanings.specs.Documents.{Attr, Text, Value, only}
+use Rattle.dwz_meanings.specs.Documents.{Attr, File, Plain, Text, Value, only}
 use Rattle.dwz_docs.specs.Lists.{In}
-use Rattle.dwz_meanings.specs.Meanings.{Class, OfCommonEntry, OfInfoEntry, OfTextInStr, OfUnitEntry, Sources, class_in, class_of, class_rows, names_file}
-use Rattle.dwz_bytes.specs.Spelling.{le_bytes, reach}
+use Rattle.dwz_meanings.specs.Meanings.{Class, OfCommonEntry, OfConstant, OfInfoEntry, OfTextInStr, OfUnitEntry, Sources, class_in, class_of, class_rows, names_file, texts_of}
+use Rattle.dwz_bytes.specs.Spelling.{le_bytes, reach, uleb}
 use Rattle.dwz_bytes.proofs.FixedLemmas.{fixed_written}
 use Rattle.dwz_codes.specs.Forms.{form_rows}
 use Rattle.dwz_docs.specs.Texts.{IsSlot, IsTextAt, NoZero}
 use Rattle.dwz_docs.proofs.TextLemmas.{here_slot}
-use Rattle.dwz_meanings.specs.LineTables.{IsFileTable}
+use Rattle.dwz_meanings.specs.LineTables.{FileTable, IsFileTable, TextSections, nth_path}
 use Rattle.dwz_writing.proofs.ValuesMean.{so_yes}
 use Rattle.dwz_docs.specs.Values.{Number, SpellsShape, constant_of, shape_of, written_rows}
 use Rattle.dwz_seen.specs.Lists.{Each}
 use Rattle.dwz_writing.specs.Bases.{Bases}
-use Rattle.dwz_writing.specs.Carried.{AttrTexts, ComesFromItself, FileStands, TextAs}
-use Rattle.dwz_writing.specs.Meant.{AttrSays, FileSays, Own, SaysAs, Tells}
-use Rattle.dwz_writing.specs.Placing.{CommonUnit, Fit, Holder, InCommon, InFile, InUnit, NewUnit, OldUnit, Reach, as_slot, as_text, fit_as, fit_attr, has_key, reach_by, reach_of, ref_form, slot_number, text_place, texts_bytes, with_form}
+use Rattle.dwz_writing.specs.Carried.{AttrPaths, AttrTexts, ComesFromItself, FileStands, LineFor, PathAs, TextAs}
+use Rattle.dwz_writing.specs.Meant.{AttrSays, FileSays, Own, SaysAs, Tells, told_texts}
+use Rattle.dwz_writing.specs.Placing.{CommonUnit, Fit, Holder, InCommon, InFile, InUnit, NewUnit, OldUnit, Reach, as_file, as_slot, as_text, file_number, fit_as, fit_attr, has_key, lines_bytes, path_index, reach_by, reach_of, ref_form, slot_number, text_place, texts_bytes, with_form}
 use Rattle.dwz_writing.specs.Sound.{HasBytes, IsBuiltAs, SoundAttr, StoresAs}
-use Rattle.dwz_writing.proofs.Carrying.{Filed, Placed, Reference, Slotted, tells_of}
+use Rattle.dwz_writing.proofs.Carrying.{Filed, Placed, Reference, Slotted}
+use Rattle.dwz_meanings.proofs.LinesWritten.{header_many, header_table}
+use Rattle.dwz_meanings.specs.LinesWritten.{AreTexts, with_row_0}
+use Rattle.dwz_docs.specs.ElfLayout.{too_large}
+use Rattle.dwz_bytes.proofs.PaddedLemmas.{uleb_spells}
+use Rattle.dwz_alike.specs.Spots.{same_numbers}
+use Rattle.dwz_alike.proofs.SpotLemmas.{numbers_same}
 use Rattle.dwz_writing.specs.Writing.{or_zero, pair_of, text_in}
-use Rattle.dwz_writing.proofs.PoolLemmas.{le_are, pool_stands}
+use Rattle.dwz_writing.proofs.PoolLemmas.{le_are, path_numbered, pool_stands, uleb_are}
 use Rattle.std.proofs.lemmas.List.{length-append}
 
 -- ---- the three forms
@@ -92,21 +98,66 @@ strp_bytes a x e lt = record {
   spelled = subst (λ (f : ℕ). SpellsShape (shape_of written_rows f) (constant_of (pair_of a)) (le_bytes 4 x) (Number (pos x))) (sym e) (strp_spelled (constant_of (pair_of a)) x lt);
 }
 
+-- ---- files of the common file
+
+udata_class : class_of 0x0f ≡ OfConstant
+unfolding class_rows class_in
+udata_class = refl
+
+udata_spelled : (number : ℤ) (n : ℕ) → n < 2 ^ 64 → SpellsShape (shape_of written_rows 0x0f) number (uleb n) (Number (pos n))
+unfolding form_rows
+udata_spelled number n lt = record { content = n; spelled = uleb_spells n lt; value = refl }
+
+udata_bytes : {K : Type 0} (a : Attr K) (n : ℕ) → a.form ≡ 0x0f → n < 2 ^ 64 → HasBytes a (Number (pos n))
+udata_bytes a n e lt = record {
+  bytes = uleb n;
+  are_bytes = uleb_are n;
+  spelled = subst (λ (f : ℕ). SpellsShape (shape_of written_rows f) (constant_of (pair_of a)) (uleb n) (Number (pos n))) (sym e) (udata_spelled (constant_of (pair_of a)) n lt);
+}
+
+index_less : (paths : List (List ℕ)) (path : List ℕ) → In path paths → path_index paths path < length paths
+unfolding path_index
+index_less [] path there = absurd there
+index_less (p ∷ paths) path there = by (λ r. index_less paths path r) (same_numbers p path) refl where
+  by : (In path paths → path_index paths path < length paths) → (b : Bool) → same_numbers p path ≡ b → (elim b as (λ _. ℕ) [ true ↦ 0 | false ↦ suc (path_index paths path) ]) < length (p ∷ paths)
+  by rest true e = omega arith
+  by rest false e = elim there [
+    | inl i ↦ absurd (let is : same_numbers p path ≡ true = subst (λ (y : List ℕ). same_numbers p y ≡ true) i (numbers_same p) in cc)
+    | inr r ↦ (let less = rest r in omega (arith, less))
+  ]
+
+-- the line table of paths, of which there is one
+pool_table : (paths : List (List ℕ)) (path : List ℕ) → In path paths → AreTexts paths → length (lines_bytes paths) < too_large → (s : TextSections)
+    → (t : FileTable) × IsFileTable s (lines_bytes paths) 0 t × ((t.paths ≡ with_row_0 paths) × (suc (path_index paths path) < 2 ^ 64))
+pool_table [] path there are few s = absurd there
+pool_table (p ∷ paths) path there are few s =
+    let t = header_table (p ∷ paths) (omega arith) are few s in
+    let less = index_less (p ∷ paths) path there in
+    let many = header_many (p ∷ paths) (omega arith) are few in
+    (t.0, t.1, (t.2, omega (arith, less, many)))
+
 -- the sections of the file are those that were read
 abbrev pub SourcesAt : {K : Type 0} → (Sources → Type 0) → List ℕ → Tells K → Type 0
 SourcesAt from offsets t = (s : Sources) → from s → (t.strs ≡ s.strs) × (t.line_strs ≡ s.line_strs) × (t.offsets ≡ s.offsets) × (t.line ≡ s.line) × (offsets ≡ s.offsets)
 
+-- those of the common file have its texts, and its paths
+pub record CommonAt {K : Type 0} (f : Fit K) (t : Tells K) : Type 0 where
+  pub strs : t.strs ≡ texts_bytes f.texts
+  pub line : t.line ≡ lines_bytes f.paths
+  pub few : length t.line < too_large
+  pub are_texts : AreTexts f.paths
+
 -- what is asked of sections, of a unit, and of an attribute, by what holds it
 abbrev pub SectionsAt : {K : Type 0} → Holder → (Sources → Type 0) → Fit K → Tells K → Type 0
-SectionsAt CommonUnit from f t = t.strs ≡ texts_bytes f.texts
+SectionsAt CommonUnit from f t = CommonAt f t
 SectionsAt _ from f t = SourcesAt from f.offsets t
 
-abbrev pub TextFor : {K : Type 0} → Holder → List (List ℕ) → Attr K → Type 0
-TextFor CommonUnit texts a = AttrTexts texts a
-TextFor _ texts a = Unit {0}
+abbrev pub TextFor : {K : Type 0} → Holder → (texts paths : List (List ℕ)) → Attr K → Type 0
+TextFor CommonUnit texts paths a = AttrTexts texts a × AttrPaths paths a
+TextFor _ texts paths a = Unit {0}
 
-abbrev pub AttrAt : {K : Type 0} → Holder → List (List ℕ) → (line origin : Option ℕ) → Attr K → Type 0
-AttrAt h texts line origin a = TextFor h texts a × FileStands h line origin a
+abbrev pub AttrAt : {K : Type 0} → Holder → (texts paths : List (List ℕ)) → (line origin : Option ℕ) → Attr K → Type 0
+AttrAt h texts paths line origin a = TextFor h texts paths a × FileStands h line origin a
 
 pub record Good {K : Type 0} (t : Tells K) (own : Own K) (a : Attr K) : Type 0 where
   pub sound : SoundAttr a
@@ -176,8 +227,8 @@ module _ {K : Type 0} (from : Sources → Type 0) (t : Tells K) (small : length 
     | inr c ↦ ap (λ (d : Class). with_form a (fit_as d f a)) c.0 ∙ ap (λ (x : Holder). with_form a (as_text x f a)) e
   ]
 
-  pub text_good : (h : Holder) (f : Fit K) → f.holder ≡ h → SectionsAt h from f t → TextFor h f.texts a → Good t own (fit_attr f a)
-  text_good CommonUnit f e at there = subst (Good t own) (sym (as_text_is CommonUnit f e)) (pooled_good t own a p.text p.value p.sound f.texts small at no_zero (one_of t own a p.text p.value p.sound f.texts (text_there f.texts there)))
+  pub text_good : (h : Holder) (f : Fit K) → f.holder ≡ h → SectionsAt h from f t → TextFor h f.texts f.paths a → Good t own (fit_attr f a)
+  text_good CommonUnit f e at there = subst (Good t own) (sym (as_text_is CommonUnit f e)) (pooled_good t own a p.text p.value p.sound f.texts small at.strs no_zero (one_of t own a p.text p.value p.sound f.texts (text_there f.texts there.0)))
   text_good OldUnit f e at there = subst (Good t own) (sym (as_text_is OldUnit f e)) (kept_good f.offsets at)
   text_good NewUnit f e at there = subst (Good t own) (sym (as_text_is NewUnit f e)) (kept_good f.offsets at)
 
@@ -210,18 +261,18 @@ module _ {K : Type 0} (from : Sources → Type 0) (origin : Bases) (t : Tells K)
       let slot = here_slot f.offsets p.base (reach a.raw) p.offset (subst (λ (w : List ℕ). IsSlot w p.base (reach a.raw) p.offset) (sym (same p.sources p.file).4) p.slot) in
       ap (λ (o : Option ℕ). slot_number f.offsets o (reach a.raw)) base ∙ ap or_zero slot
 
-  pub slot_good : (h : Holder) (f : Fit K) → f.holder ≡ h → f.origin ≡ origin → ComesFromItself h own.bases origin → SectionsAt h from f t → TextFor h f.texts a → Good t own (fit_attr f a)
+  pub slot_good : (h : Holder) (f : Fit K) → f.holder ≡ h → f.origin ≡ origin → ComesFromItself h own.bases origin → SectionsAt h from f t → TextFor h f.texts f.paths a → Good t own (fit_attr f a)
   slot_good OldUnit f e here itself at there = subst (Good t own) (sym (as_slot_is OldUnit f e)) (kept_slot f.offsets at itself)
   slot_good NewUnit f e here itself at there =
       let stands = stands_there f.offsets at in
       subst (Good t own) (sym (as_slot_is NewUnit f e)) (subst (λ (n : ℕ). Good t own (in_strs t own a p.text p.value p.sound n)) (sym (number_is f here at)) (strp_good t own a p.text p.value p.sound p.offset (place_less t own a p.text p.value p.sound p.offset small stands) stands))
   slot_good CommonUnit f e here itself at there =
-      subst (Good t own) (sym (as_slot_is CommonUnit f e)) (pooled_good t own a p.text p.value p.sound f.texts small at p.stands.spelled.no_zero (one_of t own a p.text p.value p.sound f.texts (subst (λ (d : Class). TextAs d f.texts a) p.class there)))
+      subst (Good t own) (sym (as_slot_is CommonUnit f e)) (pooled_good t own a p.text p.value p.sound f.texts small at.strs p.stands.spelled.no_zero (one_of t own a p.text p.value p.sound f.texts (subst (λ (d : Class). TextAs d f.texts a) p.class there.0)))
 
 -- ---- files
 
 module _ {K : Type 0} (from : Sources → Type 0) (origin : Bases) (t : Tells K) (own : Own K) (a : Attr K) (p : Filed from origin a) where
-  told : (offsets : List ℕ) → SourcesAt from offsets t → (o : Option ℕ) → FileSays (tells_of p.sources) o a → FileSays t o a
+  told : (offsets : List ℕ) → SourcesAt from offsets t → (o : Option ℕ) → FileSays (texts_of p.sources) p.sources.line o a → FileSays (told_texts t) t.line o a
   told offsets same None says = says
   told offsets same (Some place) says =
       let e = same p.sources p.file in
@@ -238,10 +289,58 @@ module _ {K : Type 0} (from : Sources → Type 0) (origin : Bases) (t : Tells K)
   file_told : (offsets : List ℕ) → SourcesAt from offsets t → own.bases.line ≡ origin.line → Good t own a
   file_told offsets same line = record {
     sound = p.sound;
-    says = subst (λ (d : Class). SaysAs d t own a) (sym p.numbers.0) (so_yes (names_file a.name) _ _ p.numbers.1 (subst (λ (o : Option ℕ). FileSays t o a) (sym line) (told offsets same origin.line p.says)));
+    says = subst (λ (d : Class). SaysAs d t own a) (sym p.numbers.0) (so_yes (names_file a.name) _ _ p.numbers.1 (subst (λ (o : Option ℕ). FileSays (told_texts t) t.line o a) (sym line) (told offsets same origin.line p.says)));
   }
 
-  pub file_good : (h : Holder) (f : Fit K) → ComesFromItself h own.bases origin → SectionsAt h from f t → FileStands h own.bases.line origin.line a → Good t own (fit_attr f a)
-  file_good OldUnit f itself at file = subst (Good t own) (sym (p.stays f)) (file_told f.offsets at (ap (λ (b : Bases). b.line) itself))
-  file_good NewUnit f itself at file = subst (Good t own) (sym (p.stays f)) (file_told f.offsets at (file p.numbers))
-  file_good CommonUnit f itself at file = absurd (file p.numbers)
+  as_file_is : (h : Holder) (f : Fit K) → f.holder ≡ h → fit_attr f a ≡ with_form a (as_file h f a)
+  as_file_is h f e = p.chosen f ∙ ap (λ (x : Holder). with_form a (as_file x f a)) e
+
+  -- ---- in the common file
+
+  abbrev numbered : ℕ → Attr K
+  numbered n = with_form a (record { form = 0x0f; raw = pos n })
+
+  numbered_good : (n : ℕ) → n < 2 ^ 64 → FileSays (told_texts t) t.line own.bases.line (numbered n) → Good t own (numbered n)
+  numbered_good n few says = record {
+    sound = record {
+      some_name = p.sound.some_name;
+      name_fits = p.sound.name_fits;
+      no_sibling = p.sound.no_sibling;
+      built = subst (λ (d : Class). IsBuiltAs d a.name) (sym udata_class) tt;
+      constant = λ e. absurd (omega (arith, e));
+      value = subst (λ (d : Class). StoresAs d (numbered n)) (sym udata_class) (udata_bytes (numbered n) n refl few);
+    };
+    says = subst (λ (d : Class). SaysAs d t own (numbered n)) (sym udata_class) (so_yes (names_file a.name) _ _ p.numbers.1 says);
+  }
+
+  none_good : (paths : List (List ℕ)) → a.value ≡ only (File None) → LineFor own.bases.line a.value.plain → Good t own (numbered (file_number paths a.value.plain))
+  none_good paths value line =
+      let plain : a.value.plain ≡ File None = ap (λ (v : Value K). v.plain) value in
+      let none : own.bases.line ≡ None = subst (LineFor own.bases.line) plain line in
+      subst (λ (q : Plain). Good t own (numbered (file_number paths q))) (sym plain) (numbered_good 0 (omega arith) (subst (λ (o : Option ℕ). FileSays (told_texts t) t.line o (numbered 0)) (sym none) (refl, value)))
+
+  some_good : (f : Fit K) → CommonAt f t → (path : List ℕ) → a.value ≡ only (File (Some path)) → AttrPaths f.paths a → LineFor own.bases.line a.value.plain → Good t own (numbered (file_number f.paths a.value.plain))
+  some_good f at path value among line =
+      let plain : a.value.plain ≡ File (Some path) = ap (λ (v : Value K). v.plain) value in
+      let zero_line : own.bases.line ≡ Some 0 = subst (LineFor own.bases.line) plain line in
+      let there : In path f.paths = subst (λ (q : Plain). PathAs q f.paths) plain among in
+      let table = pool_table f.paths path there at.are_texts (subst (λ (w : List ℕ). length w < too_large) at.line at.few) (told_texts t) in
+      let number = suc (path_index f.paths path) in
+      let says : FileSays (told_texts t) t.line (Some 0) (numbered number) = record {
+        table = table.0;
+        stands = subst (λ (w : List ℕ). IsFileTable (told_texts t) w 0 table.0) (sym at.line) table.1;
+        path = path;
+        is_path = ap (λ (w : List (List ℕ)). nth_path w number) table.2.0 ∙ path_numbered f.paths path there;
+        value = value;
+      } in
+      let few = table.2.1 in
+      subst (λ (q : Plain). Good t own (numbered (file_number f.paths q))) (sym plain) (numbered_good number (omega (arith, few)) (subst (λ (o : Option ℕ). FileSays (told_texts t) t.line o (numbered number)) (sym zero_line) says))
+
+  common_good : (f : Fit K) → CommonAt f t → AttrPaths f.paths a → LineFor own.bases.line a.value.plain → (o : Option ℕ) → FileSays (texts_of p.sources) p.sources.line o a → Good t own (numbered (file_number f.paths a.value.plain))
+  common_good f at among line None says = none_good f.paths says.1 line
+  common_good f at among line (Some place) says = some_good f at says.path says.value among line
+
+  pub file_good : (h : Holder) (f : Fit K) → f.holder ≡ h → ComesFromItself h own.bases origin → SectionsAt h from f t → TextFor h f.texts f.paths a → FileStands h own.bases.line origin.line a → Good t own (fit_attr f a)
+  file_good OldUnit f e itself at there file = subst (Good t own) (sym (as_file_is OldUnit f e)) (file_told f.offsets at (ap (λ (b : Bases). b.line) itself))
+  file_good NewUnit f e itself at there file = subst (Good t own) (sym (as_file_is NewUnit f e)) (file_told f.offsets at (file p.numbers))
+  file_good CommonUnit f e itself at there file = subst (Good t own) (sym (as_file_is CommonUnit f e)) (common_good f at there.1 (file p.numbers) origin.line p.says)

@@ -135,14 +135,16 @@ base_read s name (a ∷ raw) (b ∷ attrs) means = by (base_read s name raw attr
   by rest true e = (let same : eqb a.pair.name name ≡ true = ap (λ (n : ℕ). eqb n name) (sym means.0.name) ∙ e in ap (λ (t : Bool). base_in (cond t (Some a) (first_raw name raw))) same ∙ offset_read s a b means.0)
   by rest false e = (let same : eqb a.pair.name name ≡ false = ap (λ (n : ℕ). eqb n name) (sym means.0.name) ∙ e in ap (λ (t : Bool). base_in (cond t (Some a) (first_raw name raw))) same ∙ rest)
 
-two_bases : (a b c d : Option ℕ) → a ≡ b → c ≡ d → (let x : Bases = record { slots = a; line = c } in let y : Bases = record { slots = b; line = d } in x ≡ y)
-two_bases a b c d p q = ap (λ (o : Option ℕ). record { slots = o; line = c }) p ∙ ap (λ (o : Option ℕ). record { slots = b; line = o }) q
+pub same_bases : (a b c d e f : Option ℕ) → a ≡ b → c ≡ d → e ≡ f → (let x : Bases = record { slots = a; line = c; lists = e } in let y : Bases = record { slots = b; line = d; lists = f } in x ≡ y)
+same_bases a b c d e f p q r =
+    ap (λ (o : Option ℕ). record { slots = o; line = c; lists = e }) p ∙ ap (λ (o : Option ℕ). record { slots = b; line = o; lists = e }) q ∙ ap (λ (o : Option ℕ). record { slots = b; line = d; lists = o }) r
 
-bases_read : (s : Scope ℕ) (attrs : List (Attr ℕ)) → MeanAttrs s (without_siblings s.root.attrs) attrs
-    → (let y : Bases = record { slots = offset_in (first_named 0x72 attrs); line = offset_in (first_named 0x10 attrs) } in bases_of s ≡ y)
-bases_read s attrs means = two_bases _ _ _ _
+pub bases_read : (s : Scope ℕ) (attrs : List (Attr ℕ)) → MeanAttrs s (without_siblings s.root.attrs) attrs
+    → (let y : Bases = record { slots = offset_in (first_named 0x72 attrs); line = offset_in (first_named 0x10 attrs); lists = offset_in (first_named 0x8c attrs) } in bases_of s ≡ y)
+bases_read s attrs means = same_bases _ _ _ _ _ _
     (ap base_in (sym (first_stays 0x72 s.root.attrs refl)) ∙ base_read s 0x72 (without_siblings s.root.attrs) attrs means)
     (ap base_in (sym (first_stays 0x10 s.root.attrs refl)) ∙ base_read s 0x10 (without_siblings s.root.attrs) attrs means)
+    (ap base_in (sym (first_stays 0x8c s.root.attrs refl)) ∙ base_read s 0x8c (without_siblings s.root.attrs) attrs means)
 
 -- ---- entries
 

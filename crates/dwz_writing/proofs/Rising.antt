@@ -1,17 +1,23 @@
 -- Places rise from key to key, so two keys with one place are one key, and each stands within its unit.
-use Rattle.std.proofs.Common.{◌≡◌, ℕ, ◌+◌, ◌^◌, ◌<◌, ◌≤◌, List, [], ◌∷◌, ◌++◌, length, sym, ap, subst, ◌∙◌, arith}
+use Rattle.std.proofs.Common.{◌≡◌, ℕ, ◌+◌, ◌-◌, ◌^◌, ◌<◌, ◌≤◌, Bool, true, false, List, [], ◌∷◌, ◌++◌, length, map, sym, ap, subst, ◌∙◌, arith}
 use Rattle.std.proofs.Math.Logic.{inl, inr}
 use Rattle.std.proofs.lemmas.List.{length-append}
-use Rattle.dwz_meanings.specs.Documents.{Attr, Compile, DwUnit, Entries, Kind, OfType, Partial}
+use Rattle.dwz_meanings.specs.Documents.{Attr, Compile, DwUnit, Entries, Kind, OfType, Operand, Part, Partial, Plain, Same, Sec, Value, only}
+use Rattle.dwz_bytes.specs.Spelling.{reach}
+use Rattle.dwz_meanings.specs.Patching.{FitsIn}
+use Rattle.dwz_alike.specs.Alike.{joined_parts}
+use Rattle.dwz_meanings.specs.Exprs.{parts_of}
+use Rattle.dwz_model.specs.declared.place.Base.{Base}
+use Rattle.dwz_model.specs.declared.place.Base.TheVariants.{Unit as FromUnit, Info as FromInfo}
 use Rattle.dwz_docs.specs.Lists.{In}
-use Rattle.dwz_meanings.specs.Meanings.{Class, OfCommonEntry, OfExpression, OfInfoEntry, OfUnitEntry, class_of}
+use Rattle.dwz_meanings.specs.Meanings.{Class, IfSo, OfCommonEntry, OfExpression, OfInfoEntry, OfListIndex, OfOffset, OfUnitEntry, class_of, names_list}
 use Rattle.dwz_docs.specs.Trees.{End, Entry}
 use Rattle.dwz_seen.specs.Lists.{Each}
-use Rattle.dwz_writing.specs.Fitting.{AttrFits, EachAttr, EntriesFit, FitsAs, FitsInfo, FitsUnit, HasRoom, HasRoomAs, KindFits, UnitFits, UnitHasRoom}
-use Rattle.dwz_writing.specs.Meant.{AttrSays, EntriesSay, KindSays, Own, SaysAs, Tells, UnitSays, UnitsSay, all_entry_keys, entry_keys, own_of}
+use Rattle.dwz_writing.specs.Fitting.{AttrFits, EachAttr, EntriesFit, ExprFits, FitsAs, FitsInfo, FitsUnit, FitsWidth, HasRoom, HasRoomAs, KindFits, ListFits, OperandsFit, OperandsHaveRoom, PlainHasRoom, UnitFits, UnitHasRoom}
+use Rattle.dwz_writing.specs.Meant.{AttrSays, EntriesSay, ExprSays, KindSays, ListSays, OperandIn, OperandsIn, Own, SaysAs, Tells, UnitSays, UnitsSay, all_entry_keys, entry_keys, own_of}
 use Rattle.dwz_writing.specs.Placing.{Stands, UnitStands, UnitsStand}
 use Rattle.dwz_seen.specs.Shown.{keys, unit_keys, units_keys}
-use Rattle.dwz_writing.specs.Writing.{Numbering, Shape, header_size, if_any, node_bytes, spelled, table_of, tree_bytes, unit_size}
+use Rattle.dwz_writing.specs.Writing.{Numbering, Shape, base_place, header_size, if_any, node_bytes, spelled, table_of, tree_bytes, unit_size}
 use Rattle.dwz_writing.proofs.UnitsSpelled.{header_some, node_some, units_size}
 use Rattle.dwz_writing.proofs.WriteCodes.{Covers, is_table}
 use Rattle.dwz_seen.proofs.Members.{each_more, in_cases, in_left, in_right}
@@ -114,14 +120,69 @@ entries_are_keys (u ∷ units) k is = elim (in_cases k (entry_keys u) (all_entry
   | inr q ↦ in_right k (unit_keys u) (units_keys units) (entries_are_keys units k q)
 ]
 
+-- the entries of a unit stand behind its first byte
+module _ {K : Type 0} (n : Numbering K) where
+  unit_above : (u : DwUnit K) (at : ℕ) → UnitStands n u at → (k : K) → In k (entry_keys u) → n.place u.at < n.place k
+  unfolding unit_keys
+  unit_above u at stands k is =
+      let rises = unit_rises n u at stands in
+      let from = rises_from n (entry_keys u) (n.place u.at + 1) (at + unit_size n at u) k rises.1 is in
+      omega (arith, from)
+
+  entries_above : (units : List (DwUnit K)) (at : ℕ) → UnitsStand n units at → (k : K) → In k (all_entry_keys units) → 0 < n.place k
+  unfolding all_entry_keys
+  entries_above [] at stands k is = absurd is
+  entries_above (u ∷ units) at stands k is = elim (in_cases k (entry_keys u) (all_entry_keys units) is) [
+    | inl p ↦ (let above = unit_above u at stands.0 k p in omega (arith, above))
+    | inr q ↦ entries_above units (at + unit_size n at u) stands.1 k q
+  ]
+
 -- ---- what names entries fits
 
-module _ {K : Type 0} (n : Numbering K) (unit : ℕ) (t : Tells K) (own : Own K) (inside : (k : K) → In k own.keys → FitsUnit n unit k) (small : (k : K) → In k t.all → FitsInfo n k) (common : (k : K) → In k t.common → FitsInfo n k) where
+module _ {K : Type 0} (n : Numbering K) (unit : ℕ) (t : Tells K) (own : Own K) (inside : (k : K) → In k own.keys → FitsUnit n unit k) (behind : (k : K) → In k own.keys → unit < n.place k) (small : (k : K) → In k t.all → FitsInfo n k) (above : (k : K) → In k t.all → 0 < n.place k)
+    (common : (k : K) → In k t.common → FitsInfo n k) where
+  -- the number of an operand, which names an entry, and has room for it
+  record Counts (base : Base) (k : K) : Type 0 where
+    is_above : 0 < n.place k - base_place unit base
+    is_few : n.place k - base_place unit base < 2 ^ 32
+
+  counts : (base : Base) (k : K) → OperandIn t own base k → Counts base k
+  counts FromUnit k is = (let b = behind k is in let i = inside k is in record { is_above = omega (arith, b); is_few = i.1 })
+  counts FromInfo k is = (let b = above k is in let i = small k is in record { is_above = omega (arith, b); is_few = omega (arith, i) })
+
+  fits_in : (uleb : Bool) (width number : ℕ) → 0 < number → number < 2 ^ 32 → FitsWidth uleb width number → FitsIn uleb width number
+  fits_in true width number some few fits = (some, fits, omega (arith, few))
+  fits_in false width number some few fits = fits
+
+  operands_fit : (parts : List Part) (refs : List K) → OperandsHaveRoom n unit parts refs → OperandsIn t own parts refs → OperandsFit n unit parts refs
+  operands_fit [] [] room says = tt
+  operands_fit [] (k ∷ refs) room says = absurd says
+  operands_fit (Same bytes ∷ parts) refs room says = operands_fit parts refs room says
+  operands_fit (Operand width uleb base ∷ parts) [] room says = absurd says
+  operands_fit (Operand width uleb base ∷ parts) (k ∷ refs) room says =
+      let c = counts base k says.0 in (c.is_above, fits_in uleb width (n.place k - base_place unit base) c.is_above c.is_few room.0, operands_fit parts refs room.1 says.1)
+
+  expr_fits : (a : Attr K) → PlainHasRoom n unit a.value.plain a.value.refs → ExprSays t own a → ExprFits n unit a.value.plain a.value.refs
+  expr_fits a room says =
+      let parts = subst (λ (p : Plain). PlainHasRoom n unit p a.value.refs) says.plain room in
+      subst (λ (p : Plain). ExprFits n unit p a.value.refs) (sym says.plain) (operands_fit (parts_of says.expression) a.value.refs parts says.operands)
+
+  list_fits : (a : Attr K) → PlainHasRoom n unit a.value.plain a.value.refs → ListSays t own a → ListFits n unit a.value.plain a.value.refs
+  list_fits a room says =
+      let parts = subst (λ (p : Plain). PlainHasRoom n unit p a.value.refs) says.plain room in
+      subst (λ (p : Plain). ListFits n unit p a.value.refs) (sym says.plain) (operands_fit (joined_parts (map parts_of says.list.list.exprs)) a.value.refs parts says.operands)
+
+  offset_fits : (a : Attr K) (b : Bool) → PlainHasRoom n unit a.value.plain a.value.refs → IfSo b (ListSays t own a) (a.value ≡ only (Sec (reach a.raw))) → ListFits n unit a.value.plain a.value.refs
+  offset_fits a true room says = list_fits a room says
+  offset_fits a false room says = subst (λ (v : Value K). ListFits n unit v.plain v.refs) (sym says) tt
+
   as_fits : (c : Class) (a : Attr K) → HasRoomAs c n unit a → SaysAs c t own a → FitsAs c n unit a
   as_fits OfUnitEntry a room says = each_more (λ k. In k own.keys) (FitsUnit n unit) a.value.refs inside says
   as_fits OfInfoEntry a room says = each_more (λ k. In k t.all) (FitsInfo n) a.value.refs small says
   as_fits OfCommonEntry a room says = each_more (λ k. In k t.common) (FitsInfo n) a.value.refs common says
-  as_fits OfExpression a room says = room
+  as_fits OfExpression a room says = expr_fits a room says
+  as_fits OfOffset a room says = offset_fits a (names_list a.name) room says
+  as_fits OfListIndex a room says = list_fits a room says
   as_fits _ a room says = tt
 
   node_fits : (attrs : List (Attr K)) → Each (HasRoom n unit) attrs → Each (AttrSays t own) attrs → Each (AttrFits n unit) attrs
@@ -137,7 +198,7 @@ module _ {K : Type 0} (n : Numbering K) (unit : ℕ) (t : Tells K) (own : Own K)
   kind_fits (OfType signature main) says = inside main says
   kind_fits Partial says = tt
 
-module _ {K : Type 0} (n : Numbering K) (t : Tells K) (small : (k : K) → In k t.all → FitsInfo n k) (common : (k : K) → In k t.common → FitsInfo n k) where
+module _ {K : Type 0} (n : Numbering K) (t : Tells K) (small : (k : K) → In k t.all → FitsInfo n k) (above : (k : K) → In k t.all → 0 < n.place k) (common : (k : K) → In k t.common → FitsInfo n k) where
   unit_fits : (u : DwUnit K) (at : ℕ) → UnitStands n u at → unit_size n at u < 2 ^ 32 → UnitHasRoom n u → UnitSays t u → UnitFits n u
   unit_fits u at stands lt room says =
       let unit = n.place u.at in
@@ -146,10 +207,11 @@ module _ {K : Type 0} (n : Numbering K) (t : Tells K) (small : (k : K) → In k 
       (let from = rises_from n (unit_keys u) at (at + unit_size n at u) k rises (entry_is_key u k is) in
       let to = rises_to n (unit_keys u) at (at + unit_size n at u) k rises (entry_is_key u k is) in
       (omega (arith, stands.unit, from), omega (arith, stands.unit, to, lt))) in
+      let behind = unit_above n u at stands in
       record {
-        kind = kind_fits n unit t (own_of u) inside small common u.kind says.kind;
-        root = node_fits n unit t (own_of u) inside small common u.root.attrs room.0 says.root;
-        below = entries_fit n unit t (own_of u) inside small common u.below room.1 says.below;
+        kind = kind_fits n unit t (own_of u) inside behind small above common u.kind says.kind;
+        root = node_fits n unit t (own_of u) inside behind small above common u.root.attrs room.0 says.root;
+        below = entries_fit n unit t (own_of u) inside behind small above common u.below room.1 says.below;
       }
 
   each_fits : (units : List (DwUnit K)) (at : ℕ) → UnitsStand n units at → units_size n units < 2 ^ 32 → Each (UnitHasRoom n) units → UnitsSay t units → Each (UnitFits n) units
@@ -164,4 +226,5 @@ pub units_fit : {K : Type 0} (n : Numbering K) (t : Tells K) (units : List (DwUn
     → Each (UnitFits n) units
 units_fit {K} n t units same common stands lt room says =
     let small : (k : K) → In k t.all → FitsInfo n k = λ k is. (let to = place_within n units stands k (entries_are_keys units k (subst (In k) same is)) in omega (arith, to, lt)) in
-    each_fits n t small common units 0 stands lt room says
+    let above : (k : K) → In k t.all → 0 < n.place k = λ k is. entries_above n units 0 stands k (subst (In k) same is) in
+    each_fits n t small above common units 0 stands lt room says

@@ -1,8 +1,9 @@
 -- What a scope has, where a unit that was written is read.
 use Rattle.std.proofs.Common.{◌≡◌, ℕ, map, Some}
 use Rattle.dwz_docs.specs.Lists.{In}
-use Rattle.dwz_meanings.specs.Meanings.{Common, Scope, stmt_list, str_offsets_base}
-use Rattle.dwz_writing.specs.Meant.{Own, Tells}
+use Rattle.dwz_meanings.specs.Meanings.{Common, Scope, loclists_base, stmt_list, str_offsets_base}
+use Rattle.dwz_writing.specs.Meant.{AreRenumbered, Own, Tells}
+use Rattle.dwz_meanings.specs.Shared.{NoneShared}
 use Rattle.dwz_writing.specs.Writing.{Numbering}
 
 -- the scope of a unit that was written, where its keys have these places
@@ -13,6 +14,10 @@ pub record IsScope {K P : Type 0} (n : Numbering K) (g : K → P) (at : ℕ) (t 
   pub line : s.around.sources.line ≡ t.line
   pub slots : str_offsets_base s ≡ own.bases.slots
   pub table : stmt_list s ≡ own.bases.line
+  pub lists_base : loclists_base s ≡ own.bases.lists
+  pub own_at : n.place own.at ≡ at
+  pub none_shared : NoneShared t.named
+  pub lists : AreRenumbered n t s.around.sources.lists
   pub unit : s.unit ≡ at
   pub own_are : s.own ≡ map n.place own.keys
   pub all_are : s.around.all ≡ map n.place t.all

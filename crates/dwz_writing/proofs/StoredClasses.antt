@@ -4,7 +4,7 @@ use Rattle.std.proofs.Math.Logic.{inl, inr}
 use Rattle.dwz_codes.specs.declared.shape.Shape.{Shape}
 use Rattle.dwz_codes.specs.declared.shape.Shape.TheVariants.{Nothing, Fixed1, Fixed2, Fixed3, Fixed4, Fixed8, Fixed16, Uleb, Sleb, ZeroEnded, Block1, Block2, Block4, BlockUleb, Address}
 use Rattle.dwz_codes.specs.Forms.{form_rows}
-use Rattle.dwz_meanings.specs.Meanings.{Class, ClassRow, OfBlock, OfExpression, OfOffset, OfText, Unread, bytes_of, class_in, class_of, class_rows, number_of}
+use Rattle.dwz_meanings.specs.Meanings.{Class, ClassRow, OfBlock, OfExpression, OfListIndex, OfOffset, OfText, Unread, bytes_of, class_in, class_of, class_rows, number_of}
 use Rattle.dwz_docs.specs.Values.{Bytes, Number, Raw, SpellsShape, shape_of, written_rows}
 
 -- ---- which classes store bytes, and which a number
@@ -85,33 +85,56 @@ module _ (number : ℤ) (bytes : List ℕ) (raw : Raw) where
   is_number BlockUleb e is = absurd cc
   is_number _ e is = absurd is
 
--- ---- expressions
+-- ---- classes of one form
 
--- only exprloc is the form of an expression
+-- just the rows of that form pass the test
+abbrev only_form : (Class → Bool) → ℕ → List ClassRow → Bool
+only_form is f [] = true
+only_form is f (r ∷ rows) = cond (same_bool (is r.class) (eqb r.form f)) (only_form is f rows) false
+
+form_in : (is : Class → Bool) (f : ℕ) → is Unread ≡ false → (rows : List ClassRow) (form : ℕ) → only_form is f rows ≡ true → is (class_in rows form) ≡ true → form ≡ f
+unfolding class_in
+form_in is f none [] form e h = absurd (let z : false ≡ true = sym none ∙ h in cc)
+form_in is f none (r ∷ rows) form e h =
+    let t = two_tests (same_bool (is r.class) (eqb r.form f)) (only_form is f rows) e in
+    go (same_bool-true _ _ t.0) (form_in is f none rows form t.1) (eqb r.form form) refl h where
+      go : is r.class ≡ eqb r.form f → (is (class_in rows form) ≡ true → form ≡ f) → (b : Bool) → eqb r.form form ≡ b → is (cond b r.class (class_in rows form)) ≡ true → form ≡ f
+      go same rest true p q = sym (eqb-true r.form form p) ∙ eqb-true r.form f (sym same ∙ q)
+      go same rest false p q = rest q
+
+-- exprloc, sec_offset, loclistx
 abbrev is_expression : Class → Bool
 is_expression OfExpression = true
 is_expression _ = false
 
-abbrev expressions_agree : List ClassRow → Bool
-expressions_agree [] = true
-expressions_agree (r ∷ rows) = cond (same_bool (is_expression r.class) (eqb r.form 0x18)) (expressions_agree rows) false
+abbrev is_offset : Class → Bool
+is_offset OfOffset = true
+is_offset _ = false
 
-expressions_are : expressions_agree class_rows ≡ true
+abbrev is_list : Class → Bool
+is_list OfListIndex = true
+is_list _ = false
+
+expressions_are : only_form is_expression 0x18 class_rows ≡ true
 unfolding class_rows
 expressions_are = refl
 
-form_in : (rows : List ClassRow) (form : ℕ) → expressions_agree rows ≡ true → class_in rows form ≡ OfExpression → form ≡ 0x18
-unfolding class_in
-form_in [] form e is = absurd cc
-form_in (r ∷ rows) form e is =
-    let t = two_tests (same_bool (is_expression r.class) (eqb r.form 0x18)) (expressions_agree rows) e in
-    go (same_bool-true _ _ t.0) (form_in rows form t.1) (eqb r.form form) refl is where
-      go : is_expression r.class ≡ eqb r.form 0x18 → (class_in rows form ≡ OfExpression → form ≡ 0x18) → (b : Bool) → eqb r.form form ≡ b → cond b r.class (class_in rows form) ≡ OfExpression → form ≡ 0x18
-      go same rest true p q = sym (eqb-true r.form form p) ∙ eqb-true r.form 0x18 (sym same ∙ ap is_expression q)
-      go same rest false p q = rest q
+offsets_are : only_form is_offset 0x17 class_rows ≡ true
+unfolding class_rows
+offsets_are = refl
+
+lists_are : only_form is_list 0x22 class_rows ≡ true
+unfolding class_rows
+lists_are = refl
 
 pub expression_form : (form : ℕ) → class_of form ≡ OfExpression → form ≡ 0x18
-expression_form form e = form_in class_rows form expressions_are e
+expression_form form e = form_in is_expression 0x18 refl class_rows form expressions_are (ap is_expression e)
+
+pub offset_form : (form : ℕ) → class_of form ≡ OfOffset → form ≡ 0x17
+offset_form form e = form_in is_offset 0x17 refl class_rows form offsets_are (ap is_offset e)
+
+pub list_form : (form : ℕ) → class_of form ≡ OfListIndex → form ≡ 0x22
+list_form form e = form_in is_list 0x22 refl class_rows form lists_are (ap is_list e)
 
 pub exprloc_block : (number : ℤ) (bytes : List ℕ) (raw : Raw) → SpellsShape (shape_of written_rows 0x18) number bytes raw → length (bytes_of raw) < 2 ^ 64
 unfolding form_rows

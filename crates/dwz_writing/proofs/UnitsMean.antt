@@ -25,7 +25,7 @@ use Rattle.dwz_writing.proofs.StoredClasses.{offset_class}
 -- ---- attributes
 
 -- no attribute is left out
-all_stay : {K : Type 0} (n : Numbering K) (unit : ℕ) (attrs : List (Attr K)) (at : ℕ) → Each SoundAttr attrs → without_siblings (raw_attrs n unit at attrs) ≡ raw_attrs n unit at attrs
+pub all_stay : {K : Type 0} (n : Numbering K) (unit : ℕ) (attrs : List (Attr K)) (at : ℕ) → Each SoundAttr attrs → without_siblings (raw_attrs n unit at attrs) ≡ raw_attrs n unit at attrs
 unfolding raw_attrs without_siblings
 all_stay n unit [] at sound = refl
 all_stay n unit (a ∷ attrs) at sound =
@@ -76,7 +76,7 @@ offset_raw n unit a at end = by (eqb a.form 0x17) refl where
   by true e = (let same : class_of a.form ≡ OfOffset = ap class_of (eqb-true a.form 0x17 e) ∙ offset_class in ap (λ (c : Class). Some (reach (number_of (stored_as c n unit a)))) same)
   by false e = refl
 
-base_raw : {K : Type 0} (n : Numbering K) (unit name : ℕ) (attrs : List (Attr K)) (at : ℕ) → base_in (first_raw name (raw_attrs n unit at attrs)) ≡ offset_in (first_named name attrs)
+pub base_raw : {K : Type 0} (n : Numbering K) (unit name : ℕ) (attrs : List (Attr K)) (at : ℕ) → base_in (first_raw name (raw_attrs n unit at attrs)) ≡ offset_in (first_named name attrs)
 unfolding raw_attrs first_raw first_named
 base_raw n unit name [] at = refl
 base_raw {K} n unit name (a ∷ attrs) at =
@@ -95,7 +95,7 @@ places_raw n unit table End = refl
 places_raw n unit table (Entry e children next) =
     rw (map-append n.place (keys children) (keys next), places_raw n unit table children, places_raw n unit table next) refl
 
-own_raw : {K : Type 0} (n : Numbering K) (tables : List (List ℕ)) (u : DwUnit K) → places_of (raw_unit n tables u) ≡ map n.place (entry_keys u)
+pub own_raw : {K : Type 0} (n : Numbering K) (tables : List (List ℕ)) (u : DwUnit K) → places_of (raw_unit n tables u) ≡ map n.place (entry_keys u)
 own_raw n tables u = ap (λ (w : List ℕ). n.place u.root.at ∷ w) (places_raw n (n.place u.at) (table_of u) u.below)
 
 pub all_raw : {K : Type 0} (n : Numbering K) (tables : List (List ℕ)) (units : List (DwUnit K)) → all_places (raw_units n tables units) ≡ map n.place (all_entry_keys units)
@@ -109,30 +109,37 @@ all_raw n tables (u ∷ units) =
 -- ---- units
 
 module _ {K P : Type 0} (n : Numbering K) (g : K → P) (tables : List (List ℕ)) (t : Tells K) (keys : List K) (around : Around P) (is : IsAround n g t keys around) (within : (k : K) → In k t.all → In k keys) where
+  -- what is known where one of the units is read
+  abbrev pub unit_scope : (u : DwUnit K) → ((k : K) → In k (entry_keys u) → In k keys) → IsScope n g (n.place u.at) t (own_of u) (scope_of around (raw_unit n tables u))
+  unit_scope u inside = record {
+    strs = is.strs;
+    line_strs = is.line_strs;
+    offsets = is.offsets;
+    line = is.line;
+    slots = base_raw n (n.place u.at) 0x72 u.root.attrs _;
+    table = base_raw n (n.place u.at) 0x10 u.root.attrs _;
+    lists_base = base_raw n (n.place u.at) 0x8c u.root.attrs _;
+    own_at = refl;
+    none_shared = is.none_shared;
+    lists = is.lists;
+    unit = refl;
+    own_are = own_raw n tables u;
+    all_are = is.all;
+    place_own = λ k there. is.place k (inside k there);
+    place_all = λ k there. is.place k (within k there);
+    common = is.common;
+  }
+
   unit_means : (u : DwUnit K) → ((k : K) → In k (unit_keys u) → In k keys) → SoundUnit u → UnitFits n u → UnitSays t u → MeansUnit around (raw_unit n tables u) (placed_unit n g u)
   unfolding unit_keys
   unit_means u inside sound fits says =
       let unit = n.place u.at in
       let s = scope_of around (raw_unit n tables u) in
-      let own : (k : K) → In k (entry_keys u) → around.place (n.place k) ≡ g k = λ k there. is.place k (inside k (inr there)) in
-      let scope : IsScope n g unit t (own_of u) s = record {
-        strs = is.strs;
-        line_strs = is.line_strs;
-        offsets = is.offsets;
-        line = is.line;
-        slots = base_raw n unit 0x72 u.root.attrs _;
-        table = base_raw n unit 0x10 u.root.attrs _;
-        unit = refl;
-        own_are = own_raw n tables u;
-        all_are = is.all;
-        place_own = own;
-        place_all = λ k there. is.place k (within k there);
-        common = is.common;
-      } in
+      let scope = unit_scope u (λ k there. inside k (inr there)) in
       record {
         place = sym (is.place u.at (inside u.at (inl refl)));
         kind = kind_means n g unit t (own_of u) s scope u.kind fits.kind says.kind;
-        root = node_means n g unit t (own_of u) s scope (table_of u) u.root u.below (sym (own u.root.at (inl refl))) sound.root fits.root says.root;
+        root = node_means n g unit t (own_of u) s scope (table_of u) u.root u.below (sym (is.place u.root.at (inside u.root.at (inr (inl refl))))) sound.root fits.root says.root;
         below = entries_mean n g unit t (own_of u) s scope (table_of u) u.below (λ k there. inr there) sound.below fits.below says.below;
       }
 

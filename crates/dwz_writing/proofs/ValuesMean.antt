@@ -1,19 +1,20 @@
 -- What an attribute stores means its value, form by form.
 use Rattle.std.proofs.Common.{◌≡◌, ℕ, ℤ, ◌+◌, ◌-◌, Bool, true, false, List, [], ◌∷◌, map, Option, Some, None, refl, sym, ap, subst, ◌∙◌, arith, eqb, ◌||◌, not}
 use Rattle.dwz_bytes.specs.Spelling.{reach}
-use Rattle.dwz_meanings.specs.Documents.{Addr, Attr, Block, Flag, Index, Num, Plain, Sig, Text, Value, only, ref, value_map}
+use Rattle.dwz_meanings.specs.Documents.{Addr, Attr, Block, Flag, Index, Num, Plain, Sec, Sig, Text, Value, only, ref, value_map}
 use Rattle.dwz_docs.specs.Entries.{RawAttr}
 use Rattle.dwz_docs.specs.Lists.{In}
-use Rattle.dwz_meanings.specs.Meanings.{Class, IfSo, IsEntryAmong, IsFileBy, IsTextBySlot, IsTextIn, MeansAs, OfAddress, OfBlock, OfCommonEntry, OfCommonText, OfConstant, OfExpression, OfFlag, OfIndex, OfInfoEntry, OfListIndex, OfOffset, OfSignature, OfText, OfTextBySlot, OfTextInLineStr, OfTextInStr, OfUnitEntry, Scope, Unread, bytes_of, class_of, kept_width, names_file, names_list, number_of, stmt_list}
+use Rattle.dwz_meanings.specs.Meanings.{Class, IfSo, IsEntryAmong, IsFileBy, IsLocList, IsTextBySlot, IsTextIn, MeansAs, OfAddress, OfBlock, OfCommonEntry, OfCommonText, OfConstant, OfExpression, OfFlag, OfIndex, OfInfoEntry, OfListIndex, OfOffset, OfSignature, OfText, OfTextBySlot, OfTextInLineStr, OfTextInStr, OfUnitEntry, Scope, Unread, bytes_of, class_of, kept_width, names_file, names_list, number_of, stmt_list}
 use Rattle.dwz_meanings.specs.LineTables.{IsFileTable}
 use Rattle.dwz_docs.specs.Texts.{IsSlot, IsTextAt}
 use Rattle.dwz_seen.specs.Lists.{Each}
 use Rattle.dwz_writing.specs.Fitting.{FitsAs, FitsUnit}
-use Rattle.dwz_writing.specs.Meant.{FileSays, Own, SaysAs, SlotSays, Tells, TextSays, WasRead}
+use Rattle.dwz_writing.specs.Meant.{FileSays, ListSays, Own, SaysAs, SlotSays, Tells, TextSays, WasRead, told_texts}
 use Rattle.dwz_writing.specs.Sound.{IsBuiltAs, StoresAs}
 use Rattle.dwz_writing.specs.Writing.{Numbering, block_in, first_place, pair_of, stored_as, text_in}
 use Rattle.dwz_seen.proofs.Members.{in_map}
 use Rattle.dwz_writing.proofs.ExprMeans.{expr_means}
+use Rattle.dwz_writing.proofs.ListMeans.{list_means}
 use Rattle.dwz_writing.proofs.ScopeIs.{IsScope}
 
 -- an attribute as it was read, whose form has that class
@@ -50,6 +51,10 @@ not_so false P Q e h = h
 pub so_yes : (b : Bool) (P Q : Type 0) → b ≡ true → P → IfSo b P Q
 so_yes true P Q e h = h
 so_yes false P Q e h = absurd cc
+
+pub so_true : (b : Bool) (P Q : Type 0) → b ≡ true → IfSo b P Q → P
+so_true true P Q e h = h
+so_true false P Q e h = absurd cc
 
 pub so_not : (b : Bool) (P Q : Type 0) → b ≡ false → Q → IfSo b P Q
 so_not true P Q e h = absurd cc
@@ -103,9 +108,9 @@ module _ {K P : Type 0} (n : Numbering K) (g : K → P) (unit : ℕ) (t : Tells 
   }
 
   -- a file, by the line table of the unit
-  file_means : (a : Attr K) → FileSays t own.bases.line a → IsFileBy (stmt_list s) s a.raw (value_map g a.value)
+  file_means : (a : Attr K) → FileSays (told_texts t) t.line own.bases.line a → IsFileBy (stmt_list s) s a.raw (value_map g a.value)
   file_means a says = subst (λ (o : Option ℕ). IsFileBy o s a.raw (value_map g a.value)) (sym is.table) (by own.bases.line says) where
-    by : (o : Option ℕ) → FileSays t o a → IsFileBy o s a.raw (value_map g a.value)
+    by : (o : Option ℕ) → FileSays (told_texts t) t.line o a → IsFileBy o s a.raw (value_map g a.value)
     by None f = (f.0, ap (λ (w : Value K). value_map g w) f.1)
     by (Some place) f = record {
       table = f.table;
@@ -131,7 +136,7 @@ module _ {K P : Type 0} (n : Numbering K) (g : K → P) (unit : ℕ) (t : Tells 
       let p : Plain = Block (bytes_of r.old.raw) in
       kept g a r.named r.value p r.same r.means ∙ ap (λ (q : Plain). only (Block (block_in q))) (sym (plain_is a r.named r.value p r.same r.means))
   as_means OfConstant a at end e built stores fits says = by (names_file a.name) refl says where
-    by : (b : Bool) → names_file a.name ≡ b → IfSo b (FileSays t own.bases.line a) (WasRead a)
+    by : (b : Bool) → names_file a.name ≡ b → IfSo b (FileSays (told_texts t) t.line own.bases.line a) (WasRead a)
         → IfSo b (IsFileBy (stmt_list s) s a.raw (value_map g a.value)) (value_map g a.value ≡ only (Num (kept_width a.name a.form (reach a.raw)) a.raw))
     by true names f = file_means a f
     by false names w =
@@ -166,9 +171,16 @@ module _ {K P : Type 0} (n : Numbering K) (g : K → P) (unit : ℕ) (t : Tells 
       let among : In (first_place n a.value.refs) c.0.entries = subst (λ (q : ℕ). In q c.0.entries) at c.2 in
       (c.0, c.1, (among, value ∙ ap (λ (q : P). ref q) (sym c.3) ∙ ap (λ (q : ℕ). ref (c.0.place q)) at))
   as_means OfSignature a at end e built stores fits says = (let r = read_of OfSignature a e says in kept g a r.named r.value _ r.same r.means ∙ ap (λ (z : ℤ). only (Sig (reach z))) r.number)
-  as_means OfOffset a at end e built stores fits says = so_not (names_list a.name) _ _ built (ap (λ (w : Value K). value_map g w) says)
+  as_means OfOffset a at end e built stores fits says = by (names_list a.name) refl says where
+    by : (b : Bool) → names_list a.name ≡ b → IfSo b (ListSays t own a) (a.value ≡ only (Sec (reach a.raw))) → IfSo b (IsLocList s (reach a.raw) (value_map g a.value)) (value_map g a.value ≡ only (Sec (reach a.raw)))
+    by true names says =
+        (let means = list_means n g unit t own s is a says fits (stored_at OfOffset n unit a at end) refl refl refl in
+        let as_offset = subst (λ (c : Class). MeansAs c s (stored_at OfOffset n unit a at end) (value_map g a.value)) e means in
+        so_true (names_list a.name) _ _ names as_offset)
+    by false names says = ap (λ (w : Value K). value_map g w) says
   as_means OfExpression a at end e built stores fits says = expr_means n g unit t own s is a at end fits says
-  as_means OfListIndex a at end e built stores fits says = absurd built
+  as_means OfListIndex a at end e built stores fits says =
+      subst (λ (c : Class). MeansAs c s (stored_at OfListIndex n unit a at end) (value_map g a.value)) e (list_means n g unit t own s is a says fits (stored_at OfListIndex n unit a at end) refl refl refl)
   as_means OfIndex a at end e built stores fits says = (let r = read_of OfIndex a e says in kept g a r.named r.value _ r.same r.means ∙ ap (λ (z : ℤ). only (Index (reach z))) r.number)
   as_means OfCommonText a at end e built stores fits says = absurd built
   as_means Unread a at end e built stores fits says = absurd built

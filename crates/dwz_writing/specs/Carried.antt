@@ -1,11 +1,13 @@
 -- Units with what was read in a file, before the forms of their references are chosen.
-use Rattle.std.specs.Prelude.{◌≡◌, ◌≢◌, ◌⊎◌, ℕ, pos, ◌<◌, ◌≤◌, ◌^◌, Bool, true, false, List, length, Option}
+use Rattle.std.specs.Prelude.{◌≡◌, ◌≢◌, ◌⊎◌, ℕ, pos, ◌<◌, ◌≤◌, ◌^◌, Bool, true, false, List, length, Option, Some, None}
 use Rattle.dwz_codes.specs.Forms.{form_rows}
 use Rattle.dwz_docs.specs.Abbrevs.{SpellsPair}
-use Rattle.dwz_meanings.specs.Documents.{Attr, DwUnit, Entries, Expr, Node, Plain, Sec, only, ref}
+use Rattle.dwz_meanings.specs.Documents.{Attr, DwUnit, Entries, Expr, File, Node, Plain, Sec, only, ref}
+use Rattle.dwz_meanings.specs.LinesWritten.{AreTexts}
+use Rattle.dwz_docs.specs.ElfLayout.{too_large}
 use Rattle.dwz_docs.specs.Entries.{RawAttr}
 use Rattle.dwz_docs.specs.Lists.{In}
-use Rattle.dwz_meanings.specs.Meanings.{Class, OfConstant, OfExpression, OfTextBySlot, OfTextInLineStr, OfTextInStr, Sources, class_of, names_file}
+use Rattle.dwz_meanings.specs.Meanings.{Class, IfSo, OfConstant, OfExpression, OfListIndex, OfOffset, OfTextBySlot, OfTextInLineStr, OfTextInStr, Sources, class_of, names_file, names_list}
 use Rattle.dwz_docs.specs.Trees.{End, Entry}
 use Rattle.dwz_docs.specs.Values.{AreBytes, SpellsValue}
 use Rattle.dwz_seen.specs.Lists.{Each}
@@ -13,9 +15,9 @@ use Rattle.dwz_seen.specs.Seen.{Named, Seen, all_seen}
 use Rattle.dwz_seen.specs.Shown.{units_keys}
 use Rattle.dwz_writing.specs.Bases.{Bases, bases_in, bases_of}
 use Rattle.dwz_writing.specs.Fitting.{EachAttr}
-use Rattle.dwz_writing.specs.Placing.{CommonUnit, Forms, Holder, NewUnit, OldUnit, holder_of, texts_bytes}
+use Rattle.dwz_writing.specs.Placing.{CommonUnit, Forms, Holder, NewUnit, OldUnit, holder_of, lines_bytes, texts_bytes}
 use Rattle.dwz_writing.specs.Writing.{text_in}
-use Rattle.dwz_writing.specs.Meant.{KindSays, OperandsIn, Own, Tells, WasRead, entry_keys, own_of}
+use Rattle.dwz_writing.specs.Meant.{KindSays, ListSays, OperandsIn, Own, Tells, WasRead, entry_keys, own_of}
 use Rattle.dwz_writing.specs.Sound.{IsBuilt, SoundKind}
 
 -- where an attribute may have been read: in the file with these sections, or in any file
@@ -113,9 +115,29 @@ AttrTexts texts a = TextAs (class_of a.form) texts a
 abbrev pub UnitTexts : {K : Type 0} → List (List ℕ) → DwUnit K → Type 0
 UnitTexts texts u = Each (AttrTexts texts) u.root.attrs × EachAttr (AttrTexts texts) u.below
 
--- the sections of a file are those that were read; or all texts are in `.debug_str` of the common file
+-- the path of a file is one of these
+abbrev pub PathAs : Plain → List (List ℕ) → Type 0
+PathAs (File (Some path)) paths = In path paths
+PathAs _ paths = Unit {0}
+
+abbrev pub AttrPaths : {K : Type 0} → List (List ℕ) → Attr K → Type 0
+AttrPaths paths a = PathAs a.value.plain paths
+
+abbrev pub UnitPaths : {K : Type 0} → List (List ℕ) → DwUnit K → Type 0
+UnitPaths paths u = Each (AttrPaths paths) u.root.attrs × EachAttr (AttrPaths paths) u.below
+
+-- all texts are in `.debug_str` of the common file, and all paths in its line table
+pub record CommonStands {K : Type 0} (f : Forms K) (t : Tells K) (units : List (DwUnit K)) : Type 0 where
+  pub strs : t.strs ≡ texts_bytes f.texts
+  pub texts : Each (UnitTexts f.texts) units
+  pub line : t.line ≡ lines_bytes f.paths
+  pub few : length t.line < too_large
+  pub are_texts : AreTexts f.paths
+  pub paths : Each (UnitPaths f.paths) units
+
+-- the sections of a file are those that were read; or they are those of the common file
 abbrev pub SectionsStand : {K : Type 0} → Bool → (Sources → Type 0) → Forms K → Tells K → List (DwUnit K) → Type 0
-SectionsStand true from f t units = (length t.strs < 2 ^ 32) × (t.strs ≡ texts_bytes f.texts) × Each (UnitTexts f.texts) units
+SectionsStand true from f t units = (length t.strs < 2 ^ 32) × CommonStands f t units
 SectionsStand false from f t units =
     (length t.strs < 2 ^ 32)
     × ((s : Sources) → from s → (t.strs ≡ s.strs) × (t.line_strs ≡ s.line_strs) × (t.offsets ≡ s.offsets) × (t.line ≡ s.line) × (f.offsets ≡ s.offsets))
@@ -124,12 +146,17 @@ SectionsStand false from f t units =
 abbrev pub NumbersFile : {K : Type 0} → Attr K → Type 0
 NumbersFile a = (class_of a.form ≡ OfConstant) × (names_file a.name ≡ true)
 
+-- the line table of the common file, for a path; and none, for no file
+abbrev pub LineFor : Option ℕ → Plain → Type 0
+LineFor line (File (Some path)) = line ≡ Some 0
+LineFor line _ = line ≡ None
+
 -- What is asked of such an attribute: in a partial unit the root names the line table of the unit that the attribute comes from; in the
--- common file there is none, as yet.
+-- common file that of the common file, where there is a path.
 abbrev pub FileStands : {K : Type 0} → Holder → (line origin : Option ℕ) → Attr K → Type 0
 FileStands OldUnit line origin a = Unit {0}
 FileStands NewUnit line origin a = NumbersFile a → line ≡ origin
-FileStands CommonUnit line origin a = NumbersFile a → ⊥
+FileStands CommonUnit line origin a = NumbersFile a → LineFor line a.value.plain
 
 -- the values of an old unit come from it
 abbrev pub ComesFromItself : Holder → (own origin : Bases) → Type 0
@@ -141,13 +168,15 @@ pub record BasesStand {K : Type 0} (f : Forms K) (u : DwUnit K) : Type 0 where
   pub root : Each (FileStands (holder_of f.is_common u.kind) (bases_in u).line (f.origin u.at).line) u.root.attrs
   pub below : EachAttr (FileStands (holder_of f.is_common u.kind) (bases_in u).line (f.origin u.at).line) u.below
 
--- the operands of an expression name entries of its unit, or of the file, as their numbers are counted
+-- the operands of an expression name entries of its unit, or of the file, as their numbers are counted, and so do those of a list
 abbrev pub ExprIn : {K : Type 0} → Tells K → Own K → Plain → List K → Type 0
 ExprIn t own (Expr parts) refs = OperandsIn t own parts refs
 ExprIn t own _ refs = ⊥
 
 abbrev pub OperandsStandAs : {K : Type 0} → Class → Tells K → Own K → Attr K → Type 0
 OperandsStandAs OfExpression t own a = ExprIn t own a.value.plain a.value.refs
+OperandsStandAs OfOffset t own a = IfSo (names_list a.name) (ListSays t own a) (Unit {0})
+OperandsStandAs OfListIndex t own a = ListSays t own a
 OperandsStandAs _ t own a = Unit {0}
 
 abbrev pub AttrOperands : {K : Type 0} → Tells K → Own K → Attr K → Type 0

@@ -1,15 +1,16 @@
 -- Whether numbers and places fit where they are written.
-use Rattle.std.specs.Prelude.{◌≡◌, ℕ, suc, ◌+◌, ◌-◌, ◌<◌, ◌≤◌, ◌^◌, max, Bool, true, List, [], ◌∷◌}
-use Rattle.dwz_meanings.specs.Documents.{Attr, Compile, DwUnit, Entries, Expr, Kind, Node, OfType, Part, Partial, Plain, Same}
+use Rattle.std.specs.Prelude.{◌≡◌, ℕ, suc, ◌+◌, ◌-◌, ◌<◌, ◌≤◌, ◌^◌, max, Bool, true, false, List, [], ◌∷◌}
+use Rattle.dwz_meanings.specs.Documents.{Attr, Compile, DwUnit, Entries, Expr, Kind, Loc, Node, OfType, Part, Partial, Plain, Same}
 use Rattle.dwz_meanings.specs.Documents as document
 use Rattle.dwz_docs.specs.Entries.{Mode}
 use Rattle.dwz_docs.specs.Lists.{In}
-use Rattle.dwz_meanings.specs.Meanings.{Class, OfCommonEntry, OfExpression, OfInfoEntry, OfUnitEntry, class_of}
+use Rattle.dwz_meanings.specs.Meanings.{Class, OfCommonEntry, OfExpression, OfInfoEntry, OfListIndex, OfOffset, OfUnitEntry, class_of}
 use Rattle.dwz_meanings.specs.Patching.{FitsIn}
 use Rattle.dwz_docs.specs.Trees.{End, Entry, size}
 use Rattle.dwz_docs.specs.Values.{written_rows}
 use Rattle.dwz_codes.specs.Rows.{RowView}
 use Rattle.dwz_seen.specs.Lists.{Each}
+use Rattle.dwz_alike.specs.Alike.{joined_parts}
 use Rattle.dwz_writing.specs.Placing.{FitsSections, UnitsStand, sections}
 use Rattle.dwz_writing.specs.Sound.{SoundUnit}
 use Rattle.dwz_writing.specs.Writing.{Numbering, base_place}
@@ -36,12 +37,19 @@ abbrev pub ExprFits : {K : Type 0} → Numbering K → ℕ → Plain → List K 
 ExprFits n unit (Expr parts) refs = OperandsFit n unit parts refs
 ExprFits n unit _ refs = ⊥
 
--- the numbers that an attribute of a class stores, in a unit that begins at a place
+-- the same of the expressions of a location list, whose operands stand in `.debug_loclists`
+abbrev pub ListFits : {K : Type 0} → Numbering K → ℕ → Plain → List K → Type 0
+ListFits n unit (Loc exprs) refs = OperandsFit n unit (joined_parts exprs) refs
+ListFits n unit _ refs = Unit {0}
+
+-- the numbers that an attribute of a class stores, or those of its list, in a unit that begins at a place
 abbrev pub FitsAs : {K : Type 0} → Class → Numbering K → ℕ → Attr K → Type 0
 FitsAs OfUnitEntry n unit a = Each (FitsUnit n unit) a.value.refs
 FitsAs OfInfoEntry n unit a = Each (FitsInfo n) a.value.refs
 FitsAs OfCommonEntry n unit a = Each (FitsInfo n) a.value.refs
 FitsAs OfExpression n unit a = ExprFits n unit a.value.plain a.value.refs
+FitsAs OfOffset n unit a = ListFits n unit a.value.plain a.value.refs
+FitsAs OfListIndex n unit a = ListFits n unit a.value.plain a.value.refs
 FitsAs _ n unit a = Unit {0}
 
 abbrev pub AttrFits : {K : Type 0} → Numbering K → ℕ → Attr K → Type 0
@@ -71,9 +79,28 @@ abbrev pub EachAttr : {K : Type 0} → (Attr K → Type 0) → Entries K → Typ
 EachAttr P End = Unit {0}
 EachAttr P (Entry e children next) = Each P e.attrs × EachAttr P children × EachAttr P next
 
--- in an expression each operand has room for the number of the entry that it names
+-- the number needs no more bytes: groups of seven bits of a ULEB128 number, or bytes of a fixed width
+abbrev pub FitsWidth : Bool → ℕ → ℕ → Type 0
+FitsWidth true width number = number < 128 ^ width
+FitsWidth false width number = number < 256 ^ width
+
+-- each operand has room for the number of the entry that it names
+abbrev pub OperandsHaveRoom : {K : Type 0} → Numbering K → ℕ → List Part → List K → Type 0
+OperandsHaveRoom n unit [] [] = Unit {0}
+OperandsHaveRoom n unit (Same bytes ∷ parts) refs = OperandsHaveRoom n unit parts refs
+OperandsHaveRoom n unit (document.Operand width uleb base ∷ parts) (k ∷ refs) = FitsWidth uleb width (n.place k - base_place unit base) × OperandsHaveRoom n unit parts refs
+OperandsHaveRoom n unit _ _ = ⊥
+
+-- so of an expression, and of a location list
+abbrev pub PlainHasRoom : {K : Type 0} → Numbering K → ℕ → Plain → List K → Type 0
+PlainHasRoom n unit (Expr parts) refs = OperandsHaveRoom n unit parts refs
+PlainHasRoom n unit (Loc exprs) refs = OperandsHaveRoom n unit (joined_parts exprs) refs
+PlainHasRoom n unit _ refs = Unit {0}
+
 abbrev pub HasRoomAs : {K : Type 0} → Class → Numbering K → ℕ → Attr K → Type 0
-HasRoomAs OfExpression n unit a = ExprFits n unit a.value.plain a.value.refs
+HasRoomAs OfExpression n unit a = PlainHasRoom n unit a.value.plain a.value.refs
+HasRoomAs OfOffset n unit a = PlainHasRoom n unit a.value.plain a.value.refs
+HasRoomAs OfListIndex n unit a = PlainHasRoom n unit a.value.plain a.value.refs
 HasRoomAs _ n unit a = Unit {0}
 
 abbrev pub HasRoom : {K : Type 0} → Numbering K → ℕ → Attr K → Type 0

@@ -1,14 +1,19 @@
 -- What the units that are written mean: the same units, with places for keys.
-use Rattle.std.specs.Prelude.{◌≡◌, ℕ, pos, List, [], ◌∷◌, ◌++◌, map, Option, Some, None}
-use Rattle.dwz_meanings.specs.Documents.{Attr, Compile, DwUnit, Entries, Expr, File, Kind, Node, OfType, Part, Partial, Same, Sec, Text, attr_map, kind_map, only, value_map}
+use Rattle.std.specs.Prelude.{◌≡◌, ℕ, ◌+◌, ◌-◌, pos, List, [], ◌∷◌, ◌++◌, map, Option, Some, None}
+use Rattle.dwz_meanings.specs.Documents.{Attr, Compile, DwUnit, Entries, Expr, File, Kind, Loc, Node, OfType, Part, Partial, Same, Sec, Text, attr_map, kind_map, only, value_map}
 use Rattle.dwz_docs.specs.Entries.{Mode, RawAttr}
 use Rattle.dwz_docs.specs.Lists.{In}
-use Rattle.dwz_meanings.specs.Meanings.{Around, Class, Common, IfSo, MeanUnits, MeansAttr, OfCommonEntry, OfConstant, OfExpression, OfInfoEntry, OfOffset, OfTextBySlot, OfTextInLineStr, OfTextInStr, OfUnitEntry, Scope, all_places, class_of, names_file, number_of, path_by}
+use Rattle.dwz_meanings.specs.Meanings.{Around, Class, Common, IfSo, MeanUnits, MeansAttr, OfCommonEntry, OfConstant, OfExpression, OfInfoEntry, OfListIndex, OfOffset, OfTextBySlot, OfTextInLineStr, OfTextInStr, OfUnitEntry, Scope, all_places, class_of, loclists_base, names_file, names_list, number_of, path_by}
 use Rattle.dwz_model.specs.declared.place.Base.{Base}
 use Rattle.dwz_model.specs.declared.place.Base.TheVariants.{Unit as FromUnit, Info as FromInfo}
 use Rattle.dwz_meanings.specs.Documents as document
+use Rattle.dwz_meanings.specs.declared.exprs.Operand.{Operand}
+use Rattle.dwz_meanings.specs.NamedLists.{NamesList}
+use Rattle.dwz_meanings.specs.PatchedLists.{IsPatched}
+use Rattle.dwz_meanings.specs.Shared.{NamedList, NoneShared, own_operands}
+use Rattle.dwz_alike.specs.Alike.{joined_parts}
 use Rattle.dwz_meanings.specs.Exprs.{ExprContext, Expression, SpellsExpr, parts_of}
-use Rattle.dwz_meanings.specs.LineTables.{FileTable, IsFileTable}
+use Rattle.dwz_meanings.specs.LineTables.{FileTable, IsFileTable, TextSections}
 use Rattle.dwz_writing.specs.Bases.{Bases, bases_in}
 use Rattle.dwz_bytes.specs.Spelling.{reach}
 use Rattle.dwz_docs.specs.Texts.{IsSlot, IsTextAt}
@@ -17,7 +22,7 @@ use Rattle.dwz_docs.specs.Units.{RawUnit, SpellsUnits}
 use Rattle.dwz_seen.specs.Lists.{Each}
 use Rattle.dwz_writing.specs.Placing.{UnitSections}
 use Rattle.dwz_seen.specs.Shown.{keys, units_keys}
-use Rattle.dwz_writing.specs.Writing.{Numbering, stored}
+use Rattle.dwz_writing.specs.Writing.{Numbering, base_place, stored}
 
 -- ---- the units with places for keys; the number of an attribute is the one that it stores there
 
@@ -56,22 +61,27 @@ pub record WasRead {K : Type 0} (a : Attr K) : Type 0 where
   pub name : ℕ → K
   pub same : a ≡ attr_map name read
 
--- what units are written for: the sections that they speak of, the keys of all entries of the file, and of those of the common file
+-- What units are written for: the sections that they speak of; `.debug_loclists` as it was read, the lists that units named there, and
+-- the names after of places before; the keys of all entries of the file, and of those of the common file.
 pub record Tells (K : Type 0) : Type 0 where
   pub strs : List ℕ
   pub line_strs : List ℕ
   pub offsets : List ℕ
   pub line : List ℕ
+  pub lists : List ℕ
+  pub named : List NamedList
+  pub name : ℕ → K
   pub all : List K
   pub common : List K
 
--- what is known of a unit: the keys of its entries, and where its slots and its line table begin
+-- what is known of a unit: its key, the keys of its entries, and where its slots, its line table and its lists begin
 pub record Own (K : Type 0) : Type 0 where
+  pub at : K
   pub keys : List K
   pub bases : Bases
 
 abbrev pub own_of : {K : Type 0} → DwUnit K → Own K
-own_of u = record { keys = entry_keys u; bases = bases_in u }
+own_of u = record { at = u.at; keys = entry_keys u; bases = bases_in u }
 
 -- its text stands in the section, at the number that it stores
 pub record TextSays {K : Type 0} (section : List ℕ) (a : Attr K) : Type 0 where
@@ -89,18 +99,22 @@ pub record SlotSays {K : Type 0} (t : Tells K) (slots : Option ℕ) (a : Attr K)
   pub stands : IsTextAt t.strs offset text
   pub value : a.value ≡ only (Text text)
 
--- its file is the row with that number of the line table at a place
-pub record RowSays {K : Type 0} (t : Tells K) (place : ℕ) (a : Attr K) : Type 0 where
+-- its file is the row with that number of the line table at a place of the section
+pub record RowSays {K : Type 0} (texts : TextSections) (section : List ℕ) (place : ℕ) (a : Attr K) : Type 0 where
   pub table : FileTable
-  pub stands : IsFileTable (record { strs = t.strs; line_strs = t.line_strs }) t.line place table
+  pub stands : IsFileTable texts section place table
   pub path : List ℕ
   pub is_path : path_by table a.raw ≡ Some path
   pub value : a.value ≡ only (File (Some path))
 
 -- the same of the line table of a unit, or there is none, and it is no file
-abbrev pub FileSays : {K : Type 0} → Tells K → Option ℕ → Attr K → Type 0
-FileSays t None a = (a.raw ≡ pos 0) × (a.value ≡ only (File None))
-FileSays t (Some place) a = RowSays t place a
+abbrev pub FileSays : {K : Type 0} → TextSections → List ℕ → Option ℕ → Attr K → Type 0
+FileSays texts section None a = (a.raw ≡ pos 0) × (a.value ≡ only (File None))
+FileSays texts section (Some place) a = RowSays texts section place a
+
+-- the sections in which line tables have texts
+abbrev pub told_texts : {K : Type 0} → Tells K → TextSections
+told_texts t = record { strs = t.strs; line_strs = t.line_strs }
 
 -- an operand names an entry of its unit, or of any unit of the file, as its number is counted
 abbrev pub OperandIn : {K : Type 0} → Tells K → Own K → Base → K → Type 0
@@ -123,9 +137,35 @@ pub record ExprSays {K : Type 0} (t : Tells K) (own : Own K) (a : Attr K) : Type
   pub plain : a.value.plain ≡ Expr (parts_of expression)
   pub operands : OperandsIn t own (parts_of expression) a.value.refs
 
+-- where a number led that was counted from the unit, or from the section
+abbrev pub by_base : Base → ℕ → ℕ → ℕ
+by_base FromUnit unit number = unit + number
+by_base FromInfo unit number = number
+
+abbrev pub led_to : ℕ → Operand → ℕ
+led_to unit o = by_base o.base unit o.number
+
+-- It names a list that was read, which is one of those of the file; the list's operands name entries of the unit, or of any unit of the
+-- file, as their numbers are counted: those that they named.
+pub record ListSays {K : Type 0} (t : Tells K) (own : Own K) (a : Attr K) : Type 0 where
+  pub scope : Scope ℕ
+  pub section : scope.around.sources.lists ≡ t.lists
+  pub base : loclists_base scope ≡ own.bases.lists
+  pub unit : t.name scope.unit ≡ own.at
+  pub old : RawAttr
+  pub name : old.pair.name ≡ a.name
+  pub form : old.pair.form ≡ a.form
+  pub raw : number_of old.raw ≡ a.raw
+  pub list : NamedList
+  pub there : In list t.named
+  pub names : NamesList scope old list
+  pub plain : a.value.plain ≡ Loc (map parts_of list.list.exprs)
+  pub refs : a.value.refs ≡ map (λ o. t.name (led_to list.unit o)) (own_operands list)
+  pub operands : OperandsIn t own (joined_parts (map parts_of list.list.exprs)) a.value.refs
+
 -- A reference names an entry of its unit, of any unit of the file, or of the common file, as its form says; a text stands where its
--- form says, a file where its number does, and an expression names entries so too; an offset is the number that is stored; any other
--- attribute was read.
+-- form says, a file where its number does; an expression and a location list name entries so too; any other offset is the number that
+-- is stored; any other attribute was read.
 abbrev pub SaysAs : {K : Type 0} → Class → Tells K → Own K → Attr K → Type 0
 SaysAs OfUnitEntry t own a = Each (λ k. In k own.keys) a.value.refs
 SaysAs OfInfoEntry t own a = Each (λ k. In k t.all) a.value.refs
@@ -134,8 +174,9 @@ SaysAs OfTextInStr t own a = TextSays t.strs a
 SaysAs OfTextInLineStr t own a = TextSays t.line_strs a
 SaysAs OfTextBySlot t own a = SlotSays t own.bases.slots a
 SaysAs OfExpression t own a = ExprSays t own a
-SaysAs OfOffset t own a = a.value ≡ only (Sec (reach a.raw))
-SaysAs OfConstant t own a = IfSo (names_file a.name) (FileSays t own.bases.line a) (WasRead a)
+SaysAs OfOffset t own a = IfSo (names_list a.name) (ListSays t own a) (a.value ≡ only (Sec (reach a.raw)))
+SaysAs OfListIndex t own a = ListSays t own a
+SaysAs OfConstant t own a = IfSo (names_file a.name) (FileSays (told_texts t) t.line own.bases.line a) (WasRead a)
 SaysAs _ t own a = WasRead a
 
 abbrev pub AttrSays : {K : Type 0} → Tells K → Own K → Attr K → Type 0
@@ -164,12 +205,25 @@ UnitsSay t units = Each (UnitSays t) units
 
 -- ---- where they are read back
 
--- The file's own places, and those that the common file gives, are where its keys stand; and its sections are those that are spoken of.
+-- the number of an operand after, in a unit that had that place: that of what it named, counted as before
+abbrev pub number_after : {K : Type 0} → Numbering K → (ℕ → K) → ℕ → Operand → ℕ
+number_after n name unit o = n.place (name (led_to unit o)) - base_place (n.place (name unit)) o.base
+
+-- the section has these numbers in place of those that were read (DWARF 5, 7.7.3), and else the bytes that were there
+pub record AreRenumbered {K : Type 0} (n : Numbering K) (t : Tells K) (new : List ℕ) : Type 0 where
+  pub number : ℕ → ℕ
+  pub are : (l : NamedList) → In l t.named → (o : Operand) → In o (own_operands l) → number o.at ≡ number_after n t.name l.unit o
+  pub patched : IsPatched t.named number t.lists new
+
+-- The file's own places, and those that the common file gives, are where its keys stand; its sections are those that are spoken of, and
+-- its location lists, which shared nothing, have the numbers of where things stand.
 pub record IsAround {K P : Type 0} (n : Numbering K) (g : K → P) (t : Tells K) (keys : List K) (around : Around P) : Type 0 where
   pub strs : around.sources.strs ≡ t.strs
   pub line_strs : around.sources.line_strs ≡ t.line_strs
   pub offsets : around.sources.offsets ≡ t.offsets
   pub line : around.sources.line ≡ t.line
+  pub none_shared : NoneShared t.named
+  pub lists : AreRenumbered n t around.sources.lists
   pub all : around.all ≡ map n.place t.all
   pub place : (k : K) → In k keys → around.place (n.place k) ≡ g k
   pub common : (k : K) → In k t.common → (c : Common P) × (around.common ≡ Some c) × In (n.place k) c.entries × (c.place (n.place k) ≡ g k)

@@ -1,10 +1,11 @@
 -- Where each key stands: where the bytes before it end. No length depends on the numbers that are written, so there is one placement.
-use Rattle.std.specs.Prelude.{◌≡◌, ℕ, ℤ, pos, ◌+◌, ◌<◌, Bool, true, false, List, [], ◌∷◌, ◌++◌, length, map, Option, Some, None}
+use Rattle.std.specs.Prelude.{◌≡◌, ℕ, ℤ, pos, suc, ◌+◌, ◌<◌, Bool, true, false, List, [], ◌∷◌, ◌++◌, length, map, Option, Some, None}
 use Rattle.dwz_bytes.specs.Spelling.{reach}
 use Rattle.dwz_docs.specs.ElfLayout.{too_large}
 use Rattle.dwz_docs.specs.Texts.{slot}
-use Rattle.dwz_meanings.specs.Documents.{Attr, DwUnit, Entries, Kind, Node, Partial}
-use Rattle.dwz_meanings.specs.Meanings.{Class, OfCommonEntry, OfInfoEntry, OfTextBySlot, OfTextInLineStr, OfTextInStr, OfUnitEntry, class_of}
+use Rattle.dwz_meanings.specs.Documents.{Attr, DwUnit, Entries, File, Kind, Node, Partial, Plain}
+use Rattle.dwz_meanings.specs.LinesWritten.{header_written}
+use Rattle.dwz_meanings.specs.Meanings.{Class, OfCommonEntry, OfConstant, OfInfoEntry, OfTextBySlot, OfTextInLineStr, OfTextInStr, OfUnitEntry, class_of, names_file}
 use Rattle.dwz_docs.specs.Trees.{End, Entry}
 use Rattle.dwz_seen.specs.Shown.{unit_keys, units_keys}
 use Rattle.dwz_alike.specs.Spots.{same_numbers}
@@ -93,14 +94,15 @@ holder_of true kind = CommonUnit
 holder_of false Partial = NewUnit
 holder_of false _ = OldUnit
 
--- What forms are chosen by: a test of keys; the keys of the unit and of its file; what holds the unit; the texts of the common file, in
--- order; the slots of the file, and what is known of the unit that values come from.
+-- What forms are chosen by: a test of keys; the keys of the unit and of its file; what holds the unit; the texts of the common file and
+-- the paths of its line table, in order; the slots of the file, and what is known of the unit that values come from.
 pub record Fit (K : Type 0) : Type 0 where
   pub same : K → K → Bool
   pub own : List K
   pub file : List K
   pub holder : Holder
   pub texts : List (List ℕ)
+  pub paths : List (List ℕ)
   pub offsets : List ℕ
   pub origin : Bases
 
@@ -158,7 +160,28 @@ as_slot OldUnit f a = as_read a
 as_slot NewUnit f a = record { form = 0x0e; raw = pos (slot_number f.offsets f.origin.slots (reach a.raw)) }
 as_slot CommonUnit f a = as_text CommonUnit f a
 
+-- where a path is among paths
+unfoldable pub path_index : List (List ℕ) → List ℕ → ℕ
+path_index [] path = 0
+path_index (p ∷ paths) path = elim (same_numbers p path) as (λ _. ℕ) [ true ↦ 0 | false ↦ suc (path_index paths path) ]
+
+-- paths are numbered from 1; no file is 0
+abbrev pub file_number : List (List ℕ) → Plain → ℕ
+file_number paths (File (Some path)) = suc (path_index paths path)
+file_number paths _ = 0
+
+-- the number of a file is as it was read, or in the common file DW_FORM_udata, with the number of its path there
+abbrev pub as_file : {K : Type 0} → Holder → Fit K → Attr K → Chosen
+as_file CommonUnit f a = record { form = 0x0f; raw = pos (file_number f.paths a.value.plain) }
+as_file _ f a = as_read a
+
+-- any other constant is as it was read
+abbrev pub as_constant : {K : Type 0} → Bool → Fit K → Attr K → Chosen
+as_constant true f a = as_file f.holder f a
+as_constant false f a = as_read a
+
 abbrev pub fit_as : {K : Type 0} → Class → Fit K → Attr K → Chosen
+fit_as OfConstant f a = as_constant (names_file a.name) f a
 fit_as OfUnitEntry f a = as_entry f a
 fit_as OfInfoEntry f a = as_entry f a
 fit_as OfCommonEntry f a = as_entry f a
@@ -180,12 +203,13 @@ unfoldable pub fit : {K : Type 0} → Fit K → Entries K → Entries K
 fit f End = End
 fit f (Entry e children next) = Entry (fit_node f e) (fit f children) (fit f next)
 
--- what is known of a file: whether it is the common file; the texts of the common file; its slots; and by the key of each unit what is
--- known of the unit that its values come from
+-- what is known of a file: whether it is the common file; the texts and paths of the common file; its slots; and by the key of each unit
+-- what is known of the unit that its values come from
 pub record Forms (K : Type 0) : Type 0 where
   pub same : K → K → Bool
   pub is_common : Bool
   pub texts : List (List ℕ)
+  pub paths : List (List ℕ)
   pub offsets : List ℕ
   pub origin : K → Bases
 
@@ -194,15 +218,16 @@ pub record FileFit (K : Type 0) : Type 0 where
   pub same : K → K → Bool
   pub is_common : Bool
   pub texts : List (List ℕ)
+  pub paths : List (List ℕ)
   pub offsets : List ℕ
   pub origin : K → Bases
   pub keys : List K
 
 abbrev pub with_keys : {K : Type 0} → Forms K → List K → FileFit K
-with_keys f keys = record { same = f.same; is_common = f.is_common; texts = f.texts; offsets = f.offsets; origin = f.origin; keys = keys }
+with_keys f keys = record { same = f.same; is_common = f.is_common; texts = f.texts; paths = f.paths; offsets = f.offsets; origin = f.origin; keys = keys }
 
 abbrev pub unit_fit : {K : Type 0} → FileFit K → DwUnit K → Fit K
-unit_fit f u = record { same = f.same; own = unit_keys u; file = f.keys; holder = holder_of f.is_common u.kind; texts = f.texts; offsets = f.offsets; origin = f.origin u.at }
+unit_fit f u = record { same = f.same; own = unit_keys u; file = f.keys; holder = holder_of f.is_common u.kind; texts = f.texts; paths = f.paths; offsets = f.offsets; origin = f.origin u.at }
 
 abbrev pub fit_unit : {K : Type 0} → FileFit K → DwUnit K → DwUnit K
 fit_unit f u = record { at = u.at; kind = u.kind; root = fit_node (unit_fit f u) u.root; below = fit (unit_fit f u) u.below }
@@ -211,7 +236,7 @@ fit_unit f u = record { at = u.at; kind = u.kind; root = fit_node (unit_fit f u)
 unfoldable pub fit_units : {K : Type 0} → Forms K → List (DwUnit K) → List (DwUnit K)
 fit_units f units = map (fit_unit (with_keys f (units_keys units))) units
 
--- ---- the texts of the common file
+-- ---- the texts of the common file, and the paths of its line table: in order of first use, each once
 
 abbrev pub add_unless : Bool → List (List ℕ) → List ℕ → List (List ℕ)
 add_unless true texts text = texts
@@ -224,6 +249,19 @@ has_text (t ∷ texts) text = elim (same_numbers t text) as (λ _. Bool) [ true 
 abbrev pub with_text : List (List ℕ) → List ℕ → List (List ℕ)
 with_text texts text = add_unless (has_text texts text) texts text
 
+-- attributes in order add to what was found
+unfoldable pub attrs_with : {K : Type 0} → (List (List ℕ) → Attr K → List (List ℕ)) → List (List ℕ) → List (Attr K) → List (List ℕ)
+attrs_with add found [] = found
+attrs_with add found (a ∷ attrs) = attrs_with add (add found a) attrs
+
+unfoldable pub entries_with : {K : Type 0} → (List (List ℕ) → Attr K → List (List ℕ)) → List (List ℕ) → Entries K → List (List ℕ)
+entries_with add found End = found
+entries_with add found (Entry e children next) = entries_with add (entries_with add (attrs_with add found e.attrs) children) next
+
+unfoldable pub units_with : {K : Type 0} → (List (List ℕ) → Attr K → List (List ℕ)) → List (List ℕ) → List (DwUnit K) → List (List ℕ)
+units_with add found [] = found
+units_with add found (u ∷ units) = units_with add (entries_with add (attrs_with add found u.root.attrs) u.below) units
+
 -- with the text of an attribute that has a place in a section
 abbrev pub text_as : {K : Type 0} → Class → List (List ℕ) → Attr K → List (List ℕ)
 text_as OfTextInStr texts a = with_text texts (text_in a.value.plain)
@@ -231,18 +269,27 @@ text_as OfTextInLineStr texts a = with_text texts (text_in a.value.plain)
 text_as OfTextBySlot texts a = with_text texts (text_in a.value.plain)
 text_as _ texts a = texts
 
-unfoldable pub attrs_texts : {K : Type 0} → List (List ℕ) → List (Attr K) → List (List ℕ)
-attrs_texts texts [] = texts
-attrs_texts texts (a ∷ attrs) = attrs_texts (text_as (class_of a.form) texts a) attrs
+abbrev pub attr_text : {K : Type 0} → List (List ℕ) → Attr K → List (List ℕ)
+attr_text texts a = text_as (class_of a.form) texts a
 
-unfoldable pub entries_texts : {K : Type 0} → List (List ℕ) → Entries K → List (List ℕ)
-entries_texts texts End = texts
-entries_texts texts (Entry e children next) = entries_texts (entries_texts (attrs_texts texts e.attrs) children) next
+abbrev pub texts_of : {K : Type 0} → List (List ℕ) → List (DwUnit K) → List (List ℕ)
+texts_of texts units = units_with attr_text texts units
 
--- the texts of units, in order of first use, each once
-unfoldable pub texts_of : {K : Type 0} → List (List ℕ) → List (DwUnit K) → List (List ℕ)
-texts_of texts [] = texts
-texts_of texts (u ∷ units) = texts_of (entries_texts (attrs_texts texts u.root.attrs) u.below) units
+-- with the path of a file
+abbrev pub path_as : Plain → List (List ℕ) → List (List ℕ)
+path_as (File (Some path)) paths = with_text paths path
+path_as _ paths = paths
+
+abbrev pub attr_path : {K : Type 0} → List (List ℕ) → Attr K → List (List ℕ)
+attr_path paths a = path_as a.value.plain paths
+
+abbrev pub paths_of : {K : Type 0} → List (List ℕ) → List (DwUnit K) → List (List ℕ)
+paths_of paths units = units_with attr_path paths units
+
+-- `.debug_line` of the common file: a header of its paths, where there are any
+abbrev pub lines_bytes : List (List ℕ) → List ℕ
+lines_bytes [] = []
+lines_bytes (path ∷ paths) = header_written (path ∷ paths)
 
 -- `.debug_str` of the common file
 unfoldable pub texts_bytes : List (List ℕ) → List ℕ

@@ -1,18 +1,16 @@
 -- What can be written so that it is read again: units whose references have their forms.
-use Rattle.std.specs.Prelude.{◌≡◌, ◌≢◌, ℕ, ◌<◌, ◌≤◌, ◌^◌, false, true, List, length}
+use Rattle.std.specs.Prelude.{◌≡◌, ◌≢◌, ℕ, ◌<◌, ◌≤◌, ◌^◌, true, List, length}
 use Rattle.dwz_bytes.specs.Spelling.{fits_i64}
 use Rattle.dwz_meanings.specs.Documents.{Attr, Compile, DwUnit, Entries, Kind, Node, OfType, Partial, ref}
-use Rattle.dwz_meanings.specs.Meanings.{Class, OfCommonEntry, OfCommonText, OfExpression, OfInfoEntry, OfListIndex, OfOffset, OfUnitEntry, Unread, class_of, names_list}
+use Rattle.dwz_meanings.specs.Meanings.{Class, OfCommonEntry, OfCommonText, OfExpression, OfInfoEntry, OfUnitEntry, Unread, class_of}
 use Rattle.dwz_docs.specs.Trees.{End, Entry}
 use Rattle.dwz_docs.specs.Values.{AreBytes, Raw, SpellsValue, written_rows}
 use Rattle.dwz_seen.specs.Lists.{Each}
 use Rattle.dwz_writing.specs.Placing.{zeros}
 use Rattle.dwz_writing.specs.Writing.{expr_bytes, pair_of, stored_as}
 
--- Which attributes are written. Location lists will have their cases here.
+-- which attributes are written: not those that name a text of a common file
 abbrev pub IsBuiltAs : Class → ℕ → Type 0
-IsBuiltAs OfListIndex name = ⊥
-IsBuiltAs OfOffset name = names_list name ≡ false
 IsBuiltAs OfCommonText name = ⊥
 IsBuiltAs Unread name = ⊥
 IsBuiltAs _ name = Unit {0}

@@ -43,8 +43,9 @@ pub fn placing_laws()
 
 /// What the two sections of a file say of units that can be written. Where numbers fit, the sections spell units whose entries stand at
 /// the places of their names, under any limits on depth and on entries that these units meet. Where each reference names an
-/// entry of the unit, of the file, or of the common file, as its form says, and operands have room, numbers fit; and where each other attribute was read, and texts
-/// stand where their forms say, the units that are spelled mean those that were written, with places for names.
+/// entry of the unit, of the file, or of the common file, as its form says, and operands have room, numbers fit; and where each other
+/// attribute was read, texts stand where their forms say, and location lists have the numbers of where things stand, the units that are
+/// spelled mean those that were written, with places for names.
 pub fn bytes_laws()
     ensures roomy { (units : List (DwUnit Spot)) → IsRoomy units (mode_for units) }
     ensures fits { (n : Numbering Spot) (common : List Spot) (units : List (DwUnit Spot)) (t : Tells Spot) → t.all ≡ all_entry_keys units → t.common ≡ common → AreWritable n common units → UnitsSay t units → Each (UnitFits n) units }
@@ -53,9 +54,10 @@ pub fn bytes_laws()
 
 /// The forms of values. Units with what was read in a file are sound once these are chosen, and each value says what its form says: where
 /// each reference names an entry of the file or of the common file, and no name stands twice; where the sections of the file are those that
-/// were read, or all texts are in `.debug_str` of the common file; and where the root of an old unit says of slots and of a line table what
-/// it said, and the root of a partial unit names the line table by which its files are numbered; and where the operands of expressions name
-/// entries of the unit, or of the file, as their numbers are counted. Whatever is written has a fixed length. No name is changed.
+/// were read, or all texts are in `.debug_str` of the common file, and all paths in its line table; and where the root of an old unit says
+/// of slots, of a line table and of lists what it said, and the root of a partial unit names the line table by which its files are numbered;
+/// and where operands of expressions and of location lists name entries of the unit, or of the file, as their numbers are counted. Whatever
+/// is written has a fixed length. No name is changed.
 pub fn form_laws()
     ensures file { (sources : Sources) (f : Forms Spot) (t : Tells Spot) (units : List (DwUnit Spot)) → f.same ≡ same_spot → f.is_common ≡ false → t.all ≡ all_entry_keys units → NoneTwice (units_keys units)
         → Each (λ u. CarriedUnit (OfFile sources) (f.origin u.at) u) units → ClosedIn t units → ApartIn t units → SectionsStand false (OfFile sources) f t units → Each (BasesStand f) units → Each (OperandsStand t) units
@@ -66,8 +68,7 @@ pub fn form_laws()
     ensures keys { (f : Forms Spot) (units : List (DwUnit Spot)) → units_keys (fit_units f units) ≡ units_keys units }
 {}
 
-/// What is carried. Units that are read are, where the forms and names of their attributes are among those that are written, each with
-/// what its own root says; and units, entries and lists of entries stay so where places get names, or names others.
+/// What is carried. Units that are read are, where no attribute names a text of a common file, each with what its own root says; and units, entries and lists of entries stay so where places get names, or names others.
 pub fn carried_laws()
     ensures read { (abbrevs info : List ℕ) (mode : Mode) (raw : List RawUnit) (around : Around ℕ) (units : List (DwUnit ℕ))
         → mode.forms ≡ own_forms → SpellsUnits abbrevs mode 0 raw 0 info → MeanUnits around raw units → AreBytes info → Each BuiltUnit units → Each (λ u. CarriedUnit (OfFile around.sources) (bases_in u) u) units }

@@ -2,7 +2,7 @@ use Rattle.dwz_back.proofs.AllLemmas.{all_back, can_write}
 use Rattle.dwz_back.proofs.CommonLemmas.{common_within}
 use Rattle.dwz_back.proofs.OneLemmas.{one_back}
 use Rattle.dwz_back.proofs.ReadPlaces.{read_from}
-use Rattle.dwz_back.proofs.SaysLemmas.{alone_back, common_back, file_back, written_places}
+use Rattle.dwz_back.proofs.SaysLemmas.{alone_back, common_back, file_back, ranges_back, written_places}
 use Rattle.dwz_back.proofs.SameLemmas.{same_back}
 use Rattle.dwz_back.proofs.WithinLemmas.{within}
 use Rattle.dwz_back.proofs.back.back_laws.Goals as goal
@@ -39,3 +39,6 @@ returns-clause-can c = can_write
 
 pub returns-clause-all : goal.returns-clause-all
 returns-clause-all c = all_back
+
+pub returns-clause-ranges : goal.returns-clause-ranges
+returns-clause-ranges c r g common out can ok = ranges_back r can g ok common out

@@ -1,6 +1,7 @@
 -- The header of a line table that is written (DWARF 5, 6.2.4): it has no program, and its files are these paths.
 use Rattle.std.specs.Prelude.{ℕ, List, [], ◌∷◌, ◌++◌, length}
 use Rattle.dwz_bytes.specs.Spelling.{le_bytes, uleb}
+use Rattle.dwz_docs.specs.Texts.{NoZero}
 
 -- minimum_instruction_length, maximum_operations_per_instruction, default_is_stmt, line_base (-5), line_range, opcode_base, and the
 -- lengths of the twelve standard opcodes
@@ -36,3 +37,8 @@ behind_length tables = (le_bytes 2 5 ++ (8 ∷ 0 ∷ [] ++ le_bytes 4 (length ta
 -- unit_length, and what it counts
 abbrev pub header_written : List (List ℕ) → List ℕ
 header_written paths = le_bytes 4 (length (behind_length (tables_written paths))) ++ behind_length (tables_written paths)
+
+-- none of the paths has a zero byte
+abbrev pub AreTexts : List (List ℕ) → Type 0
+AreTexts [] = Unit {0}
+AreTexts (path ∷ paths) = NoZero path × AreTexts paths

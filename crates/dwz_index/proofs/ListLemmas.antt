@@ -9,7 +9,7 @@ use Rattle.dwz_unit.specs.Rows.{EntryRow, rows_below, rows_of, shown_entries}
 use Rattle.dwz_resolve.proofs.RowLemmas.{below-length, row_is, rows-length}
 use Rattle.dwz_index.specs.Building.{HasList, IsList}
 
-drop_first : {X : Type 0} (xs : List X) (i : ℕ) (x : X) (rest : List X) → drop i xs ≡ x ∷ rest → (slice_get xs i ≡ Some x) × (drop (i + 1) xs ≡ rest)
+pub drop_first : {X : Type 0} (xs : List X) (i : ℕ) (x : X) (rest : List X) → drop i xs ≡ x ∷ rest → (slice_get xs i ≡ Some x) × (drop (i + 1) xs ≡ rest)
 drop_first [] zero x rest e = absurd cc
 drop_first [] (suc i) x rest e = absurd cc
 drop_first (y ∷ xs) zero x rest e = (let same : y ≡ x = cc in ap Some same, cc)

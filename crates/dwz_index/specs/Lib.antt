@@ -3,4 +3,3 @@ pub mod Steps
 pub mod Index
 pub mod Spaces
 pub mod Building
-pub mod Parts

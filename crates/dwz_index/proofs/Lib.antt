@@ -4,3 +4,6 @@ pub mod BelowLemmas
 pub mod SpaceLemmas
 pub mod ListBuilding
 pub mod UnitBuilding
+pub mod SpaceMeans
+pub mod AmongLemmas
+pub mod ListMeans

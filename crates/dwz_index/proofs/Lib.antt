@@ -7,3 +7,5 @@ pub mod UnitBuilding
 pub mod SpaceMeans
 pub mod AmongLemmas
 pub mod ListMeans
+pub mod ShowLemmas
+pub mod UnitsMean

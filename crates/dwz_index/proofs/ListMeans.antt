@@ -35,7 +35,7 @@ listed unit inner up i first g x = record {
 one_more : {X : Type 0} (s : ℕ) (xs : List X) (x : X) → s + length (xs ++ x ∷ []) ≡ suc (s + length xs)
 one_more s xs x = omega (arith, length-append xs (x ∷ []))
 
-many_more : {X : Type 0} (s : ℕ) (xs ys : List X) (n : ℕ) → length ys ≡ n → s + length (xs ++ ys) ≡ s + length xs + n
+pub many_more : {X : Type 0} (s : ℕ) (xs ys : List X) (n : ℕ) → length ys ≡ n → s + length (xs ++ ys) ≡ s + length xs + n
 many_more s xs ys n e = omega (arith, length-append xs ys, e)
 
 front : {X : Type 0} (xs : List X) (x : X) (ys zs : List X) → ((xs ++ x ∷ []) ++ ys) ++ zs ≡ xs ++ (x ∷ (ys ++ zs))

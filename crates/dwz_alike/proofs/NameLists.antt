@@ -11,7 +11,7 @@ use Rattle.dwz_alike.specs.Spots.{InType, SpaceAt, Spot, Within, below_spots, en
 
 -- ---- the name of a place
 
-pub firsts : List (ℕ × Spot) → List ℕ
+unfoldable pub firsts : List (ℕ × Spot) → List ℕ
 firsts [] = []
 firsts (x ∷ xs) = x.0 ∷ firsts xs
 

@@ -9,3 +9,4 @@ pub mod AmongLemmas
 pub mod ListMeans
 pub mod ShowLemmas
 pub mod UnitsMean
+pub mod NameLemmas

@@ -221,12 +221,14 @@ show_at names i (y ∷ steps) (t ∷ part) h (suc k) x s e f =
     let n : i + 1 + k ≡ i + suc k = omega arith in
     subst (λ (m : ℕ). Shows names m x s) n (show_at names (i + 1) steps part h.1 k x s e f)
 
+pub places_number : (raw : List RawUnit) → unit_places raw ≡ places_of_units raw → length (unit_places raw) ≡ length raw
+places_number raw is = ap (λ (w : List ℕ). length w) is ∙ length-map raw (λ (u : RawUnit). u.at)
+
 pub is_index : (around : Around ℕ) (s : Starts) (raw : List RawUnit) (said : List (DwUnit ℕ)) (x : Index) → unit_places raw ≡ places_of_units raw → MeanUnits around raw said → x ≡ with_units s.unit 0 raw (nothing_yet s) → IsIndex (names_from s.unit s.top said) x
 is_index around s raw said x whole_is h e =
     let names = names_from s.unit s.top said in
     let same : x.steps ≡ all_steps is_space s 0 (map below_root said) = ap (λ (w : Index). w.steps) (e ∙ all_mean around s raw said h) in
-    let many : length (unit_places raw) ≡ length raw = ap (λ (w : List ℕ). length w) whole_is ∙ length-map raw (λ (u : RawUnit). u.at) in
-    let shows = all_show names s 0 said (none_partial around raw said h many) (record { after = []; rest = sym (append-nil names) }) in
+    let shows = all_show names s 0 said (none_partial around raw said h (places_number raw whole_is)) (record { after = []; rest = sym (append-nil names) }) in
     let mine : AllShow names 0 x.steps names = subst (λ (w : List Step). AllShow names 0 w names) (sym same) shows in
     record {
       len = show_many names 0 x.steps names mine;

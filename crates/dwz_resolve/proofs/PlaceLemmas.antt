@@ -84,7 +84,7 @@ header_some (TypeUnit signature type_offset) = omega arith
 header_some PartialUnit = omega arith
 
 -- the places of units, and of their entries
-pub unit_and_entries : List RawUnit → List ℕ
+unfoldable pub unit_and_entries : List RawUnit → List ℕ
 unit_and_entries [] = []
 unit_and_entries (u ∷ raw) = (u.at ∷ places_of u) ++ unit_and_entries raw
 

@@ -10,3 +10,4 @@ pub mod ListMeans
 pub mod ShowLemmas
 pub mod UnitsMean
 pub mod NameLemmas
+pub mod TopLemmas

@@ -98,13 +98,19 @@ named_all spots once (x ∷ some) h = (λ j. spot_is spots once x.0 x.1 (h x (in
 pub means_units : (l : Limits) (bytes : List ℕ) (raw : List RawUnit) (doc : Doc ℕ) → file_meaning l bytes ≡ Ok (raw, doc) → units_meaning (around_of bytes raw) raw ≡ Ok doc.units
 means_units l bytes raw doc e = let r = ((file_agrees l bytes).ok (raw, doc)).0 e in ((units_agree (around_of bytes raw) raw).ok doc.units).1 r.means
 
+-- none of the units is partial
+pub read_whole : (l : Limits) (bytes : List ℕ) (raw : List RawUnit) (doc : Doc ℕ) → file_meaning l bytes ≡ Ok (raw, doc) → Each (λ v. IsPartial v.kind → ⊥) doc.units
+read_whole l bytes raw doc e =
+    let r = ((file_agrees l bytes).ok (raw, doc)).0 e in
+    none_partial (around_of bytes raw) raw doc.units r.means (places_number raw (places_whole (debug_abbrev bytes) l.entries raw 0 0 (debug_info bytes) r.spelled))
+
 pub all_named : (l : Limits) (bytes : List ℕ) (raw : List RawUnit) (doc : Doc ℕ) (unit top : ℕ) → file_meaning l bytes ≡ Ok (raw, doc) → map (spot_in (spots_from unit top doc.units)) (places raw) ≡ names_from unit top doc.units
 all_named l bytes raw doc unit top e =
     let r = ((file_agrees l bytes).ok (raw, doc)).0 e in
     let sources = sources_of bytes in
     let said = doc.units in
     let spots = spots_from unit top said in
-    let whole = none_partial (around_of bytes raw) raw said r.means (places_number raw (places_whole (debug_abbrev bytes) l.entries raw 0 0 (debug_info bytes) r.spelled)) in
+    let whole = read_whole l bytes raw doc e in
     let once_keys : NoneTwice (units_keys said) = subst NoneTwice (sym (all_keys sources raw raw said r.means))
     (ascend_once (unit_and_entries raw) 0 (0 + length (debug_info bytes)) (units_and_entries_ascend (debug_abbrev bytes) (given l.entries) raw 0 0 (debug_info bytes) r.spelled)) in
     let once : NoneTwice (firsts spots) = subst NoneTwice (sym (spots_firsts unit top said (λ v is. each_in (λ (w : DwUnit ℕ). IsPartial w.kind → ⊥) v said whole is))) once_keys in

@@ -7,5 +7,5 @@ mod laws;
 mod spaces;
 
 pub use index::{Index, SpaceEntry, Starts, TopEntry};
-pub use laws::name_laws;
+pub use laws::{name_laws, top_laws};
 pub use spaces::is_space;

@@ -15,3 +15,4 @@ pub mod Targets
 pub mod Relations
 pub mod AlikePer
 pub mod Tops
+pub mod NameLists

@@ -5,11 +5,13 @@
 //! references go into as its targets; so what no look tells apart of nodes is what is alike of tops.
 #![tactic(auto)]
 
+mod equal;
 mod labels;
 mod laws;
 mod pieces;
 mod writer;
 
+pub use equal::firsts;
 pub use labels::Labels;
 pub use laws::{label_laws, node_laws};
 pub use pieces::{

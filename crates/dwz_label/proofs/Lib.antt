@@ -4,6 +4,7 @@ pub mod Codes
 pub mod Heads
 pub mod LabelLemmas
 pub mod LeastAlike
+pub mod MadeLemmas
 pub mod NodeLooks
 pub mod NumberLemmas
 pub mod Pairs

@@ -2,7 +2,7 @@
 use Rattle.std.specs.Prelude.{◌≡◌, ℕ, ◌<◌, Bool, true, false, List, [], ◌∷◌, length, if◌then◌else◌, slice_index, slice_index_or}
 use Rattle.dwz_meanings.specs.Meanings.{IfSo}
 use Rattle.dwz_docs.specs.Lists.{In}
-use Rattle.dwz_nodes.specs.Graph.{Node, node}
+use Rattle.dwz_nodes.specs.Graph.{Node, node, node_at}
 use Rattle.dwz_nodes.specs.Looks.{IsLeastBelow}
 use Rattle.dwz_alike.specs.Alike.{Movable}
 use Rattle.dwz_alike.specs.Deciding.{AreMovable}
@@ -31,7 +31,7 @@ pub record AreLeastOf (Same : ℕ → ℕ → Type 0) (movable : List Bool) (lea
 abbrev pub AreFirsts : List (List ℕ) → List Bool → List ℕ → Type 0
 AreFirsts labels movable firsts = AreLeastOf (λ n m. label_at labels n ≡ label_at labels m) movable firsts
 
--- a node for each: those that may move have targets
-abbrev pub made : List ℕ → List Bool → List (List ℕ) → List Node
-made (first ∷ firsts) (free ∷ movable) (ts ∷ targets) = node first (if free then ts else []) ∷ made firsts movable targets
-made _ _ _ = []
+-- a node for each, with these targets if it may move, and else with none
+pub record AreMade (firsts : List ℕ) (movable : List Bool) (targets : List (List ℕ)) (g : List Node) : Type 0 where
+  pub len : length g ≡ length firsts
+  pub each : (n : ℕ) → n < length firsts → node_at g n ≡ node (slice_index firsts n) (if slice_index_or movable n false then slice_index_or targets n [] else [])

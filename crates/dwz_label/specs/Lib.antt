@@ -2,4 +2,5 @@ pub mod Keyed
 pub mod Labels
 pub mod Nodes
 pub mod Pieces
+pub mod Runs
 pub mod Shown

@@ -1,7 +1,7 @@
 -- Nodes made from lists that show tops: the first of equal labels is the least top with the same bare tree.
-use Rattle.std.proofs.Common.{◌≡◌, ℕ, ◌<◌, ◌≤◌, Bool, true, false, List, [], length, get_or, sym, ap, subst, ◌∙◌, arith}
+use Rattle.std.proofs.Common.{◌≡◌, ℕ, ◌<◌, Bool, true, false, List, [], length, get_or, sym, ap, subst, ◌∙◌, arith}
 use Rattle.std.specs.Prelude.{All, if◌then◌else◌, slice_index, slice_index_or}
-use Rattle.std.proofs.lemmas.Bool.{cond-false, cond-true, false≢true}
+use Rattle.std.proofs.lemmas.Bool.{cond-false, cond-true}
 use Rattle.dwz_docs.specs.Lists.{In}
 use Rattle.dwz_nodes.specs.Graph.{IsClosed, Node, node, node_at}
 use Rattle.dwz_nodes.specs.Looks.{IsLeastBelow}
@@ -11,7 +11,7 @@ use Rattle.dwz_alike.specs.Spots.{FileUnit, Spot, Top, tops_of}
 use Rattle.dwz_alike.proofs.AlikeBound.{movable_decides}
 use Rattle.dwz_alike.proofs.TopNumbers.{tops_numbers, top_at}
 use Rattle.dwz_label.specs.Labels.{label_of}
-use Rattle.dwz_label.specs.Nodes.{AreNodes, IsLikeness, SameBare}
+use Rattle.dwz_label.specs.Nodes.{AreNodes, IsLikeness}
 use Rattle.dwz_label.specs.Shown.{AreFirsts, AreMade, AreShown, label_at}
 use Rattle.dwz_label.proofs.Choices.{by_if, if_false, if_true}
 use Rattle.dwz_label.proofs.LabelLemmas.{bare_label, label_bare}

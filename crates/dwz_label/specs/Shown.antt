@@ -1,5 +1,5 @@
 -- What labels, flags and lists of targets show of tops, and the nodes that are made of them.
-use Rattle.std.specs.Prelude.{◌≡◌, ℕ, ◌<◌, Bool, true, false, List, [], ◌∷◌, length, if◌then◌else◌, slice_index, slice_index_or}
+use Rattle.std.specs.Prelude.{◌≡◌, ℕ, ◌<◌, Bool, true, false, List, [], length, if◌then◌else◌, slice_index, slice_index_or}
 use Rattle.dwz_meanings.specs.Meanings.{IfSo}
 use Rattle.dwz_docs.specs.Lists.{In}
 use Rattle.dwz_nodes.specs.Graph.{Node, node, node_at}

@@ -21,7 +21,8 @@ chosen : (free : Bool) (ts : List ℕ) (count : ℕ) → All (λ t. t < count) t
 chosen true ts count inside = inside
 chosen false ts count inside = λ k d l. absurd (omega arith)
 
-pub made_closed : (firsts : List ℕ) (movable : List Bool) (targets : List (List ℕ)) (g : List Node) → length targets ≡ length firsts → All (λ ts. All (λ t. t < length targets) ts) targets → AreMade firsts movable targets g → IsClosed g
+pub made_closed : (firsts : List ℕ) (movable : List Bool) (targets : List (List ℕ)) (g : List Node) → length targets ≡ length firsts
+    → All (λ ts. All (λ t. t < length targets) ts) targets → AreMade firsts movable targets g → IsClosed g
 made_closed firsts movable targets g many inside made n l =
     let size : length g ≡ length targets = made.len ∙ sym many in
     subst (λ (k : ℕ). All (λ t. t < k) (node_at g n).targets) (sym size)

@@ -84,7 +84,8 @@ module _ (units : List (FileUnit Spot)) (g : List Node) (nodes : AreNodes units 
   abbrev IsLook : ℕ → ℕ → ℕ → Type 0
   IsLook k m n = (LookEqual g k m n → Look (tops_of units) k m n) × (Look (tops_of units) k m n → LookEqual g k m n)
 
-  one_deeper : (k : ℕ) → ((m n : ℕ) → Movable units m → Movable units n → IsLook k m n) → (a b : Top) → In a (tops_of units) → In b (tops_of units) → Movable units a.number → Movable units b.number → IsLook (suc k) a.number b.number
+  one_deeper : (k : ℕ) → ((m n : ℕ) → Movable units m → Movable units n → IsLook k m n) → (a b : Top) → In a (tops_of units) → In b (tops_of units) → Movable units a.number
+      → Movable units b.number → IsLook (suc k) a.number b.number
   one_deeper k before a b i j m n =
       let tops = tops_of units in
       let ts = targets_at g a.number in

@@ -29,7 +29,8 @@ record IsRow (s : ℕ) (files : List ℕ) (flags : List Bool) (least : List ℕ)
   least_is : a.least ≡ get_or least (a.number - s) 0
   file : a.file ≡ get_or files top.unit 0
 
-row_is : (units : List (FileUnit Spot)) (files : List ℕ) (s : ℕ) (rows : List TopRow) (least : List ℕ) (tops : List Top) (a : Row) → ShowsRows units rows tops → Numbered s tops → In a (rows_from files s rows least) → IsRow s files (flags_of rows) least tops a
+row_is : (units : List (FileUnit Spot)) (files : List ℕ) (s : ℕ) (rows : List TopRow) (least : List ℕ) (tops : List Top) (a : Row) → ShowsRows units rows tops → Numbered s tops
+    → In a (rows_from files s rows least) → IsRow s files (flags_of rows) least tops a
 unfolding rows_from
 row_is units files s [] least tops a h c is = absurd is
 row_is units files s (r ∷ rows) [] tops a h c is = absurd is

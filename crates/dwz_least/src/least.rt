@@ -1,9 +1,7 @@
 //! The least alike tops.
 
-ghost use Rattle.std.specs.Prelude.{◌≡◌, ℕ, ◌-◌, ◌<◌, ◌≤◌, ◌^◌, All, List, length, IfOk};
-ghost use Rattle.dwz_alike.specs.Spots.{FileUnit, Spot};
-ghost use Rattle.dwz_label.specs.Nodes.{AreLeast};
-ghost use Rattle.dwz_label.specs.Shown.{AreShown};
+ghost use Rattle.std.specs.Prelude.{◌≡◌, ◌-◌, ◌<◌, ◌≤◌, ◌^◌, All, length, IfOk};
+ghost use Rattle.dwz_least.specs.LeastLaws.{GivesLeast};
 
 use dwz_gate::Gate;
 use dwz_groups::Groups;
@@ -30,7 +28,7 @@ pub fn least_alike<R: Threads + Sync, G: Gate>(
     requires few { length labels.now < 2 ^ 32 - 1 }
     requires inside { All (λ ts. All (λ t. t < length targets.now) ts) targets.now }
     requires workers { (0 < workers) × (workers ≤ 64) }
-    ensures { IfOk result (λ least. (units : List (FileUnit Spot)) → AreShown units labels.now movable.now targets.now → AreLeast units least) }
+    ensures { IfOk result (λ least. GivesLeast labels.now movable.now targets.now least) }
 {
     let firsts = firsts(alloc, labels, movable)?;
     let nodes = nodes(alloc, firsts.as_slice(), movable, targets)?;

@@ -7,7 +7,8 @@ use Rattle.dwz_meanings.specs.Documents.{Addr, Attr, Block, Entries, Expr, File,
 use Rattle.dwz_docs.specs.Trees.{End, Entry, size}
 use Rattle.dwz_alike.specs.Alike.{SameAttrs, SameEntries, SameNode, SameRefs, SameTarget, SameValue}
 use Rattle.dwz_alike.specs.Spots.{Spot, Top, Within, name_list}
-use Rattle.dwz_label.specs.Labels.{attr_label, base_label, counted, each_counted, entries_label, file_label, flag_label, label_of, language_label, node_label, number, part_label, parts_label, place_label, plain_label, target_label, value_label}
+use Rattle.dwz_label.specs.Labels.{attr_label, base_label, counted, each_counted, entries_label, file_label, flag_label, label_of}
+use Rattle.dwz_label.specs.Labels.{language_label, node_label, number, part_label, parts_label, place_label, plain_label, target_label, value_label}
 use Rattle.dwz_label.specs.Nodes.{Any, SameBare}
 use Rattle.dwz_label.proofs.Codes.{Code, CodeOf, Lists, counted_code, each_code, each_code_of, first_number, first_of, number_code, tails}
 

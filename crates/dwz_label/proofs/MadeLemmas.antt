@@ -29,7 +29,8 @@ made_closed firsts movable targets g many inside made n l =
     (subst (λ (x : Node). All (λ t. t < length targets) x.targets) (sym (made.each n (omega (arith, size, l))))
     (chosen (slice_index_or movable n false) (slice_index_or targets n []) (length targets) (inside n [] (omega arith))))
 
-module _ (units : List (FileUnit Spot)) (labels : List (List ℕ)) (movable : List Bool) (targets : List (List ℕ)) (firsts : List ℕ) (g : List Node) (shown : AreShown units labels movable targets) (are : AreFirsts labels movable firsts) (made : AreMade firsts movable targets g) where
+module _ (units : List (FileUnit Spot)) (labels : List (List ℕ)) (movable : List Bool) (targets : List (List ℕ)) (firsts : List ℕ) (g : List Node)
+    (shown : AreShown units labels movable targets) (are : AreFirsts labels movable firsts) (made : AreMade firsts movable targets g) where
   many : length firsts ≡ length (tops_of units)
   many = are.len ∙ shown.flags.len
 
@@ -66,7 +67,8 @@ module _ (units : List (FileUnit Spot)) (labels : List (List ℕ)) (movable : Li
     each = λ t i. by_if (is_movable units t) _ _
         (λ f. record {
           label = subst (λ (k : ℕ). IsLeastBelow (length (tops_of units)) (IsLikeness units t) k) (sym (ap (λ (x : Node). x.label) (node_is t i))) (first_is t i f);
-          targets = ap (λ (x : Node). x.targets) (node_is t i) ∙ cond-true (slice_index_or movable t.number false) (slice_index_or targets t.number []) [] (shown.flags.each t i ∙ f) ∙ shown.targets_are t i ((movable_decides units t i).0 f);
+          targets = ap (λ (x : Node). x.targets) (node_is t i)
+              ∙ cond-true (slice_index_or movable t.number false) (slice_index_or targets t.number []) [] (shown.flags.each t i ∙ f) ∙ shown.targets_are t i ((movable_decides units t i).0 f);
         })
         (λ f. record {
           label = ap (λ (x : Node). x.label) (node_is t i) ∙ if_false (slice_index_or movable t.number false) _ _ (shown.flags.each t i ∙ f) (are.each t.number (flag_below t i));

@@ -112,5 +112,7 @@ module _ (units : List (FileUnit Spot)) (g : List Node) (nodes : AreNodes units 
   node_looks (suc k) m n u v =
       let a = u.top in
       let b = v.top in
-      let here : IsLook (suc k) a.number b.number = one_deeper k (node_looks k) a b u.is_top v.is_top (subst (λ (i : ℕ). Movable units i) (sym u.number) u) (subst (λ (i : ℕ). Movable units i) (sym v.number) v) in
+      let x : Movable units a.number = subst (λ (i : ℕ). Movable units i) (sym u.number) u in
+      let y : Movable units b.number = subst (λ (i : ℕ). Movable units i) (sym v.number) v in
+      let here : IsLook (suc k) a.number b.number = one_deeper k (node_looks k) a b u.is_top v.is_top x y in
       subst (λ (p : ℕ × ℕ). IsLook (suc k) p.0 p.1) (λ l. (u.number l, v.number l)) here

@@ -24,7 +24,8 @@ module _ (label : ℕ → List ℕ) (count : ℕ) where
   runs_front zero le = let none : 0 ≡ before count 0 = omega arith in ap (λ (n : ℕ). map label (range_with_len 0 n)) none
   runs_front (suc k) le =
       let so_far = runs_front k (omega arith) in
-      let more : map (run_of label count) (range_with_len 0 (k + 1)) ≡ map (run_of label count) (range_with_len 0 k) ++ run_of label count k ∷ [] = map-range_with_len_more (run_of label count) 0 k k (omega arith) in
+      let run = run_of label count in
+      let more : map run (range_with_len 0 (k + 1)) ≡ map run (range_with_len 0 k) ++ run k ∷ [] = map-range_with_len_more (run_of label count) 0 k k (omega arith) in
       let step : suc k ≡ k + 1 = omega arith in
       let start : 0 + before count k ≡ k * 1024 = omega arith in
       let whole : before count k + (before count (k + 1) - k * 1024) ≡ before count (k + 1) = omega arith in

@@ -14,4 +14,5 @@ loop-n-preserved g c =
     let step : n + 1 - first ≡ n - first + 1 = omega arith in
     let more = map-range_with_len_more label first (n - first) n (omega arith) in
     subst (λ (ls : List (List ℕ)). Parted ls c.push.new.self.items c.put_label.new.out.items) (sym (ap (λ (k : ℕ). map label (range_with_len first k)) step ∙ more))
-    (parted-more (map label (range_with_len first (n - first))) c.loop-n.ends.items c.loop-n.bytes.items c.push.new.self.items c.put_label.new.out.items (label n) c.len.result c.in_ok-put_label.ensures len c.in_ok-push.ensures.items c.loop-n.invariant)
+    (parted-more (map label (range_with_len first (n - first))) c.loop-n.ends.items c.loop-n.bytes.items c.push.new.self.items c.put_label.new.out.items
+    (label n) c.len.result c.in_ok-put_label.ensures len c.in_ok-push.ensures.items c.loop-n.invariant)

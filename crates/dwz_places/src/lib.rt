@@ -1,0 +1,20 @@
+//! Where each entry of the output stands, before any byte is written.
+#![tactic(auto)]
+
+mod exprs;
+mod known;
+mod laying;
+mod layout;
+mod order;
+mod pairs;
+mod sizes;
+mod walk;
+mod ways;
+
+pub use exprs::read_operands;
+pub use known::{FileRows, Firsts, Known, Row, SpaceRow};
+pub use layout::{FileLayout, OutUnit, Spots};
+pub use order::{FileItems, Sort, UnitItems};
+pub use pairs::{entry_pair, expr_pair, import_pair, text_pair};
+pub use walk::{Entry, Origin, Slot, Walk};
+pub use ways::{Here, Holder, Way, here_of, way_of};

@@ -7,7 +7,6 @@ use Rattle.dwz_places.specs.declared.layout.FileLayout.{FileLayout}
 use Rattle.dwz_places.specs.declared.layout.OutUnit.{OutUnit}
 use Rattle.dwz_places.specs.declared.layout.Spots.{Spots}
 use Rattle.dwz_places.specs.declared.laying.Laying.{Laying as LayingOfCode}
-use Rattle.dwz_places.specs.declared.order.FileItems.{FileItems}
 use Rattle.dwz_places.specs.declared.order.Sort.{Sort}
 use Rattle.dwz_places.specs.declared.order.Sort.TheVariants.{Compile, OfType, Partial}
 use Rattle.dwz_places.specs.declared.order.UnitItems.{UnitItems}
@@ -108,6 +107,9 @@ pub record FileMade : Type 0 where
   pub tables : List (List ℕ)
   pub end : ℕ
 
+abbrev pub file_view : FileLayout → FileMade
+file_view f = record { units = f.units.items; tables = f.tables; end = f.end }
+
 -- the files so far, and where entries and the roots of units stand, each in its own file
 pub record AllMade : Type 0 where
   pub files : List FileMade
@@ -118,23 +120,23 @@ pub record AllMade : Type 0 where
 abbrev pub no_unit : List ℕ → List ℕ → Made
 no_unit places roots = record { units = []; tables = []; at = 0; places = places; roots = roots }
 
-abbrev pub file_made : Known → ℕ → FileItems → AllMade → Made
-file_made k here f all = with_units k here f.units (no_unit all.places all.roots)
+abbrev pub file_made : Known → ℕ → List UnitItems → AllMade → Made
+file_made k here f all = with_units k here f (no_unit all.places all.roots)
 
-abbrev pub with_file : Known → ℕ → FileItems → AllMade → AllMade
+abbrev pub with_file : Known → ℕ → List UnitItems → AllMade → AllMade
 with_file k here f all =
     let m = file_made k here f all in
     record { files = all.files ++ record { units = m.units; tables = m.tables; end = m.at } ∷ []; places = m.places; roots = m.roots }
 
 -- the files, the first unit of which has that number
-unfoldable pub with_files : Known → ℕ → List FileItems → AllMade → AllMade
+unfoldable pub with_files : Known → ℕ → List (List UnitItems) → AllMade → AllMade
 with_files k here [] all = all
-with_files k here (f ∷ files) all = with_files k (here + length f.units) files (with_file k here f all)
+with_files k here (f ∷ files) all = with_files k (here + length f) files (with_file k here f all)
 
 -- so many entries were read, and none has a place yet
 abbrev pub none_made : ℕ → AllMade
 none_made count = record { files = []; places = replicate count 0; roots = [] }
 
 -- all files that are written, the common one first
-abbrev pub made_of : Known → List FileItems → AllMade
+abbrev pub made_of : Known → List (List UnitItems) → AllMade
 made_of k files = with_files k 0 files (none_made (length k.owners.items))

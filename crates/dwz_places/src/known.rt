@@ -1,23 +1,22 @@
 //! What is known of the entries of all files, in flat lists by their numbers.
 
-ghost use Rattle.std.specs.Prelude.{◌≡◌, ◌<◌, All, IfSome, MatchOption, None, slice_index};
+ghost use Rattle.std.specs.Prelude.{◌≡◌, ◌+◌, ◌<◌, ◌^◌, All, IfSome, MatchOption, None, OnSome, slice_index};
 ghost use Rattle.std.specs.Option.{option_map};
 ghost use Rattle.dwz_docs.specs.Abbrevs.{IsPlainPair};
 ghost use Rattle.dwz_unit.specs.Rows.{entry_shown};
-ghost use Rattle.dwz_places.specs.Known;
-ghost use Rattle.dwz_places.specs.Known.{HasValues, row_at, space_at, top_row};
+ghost use Rattle.dwz_places.specs.Known.{HasValues, firsts_of, number_of, owner_of, reference_at, row_at, space_at, text_at, top_row, unit_of_part};
 
 use dwz_unit::{RawEntry, Units, Values};
 
 /// An entry that was read: the number of its file, and its number there, in preorder over all units.
-#[derive(Clone, Copy, Debug, PartialEq, Eq)]
+#[derive(Clone, Copy)]
 pub struct Row {
     pub file: u32,
     pub entry: u32,
 }
 
 /// Where what an entry names begins, among the references and among the texts of its file.
-#[derive(Clone, Copy, Debug, PartialEq, Eq)]
+#[derive(Clone, Copy)]
 pub struct Firsts {
     pub reference: u64,
     pub text: u64,
@@ -40,7 +39,7 @@ pub struct FileRows<'u, 'a> {
 }
 
 /// A space: its entry, and for a space of a partial unit the offset of its name in `.debug_str` of the file that is written.
-#[derive(Clone, Copy, Debug, PartialEq, Eq)]
+#[derive(Clone, Copy)]
 pub struct SpaceRow {
     pub row: Row,
     pub text: u32,
@@ -80,6 +79,7 @@ impl<'u, 'a> Known<'u, 'a> {
     pub fn entry(&self, row: Row) -> Option<RawEntry>
         ensures entry { result ≡ option_map entry_shown (row_at self.now row) }
         ensures tag { IfSome result (λ e. 0 < e.tag) }
+        ensures few { OnSome result (row.entry + 1 < 2 ^ 32) }
     {
         let file = self.files.get(row.file as usize)?;
         if row.entry >= file.units.entries() {
@@ -104,7 +104,7 @@ impl<'u, 'a> Known<'u, 'a> {
     /// Its number among the entries of all files.
     #[inline(always)]
     pub fn number(&self, row: Row) -> u64
-        ensures { result ≡ Known.number_of self.now row }
+        ensures { result ≡ number_of self.now row }
     {
         match self.files.get(row.file as usize) {
             Some(file) => file.start as u64 + row.entry as u64,
@@ -115,7 +115,7 @@ impl<'u, 'a> Known<'u, 'a> {
     /// Where what it names begins.
     #[inline(always)]
     pub fn firsts(&self, row: Row) -> Firsts
-        ensures { result ≡ Known.firsts_of self.now row }
+        ensures { result ≡ firsts_of self.now row }
     {
         let none = Firsts {
             reference: 0,
@@ -133,7 +133,7 @@ impl<'u, 'a> Known<'u, 'a> {
     /// A reference of a file.
     #[inline(always)]
     pub fn reference(&self, file: u32, n: u64) -> u32
-        ensures { result ≡ Known.reference_at self.now file n }
+        ensures { result ≡ reference_at self.now file n }
     {
         match self.files.get(file as usize) {
             Some(file) => at_or_zero(file.references.as_slice(), n),
@@ -144,7 +144,7 @@ impl<'u, 'a> Known<'u, 'a> {
     /// A text of a file.
     #[inline(always)]
     pub fn text(&self, file: u32, n: u64) -> u32
-        ensures { result ≡ Known.text_at self.now file n }
+        ensures { result ≡ text_at self.now file n }
     {
         match self.files.get(file as usize) {
             Some(file) => at_or_zero(file.texts.as_slice(), n),
@@ -155,7 +155,7 @@ impl<'u, 'a> Known<'u, 'a> {
     /// The unit in which an entry is written, by its number among all files.
     #[inline(always)]
     pub fn owner(&self, number: u32) -> u32
-        ensures { result ≡ Known.owner_of self.now number }
+        ensures { result ≡ owner_of self.now number }
     {
         at_or_zero(self.owners.as_slice(), number as u64)
     }
@@ -163,7 +163,7 @@ impl<'u, 'a> Known<'u, 'a> {
     /// The unit that a partial unit is among those that are written.
     #[inline(always)]
     pub fn part(&self, part: u32) -> u32
-        ensures { result ≡ Known.unit_of_part self.now part }
+        ensures { result ≡ unit_of_part self.now part }
     {
         at_or_zero(self.parts.as_slice(), part as u64)
     }

@@ -13,8 +13,9 @@ mod ways;
 
 pub use exprs::read_operands;
 pub use known::{FileRows, Firsts, Known, Row, SpaceRow};
-pub use layout::{FileLayout, OutUnit, Spots};
+pub use layout::{FileLayout, Layout, OutUnit, Spots, behind};
 pub use order::{FileItems, Sort, UnitItems};
-pub use pairs::{entry_pair, expr_pair, import_pair, text_pair};
+pub use pairs::form_to;
+pub use sizes::{content_of, more};
 pub use walk::{Entry, Origin, Slot, Walk};
 pub use ways::{Here, Holder, Way, here_of, way_of};

@@ -5,7 +5,7 @@ use dwz_layout::Item;
 use dwz_model::DwzList;
 
 /// What kind of unit is written (DWARF 5, 7.5.1).
-#[derive(Clone, Copy, Debug, PartialEq, Eq)]
+#[derive(Clone, Copy)]
 pub enum Sort {
     /// A compile unit that was read, with its root.
     Compile(Row),

@@ -1,9 +1,10 @@
 //! The entries of a unit that is written, one by one.
 
-ghost use Rattle.std.specs.Prelude.{◌≡◌, ◌∷◌, [], MatchOption};
+ghost use Rattle.std.specs.Prelude.{◌≡◌, ◌∷◌, ◌++◌, [], MatchOption};
+ghost use Rattle.std.specs.Option.{option_to_list};
 ghost use Rattle.dwz_places.specs.declared.walk.Origin.TheVariants.{Read};
-ghost use Rattle.dwz_places.specs.Entries.{entries_of, items_slots, root_of, slot, what_slots, whole_slots};
-ghost use Rattle.dwz_places.specs.Walking.{IsNext, below, empty_run, run_slots};
+ghost use Rattle.dwz_places.specs.Entries.{depth_of, entries_of, items_slots, root_of, slot, what_slots, whole_slots};
+ghost use Rattle.dwz_places.specs.Walking.{IsNext, behind, below, empty_run, run_slots};
 
 use crate::known::{Known, Row};
 use crate::order::{Sort, UnitItems};
@@ -11,7 +12,7 @@ use dwz_layout::{Item, What};
 use std::marker::Model;
 
 /// What an entry that is written comes from.
-#[derive(Clone, Copy, Debug, PartialEq, Eq)]
+#[derive(Clone, Copy)]
 pub enum Origin {
     /// An entry that was read.
     Read(Row),
@@ -24,14 +25,14 @@ pub enum Origin {
 }
 
 /// An entry, and how deep it stands: a root has depth 1.
-#[derive(Clone, Copy, Debug, PartialEq, Eq)]
+#[derive(Clone, Copy)]
 pub struct Slot {
     pub origin: Origin,
     pub depth: u64,
 }
 
 /// An entry, how deep it stands, whether children follow, and how many lists of children end behind it.
-#[derive(Clone, Copy, Debug, PartialEq, Eq)]
+#[derive(Clone, Copy)]
 pub struct Entry {
     pub origin: Origin,
     pub depth: u64,
@@ -43,10 +44,18 @@ pub struct Entry {
 #[derive(Clone, Copy)]
 pub(crate) struct Run {
     file: u32,
-    next: u64,
-    end: u64,
+    next: u32,
+    end: u32,
     depth: u32,
     base: u32,
+}
+
+/// The next entry, if there is one, and what comes behind it.
+#[derive(Clone, Copy)]
+pub(crate) struct Ahead<'w> {
+    slot: Option<Slot>,
+    run: Run,
+    items: &'w [Item],
 }
 
 /// The entries of a unit that come next. Clauses see them with their depths.
@@ -54,21 +63,20 @@ pub(crate) struct Run {
 pub struct Walk<'w, 'u, 'a> {
     known: &'w Known<'u, 'a>,
     sort: Sort,
-    items: &'w [Item],
-    run: Run,
-    ahead: Option<Slot>,
+    ahead: Ahead<'w>,
 }
 
 impl<'w, 'u, 'a> Model for Walk<'w, 'u, 'a> {
     ghost use Rattle.std.specs.Prelude.{List, ◌++◌};
     ghost use Rattle.std.specs.Option.{option_to_list};
     ghost use Rattle.dwz_places.specs.declared.walk.Slot.{Slot};
-    ghost use Rattle.dwz_places.specs.Entries.{items_slots};
-    ghost use Rattle.dwz_places.specs.Walking.{run_slots};
+    ghost use Rattle.dwz_places.specs.Walking.{IsWhole, behind};
 
     ghost Value = { List Slot };
 
-    ghost view = { λ w. option_to_list w.ahead ++ (run_slots w.known.now w.run ++ items_slots w.known.now w.sort w.items.now) };
+    ghost view = { λ w. option_to_list w.ahead.slot ++ behind w.known.now w.sort w.ahead };
+
+    ghost invariant = { λ w. IsWhole w.ahead.slot (behind w.known.now w.sort w.ahead) };
 }
 
 // An entry that stands so deep, and what follows it.
@@ -99,8 +107,8 @@ fn run_below(known: &Known, row: Row, depth: u32) -> Run
     match known.entry(row) {
         Some(entry) => Run {
             file: row.file,
-            next: row.entry as u64 + 1,
-            end: entry.end as u64,
+            next: row.entry + 1,
+            end: entry.end,
             depth,
             base: entry.depth,
         },
@@ -183,12 +191,12 @@ impl Run {
     fn step(&mut self, known: &Known) -> Option<Slot>
         ensures { IsNext (run_slots known.now self.old) result (run_slots known.now self.new) }
     {
-        if self.next >= self.end || self.next > u32::MAX as u64 {
+        if self.next >= self.end {
             return None;
         }
         let row = Row {
             file: self.file,
-            entry: self.next as u32,
+            entry: self.next,
         };
         let entry = known.entry(row)?;
         self.next += 1;
@@ -199,33 +207,55 @@ impl Run {
     }
 }
 
+// The next entry of these, and of what the items say.
+#[inline(always)]
+fn pull<'w>(known: &Known, sort: Sort, entries: Run, items: &'w [Item]) -> Ahead<'w>
+    ensures { IsNext (run_slots known.now entries ++ items_slots known.now sort items.now) result.slot (behind known.now sort result) }
+{
+    let mut run = entries;
+    if let Some(slot) = run.step(known) {
+        return Ahead {
+            slot: Some(slot),
+            run,
+            items,
+        };
+    }
+    let Some((item, items)) = items.split_first() else {
+        return Ahead {
+            slot: None,
+            run,
+            items,
+        };
+    };
+    let Begun { slot, run } = first_of(known, sort, item);
+    Ahead {
+        slot: Some(slot),
+        run,
+        items,
+    }
+}
+
+// How deep what comes next stands: behind all entries a root would follow.
+#[inline(always)]
+fn depth_ahead(slot: &Option<Slot>) -> u64
+    ensures { result ≡ depth_of (option_to_list slot.now) }
+{
+    match slot {
+        Some(next) => next.depth,
+        None => 1,
+    }
+}
+
 impl<'w, 'u, 'a> Walk<'w, 'u, 'a> {
     /// The entries of a unit.
     pub fn new(known: &'w Known<'u, 'a>, unit: &'w UnitItems) -> Walk<'w, 'u, 'a>
         ensures { result ≡ items_slots known.now unit.now.sort unit.now.items }
     {
-        let mut walk = Walk {
+        Walk {
             known,
             sort: unit.sort,
-            items: unit.items.as_slice(),
-            run: no_run(),
-            ahead: None,
-        };
-        walk.ahead = walk.pull();
-        walk
-    }
-
-    // The next entry but the one that is ahead.
-    #[inline(always)]
-    fn pull(&mut self) -> Option<Slot> {
-        if let Some(slot) = self.run.step(self.known) {
-            return Some(slot);
+            ahead: pull(known, unit.sort, no_run(), unit.items.as_slice()),
         }
-        let (item, items) = self.items.split_first()?;
-        self.items = items;
-        let Begun { slot, run } = first_of(self.known, self.sort, item);
-        self.run = run;
-        Some(slot)
     }
 
     /// The next entry, or none behind the last.
@@ -233,12 +263,9 @@ impl<'w, 'u, 'a> Walk<'w, 'u, 'a> {
     pub fn next(&mut self) -> Option<Entry>
         ensures { MatchOption result (self.old ≡ []) (λ e. entries_of self.old ≡ e ∷ entries_of self.new) }
     {
-        let slot = self.ahead?;
-        self.ahead = self.pull();
-        let depth = match &self.ahead {
-            Some(next) => next.depth,
-            None => 1,
-        };
+        let slot = self.ahead.slot?;
+        self.ahead = pull(self.known, self.sort, self.ahead.run, self.ahead.items);
+        let depth = depth_ahead(&self.ahead.slot);
         Some(Entry {
             origin: slot.origin,
             depth: slot.depth,

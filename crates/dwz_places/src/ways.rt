@@ -11,7 +11,7 @@ use crate::order::Sort;
 use dwz_model::Pair;
 
 /// What holds a unit that is written.
-#[derive(Clone, Copy, Debug, PartialEq, Eq)]
+#[derive(Clone, Copy)]
 pub enum Holder {
     /// It was read in the file.
     OldUnit,
@@ -22,14 +22,14 @@ pub enum Holder {
 }
 
 /// A unit that is written: its number over all files, the common one first, and what holds it.
-#[derive(Clone, Copy, Debug, PartialEq, Eq)]
+#[derive(Clone, Copy)]
 pub struct Here {
     pub unit: u32,
     pub holder: Holder,
 }
 
 /// What is written of a value.
-#[derive(Clone, Copy, Debug, PartialEq, Eq)]
+#[derive(Clone, Copy)]
 pub enum Way {
     /// Nothing.
     Dropped,

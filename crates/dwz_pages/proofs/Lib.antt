@@ -1,0 +1,5 @@
+pub mod EventLemmas
+pub mod PassLemmas
+pub mod StepLemmas
+pub mod KeyLemmas
+pub mod UnitLemmas

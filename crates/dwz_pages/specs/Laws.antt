@@ -1,0 +1,41 @@
+-- What a layout and its bytes are, of files whose units the order shows.
+use Rattle.std.specs.Prelude.{◌≡◌, ℕ, ◌+◌, ◌<◌, List, [], ◌∷◌, length, slice_index}
+use Rattle.dwz_docs.specs.Lists.{In}
+use Rattle.dwz_alike.specs.Spots.{Spot, same_spot}
+use Rattle.dwz_seen.specs.Lists.{Each, NoneTwice}
+use Rattle.dwz_writing.specs.Placing.{FileOut, files_keys, numbering, sections}
+use Rattle.dwz_writing.specs.Sound.{SoundUnit}
+use Rattle.dwz_writing.specs.Writing.{Numbering, joined}
+use Rattle.dwz_places.specs.declared.known.Known.{Known}
+use Rattle.dwz_places.specs.declared.order.UnitItems.{UnitItems}
+use Rattle.dwz_places.specs.Laid.{AllMade, FileMade, made_of}
+use Rattle.dwz_pages.specs.Pages.{units_page}
+use Rattle.dwz_pages.specs.Shown.{FilesRefer, IsWritten, Keys, ShowFiles}
+
+-- The order shows the units of the files, which are sound; no name stands twice in all files; and what references name is written.
+pub record IsOrderOf (keys : Keys Spot) (k : Known) (order : List (List UnitItems)) (files : List (FileOut Spot)) : Type 0 where
+  pub shows : ShowFiles keys k 0 order files
+  pub sound : (f : FileOut Spot) → In f files → Each SoundUnit f.units
+  pub apart : NoneTwice (files_keys files)
+  pub refer : FilesRefer k order 0 order
+
+-- What is laid of a file, the first unit of which has that number, and the bytes of its units, are its sections; and its units end where
+-- these do.
+pub record FileIs (n : Numbering Spot) (k : Known) (places roots : List ℕ) (first : ℕ) (order : List UnitItems) (m : FileMade) (f : FileOut Spot) : Type 0 where
+  pub info : units_page k places roots first order m.units ≡ (sections n f.units).info
+  pub abbrevs : joined m.tables ≡ (sections n f.units).abbrevs
+  pub end : m.end ≡ length (sections n f.units).info
+
+abbrev pub FilesAre : Numbering Spot → Known → (places roots : List ℕ) → ℕ → List (List UnitItems) → List FileMade → List (FileOut Spot) → Type 0
+FilesAre n k places roots first [] [] [] = Unit {0}
+FilesAre n k places roots first (units ∷ order) (m ∷ made) (f ∷ files) = FileIs n k places roots first units m f × FilesAre n k places roots (first + length units) order made files
+FilesAre n k places roots first _ _ _ = ⊥
+
+-- each file is laid as the definitions of what is written say
+abbrev pub SectionsAre : Known → List (List UnitItems) → List (FileOut Spot) → Type 0
+SectionsAre k order files = let all = made_of k order in FilesAre (numbering same_spot files) k all.places all.roots 0 order all.files files
+
+-- the place that is kept of an entry is that of its name
+abbrev pub PlacesAre : Keys Spot → Known → List (List UnitItems) → List (FileOut Spot) → Type 0
+PlacesAre keys k order files =
+    (i : ℕ) → i < length k.owners.items → IsWritten k i order → slice_index (made_of k order).places i ≡ (numbering same_spot files).place (keys.row i)

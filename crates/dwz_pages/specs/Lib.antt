@@ -1,0 +1,5 @@
+pub mod Pages
+pub mod Views
+pub mod Events
+pub mod Shown
+pub mod Laws

@@ -1,0 +1,55 @@
+-- What is written of a value, by its form and by what holds the unit (DWARF 5, 7.5.6).
+use Rattle.std.specs.Prelude.{ℕ, List, [], ◌∷◌, ◌==◌, if◌then◌else◌}
+use Rattle.dwz_model.specs.declared.place.Pair.{Pair}
+use Rattle.dwz_writing.specs.Placing.{CommonUnit, Holder, NewUnit, OldUnit}
+use Rattle.dwz_places.specs.declared.ways.Holder.{Holder as HolderOfCode}
+use Rattle.dwz_places.specs.declared.ways.Holder.TheVariants as code
+use Rattle.dwz_places.specs.declared.ways.Way.{Way}
+use Rattle.dwz_places.specs.declared.ways.Way.TheVariants.{AsEntry, AsExpression, AsRead, AsText, Dropped, KeepsText}
+
+abbrev pub holder_view : HolderOfCode → Holder
+holder_view code.OldUnit = OldUnit
+holder_view code.NewUnit = NewUnit
+holder_view code.CommonUnit = CommonUnit
+
+-- a form, and its ways in an old unit, in a partial unit of a file, and in one of the common file
+pub record WayRow : Type 0 where
+  pub form : ℕ
+  pub old : Way
+  pub new : Way
+  pub common : Way
+
+abbrev pub way_row : ℕ → Way → Way → Way → WayRow
+way_row form old new common = record { form = form; old = old; new = new; common = common }
+
+-- strp; ref_addr, and ref1 to ref_udata; exprloc; strx; line_strp; strx1 to strx4. A form without a row is written as it was read.
+abbrev pub way_rows : List WayRow
+way_rows =
+    way_row 0x0e KeepsText KeepsText AsText
+    ∷ way_row 0x10 AsEntry AsEntry AsEntry
+    ∷ way_row 0x11 AsEntry AsEntry AsEntry
+    ∷ way_row 0x12 AsEntry AsEntry AsEntry
+    ∷ way_row 0x13 AsEntry AsEntry AsEntry
+    ∷ way_row 0x14 AsEntry AsEntry AsEntry
+    ∷ way_row 0x15 AsEntry AsEntry AsEntry
+    ∷ way_row 0x18 AsExpression AsExpression AsExpression
+    ∷ way_row 0x1a KeepsText AsText AsText
+    ∷ way_row 0x1f KeepsText KeepsText AsText
+    ∷ way_row 0x25 KeepsText AsText AsText
+    ∷ way_row 0x26 KeepsText AsText AsText
+    ∷ way_row 0x27 KeepsText AsText AsText
+    ∷ way_row 0x28 KeepsText AsText AsText
+    ∷ []
+
+abbrev pub way_held : Holder → WayRow → Way
+way_held OldUnit r = r.old
+way_held NewUnit r = r.new
+way_held CommonUnit r = r.common
+
+unfoldable pub way_in : Holder → ℕ → List WayRow → Way
+way_in h form [] = AsRead
+way_in h form (r ∷ rows) = if r.form == form then way_held h r else way_in h form rows
+
+-- DW_AT_sibling (1) is written nowhere
+abbrev pub way_of : Holder → Pair → Way
+way_of h pair = if pair.name == 0x01 then Dropped else way_in h pair.form way_rows

@@ -1,0 +1,101 @@
+//! What is written of a value, by its name and form, and by what holds the unit.
+
+ghost use Rattle.std.specs.Prelude.{◌≡◌};
+ghost use Rattle.dwz_places.specs.Attributes;
+ghost use Rattle.dwz_places.specs.Attributes.{here_view};
+ghost use Rattle.dwz_places.specs.Ways;
+ghost use Rattle.dwz_places.specs.Ways.{holder_view, way_rows};
+
+use crate::known::Known;
+use crate::order::Sort;
+use dwz_model::Pair;
+
+/// What holds a unit that is written.
+#[derive(Clone, Copy)]
+pub enum Holder {
+    /// It was read in the file.
+    OldUnit,
+    /// It is a partial unit of a file.
+    NewUnit,
+    /// It is a partial unit of the common file.
+    CommonUnit,
+}
+
+/// A unit that is written: its number over all files, the common one first, and what holds it.
+#[derive(Clone, Copy)]
+pub struct Here {
+    pub unit: u32,
+    pub holder: Holder,
+}
+
+/// What is written of a value.
+#[derive(Clone, Copy)]
+pub enum Way {
+    /// Nothing.
+    Dropped,
+    /// What was read.
+    AsRead,
+    /// What was read, a text that is stored by an offset or by a slot.
+    KeepsText,
+    /// The offset of the text that it names.
+    AsText,
+    /// The number of the entry that it names.
+    AsEntry,
+    /// The expression, with the numbers of the entries that it names.
+    AsExpression,
+}
+
+// `DW_AT_sibling`.
+const SIBLING: u16 = 0x01;
+
+/// The way of a form by rows of forms and ways, in an old unit, in a partial unit of a file, and in one of the common file.
+macro_rules! ways {
+    ($form:ident, $holder:ident: $($code:literal $old:ident $new:ident $common:ident),* $(,)?) => {
+        match $form {
+            $($code => match $holder { Holder::OldUnit => Way::$old, Holder::NewUnit => Way::$new, Holder::CommonUnit => Way::$common },)*
+            _ => Way::AsRead,
+        }
+    };
+}
+
+// The way of a form.
+#[inline(always)]
+#[tactic(auto, unfolding(crate::specs::Ways::way_in))]
+fn way_in(holder: Holder, form: u64) -> Way
+    ensures { result ≡ Ways.way_in (holder_view holder) form way_rows }
+{
+    ways! { form, holder:
+        0x0e KeepsText KeepsText AsText,
+        0x10 AsEntry AsEntry AsEntry, 0x11 AsEntry AsEntry AsEntry, 0x12 AsEntry AsEntry AsEntry,
+        0x13 AsEntry AsEntry AsEntry, 0x14 AsEntry AsEntry AsEntry, 0x15 AsEntry AsEntry AsEntry,
+        0x18 AsExpression AsExpression AsExpression,
+        0x1a KeepsText AsText AsText, 0x1f KeepsText KeepsText AsText,
+        0x25 KeepsText AsText AsText, 0x26 KeepsText AsText AsText, 0x27 KeepsText AsText AsText, 0x28 KeepsText AsText AsText,
+    }
+}
+
+/// What is written of a value with this name and form.
+#[inline(always)]
+pub fn way_of(holder: Holder, pair: &Pair) -> Way
+    ensures { result ≡ Ways.way_of (holder_view holder) pair.now }
+{
+    if pair.name == SIBLING {
+        return Way::Dropped;
+    }
+    way_in(holder, pair.form)
+}
+
+/// The unit with a number, of that sort.
+pub fn here_of(known: &Known, unit: u32, sort: Sort) -> Here
+    ensures { here_view result ≡ Attributes.here_of known.now unit sort }
+{
+    let holder = if unit < known.commons {
+        Holder::CommonUnit
+    } else {
+        match sort {
+            Sort::Partial(_) => Holder::NewUnit,
+            _ => Holder::OldUnit,
+        }
+    };
+    Here { unit, holder }
+}

@@ -1,0 +1,106 @@
+//! The tables of `.debug_abbrev`, each once.
+
+ghost use Rattle.std.specs.Prelude.{◌≡◌, ◌==◌, ◌<◌, ◌^◌, ◌+◌, ◌++◌, ◌∷◌, [], None, IfOk, OnErr, OnOk, length};
+ghost use Rattle.dwz_writing.specs.Writing.{joined, or_zero, table_in, with_table};
+
+use dwz_model::NoMemory;
+use indexmap::IndexMap;
+use std::alloc::Global;
+use std::marker::Model;
+
+/// Tables, one behind the other. Clauses see them in that order.
+#[derive(Drop)]
+pub struct Tables {
+    section: Vec<u8>,
+    // Each table with its offset in the section.
+    offsets: IndexMap<Vec<u8>, u64>,
+}
+
+impl Model for Tables {
+    ghost use Rattle.std.specs.Prelude.{List, ℕ};
+
+    ghost Value = { List (List ℕ) };
+
+    ghost use Rattle.dwz_tables.specs.Tables.{HasTables, tables_in};
+
+    ghost view = { λ t. tables_in t.offsets.entries };
+
+    ghost invariant = { λ t. HasTables t.section.items t.offsets.entries };
+}
+
+impl Tables {
+    /// No tables.
+    pub fn new(alloc: Global) -> Tables
+        ensures { result ≡ [] }
+    {
+        Tables {
+            section: Vec::new(alloc),
+            offsets: IndexMap::new(alloc),
+        }
+    }
+
+    /// How many bytes the section has.
+    pub fn len(&self) -> u64
+        ensures len { result ≡ length (joined self.now) }
+        ensures small { result < 2 ^ 63 }
+    {
+        self.section.len() as u64
+    }
+
+    /// Whether the section has no bytes.
+    pub fn is_empty(&self) -> bool
+        ensures { result ≡ (length (joined self.now) == 0) }
+    {
+        self.len() == 0
+    }
+
+    // The offset of a table, if it is among them.
+    fn offset_of(&self, table: &[u8]) -> Option<u64>
+        ensures { result ≡ table_in 0 self.now table.now }
+    {
+        self.offsets.get(table).copied()
+    }
+
+    // Appends a table that isn't among them. After an error nothing has changed.
+    fn add(&mut self, table: Vec<u8>) -> Result<u64, NoMemory>
+        requires { table_in 0 self.old table.items ≡ None }
+        ensures offset { IfOk result (λ offset. offset ≡ length (joined self.old)) }
+        ensures ok { OnOk result (self.new ≡ self.old ++ table.items ∷ []) }
+        ensures err { OnErr result (self.new ≡ self.old) }
+    {
+        let before = self.section.len();
+        self.section.extend_from_slice(&table)?;
+        if let Err(failed) = self.offsets.insert(table, before as u64) {
+            self.section.truncate(before);
+            return Err(failed.into());
+        }
+        Ok(before as u64)
+    }
+
+    /// The offset of a table, which is appended if it isn't among them. After an error nothing has changed.
+    pub fn keep(&mut self, table: Vec<u8>) -> Result<u64, NoMemory>
+        ensures offset { IfOk result (λ offset. offset ≡ or_zero (table_in 0 (with_table self.old table.items) table.items)) }
+        ensures ok { OnOk result (self.new ≡ with_table self.old table.items) }
+        ensures err { OnErr result (self.new ≡ self.old) }
+    {
+        match self.offset_of(&table) {
+            Some(offset) => Ok(offset),
+            None => self.add(table),
+        }
+    }
+
+    /// The bytes of the section.
+    pub fn section(&self) -> &[u8]
+        ensures { result.now ≡ joined self.now }
+    {
+        self.section.as_slice()
+    }
+
+    /// The section.
+    pub fn into_section(self) -> Vec<u8>
+        ensures { result.items ≡ joined self }
+    {
+        let Tables { section, .. } = self;
+        section
+    }
+}

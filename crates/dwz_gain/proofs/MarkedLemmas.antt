@@ -17,9 +17,10 @@ use Rattle.dwz_groups.specs.Groups.{grouped}
 use Rattle.dwz_gain.specs.Gaining.{edges_from, gains_alone, group_at, weight_at, weight_of}
 use Rattle.dwz_gain.specs.GainLaws.{part_gains, seed}
 use Rattle.dwz_gain.specs.Groups.{AreGroups, IsGroup, IsWeight, ShowGains}
-use Rattle.dwz_gain.proofs.EdgeLemmas.{edge_grouped, edges_there, from_edges, grouped_edge}
+use Rattle.dwz_gain.proofs.EdgeLemmas.{edges_there, from_edges}
 use Rattle.dwz_gain.proofs.GainLemmas.{test_few, test_heavy}
 use Rattle.dwz_spread.specs.Spreading.{IsMarked, IsSpread, Leads, sources_of}
+use Rattle.dwz_spread.proofs.PairLemmas.{edge_grouped, grouped_edge}
 
 -- ---- weights
 

@@ -1,10 +1,10 @@
 -- What marks that spread from tops to those that refer into them say: just the bound tops are marked.
-use Rattle.std.proofs.Common.{◌≡◌, ◌↔◌, ℕ, zero, suc, ◌+◌, ◌<◌, Bool, true, false, List, [], ◌∷◌, length, map, get_or, refl, sym, ap, subst, ◌∙◌, inl, inr, arith}
+use Rattle.std.proofs.Common.{◌≡◌, ◌↔◌, ℕ, zero, suc, ◌<◌, Bool, true, false, List, length, map, get_or, refl, sym, ap, subst, ◌∙◌, inl, inr, ⊎_elim, arith}
 use Rattle.std.specs.Prelude.{not}
-use Rattle.std.proofs.lemmas.Bool.{false≢true}
+use Rattle.std.proofs.lemmas.Bool.{cases_Bool, false≢true}
 use Rattle.std.proofs.lemmas.List.{get_or-map, length-map}
 use Rattle.dwz_docs.specs.Lists.{In}
-use Rattle.dwz_alike.specs.Alike.{Bound, Movable}
+use Rattle.dwz_alike.specs.Alike.{Bound, Movable, binds_itself}
 use Rattle.dwz_alike.specs.Deciding.{is_movable}
 use Rattle.dwz_alike.specs.Spots.{FileUnit, Spot, Top, tops_of}
 use Rattle.dwz_alike.proofs.AlikeBound.{movable_decides}
@@ -22,6 +22,15 @@ module _ (units : List (FileUnit Spot)) (targets : List (List ℕ)) (seeds marks
   bound_inside (suc k) n (inl b) = bound_inside k n b
   bound_inside (suc k) n (inr b) = let low = number_below 0 (tops_of units) b.0 (tops_numbers units) b.2 in let e = b.3 in omega arith
 
+  bound_at : (t : Top) → In t (tops_of units) → binds_itself units t ≡ true → (k : ℕ) → Bound units k t.number
+  unfolding Bound
+  bound_at t i e zero = (t, i, refl, e)
+  bound_at t i e (suc k) = inl (bound_at t i e k)
+
+  leads_at : (n : ℕ) → IsMarked seeds n → (k : ℕ) → Leads (sources_by targets) seeds k n
+  leads_at n h zero = h
+  leads_at n h (suc k) = inl (leads_at n h k)
+
   leads_bound : (k n : ℕ) → n < length (tops_of units) → Leads (sources_by targets) seeds k n → Bound units k n
   unfolding Bound
   leads_bound zero n l h =
@@ -32,11 +41,14 @@ module _ (units : List (FileUnit Spot)) (targets : List (List ℕ)) (seeds marks
       let m = h.0 in
       let r = top_at 0 (tops_of units) n (tops_numbers units) (omega arith) (omega arith) in
       let into : In m (sources_of targets r.0.number) = subst (λ (i : ℕ). In m (sources_of targets i)) (sym r.2) (source_target targets m n h.1) in
-      let refers = (shown.each r.0 r.1 m).0 into in
       let inside = inside_at (sources_by targets) m n h.1 in
       let many = grouped_length (length targets) (sources_from 0 targets) in
       let len = shown.len in
-      inr (r.0, m, r.1, r.2, refers, leads_bound k m (omega arith) h.2)
+      let more = leads_bound k m (omega arith) h.2 in
+      ⊎_elim
+      (λ (e : binds_itself units r.0 ≡ true). subst (λ (i : ℕ). Bound units (suc k) i) r.2 (bound_at r.0 r.1 e (suc k)))
+      (λ (e : binds_itself units r.0 ≡ false). inr (r.0, m, r.1, r.2, (shown.each r.0 r.1 e m).0 into, more))
+      (cases_Bool (binds_itself units r.0))
 
   bound_leads : (k n : ℕ) → Bound units k n → Leads (sources_by targets) seeds k n
   unfolding Bound
@@ -45,8 +57,11 @@ module _ (units : List (FileUnit Spot)) (targets : List (List ℕ)) (seeds marks
   bound_leads (suc k) n (inr b) =
       let low = bound_inside k b.1 b.5 in
       let len = shown.len in
-      let into = (shown.each b.0 b.2 b.1).1 b.4 in
-      inr (b.1, subst (λ (i : ℕ). In i (sources_of (sources_by targets) b.1)) b.3 (target_source targets b.1 b.0.number (omega arith) into), bound_leads k b.1 b.5)
+      let more = bound_leads k b.1 b.5 in
+      ⊎_elim
+      (λ (e : binds_itself units b.0 ≡ true). leads_at n (sym (ap (λ (i : ℕ). get_or seeds i false) b.3) ∙ begin.each b.0 b.2 ∙ e) (suc k))
+      (λ (e : binds_itself units b.0 ≡ false). inr (b.1, subst (λ (i : ℕ). In i (sources_of (sources_by targets) b.1)) b.3 (target_source targets b.1 b.0.number (omega arith) ((shown.each b.0 b.2 e b.1).1 b.4)), more))
+      (cases_Bool (binds_itself units b.0))
 
   pub marked_bound : IsSpread (sources_by targets) seeds marks → (t : Top) → In t (tops_of units) → IsMarked marks t.number ↔ ((k : ℕ) × Bound units k t.number)
   marked_bound spread t i =

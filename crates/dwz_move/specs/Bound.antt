@@ -10,10 +10,10 @@ pub record AreSeeds (units : List (FileUnit Spot)) (seeds : List Bool) : Type 0 
   pub len : length seeds ≡ length (tops_of units)
   pub each : (t : Top) → In t (tops_of units) → slice_index_or seeds t.number false ≡ binds_itself units t
 
--- of each top just the tops that it refers into
+-- of each top just the tops that it refers into; of one that binds itself any
 pub record ShowTargets (units : List (FileUnit Spot)) (targets : List (List ℕ)) : Type 0 where
   pub len : length targets ≡ length (tops_of units)
-  pub each : (t : Top) → In t (tops_of units) → (n : ℕ) → In n (slice_index_or targets t.number []) ↔ (refers_to n t ≡ true)
+  pub each : (t : Top) → In t (tops_of units) → binds_itself units t ≡ false → (n : ℕ) → In n (slice_index_or targets t.number []) ↔ (refers_to n t ≡ true)
 
 -- a flag for each top: whether it may move
 pub record AreMovable (units : List (FileUnit Spot)) (flags : List Bool) : Type 0 where

@@ -47,7 +47,8 @@ fn turned(alloc: Global, marks: &[bool]) -> Result<Flags, NoMemory>
     Ok(Flags::new(flags))
 }
 
-/// Whether each top may move. Of each is given into which tops its references go, in any order, and whether it is bound without any.
+/// Whether each top may move. Of each is given into which tops its references go, in any order, and whether it binds itself; then it
+/// doesn't matter where they go.
 pub fn movable_by(alloc: Global, targets: &Groups, seeds: &[bool]) -> Result<Flags, NoMemory>
     requires few { length targets.now < 2 ^ 32 }
     requires len { length seeds.now ≡ length targets.now }

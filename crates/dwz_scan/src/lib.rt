@@ -1,0 +1,5 @@
+//! The rows of tops: what they weigh, what they refer to, what binds and what pins them, from the entries of files.
+#![tactic(auto)]
+
+mod values;
+mod weight;

@@ -12,6 +12,7 @@ pub mod AlikeLaws
 pub mod SmallDocs
 mod AlikeRows
 pub mod Targets
+pub mod IntoLemmas
 pub mod Relations
 pub mod AlikePer
 pub mod Tops

@@ -1,9 +1,10 @@
 -- A test that decides which tops are alike: it looks as deep as there are tops.
-use Rattle.std.specs.Prelude.{ℕ, ℤ, pos, negsuc, zero, suc, Bool, true, false, List, [], ◌∷◌, length, Option, Some, None, ◌==◌, not}
+use Rattle.std.specs.Prelude.{◌≡◌, ℕ, ℤ, pos, negsuc, zero, suc, Bool, true, false, List, [], ◌∷◌, length, Option, Some, None, ◌==◌, not, slice_index_or}
 use Rattle.std.specs.List.{list_any}
 use Rattle.dwz_model.specs.declared.place.Base.{Base}
 use Rattle.dwz_model.specs.declared.place.Base.TheVariants.{Unit as FromUnit, Info as FromInfo}
 use Rattle.dwz_meanings.specs.Documents.{Addr, Attr, Block, Entries, Expr, File, Flag, Index, Loc, Node, Num, Operand, Part, Plain, Ref, Same, Sec, Sig, Text, Value}
+use Rattle.dwz_docs.specs.Lists.{In}
 use Rattle.dwz_docs.specs.Trees.{End, Entry}
 use Rattle.dwz_alike.specs.Alike.{Apart, Scope, Together, binds_itself, refers_to}
 use Rattle.dwz_alike.specs.Spots.{FileUnit, Spot, Top, Within, name_list, same_numbers, tops_of}
@@ -114,6 +115,11 @@ bound_test units (suc k) t =
 
 abbrev pub is_movable : List (FileUnit Spot) → Top → Bool
 is_movable units t = not (bound_test units (length (tops_of units)) t)
+
+-- a flag for each top: whether it may move
+pub record AreMovable (units : List (FileUnit Spot)) (flags : List Bool) : Type 0 where
+  pub len : length flags ≡ length (tops_of units)
+  pub each : (t : Top) → In t (tops_of units) → slice_index_or flags t.number false ≡ is_movable units t
 
 abbrev pub in_scope : Scope → Top → Top → Bool
 in_scope Together a b = true

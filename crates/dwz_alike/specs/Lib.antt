@@ -1,4 +1,5 @@
 pub mod Spots
 pub mod Alike
 pub mod Deciding
+pub mod Targets
 pub mod AlikeLaws

@@ -9,3 +9,4 @@ pub mod Said
 pub mod Operands
 pub mod FileRows
 pub mod ListSteps
+pub mod Parts

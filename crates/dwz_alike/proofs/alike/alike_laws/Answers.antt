@@ -1,3 +1,4 @@
+use Rattle.dwz_alike.proofs.IntoLemmas.{targets_find, targets_found}
 use Rattle.dwz_alike.proofs.AddressLemmas.{address_tells}
 use Rattle.dwz_alike.proofs.AlikeBound.{bound_decides, movable_decides}
 use Rattle.dwz_alike.proofs.AlikeLaws.{alike_decides, alike_joins, alike_self, alike_turns, every_look, look_tells}
@@ -23,3 +24,6 @@ returns-clause-equal c units = (alike_self units, alike_turns units, alike_joins
 
 pub returns-clause-address : goal.returns-clause-address
 returns-clause-address c = address_tells
+
+pub returns-clause-targets : goal.returns-clause-targets
+returns-clause-targets c t n = (targets_find n t, targets_found n t)

@@ -1,0 +1,43 @@
+-- The references of each entry, and the line table of each unit.
+use Rattle.std.specs.Prelude.{◌≡◌, ℕ, ◌+◌, ◌<◌, ◌≤◌, Bool, true, false, List, length, map, Option, Some, None, Ok, ◌&&◌, slice_get, slice_index, slice_range}
+use Rattle.dwz_docs.specs.Entries.{RawAttr, RawEntry}
+use Rattle.dwz_docs.specs.Lists.{In}
+use Rattle.dwz_docs.specs.Units.{RawUnit}
+use Rattle.dwz_meanings.specs.Documents.{Node}
+use Rattle.dwz_meanings.specs.LineTables.{FileTable}
+use Rattle.dwz_meanings.specs.Meanings.{Around, Class, OfConstant, class_of, names_file, node_meaning, scope_of, stmt_list}
+use Rattle.dwz_resolve.specs.FileRows.{HasTable}
+use Rattle.dwz_resolve.specs.Named.{attrs_refs, entries_of}
+use Rattle.dwz_resolve.specs.Resolved.{place_at}
+use Rattle.dwz_unit.specs.Rows.{EntryRow, rows_of}
+
+-- ---- references
+
+-- Of the first `count` entries: the numbers of those that an entry names stand from its start to before the next one's.
+pub record AreParted (around : Around ℕ) (raw : List RawUnit) (count : ℕ) (refs starts : List ℕ) : Type 0 where
+  pub many : length starts ≡ count + 1
+  pub first : slice_index starts 0 ≡ 0
+  pub last : slice_index starts count ≡ length refs
+  pub rise : (i : ℕ) → i < count → (slice_index starts i ≤ slice_index starts (i + 1)) × (slice_index starts (i + 1) ≤ length refs)
+  pub part : (i : ℕ) (row : EntryRow) (u : RawUnit) (d : Node ℕ) → i < count → slice_get (rows_of raw) i ≡ Some row → slice_get raw row.unit ≡ Some u → node_meaning (scope_of around u) row.entry ≡ Ok d
+      → map (place_at raw) (slice_range refs (slice_index starts i) (slice_index starts (i + 1))) ≡ attrs_refs d.attrs
+
+-- ---- line tables
+
+abbrev is_constant : Class → Bool
+is_constant OfConstant = true
+is_constant _ = false
+
+-- its value is the number of a file
+abbrev pub numbers_file : RawAttr → Bool
+numbers_file a = names_file a.pair.name && is_constant (class_of a.pair.form)
+
+-- The line table of the unit has that number; or the unit has no line table, or no value of its entries is the number of a file.
+abbrev pub HasLine : Around ℕ → RawUnit → List FileTable → Option ℕ → Type 0
+HasLine around u tables (Some number) = (place : ℕ) × (stmt_list (scope_of around u) ≡ Some place) × HasTable around.sources tables place number
+HasLine around u tables None = (e : RawEntry) (a : RawAttr) → In e (entries_of u) → In a e.attrs → numbers_file a ≡ true → stmt_list (scope_of around u) ≡ None
+
+-- the same of the first `count` units
+pub record HaveLines (around : Around ℕ) (raw : List RawUnit) (count : ℕ) (tables : List FileTable) (lines : List (Option ℕ)) : Type 0 where
+  pub many : length lines ≡ count
+  pub line : (n : ℕ) (u : RawUnit) (number : Option ℕ) → slice_get raw n ≡ Some u → slice_get lines n ≡ Some number → HasLine around u tables number

@@ -5,13 +5,13 @@ use Rattle.std.proofs.lemmas.Bool.{cases_Bool, false≢true}
 use Rattle.std.proofs.lemmas.List.{get_or-map, length-map}
 use Rattle.dwz_docs.specs.Lists.{In}
 use Rattle.dwz_alike.specs.Alike.{Bound, Movable, binds_itself}
-use Rattle.dwz_alike.specs.Deciding.{is_movable}
+use Rattle.dwz_alike.specs.Deciding.{AreMovable, is_movable}
 use Rattle.dwz_alike.specs.Spots.{FileUnit, Spot, Top, tops_of}
 use Rattle.dwz_alike.proofs.AlikeBound.{movable_decides}
 use Rattle.dwz_alike.proofs.TopNumbers.{number_below, top_at, tops_numbers}
 use Rattle.dwz_spread.specs.Spreading.{IsMarked, IsSpread, Leads, sources_of}
 use Rattle.dwz_spread.proofs.PairLemmas.{grouped_length, inside_at}
-use Rattle.dwz_move.specs.Bound.{AreMovable, AreSeeds, ShowTargets}
+use Rattle.dwz_move.specs.Bound.{AreSeeds, ShowTargets}
 use Rattle.dwz_move.specs.Sources.{sources_from}
 use Rattle.dwz_move.proofs.SourceLemmas.{source_target, sources_by, target_source}
 

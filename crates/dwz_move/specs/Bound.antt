@@ -1,8 +1,7 @@
--- Which tops bind themselves, what each refers to, and which may move.
+-- Which tops bind themselves, and what each refers to.
 use Rattle.std.specs.Prelude.{◌≡◌, ◌↔◌, ℕ, Bool, true, false, List, [], length, slice_index_or}
 use Rattle.dwz_docs.specs.Lists.{In}
 use Rattle.dwz_alike.specs.Alike.{binds_itself, refers_to}
-use Rattle.dwz_alike.specs.Deciding.{is_movable}
 use Rattle.dwz_alike.specs.Spots.{FileUnit, Spot, Top, tops_of}
 
 -- a flag for each top: whether it is bound without a reference
@@ -14,8 +13,3 @@ pub record AreSeeds (units : List (FileUnit Spot)) (seeds : List Bool) : Type 0 
 pub record ShowTargets (units : List (FileUnit Spot)) (targets : List (List ℕ)) : Type 0 where
   pub len : length targets ≡ length (tops_of units)
   pub each : (t : Top) → In t (tops_of units) → binds_itself units t ≡ false → (n : ℕ) → In n (slice_index_or targets t.number []) ↔ (refers_to n t ≡ true)
-
--- a flag for each top: whether it may move
-pub record AreMovable (units : List (FileUnit Spot)) (flags : List Bool) : Type 0 where
-  pub len : length flags ≡ length (tops_of units)
-  pub each : (t : Top) → In t (tops_of units) → slice_index_or flags t.number false ≡ is_movable units t

@@ -3,8 +3,8 @@
 ghost use Rattle.std.specs.Prelude.{◌≡◌, ◌↔◌, true, Bool, List, slice_index_or, false};
 ghost use Rattle.dwz_docs.specs.Lists.{In};
 ghost use Rattle.dwz_alike.specs.Alike.{Movable};
+ghost use Rattle.dwz_alike.specs.Deciding.{AreMovable};
 ghost use Rattle.dwz_alike.specs.Spots.{FileUnit, Spot, Top, tops_of};
-ghost use Rattle.dwz_move.specs.Bound.{AreMovable};
 
 /// A law on flags of the tops of any units: where they say which tops the test of bound tops finds movable, the flag of a top is set
 /// exactly if no chain of references binds it, however long.

@@ -1,8 +1,9 @@
 //! Which tops may move, from what each refers to.
 
 ghost use Rattle.std.specs.Prelude.{◌≡◌, ℕ, ◌<◌, ◌^◌, List, ◌++◌, length, map, not, IfOk, OnOk};
+ghost use Rattle.dwz_alike.specs.Deciding.{AreMovable};
 ghost use Rattle.dwz_alike.specs.Spots.{FileUnit, Spot};
-ghost use Rattle.dwz_move.specs.Bound.{AreMovable, AreSeeds, ShowTargets};
+ghost use Rattle.dwz_move.specs.Bound.{AreSeeds, ShowTargets};
 ghost use Rattle.dwz_move.specs.Sources.{source, sources_from};
 ghost use Rattle.dwz_spread.specs.Spreading.{AreInside};
 

@@ -1,1 +1,4 @@
 pub mod WeightLemmas
+pub mod RowSteps
+pub mod WeightSteps
+pub mod TreeWeights

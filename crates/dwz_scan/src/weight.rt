@@ -1,21 +1,26 @@
 //! What entries weigh: about how many bytes they take.
 
-ghost use Rattle.std.specs.Prelude.{◌≡◌, ℕ, ◌+◌, ◌<◌, ◌||◌, ◌==◌, Ok, length};
+ghost use Rattle.std.specs.Prelude.{◌≡◌, ℕ, ◌+◌, ◌<◌, ◌≤◌, List, Ok, nat_lt, if◌then◌else◌};
+ghost use Rattle.dwz_alike.specs.Spots.{Spot};
+ghost use Rattle.dwz_docs.specs.Units.{entries_in};
 ghost use Rattle.dwz_docs.specs.Values.{HasSpelling};
+ghost use Rattle.dwz_flat.specs.Rows.{AreRowsMeant, IsEntryMeant};
 ghost use Rattle.dwz_forms.specs.RawValues.{raw_view};
-ghost use Rattle.dwz_meanings.specs.Documents.{Value};
+ghost use Rattle.dwz_meanings.specs.Documents.{Node, Value, node_map};
 ghost use Rattle.dwz_meanings.specs.Meanings;
 ghost use Rattle.dwz_meanings.specs.Meanings.{Scope, meaning, number_of};
 ghost use Rattle.dwz_moving.specs.Gain.{value_weight};
 ghost use Rattle.dwz_resolve.specs.Resolved.{stored};
 ghost use Rattle.dwz_resolve.specs.Classes.{class_view};
 ghost use Rattle.dwz_scan.specs.Weights;
-ghost use Rattle.dwz_scan.specs.Weights.{capped};
+ghost use Rattle.dwz_scan.specs.Weights.{capped, node_weight, rows_weight};
+ghost use Rattle.dwz_unit.specs.Rows.{EntryRow, units_of};
 
-use crate::values::bytes_of;
+use crate::values::{SIBLING, bytes_of};
 use dwz_forms::{Raw, size_of_value};
 use dwz_model::Pair;
 use dwz_resolve::{Class, class_of};
+use dwz_unit::{Units, Values, known_value};
 
 // DW_FORM_string.
 const STRING: u64 = 0x08;
@@ -82,4 +87,44 @@ pub(crate) fn weight_of_value(pair: &Pair, raw: &Raw) -> u64
         Some(weight) => weight,
         None => size_of_value(pair.form as u16, raw),
     }
+}
+
+// What an entry weighs without its values.
+#[inline(always)]
+fn own_weight(parent: bool) -> u64
+    ensures { result ≡ (if parent then 2 else 1) }
+{
+    if parent { 2 } else { 1 }
+}
+
+/// What an entry weighs itself, counted up to 64: 1, one more if it has children, and what its values weigh.
+pub(crate) fn weight_of_entry(units: &Units, i: u32) -> u64
+    requires { i < entries_in (units_of units.now) }
+    ensures { (s : Scope ℕ) (numbers : List ℕ) (row : EntryRow) (d : Node ℕ) (name : ℕ → Spot) → IsEntryMeant (units_of units.now) s i numbers row d → result ≡ capped (node_weight (nat_lt (i + 1) row.end) (node_map name d)) }
+{
+    let entry = units.entry(i);
+    let mut weight = own_weight(u64::from(entry.end) > u64::from(i) + 1);
+    let Values { pairs, mut cursor } = units.values(i);
+    for pair in pairs {
+        let raw = known_value(&mut cursor, pair);
+        if pair.name != SIBLING {
+            weight = added(weight, weight_of_value(pair, &raw));
+        }
+    }
+    weight
+}
+
+/// What the entries from one number to before another weigh together, counted up to 64.
+pub(crate) fn weight_of_entries(units: &Units, first: u32, end: u32) -> u64
+    requires { end ≤ entries_in (units_of units.now) }
+    ensures { (s : Scope ℕ) (numbers : List ℕ) (rows after : List EntryRow) (ds : List (Node ℕ)) (name : ℕ → Spot) → AreRowsMeant (units_of units.now) s first end numbers rows after ds → result ≡ capped (rows_weight name first rows ds) }
+{
+    let mut weight = 0;
+    for i in first..end {
+        if weight == HEAVY {
+            return weight;
+        }
+        weight = added(weight, weight_of_entry(units, i));
+    }
+    weight
 }

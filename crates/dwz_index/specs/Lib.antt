@@ -1,3 +1,6 @@
 pub mod Names
 pub mod Steps
 pub mod Index
+pub mod Spaces
+pub mod Building
+pub mod Parts

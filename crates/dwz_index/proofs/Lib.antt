@@ -1,0 +1,4 @@
+pub mod ListLemmas
+pub mod WayLemmas
+pub mod BelowLemmas
+pub mod SpaceLemmas

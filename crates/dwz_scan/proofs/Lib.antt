@@ -1,3 +1,5 @@
+pub mod BindLemmas
+pub mod BindSteps
 pub mod WeightLemmas
 pub mod RowSteps
 pub mod WeightSteps

@@ -1,5 +1,8 @@
 //! The rows of tops: what they weigh, what they refer to, what binds and what pins them, from the entries of files.
 #![tactic(auto)]
 
+mod bind;
 mod values;
 mod weight;
+
+pub use bind::TopRange;

@@ -2,6 +2,7 @@
 #![tactic(auto)]
 
 mod bind;
+mod tops;
 mod values;
 mod weight;
 

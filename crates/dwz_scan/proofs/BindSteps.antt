@@ -22,12 +22,12 @@ use Rattle.dwz_scan.proofs.RowSteps.{shown_row}
 
 -- ---- tops of what is named first, and of what is named behind it
 
-into_first : (name : ℕ → Spot) (into : List (Option ℕ)) (xs ys : List ℕ) → AreInto name into (xs ++ ys) → AreInto name into xs
+pub into_first : (name : ℕ → Spot) (into : List (Option ℕ)) (xs ys : List ℕ) → AreInto name into (xs ++ ys) → AreInto name into xs
 into_first name into [] ys h = tt
 into_first name [] (x ∷ xs) ys h = absurd h
 into_first name (t ∷ into) (x ∷ xs) ys h = (h.0, into_first name into xs ys h.1)
 
-into_rest : (name : ℕ → Spot) (into : List (Option ℕ)) (n : ℕ) (xs ys : List ℕ) → AreInto name (drop n into) (xs ++ ys) → AreInto name (drop (n + length xs) into) ys
+pub into_rest : (name : ℕ → Spot) (into : List (Option ℕ)) (n : ℕ) (xs ys : List ℕ) → AreInto name (drop n into) (xs ++ ys) → AreInto name (drop (n + length xs) into) ys
 into_rest name into n [] ys h = let z : n ≡ n + 0 = omega arith in subst (λ (k : ℕ). AreInto name (drop k into) ys) z h
 into_rest name [] zero (x ∷ xs) ys h = absurd h
 into_rest name [] (suc n) (x ∷ xs) ys h = absurd h

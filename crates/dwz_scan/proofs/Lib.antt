@@ -6,3 +6,6 @@ pub mod RowSteps
 pub mod WeightSteps
 pub mod TreeWeights
 pub mod TreeBinds
+pub mod MarkLemmas
+pub mod NameMarks
+pub mod MarkSteps

@@ -1,3 +1,4 @@
 pub mod Values
 pub mod Weights
 pub mod Bound
+pub mod Marked

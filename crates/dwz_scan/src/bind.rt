@@ -55,7 +55,7 @@ fn is_binding(form: u64) -> bool
 }
 
 #[inline(always)]
-fn is_expression(class: Class) -> bool
+pub(crate) fn is_expression(class: Class) -> bool
     ensures { result ≡ Bound.is_expression (class_view class) }
 {
     match class {
@@ -104,7 +104,7 @@ fn value_binds(
 
 // The top that stands there, if one does.
 #[inline(always)]
-fn top_at(into: &[Option<u32>], at: usize) -> Option<u32>
+pub(crate) fn top_at(into: &[Option<u32>], at: usize) -> Option<u32>
     ensures { result ≡ slice_index_or into.now at None }
 {
     match into.get(at) {

@@ -2,8 +2,10 @@
 #![tactic(auto)]
 
 mod bind;
+mod marks;
 mod tops;
 mod values;
 mod weight;
 
 pub use bind::TopRange;
+pub use marks::Named;

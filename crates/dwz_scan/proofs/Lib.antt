@@ -9,3 +9,4 @@ pub mod TreeBinds
 pub mod MarkLemmas
 pub mod NameMarks
 pub mod MarkSteps
+pub mod FileSteps

@@ -31,8 +31,8 @@ pub marks_set : (marks : List Bool) (x : ℕ) → x < length marks → Marks (So
 marks_set marks x l = record {
   len = length-set marks x true;
   each = λ n low. (
-      λ h. ⊎_elim (λ o. inl o) (λ e. inr (inl (ap (λ (k : ℕ). Some k) e))) (set_cases marks x n l h),
-      λ h. ⊎_elim (λ o. set_kept marks x n o) (λ (i : In (Some n) (Some x ∷ [])). ⊎_elim (λ e. subst (λ (k : ℕ). IsMarked (set marks x true) k) (some_is x n e) (set_here marks x l)) (λ no. absurd no) i) h,
+    λ h. ⊎_elim (λ o. inl o) (λ e. inr (inl (ap (λ (k : ℕ). Some k) e))) (set_cases marks x n l h),
+    λ h. ⊎_elim (λ o. set_kept marks x n o) (λ (i : In (Some n) (Some x ∷ [])). ⊎_elim (λ e. subst (λ (k : ℕ). IsMarked (set marks x true) k) (some_is x n e) (set_here marks x l)) (λ no. absurd no) i) h,
   );
 }
 
@@ -40,8 +40,8 @@ pub marks_outside : (marks : List Bool) (x : ℕ) → length marks ≤ x → Mar
 marks_outside marks x l = record {
   len = refl;
   each = λ n low. (
-      λ h. inl h,
-      λ h. ⊎_elim (λ o. o) (λ (i : In (Some n) (Some x ∷ [])). ⊎_elim (λ e. absurd (let s = some_is x n e in omega arith)) (λ no. absurd no) i) h,
+    λ h. inl h,
+    λ h. ⊎_elim (λ o. o) (λ (i : In (Some n) (Some x ∷ [])). ⊎_elim (λ e. absurd (let s = some_is x n e in omega arith)) (λ no. absurd no) i) h,
   );
 }
 
@@ -64,7 +64,6 @@ at_later (t ∷ into) k = refl
 asked_step : (b : Bool) (t : Option ℕ) (xs ys : List (Option ℕ)) → (if b then t ∷ (xs ++ ys) else xs ++ ys) ≡ (if b then t ∷ xs else xs) ++ ys
 asked_step true t xs ys = refl
 asked_step false t xs ys = refl
-
 
 asked_more : (u : Bool) (os : List Operand) (into : List (Option ℕ)) (k : ℕ) (d : Operand) → k < length os → asked_tops u (take (suc k) os) into ≡ asked_tops u (take k os) into ++ if_asked (is_asked u (get_or os k d)) (get_or into k None)
 asked_more u [] into k d l = absurd (omega arith)
@@ -90,7 +89,7 @@ pub marks_as : (Is Other : ℕ → Type 0) (old new : List Bool) → ((n : ℕ) 
 marks_as Is Other old new same m = record {
   len = m.len;
   each = λ n l. (
-      λ h. ⊎_elim (λ o. inl o) (λ i. inr ((same n).1 i)) ((m.each n l).0 h),
-      λ h. ⊎_elim (λ o. (m.each n l).1 (inl o)) (λ i. (m.each n l).1 (inr ((same n).0 i))) h,
+    λ h. ⊎_elim (λ o. inl o) (λ i. inr ((same n).1 i)) ((m.each n l).0 h),
+    λ h. ⊎_elim (λ o. (m.each n l).1 (inl o)) (λ i. (m.each n l).1 (inr ((same n).0 i))) h,
   );
 }

@@ -88,7 +88,7 @@ module _ (test : Test) (raw : List RawUnit) (s : Scope ℕ) (name : ℕ → Spot
       record {
         len = h.len;
         each = λ n l. (
-            λ x. (h.each n l).0 (inl x),
-            λ x. ⊎_elim (λ o. o) (λ t. absurd (false≢true (sym (ap (λ (as' : List (Attr ℕ)). said test name as' n) none) ∙ t))) ((h.each n l).1 x),
+          λ x. (h.each n l).0 (inl x),
+          λ x. ⊎_elim (λ o. o) (λ t. absurd (false≢true (sym (ap (λ (as' : List (Attr ℕ)). said test name as' n) none) ∙ t))) ((h.each n l).1 x),
         );
       }

@@ -2,3 +2,4 @@ pub mod Values
 pub mod Weights
 pub mod Bound
 pub mod Marked
+pub mod Known

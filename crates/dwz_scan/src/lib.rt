@@ -3,9 +3,11 @@
 
 mod bind;
 mod marks;
+mod scan;
 mod tops;
 mod values;
 mod weight;
 
 pub use bind::TopRange;
 pub use marks::Named;
+pub use scan::{top_binds, top_weight};

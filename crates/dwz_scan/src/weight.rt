@@ -117,7 +117,8 @@ pub(crate) fn weight_of_entry(units: &Units, i: u32) -> u64
 /// What the entries from one number to before another weigh together, counted up to 64.
 pub(crate) fn weight_of_entries(units: &Units, first: u32, end: u32) -> u64
     requires { end ≤ entries_in (units_of units.now) }
-    ensures { (s : Scope ℕ) (numbers : List ℕ) (rows after : List EntryRow) (ds : List (Node ℕ)) (name : ℕ → Spot) → AreRowsMeant (units_of units.now) s first end numbers rows after ds → result ≡ capped (rows_weight name first rows ds) }
+    ensures few { result ≤ 64 }
+    ensures weight { (s : Scope ℕ) (numbers : List ℕ) (rows after : List EntryRow) (ds : List (Node ℕ)) (name : ℕ → Spot) → AreRowsMeant (units_of units.now) s first end numbers rows after ds → result ≡ capped (rows_weight name first rows ds) }
 {
     let mut weight = 0;
     for i in first..end {

@@ -1,4 +1,4 @@
-use Rattle.std.proofs.Common.{ℕ, List}
+use Rattle.std.proofs.Common.{ℕ, ◌≤◌, List}
 use Rattle.dwz_alike.specs.Spots.{Spot}
 use Rattle.dwz_flat.specs.Rows.{AreRowsMeant}
 use Rattle.dwz_meanings.specs.Documents.{Node}
@@ -9,5 +9,8 @@ use Rattle.dwz_scan.proofs.WeightSteps.{RowsLeft}
 use Rattle.dwz_scan.proofs.weight.weight_of_entries.Given as goal
 
 abbrev pub invariant-loop-i : goal.invariant-loop-i
-invariant-loop-i l = (s : Scope ℕ) (numbers : List ℕ) (rows after : List EntryRow) (ds : List (Node ℕ)) (name : ℕ → Spot) → AreRowsMeant (units_of l.units) s l.first l.end numbers rows after ds
-    → RowsLeft (units_of l.units) s name l.i l.end l.weight (rows_weight name l.first rows ds)
+invariant-loop-i l = record {
+  few : l.weight ≤ 64;
+  left : (s : Scope ℕ) (numbers : List ℕ) (rows after : List EntryRow) (ds : List (Node ℕ)) (name : ℕ → Spot) → AreRowsMeant (units_of l.units) s l.first l.end numbers rows after ds
+      → RowsLeft (units_of l.units) s name l.i l.end l.weight (rows_weight name l.first rows ds);
+}

@@ -2,3 +2,12 @@ pub mod ListLemmas
 pub mod WayLemmas
 pub mod BelowLemmas
 pub mod SpaceLemmas
+pub mod ListBuilding
+pub mod UnitBuilding
+pub mod SpaceMeans
+pub mod AmongLemmas
+pub mod ListMeans
+pub mod ShowLemmas
+pub mod UnitsMean
+pub mod NameLemmas
+pub mod TopLemmas

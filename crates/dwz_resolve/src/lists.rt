@@ -105,11 +105,9 @@ fn walk(
 ) -> Result<(), ReadErr>
     requires here { here.now.end ≤ entries_in (units_of units.now) }
     requires place { place < length sections.now.lists.now }
-    ensures { (u : RawUnit) (before : List NamedList) → IsHere (units_of units.now) u here.now → StateIn sections.now (units_of units.now) u here.now before state.old → Walks (units_of units.now) (scope_in sections.now (units_of units.now) u) here.now.number place before state.old state.new result }
+    ensures files { state.new.files ≡ state.old.files }
+    ensures goes { (u : RawUnit) (before : List NamedList) → IsHere (units_of units.now) u here.now → StateIn sections.now (units_of units.now) u here.now before state.old → Walks (units_of units.now) (scope_in sections.now (units_of units.now) u) here.now.number place before state.old state.new result }
 {
-    if sections.lists.len() > u32::MAX as usize {
-        return Err(ReadErr::NoMemory);
-    }
     state.operands.clear();
     let first = state.lists.operands.as_slice().len();
     let read = walk_into(&mut state.operands, sections.lists, place);
@@ -158,7 +156,8 @@ fn walk_once(
 ) -> Result<(), ReadErr>
     requires here { here.now.end ≤ entries_in (units_of units.now) }
     requires place { place < length sections.now.lists.now }
-    ensures { (u : RawUnit) (before : List NamedList) → IsHere (units_of units.now) u here.now → StateIn sections.now (units_of units.now) u here.now before state.old → Walks (units_of units.now) (scope_in sections.now (units_of units.now) u) here.now.number place before state.old state.new result }
+    ensures files { state.new.files ≡ state.old.files }
+    ensures goes { (u : RawUnit) (before : List NamedList) → IsHere (units_of units.now) u here.now → StateIn sections.now (units_of units.now) u here.now before state.old → Walks (units_of units.now) (scope_in sections.now (units_of units.now) u) here.now.number place before state.old state.new result }
 {
     if was_seen(&state.lists.seen, place, here.number) {
         return Ok(());
@@ -188,7 +187,8 @@ fn add_list(
     state: &mut State,
 ) -> Result<(), ReadErr>
     requires { here.now.end ≤ entries_in (units_of units.now) }
-    ensures { (u : RawUnit) (before : List NamedList) → IsHere (units_of units.now) u here.now → StateIn sections.now (units_of units.now) u here.now before state.old → AddsList (units_of units.now) (scope_in sections.now (units_of units.now) u) here.now.number at place before state.old state.new result }
+    ensures files { state.new.files ≡ state.old.files }
+    ensures goes { (u : RawUnit) (before : List NamedList) → IsHere (units_of units.now) u here.now → StateIn sections.now (units_of units.now) u here.now before state.old → AddsList (units_of units.now) (scope_in sections.now (units_of units.now) u) here.now.number at place before state.old state.new result }
 {
     if place >= sections.lists.len() as u128 {
         return Err(bad_list(at));
@@ -224,7 +224,8 @@ pub(crate) fn add_offset(
     state: &mut State,
 ) -> Result<(), ReadErr>
     requires { here.now.end ≤ entries_in (units_of units.now) }
-    ensures { (u : RawUnit) (before : List NamedList) → IsHere (units_of units.now) u here.now → StateIn sections.now (units_of units.now) u here.now before state.old → AddsOffset (units_of units.now) (scope_in sections.now (units_of units.now) u) here.now.number name at offset before state.old state.new result }
+    ensures files { state.new.files ≡ state.old.files }
+    ensures goes { (u : RawUnit) (before : List NamedList) → IsHere (units_of units.now) u here.now → StateIn sections.now (units_of units.now) u here.now before state.old → AddsOffset (units_of units.now) (scope_in sections.now (units_of units.now) u) here.now.number name at offset before state.old state.new result }
 {
     if names_list(name) {
         add_list(units, sections, here, at, offset, state)
@@ -236,18 +237,19 @@ pub(crate) fn add_offset(
 // A slot of the section, and where the list begins that it holds.
 #[derive(Clone, Copy)]
 struct ListSlot {
-    at: u128,
+    at: u32,
     place: u128,
 }
 
 // The slot of an index.
 fn slot_at(section: &[u8], base: u128, index: u128) -> Option<ListSlot>
+    requires { length section.now < 2 ^ 32 }
     ensures { IsSlotAt section.now base index result }
 {
     match slot(section, base, index) {
         None => None,
         Some(offset) => Some(ListSlot {
-            at: base + 4 * index,
+            at: (base + 4 * index) as u32,
             place: base + offset as u128,
         }),
     }
@@ -263,18 +265,16 @@ pub(crate) fn add_indexed(
     state: &mut State,
 ) -> Result<(), ReadErr>
     requires { here.now.end ≤ entries_in (units_of units.now) }
-    ensures { (u : RawUnit) (before : List NamedList) → IsHere (units_of units.now) u here.now → StateIn sections.now (units_of units.now) u here.now before state.old → AddsIndexed (units_of units.now) (scope_in sections.now (units_of units.now) u) here.now.number here.now.lists at index before state.old state.new result }
+    ensures files { state.new.files ≡ state.old.files }
+    ensures goes { (u : RawUnit) (before : List NamedList) → IsHere (units_of units.now) u here.now → StateIn sections.now (units_of units.now) u here.now before state.old → AddsIndexed (units_of units.now) (scope_in sections.now (units_of units.now) u) here.now.number here.now.lists at index before state.old state.new result }
 {
     let Some(base) = here.lists else {
         return Err(bad_list(at));
     };
-    let Some(slot) = slot_at(sections.lists, base, index) else {
+    let Some(slot) = slot_at(sections.lists, base as u128, index) else {
         return Err(bad_list(at));
     };
     add_list(units, sections, here, at, slot.place, state)?;
-    if slot.at > u32::MAX as u128 {
-        return Err(ReadErr::NoMemory);
-    }
-    state.lists.slots.push(slot.at as u32)?;
+    state.lists.slots.push(slot.at)?;
     Ok(())
 }

@@ -1,12 +1,15 @@
-use Rattle.std.proofs.Common.{◌≡◌, ℕ, List, true, sym, ap, subst, ◌∙◌}
+use Rattle.std.proofs.Common.{◌≡◌, ℕ, List, length, true, sym, ap, subst, ◌∙◌}
 use Rattle.std.proofs.lemmas.Result.{err_from_is_err_and}
 use Rattle.dwz_model.specs.declared.fault.ReadErr.{ReadErr}
 use Rattle.dwz_docs.specs.Faults.{Fails}
 use Rattle.dwz_meanings.specs.Files.{file_meaning, is_other_machine}
+use Rattle.dwz_docs.specs.Units.{entries_in}
+use Rattle.dwz_meanings.specs.Meanings.{Sources, alone}
+use Rattle.dwz_resolve.specs.Parts.{AreParted, HaveLines}
 use Rattle.dwz_resolve.specs.Resolved.{sources_view}
 use Rattle.dwz_graph.specs.Files.{limits_view}
 use Rattle.dwz_unit.specs.Rows.{units_of}
-use Rattle.dwz_graph.proofs.FileLemmas.{IsGood, content_is, content_short, elf_fails, has_doc, machine_is, named_fail, other_machine, same_rows, too_long, units_fail}
+use Rattle.dwz_graph.proofs.FileLemmas.{IsGood, bytes_short, content_is, content_short, elf_fails, has_doc, machine_is, named_fail, other_machine, same_rows, too_long, units_fail}
 use Rattle.dwz_graph.proofs.file.read_file.Goals as goal
 
 pub returns-then-is_too_long : goal.returns-then-is_too_long
@@ -64,12 +67,15 @@ returns c =
     let same = c.sections_of-sections.ensures.sources elf.1 in
     let ranges = c.sections_of-sections.ensures.aranges elf.1 in
     let sources = sources_view c.sections_of-sections.result in
+    let raw = units_of c.in_ok-units.units in
     let d = has_doc l bytes c.content-info.result.now c.content-abbrevs.result.now sources c.sections_of-sections.result.aranges.now (units_of c.in_ok-units.units) _ good info abbrevs same ranges c.in_ok-units.ensures.answers c.in_ok-resolved.ensures.answers in
     record {
       doc = d.doc;
       means = d.means;
       named = d.refs;
       within = c.in_ok-resolved.ensures.within;
+      parts = subst (λ (w : Sources). AreParted (alone w raw) raw (entries_in raw) c.in_ok-resolved.resolved.refs.items c.in_ok-resolved.resolved.starts.items) same c.in_ok-resolved.ensures.starts;
+      lines = subst (λ (w : Sources). HaveLines (alone w raw) raw (length raw) c.in_ok-resolved.resolved.tables.items c.in_ok-resolved.resolved.lines.items) same c.in_ok-resolved.ensures.lines;
       operands = same_rows bytes sources (units_of c.in_ok-units.units) _ same c.in_ok-resolved.ensures.operands;
       elf = elf.1;
       sections = same;
@@ -80,3 +86,6 @@ read-requires-2-clause-info c = content_short (limits_view c.args.left.now) c.ar
 
 pub read-requires-2-clause-abbrevs : goal.read-requires-2-clause-abbrevs
 read-requires-2-clause-abbrevs c = content_short (limits_view c.args.left.now) c.args.bytes.now c.content-abbrevs.result.now _ c.content-abbrevs.ensures (sym c.is_too_long.ensures ∙ c.if-is_too_long.false)
+
+pub sections_of-sections-requires : goal.sections_of-sections-requires
+sections_of-sections-requires c = bytes_short (limits_view c.args.left.now) c.args.bytes.now (sym c.is_too_long.ensures ∙ c.if-is_too_long.false)

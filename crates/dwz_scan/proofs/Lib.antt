@@ -9,4 +9,5 @@ pub mod TreeBinds
 pub mod MarkLemmas
 pub mod NameMarks
 pub mod MarkSteps
+pub mod RowMarks
 pub mod FileSteps

@@ -1,6 +1,6 @@
 //! Which tops operands of expressions name.
 
-ghost use Rattle.std.specs.Prelude.{◌≡◌, ◌↔◌, ◌⊎◌, ℕ, ◌<◌, ◌≤◌, ◌∷◌, [], List, Ok, true, drop, length, IfOk, OnOk};
+ghost use Rattle.std.specs.Prelude.{◌≡◌, ◌↔◌, ◌⊎◌, ℕ, ◌<◌, ◌≤◌, ◌∷◌, [], List, Ok, true, drop, length, map, IfOk, OnOk};
 ghost use Rattle.std.specs.List.{list_any};
 ghost use Rattle.dwz_alike.specs.Alike.{any_attr};
 ghost use Rattle.dwz_alike.specs.Spots.{Spot};
@@ -125,4 +125,31 @@ fn mark_value<'a>(
     mark_operands(&mut named.by_any, false, into, operands);
     mark_operands(&mut named.by_uleb, true, into, operands);
     Ok(behind(into, operands.len()))
+}
+
+// Marks the tops that the operands of expressions name, in the entries from one number to before another. For each reference of the file
+// is given the top that it goes into, and for each entry where its references begin.
+fn mark_entries(
+    units: &Units,
+    into: &[Option<u32>],
+    starts: &[u32],
+    first: u32,
+    end: u32,
+    named: &mut Named,
+    operands: &mut Vec<Operand>,
+) -> Result<(), NoMemory>
+    requires { end ≤ entries_in (units_of units.now) }
+    ensures any { (s : Scope ℕ) (numbers : List ℕ) (rows after : List EntryRow) (ds : List (Node ℕ)) (name : ℕ → Spot) → AreRowsMeant (units_of units.now) s first end numbers rows after ds → EachInto name into.now starts.now first ds → OnOk result (MarksIf (λ n. list_any (any_attr (expression_names n)) (map (node_map name) ds) ≡ true) named.old.by_any.items named.new.by_any.items) }
+    ensures uleb { (s : Scope ℕ) (numbers : List ℕ) (rows after : List EntryRow) (ds : List (Node ℕ)) (name : ℕ → Spot) → AreRowsMeant (units_of units.now) s first end numbers rows after ds → EachInto name into.now starts.now first ds → OnOk result (MarksIf (λ n. list_any (any_attr (expression_pins n)) (map (node_map name) ds) ≡ true) named.old.by_uleb.items named.new.by_uleb.items) }
+{
+    for i in first..end {
+        mark_entry(
+            units,
+            from_entry(into, starts, i as usize),
+            i,
+            named,
+            operands,
+        )?;
+    }
+    Ok(())
 }

@@ -10,62 +10,7 @@ use Rattle.dwz_groups.specs.Groups.{grouped, values_at}
 use Rattle.dwz_seen.proofs.Members.{in_cases, in_left, in_right}
 use Rattle.dwz_gain.specs.Gaining.{AreNumbers, edge, edge_to, edges_at, edges_from, edges_to, group_at}
 use Rattle.dwz_spread.specs.Spreading.{AreInside, sources_of}
-
--- ---- values under keys
-
-values_more : (p : Pair) (pairs : List Pair) (m : ℕ) (b : Bool) → (p.key == m) ≡ b → values_at (p ∷ pairs) m ≡ cond b (p.value ∷ values_at pairs m) (values_at pairs m)
-unfolding values_at
-values_more p pairs m true e = ap (λ (b : Bool). map (λ (q : Pair). q.value) (cond b (p ∷ filter (λ (q : Pair). q.key == m) pairs) (filter (λ (q : Pair). q.key == m) pairs))) e
-values_more p pairs m false e = ap (λ (b : Bool). map (λ (q : Pair). q.value) (cond b (p ∷ filter (λ (q : Pair). q.key == m) pairs) (filter (λ (q : Pair). q.key == m) pairs))) e
-
-values_in : (n : ℕ) (p : Pair) (pairs : List Pair) (m : ℕ) (b : Bool) → (p.key == m) ≡ b → In n (cond b (p.value ∷ values_at pairs m) (values_at pairs m)) → In n (values_at (p ∷ pairs) m)
-values_in n p pairs m b e i = subst (λ (xs : List ℕ). In n xs) (sym (values_more p pairs m b e)) i
-
-in_values : (n : ℕ) (p : Pair) (pairs : List Pair) (m : ℕ) (b : Bool) → (p.key == m) ≡ b → In n (values_at (p ∷ pairs) m) → In n (cond b (p.value ∷ values_at pairs m) (values_at pairs m))
-in_values n p pairs m b e i = subst (λ (xs : List ℕ). In n xs) (values_more p pairs m b e) i
-
-pub edge_values : (m n : ℕ) (pairs : List Pair) → In (edge m n) pairs → In n (values_at pairs m)
-edge_values m n [] i = absurd i
-edge_values m n (p ∷ pairs) (inl e) = values_in n p pairs m true (eq-eqb p.key m (ap (λ (q : Pair). q.key) e)) (inl (ap (λ (q : Pair). q.value) e))
-edge_values m n (p ∷ pairs) (inr i) =
-    let r = edge_values m n pairs i in ⊎_elim
-    (λ (h : (p.key == m) ≡ true). values_in n p pairs m true h (inr r))
-    (λ (h : (p.key == m) ≡ false). values_in n p pairs m false h r)
-    (cases_Bool (p.key == m))
-
-pub values_edge : (m n : ℕ) (pairs : List Pair) → In n (values_at pairs m) → In (edge m n) pairs
-unfolding values_at
-values_edge m n [] i = absurd i
-values_edge m n (p ∷ pairs) i = ⊎_elim
-    (λ (h : (p.key == m) ≡ true). ⊎_elim
-    (λ (e : p.value ≡ n). inl (let k : p.key ≡ m = eqb-true p.key m h in λ j. record { key = k j; value = e j }))
-    (λ j. inr (values_edge m n pairs j))
-    (in_values n p pairs m true h i))
-    (λ (h : (p.key == m) ≡ false). inr (values_edge m n pairs (in_values n p pairs m false h i)))
-    (cases_Bool (p.key == m))
-
-inside_at : (xs : List (List ℕ)) (m n : ℕ) → In n (sources_of xs m) → m < length xs
-inside_at [] m n i = absurd i
-inside_at (x ∷ xs) zero n i = omega arith
-inside_at (x ∷ xs) (suc m) n i = let l = inside_at xs m n i in omega arith
-
-grouped_at : (n m : ℕ) (pairs : List Pair) → m < n → sources_of (grouped n pairs) m ≡ values_at pairs m
-unfolding grouped
-grouped_at n m pairs l = get_or-map-range_with_len (values_at pairs) 0 n m m [] l (omega arith)
-
-pub grouped_length : (n : ℕ) (pairs : List Pair) → length (grouped n pairs) ≡ n
-unfolding grouped
-grouped_length n pairs = length-map-range_with_len (values_at pairs) 0 n
-
--- what stands under a key below n
-pub grouped_edge : (n m k : ℕ) (pairs : List Pair) → In k (sources_of (grouped n pairs) m) → In (edge m k) pairs
-grouped_edge n m k pairs i =
-    let low = inside_at (grouped n pairs) m k i in
-    let len = grouped_length n pairs in
-    values_edge m k pairs (subst (λ (xs : List ℕ). In k xs) (grouped_at n m pairs (omega arith)) i)
-
-pub edge_grouped : (n m k : ℕ) (pairs : List Pair) → m < n → In (edge m k) pairs → In k (sources_of (grouped n pairs) m)
-edge_grouped n m k pairs l i = subst (λ (xs : List ℕ). In k xs) (sym (grouped_at n m pairs l)) (edge_values m k pairs i)
+use Rattle.dwz_spread.proofs.PairLemmas.{each_pair, grouped_edge, grouped_length}
 
 -- ---- which edges there are
 
@@ -134,13 +79,8 @@ numbers_low n g i [] h e = absurd cc
 numbers_low n g zero (o ∷ groups) h e = number_low n g o (All-head (AreNumbers n) o groups h) e
 numbers_low n g (suc i) (o ∷ groups) h e = numbers_low n g i groups (All-tail (AreNumbers n) o groups h) e
 
-each_in : (P : Pair → Type 0) (ps : List Pair) → ((p : Pair) → In p ps → P p) → All P ps
-each_in P [] h k d l = absurd (omega arith)
-each_in P (p ∷ ps) h zero d l = h p (inl refl)
-each_in P (p ∷ ps) h (suc k) d l = each_in P ps (λ q i. h q (inr i)) k d (omega arith)
-
 pub edge_keys : (n : ℕ) (groups : List (Option ℕ)) (targets : List (List ℕ)) → All (AreNumbers n) groups → All (λ p. p.key < n) (edges_from groups groups targets)
-edge_keys n groups targets h = each_in (λ p. p.key < n) (edges_from groups groups targets) (λ p i. let r = from_edges groups groups targets p.key p.value i in numbers_low n p.key r.i groups h r.from)
+edge_keys n groups targets h = each_pair (λ p. p.key < n) (edges_from groups groups targets) (λ p i. let r = from_edges groups groups targets p.key p.value i in numbers_low n p.key r.i groups h r.from)
 
 pub edges_inside : (n : ℕ) (groups : List (Option ℕ)) (targets : List (List ℕ)) → All (AreNumbers n) groups → AreInside (grouped n (edges_from groups groups targets))
 edges_inside n groups targets h m k i =

@@ -17,9 +17,10 @@ use Rattle.dwz_groups.specs.Groups.{grouped}
 use Rattle.dwz_gain.specs.Gaining.{edges_from, gains_alone, group_at, weight_at, weight_of}
 use Rattle.dwz_gain.specs.GainLaws.{part_gains, seed}
 use Rattle.dwz_gain.specs.Groups.{AreGroups, IsGroup, IsWeight, ShowGains}
-use Rattle.dwz_gain.proofs.EdgeLemmas.{edge_grouped, edges_there, from_edges, grouped_edge}
+use Rattle.dwz_gain.proofs.EdgeLemmas.{edges_there, from_edges}
 use Rattle.dwz_gain.proofs.GainLemmas.{test_few, test_heavy}
 use Rattle.dwz_spread.specs.Spreading.{IsMarked, IsSpread, Leads, sources_of}
+use Rattle.dwz_spread.proofs.PairLemmas.{edge_grouped, grouped_edge}
 
 -- ---- weights
 
@@ -60,7 +61,7 @@ top_low [] n g e = absurd cc
 top_low (o ∷ of_tops) zero g e = omega arith
 top_low (o ∷ of_tops) (suc n) g e = let l = top_low of_tops n g e in omega arith
 
-module _ (alike : Test) (units : List (FileUnit Spot)) (groups : List PartialUnit) (of_tops : List (Option ℕ)) (ws : List ℕ) (targets : List (List ℕ)) (are : AreGroups alike units groups of_tops) (shown : ShowGains units ws targets) where
+module _ (alike : Test) (units : List (FileUnit Spot)) (groups : List PartialUnit) (of_tops : List (Option ℕ)) (ws : List ℕ) (targets : List (List ℕ)) (are : AreGroups alike units groups of_tops) (shown : ShowGains alike units ws targets) where
   abbrev tops : List Top
   tops = tops_of units
 
@@ -142,7 +143,7 @@ module _ (alike : Test) (units : List (FileUnit Spot)) (groups : List PartialUni
         home = home;
         target = u;
         is_top = b.1;
-        refers = (shown.targets t a.1 u.number).0 named;
+        refers = (shown.targets t a.1 home u.number).0 named;
         home_is = into.2 ∙ ap (λ (q : PartialUnit). q.home) same;
         users_are = into.3 ∙ ap (λ (q : PartialUnit). q.users) same;
       } in
@@ -166,7 +167,7 @@ module _ (alike : Test) (units : List (FileUnit Spot)) (groups : List PartialUni
       let low : t.number < 0 + length tops = number_below 0 tops t (tops_numbers units) r.there in
       let len = are.len in
       let many = shown.len in
-      let there = edges_there of_tops of_tops targets m g t.number u.number (omega arith) (omega arith) from.is ((shown.targets t r.there u.number).1 r.refers) at in
+      let there = edges_there of_tops of_tops targets m g t.number u.number (omega arith) (omega arith) from.is ((shown.targets t r.there r.home u.number).1 r.refers) at in
       inr (m, edge_grouped (length groups) m g edges (group_low groups m from.group.0 from.group.1) there, from_gain k m from.group.0 from.group.1 (gains_of k t from.group.0.home from.group.0.users from.group.2 from.group.3 h.2))
 
   pub marked : (marks : List Bool) → IsSpread sources begin marks → (g : ℕ) (part : PartialUnit) → slice_get groups g ≡ Some part → IsMarked marks g ↔ (part_gains alike units part ≡ true)

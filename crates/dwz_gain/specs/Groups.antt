@@ -35,8 +35,8 @@ pub record AreGroups (alike : Test) (units : List (FileUnit Spot)) (groups : Lis
 abbrev pub IsWeight : ℕ → ℕ → Type 0
 IsWeight weight exact = (weight ≡ exact) ⊎ ((64 ≤ weight) × (64 ≤ exact))
 
--- of each top the weight, and the tops that it refers into
-pub record ShowGains (units : List (FileUnit Spot)) (ws : List ℕ) (refs : List (List ℕ)) : Type 0 where
+-- of each top the weight, and of one that goes to a home if it moves the tops that it refers into
+pub record ShowGains (alike : Test) (units : List (FileUnit Spot)) (ws : List ℕ) (refs : List (List ℕ)) : Type 0 where
   pub len : length refs ≡ length (tops_of units)
   pub weights : (t : Top) → In t (tops_of units) → IsWeight (weight_at ws t.number) (top_weight t)
-  pub targets : (t : Top) → In t (tops_of units) → (n : ℕ) → In n (slice_index_or refs t.number []) ↔ (refers_to n t ≡ true)
+  pub targets : (t : Top) → In t (tops_of units) → is_home (candidate alike units t.number) ≡ true → (n : ℕ) → In n (slice_index_or refs t.number []) ↔ (refers_to n t ≡ true)

@@ -6,6 +6,7 @@ use Rattle.std.proofs.lemmas.Bool.{false≢true}
 use Rattle.std.proofs.lemmas.List.{get_or-map, length-map, map-append}
 use Rattle.std.proofs.lemmas.List.FromFn.{get_or-map-range_with_len}
 use Rattle.dwz_docs.specs.Lists.{In}
+use Rattle.dwz_groups.specs.declared.tops.TopRow.{TopRow}
 use Rattle.dwz_groups.specs.declared.tops.Tops.{Tops}
 use Rattle.dwz_seen.specs.Lists.{Each, Rising}
 use Rattle.dwz_alike.specs.Deciding.{Test}
@@ -14,10 +15,11 @@ use Rattle.dwz_alike.proofs.TopNumbers.{number_below, tops_numbers}
 use Rattle.dwz_moving.specs.Gain.{gain_rule, gain_test, gains_test}
 use Rattle.dwz_moving.specs.Homes.{Common, Home, Local, Rule, Stay, all_rule, candidate, home as ruled_home, is_home, moves as unit_moves, rep as unit_rep, users as unit_users}
 use Rattle.dwz_moving.specs.Plan.{PartialUnit, is_pinned, kept as unit_kept, partials as unit_partials, stand_in as unit_stand_in, staying as unit_staying}
+use Rattle.dwz_moving.proofs.UserLemmas.{moves_other}
 use Rattle.dwz_groups.specs.Groups.{grouped}
 use Rattle.dwz_gain.specs.Gaining.{edges_from, weights_of}
 use Rattle.dwz_gain.specs.GainLaws.{part_gains, seed}
-use Rattle.dwz_gain.specs.Groups.{AreGroups, IsGroup}
+use Rattle.dwz_gain.specs.Groups.{AreGroups, IsGroup, ShowGains}
 use Rattle.dwz_gain.proofs.ApartLemmas.{groups_apart}
 use Rattle.dwz_gain.proofs.FilterLemmas.{partials_filter}
 use Rattle.dwz_gain.proofs.MarkedLemmas.{marked}
@@ -28,11 +30,12 @@ use Rattle.dwz_partition.specs.declared.plan.Partial.{Partial}
 use Rattle.dwz_partition.specs.declared.plan.Scope.{Scope}
 use Rattle.dwz_partition.specs.Gained.{IsGaining, among, before, gained, group_of, groups_of, home_after, kept_after, mark_at, part_seed, place_after, stand_after, staying_after}
 use Rattle.dwz_partition.specs.Planned.{Planned, imports_from, partials, place, rep}
-use Rattle.dwz_partition.specs.Rows.{Given, Row, given}
-use Rattle.dwz_partition.specs.Shows.{IsLeast, IsPlace, PartAt, ShowsPlan, ShowsTops, import_row, shown_part}
+use Rattle.dwz_partition.specs.Rows.{Given, Row, given, rows_from}
+use Rattle.dwz_partition.specs.Shows.{IsLeast, IsPlace, PartAt, ShowsPlan, ShowsTops, import_row, may_move, shown_part}
 use Rattle.dwz_partition.specs.Steps.{is_in_unit}
 use Rattle.dwz_partition.proofs.BridgeLemmas.{imports_of, partials_is, place_is, rep_is, same}
 use Rattle.dwz_partition.proofs.ListFacts.{map_map}
+use Rattle.dwz_partition.proofs.RowLemmas.{length-rows_from}
 use Rattle.dwz_partition.proofs.ShownLemmas.{SameRows, filter_shown, numbers_shown}
 use Rattle.dwz_partition.proofs.StepLemmas.{row_of_number}
 
@@ -88,6 +91,14 @@ rows_count units (a ∷ rows) (t ∷ tops) h = ap suc (rows_count units rows top
 
 no_row : Row
 no_row = record { number = 0; unit = 0; file = 0; movable = false; pinned = false; least = 0 }
+
+-- the row of a number says of moving what the row of the top says
+row_may : (files : List ℕ) (s : ℕ) (rows : List TopRow) (least : List ℕ) (n : ℕ) → length least ≡ length rows → n < length rows → (get_or (rows_from files s rows least) n no_row).movable ≡ may_move rows n
+unfolding rows_from
+row_may files s [] least n e l = absurd (omega arith)
+row_may files s (r ∷ rows) [] n e l = absurd (omega (arith, e))
+row_may files s (r ∷ rows) (x ∷ least) zero e l = refl
+row_may files s (r ∷ rows) (x ∷ least) (suc n) e l = row_may files (suc s) rows least n (omega (arith, e)) (omega arith)
 
 -- what a place says of moving
 placed_moves : (rule : Rule) (units : List (FileUnit Spot)) (parts : List PartialUnit) (n : ℕ) (h : Place) → IsPlace rule units parts n h → unit_moves rule units n ≡ not (is_in_unit h)
@@ -147,6 +158,27 @@ module _ (units : List (FileUnit Spot)) (test : Test) (scope : Scope) (tops : To
   abbrev ws : List ℕ
   ws = weights_of tops.rows
 
+  row_there : (t : Top) → In t (tops_of units) → In (get_or g.rows t.number no_row) g.rows × ((get_or g.rows t.number no_row).number ≡ t.number)
+  row_there t there =
+      let low : t.number < 0 + length (tops_of units) = number_below 0 (tops_of units) t (tops_numbers units) there in
+      row_of_number scope tops least t.number no_row (omega (arith, low, many))
+
+  -- what goes to a home has an alike top, so its row says that it may move
+  may_from : (t : Top) → In t (tops_of units) → is_home (candidate test units t.number) ≡ true → may_move tops.rows t.number ≡ true
+  unfolding ruled_home
+  may_from t there home =
+      let o = (moves_other units all t.number 0 home).used_by in
+      let a = row_there t there in
+      let b = row_there o.top o.there in
+      let both : test (get_or g.rows t.number no_row).number (get_or g.rows o.top.number no_row).number ≡ true = (λ i. test (a.1 i) (b.1 i)) ∙ o.alike_is in
+      let joins = (decides.decides (get_or g.rows t.number no_row) (get_or g.rows o.top.number no_row) a.0 b.0).0 both in
+      let low : t.number < 0 + length (tops_of units) = number_below 0 (tops_of units) t (tops_numbers units) there in
+      let rows = length-rows_from tops.files_of_units 0 tops.rows least decides.len in
+      sym (row_may tops.files_of_units 0 tops.rows least t.number decides.len (omega (arith, low, many, rows))) ∙ joins.first
+
+  gains_are : ShowGains test units ws tops.targets
+  gains_are = record { len = shows.len; weights = shows.weights; targets = λ t there home. shows.targets t there (may_from t there home) }
+
   spread : IsSpread (grouped (length parts) (edges_from (groups_of g) (groups_of g) tops.targets)) (map (seed ws) parts) marks
   spread =
       let seeds : map (part_seed ws) (partials g) ≡ map (seed ws) parts = ap (map (part_seed ws)) (sym parts_shown) ∙ map_map (part_seed ws) (shown_part tops.files) parts in
@@ -155,7 +187,7 @@ module _ (units : List (FileUnit Spot)) (test : Test) (scope : Scope) (tops : To
       (subst (λ (bs : List Bool). IsSpread (grouped (length (partials g)) (edges_from (groups_of g) (groups_of g) tops.targets)) bs marks) seeds gaining)
 
   marked_is : (i : ℕ) (part : PartialUnit) → slice_get parts i ≡ Some part → IsMarked marks i ↔ (part_gains test units part ≡ true)
-  marked_is i part e = marked test units parts (groups_of g) ws tops.targets groups_are shows.gains marks spread i part e
+  marked_is i part e = marked test units parts (groups_of g) ws tops.targets groups_are gains_are marks spread i part e
 
   after_is : among marks parts ≡ after
   after_is = among_filter (part_gains test units) marks parts (spread.len ∙ length-map parts (seed ws)) marked_is ∙ sym (partials_filter test units files)

@@ -1,12 +1,14 @@
 -- Rows that show the tops of units, and what their plan then shows of the units' plan.
-use Rattle.std.specs.Prelude.{◌≡◌, ◌↔◌, ℕ, ◌<◌, true, All, List, [], ◌∷◌, Some, length, map, slice_get, slice_index, slice_index_or}
+use Rattle.std.specs.Prelude.{◌≡◌, ◌↔◌, ℕ, ◌<◌, Bool, true, false, All, List, [], ◌∷◌, Some, length, map, slice_get, slice_index, slice_index_or}
 use Rattle.std.specs.List.{range_with_len}
 use Rattle.dwz_meanings.specs.Documents.{Entries}
 use Rattle.dwz_docs.specs.Lists.{In}
 use Rattle.dwz_docs.specs.Trees.{End, Entry}
 use Rattle.dwz_groups.specs.declared.tops.TopRow.{TopRow}
 use Rattle.dwz_groups.specs.declared.tops.Tops.{Tops}
+use Rattle.dwz_alike.specs.Alike.{refers_to}
 use Rattle.dwz_alike.specs.Deciding.{Test}
+use Rattle.dwz_moving.specs.Gain.{top_weight}
 use Rattle.dwz_moving.specs.Homes.{Common, Home, Local, Rule, Stay, home, rep, users}
 use Rattle.dwz_moving.specs.Plan.{PartialUnit, import_of, imports as unit_imports, is_pinned, kept as unit_kept, partials as unit_partials, stand_in}
 use Rattle.dwz_alike.specs.Spots.{FileUnit, Spot, Top, tops_of}
@@ -15,8 +17,8 @@ use Rattle.dwz_partition.specs.declared.plan.Home.TheVariants.{Common as InCommo
 use Rattle.dwz_partition.specs.declared.plan.Partial.{Partial}
 use Rattle.dwz_partition.specs.declared.plan.Scope.{Scope}
 use Rattle.dwz_partition.specs.declared.plan.Scope.TheVariants.{Together, Each}
-use Rattle.dwz_gain.specs.Gaining.{weights_of}
-use Rattle.dwz_gain.specs.Groups.{ShowGains}
+use Rattle.dwz_gain.specs.Gaining.{weight_at, weights_of}
+use Rattle.dwz_gain.specs.Groups.{IsWeight}
 use Rattle.dwz_partition.specs.Planned.{Planned, file_of_home}
 use Rattle.dwz_partition.specs.Rows.{Row, given}
 
@@ -32,11 +34,17 @@ ShowsRows units [] [] = Unit {0}
 ShowsRows units (row ∷ rows) (t ∷ tops) = ShowsTop units row t × ShowsRows units rows tops
 ShowsRows units _ _ = ⊥
 
+-- the row of that number says that its top may move
+abbrev pub may_move : List TopRow → ℕ → Bool
+may_move rows n = slice_index_or (map (λ row. row.movable) rows) n false
+
 -- Of whether a top may move nothing is said here: that is in what decides which are alike. Weights and targets are shown by the tops'
--- numbers.
+-- numbers; of a top that may not move, by its row, any targets do.
 pub record ShowsTops (units : List (FileUnit Spot)) (tops : Tops) : Type 0 where
   pub rows : ShowsRows units tops.rows (tops_of units)
-  pub gains : ShowGains units (weights_of tops.rows) tops.targets
+  pub weights : (t : Top) → In t (tops_of units) → IsWeight (weight_at (weights_of tops.rows) t.number) (top_weight t)
+  pub len : length tops.targets ≡ length (tops_of units)
+  pub targets : (t : Top) → In t (tops_of units) → may_move tops.rows t.number ≡ true → (n : ℕ) → In n (slice_index_or tops.targets t.number []) ↔ (refers_to n t ≡ true)
   pub files_of_units : tops.files_of_units ≡ map (λ f. f.file) units
   pub files : All (λ file. file < tops.files) tops.files_of_units
 

@@ -52,21 +52,21 @@ unmarked_set (false ∷ marks) zero l e = omega arith
 unmarked_set (true ∷ marks) (suc x) l e = unmarked_set marks x (omega arith) e
 unmarked_set (false ∷ marks) (suc x) l e = let r = unmarked_set marks x (omega arith) e in omega arith
 
-set_cases : (marks : List Bool) (x n : ℕ) → x < length marks → IsMarked (set marks x true) n → IsMarked marks n ⊎ (x ≡ n)
+pub set_cases : (marks : List Bool) (x n : ℕ) → x < length marks → IsMarked (set marks x true) n → IsMarked marks n ⊎ (x ≡ n)
 set_cases [] x n l h = absurd (omega arith)
 set_cases (b ∷ marks) zero zero l h = inr refl
 set_cases (b ∷ marks) zero (suc n) l h = inl h
 set_cases (b ∷ marks) (suc x) zero l h = inl h
 set_cases (b ∷ marks) (suc x) (suc n) l h = ⊎_elim (λ j. inl j) (λ e. inr (ap suc e)) (set_cases marks x n (omega arith) h)
 
-set_kept : (marks : List Bool) (x n : ℕ) → IsMarked marks n → IsMarked (set marks x true) n
+pub set_kept : (marks : List Bool) (x n : ℕ) → IsMarked marks n → IsMarked (set marks x true) n
 set_kept [] x n h = absurd (false≢true h)
 set_kept (b ∷ marks) zero zero h = refl
 set_kept (b ∷ marks) zero (suc n) h = h
 set_kept (b ∷ marks) (suc x) zero h = h
 set_kept (b ∷ marks) (suc x) (suc n) h = set_kept marks x n h
 
-set_here : (marks : List Bool) (x : ℕ) → x < length marks → IsMarked (set marks x true) x
+pub set_here : (marks : List Bool) (x : ℕ) → x < length marks → IsMarked (set marks x true) x
 set_here [] x l = absurd (omega arith)
 set_here (b ∷ marks) zero l = refl
 set_here (b ∷ marks) (suc x) l = set_here marks x (omega arith)

@@ -1,0 +1,13 @@
+pub mod BindLemmas
+pub mod BindSteps
+pub mod TopSteps
+pub mod WeightLemmas
+pub mod RowSteps
+pub mod WeightSteps
+pub mod TreeWeights
+pub mod TreeBinds
+pub mod MarkLemmas
+pub mod NameMarks
+pub mod MarkSteps
+pub mod RowMarks
+pub mod FileSteps

@@ -1,0 +1,53 @@
+-- Tops that references go into, and the tops of a unit.
+use Rattle.std.specs.Prelude.{◌≡◌, ℕ, ◌+◌, ◌++◌, drop, slice_index, Bool, true, false, List, [], ◌∷◌, Option, Some, None, ◌&&◌, nat_lt, not, if◌then◌else◌}
+use Rattle.dwz_alike.specs.Alike.{is_number, unit_in}
+use Rattle.dwz_alike.specs.Spots.{Spot, Top, Within}
+use Rattle.dwz_flat.specs.Rows.{node_refs}
+use Rattle.dwz_groups.specs.declared.groups.Pair.{Pair}
+use Rattle.dwz_meanings.specs.Documents.{Node}
+use Rattle.dwz_meanings.specs.Meanings.{Class, OfExpression}
+use Rattle.dwz_scan.specs.Values.{is_entry}
+use Rattle.dwz_scan.specs.declared.bind.TopRange.{TopRange}
+
+abbrev pub is_expression : Class → Bool
+is_expression OfExpression = true
+is_expression _ = false
+
+-- the number of the top that a name is in
+abbrev pub top_in : Spot → Option ℕ
+top_in (Within top path) = Some top
+top_in _ = None
+
+-- the tops begin with those of the entries at these places, by their names
+abbrev pub AreInto : (ℕ → Spot) → List (Option ℕ) → List ℕ → Type 0
+AreInto name into [] = Unit {0}
+AreInto name [] (p ∷ places) = ⊥
+AreInto name (t ∷ into) (p ∷ places) = (t ≡ top_in (name p)) × AreInto name into places
+
+-- the tops of the unit with a number are those of the range
+abbrev pub HasTops : List Top → ℕ → TopRange → Type 0
+HasTops tops unit own = (t : ℕ) → is_number (unit_in tops t) unit ≡ (not (nat_lt t own.first) && nat_lt t own.end)
+
+-- how many entries a value of the class names, if it doesn't bind
+abbrev pub count_of : Class → ℕ
+count_of class = if is_entry class then 1 else 0
+
+-- The entries, the first of which has that number, name what is in tops: those of each begin at its start.
+abbrev pub EachInto : (ℕ → Spot) → List (Option ℕ) → List ℕ → ℕ → List (Node ℕ) → Type 0
+EachInto name into starts i [] = Unit {0}
+EachInto name into starts i (d ∷ ds) = AreInto name (drop (slice_index starts i) into) (node_refs d) × EachInto name into starts (i + 1) ds
+
+-- ---- references into tops
+
+abbrev pub some_of : Option ℕ → List ℕ
+some_of None = []
+some_of (Some t) = t ∷ []
+
+-- those that are there
+abbrev pub somes : List (Option ℕ) → List ℕ
+somes [] = []
+somes (t ∷ into) = some_of t ++ somes into
+
+-- a top refers into another
+abbrev pub target_of : ℕ → ℕ → Pair
+target_of top into = record { key = top; value = into }

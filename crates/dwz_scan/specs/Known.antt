@@ -1,0 +1,27 @@
+-- What is known of a file where its tops are looked at.
+use Rattle.std.specs.Prelude.{◌≡◌, ℕ, ◌+◌, List, Option, map}
+use Rattle.dwz_alike.specs.Spots.{Spot, Top}
+use Rattle.dwz_docs.specs.Trees.{size}
+use Rattle.dwz_docs.specs.Units.{RawUnit, entries_in}
+use Rattle.dwz_flat.specs.Tops.{HasTopOfFile}
+use Rattle.dwz_meanings.specs.Documents.{DwUnit}
+use Rattle.dwz_meanings.specs.Meanings.{Around}
+use Rattle.dwz_resolve.specs.Parts.{AreParted}
+use Rattle.dwz_resolve.specs.Resolved.{AreEntries, place_at}
+use Rattle.dwz_scan.specs.Bound.{top_in}
+
+-- the tops that references to the entries with these numbers go into
+abbrev pub tops_of_refs : (ℕ → Spot) → List RawUnit → List ℕ → List (Option ℕ)
+tops_of_refs name raw refs = map (λ i. top_in (name (place_at raw i))) refs
+
+-- The references of each entry begin at its start, and the tops are those that they go into.
+pub record KnowsRefs (around : Around ℕ) (raw : List RawUnit) (name : ℕ → Spot) (refs starts : List ℕ) (into : List (Option ℕ)) : Type 0 where
+  pub parted : AreParted around raw (entries_in raw) refs starts
+  pub entries : AreEntries raw refs
+  pub into_are : into ≡ tops_of_refs name raw refs
+
+-- The top stands from the entry with one number to before that with another.
+pub record StandsAt (around : Around ℕ) (name : ℕ → Spot) (raw : List RawUnit) (units : List (DwUnit ℕ)) (file unit : ℕ) (t : Top) (first end : ℕ) : Type 0 where
+  pub stands : HasTopOfFile around name raw units file unit t
+  pub from : stands.top.p.before ≡ first
+  pub to : first + 1 + size stands.top.c ≡ end

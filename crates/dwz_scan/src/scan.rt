@@ -1,0 +1,46 @@
+//! What a top is asked: whether its entries bind it, and what it weighs.
+
+ghost use Rattle.std.specs.Prelude.{◌≡◌, ℕ, ◌≤◌, List, Option, IfOk};
+ghost use Rattle.dwz_alike.specs.Alike;
+ghost use Rattle.dwz_alike.specs.Alike.{any_in};
+ghost use Rattle.dwz_alike.specs.Spots.{Spot, Top};
+ghost use Rattle.dwz_docs.specs.Units.{entries_in};
+ghost use Rattle.dwz_meanings.specs.Documents.{DwUnit};
+ghost use Rattle.dwz_meanings.specs.Meanings.{Around};
+ghost use Rattle.dwz_moving.specs.Gain;
+ghost use Rattle.dwz_scan.specs.Bound.{HasTops};
+ghost use Rattle.dwz_scan.specs.Known.{KnowsRefs, StandsAt};
+ghost use Rattle.dwz_scan.specs.Weights.{capped};
+ghost use Rattle.dwz_unit.specs.Rows.{units_of};
+
+use crate::bind::TopRange;
+use crate::tops::entries_bind;
+use crate::weight::weight_of_entries;
+use dwz_expr::Operand;
+use dwz_model::NoMemory;
+use dwz_unit::Units;
+
+/// About how many bytes the top takes whose entries are those from one number to before another. Where that is 64 or more, it is 64.
+pub fn top_weight(units: &Units, first: u32, end: u32) -> u32
+    requires { end ≤ entries_in (units_of units.now) }
+    ensures { (around : Around ℕ) (refs starts : List ℕ) (into : List (Option ℕ)) (name : ℕ → Spot) (said : List (DwUnit ℕ)) (file unit : ℕ) (t : Top) → KnowsRefs around (units_of units.now) name refs starts into → StandsAt around name (units_of units.now) said file unit t first end → result ≡ capped (Gain.top_weight t) }
+{
+    weight_of_entries(units, first, end) as u32
+}
+
+/// Whether the entries of a top bind it: those from one number to before another. For each reference of the file is given the top that it
+/// goes into, and for each entry where its references begin; and which tops are of the same unit.
+pub fn top_binds(
+    units: &Units,
+    own: &TopRange,
+    into: &[Option<u32>],
+    starts: &[u32],
+    first: u32,
+    end: u32,
+    operands: &mut Vec<Operand>,
+) -> Result<bool, NoMemory>
+    requires { end ≤ entries_in (units_of units.now) }
+    ensures { (around : Around ℕ) (refs : List ℕ) (name : ℕ → Spot) (said : List (DwUnit ℕ)) (file unit : ℕ) (tops : List Top) (t : Top) → KnowsRefs around (units_of units.now) name refs starts.now into.now → StandsAt around name (units_of units.now) said file unit t first end → HasTops tops t.unit own.now → IfOk result (λ b. b ≡ any_in (Alike.entry_binds tops t.unit) t) }
+{
+    entries_bind(units, own, into, starts, first, end, operands)
+}

@@ -1,10 +1,10 @@
 -- The least alike nodes are the least alike tops, since alike nodes are those of alike tops, or one bound top's.
-use Rattle.std.proofs.Common.{◌≡◌, ℕ, zero, suc, ◌<◌, ◌≤◌, Bool, true, false, List, length, refl, sym, subst, ◌∙◌, ⊎_elim, arith}
+use Rattle.std.proofs.Common.{◌≡◌, ℕ, ◌<◌, ◌≤◌, true, false, List, length, sym, subst, ◌∙◌, ⊎_elim, arith}
 use Rattle.std.specs.Prelude.{slice_index}
 use Rattle.std.proofs.lemmas.Bool.{cases_Bool, false≢true}
 use Rattle.dwz_docs.specs.Lists.{In}
-use Rattle.dwz_nodes.specs.Graph.{Node, label_at, targets_at}
-use Rattle.dwz_nodes.specs.Looks.{Alike as AlikeNodes, IsLeastBelow, IsRefined, LookEqual}
+use Rattle.dwz_nodes.specs.Graph.{Node, label_at}
+use Rattle.dwz_nodes.specs.Looks.{Alike as AlikeNodes, IsLeastBelow, IsRefined}
 use Rattle.dwz_alike.specs.Alike.{Alike, Movable, Scope}
 use Rattle.dwz_alike.specs.Deciding.{alike_test, is_movable}
 use Rattle.dwz_alike.specs.Spots.{FileUnit, Spot, Top, tops_of}
@@ -13,7 +13,7 @@ use Rattle.dwz_alike.proofs.AlikeLaws.{alike_joins, alike_turns, test_decides}
 use Rattle.dwz_alike.proofs.TopNumbers.{tops_numbers, top_at}
 use Rattle.dwz_label.specs.Nodes.{AreLeast, AreNodes, HaveOneLeast}
 use Rattle.dwz_label.proofs.Choices.{by_if, if_true}
-use Rattle.dwz_label.proofs.NodeLooks.{bound_node, movable_below, movable_node, node_looks, top_below}
+use Rattle.dwz_label.proofs.NodeLooks.{bound_node, movable_node, node_looks, top_below}
 
 module _ (units : List (FileUnit Spot)) (g : List Node) (nodes : AreNodes units g) where
   -- a node with the label of a movable top's is a movable top's

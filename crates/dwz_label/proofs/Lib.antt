@@ -1,8 +1,13 @@
 pub mod Bare
 pub mod Choices
 pub mod Codes
+pub mod Heads
 pub mod LabelLemmas
 pub mod LeastAlike
+pub mod MadeLemmas
 pub mod NodeLooks
 pub mod NumberLemmas
 pub mod Pairs
+pub mod Putting
+pub mod Rows
+pub mod Together

@@ -1,3 +1,4 @@
+pub mod Keyed
 pub mod Labels
 pub mod Nodes
 pub mod Pieces

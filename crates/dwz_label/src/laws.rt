@@ -1,6 +1,6 @@
 //! What labels and nodes say of tops.
 
-ghost use Rattle.std.specs.Prelude.{◌≡◌, ◌↔◌, ℕ, ◌<◌, ◌^◌, true, List};
+ghost use Rattle.std.specs.Prelude.{◌≡◌, ◌↔◌, ℕ, ◌<◌, ◌^◌, Bool, true, List};
 ghost use Rattle.std.specs.List.{AllZip};
 ghost use Rattle.dwz_bytes.specs.Spelling.{uleb};
 ghost use Rattle.dwz_docs.specs.Lists.{In};
@@ -12,6 +12,7 @@ ghost use Rattle.dwz_alike.specs.Spots.{FileUnit, Spot, Top, tops_of};
 ghost use Rattle.dwz_alike.specs.Targets.{targets_of};
 ghost use Rattle.dwz_label.specs.Labels.{label_of, number};
 ghost use Rattle.dwz_label.specs.Nodes.{AreLeast, AreNodes, HaveOneLeast, SameBare};
+ghost use Rattle.dwz_label.specs.Shown.{AreFirsts, AreMade, AreShown};
 
 /// Laws on labels, of any tops. Two labels are equal exactly if the languages, the name lists and the bare trees are. Each
 /// number of 64 bits has its shortest LEB128 spelling there (DWARF 5, 7.6).
@@ -30,4 +31,10 @@ pub fn node_laws()
     ensures looks { (units : List (FileUnit Spot)) (g : List Node) → AreNodes units g → (k m n : ℕ) → Movable units m → Movable units n → LookEqual g k m n ↔ Look (tops_of units) k m n }
     ensures least { (units : List (FileUnit Spot)) (g : List Node) (least : List ℕ) → AreNodes units g → IsRefined g least → AreLeast units least }
     ensures alike { (scope : Scope) (units : List (FileUnit Spot)) (least : List ℕ) (a b : Top) → AreLeast units least → In a (tops_of units) → In b (tops_of units) → (alike_test scope units a.number b.number ≡ true) ↔ HaveOneLeast scope units least a b }
+{}
+
+/// A law on nodes that are made from lists. Where the lists show the tops of any units, with the first of equal labels, the nodes
+/// are those of these tops.
+pub fn made_laws()
+    ensures { (units : List (FileUnit Spot)) (labels : List (List ℕ)) (movable : List Bool) (targets : List (List ℕ)) (firsts : List ℕ) (g : List Node) → AreShown units labels movable targets → AreFirsts labels movable firsts → AreMade firsts movable targets g → AreNodes units g }
 {}

@@ -5,13 +5,17 @@
 //! references go into as its targets; so what no look tells apart of nodes is what is alike of tops.
 #![tactic(auto)]
 
+mod equal;
 mod labels;
 mod laws;
+mod made;
 mod pieces;
 mod writer;
 
+pub use equal::firsts;
 pub use labels::Labels;
-pub use laws::{label_laws, node_laws};
+pub use laws::{label_laws, made_laws, node_laws};
+pub use made::nodes;
 pub use pieces::{
     put_address, put_block, put_counted, put_expression, put_file, put_flag, put_index,
     put_language, put_list, put_no_file, put_num, put_number, put_offset, put_operand, put_ref,

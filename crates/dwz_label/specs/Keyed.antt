@@ -1,0 +1,67 @@
+-- Inner: numbers under keys, and the least number under each. No public clause cites it.
+use Rattle.std.specs.Prelude.{◌≡◌, ℕ, suc, ◌-◌, ◌<◌, ◌≤◌, Bool, true, false, Contains, List, length, slice_index, slice_index_or}
+use Rattle.std.specs.declared.cmp.Ordering.{Ordering}
+use Rattle.std.specs.declared.cmp.Ordering.TheVariants.{Equal}
+use Rattle.dwz_bucket.specs.Fnv.{hash_of}
+use Rattle.dwz_label.specs.declared.equal.Keyed.{Keyed}
+use Rattle.dwz_label.specs.Shown.{AreLeastOf, label_at}
+use denote.Ref.{Bor}
+
+abbrev pub Order : Type 0 → Type 0
+Order K = K → K → Ordering
+
+-- m is the least number of a row under that key
+pub record IsLeastUnder {K : Type 0} (cmp : Order K) (rows : List (Keyed K)) (key : K) (m : ℕ) : Type 0 where
+  pub row : Keyed K
+  pub there : Contains rows row
+  pub under : cmp key row.key ≡ Equal
+  pub number : row.number ≡ m
+  pub least : (r : Keyed K) → Contains rows r → cmp key r.key ≡ Equal → m ≤ r.number
+
+-- rows of one number are under one key
+abbrev pub AreOneKey : {K : Type 0} → Order K → List (Keyed K) → Type 0
+AreOneKey {K} cmp rows = (r s : Keyed K) → Contains rows r → Contains rows s → r.number ≡ s.number → cmp r.key s.key ≡ Equal
+
+-- at the number of each row stands the least under its key, and at each other number what stood there
+pub record ArePut {K : Type 0} (cmp : Order K) (rows : List (Keyed K)) (old new : List ℕ) : Type 0 where
+  pub len : length new ≡ length old
+  pub put : (r : Keyed K) → Contains rows r → IsLeastUnder cmp rows r.key (slice_index new r.number)
+  pub other : (n : ℕ) → ((r : Keyed K) → Contains rows r → r.number ≡ n → ⊥) → slice_index new n ≡ slice_index old n
+
+-- whether the row at i is under another key than the row before it
+pub record IsNew {K : Type 0} (cmp : Order K) (rows : List (Keyed K)) (is_new : Bool) (i : ℕ) : Type 0 where
+  pub new : is_new ≡ true → (j : ℕ) → i ≡ suc j → (d : Keyed K) → cmp (slice_index_or rows j d).key (slice_index_or rows i d).key ≡ Equal → ⊥
+  pub again : is_new ≡ false → (j : ℕ) × (i ≡ suc j) × ((d : Keyed K) → cmp (slice_index_or rows j d).key (slice_index_or rows i d).key ≡ Equal)
+
+-- the same of the first rows alone; and the number last written is the least under the key of the last of these
+pub record ArePutTo {K : Type 0} (cmp : Order K) (rows : List (Keyed K)) (old : List ℕ) (count : ℕ) (new : List ℕ) (first : ℕ) : Type 0 where
+  pub len : length new ≡ length old
+  pub put : (i : ℕ) (d : Keyed K) → i < count → IsLeastUnder cmp rows (slice_index_or rows i d).key (slice_index new (slice_index_or rows i d).number)
+  pub last : (d : Keyed K) → 0 < count → IsLeastUnder cmp rows (slice_index_or rows (count - 1) d).key first
+  pub other : (n : ℕ) → ((i : ℕ) (d : Keyed K) → i < count → (slice_index_or rows i d).number ≡ n → ⊥) → slice_index new n ≡ slice_index old n
+
+-- one row or more for each picked number below count, under its key
+pub record AreRows {K : Type 0} (Picked : ℕ → Type 0) (IsKey : ℕ → K → Type 0) (count : ℕ) (rows : List (Keyed K)) : Type 0 where
+  pub inside : (r : Keyed K) → Contains rows r → (r.number < count) × Picked r.number × IsKey r.number r.key
+  pub all : (n : ℕ) → n < count → Picked n → (r : Keyed K) × Contains rows r × (r.number ≡ n)
+
+-- ---- labels by their hashes
+
+abbrev pub hash_at : List (List ℕ) → ℕ → ℕ
+hash_at labels n = hash_of (label_at labels n)
+
+-- the rows of those that may move, each under the hash of its label
+abbrev pub AreHashed : List (List ℕ) → List Bool → ℕ → List (Keyed ℕ) → Type 0
+AreHashed labels movable count rows = AreRows (λ n. slice_index_or movable n false ≡ true) (λ n key. key ≡ hash_at labels n) count rows
+
+-- of each that may move the least whose label has the same hash, and of each other one its own number
+abbrev pub AreHeads : List (List ℕ) → List Bool → List ℕ → Type 0
+AreHeads labels movable heads = AreLeastOf (λ n m. hash_at labels n ≡ hash_at labels m) movable heads
+
+-- the label isn't that of the number beside it
+abbrev pub IsUnlike : List (List ℕ) → List ℕ → ℕ → Type 0
+IsUnlike labels heads n = label_at labels n ≡ label_at labels (slice_index heads n) → ⊥
+
+-- the rows of those, each under its label
+abbrev pub AreUnlike : List (List ℕ) → List ℕ → ℕ → List (Keyed (Bor (List ℕ))) → Type 0
+AreUnlike labels heads count rows = AreRows (IsUnlike labels heads) (λ n key. key.now ≡ label_at labels n) count rows

@@ -1,3 +1,5 @@
 pub mod Names
 pub mod Steps
 pub mod Index
+pub mod Spaces
+pub mod Building

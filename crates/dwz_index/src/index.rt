@@ -1,6 +1,6 @@
 //! What is kept of the entries of a file.
 
-ghost use Rattle.std.specs.Prelude.{◌≡◌, ℕ, ◌+◌, ◌<◌, ◌++◌, List, Some, length, slice_get, OnOk};
+ghost use Rattle.std.specs.Prelude.{◌≡◌, ℕ, ◌+◌, ◌<◌, ◌^◌, ◌++◌, List, Some, length, slice_get, OnOk};
 ghost use Rattle.dwz_alike.specs.Spots.{Spot};
 ghost use Rattle.dwz_index.specs.Index;
 ghost use Rattle.dwz_index.specs.Index.{IsIndex};
@@ -18,7 +18,7 @@ pub struct Starts {
 }
 
 /// The way up from an entry.
-#[derive(Clone, Copy, Debug, PartialEq, Eq)]
+#[derive(Clone, Copy)]
 pub(crate) struct Step {
     /// The number of its parent; its own, where it is a top or a root.
     pub up: u32,

@@ -1,6 +1,9 @@
 //! What the entries of a file are by their names: tops, spaces, and the ways up to them.
 #![tactic(auto)]
 
+mod building;
 mod index;
+mod spaces;
 
 pub use index::{Index, SpaceEntry, Starts, TopEntry};
+pub use spaces::is_space;

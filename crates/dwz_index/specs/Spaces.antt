@@ -1,0 +1,21 @@
+-- Which entries are spaces, as they are stored.
+use Rattle.std.specs.Prelude.{ℕ, Bool, true, false, Option, Some, None, ◌==◌}
+use Rattle.dwz_docs.specs.Entries.{RawAttr, RawEntry}
+use Rattle.dwz_meanings.specs.Meanings.{Class, OfCommonText, OfText, OfTextBySlot, OfTextInLineStr, OfTextInStr, class_of, first_raw}
+
+-- the values of the class are texts
+abbrev pub is_text : Class → Bool
+is_text OfText = true
+is_text OfTextInStr = true
+is_text OfTextInLineStr = true
+is_text OfTextBySlot = true
+is_text OfCommonText = true
+is_text _ = false
+
+abbrev pub has_text : Option RawAttr → Bool
+has_text None = false
+has_text (Some a) = is_text (class_of a.pair.form)
+
+-- a DW_TAG_namespace whose first DW_AT_name has the form of a text
+unfoldable pub stored_space : RawEntry → Bool
+stored_space e = elim (e.tag == 0x39) as (λ _. Bool) [ true ↦ has_text (first_raw 0x03 e.attrs) | false ↦ false ]

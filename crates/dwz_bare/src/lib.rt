@@ -7,7 +7,9 @@ mod named;
 mod numbers;
 mod plain;
 mod simple;
+mod targets;
 mod texts;
 
 pub use named::Named;
 pub use plain::put_plain;
+pub use targets::put_target;

@@ -1,5 +1,5 @@
 -- Files that are read, one after the other.
-use Rattle.std.specs.Prelude.{◌≡◌, ℕ, zero, suc, List, [], ◌∷◌, map, Result, Ok, Err}
+use Rattle.std.specs.Prelude.{◌≡◌, ℕ, zero, suc, List, [], ◌∷◌, length, map, Result, Ok, Err}
 use Rattle.dwz_model.specs.declared.fault.GraphErr.{GraphErr}
 use Rattle.dwz_model.specs.declared.fault.GraphErr.TheVariants.{NoMemory as NoMemoryFor, Refused as RefusedOf}
 use Rattle.dwz_model.specs.declared.fault.ReadErr.{ReadErr}
@@ -9,25 +9,29 @@ use Rattle.dwz_meanings.specs.Documents.{Doc}
 use Rattle.dwz_docs.specs.ElfReading.{elf_of}
 use Rattle.dwz_docs.specs.Faults.{Fails}
 use Rattle.dwz_meanings.specs.Files.{Limits, around_of, file_meaning, files_meaning, limits_after, no_files_before, sources_of}
-use Rattle.dwz_docs.specs.Units.{RawUnit}
+use Rattle.dwz_docs.specs.Units.{RawUnit, entries_in}
 use Rattle.dwz_meanings.specs.NamedLists.{lists_of_units}
 use Rattle.dwz_meanings.specs.Shared.{AreRows}
 use Rattle.dwz_resolve.specs.ListRows.{operand_view}
 use Rattle.dwz_graph.specs.declared.file.File.{File}
 use Rattle.dwz_graph.specs.declared.file.Left.{Left}
 use Rattle.dwz_resolve.specs.Named.{units_refs}
+use Rattle.dwz_resolve.specs.Parts.{AreParted, HaveLines}
 use Rattle.dwz_resolve.specs.Resolved.{AreEntries, place_at, sources_view}
 use Rattle.dwz_unit.specs.Rows.{units_of}
 
 abbrev pub limits_view : Left → Limits
 limits_view l = record { bytes = l.bytes; entries = l.entries; machine = l.machine }
 
--- The file says what a document does. Its units are kept, and the numbers of the entries that its references name.
+-- The file says what a document does. Its units are kept, the numbers of the entries that its references name, those of each entry in a
+-- part of their own, and the line tables whose files are numbered.
 pub record IsRead (l : Limits) (bytes : List ℕ) (f : File) : Type 0 where
   pub doc : Doc ℕ
   pub means : file_meaning l bytes ≡ Ok (units_of f.units, doc)
   pub named : units_refs doc.units ≡ map (place_at (units_of f.units)) f.resolved.refs.items
   pub within : AreEntries (units_of f.units) f.resolved.refs.items
+  pub parts : AreParted (around_of bytes (units_of f.units)) (units_of f.units) (entries_in (units_of f.units)) f.resolved.refs.items f.resolved.starts.items
+  pub lines : HaveLines (around_of bytes (units_of f.units)) (units_of f.units) (length (units_of f.units)) f.resolved.tables.items f.resolved.lines.items
   pub operands : AreRows (lists_of_units (around_of bytes (units_of f.units)) (units_of f.units)) (map (operand_view (units_of f.units)) f.resolved.operands.items)
   pub elf : f.elf ≡ elf_of bytes
   pub sections : sources_view f.sections ≡ sources_of bytes

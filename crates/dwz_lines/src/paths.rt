@@ -1,6 +1,6 @@
 //! Paths, each joined once, one behind the other.
 
-ghost use Rattle.std.specs.Prelude.{◌≡◌, ◌≤◌, ◌++◌, ◌∷◌, [], OnErr, OnOk, drop, length, map, take, vec_len};
+ghost use Rattle.std.specs.Prelude.{◌≡◌, ◌<◌, ◌≤◌, ◌^◌, ◌++◌, ◌∷◌, [], OnErr, OnOk, drop, length, map, take, vec_len};
 ghost use Rattle.std.specs.Option.{option_map};
 ghost use Rattle.dwz_meanings.specs.LineTables;
 ghost use Rattle.dwz_meanings.specs.LineTables.{nth_path};
@@ -118,7 +118,8 @@ impl Paths {
 
     // The path with a number.
     pub(crate) fn get(&self, index: u64) -> Option<&[u8]>
-        ensures { option_map (λ p. p.now) result ≡ nth_path self.now index }
+        ensures path { option_map (λ p. p.now) result ≡ nth_path self.now index }
+        ensures many { length self.now < 2 ^ 63 }
     {
         match self.spans.get(index as usize) {
             None => None,

@@ -1,6 +1,6 @@
 //! Line tables that are read.
 
-ghost use Rattle.std.specs.Prelude.{◌≡◌};
+ghost use Rattle.std.specs.Prelude.{◌≡◌, ◌<◌, ◌^◌, length};
 ghost use Rattle.std.specs.Option.{option_map};
 ghost use Rattle.dwz_docs.specs.Faults.{Answers};
 ghost use Rattle.dwz_meanings.specs.LineTables.{bad_line_table, file_table_at, nth_path};
@@ -68,7 +68,8 @@ impl FileTable {
     /// The path of a file by its number, counted from 0: joined with that of its directory and that of the unit's. None
     /// exactly where the table has no such row.
     pub fn path(&self, index: u64) -> Option<&[u8]>
-        ensures { option_map (λ p. p.now) result ≡ nth_path self.now.paths index }
+        ensures path { option_map (λ p. p.now) result ≡ nth_path self.now.paths index }
+        ensures many { length self.now.paths < 2 ^ 63 }
     {
         self.paths.get(index)
     }

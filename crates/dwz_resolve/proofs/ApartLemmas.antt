@@ -1,5 +1,5 @@
 -- Rows in order of place.
-use Rattle.std.proofs.Common.{◌≡◌, ◌⊎◌, ℕ, zero, suc, ◌+◌, ◌-◌, ◌<◌, ◌≤◌, Bool, true, false, List, [], ◌∷◌, ◌++◌, length, map, get_or, take, drop, Option, Some, None, slice_get, refl, sym, ap, subst, ◌∙◌, inl, inr, arith}
+use Rattle.std.proofs.Common.{◌≡◌, ◌⊎◌, ℕ, zero, suc, ◌+◌, ◌<◌, ◌≤◌, Bool, true, false, List, [], ◌∷◌, ◌++◌, length, map, get_or, take, Option, Some, None, slice_get, refl, sym, ap, subst, ◌∙◌, inl, inr, arith}
 use Rattle.std.specs.Option.{option_map}
 use Rattle.std.proofs.Common.{eqb, ◌&&◌}
 use Rattle.std.proofs.lemmas.Bool.{cases_lt, eq-eqb, eqb-true, false≢true}
@@ -10,7 +10,7 @@ use Rattle.dwz_meanings.specs.Shared.{OneOf, same_base, same_truth}
 use Rattle.dwz_model.specs.declared.place.Base.{Base}
 use Rattle.dwz_model.specs.declared.place.Base.TheVariants.{Unit as FromUnit, Info as FromInfo}
 use Rattle.dwz_resolve.specs.declared.operands.ListOperand.{ListOperand}
-use Rattle.dwz_resolve.specs.Apart.{AreWide, Before, Behind, Clash, FindsApart, FindsForeign, Foreign, HasClash, HasForeign, IsCause, IsLeast, Overlaps, Rise, Rows, Same, Test, Tested, owns_place, places_of_rows, repeats_last, same_operand}
+use Rattle.dwz_resolve.specs.Apart.{AreWide, Behind, FindsApart, FindsForeign, HasClash, HasForeign, IsCause, IsLeast, Overlaps, Rise, Rows, Same, Test, Tested, owns_place, places_of_rows, repeats_last, same_operand}
 use Rattle.dwz_resolve.proofs.RowLemmas.{take_here}
 use Rattle.dwz_resolve.proofs.PlaceLemmas.{Ascend, ascend_at, ascend_lower}
 use Rattle.dwz_resolve.proofs.SearchLemmas.{Rise as Rising}

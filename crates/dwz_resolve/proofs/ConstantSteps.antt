@@ -7,16 +7,16 @@ use Rattle.dwz_model.specs.declared.fault.ReadErr.{ReadErr}
 use Rattle.dwz_model.specs.declared.fault.ReadErr.TheVariants.{NoMemory, Refused}
 use Rattle.dwz_bytes.specs.Reading.{◌>>=◌}
 use Rattle.dwz_docs.specs.Entries.{RawAttr}
-use Rattle.dwz_docs.specs.Faults.{Fails, info_fault}
+use Rattle.dwz_docs.specs.Faults.{info_fault}
 use Rattle.dwz_model.specs.declared.fault.Reason.TheVariants.{BadFile}
 use Rattle.dwz_docs.specs.Units.{RawUnit}
-use Rattle.dwz_meanings.specs.Documents.{File, Value, only}
+use Rattle.dwz_meanings.specs.Documents.{File, only}
 use Rattle.dwz_meanings.specs.LineTables.{FileTable}
 use Rattle.dwz_meanings.specs.Meanings.{Scope, constant_value, file_by, is_zero, names_file, number_of, path_by, path_or, row_of_table, stmt_list}
 use Rattle.dwz_meanings.specs.Shared.{NamedList}
 use Rattle.dwz_resolve.specs.declared.files.Files.{Files}
 use Rattle.dwz_resolve.specs.declared.state.State.{State}
-use Rattle.dwz_resolve.specs.FileRows.{KnowTables, SaysConstant, file_there, number_there, row_there, table_at, unless_none}
+use Rattle.dwz_resolve.specs.FileRows.{SaysConstant, file_there, number_there, row_there, table_at, unless_none}
 use Rattle.dwz_resolve.specs.Named.{Found, found_in, map_ok, nothing_found}
 use Rattle.dwz_resolve.specs.Resolved.{Goes}
 use Rattle.dwz_resolve.specs.State.{IsState}

@@ -1,7 +1,7 @@
 -- Line tables that are read once each, and rows in them.
-use Rattle.std.proofs.Common.{◌≡◌, ℕ, zero, suc, ◌+◌, ◌<◌, ◌≤◌, Bool, true, false, cond, List, [], ◌∷◌, ◌++◌, length, map, Option, Some, None, Result, Ok, Err, pos, negsuc, slice_get, nat_eq, refl, sym, ap, subst, ◌∙◌, inl, inr, arith}
+use Rattle.std.proofs.Common.{◌≡◌, ℕ, zero, suc, ◌<◌, ◌≤◌, ◌^◌, Bool, true, false, cond, List, [], ◌∷◌, ◌++◌, length, Option, Some, None, Result, Ok, Err, pos, negsuc, slice_get, nat_eq, refl, sym, ap, subst, ◌∙◌, inl, inr, arith}
 use Rattle.std.specs.Prelude.{ℤ}
-use Rattle.std.specs.Option.{is_some}
+use Rattle.std.specs.Option.{is_some, option_map}
 use lib.Signed.{lt_z}
 use Rattle.dwz_resolve.specs.declared.files.Files.{Files}
 use Rattle.std.specs.HashMap.{get}
@@ -9,19 +9,11 @@ use Rattle.std.proofs.lemmas.Bool.{cases_Bool, cond-false, cond-true, eqb-true, 
 use Rattle.dwz_model.specs.declared.fault.Fault.{Fault}
 use Rattle.dwz_model.specs.declared.fault.ReadErr.{ReadErr}
 use Rattle.dwz_model.specs.declared.fault.ReadErr.TheVariants.{NoMemory, Refused}
-use Rattle.dwz_model.specs.declared.fault.Reason.TheVariants.{BadFile}
 use Rattle.dwz_bytes.specs.Reading.{◌>>=◌}
-use Rattle.dwz_docs.specs.Faults.{Answers, Fails, info_fault}
+use Rattle.dwz_docs.specs.Faults.{Answers, Fails}
 use Rattle.dwz_meanings.specs.LineTables.{FileTable, nth_path}
 use Rattle.dwz_meanings.specs.Meanings.{Sources, path_by}
 use Rattle.dwz_resolve.specs.FileRows.{HasTable, KnowTables, SaysFile, file_there, row_there, table_at, unless_none}
-
-pub none_past : (paths : List (List ℕ)) (m n : ℕ) → m ≤ n → nth_path paths m ≡ None → nth_path paths n ≡ None
-unfolding nth_path
-none_past [] m n le e = refl
-none_past (p ∷ paths) zero n le e = absurd cc
-none_past (p ∷ paths) (suc m) zero le e = absurd (omega arith)
-none_past (p ∷ paths) (suc m) (suc n) le e = none_past paths m n (omega arith) e
 
 get_front : {X : Type 0} (xs ys : List X) (k : ℕ) (x : X) → slice_get xs k ≡ Some x → slice_get (xs ++ ys) k ≡ Some x
 get_front [] ys k x e = absurd cc
@@ -38,9 +30,22 @@ has_more sources tables new t place number e h = record { table = h.table; there
 pub has_last : (sources : Sources) (tables new : List FileTable) (t : FileTable) (place number : ℕ) → new ≡ tables ++ t ∷ [] → number ≡ length tables → table_at sources place ≡ Ok t → HasTable sources new place number
 has_last sources tables new t place number e len read = record { table = t; there = (λ i. slice_get (e i) (len i)) ∙ get_end tables t; read = read }
 
-pub past_all : (t : FileTable) (z : ℤ) → lt_z (pos 18446744073709551615) z ≡ true → nth_path t.paths 18446744073709551615 ≡ None → false ≡ is_some (path_by t z)
-past_all t (pos n) above none = let lt = ltb-true 18446744073709551615 n above in sym (ap (λ (o : Option (List ℕ)). is_some o) (none_past t.paths 18446744073709551615 n (omega arith) none))
-past_all t (negsuc n) above none = refl
+none_behind : (paths : List (List ℕ)) (n : ℕ) → length paths ≤ n → nth_path paths n ≡ None
+unfolding nth_path
+none_behind [] n le = refl
+none_behind (p ∷ paths) zero le = absurd (omega arith)
+none_behind (p ∷ paths) (suc n) le = none_behind paths n (omega arith)
+
+is_none : {X : Type 0} (f : X → List ℕ) (o : Option X) → option_map f o ≡ None → is_some o ≡ false
+is_none f None e = refl
+is_none f (Some x) e = absurd cc
+
+-- no table has as many files
+pub past_all : {X : Type 0} (t : FileTable) (z : ℤ) (f : X → List ℕ) (o : Option X) → lt_z (pos 18446744073709551615) z ≡ true → length t.paths < 2 ^ 63 → option_map f o ≡ nth_path t.paths 18446744073709551615 → is_some o ≡ is_some (path_by t z)
+past_all t (pos n) f o above few is =
+    let lt = ltb-true 18446744073709551615 n above in
+    is_none f o (is ∙ none_behind t.paths 18446744073709551615 (omega arith)) ∙ sym (ap (λ (o : Option (List ℕ)). is_some o) (none_behind t.paths n (omega arith)))
+past_all t (negsuc n) f o above few is = absurd (false≢true above)
 
 pub plain_number : (z y : ℤ) → y ≡ z → lt_z (pos 18446744073709551615) y ≡ true → lt_z (pos 18446744073709551615) z ≡ true
 plain_number z y e h = ap (λ (x : ℤ). lt_z (pos 18446744073709551615) x) (sym e) ∙ h
@@ -67,9 +72,6 @@ module _ (sources : Sources) where
         },
         last,
       )
-
-pub no_path : (o : Option (List ℕ)) → None ≡ o → o ≡ None
-no_path o e = sym e
 
 -- ---- what a value says
 

@@ -21,3 +21,6 @@ pub mod ListSteps
 pub mod ConstantSteps
 pub mod ListStates
 pub mod ListGoes
+pub mod PartSteps
+pub mod LineSteps
+pub mod FewRefs

@@ -1,5 +1,5 @@
 -- Lists that values name.
-use Rattle.std.proofs.Common.{◌≡◌, ℕ, ◌+◌, ◌<◌, ◌≤◌, Bool, true, false, List, [], ◌∷◌, ◌++◌, length, Option, Some, None, Result, Ok, Err, nat_lt, refl, sym, ap, subst, ◌∙◌, inl, inr, arith}
+use Rattle.std.proofs.Common.{◌≡◌, ℕ, ◌+◌, ◌<◌, ◌≤◌, Bool, true, false, List, [], ◌∷◌, length, Option, Some, None, Result, Ok, Err, nat_lt, refl, sym, ap, subst, ◌∙◌, inl, inr, arith}
 use Rattle.std.specs.Prelude.{if◌then◌else◌}
 use Rattle.std.proofs.lemmas.Bool.{cases_lt, cond-false, cond-true, lt-ltb, le-ltb}
 use Rattle.std.proofs.lemmas.List.{append-nil}
@@ -13,13 +13,13 @@ use Rattle.dwz_docs.specs.Faults.{Fails, info_fault}
 use Rattle.dwz_docs.specs.Texts.{slot, slot_place}
 use Rattle.dwz_docs.specs.Units.{RawUnit}
 use Rattle.dwz_docs.proofs.TextLemmas.{short_section}
-use Rattle.dwz_meanings.specs.Documents.{Sec, Value, only}
+use Rattle.dwz_meanings.specs.Documents.{Sec, only}
 use Rattle.dwz_meanings.specs.LocLists.{LocList}
 use Rattle.dwz_meanings.specs.Meanings.{Scope, list_by, list_from, list_meaning, list_read, loc_said, loclists_base, names_list, offset_of}
 use Rattle.dwz_meanings.specs.NamedLists.{by_base, by_offset, named_at, named_by}
 use Rattle.dwz_meanings.specs.Shared.{NamedList}
 use Rattle.dwz_resolve.specs.declared.state.State.{State}
-use Rattle.dwz_resolve.specs.ListSteps.{AddsAt, AddsIf, AddsIndexed, AddsList, AddsOffset, BySlot, HasList, IsUnchanged, Walks, list_there, named_list}
+use Rattle.dwz_resolve.specs.ListSteps.{AddsAt, AddsIf, AddsIndexed, AddsList, AddsOffset, BySlot, Walks, list_there, named_list}
 use Rattle.dwz_resolve.specs.Named.{Found, found_in, map_ok}
 use Rattle.dwz_resolve.specs.Resolved.{Goes}
 use Rattle.dwz_resolve.specs.State.{IsState}

@@ -1,5 +1,5 @@
 -- Operands of a list are looked up one after the other, and kept.
-use Rattle.std.proofs.Common.{◌≡◌, ℕ, zero, suc, ◌+◌, ◌-◌, ◌<◌, ◌≤◌, ◌^◌, Bool, true, false, List, [], ◌∷◌, ◌++◌, length, map, take, drop, get_or, Option, Some, None, Result, Ok, Err, slice_get, refl, sym, ap, subst, ◌∙◌, inl, inr, arith}
+use Rattle.std.proofs.Common.{◌≡◌, ℕ, zero, suc, ◌+◌, ◌<◌, ◌≤◌, ◌^◌, true, false, List, [], ◌∷◌, ◌++◌, length, map, take, drop, get_or, Some, None, Result, Ok, Err, slice_get, refl, sym, ap, subst, ◌∙◌, inl, inr, arith}
 use Rattle.std.specs.Option.{option_map}
 use Rattle.std.proofs.lemmas.Option.{get_or_from_slice_get, slice_get-map}
 use Rattle.std.proofs.lemmas.List.{append-nil, append_assoc, map-append, take-append-drop, take_all}
@@ -15,7 +15,7 @@ use Rattle.dwz_meanings.specs.Exprs.{bad_operand, first_unnamed}
 use Rattle.dwz_meanings.specs.Meanings.{Scope, expr_context, leads_to, list_read, target_of}
 use Rattle.dwz_meanings.specs.LocLists.{LocList, list_at}
 use Rattle.dwz_meanings.specs.Sequences.{read_from}
-use Rattle.dwz_meanings.specs.Shared.{NamedList, of_unit, operands_of}
+use Rattle.dwz_meanings.specs.Shared.{of_unit, operands_of}
 use Rattle.dwz_docs.specs.Faults.{Fails}
 use Rattle.dwz_expr.specs.FirstFault.{unless_one}
 use Rattle.dwz_expr.specs.Gathering.{added}
@@ -29,8 +29,7 @@ use Rattle.dwz_resolve.specs.declared.operands.ListOperand.{ListOperand}
 use Rattle.dwz_resolve.specs.Apart.{Rows}
 use Rattle.dwz_resolve.specs.ListRows.{number_for, operand_view, start_of}
 use Rattle.dwz_resolve.specs.ListSteps.{AreOperands, AreSmall, NamesRows}
-use Rattle.dwz_resolve.specs.Operands.{IsUnnamed, LooksUp, is_named}
-use Rattle.dwz_resolve.specs.Resolved.{place_at}
+use Rattle.dwz_resolve.specs.Operands.{IsUnnamed, is_named}
 use Rattle.dwz_resolve.proofs.ApartLemmas.{got_at, in_both, in_left, in_right}
 use Rattle.dwz_resolve.proofs.OperandSteps.{first_of, one_named, one_unnamed}
 use Rattle.dwz_resolve.proofs.RowLemmas.{drop_here, take_here}

@@ -54,17 +54,17 @@ attrs_same s (a ∷ attrs) = attrs_choice s a attrs (a.pair.name == 0x01) (attrs
 
 -- ---- entries
 
-abbrev node_found : List NamedList → Node ℕ → Found
+abbrev pub node_found : List NamedList → Node ℕ → Found
 node_found lists d = found (attrs_refs d.attrs) lists
 
-abbrev node_lists : Scope ℕ → RawEntry → List NamedList
+abbrev pub node_lists : Scope ℕ → RawEntry → List NamedList
 node_lists s e = lists_of_attrs s (without_siblings e.attrs)
 
 node_step : (s : Scope ℕ) (e : RawEntry) (lists : List NamedList) (q : Result (List (Attr ℕ)) Fault) → map_ok (attrs_found lists) q ≡ map_ok (node_found lists) (q >>= node_with s e)
 node_step s e lists (Ok attrs) = refl
 node_step s e lists (Err f) = refl
 
-node_same : (s : Scope ℕ) (e : RawEntry) → entry_named s e ≡ map_ok (node_found (node_lists s e)) (node_meaning s e)
+pub node_same : (s : Scope ℕ) (e : RawEntry) → entry_named s e ≡ map_ok (node_found (node_lists s e)) (node_meaning s e)
 node_same s e = attrs_same s e.attrs ∙ node_step s e (node_lists s e) (attrs_meaning s (without_siblings e.attrs))
 
 abbrev entries_found : List NamedList → Entries ℕ → Found

@@ -12,7 +12,7 @@ use Rattle.dwz_meanings.specs.Shared.{NamedList}
 use Rattle.dwz_docs.specs.Units.{RawUnit, entries_in}
 use Rattle.dwz_resolve.specs.declared.state.State.{State}
 use Rattle.dwz_resolve.specs.Named.{Found, collect, found, found_in, joined, map_ok, nothing_found}
-use Rattle.dwz_resolve.specs.Resolved.{Adds, AreEntries, Each, Goes, NamesEntry, place_at}
+use Rattle.dwz_resolve.specs.Resolved.{Adds, Each, Goes, NamesEntry, place_at}
 use Rattle.dwz_resolve.proofs.NamedLemmas.{collect_append, none_joined}
 use Rattle.dwz_resolve.proofs.RowLemmas.{drop_here, take_here}
 

@@ -1,6 +1,6 @@
 -- Operands of an expression are looked up one after the other.
-use Rattle.std.proofs.Common.{◌≡◌, ℕ, ◌+◌, ◌-◌, ◌<◌, ◌≤◌, Bool, true, false, List, [], ◌∷◌, ◌++◌, length, map, take, drop, get_or, Option, Some, None, Result, Ok, Err, slice_get, refl, sym, ap, subst, ◌∙◌, arith}
-use Rattle.std.specs.Prelude.{slice_range, if◌then◌else◌}
+use Rattle.std.proofs.Common.{◌≡◌, ℕ, ◌+◌, ◌-◌, ◌<◌, ◌≤◌, Bool, true, false, List, [], ◌∷◌, ◌++◌, length, map, take, drop, get_or, Option, Some, None, Result, Ok, Err, refl, sym, ap, subst, ◌∙◌, arith}
+use Rattle.std.specs.Prelude.{slice_range}
 use Rattle.std.specs.Option.{IfSome}
 use Rattle.std.proofs.lemmas.Bool.{cond-false, cond-true, false≢true}
 use Rattle.std.proofs.lemmas.List.{append-nil, append_assoc, map-append, take-append-drop, take_all}
@@ -10,9 +10,9 @@ use Rattle.dwz_model.specs.declared.fault.ReadErr.TheVariants.{NoMemory, Refused
 use Rattle.dwz_docs.specs.Units.{RawUnit, entries_in}
 use Rattle.dwz_meanings.specs.declared.exprs.Operand.{Operand}
 use Rattle.dwz_meanings.specs.Exprs.{Expression, any_operands, bad_operand, expr_at, first_unnamed}
-use Rattle.dwz_meanings.specs.Meanings.{Scope, entries_for, expr_context, expr_said, has, target_of, targets}
+use Rattle.dwz_meanings.specs.Meanings.{Scope, entries_for, expr_context, expr_said, target_of, targets}
 use Rattle.dwz_resolve.specs.Operands.{AreNumbers, IsUnnamed, LooksUp, NamesAll, expr_named, is_named, lacks_memory}
-use Rattle.dwz_resolve.specs.Resolved.{AreEntries, Goes, place_at, places}
+use Rattle.dwz_resolve.specs.Resolved.{Goes, place_at, places}
 use Rattle.dwz_bytes.specs.Input.{Input}
 use Rattle.dwz_bytes.specs.Reading.{◌>>=◌}
 use Rattle.dwz_docs.specs.Faults.{Fails}

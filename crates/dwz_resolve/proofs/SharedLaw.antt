@@ -1,24 +1,21 @@
 -- What a pass over rows finds is the least place at which an operand of a list shares a byte.
-use Rattle.std.proofs.Common.{◌≡◌, ◌⊎◌, ℕ, zero, suc, ◌+◌, ◌<◌, ◌≤◌, Bool, true, false, List, [], ◌∷◌, ◌++◌, length, map, take, drop, get_or, eqb, ◌-◌, Option, Some, None, Ok, Err, slice_get, refl, sym, ap, subst, ◌∙◌, inl, inr, arith}
+use Rattle.std.proofs.Common.{◌≡◌, ◌⊎◌, ℕ, zero, suc, ◌+◌, ◌<◌, ◌≤◌, Bool, true, false, List, [], ◌∷◌, map, drop, eqb, ◌-◌, Option, Some, None, Ok, Err, refl, sym, ap, subst, ◌∙◌, inl, inr, arith}
 use Rattle.std.specs.List.{Contains, list_any}
 use Rattle.std.specs.List.Sorted.{IsPermutation}
 use Rattle.std.proofs.lemmas.Bool.{cases_Bool, cases_lt, cond-false, cond-true, eq-eqb, eqb-true, false≢true}
-use Rattle.std.proofs.lemmas.List.{map-append}
 use Rattle.std.proofs.lemmas.List.Sorted.{Contains-permutation, IsPermutation-sym}
 use Rattle.dwz_docs.specs.Lists.{In, has}
 use Rattle.dwz_docs.specs.Units.{RawUnit}
-use Rattle.dwz_model.specs.declared.fault.Fault.{Fault}
-use Rattle.dwz_model.specs.declared.place.Base.{Base}
 use Rattle.dwz_meanings.specs.declared.exprs.Operand.{Operand}
-use Rattle.dwz_meanings.specs.Shared.{AreRows, Ascend, Clashes, HasByte, IsInSlot, IsSame, IsShared, IsSharedAt, IsSharedFault, ListOperand, NamedList, NoneShared, OneOf, ReadsInside, has_byte, none_shared, of_unit, operands_in_lists, own_operands, shared_list}
+use Rattle.dwz_meanings.specs.Shared.{AreRows, Ascend, Clashes, HasByte, IsInSlot, IsSame, IsShared, IsSharedAt, ListOperand, NamedList, NoneShared, OneOf, has_byte, none_shared, of_unit, operands_in_lists, own_operands, shared_list}
 use Rattle.dwz_meanings.proofs.SharedLemmas.{has_decides, shared_agrees}
 use Rattle.dwz_meanings.proofs.DecideLemmas.{decides_any}
 use Rattle.dwz_resolve.specs.declared.lists.ListRow.{ListRow}
 use Rattle.dwz_resolve.specs.declared.lists.Lists.{Lists}
 use Rattle.dwz_resolve.specs.declared.operands.ListOperand.{ListOperand as Row}
-use Rattle.dwz_resolve.specs.Apart.{AreWide, Before, Clash, FindsApart, Foreign, HasClash, IsCause, Overlaps, Rise, Rows, Same, Test, Tested, owns_place, places_of_rows}
+use Rattle.dwz_resolve.specs.Apart.{AreWide, Before, Clash, FindsApart, Foreign, HasClash, IsCause, Rise, Rows, Same, Test, Tested, places_of_rows}
 use Rattle.dwz_resolve.specs.ListRows.{AreDistinct, IsRowOf, Shows, operand_view, own_rows, row_test, slot_test, start_of, tests_of}
-use Rattle.dwz_resolve.proofs.ApartLemmas.{each_behind, each_wide, in_at, in_both, in_left, in_right, in_take, one_row, same_sym, same_trans}
+use Rattle.dwz_resolve.proofs.ApartLemmas.{each_behind, each_wide, in_both, in_left, in_right, in_take, one_row, same_sym, same_trans}
 
 -- ---- members
 

@@ -1,5 +1,5 @@
 -- What is known of the state, as it changes.
-use Rattle.std.proofs.Common.{◌≡◌, ℕ, ◌+◌, ◌<◌, ◌≤◌, List, [], None, Some, nat_eq, slice_get, subst, sym, ◌∙◌, arith}
+use Rattle.std.proofs.Common.{◌≡◌, ℕ, ◌+◌, List, [], None, Some, nat_eq, slice_get, subst, sym, ◌∙◌, arith}
 use Rattle.std.specs.HashMap.{get}
 use Rattle.dwz_docs.specs.Lists.{In}
 use Rattle.dwz_docs.specs.Units.{RawUnit}

@@ -7,7 +7,7 @@ use Rattle.dwz_model.specs.declared.fault.ReadErr.{ReadErr}
 use Rattle.dwz_model.specs.declared.fault.ReadErr.TheVariants.{NoMemory, Refused}
 use Rattle.dwz_model.specs.declared.fault.Reason.TheVariants.{BadString}
 use Rattle.dwz_docs.specs.Entries.{RawAttr}
-use Rattle.dwz_docs.specs.Faults.{Fails, info_fault}
+use Rattle.dwz_docs.specs.Faults.{info_fault}
 use Rattle.dwz_docs.specs.Texts.{slot, text_at}
 use Rattle.dwz_docs.specs.Units.{RawUnit}
 use Rattle.dwz_meanings.specs.Documents.{Value}

@@ -1,5 +1,5 @@
 -- Units begin at rising places, and none that is read is partial.
-use Rattle.std.proofs.Common.{◌≡◌, ℕ, ◌+◌, ◌<◌, ◌≤◌, Bool, true, false, List, [], ◌∷◌, ◌++◌, length, map, get_or, Some, Result, Ok, Err, slice_get, refl, sym, ap, subst, ◌∙◌, inl, inr, arith}
+use Rattle.std.proofs.Common.{◌≡◌, ℕ, ◌+◌, ◌≤◌, Bool, true, false, List, [], ◌∷◌, ◌++◌, length, map, get_or, Some, Result, Ok, Err, slice_get, refl, sym, ap, subst, ◌∙◌, inl, inr, arith}
 use Rattle.std.specs.Prelude.{◌==◌}
 use Rattle.std.specs.Option.{option_map}
 use Rattle.std.proofs.lemmas.Bool.{cases_lt, eqb-true, false≢true}
@@ -8,11 +8,11 @@ use Rattle.std.proofs.lemmas.Option.{get_or_from_slice_get, slice_get-map}
 use Rattle.dwz_model.specs.declared.fault.Fault.{Fault}
 use Rattle.dwz_bytes.specs.Input.{input}
 use Rattle.dwz_docs.specs.Entries.{given}
-use Rattle.dwz_docs.specs.Units.{CompileUnit, PartialUnit, RawKind, RawUnit, SpellsHeader, SpellsUnit, SpellsUnits, TypeUnit, header_size, is_read, kind_by, kind_of, unit_type, units_at}
+use Rattle.dwz_docs.specs.Units.{CompileUnit, PartialUnit, RawKind, RawUnit, SpellsHeader, SpellsUnits, TypeUnit, header_size, is_read, kind_by, unit_type, units_at}
 use Rattle.dwz_docs.proofs.UnitListLemmas.{units_found}
 use Rattle.dwz_meanings.specs.Files.{place_if_whole, unit_places}
 use Rattle.dwz_unit.specs.declared.rows.RawUnit.{RawUnit as UnitOfCode}
-use Rattle.dwz_unit.specs.Rows.{Source, or_none, shown_from, shown_units, unit_shown, units_of}
+use Rattle.dwz_unit.specs.Rows.{Source, or_none, shown_units, units_of}
 use Rattle.dwz_resolve.specs.ListRows.{AreDistinct}
 use Rattle.dwz_resolve.proofs.PlaceLemmas.{Ascend, ascend_at}
 use Rattle.dwz_resolve.proofs.RowLemmas.{unit_there}

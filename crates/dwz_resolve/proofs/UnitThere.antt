@@ -96,11 +96,11 @@ unit_ends raw n x t =
     let rest = length-append here t.after in
     omega arith
 
-get_behind : {X : Type 0} (xs ys : List X) (k : ℕ) → slice_get (xs ++ ys) (length xs + k) ≡ slice_get ys k
+pub get_behind : {X : Type 0} (xs ys : List X) (k : ℕ) → slice_get (xs ++ ys) (length xs + k) ≡ slice_get ys k
 get_behind [] ys k = let e : 0 + k ≡ k = omega arith in ap (slice_get ys) e
 get_behind (x ∷ xs) ys k = let e : suc (length xs) + k ≡ suc (length xs + k) = omega arith in ap (slice_get (x ∷ (xs ++ ys))) e ∙ get_behind xs ys k
 
-get_front : {X : Type 0} (xs ys : List X) (k : ℕ) → k < length xs → slice_get (xs ++ ys) k ≡ slice_get xs k
+pub get_front : {X : Type 0} (xs ys : List X) (k : ℕ) → k < length xs → slice_get (xs ++ ys) k ≡ slice_get xs k
 get_front [] ys k l = absurd (omega arith)
 get_front (x ∷ xs) ys zero l = refl
 get_front (x ∷ xs) ys (suc k) l = get_front xs ys k (omega arith)

@@ -1,5 +1,5 @@
 -- The next value of an entry, where the code has read it.
-use Rattle.std.proofs.Common.{◌≡◌, ℕ, ◌+◌, ◌<◌, List, drop, get_or, length, Some, pos, slice_get, ap, subst, ◌∙◌}
+use Rattle.std.proofs.Common.{◌≡◌, ℕ, ◌+◌, ◌<◌, List, drop, get_or, length, Some, pos, slice_get, subst, ◌∙◌}
 use Rattle.std.specs.Prelude.{Ok}
 use Rattle.dwz_bytes.specs.Input.{Input}
 use Rattle.dwz_codes.specs.Forms.{form_rows}

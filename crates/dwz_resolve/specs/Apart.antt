@@ -1,10 +1,8 @@
 -- Rows of operands in order of place, and what a pass over them finds.
-use Rattle.std.specs.Prelude.{◌≡◌, ◌⊎◌, ℕ, ◌+◌, ◌<◌, ◌≤◌, Bool, true, false, List, [], ◌∷◌, length, map, Option, Some, None, ◌==◌, ◌&&◌, not, slice_get}
+use Rattle.std.specs.Prelude.{◌≡◌, ◌⊎◌, ℕ, ◌+◌, ◌<◌, ◌≤◌, Bool, true, false, List, [], ◌∷◌, length, map, Option, Some, None, ◌==◌, ◌&&◌, slice_get}
 use Rattle.std.specs.List.Sorted.{IsNonDecreasingBy}
 use Rattle.dwz_docs.specs.Lists.{In, has}
 use Rattle.dwz_meanings.specs.Shared.{OneOf, same_base, same_truth}
-use Rattle.dwz_model.specs.declared.place.Base.{Base}
-use Rattle.dwz_resolve.specs.declared.lists.ListRow.{ListRow}
 use Rattle.dwz_resolve.specs.declared.operands.ListOperand.{ListOperand}
 
 -- ---- operands

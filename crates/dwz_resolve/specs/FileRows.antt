@@ -1,5 +1,5 @@
 -- Line tables that were read, and what values that number files say.
-use Rattle.std.specs.Prelude.{◌≡◌, ℕ, ℤ, Bool, true, false, List, map, Option, Some, None, Result, Ok, Err, nat_eq, if◌then◌else◌, slice_get}
+use Rattle.std.specs.Prelude.{◌≡◌, ℕ, ℤ, Bool, true, false, List, Option, Some, None, Result, Ok, Err, IfOk, nat_eq, if◌then◌else◌, slice_get}
 use Rattle.std.specs.Option.{is_some}
 use Rattle.std.specs.HashMap.{get}
 use Rattle.dwz_model.specs.declared.fault.Fault.{Fault}
@@ -24,6 +24,19 @@ pub record HasTable (sources : Sources) (tables : List FileTable) (place number 
 -- each place that is kept is that of its table
 pub record KnowTables (sources : Sources) (files : Files) : Type 0 where
   pub known : (place number : ℕ) → get nat_eq files.places place ≡ Some number → HasTable sources files.tables.items place number
+
+-- the number that is kept for the table at a place, if there is a place
+abbrev pub number_at : Files → Option ℕ → Option ℕ
+number_at files None = None
+number_at files (Some place) = get nat_eq files.places place
+
+-- each number that was kept still is; and where a value numbers files, one is kept for the place
+pub record Learns (numbers : Bool) (line : Option ℕ) (old new : Files) : Type 0 where
+  pub still : (place number : ℕ) → get nat_eq old.places place ≡ Some number → get nat_eq new.places place ≡ Some number
+  pub known : numbers ≡ true → number_at new line ≡ None → line ≡ None
+
+abbrev pub IfLearns : {Y : Type 0} → Bool → Option ℕ → Files → Files → Result Y ReadErr → Type 0
+IfLearns numbers line old new result = IfOk result (λ y. Learns numbers line old new)
 
 -- the table at the place has that number, or there is none
 abbrev pub FindsTable : Sources → ℕ → Files → Result ℕ ReadErr → Type 0

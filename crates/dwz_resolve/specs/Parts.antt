@@ -1,14 +1,18 @@
 -- The references of each entry, and the line table of each unit.
-use Rattle.std.specs.Prelude.{◌≡◌, ℕ, ◌+◌, ◌<◌, ◌≤◌, Bool, true, false, List, length, map, Option, Some, None, Ok, ◌&&◌, slice_get, slice_index, slice_range}
+use Rattle.std.specs.Prelude.{◌≡◌, ℕ, ◌+◌, ◌<◌, ◌≤◌, ◌^◌, Bool, true, false, List, length, map, Option, Some, None, Ok, ◌&&◌, slice_get, slice_index, slice_range, take}
 use Rattle.dwz_docs.specs.Entries.{RawAttr, RawEntry}
 use Rattle.dwz_docs.specs.Lists.{In}
-use Rattle.dwz_docs.specs.Units.{RawUnit}
+use Rattle.dwz_docs.specs.Units.{RawUnit, entries_in}
 use Rattle.dwz_meanings.specs.Documents.{Node}
 use Rattle.dwz_meanings.specs.LineTables.{FileTable}
 use Rattle.dwz_meanings.specs.Meanings.{Around, Class, OfConstant, class_of, names_file, node_meaning, scope_of, stmt_list}
-use Rattle.dwz_resolve.specs.FileRows.{HasTable}
+use Rattle.dwz_resolve.specs.FileRows.{HasTable, number_at}
 use Rattle.dwz_resolve.specs.Named.{attrs_refs, entries_of}
-use Rattle.dwz_resolve.specs.Resolved.{place_at}
+use Rattle.dwz_resolve.specs.Resolved.{around, place_at}
+use Rattle.dwz_resolve.specs.declared.files.Files.{Files}
+use Rattle.dwz_resolve.specs.declared.parts.Parts.{Parts}
+use Rattle.dwz_resolve.specs.declared.sections.Sections.{Sections}
+use Rattle.dwz_resolve.specs.declared.state.State.{State}
 use Rattle.dwz_unit.specs.Rows.{EntryRow, rows_of}
 
 -- ---- references
@@ -28,16 +32,39 @@ abbrev is_constant : Class → Bool
 is_constant OfConstant = true
 is_constant _ = false
 
--- its value is the number of a file
-abbrev pub numbers_file : RawAttr → Bool
-numbers_file a = names_file a.pair.name && is_constant (class_of a.pair.form)
+-- a value of that class, of an attribute of that name, is the number of a file
+abbrev pub numbers_as : Class → ℕ → Bool
+numbers_as k name = is_constant k && names_file name
 
--- The line table of the unit has that number; or the unit has no line table, or no value of its entries is the number of a file.
+abbrev pub numbers_file : RawAttr → Bool
+numbers_file a = numbers_as (class_of a.pair.form) a.pair.name
+
+-- the unit has no line table, or no value of its entries is the number of a file
+abbrev pub NumbersNone : Around ℕ → RawUnit → Type 0
+NumbersNone around u = (e : RawEntry) (a : RawAttr) → In e (entries_of u) → In a e.attrs → numbers_file a ≡ true → stmt_list (scope_of around u) ≡ None
+
+-- the line table of the unit has that number, or none is asked for
 abbrev pub HasLine : Around ℕ → RawUnit → List FileTable → Option ℕ → Type 0
 HasLine around u tables (Some number) = (place : ℕ) × (stmt_list (scope_of around u) ≡ Some place) × HasTable around.sources tables place number
-HasLine around u tables None = (e : RawEntry) (a : RawAttr) → In e (entries_of u) → In a e.attrs → numbers_file a ≡ true → stmt_list (scope_of around u) ≡ None
+HasLine around u tables None = NumbersNone around u
 
 -- the same of the first `count` units
 pub record HaveLines (around : Around ℕ) (raw : List RawUnit) (count : ℕ) (tables : List FileTable) (lines : List (Option ℕ)) : Type 0 where
   pub many : length lines ≡ count
   pub line : (n : ℕ) (u : RawUnit) (number : Option ℕ) → slice_get raw n ≡ Some u → slice_get lines n ≡ Some number → HasLine around u tables number
+
+-- ---- as they are kept
+
+-- the number of its line table is kept for the place of that
+abbrev pub KnowsLine : Around ℕ → Files → RawUnit → Option ℕ → Type 0
+KnowsLine around files u (Some number) = number_at files (stmt_list (scope_of around u)) ≡ Some number
+KnowsLine around files u None = NumbersNone around u
+
+pub record KnowLines (around : Around ℕ) (raw : List RawUnit) (count : ℕ) (files : Files) (lines : List (Option ℕ)) : Type 0 where
+  pub many : length lines ≡ count
+  pub line : (n : ℕ) (u : RawUnit) (number : Option ℕ) → slice_get raw n ≡ Some u → slice_get lines n ≡ Some number → KnowsLine around files u number
+
+-- Behind the units before the n-th: of the entries and units before, as long as there are fewer than 2^32 references.
+pub record IsParted (sections : Sections) (raw : List RawUnit) (n : ℕ) (st : State) (parts : Parts) : Type 0 where
+  pub starts : length st.refs.items < 2 ^ 32 → AreParted (around sections raw) raw (entries_in (take n raw)) st.refs.items parts.starts.items
+  pub lines : KnowLines (around sections raw) raw n st.files parts.lines.items

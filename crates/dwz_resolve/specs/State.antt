@@ -1,6 +1,6 @@
 -- What is kept of the values that were looked at.
 use Rattle.std.specs.Prelude.{◌≡◌, ℕ, ◌<◌, ◌≤◌, List, Option, Some, Ok, nat_eq}
-use Rattle.std.specs.HashMap.{HashMap, get}
+use Rattle.std.specs.HashMap.{get}
 use Rattle.dwz_docs.specs.Units.{RawUnit}
 use Rattle.dwz_meanings.specs.Meanings.{Around, Scope, list_read}
 use Rattle.dwz_meanings.specs.Shared.{NamedList, OneOf}

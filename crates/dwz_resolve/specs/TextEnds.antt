@@ -1,5 +1,5 @@
 -- Where texts of a section end.
-use Rattle.std.specs.Prelude.{◌≡◌, ℕ, ◌<◌, List, nat_lt}
+use Rattle.std.specs.Prelude.{◌≡◌, ℕ, List, nat_lt}
 use Rattle.std.specs.Option.{is_some}
 use Rattle.dwz_docs.specs.Texts.{text_at}
 

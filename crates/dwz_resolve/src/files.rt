@@ -1,15 +1,15 @@
 //! Files that values number (DWARF 5, 2.14 and 6.2.4): rows of their unit's line table.
 
-ghost use Rattle.std.specs.Prelude.{◌≡◌, IfOk, IfErr, Some, slice_get};
+ghost use Rattle.std.specs.Prelude.{◌≡◌, Some, true, slice_get};
 ghost use Rattle.std.specs.Option.{is_some};
 ghost use Rattle.dwz_forms.specs.RawValues.{raw_view};
 ghost use Rattle.dwz_meanings.specs.LineTables.{FileTable as Paths};
 ghost use Rattle.dwz_meanings.specs.Meanings;
 ghost use Rattle.dwz_meanings.specs.Meanings.{path_by};
-ghost use Rattle.dwz_model.specs.declared.fault.ReadErr.TheVariants.{NoMemory, Refused};
+ghost use Rattle.dwz_model.specs.declared.fault.ReadErr.TheVariants.{Refused};
 ghost use Rattle.dwz_model.specs.declared.fault.Reason.TheVariants.{BadFile};
 ghost use Rattle.dwz_docs.specs.Faults.{Answers, info_fault};
-ghost use Rattle.dwz_resolve.specs.FileRows.{FindsTable, KnowTables, SaysConstant, SaysFile, unless_none};
+ghost use Rattle.dwz_resolve.specs.FileRows.{FindsTable, IfLearns, KnowTables, SaysConstant, SaysFile, number_at, unless_none};
 ghost use Rattle.dwz_resolve.specs.Resolved.{sources_view};
 
 use crate::here::Here;
@@ -27,7 +27,7 @@ pub(crate) struct Files {
     /// The tables.
     pub tables: Vec<FileTable>,
     /// The number of the table at a place of `.debug_line`.
-    pub places: HashMap<u64, usize>,
+    pub places: HashMap<u32, usize>,
 }
 
 // The section `.debug_info` in faults.
@@ -54,32 +54,27 @@ fn number_of(raw: &Raw) -> i128
     }
 }
 
-// Whether a table has a file of that number. No table in memory has 2^64 files.
+// Whether a table has a file of that number. None has 2^64 files.
 #[inline(always)]
-fn has_path(table: &FileTable, number: i128) -> Result<bool, ReadErr>
-    ensures ok { IfOk result (λ b. b ≡ is_some (path_by table.now number)) }
-    ensures err { IfErr result (λ e. e ≡ NoMemory) }
+fn has_path(table: &FileTable, number: i128) -> bool
+    ensures { result ≡ is_some (path_by table.now number) }
 {
     if number < 0 {
-        return Ok(false);
+        return false;
     }
     if number > u64::MAX as i128 {
-        return match table.path(u64::MAX) {
-            None => Ok(false),
-            Some(_) => Err(ReadErr::NoMemory),
-        };
+        return table.path(u64::MAX).is_some();
     }
-    Ok(table.path(number as u64).is_some())
+    table.path(number as u64).is_some()
 }
 
 // The same of the table with a number.
 #[inline(always)]
-fn has_row(tables: &[FileTable], table: usize, number: i128) -> Result<bool, ReadErr>
-    ensures ok { (t : Paths) → slice_get tables.now table ≡ Some t → IfOk result (λ b. b ≡ is_some (path_by t number)) }
-    ensures err { IfErr result (λ e. e ≡ NoMemory) }
+fn has_row(tables: &[FileTable], table: usize, number: i128) -> bool
+    ensures { (t : Paths) → slice_get tables.now table ≡ Some t → result ≡ is_some (path_by t number) }
 {
     if table >= tables.len() {
-        return Ok(false);
+        return false;
     }
     has_path(&tables[table], number)
 }
@@ -104,9 +99,20 @@ impl Files {
         }
     }
 
+    /// The number of the table at a place, if there is a place, and its table was read.
+    pub(crate) fn number_at(&self, line: Option<u32>) -> Option<usize>
+        ensures { result ≡ number_at self.now line }
+    {
+        match line {
+            None => None,
+            Some(place) => self.places.get(&place).copied(),
+        }
+    }
+
     /// The number of the table at a place, which is read unless it was read before.
-    fn table(&mut self, sections: &Sections, place: u64) -> Result<usize, ReadErr>
-        ensures { KnowTables (sources_view sections.now) self.old → FindsTable (sources_view sections.now) place self.new result }
+    fn table(&mut self, sections: &Sections, place: u32) -> Result<usize, ReadErr>
+        ensures learns { IfLearns true (Some place) self.old self.new result }
+        ensures finds { KnowTables (sources_view sections.now) self.old → FindsTable (sources_view sections.now) place self.new result }
     {
         if let Some(table) = self.places.get(&place) {
             return Ok(*table);
@@ -116,7 +122,7 @@ impl Files {
             sections.line,
             sections.line_strs.bytes,
             sections.strs.bytes,
-            place,
+            place as u64,
         )?;
         let number = self.tables.as_slice().len();
         self.tables.push(table)?;
@@ -128,21 +134,19 @@ impl Files {
     pub(crate) fn check(
         &mut self,
         sections: &Sections,
-        line: Option<u128>,
+        line: Option<u32>,
         at: u64,
         raw: &Raw,
     ) -> Result<(), ReadErr>
-        ensures { KnowTables (sources_view sections.now) self.old → SaysFile (sources_view sections.now) line at (Meanings.number_of (raw_view raw.now)) self.new result }
+        ensures learns { IfLearns true line self.old self.new result }
+        ensures says { KnowTables (sources_view sections.now) self.old → SaysFile (sources_view sections.now) line at (Meanings.number_of (raw_view raw.now)) self.new result }
     {
         let number = number_of(raw);
         match line {
             None => unless_missing(number == 0, at),
             Some(place) => {
-                if place > u64::MAX as u128 {
-                    return Err(ReadErr::NoMemory);
-                }
-                let table = self.table(sections, place as u64)?;
-                let is_there = has_row(&self.tables, table, number)?;
+                let table = self.table(sections, place)?;
+                let is_there = has_row(&self.tables, table, number);
                 unless_missing(is_there, at)
             }
         }
@@ -167,7 +171,8 @@ pub(crate) fn check_constant(
     raw: &Raw,
     files: &mut Files,
 ) -> Result<(), ReadErr>
-    ensures { KnowTables (sources_view sections.now) files.old → SaysConstant (sources_view sections.now) here.now.line name at (Meanings.number_of (raw_view raw.now)) files.new result }
+    ensures learns { IfLearns (Meanings.names_file name) here.now.line files.old files.new result }
+    ensures says { KnowTables (sources_view sections.now) files.old → SaysConstant (sources_view sections.now) here.now.line name at (Meanings.number_of (raw_view raw.now)) files.new result }
 {
     if names_file(name) {
         files.check(sections, here.line, at, raw)

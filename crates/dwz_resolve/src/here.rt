@@ -2,6 +2,8 @@
 
 ghost use Rattle.std.specs.Prelude.{◌≡◌, ℕ, ◌<◌, Some, slice_get};
 ghost use Rattle.dwz_docs.specs.Units.{entries_in};
+ghost use Rattle.dwz_docs.specs.Values.{HasSpelling};
+ghost use Rattle.dwz_forms.specs.RawValues.{raw_view};
 ghost use Rattle.dwz_meanings.specs.Meanings;
 ghost use Rattle.dwz_meanings.specs.Meanings.{first_raw};
 ghost use Rattle.dwz_resolve.specs.Resolved.{IsUnitHere};
@@ -22,29 +24,30 @@ pub struct Here {
     /// The number behind that of its last entry.
     pub end: u32,
     /// The base of its slots of `.debug_str_offsets`, where it has one.
-    pub offsets: Option<u128>,
+    pub offsets: Option<u32>,
     /// The base of its slots of `.debug_loclists`, where it has one.
-    pub lists: Option<u128>,
+    pub lists: Option<u32>,
     /// Where its line table begins, if it has one.
-    pub line: Option<u128>,
+    pub line: Option<u32>,
 }
 
 const SEC_OFFSET: u64 = 0x17;
 
-// The offset that an attribute gives.
+// The offset that an attribute gives. It has 4 bytes.
 #[inline(always)]
-fn base_in(attr: &RawAttr) -> Option<u128>
+fn base_in(attr: &RawAttr) -> Option<u32>
+    requires { HasSpelling attr.now.pair.form (raw_view attr.now.raw) }
     ensures { result ≡ Meanings.base_in (Some (attr_view attr.now)) }
 {
     if attr.pair.form == SEC_OFFSET {
-        Some(offset_of(&attr.raw))
+        Some(offset_of(&attr.raw) as u32)
     } else {
         None
     }
 }
 
 // The offset that the first attribute of a name gives, of the entry with a number.
-fn base_of(units: &Units, root: u32, name: u16) -> Option<u128>
+fn base_of(units: &Units, root: u32, name: u16) -> Option<u32>
     requires { root < entries_in (units_of units.now) }
     ensures { (row : EntryRow) → slice_get (rows_of (units_of units.now)) root ≡ Some row → result ≡ Meanings.base_in (first_raw name row.entry.attrs) }
 {

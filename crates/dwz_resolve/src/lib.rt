@@ -10,6 +10,7 @@ mod kinds;
 mod lists;
 mod named;
 mod operands;
+mod parts;
 mod ranges;
 mod references;
 mod resolving;

@@ -105,7 +105,8 @@ fn walk(
 ) -> Result<(), ReadErr>
     requires here { here.now.end ≤ entries_in (units_of units.now) }
     requires place { place < length sections.now.lists.now }
-    ensures { (u : RawUnit) (before : List NamedList) → IsHere (units_of units.now) u here.now → StateIn sections.now (units_of units.now) u here.now before state.old → Walks (units_of units.now) (scope_in sections.now (units_of units.now) u) here.now.number place before state.old state.new result }
+    ensures files { state.new.files ≡ state.old.files }
+    ensures goes { (u : RawUnit) (before : List NamedList) → IsHere (units_of units.now) u here.now → StateIn sections.now (units_of units.now) u here.now before state.old → Walks (units_of units.now) (scope_in sections.now (units_of units.now) u) here.now.number place before state.old state.new result }
 {
     if sections.lists.len() > u32::MAX as usize {
         return Err(ReadErr::NoMemory);
@@ -158,7 +159,8 @@ fn walk_once(
 ) -> Result<(), ReadErr>
     requires here { here.now.end ≤ entries_in (units_of units.now) }
     requires place { place < length sections.now.lists.now }
-    ensures { (u : RawUnit) (before : List NamedList) → IsHere (units_of units.now) u here.now → StateIn sections.now (units_of units.now) u here.now before state.old → Walks (units_of units.now) (scope_in sections.now (units_of units.now) u) here.now.number place before state.old state.new result }
+    ensures files { state.new.files ≡ state.old.files }
+    ensures goes { (u : RawUnit) (before : List NamedList) → IsHere (units_of units.now) u here.now → StateIn sections.now (units_of units.now) u here.now before state.old → Walks (units_of units.now) (scope_in sections.now (units_of units.now) u) here.now.number place before state.old state.new result }
 {
     if was_seen(&state.lists.seen, place, here.number) {
         return Ok(());
@@ -188,7 +190,8 @@ fn add_list(
     state: &mut State,
 ) -> Result<(), ReadErr>
     requires { here.now.end ≤ entries_in (units_of units.now) }
-    ensures { (u : RawUnit) (before : List NamedList) → IsHere (units_of units.now) u here.now → StateIn sections.now (units_of units.now) u here.now before state.old → AddsList (units_of units.now) (scope_in sections.now (units_of units.now) u) here.now.number at place before state.old state.new result }
+    ensures files { state.new.files ≡ state.old.files }
+    ensures goes { (u : RawUnit) (before : List NamedList) → IsHere (units_of units.now) u here.now → StateIn sections.now (units_of units.now) u here.now before state.old → AddsList (units_of units.now) (scope_in sections.now (units_of units.now) u) here.now.number at place before state.old state.new result }
 {
     if place >= sections.lists.len() as u128 {
         return Err(bad_list(at));
@@ -224,7 +227,8 @@ pub(crate) fn add_offset(
     state: &mut State,
 ) -> Result<(), ReadErr>
     requires { here.now.end ≤ entries_in (units_of units.now) }
-    ensures { (u : RawUnit) (before : List NamedList) → IsHere (units_of units.now) u here.now → StateIn sections.now (units_of units.now) u here.now before state.old → AddsOffset (units_of units.now) (scope_in sections.now (units_of units.now) u) here.now.number name at offset before state.old state.new result }
+    ensures files { state.new.files ≡ state.old.files }
+    ensures goes { (u : RawUnit) (before : List NamedList) → IsHere (units_of units.now) u here.now → StateIn sections.now (units_of units.now) u here.now before state.old → AddsOffset (units_of units.now) (scope_in sections.now (units_of units.now) u) here.now.number name at offset before state.old state.new result }
 {
     if names_list(name) {
         add_list(units, sections, here, at, offset, state)
@@ -263,12 +267,13 @@ pub(crate) fn add_indexed(
     state: &mut State,
 ) -> Result<(), ReadErr>
     requires { here.now.end ≤ entries_in (units_of units.now) }
-    ensures { (u : RawUnit) (before : List NamedList) → IsHere (units_of units.now) u here.now → StateIn sections.now (units_of units.now) u here.now before state.old → AddsIndexed (units_of units.now) (scope_in sections.now (units_of units.now) u) here.now.number here.now.lists at index before state.old state.new result }
+    ensures files { state.new.files ≡ state.old.files }
+    ensures goes { (u : RawUnit) (before : List NamedList) → IsHere (units_of units.now) u here.now → StateIn sections.now (units_of units.now) u here.now before state.old → AddsIndexed (units_of units.now) (scope_in sections.now (units_of units.now) u) here.now.number here.now.lists at index before state.old state.new result }
 {
     let Some(base) = here.lists else {
         return Err(bad_list(at));
     };
-    let Some(slot) = slot_at(sections.lists, base, index) else {
+    let Some(slot) = slot_at(sections.lists, base as u128, index) else {
         return Err(bad_list(at));
     };
     add_list(units, sections, here, at, slot.place, state)?;

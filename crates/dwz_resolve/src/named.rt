@@ -1,6 +1,7 @@
 //! What the values of entries name, or the first fault.
 
-ghost use Rattle.std.specs.Prelude.{◌≡◌, ℕ, ◌+◌, ◌<◌, ◌≤◌, List, [], Some, length, slice_get};
+ghost use Rattle.std.specs.Prelude.{◌≡◌, ℕ, ◌+◌, ◌<◌, ◌≤◌, List, [], IfOk, Some, length, slice_get};
+ghost use Rattle.std.specs.List.{list_any};
 ghost use Rattle.dwz_docs.specs.Faults.{info_fault};
 ghost use Rattle.dwz_docs.specs.Units.{RawUnit, entries_in};
 ghost use Rattle.dwz_meanings.specs.Meanings;
@@ -10,6 +11,8 @@ ghost use Rattle.dwz_model.specs.declared.fault.ReadErr.TheVariants.{Refused};
 ghost use Rattle.dwz_model.specs.declared.fault.Reason.TheVariants.{UnsupportedForm};
 ghost use Rattle.dwz_meanings.specs.Shared.{NamedList};
 ghost use Rattle.dwz_resolve.specs.Classes.{class_view};
+ghost use Rattle.dwz_resolve.specs.FileRows.{IfLearns};
+ghost use Rattle.dwz_resolve.specs.Parts.{IsParted, numbers_as, numbers_file};
 ghost use Rattle.dwz_resolve.specs.Named.{attr_named, entry_named, found_in, map_ok, unit_named, units_named};
 ghost use Rattle.dwz_resolve.specs.Resolved.{Goes, IsHere, StateAt, StateIn, around, scope_in, stored};
 ghost use Rattle.dwz_unit.specs.Rows.{EntryRow, rows_of, units_of};
@@ -20,6 +23,7 @@ use crate::files::check_constant;
 use crate::here::{Here, here_of};
 use crate::kinds::check_kind;
 use crate::lists::{add_indexed, add_offset};
+use crate::parts::Parts;
 use crate::references::{add_entry, bad_reference};
 use crate::sections::{Sections, offset_of};
 use crate::state::State;
@@ -53,7 +57,8 @@ fn add_as(
     state: &mut State,
 ) -> Result<(), ReadErr>
     requires { here.now.end ≤ entries_in (units_of units.now) }
-    ensures { (u : RawUnit) (before : List NamedList) → IsHere (units_of units.now) u here.now → StateIn sections.now (units_of units.now) u here.now before state.old → Goes (units_of units.now) (StateIn sections.now (units_of units.now) u here.now) before state.old state.new result (map_ok (found_in (lists_as (class_view class) (scope_in sections.now (units_of units.now) u) (stored at end pair.now raw.now))) (as_class (class_view class) (scope_in sections.now (units_of units.now) u) (stored at end pair.now raw.now))) }
+    ensures learns { IfLearns (numbers_as (class_view class) pair.now.name) here.now.line state.old.files state.new.files result }
+    ensures goes { (u : RawUnit) (before : List NamedList) → IsHere (units_of units.now) u here.now → StateIn sections.now (units_of units.now) u here.now before state.old → Goes (units_of units.now) (StateIn sections.now (units_of units.now) u here.now) before state.old state.new result (map_ok (found_in (lists_as (class_view class) (scope_in sections.now (units_of units.now) u) (stored at end pair.now raw.now))) (as_class (class_view class) (scope_in sections.now (units_of units.now) u) (stored at end pair.now raw.now))) }
 {
     let offset = offset_of(raw);
     match class {
@@ -101,7 +106,8 @@ fn add_attr(
     state: &mut State,
 ) -> Result<(), ReadErr>
     requires { here.now.end ≤ entries_in (units_of units.now) }
-    ensures { (u : RawUnit) (before : List NamedList) → IsHere (units_of units.now) u here.now → StateIn sections.now (units_of units.now) u here.now before state.old → Goes (units_of units.now) (StateIn sections.now (units_of units.now) u here.now) before state.old state.new result (attr_named (scope_in sections.now (units_of units.now) u) (stored at end pair.now raw.now)) }
+    ensures learns { IfLearns (numbers_file (stored at end pair.now raw.now)) here.now.line state.old.files state.new.files result }
+    ensures goes { (u : RawUnit) (before : List NamedList) → IsHere (units_of units.now) u here.now → StateIn sections.now (units_of units.now) u here.now before state.old → Goes (units_of units.now) (StateIn sections.now (units_of units.now) u here.now) before state.old state.new result (attr_named (scope_in sections.now (units_of units.now) u) (stored at end pair.now raw.now)) }
 {
     if pair.name == SIBLING {
         return Ok(());
@@ -129,7 +135,8 @@ fn add_values(
 ) -> Result<(), ReadErr>
     requires row { i < entries_in (units_of units.now) }
     requires here { here.now.end ≤ entries_in (units_of units.now) }
-    ensures { (u : RawUnit) (row : EntryRow) (before : List NamedList) → IsHere (units_of units.now) u here.now → slice_get (rows_of (units_of units.now)) i ≡ Some row → StateIn sections.now (units_of units.now) u here.now before state.old → Goes (units_of units.now) (StateIn sections.now (units_of units.now) u here.now) before state.old state.new result (entry_named (scope_in sections.now (units_of units.now) u) row.entry) }
+    ensures learns { (row : EntryRow) → slice_get (rows_of (units_of units.now)) i ≡ Some row → IfLearns (list_any numbers_file row.entry.attrs) here.now.line state.old.files state.new.files result }
+    ensures goes { (u : RawUnit) (row : EntryRow) (before : List NamedList) → IsHere (units_of units.now) u here.now → slice_get (rows_of (units_of units.now)) i ≡ Some row → StateIn sections.now (units_of units.now) u here.now before state.old → Goes (units_of units.now) (StateIn sections.now (units_of units.now) u here.now) before state.old state.new result (entry_named (scope_in sections.now (units_of units.now) u) row.entry) }
 {
     let Values { pairs, mut cursor } = units.values(i);
     for pair in pairs {
@@ -142,16 +149,25 @@ fn add_values(
 }
 
 // Adds what the entries of a unit name.
-fn add_unit(units: &Units, sections: &Sections, n: u32, state: &mut State) -> Result<(), ReadErr>
+fn add_unit(
+    units: &Units,
+    sections: &Sections,
+    n: u32,
+    state: &mut State,
+    parts: &mut Parts,
+) -> Result<(), ReadErr>
     requires { n < length (units_of units.now) }
-    ensures { (u : RawUnit) (before : List NamedList) → slice_get (units_of units.now) n ≡ Some u → StateAt sections.now (units_of units.now) n before state.old → Goes (units_of units.now) (StateAt sections.now (units_of units.now) (n + 1)) before state.old state.new result (unit_named (around sections.now (units_of units.now)) u) }
+    ensures parts { (before : List NamedList) → StateAt sections.now (units_of units.now) n before state.old → IsParted sections.now (units_of units.now) n state.old parts.old → IfOk result (λ y. IsParted sections.now (units_of units.now) (n + 1) state.new parts.new) }
+    ensures goes { (u : RawUnit) (before : List NamedList) → slice_get (units_of units.now) n ≡ Some u → StateAt sections.now (units_of units.now) n before state.old → Goes (units_of units.now) (StateAt sections.now (units_of units.now) (n + 1)) before state.old state.new result (unit_named (around sections.now (units_of units.now)) u) }
 {
     let unit = units.unit(n);
     let here = here_of(units, n, &unit);
     check_kind(units, sections, &here, &unit)?;
     for i in here.first..here.end {
         add_values(units, sections, &here, i, state)?;
+        parts.end_entry(state.refs.as_slice().len())?;
     }
+    parts.end_unit(&state.files, here.line)?;
     Ok(())
 }
 
@@ -160,11 +176,13 @@ pub(crate) fn add_units(
     units: &Units,
     sections: &Sections,
     state: &mut State,
+    parts: &mut Parts,
 ) -> Result<(), ReadErr>
-    ensures { StateAt sections.now (units_of units.now) 0 [] state.old → Goes (units_of units.now) (StateAt sections.now (units_of units.now) (length (units_of units.now))) [] state.old state.new result (units_named (around sections.now (units_of units.now)) (units_of units.now)) }
+    ensures parts { StateAt sections.now (units_of units.now) 0 [] state.old → IsParted sections.now (units_of units.now) 0 state.old parts.old → IfOk result (λ y. IsParted sections.now (units_of units.now) (length (units_of units.now)) state.new parts.new) }
+    ensures goes { StateAt sections.now (units_of units.now) 0 [] state.old → Goes (units_of units.now) (StateAt sections.now (units_of units.now) (length (units_of units.now))) [] state.old state.new result (units_named (around sections.now (units_of units.now)) (units_of units.now)) }
 {
     for n in 0..units.len() {
-        add_unit(units, sections, n, state)?;
+        add_unit(units, sections, n, state, parts)?;
     }
     Ok(())
 }

@@ -36,13 +36,13 @@ pub(crate) fn check_text(is_there: bool, at: u64) -> Result<(), ReadErr>
 
 /// Whether a text stands at the offset that is in a slot.
 #[inline(always)]
-pub(crate) fn has_slot_text(sections: &Sections, base: Option<u128>, index: u128) -> bool
+pub(crate) fn has_slot_text(sections: &Sections, base: Option<u32>, index: u128) -> bool
     ensures { result ≡ has_slot_text (sources_view sections.now) base index }
 {
     let Some(base) = base else {
         return false;
     };
-    let Some(offset) = slot(sections.offsets, base, index) else {
+    let Some(offset) = slot(sections.offsets, base as u128, index) else {
         return false;
     };
     sections.strs.has(offset as u128)

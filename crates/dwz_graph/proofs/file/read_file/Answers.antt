@@ -1,8 +1,11 @@
-use Rattle.std.proofs.Common.{◌≡◌, ℕ, List, true, sym, ap, subst, ◌∙◌}
+use Rattle.std.proofs.Common.{◌≡◌, ℕ, List, length, true, sym, ap, subst, ◌∙◌}
 use Rattle.std.proofs.lemmas.Result.{err_from_is_err_and}
 use Rattle.dwz_model.specs.declared.fault.ReadErr.{ReadErr}
 use Rattle.dwz_docs.specs.Faults.{Fails}
 use Rattle.dwz_meanings.specs.Files.{file_meaning, is_other_machine}
+use Rattle.dwz_docs.specs.Units.{entries_in}
+use Rattle.dwz_meanings.specs.Meanings.{Sources, alone}
+use Rattle.dwz_resolve.specs.Parts.{AreParted, HaveLines}
 use Rattle.dwz_resolve.specs.Resolved.{sources_view}
 use Rattle.dwz_graph.specs.Files.{limits_view}
 use Rattle.dwz_unit.specs.Rows.{units_of}
@@ -64,12 +67,15 @@ returns c =
     let same = c.sections_of-sections.ensures.sources elf.1 in
     let ranges = c.sections_of-sections.ensures.aranges elf.1 in
     let sources = sources_view c.sections_of-sections.result in
+    let raw = units_of c.in_ok-units.units in
     let d = has_doc l bytes c.content-info.result.now c.content-abbrevs.result.now sources c.sections_of-sections.result.aranges.now (units_of c.in_ok-units.units) _ good info abbrevs same ranges c.in_ok-units.ensures.answers c.in_ok-resolved.ensures.answers in
     record {
       doc = d.doc;
       means = d.means;
       named = d.refs;
       within = c.in_ok-resolved.ensures.within;
+      parts = subst (λ (w : Sources). AreParted (alone w raw) raw (entries_in raw) c.in_ok-resolved.resolved.refs.items c.in_ok-resolved.resolved.starts.items) same c.in_ok-resolved.ensures.starts;
+      lines = subst (λ (w : Sources). HaveLines (alone w raw) raw (length raw) c.in_ok-resolved.resolved.tables.items c.in_ok-resolved.resolved.lines.items) same c.in_ok-resolved.ensures.lines;
       operands = same_rows bytes sources (units_of c.in_ok-units.units) _ same c.in_ok-resolved.ensures.operands;
       elf = elf.1;
       sections = same;

@@ -1,8 +1,8 @@
 -- The header of two short paths is short.
-use Rattle.std.proofs.Common.{◌≡◌, ◌+◌, ◌*◌, ◌<◌, ◌++◌, ◌∷◌, [], ℕ, List, length, refl, sym, ap, ◌∙◌, arith}
+use Rattle.std.proofs.Common.{◌≡◌, ◌+◌, ◌*◌, ◌++◌, ◌∷◌, [], ℕ, List, length, refl, ap, ◌∙◌, arith}
 use Rattle.std.proofs.lemmas.List.{length-append}
 use Rattle.dwz_bytes.specs.Spelling.{groups_in, padded, uleb}
-use Rattle.dwz_lines.specs.Writing.{file_formats, header_written, one_directory, rows_bytes, standard, tables_written}
+use Rattle.dwz_lines.specs.Writing.{file_formats, header_written, one_directory, rows_bytes, standard}
 use Rattle.dwz_lines.proofs.WriteLemmas.{header_len}
 use Rattle.dwz_lines.proofs.tests.writes_headers.Goals as goal
 

@@ -1,4 +1,4 @@
-use Rattle.std.proofs.Common.{ℕ, ◌-◌, List, length, refl, sym, ap, ◌∙◌}
+use Rattle.std.proofs.Common.{◌-◌, length, refl, sym, ◌∙◌}
 use Rattle.std.proofs.lemmas.Result.{err_from_is_err_and}
 use Rattle.dwz_bytes.specs.Input.{Input}
 use Rattle.dwz_forms.specs.RawValues.{raw_view}
@@ -10,8 +10,8 @@ use Rattle.dwz_resolve.proofs.OperandSteps.{expression_fails, expression_read, h
 use Rattle.dwz_resolve.proofs.StateLemmas.{with_expression}
 use Rattle.dwz_resolve.proofs.expressions.add_expression.Goals as goal
 
-pub returns-in_err-add_operands : goal.returns-in_err-add_operands
-returns-in_err-add_operands c = λ u before here k. (
+pub returns-in_err-add_operands-clause-goes : goal.returns-in_err-add_operands-clause-goes
+returns-in_err-add_operands-clause-goes c = λ u before here k. (
     let p = err_from_is_err_and c.from_residual.result c.from_residual.ensures.1 in
     let raw = units_of c.args.units.now in
     let s = scope_in c.args.sections.now raw u in
@@ -22,8 +22,8 @@ returns-in_err-add_operands c = λ u before here k. (
     rw (p.1, p.2) (operands_fail raw K before s refl i c.deref.result.now c.in_err-add_operands.field-0.0 c.read_into-read.result c.args.state.now.refs.items c.add_operands.new.refs.items
     (has_memory c.read_into-read.result (sym c.is_no_memory.ensures ∙ c.if-is_no_memory.false)) reads (c.in_err-add_operands.ensures u here)))
 
-pub returns-in-Ok : goal.returns-in-Ok
-returns-in-Ok c = λ u before here k. (
+pub returns-in-Ok-clause-goes : goal.returns-in-Ok-clause-goes
+returns-in-Ok-clause-goes c = λ u before here k. (
     let raw = units_of c.args.units.now in
     let s = scope_in c.args.sections.now raw u in
     let K = StateIn c.args.sections.now raw u c.args.here.now in
@@ -34,8 +34,8 @@ returns-in-Ok c = λ u before here k. (
     expression_read raw K before s refl i c.deref.result.now c.args.state.now new c.read_into-read.result c.in-Ok.field-0 c.in-Ok.is reads (c.in_ok-add_operands.ensures u here)
     (with_expression raw s c.args.here.now.number before c.args.state.now c.add_operands.new.refs c.read_into-read.new.operands k))
 
-pub returns-in-Err : goal.returns-in-Err
-returns-in-Err c = λ u before here k. (
+pub returns-in-Err-clause-goes : goal.returns-in-Err-clause-goes
+returns-in-Err-clause-goes c = λ u before here k. (
     let raw = units_of c.args.units.now in
     let s = scope_in c.args.sections.now raw u in
     let K = StateIn c.args.sections.now raw u c.args.here.now in

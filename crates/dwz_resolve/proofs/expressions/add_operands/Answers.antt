@@ -1,4 +1,3 @@
-use Rattle.std.proofs.Common.{arith}
 use Rattle.dwz_unit.specs.Rows.{units_of}
 use Rattle.dwz_resolve.specs.Resolved.{scope_in}
 use Rattle.dwz_resolve.proofs.OperandSteps.{names_fail, numbers_all, numbers_more, numbers_none, unnamed_at}

@@ -1,7 +1,8 @@
+use Rattle.std.proofs.Common.{◌∙◌}
 use mir.Syntax.{w128}
 use Rattle.std.proofs.lemmas.Int.{to_z-of_z}
-use Rattle.dwz_resolve.proofs.FileSteps.{no_path, past_all, plain_number}
+use Rattle.dwz_resolve.proofs.FileSteps.{past_all, plain_number}
 use Rattle.dwz_resolve.proofs.files.has_path.Goals as goal
 
-pub returns-in-None-clause-ok : goal.returns-in-None-clause-ok
-returns-in-None-clause-ok c = past_all c.args.table.now c.args.number (plain_number c.args.number _ (to_z-of_z w128 c.args.number c.ranges.number) c.if-number.true) (no_path _ (c.in-None.ensures))
+pub returns-then-number : goal.returns-then-number
+returns-then-number c = c.is_some.ensures ∙ past_all c.args.table.now c.args.number (λ p. p.now) c.path.result (plain_number c.args.number _ (to_z-of_z w128 c.args.number c.ranges.number) c.if-number.true) c.path.ensures.many c.path.ensures.path

@@ -4,9 +4,9 @@ use Rattle.dwz_resolve.specs.Resolved.{scope_in}
 use Rattle.dwz_resolve.proofs.ListGoes.{adds_at}
 use Rattle.dwz_resolve.proofs.lists.add_list.Goals as goal
 
-pub returns : goal.returns
-returns c = λ u before here k. (
+pub returns-clause-goes : goal.returns-clause-goes
+returns-clause-goes c = λ u before here k. (
     let raw = units_of c.args.units.now in
     let s = scope_in c.args.sections.now raw u in
     let low = c.if-place-sections.false in
-    adds_at raw s c.args.here.now.number c.args.at c.args.place before c.args.state.now c.walk_once.new.state c.walk_once.result (omega arith) (c.walk_once.ensures u before here k))
+    adds_at raw s c.args.here.now.number c.args.at c.args.place before c.args.state.now c.walk_once.new.state c.walk_once.result (omega arith) (c.walk_once.ensures.goes u before here k))

@@ -1,4 +1,4 @@
-use Rattle.std.proofs.Common.{◌≡◌, ℕ, ◌<◌, ◌^◌, List, length, refl, sym, ap, ◌∙◌, arith}
+use Rattle.std.proofs.Common.{◌<◌, ◌^◌, List, length, refl, sym, ap, ◌∙◌, arith}
 use Rattle.std.proofs.lemmas.Result.{err_from_is_err_and}
 use Rattle.dwz_unit.specs.Rows.{units_of}
 use Rattle.dwz_resolve.specs.declared.lists.ListRow.{ListRow}
@@ -6,12 +6,12 @@ use Rattle.dwz_resolve.specs.declared.operands.ListOperand.{ListOperand}
 use Rattle.dwz_resolve.specs.declared.state.State.{State}
 use Rattle.dwz_resolve.specs.Resolved.{scope_in}
 use Rattle.dwz_resolve.proofs.ListStates.{state_more}
-use Rattle.dwz_resolve.proofs.ListSteps.{below_length, list_added, list_refused, list_unnamed, list_was_read, walks_row}
+use Rattle.dwz_resolve.proofs.ListSteps.{below_length, list_added, list_unnamed, list_was_read, walks_row}
 use Rattle.dwz_resolve.proofs.OperandSteps.{has_memory}
 use Rattle.dwz_resolve.proofs.lists.walk.Goals as goal
 
-pub returns-in_err-name_operands : goal.returns-in_err-name_operands
-returns-in_err-name_operands c = λ u before here k. (
+pub returns-in_err-name_operands-clause-goes : goal.returns-in_err-name_operands-clause-goes
+returns-in_err-name_operands-clause-goes c = λ u before here k. (
     let p = err_from_is_err_and c.from_residual.result c.from_residual.ensures.1 in
     let raw = units_of c.args.units.now in
     let s = scope_in c.args.sections.now raw u in
@@ -19,8 +19,8 @@ returns-in_err-name_operands c = λ u before here k. (
     rw (p.1, p.2) (list_unnamed raw s c.args.here.now.number c.args.place c.deref.result.now c.in_err-name_operands.field-0.0 c.walk_into-read.result c.args.state.now.lists.operands.items c.name_operands.new.out.items
     (has_memory c.walk_into-read.result (sym c.is_no_memory.ensures ∙ c.if-is_no_memory.false)) walks (c.in_err-name_operands.ensures u here)))
 
-pub returns : goal.returns
-returns c = λ u before here k. (
+pub returns-clause-goes : goal.returns-clause-goes
+returns-clause-goes c = λ u before here k. (
     let raw = units_of c.args.units.now in
     let s = scope_in c.args.sections.now raw u in
     let n = c.args.here.now.number in

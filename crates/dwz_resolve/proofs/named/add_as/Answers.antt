@@ -1,10 +1,10 @@
-use Rattle.std.proofs.Common.{◌≡◌, ◌+◌, ℕ, List, [], Result, Ok, refl, sym, ap, subst, ◌∙◌}
+use Rattle.std.proofs.Common.{◌+◌, ℕ, [], Result, sym, ap, subst, ◌∙◌}
 use Rattle.std.specs.Prelude.{slice_range}
 use Rattle.dwz_model.specs.declared.fault.Fault.{Fault}
 use Rattle.dwz_model.specs.declared.fault.Reason.TheVariants.{BadString}
 use Rattle.dwz_docs.specs.Entries.{RawAttr}
 use Rattle.dwz_docs.specs.Faults.{info_fault}
-use Rattle.dwz_meanings.specs.Meanings.{Scope, all_places, as_class, entry_among, offset_of}
+use Rattle.dwz_meanings.specs.Meanings.{Scope, all_places, as_class, entry_among}
 use Rattle.dwz_meanings.specs.NamedLists.{lists_as}
 use Rattle.dwz_resolve.specs.declared.class.Class.{Class}
 use Rattle.dwz_resolve.specs.declared.state.State.{State}
@@ -24,44 +24,44 @@ use Rattle.dwz_resolve.proofs.named.add_as.Goals as goal
 abbrev named_as : Scope ℕ → RawAttr → Class → Result Found Fault
 named_as s a k = map_ok (found_in (lists_as (class_view k) s a)) (as_class (class_view k) s a)
 
-pub returns-in-Address : goal.returns-in-Address
-returns-in-Address c = λ u before here k. (
+pub returns-in-Address-clause-goes : goal.returns-in-Address-clause-goes
+returns-in-Address-clause-goes c = λ u before here k. (
     let raw = units_of c.args.units.now in
     let a = stored c.args.at c.args.end c.args.pair.now c.args.raw.now in
     plain_goes raw (StateIn c.args.sections.now raw u c.args.here.now) before c.args.state.now (named_as (scope_in c.args.sections.now raw u) a c.args.class) k (ap (named_as (scope_in c.args.sections.now raw u) a) c.in-Address.is))
 
-pub returns-in-Block : goal.returns-in-Block
-returns-in-Block c = λ u before here k. (
+pub returns-in-Block-clause-goes : goal.returns-in-Block-clause-goes
+returns-in-Block-clause-goes c = λ u before here k. (
     let raw = units_of c.args.units.now in
     let a = stored c.args.at c.args.end c.args.pair.now c.args.raw.now in
     plain_goes raw (StateIn c.args.sections.now raw u c.args.here.now) before c.args.state.now (named_as (scope_in c.args.sections.now raw u) a c.args.class) k (ap (named_as (scope_in c.args.sections.now raw u) a) c.in-Block.is))
 
-pub returns-in-Flag : goal.returns-in-Flag
-returns-in-Flag c = λ u before here k. (
+pub returns-in-Flag-clause-goes : goal.returns-in-Flag-clause-goes
+returns-in-Flag-clause-goes c = λ u before here k. (
     let raw = units_of c.args.units.now in
     let a = stored c.args.at c.args.end c.args.pair.now c.args.raw.now in
     plain_goes raw (StateIn c.args.sections.now raw u c.args.here.now) before c.args.state.now (named_as (scope_in c.args.sections.now raw u) a c.args.class) k (ap (named_as (scope_in c.args.sections.now raw u) a) c.in-Flag.is))
 
-pub returns-in-Text : goal.returns-in-Text
-returns-in-Text c = λ u before here k. (
+pub returns-in-Text-clause-goes : goal.returns-in-Text-clause-goes
+returns-in-Text-clause-goes c = λ u before here k. (
     let raw = units_of c.args.units.now in
     let a = stored c.args.at c.args.end c.args.pair.now c.args.raw.now in
     plain_goes raw (StateIn c.args.sections.now raw u c.args.here.now) before c.args.state.now (named_as (scope_in c.args.sections.now raw u) a c.args.class) k (ap (named_as (scope_in c.args.sections.now raw u) a) c.in-Text.is))
 
-pub returns-in-Signature : goal.returns-in-Signature
-returns-in-Signature c = λ u before here k. (
+pub returns-in-Signature-clause-goes : goal.returns-in-Signature-clause-goes
+returns-in-Signature-clause-goes c = λ u before here k. (
     let raw = units_of c.args.units.now in
     let a = stored c.args.at c.args.end c.args.pair.now c.args.raw.now in
     plain_goes raw (StateIn c.args.sections.now raw u c.args.here.now) before c.args.state.now (named_as (scope_in c.args.sections.now raw u) a c.args.class) k (ap (named_as (scope_in c.args.sections.now raw u) a) c.in-Signature.is))
 
-pub returns-in-Index : goal.returns-in-Index
-returns-in-Index c = λ u before here k. (
+pub returns-in-Index-clause-goes : goal.returns-in-Index-clause-goes
+returns-in-Index-clause-goes c = λ u before here k. (
     let raw = units_of c.args.units.now in
     let a = stored c.args.at c.args.end c.args.pair.now c.args.raw.now in
     plain_goes raw (StateIn c.args.sections.now raw u c.args.here.now) before c.args.state.now (named_as (scope_in c.args.sections.now raw u) a c.args.class) k (ap (named_as (scope_in c.args.sections.now raw u) a) c.in-Index.is))
 
-pub returns-in-TextInStr : goal.returns-in-TextInStr
-returns-in-TextInStr c = λ u before here k. (
+pub returns-in-TextInStr-clause-goes : goal.returns-in-TextInStr-clause-goes
+returns-in-TextInStr-clause-goes c = λ u before here k. (
     let raw = units_of c.args.units.now in
     let s = scope_in c.args.sections.now raw u in
     let a = stored c.args.at c.args.end c.args.pair.now c.args.raw.now in
@@ -70,8 +70,8 @@ returns-in-TextInStr c = λ u before here k. (
     test_goes raw K before c.args.state.now c.check_text.result (named_as s a c.args.class) c.has.result (info_fault c.args.at BadString) k c.check_text.ensures
     (subst (λ (w : Class). IsTest (named_as s a w) c.has.result (info_fault c.args.at BadString)) (sym c.in-TextInStr.is) tells))
 
-pub returns-in-TextInLineStr : goal.returns-in-TextInLineStr
-returns-in-TextInLineStr c = λ u before here k. (
+pub returns-in-TextInLineStr-clause-goes : goal.returns-in-TextInLineStr-clause-goes
+returns-in-TextInLineStr-clause-goes c = λ u before here k. (
     let raw = units_of c.args.units.now in
     let s = scope_in c.args.sections.now raw u in
     let a = stored c.args.at c.args.end c.args.pair.now c.args.raw.now in
@@ -80,8 +80,8 @@ returns-in-TextInLineStr c = λ u before here k. (
     test_goes raw K before c.args.state.now c.check_text-in-TextInLineStr.result (named_as s a c.args.class) c.has-in-TextInLineStr.result (info_fault c.args.at BadString) k c.check_text-in-TextInLineStr.ensures
     (subst (λ (w : Class). IsTest (named_as s a w) c.has-in-TextInLineStr.result (info_fault c.args.at BadString)) (sym c.in-TextInLineStr.is) tells))
 
-pub returns-in-TextBySlot : goal.returns-in-TextBySlot
-returns-in-TextBySlot c = λ u before here k. (
+pub returns-in-TextBySlot-clause-goes : goal.returns-in-TextBySlot-clause-goes
+returns-in-TextBySlot-clause-goes c = λ u before here k. (
     let raw = units_of c.args.units.now in
     let s = scope_in c.args.sections.now raw u in
     let a = stored c.args.at c.args.end c.args.pair.now c.args.raw.now in
@@ -90,8 +90,8 @@ returns-in-TextBySlot c = λ u before here k. (
     test_goes raw K before c.args.state.now c.check_text-in-TextBySlot.result (named_as s a c.args.class) c.has_slot_text.result (info_fault c.args.at BadString) k c.check_text-in-TextBySlot.ensures
     (subst (λ (w : Class). IsTest (named_as s a w) c.has_slot_text.result (info_fault c.args.at BadString)) (sym c.in-TextBySlot.is) tells))
 
-pub returns-in-UnitEntry : goal.returns-in-UnitEntry
-returns-in-UnitEntry c = λ u before here k. (
+pub returns-in-UnitEntry-clause-goes : goal.returns-in-UnitEntry-clause-goes
+returns-in-UnitEntry-clause-goes c = λ u before here k. (
     let raw = units_of c.args.units.now in
     let s = scope_in c.args.sections.now raw u in
     let a = stored c.args.at c.args.end c.args.pair.now c.args.raw.now in
@@ -104,8 +104,8 @@ returns-in-UnitEntry c = λ u before here k. (
     ((λ i. map_ok (found_in []) (entry_among (λ (n : ℕ). n) s.own c.args.at (at i + c.offset_of-offset.ensures.value i))) ∙ ap (named_as s a) (sym c.in-UnitEntry.is))
     added)
 
-pub returns-in-InfoEntry : goal.returns-in-InfoEntry
-returns-in-InfoEntry c = λ u before here k. (
+pub returns-in-InfoEntry-clause-goes : goal.returns-in-InfoEntry-clause-goes
+returns-in-InfoEntry-clause-goes c = λ u before here k. (
     let raw = units_of c.args.units.now in
     let s = scope_in c.args.sections.now raw u in
     let a = stored c.args.at c.args.end c.args.pair.now c.args.raw.now in
@@ -117,37 +117,37 @@ returns-in-InfoEntry c = λ u before here k. (
     (ap (λ (p : ℕ). map_ok (found_in []) (entry_among (λ (n : ℕ). n) (all_places raw) c.args.at p)) c.offset_of-offset.ensures.value ∙ ap (named_as s a) (sym c.in-InfoEntry.is))
     added)
 
-pub returns-in-Expression : goal.returns-in-Expression
-returns-in-Expression c = λ u before here k. (
+pub returns-in-Expression-clause-goes : goal.returns-in-Expression-clause-goes
+returns-in-Expression-clause-goes c = λ u before here k. (
     let raw = units_of c.args.units.now in
     let s = scope_in c.args.sections.now raw u in
     let a = stored c.args.at c.args.end c.args.pair.now c.args.raw.now in
     let K = StateIn c.args.sections.now raw u c.args.here.now in
-    subst (λ (r : Result Found Fault). Goes raw K before c.args.state.now c.add_expression.new.state c.add_expression.result r) (ap (named_as s a) (sym c.in-Expression.is)) (c.add_expression.ensures u before here k))
+    subst (λ (r : Result Found Fault). Goes raw K before c.args.state.now c.add_expression.new.state c.add_expression.result r) (ap (named_as s a) (sym c.in-Expression.is)) (c.add_expression.ensures.goes u before here k))
 
-pub returns-in-Constant : goal.returns-in-Constant
-returns-in-Constant c = λ u before here k. (
+pub returns-in-Constant-clause-goes : goal.returns-in-Constant-clause-goes
+returns-in-Constant-clause-goes c = λ u before here k. (
     let raw = units_of c.args.units.now in
     let s = scope_in c.args.sections.now raw u in
     let a = stored c.args.at c.args.end c.args.pair.now c.args.raw.now in
     let K = StateIn c.args.sections.now raw u c.args.here.now in
     subst (λ (r : Result Found Fault). Goes raw K before c.args.state.now (record c.args.state.now { files = c.check_constant.new.files }) c.check_constant.result r) (ap (named_as s a) (sym c.in-Constant.is))
-    (constant_goes raw s c.args.here.now.number before c.args.state.now c.check_constant.new.files a c.args.here.now.line c.check_constant.result here.line k (c.check_constant.ensures k.tables)))
+    (constant_goes raw s c.args.here.now.number before c.args.state.now c.check_constant.new.files a c.args.here.now.line c.check_constant.result here.line k (c.check_constant.ensures.says k.tables)))
 
-pub returns-in-Offset : goal.returns-in-Offset
-returns-in-Offset c = λ u before here k. (
+pub returns-in-Offset-clause-goes : goal.returns-in-Offset-clause-goes
+returns-in-Offset-clause-goes c = λ u before here k. (
     let raw = units_of c.args.units.now in
     let s = scope_in c.args.sections.now raw u in
     let a = stored c.args.at c.args.end c.args.pair.now c.args.raw.now in
     let K = StateIn c.args.sections.now raw u c.args.here.now in
     subst (λ (r : Result Found Fault). Goes raw K before c.args.state.now c.add_offset.new.state c.add_offset.result r) (ap (named_as s a) (sym c.in-Offset.is))
-    (offset_goes raw s c.args.here.now.number c.offset_of-offset.result a before c.args.state.now c.add_offset.new.state c.add_offset.result c.offset_of-offset.ensures.value k (c.add_offset.ensures u before here k)))
+    (offset_goes raw s c.args.here.now.number c.offset_of-offset.result a before c.args.state.now c.add_offset.new.state c.add_offset.result c.offset_of-offset.ensures.value k (c.add_offset.ensures.goes u before here k)))
 
-pub returns-in-ListIndex : goal.returns-in-ListIndex
-returns-in-ListIndex c = λ u before here k. (
+pub returns-in-ListIndex-clause-goes : goal.returns-in-ListIndex-clause-goes
+returns-in-ListIndex-clause-goes c = λ u before here k. (
     let raw = units_of c.args.units.now in
     let s = scope_in c.args.sections.now raw u in
     let a = stored c.args.at c.args.end c.args.pair.now c.args.raw.now in
     let K = StateIn c.args.sections.now raw u c.args.here.now in
     subst (λ (r : Result Found Fault). Goes raw K before c.args.state.now c.add_indexed.new.state c.add_indexed.result r) (ap (named_as s a) (sym c.in-ListIndex.is))
-    (indexed_goes raw s c.args.here.now.number c.offset_of-offset.result c.args.here.now.lists a before c.args.state.now c.add_indexed.new.state c.add_indexed.result c.offset_of-offset.ensures.value here.lists (c.add_indexed.ensures u before here k)))
+    (indexed_goes raw s c.args.here.now.number c.offset_of-offset.result c.args.here.now.lists a before c.args.state.now c.add_indexed.new.state c.add_indexed.result c.offset_of-offset.ensures.value here.lists (c.add_indexed.ensures.goes u before here k)))

@@ -3,6 +3,9 @@ use Rattle.dwz_docs.specs.Units.{RawUnit}
 use Rattle.dwz_meanings.specs.Shared.{NamedList}
 use Rattle.dwz_unit.specs.Rows.{EntryRow, rows_of, units_of}
 use Rattle.dwz_unit.specs.Values.{Reads}
+use Rattle.std.specs.List.{list_any}
+use Rattle.dwz_resolve.specs.FileRows.{Learns}
+use Rattle.dwz_resolve.specs.Parts.{numbers_file}
 use Rattle.dwz_resolve.specs.Named.{attr_named, collect}
 use Rattle.dwz_resolve.specs.Resolved.{Goes, IsHere, StateIn, scope_in}
 use Rattle.dwz_resolve.proofs.named.add_values.Given as goal
@@ -12,4 +15,5 @@ invariant-loop-pair l = record {
   reads : (row : EntryRow) → slice_get (rows_of (units_of l.units)) l.i ≡ Some row → Reads row.entry.at (drop l.pair-index l.pairs) l.cursor (drop l.pair-index row.entry.attrs);
   adds : (u : RawUnit) (row : EntryRow) (before : List NamedList) → IsHere (units_of l.units) u l.here → slice_get (rows_of (units_of l.units)) l.i ≡ Some row → StateIn l.sections (units_of l.units) u l.here before l.fn.state
       → Goes {Y = Unit {0}} (units_of l.units) (StateIn l.sections (units_of l.units) u l.here) before l.fn.state l.state (Ok tt) (collect (attr_named (scope_in l.sections (units_of l.units) u)) (take l.pair-index row.entry.attrs));
+  learns : (row : EntryRow) → slice_get (rows_of (units_of l.units)) l.i ≡ Some row → Learns (list_any numbers_file (take l.pair-index row.entry.attrs)) l.here.line l.fn.state.files l.state.files;
 }

@@ -1,7 +1,7 @@
-use Rattle.std.proofs.Common.{◌≡◌, List, Result, Err, sym, subst, arith}
+use Rattle.std.proofs.Common.{sym, subst, arith}
 use Rattle.dwz_bytes.specs.Input.{input}
 use Rattle.dwz_meanings.specs.Files.{is_place_of}
-use Rattle.dwz_meanings.specs.Ranges.{RangeSet, bad_ranges, set_at, sets_at}
+use Rattle.dwz_meanings.specs.Ranges.{bad_ranges, sets_at}
 use Rattle.dwz_aranges.specs.Views.{set_view}
 use Rattle.dwz_aranges.proofs.TestLemmas.{known, no_set, unknown}
 use Rattle.dwz_model.specs.declared.fault.ReadErr.{ReadErr}

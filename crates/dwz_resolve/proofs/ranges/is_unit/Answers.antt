@@ -1,4 +1,4 @@
-use Rattle.std.proofs.Common.{◌≡◌, ℕ, List, length, sym, subst, ap, ◌∙◌, arith, true, false}
+use Rattle.std.proofs.Common.{ℕ, length, sym, subst, ap, ◌∙◌, arith}
 use Rattle.dwz_docs.specs.Lists.{has}
 use Rattle.dwz_unit.specs.Rows.{units_of}
 use Rattle.dwz_resolve.proofs.SearchLemmas.{Searched, has_none, has_there, search_begins, search_down, search_ends, search_up}

@@ -1,5 +1,11 @@
-use Rattle.std.proofs.Common.{◌≡◌, ℕ, [], List, ◌++◌, length, map, Ok, sym, ap, subst, ◌∙◌}
-use Rattle.std.specs.Prelude.{IsOk}
+use Rattle.std.proofs.Common.{ℕ, ◌<◌, ◌^◌, List, ◌++◌, length, map, Ok, sym, ap, subst, ◌∙◌, arith}
+use Rattle.std.proofs.lemmas.List.{length-map, take_all}
+use Rattle.dwz_docs.specs.Units.{RawUnit, entries_in}
+use Rattle.dwz_resolve.specs.Named.{found}
+use Rattle.dwz_resolve.specs.Parts.{AreParted}
+use Rattle.dwz_resolve.proofs.FewRefs.{refs_few}
+use Rattle.dwz_resolve.proofs.LineSteps.{have_lines}
+use Rattle.dwz_resolve.proofs.PartSteps.{none_parted}
 use Rattle.std.proofs.lemmas.Result.{err_from_is_err_and}
 use Rattle.dwz_meanings.specs.Shared.{AreRows, NamedList}
 use Rattle.dwz_unit.specs.Rows.{units_of}
@@ -12,11 +18,11 @@ use Rattle.dwz_resolve.proofs.resolving.resolve.Goals as goal
 
 pub returns-in_err-add_units-clause-answers : goal.returns-in_err-add_units-clause-answers
 returns-in_err-add_units-clause-answers c =
-    let p = err_from_is_err_and c.from_residual.result c.from_residual.ensures.1 in
+    let p = err_from_is_err_and c.from_residual-in_err-add_units.result c.from_residual-in_err-add_units.ensures.1 in
     let raw = units_of c.args.units.now in
     let a = around c.args.sections.now raw in
     let n = c.new-state.ensures in
-    rw (p.1, p.2) (said_fail a raw c.args.sections.now.aranges.now c.in_err-add_units.field-0.0 (c.in_err-add_units.ensures (none_behind raw a c.new-state.result n.rows n.operands n.slots n.seen (n.tables a.sources))))
+    rw (p.1, p.2) (said_fail a raw c.args.sections.now.aranges.now c.in_err-add_units.field-0.0 (c.in_err-add_units.ensures.goes (none_behind raw a c.new-state.result n.rows n.operands n.slots n.seen (n.tables a.sources))))
 
 pub returns-in_err-check_ranges-clause-answers : goal.returns-in_err-check_ranges-clause-answers
 returns-in_err-check_ranges-clause-answers c =
@@ -24,7 +30,7 @@ returns-in_err-check_ranges-clause-answers c =
     let raw = units_of c.args.units.now in
     let a = around c.args.sections.now raw in
     let n = c.new-state.ensures in
-    let added = c.in_ok-add_units.ensures (none_behind raw a c.new-state.result n.rows n.operands n.slots n.seen (n.tables a.sources)) in
+    let added = c.in_ok-add_units.ensures.goes (none_behind raw a c.new-state.result n.rows n.operands n.slots n.seen (n.tables a.sources)) in
     rw (p.1, p.2) (sets_fail a raw c.args.sections.now.aranges.now (map (place_at raw) added.more) added.lists c.in_err-check_ranges.field-0.0 added.is c.in_err-check_ranges.ensures)
 
 pub unshared-requires : goal.unshared-requires
@@ -32,7 +38,7 @@ unshared-requires c =
     let raw = units_of c.args.units.now in
     let a = around c.args.sections.now raw in
     let n = c.new-state.ensures in
-    let added = c.in_ok-add_units.ensures (none_behind raw a c.new-state.result n.rows n.operands n.slots n.seen (n.tables a.sources)) in
+    let added = c.in_ok-add_units.ensures.goes (none_behind raw a c.new-state.result n.rows n.operands n.slots n.seen (n.tables a.sources)) in
     added.keeps.shows.within
 
 pub returns-in_err-operands-clause-answers : goal.returns-in_err-operands-clause-answers
@@ -41,7 +47,7 @@ returns-in_err-operands-clause-answers c =
     let raw = units_of c.args.units.now in
     let a = around c.args.sections.now raw in
     let n = c.new-state.ensures in
-    let added = c.in_ok-add_units.ensures (none_behind raw a c.new-state.result n.rows n.operands n.slots n.seen (n.tables a.sources)) in
+    let added = c.in_ok-add_units.ensures.goes (none_behind raw a c.new-state.result n.rows n.operands n.slots n.seen (n.tables a.sources)) in
     rw (p.1, p.2) (lists_fail a raw c.args.sections.now.aranges.now (map (place_at raw) added.more) added.lists c.in_err-operands.field-0.0 added.is c.in_ok-check_ranges.ensures (c.in_err-operands.ensures.err raw added.lists added.keeps.shows (starts_distinct c.args.units.now)))
 
 pub returns-clause-within : goal.returns-clause-within
@@ -49,7 +55,7 @@ returns-clause-within c =
     let raw = units_of c.args.units.now in
     let a = around c.args.sections.now raw in
     let n = c.new-state.ensures in
-    let added = c.in_ok-add_units.ensures (none_behind raw a c.new-state.result n.rows n.operands n.slots n.seen (n.tables a.sources)) in
+    let added = c.in_ok-add_units.ensures.goes (none_behind raw a c.new-state.result n.rows n.operands n.slots n.seen (n.tables a.sources)) in
     let same = added.refs ∙ ap (λ (w : List ℕ). w ++ added.more) n.refs in
     subst (λ (w : List ℕ). AreEntries raw w) (sym same) added.within
 
@@ -58,7 +64,7 @@ returns-clause-operands c =
     let raw = units_of c.args.units.now in
     let a = around c.args.sections.now raw in
     let n = c.new-state.ensures in
-    let added = c.in_ok-add_units.ensures (none_behind raw a c.new-state.result n.rows n.operands n.slots n.seen (n.tables a.sources)) in
+    let added = c.in_ok-add_units.ensures.goes (none_behind raw a c.new-state.result n.rows n.operands n.slots n.seen (n.tables a.sources)) in
     let un = c.in_ok-operands.ensures.ok raw added.lists added.keeps.shows (starts_distinct c.args.units.now) in
     subst (λ (ls : List NamedList). AreRows ls (map (operand_view raw) c.in_ok-operands.operands.items)) (sym (lists_said a raw (map (place_at raw) added.more) added.lists added.is)) un.1
 
@@ -67,7 +73,33 @@ returns-clause-answers c =
     let raw = units_of c.args.units.now in
     let a = around c.args.sections.now raw in
     let n = c.new-state.ensures in
-    let added = c.in_ok-add_units.ensures (none_behind raw a c.new-state.result n.rows n.operands n.slots n.seen (n.tables a.sources)) in
+    let added = c.in_ok-add_units.ensures.goes (none_behind raw a c.new-state.result n.rows n.operands n.slots n.seen (n.tables a.sources)) in
     let un = c.in_ok-operands.ensures.ok raw added.lists added.keeps.shows (starts_distinct c.args.units.now) in
     let same = added.refs ∙ ap (λ (w : List ℕ). w ++ added.more) n.refs in
     all_said a raw c.args.sections.now.aranges.now (map (place_at raw) added.more) added.lists added.is c.in_ok-check_ranges.ensures un.0 ∙ ap (λ (w : List ℕ). Ok (map (place_at raw) w)) (sym same)
+
+pub returns-clause-starts : goal.returns-clause-starts
+returns-clause-starts c =
+    let raw = units_of c.args.units.now in
+    let a = around c.args.sections.now raw in
+    let n = c.new-state.ensures in
+    let none = none_behind raw a c.new-state.result n.rows n.operands n.slots n.seen (n.tables a.sources) in
+    let added = c.in_ok-add_units.ensures.goes none in
+    let few = refs_few c.args.units.now a (found (map (place_at raw) added.more) added.lists) added.is in
+    let many = length-map added.more (place_at raw) in
+    let same = added.refs ∙ ap (λ (w : List ℕ). w ++ added.more) n.refs in
+    let short = c.info-info.ensures.short in
+    let bytes = c.info-info.ensures.bytes in
+    let small : length c.add_units.new.state.refs.items < 2 ^ 32 = omega (arith, few, many, ap (λ (w : List ℕ). length w) same, ap (λ (w : List ℕ). length w) bytes, short) in
+    subst (λ (us : List RawUnit). AreParted a raw (entries_in us) c.add_units.new.state.refs.items c.add_units.new.parts.starts.items) (take_all (length raw) raw (omega arith))
+    ((c.in_ok-add_units.ensures.parts none (none_parted c.args.sections.now raw c.new-state.result c.in_ok-parts.parts n.refs c.in_ok-parts.ensures.starts c.in_ok-parts.ensures.lines)).starts small)
+
+pub returns-clause-lines : goal.returns-clause-lines
+returns-clause-lines c =
+    let raw = units_of c.args.units.now in
+    let a = around c.args.sections.now raw in
+    let n = c.new-state.ensures in
+    let none = none_behind raw a c.new-state.result n.rows n.operands n.slots n.seen (n.tables a.sources) in
+    let added = c.in_ok-add_units.ensures.goes none in
+    have_lines a raw (length raw) c.add_units.new.state.files c.add_units.new.parts.lines.items added.keeps.tables
+    ((c.in_ok-add_units.ensures.parts none (none_parted c.args.sections.now raw c.new-state.result c.in_ok-parts.parts n.refs c.in_ok-parts.ensures.starts c.in_ok-parts.ensures.lines)).lines)

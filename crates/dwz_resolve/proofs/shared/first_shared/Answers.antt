@@ -1,5 +1,4 @@
-use Rattle.std.proofs.Common.{ℕ, List, [], ◌+◌, get_or, map, ap, subst, sym, arith}
-use Rattle.dwz_docs.specs.Lists.{In}
+use Rattle.std.proofs.Common.{List, ◌+◌, get_or, map, subst, sym}
 use Rattle.dwz_resolve.specs.declared.lists.ListRow.{ListRow}
 use Rattle.dwz_resolve.specs.declared.operands.ListOperand.{ListOperand}
 use Rattle.dwz_resolve.specs.Apart.{FindsForeign, Rows}

@@ -1,5 +1,4 @@
-use Rattle.std.proofs.Common.{◌≡◌, ◌-◌, ◌≤◌, ◌<◌, ℕ, true, length, Some, slice_get}
-use Rattle.dwz_resolve.specs.declared.operands.ListOperand.{ListOperand}
+use Rattle.std.proofs.Common.{◌-◌, ◌≤◌, ℕ, length}
 use Rattle.dwz_resolve.specs.Apart.{Rows}
 use Rattle.dwz_resolve.proofs.ApartLemmas.{OwnBefore}
 use Rattle.dwz_resolve.proofs.shared.foreign.Given as goal

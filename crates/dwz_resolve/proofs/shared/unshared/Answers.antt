@@ -1,11 +1,7 @@
-use Rattle.std.proofs.Common.{List, sym, subst}
-use Rattle.std.specs.List.Sorted.{IsPermutation}
+use Rattle.std.proofs.Common.{sym, subst}
 use Rattle.dwz_docs.specs.Faults.{Fails}
 use Rattle.dwz_meanings.specs.Shared.{none_shared}
 use Rattle.dwz_model.specs.declared.fault.ReadErr.{ReadErr}
-use Rattle.dwz_resolve.specs.declared.operands.ListOperand.{ListOperand}
-use Rattle.dwz_resolve.specs.Apart.{AreWide, FindsApart, Rise}
-use Rattle.dwz_resolve.specs.ListRows.{Shows}
 use Rattle.dwz_resolve.proofs.SharedLaw.{pass_answer}
 use Rattle.dwz_resolve.proofs.shared.unshared.Goals as goal
 

@@ -1,4 +1,4 @@
-use Rattle.std.proofs.Common.{◌≡◌, ℕ, ◌<◌, List, Some, length, map, slice_get, ap, sym, subst, ◌∙◌, arith}
+use Rattle.std.proofs.Common.{ℕ, ◌<◌, List, length, map, slice_get, ap, subst, ◌∙◌, arith}
 use Rattle.dwz_meanings.specs.Files.{no_files_before}
 use Rattle.dwz_graph.specs.Files.{HasRead}
 use Rattle.dwz_graph.proofs.GraphLemmas.{as_many, file_there, found_at}

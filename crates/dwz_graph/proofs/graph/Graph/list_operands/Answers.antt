@@ -1,4 +1,4 @@
-use Rattle.std.proofs.Common.{◌≡◌, ℕ, List, map, sym, subst, ap}
+use Rattle.std.proofs.Common.{List, map, sym, subst}
 use Rattle.dwz_docs.specs.Units.{RawUnit}
 use Rattle.dwz_meanings.specs.Files.{around_of, no_files_before}
 use Rattle.dwz_meanings.specs.NamedLists.{lists_of_units}

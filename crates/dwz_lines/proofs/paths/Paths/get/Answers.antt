@@ -11,14 +11,14 @@ text-requires c =
     let found = c.in-Some.ensures.lookup in
     rw bytes (is_in c.self.inside.bytes.items c.self.inside.spans.items c.args.index c.in-Some.span.now c.self.invariant (rw spans at found.0) (rw spans at found.1))
 
-pub returns-in-None : goal.returns-in-None
-returns-in-None c =
+pub returns-in-None-clause-path : goal.returns-in-None-clause-path
+returns-in-None-clause-path c =
     let spans = c.deref.ensures.value in
     let found = c.in-None.ensures.lookup in
     sym (ap (λ (w : List (List ℕ)). nth_path w c.args.index) (sym c.self.view_is) ∙ none_path c.self.inside.bytes.items c.self.inside.spans.items c.args.index (rw spans at found.0))
 
-pub returns-in-Some : goal.returns-in-Some
-returns-in-Some c =
+pub returns-in-Some-clause-path : goal.returns-in-Some-clause-path
+returns-in-Some-clause-path c =
     let spans = c.deref.ensures.value in
     let bytes = c.deref-in-Some.ensures.value in
     let found = c.in-Some.ensures.lookup in

@@ -59,7 +59,7 @@ pub(crate) fn put_list_by_slot(
     alloc: Global,
     out: &mut Vec<u8>,
     lists: &[u8],
-    base: Option<u128>,
+    base: Option<u32>,
     index: u128,
     operands: &mut Vec<Operand>,
 ) -> Result<Named, NoMemory>
@@ -68,11 +68,14 @@ pub(crate) fn put_list_by_slot(
     let Some(base) = base else {
         return Err(AllocError);
     };
-    if base > u64::MAX as u128 {
-        return Err(AllocError);
-    }
-    let Some(offset) = slot(lists, base, index) else {
+    let Some(offset) = slot(lists, base as u128, index) else {
         return Err(AllocError);
     };
-    put_list_at(alloc, out, lists, base + offset as u128, operands)
+    put_list_at(
+        alloc,
+        out,
+        lists,
+        base as u128 + offset as u128,
+        operands,
+    )
 }

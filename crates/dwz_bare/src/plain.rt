@@ -31,7 +31,7 @@ fn put_alone(
     out: &mut Vec<u8>,
     class: Class,
     sections: &Sections,
-    base: Option<u128>,
+    base: Option<u32>,
     pair: &Pair,
     raw: &Raw,
 ) -> Result<Named, NoMemory>
@@ -46,7 +46,7 @@ fn put_alone(
 fn put_constant(
     out: &mut Vec<u8>,
     tables: &[FileTable],
-    line: Option<u32>,
+    line: Option<usize>,
     pair: &Pair,
     raw: &Raw,
 ) -> Result<Named, NoMemory>
@@ -102,7 +102,7 @@ pub fn put_plain(
     sections: &Sections,
     tables: &[FileTable],
     here: &Here,
-    line: Option<u32>,
+    line: Option<usize>,
     end: u64,
     pair: &Pair,
     raw: &Raw,

@@ -21,7 +21,7 @@ pub(crate) fn put_simple(
     out: &mut Vec<u8>,
     class: Class,
     sections: &Sections,
-    base: Option<u128>,
+    base: Option<u32>,
     pair: &Pair,
     raw: &Raw,
 ) -> Result<(), NoMemory>

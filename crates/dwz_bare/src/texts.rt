@@ -38,7 +38,7 @@ pub(crate) fn put_text_at(
 pub(crate) fn put_text_by_slot(
     out: &mut Vec<u8>,
     sections: &Sections,
-    base: Option<u128>,
+    base: Option<u32>,
     index: u128,
 ) -> Result<(), NoMemory>
     ensures { (at offset : ℕ) (text : List ℕ) → base ≡ Some at → Texts.slot sections.now.offsets.now at index ≡ Some offset → Texts.text_at sections.now.strs.bytes.now offset ≡ Some text → OnOk result (out.new.items ≡ out.old.items ++ plain_label (Text text)) }
@@ -46,7 +46,7 @@ pub(crate) fn put_text_by_slot(
     let Some(base) = base else {
         return Ok(());
     };
-    let Some(offset) = slot(sections.offsets, base, index) else {
+    let Some(offset) = slot(sections.offsets, base as u128, index) else {
         return Ok(());
     };
     put_text_at(out, sections.strs.bytes, offset as u128)
@@ -89,13 +89,13 @@ fn put_path_in(
 pub(crate) fn put_file_by(
     out: &mut Vec<u8>,
     tables: &[FileTable],
-    line: Option<u32>,
+    line: Option<usize>,
     raw: &Raw,
 ) -> Result<(), NoMemory>
     ensures { (s : Scope ℕ) (a : RawAttr) (v : Value ℕ) → numbers_file a ≡ true → a.raw ≡ raw_view raw.now → KnowsLine s a tables.now line → file_by (stmt_list s) s a ≡ Ok v → OnOk result (out.new.items ≡ out.old.items ++ plain_label v.plain) }
 {
     match line {
         None => put_no_file(out),
-        Some(table) => put_path_in(out, tables, table as usize, number_of(raw)),
+        Some(table) => put_path_in(out, tables, table, number_of(raw)),
     }
 }

@@ -6,3 +6,4 @@ pub mod RefLemmas
 pub mod ValueLemmas
 pub mod KeptLemmas
 pub mod AttrsLemmas
+pub mod RowsLemmas

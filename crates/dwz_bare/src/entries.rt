@@ -58,3 +58,47 @@ fn put_values(
     }
     Ok(behind)
 }
+
+// Appends what an entry says. Its references begin at `next`; the answer is where they end.
+fn put_entry(
+    source: &Source,
+    out: &mut Vec<u8>,
+    here: &Here,
+    line: Option<usize>,
+    i: u32,
+    next: usize,
+    scratch: &mut Scratch,
+) -> Result<usize, NoMemory>
+    requires ready { IsReady source.now here.now }
+    requires row { i < entries_in (raw_of source.now) }
+    ensures { (u : RawUnit) (name : ℕ → Spot) (row : EntryRow) (d : Node ℕ) → KnowsUnit source.now here.now line u name → row.unit ≡ here.now.number → IsEntryMeant (raw_of source.now) (scope_at source.now u) i (drop next source.now.refs.now) row d → IfOk result (λ behind. TellsEntry name (row.end - i - 1) d (drop next source.now.refs.now) (drop behind source.now.refs.now) out.old.items out.new.items) }
+{
+    let entry = source.units.entry(i);
+    put_number(out, entry.end.saturating_sub(i).saturating_sub(1) as u128)?;
+    put_number(out, entry.tag as u128)?;
+    let behind = put_values(source, out, here, line, i, next, scratch)?;
+    Ok(behind)
+}
+
+/// Appends what the entries of a unit from number `first` to before `end` say, each by itself: how many are below it, its tag, and its
+/// attributes. Their references begin at `next`. `line` is the number of the unit's line table.
+pub fn put_rows(
+    source: &Source,
+    out: &mut Vec<u8>,
+    here: &Here,
+    line: Option<usize>,
+    first: u32,
+    end: u32,
+    next: usize,
+    scratch: &mut Scratch,
+) -> Result<(), NoMemory>
+    requires ready { IsReady source.now here.now }
+    requires rows { end ≤ entries_in (raw_of source.now) }
+    ensures { (u : RawUnit) (name : ℕ → Spot) (rows after : List EntryRow) (ds : List (Node ℕ)) → KnowsUnit source.now here.now line u name → Each (λ row. row.unit ≡ here.now.number) rows → AreRowsMeant (raw_of source.now) (scope_at source.now u) first end (drop next source.now.refs.now) rows after ds → OnOk result (out.new.items ≡ out.old.items ++ rows_label name first rows ds) }
+{
+    let mut at = next;
+    for i in first..end {
+        at = put_entry(source, out, here, line, i, at, scratch)?;
+    }
+    Ok(())
+}

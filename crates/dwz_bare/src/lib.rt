@@ -14,6 +14,7 @@ mod targets;
 mod texts;
 mod values;
 
+pub use entries::put_rows;
 pub use named::Named;
 pub use plain::put_plain;
 pub use source::{Scratch, Source};

@@ -16,3 +16,4 @@ pub mod IntoLemmas
 pub mod Relations
 pub mod AlikePer
 pub mod Tops
+pub mod NameLists

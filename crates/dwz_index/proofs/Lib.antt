@@ -4,3 +4,10 @@ pub mod BelowLemmas
 pub mod SpaceLemmas
 pub mod ListBuilding
 pub mod UnitBuilding
+pub mod SpaceMeans
+pub mod AmongLemmas
+pub mod ListMeans
+pub mod ShowLemmas
+pub mod UnitsMean
+pub mod NameLemmas
+pub mod TopLemmas

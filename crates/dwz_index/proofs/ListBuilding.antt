@@ -9,7 +9,7 @@ use Rattle.dwz_unit.specs.Rows.{EntryRow, rows_of, shown_entries}
 use Rattle.dwz_index.specs.Building.{HasList, IsFew, IsList, space_behind, with_list, with_space, with_top}
 use Rattle.dwz_index.specs.Index.{Index}
 use Rattle.dwz_index.specs.Spaces.{stored_space}
-use Rattle.dwz_index.specs.Steps.{space_entry, top_entry}
+use Rattle.dwz_index.specs.Steps.{space_entry, step, steps_below, top_entry}
 use Rattle.dwz_index.proofs.BelowLemmas.{next_list}
 use Rattle.dwz_index.proofs.ListLemmas.{Next, list_next, some_entry}
 
@@ -167,3 +167,41 @@ with_one_space raw first end unit inner up old now opened new entry index space 
             is = r.next_are;
             built = (λ k. with_list unit inner up (one k) (r.ends k) n (same k)) ∙ sym (list_space unit inner up index entry d c n now (tested raw entry end x d c n b true r says is)) ∙ e;
           }
+
+-- ---- how many ways up
+
+pub below_long : {E : Type 0} (top up i first : ℕ) (f : Forest E) → length (steps_below top up i first f) ≡ size f
+unfolding steps_below
+below_long top up i first End = refl
+below_long top up i first (Entry e c n) =
+    let a = steps_below top first 0 (first + 1) c in
+    let b = steps_below top up (suc i) (first + 1 + size c) n in
+    omega (arith, length-append a b, below_long top first 0 (first + 1) c, below_long top up (suc i) (first + 1 + size c) n)
+
+pub list_long : (unit inner up i first : ℕ) (f : Forest RawEntry) (x : Index) → length (with_list unit inner up i first f x).steps ≡ length x.steps + size f
+unfolding with_list
+list_long unit inner up i first End x = omega arith
+list_long unit inner up i first (Entry e c n) x =
+    go (list_long unit inner up (suc i) (first + 1 + size c) n (with_top unit inner first c x))
+    (list_long unit inner up (suc i) (first + 1 + size c) n (with_list unit (space_behind x) first 0 (first + 1) c (with_space up i inner first x)))
+    (list_long unit (space_behind x) first 0 (first + 1) c (with_space up i inner first x)) (stored_space e)
+  where
+    top : ℕ
+    top = suc (x.starts.top + length x.tops)
+
+    a : Index
+    a = with_list unit inner up (suc i) (first + 1 + size c) n (with_top unit inner first c x)
+
+    inside : Index
+    inside = with_list unit (space_behind x) first 0 (first + 1) c (with_space up i inner first x)
+
+    b : Index
+    b = with_list unit inner up (suc i) (first + 1 + size c) n inside
+
+    go : length a.steps ≡ length (with_top unit inner first c x).steps + size n → length b.steps ≡ length inside.steps + size n → length inside.steps ≡ length (with_space up i inner first x).steps + size c → (s : Bool)
+        → length (elim s as (λ _. Index) [ false ↦ a | true ↦ b ]).steps ≡ length x.steps + (size c + size n + 1)
+    go p q r false =
+        let one = length-append x.steps (step first 0 top ∷ []) in
+        let two = length-append (x.steps ++ step first 0 top ∷ []) (steps_below top first 0 (first + 1) c) in
+        omega (arith, p, one, two, below_long top first 0 (first + 1) c)
+    go p q r true = let one = length-append x.steps (step up i 0 ∷ []) in omega (arith, q, r, one)

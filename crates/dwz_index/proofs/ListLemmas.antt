@@ -18,7 +18,7 @@ drop_first {X} (y ∷ xs) (suc i) x rest e =
     let one : suc i + 1 ≡ suc (i + 1) = omega arith in
     (r.0, ap (λ (n : ℕ). drop n (y ∷ xs)) one ∙ r.1)
 
-drop_more : {X : Type 0} (xs : List X) (i j : ℕ) → drop (i + j) xs ≡ drop j (drop i xs)
+pub drop_more : {X : Type 0} (xs : List X) (i j : ℕ) → drop (i + j) xs ≡ drop j (drop i xs)
 drop_more xs zero j = let e : 0 + j ≡ j = omega arith in ap (λ (n : ℕ). drop n xs) e
 drop_more [] (suc i) j = drop_all (suc i + j) [] (omega arith) ∙ sym (drop_all j [] (omega arith))
 drop_more (x ∷ xs) (suc i) j = let e : suc i + j ≡ suc (i + j) = omega arith in ap (λ (n : ℕ). drop n (x ∷ xs)) e ∙ drop_more xs i j

@@ -16,7 +16,7 @@ use Rattle.dwz_index.specs.declared.index.TopEntry.{TopEntry}
 use Rattle.dwz_index.specs.Building.{HasList, IsFew, IsList, with_below, with_list, with_steps, with_unit, with_units}
 use Rattle.dwz_index.specs.Index.{Index}
 use Rattle.dwz_index.specs.Steps.{step, steps_below}
-use Rattle.dwz_index.proofs.ListBuilding.{few_list, few_more, starts_kept}
+use Rattle.dwz_index.proofs.ListBuilding.{below_long, few_list, few_more, list_long, starts_kept}
 use Rattle.dwz_index.proofs.ListLemmas.{drop_first}
 
 -- ---- the list below a root
@@ -182,3 +182,27 @@ module _ (x : Index) (steps : List Step) (tops : List TopEntry) (spaces : List S
 
   pub with_more : (pushed all : List Step) (s : Step) (more : List Step) → pushed ≡ steps ++ s ∷ [] → all ≡ pushed ++ more → index_of all tops spaces starts ≡ with_steps more (with_steps (s ∷ []) x)
   with_more pushed all s more e f = (λ k. index_of (f k) tops spaces starts) ∙ ap (with_steps more) (with_pushed pushed s e)
+
+-- ---- how many ways up
+
+unit_long : (unit first : ℕ) (u : RawUnit) (x : Index) → length (with_unit unit first u x).steps ≡ length x.steps + entry_count u
+unit_long unit first u x = by u.kind where
+  opened : Index
+  opened = with_steps (step first 0 0 ∷ []) x
+
+  one : length opened.steps ≡ length x.steps + 1
+  one = length-append x.steps (step first 0 0 ∷ [])
+
+  plain : length (with_steps (steps_below 0 first 0 (first + 1) u.below) opened).steps ≡ length x.steps + entry_count u
+  plain = omega (arith, one, length-append opened.steps (steps_below 0 first 0 (first + 1) u.below), below_long 0 first 0 (first + 1) u.below)
+
+  by : (k : RawKind) → length (with_below unit first k u.below opened).steps ≡ length x.steps + entry_count u
+  by CompileUnit = omega (arith, one, list_long unit 0 first 0 (first + 1) u.below opened)
+  by (TypeUnit signature type_offset) = plain
+  by PartialUnit = plain
+
+-- there is one for each entry
+pub units_long : (unit first : ℕ) (raw : List RawUnit) (x : Index) → length (with_units unit first raw x).steps ≡ length x.steps + entries_in raw
+unfolding with_units entries_in
+units_long unit first [] x = omega arith
+units_long unit first (u ∷ raw) x = omega (arith, units_long (unit + 1) (first + entry_count u) raw (with_unit unit first u x), unit_long unit first u x)

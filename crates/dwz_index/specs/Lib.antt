@@ -3,3 +3,4 @@ pub mod Steps
 pub mod Index
 pub mod Spaces
 pub mod Building
+pub mod Tops

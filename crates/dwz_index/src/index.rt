@@ -1,12 +1,18 @@
 //! What is kept of the entries of a file.
 
-ghost use Rattle.std.specs.Prelude.{◌≡◌, ℕ, ◌+◌, ◌<◌, ◌^◌, ◌++◌, List, Some, length, slice_get, OnOk};
+ghost use Rattle.std.specs.Prelude.{◌≡◌, ℕ, ◌<◌, ◌^◌, ◌++◌, List, Some, Ok, length, slice_get, IfOk, OnOk};
+ghost use Rattle.dwz_docs.specs.Units.{entries_in};
+ghost use Rattle.dwz_meanings.specs.Documents.{DwUnit};
+ghost use Rattle.dwz_meanings.specs.Meanings.{Around, units_meaning};
 ghost use Rattle.dwz_alike.specs.Spots.{Spot};
-ghost use Rattle.dwz_index.specs.Index;
-ghost use Rattle.dwz_index.specs.Index.{IsIndex};
-ghost use Rattle.dwz_index.specs.Names.{path_in, top_in};
+ghost use Rattle.dwz_index.specs.Building.{HasRoom};
+ghost use Rattle.dwz_index.specs.Index.{HasTops, IsIndex};
+ghost use Rattle.dwz_index.specs.Names.{names_from, path_in, top_in};
+ghost use Rattle.dwz_unit.specs.Rows.{units_of};
 
 use dwz_model::NoMemory;
+use dwz_unit::Units;
+use std::alloc::Global;
 use std::marker::Model;
 
 /// The numbers that the first unit, the first top and the first space of a file have, where those of all files are counted.
@@ -67,6 +73,24 @@ impl Model for Index {
 }
 
 impl Index {
+    /// What the entries of a file are, in one pass over them. `starts` has the numbers of its first unit, top and space.
+    pub fn read(alloc: Global, units: &Units, starts: &Starts) -> Result<Index, NoMemory>
+        requires room { HasRoom starts.now (entries_in (units_of units.now)) }
+        ensures len { IfOk result (λ x. length x.steps ≡ entries_in (units_of units.now)) }
+        ensures names { (around : Around ℕ) (said : List (DwUnit ℕ)) → units_meaning around (units_of units.now) ≡ Ok said → IfOk result (λ x. IsIndex (names_from starts.now.unit starts.now.top said) x) }
+        ensures tops { (around : Around ℕ) (said : List (DwUnit ℕ)) → units_meaning around (units_of units.now) ≡ Ok said → IfOk result (λ x. HasTops starts.now said x) }
+    {
+        let steps = Vec::with_capacity(alloc, units.entries() as usize)?;
+        let mut index = Index {
+            steps,
+            tops: Vec::new(alloc),
+            spaces: Vec::new(alloc),
+            starts: *starts,
+        };
+        index.put_units(units)?;
+        Ok(index)
+    }
+
     /// How many entries the file has.
     pub fn len(&self) -> u32
         requires { length self.now.steps < 2 ^ 32 }

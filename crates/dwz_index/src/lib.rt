@@ -3,7 +3,9 @@
 
 mod building;
 mod index;
+mod laws;
 mod spaces;
 
 pub use index::{Index, SpaceEntry, Starts, TopEntry};
+pub use laws::{name_laws, top_laws};
 pub use spaces::is_space;

@@ -9,7 +9,7 @@ use Rattle.dwz_bytes.specs.Input.{input}
 use Rattle.dwz_docs.specs.Entries.{Mode, RawEntry, SpellsFront, UnitContext, given, root_position}
 use Rattle.dwz_meanings.specs.Meanings.{all_places, has, places_in, places_of}
 use Rattle.dwz_docs.specs.Trees.{End, Entry, Forest, IfChildren, Position, SpellsForest, behind, first_below}
-use Rattle.dwz_docs.specs.Units.{RawUnit, SpellsUnit, SpellsUnits, entries_in, entry_count, units_at}
+use Rattle.dwz_docs.specs.Units.{CompileUnit, PartialUnit, RawKind, RawUnit, SpellsUnit, SpellsUnits, TypeUnit, entries_in, entry_count, header_size, units_at}
 use Rattle.dwz_docs.proofs.EntryLemmas.{some_front}
 use Rattle.dwz_docs.proofs.UnitListLemmas.{units_found}
 use Rattle.dwz_unit.specs.declared.rows.RawEntry.{RawEntry as EntryOfCode}
@@ -76,8 +76,18 @@ module _ (c : UnitContext) where
       let both' = subst (λ (k : ℕ). Ascend (start + length a) (places_in children ++ places_in next) k) len both in
       (omega (arith, first.place), ascend_lower (places_in children ++ places_in next) (start + length a) (start + length bytes) (e.at + 1) (omega (arith, first.place, some)) both')
 
+header_some : (kind : RawKind) → 0 < header_size kind
+header_some CompileUnit = omega arith
+header_some (TypeUnit signature type_offset) = omega arith
+header_some PartialUnit = omega arith
+
+-- the places of units, and of their entries
+unfoldable pub unit_and_entries : List RawUnit → List ℕ
+unit_and_entries [] = []
+unit_and_entries (u ∷ raw) = (u.at ∷ places_of u) ++ unit_and_entries raw
+
 module _ (abbrevs : List ℕ) (mode : Mode) where
-  unit_ascends : (u : RawUnit) (before start : ℕ) (bytes : List ℕ) → SpellsUnit abbrevs mode before u start bytes → Ascend start (places_of u) (start + length bytes)
+  unit_ascends : (u : RawUnit) (before start : ℕ) (bytes : List ℕ) → SpellsUnit abbrevs mode before u start bytes → Ascend start (u.at ∷ places_of u) (start + length bytes)
   unit_ascends u before start bytes is =
       let c = is.context in
       let head = is.header in
@@ -86,12 +96,26 @@ module _ (abbrevs : List ℕ) (mode : Mode) where
       let front = t.first_bytes in
       let inner = t.second_bytes in
       let some = some_front c (root_position before) (start + length head) (Some u.root) front first in
+      let header = header_some u.kind in
+      let size = is.is_header.size in
+      let at = is.place in
       let len : start + length bytes ≡ start + length head + length front + length inner + length is.padding
       = omega (arith, ap length is.parts, length-append head (is.tree ++ is.padding), length-append is.tree is.padding, ap length t.parts, length-append front inner) in
       let below = if_ascend c u.root.children u.below (start + length head + length front) inner _ t.second (λ q. entries_ascend c u.below _ (start + length head + length front) inner q) in
       let whole = ascend_higher (places_in u.below) (start + length head + length front) (start + length head + length front + length inner) (start + length bytes) (omega (arith, len)) below in
       let root : u.root.at ≡ start + length head = first.place in
-      (omega (arith, root), ascend_lower (places_in u.below) (start + length head + length front) (start + length bytes) (u.root.at + 1) (omega (arith, root, some)) whole)
+      (omega (arith, at), (omega (arith, root, header, size, at), ascend_lower (places_in u.below) (start + length head + length front) (start + length bytes) (u.root.at + 1) (omega (arith, root, some)) whole))
+
+  pub units_and_entries_ascend : (raw : List RawUnit) (before start : ℕ) (bytes : List ℕ) → SpellsUnits abbrevs mode before raw start bytes → Ascend start (unit_and_entries raw) (start + length bytes)
+  unfolding unit_and_entries
+  units_and_entries_ascend [] before start bytes is = omega arith
+  units_and_entries_ascend (u ∷ raw) before start bytes is =
+      let a = is.first_bytes in
+      let b = is.second_bytes in
+      let len : start + length a + length b ≡ start + length bytes = omega (arith, ap length is.parts, length-append a b) in
+      let one = unit_ascends u before start a is.first in
+      let rest = units_and_entries_ascend raw _ (start + length a) b is.second in
+      subst (λ (k : ℕ). Ascend start ((u.at ∷ places_of u) ++ unit_and_entries raw) k) len (ascend_append (u.at ∷ places_of u) (unit_and_entries raw) start (start + length a) (start + length a + length b) one rest)
 
   units_ascend : (raw : List RawUnit) (before start : ℕ) (bytes : List ℕ) → SpellsUnits abbrevs mode before raw start bytes → Ascend start (all_places raw) (start + length bytes)
   unfolding all_places
@@ -100,7 +124,9 @@ module _ (abbrevs : List ℕ) (mode : Mode) where
       let a = is.first_bytes in
       let b = is.second_bytes in
       let len : start + length a + length b ≡ start + length bytes = omega (arith, ap length is.parts, length-append a b) in
-      let one = unit_ascends u before start a is.first in
+      let both = unit_ascends u before start a is.first in
+      let low = both.0 in
+      let one = ascend_lower (places_of u) (u.at + 1) (start + length a) start (omega arith) both.1 in
       let rest = units_ascend raw _ (start + length a) b is.second in
       subst (λ (k : ℕ). Ascend start (places_of u ++ all_places raw) k) len (ascend_append (places_of u) (all_places raw) start (start + length a) (start + length a + length b) one rest)
 

@@ -40,7 +40,7 @@ some_header (TypeUnit signature type_offset) = omega arith
 some_header PartialUnit = omega arith
 
 module _ (abbrevs : List ℕ) (room : ℕ) where
-  places_whole : (raw : List RawUnit) (before start : ℕ) (bytes : List ℕ) → SpellsUnits abbrevs (given room) before raw start bytes → unit_places raw ≡ starts raw
+  pub places_whole : (raw : List RawUnit) (before start : ℕ) (bytes : List ℕ) → SpellsUnits abbrevs (given room) before raw start bytes → unit_places raw ≡ starts raw
   unfolding unit_places
   places_whole [] before start bytes is = refl
   places_whole (u ∷ raw) before start bytes is =

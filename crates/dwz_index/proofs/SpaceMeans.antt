@@ -1,0 +1,80 @@
+-- An entry is stored as a space just where it means one.
+use Rattle.std.proofs.Common.{◌≡◌, ℕ, ℤ, Bool, true, false, List, [], ◌∷◌, Option, Some, None, ◌==◌, cond, refl, sym, ap, ◌∙◌, eqb-true}
+use Rattle.std.specs.Option.{is_some}
+use Rattle.dwz_docs.specs.Entries.{RawAttr, RawEntry}
+use Rattle.dwz_meanings.specs.Documents.{Attr, Node, Value, first_named}
+use Rattle.dwz_meanings.specs.Meanings.{Class, IfSo, IsFileBy, IsLocList, MeanAttrs, MeansAs, MeansNode, OfAddress, OfBlock, OfCommonEntry, OfCommonText, OfConstant, OfExpression, OfFlag, OfIndex, OfInfoEntry, OfListIndex, OfOffset, OfSignature, OfText, OfTextBySlot, OfTextInLineStr, OfTextInStr, OfUnitEntry, Scope, Unread, class_of, constant_value, first_raw, names_file, names_list, number_of, offset_of, stmt_list, without_siblings}
+use Rattle.dwz_meanings.specs.Documents.{Sec, only}
+use Rattle.dwz_seen.specs.Spaces.{space_text, text_at, text_in}
+use Rattle.dwz_index.specs.Spaces.{has_text, is_text, stored_space}
+use Rattle.dwz_index.specs.Steps.{is_space}
+
+abbrev has_plain : Value ℕ → Bool
+has_plain v = is_some (text_in v.plain)
+
+of_value : (v w : Value ℕ) → v ≡ w → has_plain w ≡ has_plain v
+of_value v w e = ap has_plain (sym e)
+
+of_file : (s : Scope ℕ) (o : Option ℕ) (number : ℤ) (v : Value ℕ) → IsFileBy o s number v → false ≡ has_plain v
+of_file s None number v h = of_value v _ h.1
+of_file s (Some place) number v h = of_value v _ h.value
+
+of_constant : (s : Scope ℕ) (a : RawAttr) (v : Value ℕ) (b : Bool) → IfSo b (IsFileBy (stmt_list s) s (number_of a.raw) v) (v ≡ constant_value a) → false ≡ has_plain v
+of_constant s a v true h = of_file s (stmt_list s) (number_of a.raw) v h
+of_constant s a v false h = of_value v _ h
+
+of_offset : (s : Scope ℕ) (a : RawAttr) (v : Value ℕ) (b : Bool) → IfSo b (IsLocList s (offset_of a) v) (v ≡ only (Sec (offset_of a))) → false ≡ has_plain v
+of_offset s a v true h = of_value v _ h.value
+of_offset s a v false h = of_value v _ h
+
+-- a value is a text just where its class says so
+of_class : (c : Class) (s : Scope ℕ) (a : RawAttr) (v : Value ℕ) → MeansAs c s a v → is_text c ≡ has_plain v
+of_class OfAddress s a v h = of_value v _ h
+of_class OfBlock s a v h = of_value v _ h
+of_class OfConstant s a v h = of_constant s a v (names_file a.pair.name) h
+of_class OfFlag s a v h = of_value v _ h
+of_class OfText s a v h = of_value v _ h
+of_class OfTextInStr s a v h = of_value v _ h.value
+of_class OfTextInLineStr s a v h = of_value v _ h.value
+of_class OfTextBySlot s a v h = of_value v _ h.text.value
+of_class OfUnitEntry s a v h = of_value v _ h.1
+of_class OfInfoEntry s a v h = of_value v _ h.1
+of_class OfSignature s a v h = of_value v _ h
+of_class OfOffset s a v h = of_offset s a v (names_list a.pair.name) h
+of_class OfExpression s a v h = of_value v _ h.value
+of_class OfListIndex s a v h = of_value v _ h.list.value
+of_class OfIndex s a v h = of_value v _ h
+of_class OfCommonEntry s a v h = of_value v _ h.2.1
+of_class OfCommonText s a v h = of_value v _ h.2.value
+of_class Unread s a v h = absurd h
+
+abbrev named_text : List (Attr ℕ) → Bool
+named_text attrs = is_some (text_at (first_named 0x03 attrs))
+
+first_text : (s : Scope ℕ) (raw : List RawAttr) (attrs : List (Attr ℕ)) → MeanAttrs s (without_siblings raw) attrs → has_text (first_raw 0x03 raw) ≡ named_text attrs
+unfolding first_raw first_named without_siblings
+first_text s [] [] h = refl
+first_text s [] (b ∷ attrs) h = absurd h
+first_text s (a ∷ raw) attrs h = go (first_text s raw) (a.pair.name == 0x01) refl attrs h where
+  named : (b : Attr ℕ) (others : List (Attr ℕ)) → b.name ≡ a.pair.name → is_text (class_of a.pair.form) ≡ has_plain b.value → has_text (first_raw 0x03 raw) ≡ named_text others → (t : Bool)
+      → has_text (cond t (Some a) (first_raw 0x03 raw)) ≡ is_some (text_at (cond t (Some b) (first_named 0x03 others)))
+  named b others same text rest true = text
+  named b others same text rest false = rest
+
+  go : ((attrs : List (Attr ℕ)) → MeanAttrs s (without_siblings raw) attrs → has_text (first_raw 0x03 raw) ≡ named_text attrs) → (t : Bool) → (a.pair.name == 0x01) ≡ t
+      → (attrs : List (Attr ℕ)) → MeanAttrs s (cond t (without_siblings raw) (a ∷ without_siblings raw)) attrs → has_text (cond (a.pair.name == 0x03) (Some a) (first_raw 0x03 raw)) ≡ named_text attrs
+  go rest true e attrs h =
+      let other : (a.pair.name == 0x03) ≡ false = ap (λ (n : ℕ). n == 0x03) (eqb-true a.pair.name 0x01 e) in
+      ap (λ (b : Bool). has_text (cond b (Some a) (first_raw 0x03 raw))) other ∙ rest attrs h
+  go rest false e [] h = absurd h
+  go rest false e (b ∷ attrs) h =
+      let same = h.0.name in
+      named b attrs same (of_class (class_of a.pair.form) s a b.value h.0.value) (rest attrs h.1) (a.pair.name == 0x03)
+      ∙ ap (λ (n : ℕ). is_some (text_at (cond (n == 0x03) (Some b) (first_named 0x03 attrs)))) (sym same)
+
+pub space_means : (s : Scope ℕ) (e : RawEntry) (d : Node ℕ) → MeansNode s e d → stored_space e ≡ is_space d
+unfolding stored_space space_text
+space_means s e d h = by (e.tag == 0x39) ∙ ap (λ (n : ℕ). is_some (elim (n == 0x39) as (λ _. Option (List ℕ)) [ true ↦ text_at (first_named 0x03 d.attrs) | false ↦ None ])) (sym h.tag) where
+  by : (b : Bool) → (elim b as (λ _. Bool) [ true ↦ has_text (first_raw 0x03 e.attrs) | false ↦ false ]) ≡ is_some (elim b as (λ _. Option (List ℕ)) [ true ↦ text_at (first_named 0x03 d.attrs) | false ↦ None ])
+  by true = first_text s e.attrs d.attrs h.attrs
+  by false = refl

@@ -39,7 +39,8 @@ module _ (R : ℕ → ℕ → Type 0) where
   entries_zip _ _ h = absurd h
 
   pub top_zip : (a b : Top) → SameTop R a b → AllZip R (targets_of a) (targets_of b)
-  top_zip a b h = zip_join R (attrs_into a.node.attrs) (attrs_into b.node.attrs) (entries_into a.below) (entries_into b.below) (attrs_zip a.node.attrs b.node.attrs h.2.1) (entries_zip a.below b.below h.3)
+  top_zip a b h =
+      zip_join R (attrs_into a.node.attrs) (attrs_into b.node.attrs) (entries_into a.below) (entries_into b.below) (attrs_zip a.node.attrs b.node.attrs h.2.1) (entries_zip a.below b.below h.3)
 
 -- so those of equal bare trees are equally many
 refs_many : (xs ys : List Spot) → SameRefs Any xs ys → length (refs_into xs) ≡ length (refs_into ys)

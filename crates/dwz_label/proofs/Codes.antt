@@ -15,17 +15,16 @@ CodeOf {X} R spell = (x y : X) (r s : List ℕ) → spell x ++ r ≡ spell y ++ 
 abbrev pub Code : {X : Type 0} → (X → List ℕ) → Type 0
 Code {X} spell = CodeOf (λ (x y : X). x ≡ y) spell
 
--- ---- parts
+-- ---- the first part, and what follows it
 
--- the first part, and what follows it
-pub parts : (a b c d r s : List ℕ) → (a ++ b) ++ r ≡ (c ++ d) ++ s → a ++ (b ++ r) ≡ c ++ (d ++ s)
-parts a b c d r s e = sym (append_assoc a b r) ∙ e ∙ append_assoc c d s
+pub first_of : {X : Type 0} (R : X → X → Type 0) (spell : X → List ℕ) → CodeOf R spell → (x y : X) (u v r s : List ℕ) → (spell x ++ u) ++ r ≡ (spell y ++ v) ++ s → R x y × (u ++ r ≡ v ++ s)
+first_of R spell code x y u v r s e = code x y (u ++ r) (v ++ s) (sym (append_assoc (spell x) u r) ∙ e ∙ append_assoc (spell y) v s)
 
-pub heads : (x y : ℕ) (xs ys : List ℕ) → x ∷ xs ≡ y ∷ ys → x ≡ y
-heads x y xs ys e = cc
+pub heads : {x y : ℕ} {xs ys : List ℕ} → x ∷ xs ≡ y ∷ ys → x ≡ y
+heads e = cc
 
-pub tails : (x y : ℕ) (xs ys : List ℕ) → x ∷ xs ≡ y ∷ ys → xs ≡ ys
-tails x y xs ys e = cc
+pub tails : {x y : ℕ} {xs ys : List ℕ} → x ∷ xs ≡ y ∷ ys → xs ≡ ys
+tails e = cc
 
 -- ---- numbers
 
@@ -62,6 +61,9 @@ number_code m n r s e =
     let one = groups_one (number m) (number n) r s a.0 b.0 e in
     (sym a.1 ∙ ap groups_value one.0 ∙ b.1, one.1)
 
+pub first_number : (m n : ℕ) (u v r s : List ℕ) → (number m ++ u) ++ r ≡ (number n ++ v) ++ s → (m ≡ n) × (u ++ r ≡ v ++ s)
+first_number m n u v r s e = first_of (λ (x y : ℕ). x ≡ y) number number_code m n u v r s e
+
 -- a number of 64 bits has its shortest LEB128 spelling
 pub number_uleb : (n : ℕ) → n < 2 ^ 64 → number n ≡ uleb n
 unfolding number
@@ -80,13 +82,13 @@ take_same [] [] r s l e = (refl, e)
 take_same [] (y ∷ ys) r s l e = absurd (omega arith)
 take_same (x ∷ xs) [] r s l e = absurd (omega arith)
 take_same (x ∷ xs) (y ∷ ys) r s l e =
-    let first = heads x y (xs ++ r) (ys ++ s) e in
-    let rest = take_same xs ys r s (omega arith) (tails x y (xs ++ r) (ys ++ s) e) in
+    let first = heads e in
+    let rest = take_same xs ys r s (omega arith) (tails e) in
     ((λ i. first i ∷ rest.0 i), rest.1)
 
 pub counted_code : Code counted
 counted_code xs ys r s e =
-    let n = number_code (length xs) (length ys) (xs ++ r) (ys ++ s) (parts (number (length xs)) xs (number (length ys)) ys r s e) in
+    let n = first_number (length xs) (length ys) xs ys r s e in
     take_same xs ys r s n.0 n.1
 
 -- a relation of lists that holds where it holds of the items
@@ -94,18 +96,19 @@ pub record Lists {X : Type 0} (R : X → X → Type 0) (L : List X → List X �
   pub none : L [] []
   pub more : (x y : X) (xs ys : List X) → R x y → L xs ys → L (x ∷ xs) (y ∷ ys)
 
-flat_code : {X : Type 0} (R : X → X → Type 0) (L : List X → List X → Type 0) (spell : X → List ℕ) → Lists R L → CodeOf R spell → (xs ys : List X) (r s : List ℕ) → length xs ≡ length ys → flat_map spell xs ++ r ≡ flat_map spell ys ++ s → L xs ys × (r ≡ s)
+flat_code : {X : Type 0} (R : X → X → Type 0) (L : List X → List X → Type 0) (spell : X → List ℕ) → Lists R L → CodeOf R spell → (xs ys : List X) (r s : List ℕ)
+    → length xs ≡ length ys → flat_map spell xs ++ r ≡ flat_map spell ys ++ s → L xs ys × (r ≡ s)
 flat_code R L spell lists code [] [] r s l e = (lists.none, e)
 flat_code R L spell lists code [] (y ∷ ys) r s l e = absurd (omega arith)
 flat_code R L spell lists code (x ∷ xs) [] r s l e = absurd (omega arith)
 flat_code R L spell lists code (x ∷ xs) (y ∷ ys) r s l e =
-    let first = code x y (flat_map spell xs ++ r) (flat_map spell ys ++ s) (parts (spell x) (flat_map spell xs) (spell y) (flat_map spell ys) r s e) in
+    let first = first_of R spell code x y (flat_map spell xs) (flat_map spell ys) r s e in
     let rest = flat_code R L spell lists code xs ys r s (omega arith) first.1 in
     (lists.more x y xs ys first.0 rest.0, rest.1)
 
 pub each_code_of : {X : Type 0} (R : X → X → Type 0) (L : List X → List X → Type 0) (spell : X → List ℕ) → Lists R L → CodeOf R spell → CodeOf L (each_counted spell)
 each_code_of {X} R L spell lists code xs ys r s e =
-    let n = number_code (length xs) (length ys) (flat_map spell xs ++ r) (flat_map spell ys ++ s) (parts (number (length xs)) (flat_map spell xs) (number (length ys)) (flat_map spell ys) r s e) in
+    let n = first_number (length xs) (length ys) (flat_map spell xs) (flat_map spell ys) r s e in
     flat_code R L spell lists code xs ys r s n.0 n.1
 
 equal_lists : {X : Type 0} → Lists (λ (x y : X). x ≡ y) (λ (xs ys : List X). xs ≡ ys)

@@ -41,6 +41,9 @@ module _ (labels : List (List ℕ)) (movable : List Bool) (many : length movable
   abbrev SameHash : ℕ → ℕ → Type 0
   SameHash n m = hash_at labels n ≡ hash_at labels m
 
+  abbrev IsHash : ℕ → ℕ → Type 0
+  IsHash n key = key ≡ hash_at labels n
+
   abbrev SameLabel : ℕ → ℕ → Type 0
   SameLabel n m = label_at labels n ≡ label_at labels m
 
@@ -54,18 +57,18 @@ module _ (labels : List (List ℕ)) (movable : List Bool) (many : length movable
     hash_same m n x y p q e = sym p ∙ number_equal x y e ∙ q
 
     pub hashed_inside : (own : List ℕ) → length own ≡ length labels → All (λ r. r.number < length own) rows
-    hashed_inside own len = rows_inside IsFree (λ n key. key ≡ hash_at labels n) SameHash nat_cmp hash_tied (length labels) rows are own len
+    hashed_inside own len = rows_inside IsFree IsHash SameHash nat_cmp hash_tied (length labels) rows are own len
 
     pub hashed_one : AreOneKey nat_cmp rows
-    hashed_one = rows_one IsFree (λ n key. key ≡ hash_at labels n) SameHash nat_cmp hash_tied (length labels) rows are (λ n. refl)
+    hashed_one = rows_one IsFree IsHash SameHash nat_cmp hash_tied (length labels) rows are (λ n. refl)
 
     pub hashed_heads : (own heads : List ℕ) → length own ≡ length labels → ((n : ℕ) → n < length labels → slice_index own n ≡ n) → ArePut nat_cmp rows own heads → AreHeads labels movable heads
     hashed_heads own heads len each put = record {
       len = put.len ∙ len ∙ sym many;
       each = λ n l. by_if (slice_index_or movable n false) _ _
           (λ free. subst (λ (k : ℕ). IsLeastBelow k (λ m. IsFree m × SameHash n m) (slice_index heads n)) (sym many)
-          (picked_least IsFree (λ n key. key ≡ hash_at labels n) SameHash nat_cmp hash_tied (length labels) rows are hash_same own heads put n (omega (arith, many, l)) free))
-          (λ bound. passed_same IsFree (λ n key. key ≡ hash_at labels n) SameHash nat_cmp hash_tied (length labels) rows are hash_same own heads put n (λ free. true≢false (sym free ∙ bound)) ∙ each n (omega (arith, many, l)));
+          (picked_least IsFree IsHash SameHash nat_cmp hash_tied (length labels) rows are hash_same own heads put n (omega (arith, many, l)) free))
+          (λ bound. passed_same IsFree IsHash SameHash nat_cmp hash_tied (length labels) rows are hash_same own heads put n (λ free. true≢false (sym free ∙ bound)) ∙ each n (omega (arith, many, l)));
     }
 
   -- ---- of heads
@@ -122,7 +125,8 @@ module _ (labels : List (List ℕ)) (movable : List Bool) (many : length movable
         like_first : (n : ℕ) → n < length labels → IsFree n → SameLabel n (slice_index heads n) → IsLeastBelow (length movable) (λ m. IsFree m × SameLabel n m) (slice_index firsts n)
         like_first n l free same =
             let h = head_of n l free in
-            let kept : slice_index firsts n ≡ slice_index heads n = passed_same (IsUnlike labels heads) IsKey SameLabel by_bytes label_tied (length labels) rows are label_same heads firsts put n (λ other. other same) in
+            let kept : slice_index firsts n ≡ slice_index heads n =
+            passed_same (IsUnlike labels heads) IsKey SameLabel by_bytes label_tied (length labels) rows are label_same heads firsts put n (λ other. other same) in
             subst (λ (m : ℕ). IsLeastBelow (length movable) (λ k. IsFree k × SameLabel n k) m) (sym kept)
             (record { inside = h.inside; is = (h.is.0, same); least = λ m low p. h.least m low (p.0, ap hash_of p.1) })
 
@@ -135,17 +139,23 @@ module _ (labels : List (List ℕ)) (movable : List Bool) (many : length movable
               least = λ m low p. h.least m (omega (arith, many, low)) (unlike_too n m l (omega (arith, many, low)) free p.0 p.1 other, p.1);
             }
 
+        free_first : (n : ℕ) → n < length labels → IsFree n → IsLeastBelow (length movable) (λ m. IsFree m × SameLabel n m) (slice_index firsts n)
+        free_first n l free =
+            let head = label_at labels (slice_index heads n) in
+            let decides = bytes_eq-Decides (label_at labels n) head in ⊎_elim
+            (λ (e : bytes_eq (label_at labels n) head ≡ true). like_first n l free (decides.0 e))
+            (λ (e : bytes_eq (label_at labels n) head ≡ false). unlike_first n l free (λ same. true≢false (sym (decides.1 same) ∙ e)))
+            (cases_Bool (bytes_eq (label_at labels n) head))
+
+        bound_first : (n : ℕ) → n < length labels → slice_index_or movable n false ≡ false → slice_index firsts n ≡ n
+        bound_first n l bound =
+            let own = own_head n l bound in
+            passed_same (IsUnlike labels heads) IsKey SameLabel by_bytes label_tied (length labels) rows are label_same heads firsts put n (λ other. other (ap (label_at labels) (sym own))) ∙ own
+
         pub unlike_firsts : AreFirsts labels movable firsts
         unlike_firsts = record {
           len = put.len ∙ led.len;
           each = λ n low. (
-              let l : n < length labels = omega (arith, many, low) in by_if (slice_index_or movable n false) _ _
-              (λ free. ⊎_elim
-              (λ (e : bytes_eq (label_at labels n) (label_at labels (slice_index heads n)) ≡ true). like_first n l free ((bytes_eq-Decides (label_at labels n) (label_at labels (slice_index heads n))).0 e))
-              (λ (e : bytes_eq (label_at labels n) (label_at labels (slice_index heads n)) ≡ false).
-              unlike_first n l free (λ same. true≢false (sym ((bytes_eq-Decides (label_at labels n) (label_at labels (slice_index heads n))).1 same) ∙ e)))
-              (cases_Bool (bytes_eq (label_at labels n) (label_at labels (slice_index heads n)))))
-              (λ bound. (
-              let own = own_head n l bound in
-              passed_same (IsUnlike labels heads) IsKey SameLabel by_bytes label_tied (length labels) rows are label_same heads firsts put n (λ other. other (ap (label_at labels) (sym own))) ∙ own)));
+              let l : n < length labels = omega (arith, many, low) in
+              by_if (slice_index_or movable n false) _ _ (free_first n l) (bound_first n l));
         }

@@ -90,13 +90,15 @@ module _ (units : List (FileUnit Spot)) (least : List ℕ) (are : AreLeast units
       let m = alike_least b a j i (alike_turns units a.number b.number h) in
       omega arith
 
-  same_alike : (a b : Top) → In a (tops_of units) → In b (tops_of units) → is_movable units a ≡ true → is_movable units b ≡ true → slice_index least a.number ≡ slice_index least b.number → Alike units a.number b.number
+  same_alike : (a b : Top) → In a (tops_of units) → In b (tops_of units) → is_movable units a ≡ true → is_movable units b ≡ true
+      → slice_index least a.number ≡ slice_index least b.number → Alike units a.number b.number
   same_alike a b i j f h e =
       let x = (least_of a i f).is in
       let y : Alike units b.number (slice_index least a.number) = subst (λ (n : ℕ). Alike units b.number n) (sym e) (least_of b j h).is in
       alike_joins units a.number (slice_index least a.number) b.number x (alike_turns units b.number (slice_index least a.number) y)
 
-  pub alike_joined : (scope : Scope) (a b : Top) → In a (tops_of units) → In b (tops_of units) → (alike_test scope units a.number b.number ≡ true → HaveOneLeast scope units least a b) × (HaveOneLeast scope units least a b → alike_test scope units a.number b.number ≡ true)
+  pub alike_joined : (scope : Scope) (a b : Top) → In a (tops_of units) → In b (tops_of units)
+      → (alike_test scope units a.number b.number ≡ true → HaveOneLeast scope units least a b) × (HaveOneLeast scope units least a b → alike_test scope units a.number b.number ≡ true)
   alike_joined scope a b i j =
       let d = test_decides scope units a b i j in (
         λ e. (

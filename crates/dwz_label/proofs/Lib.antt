@@ -11,3 +11,4 @@ pub mod Pairs
 pub mod Putting
 pub mod Rows
 pub mod Together
+pub mod Wholes

@@ -1,7 +1,7 @@
 -- Nodes made from lists that show tops: the first of equal labels is the least top with the same bare tree.
-use Rattle.std.proofs.Common.{◌≡◌, ℕ, ◌<◌, ◌≤◌, Bool, true, false, List, [], length, get_or, sym, ap, subst, ◌∙◌, arith}
+use Rattle.std.proofs.Common.{◌≡◌, ℕ, ◌<◌, Bool, true, false, List, [], length, get_or, sym, ap, subst, ◌∙◌, arith}
 use Rattle.std.specs.Prelude.{All, if◌then◌else◌, slice_index, slice_index_or}
-use Rattle.std.proofs.lemmas.Bool.{cond-false, cond-true, false≢true}
+use Rattle.std.proofs.lemmas.Bool.{cond-false, cond-true}
 use Rattle.dwz_docs.specs.Lists.{In}
 use Rattle.dwz_nodes.specs.Graph.{IsClosed, Node, node, node_at}
 use Rattle.dwz_nodes.specs.Looks.{IsLeastBelow}
@@ -11,7 +11,7 @@ use Rattle.dwz_alike.specs.Spots.{FileUnit, Spot, Top, tops_of}
 use Rattle.dwz_alike.proofs.AlikeBound.{movable_decides}
 use Rattle.dwz_alike.proofs.TopNumbers.{tops_numbers, top_at}
 use Rattle.dwz_label.specs.Labels.{label_of}
-use Rattle.dwz_label.specs.Nodes.{AreNodes, IsLikeness, SameBare}
+use Rattle.dwz_label.specs.Nodes.{AreNodes, IsLikeness}
 use Rattle.dwz_label.specs.Shown.{AreFirsts, AreMade, AreShown, label_at}
 use Rattle.dwz_label.proofs.Choices.{by_if, if_false, if_true}
 use Rattle.dwz_label.proofs.LabelLemmas.{bare_label, label_bare}
@@ -21,14 +21,16 @@ chosen : (free : Bool) (ts : List ℕ) (count : ℕ) → All (λ t. t < count) t
 chosen true ts count inside = inside
 chosen false ts count inside = λ k d l. absurd (omega arith)
 
-pub made_closed : (firsts : List ℕ) (movable : List Bool) (targets : List (List ℕ)) (g : List Node) → length targets ≡ length firsts → All (λ ts. All (λ t. t < length targets) ts) targets → AreMade firsts movable targets g → IsClosed g
+pub made_closed : (firsts : List ℕ) (movable : List Bool) (targets : List (List ℕ)) (g : List Node) → length targets ≡ length firsts
+    → All (λ ts. All (λ t. t < length targets) ts) targets → AreMade firsts movable targets g → IsClosed g
 made_closed firsts movable targets g many inside made n l =
     let size : length g ≡ length targets = made.len ∙ sym many in
     subst (λ (k : ℕ). All (λ t. t < k) (node_at g n).targets) (sym size)
     (subst (λ (x : Node). All (λ t. t < length targets) x.targets) (sym (made.each n (omega (arith, size, l))))
     (chosen (slice_index_or movable n false) (slice_index_or targets n []) (length targets) (inside n [] (omega arith))))
 
-module _ (units : List (FileUnit Spot)) (labels : List (List ℕ)) (movable : List Bool) (targets : List (List ℕ)) (firsts : List ℕ) (g : List Node) (shown : AreShown units labels movable targets) (are : AreFirsts labels movable firsts) (made : AreMade firsts movable targets g) where
+module _ (units : List (FileUnit Spot)) (labels : List (List ℕ)) (movable : List Bool) (targets : List (List ℕ)) (firsts : List ℕ) (g : List Node)
+    (shown : AreShown units labels movable targets) (are : AreFirsts labels movable firsts) (made : AreMade firsts movable targets g) where
   many : length firsts ≡ length (tops_of units)
   many = are.len ∙ shown.flags.len
 
@@ -65,7 +67,8 @@ module _ (units : List (FileUnit Spot)) (labels : List (List ℕ)) (movable : Li
     each = λ t i. by_if (is_movable units t) _ _
         (λ f. record {
           label = subst (λ (k : ℕ). IsLeastBelow (length (tops_of units)) (IsLikeness units t) k) (sym (ap (λ (x : Node). x.label) (node_is t i))) (first_is t i f);
-          targets = ap (λ (x : Node). x.targets) (node_is t i) ∙ cond-true (slice_index_or movable t.number false) (slice_index_or targets t.number []) [] (shown.flags.each t i ∙ f) ∙ shown.targets_are t i ((movable_decides units t i).0 f);
+          targets = ap (λ (x : Node). x.targets) (node_is t i)
+              ∙ cond-true (slice_index_or movable t.number false) (slice_index_or targets t.number []) [] (shown.flags.each t i ∙ f) ∙ shown.targets_are t i ((movable_decides units t i).0 f);
         })
         (λ f. record {
           label = ap (λ (x : Node). x.label) (node_is t i) ∙ if_false (slice_index_or movable t.number false) _ _ (shown.flags.each t i ∙ f) (are.each t.number (flag_below t i));

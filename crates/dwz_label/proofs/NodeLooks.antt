@@ -84,7 +84,8 @@ module _ (units : List (FileUnit Spot)) (g : List Node) (nodes : AreNodes units 
   abbrev IsLook : ℕ → ℕ → ℕ → Type 0
   IsLook k m n = (LookEqual g k m n → Look (tops_of units) k m n) × (Look (tops_of units) k m n → LookEqual g k m n)
 
-  one_deeper : (k : ℕ) → ((m n : ℕ) → Movable units m → Movable units n → IsLook k m n) → (a b : Top) → In a (tops_of units) → In b (tops_of units) → Movable units a.number → Movable units b.number → IsLook (suc k) a.number b.number
+  one_deeper : (k : ℕ) → ((m n : ℕ) → Movable units m → Movable units n → IsLook k m n) → (a b : Top) → In a (tops_of units) → In b (tops_of units) → Movable units a.number
+      → Movable units b.number → IsLook (suc k) a.number b.number
   one_deeper k before a b i j m n =
       let tops = tops_of units in
       let ts = targets_at g a.number in
@@ -111,5 +112,7 @@ module _ (units : List (FileUnit Spot)) (g : List Node) (nodes : AreNodes units 
   node_looks (suc k) m n u v =
       let a = u.top in
       let b = v.top in
-      let here : IsLook (suc k) a.number b.number = one_deeper k (node_looks k) a b u.is_top v.is_top (subst (λ (i : ℕ). Movable units i) (sym u.number) u) (subst (λ (i : ℕ). Movable units i) (sym v.number) v) in
+      let x : Movable units a.number = subst (λ (i : ℕ). Movable units i) (sym u.number) u in
+      let y : Movable units b.number = subst (λ (i : ℕ). Movable units i) (sym v.number) v in
+      let here : IsLook (suc k) a.number b.number = one_deeper k (node_looks k) a b u.is_top v.is_top x y in
       subst (λ (p : ℕ × ℕ). IsLook (suc k) p.0 p.1) (λ l. (u.number l, v.number l)) here

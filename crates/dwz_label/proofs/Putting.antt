@@ -14,7 +14,8 @@ use native.Mathlib.Decide.{ℕ_discrete}
 pub put_none : {K : Type 0} (cmp : Order K) (rows : List (Keyed K)) (old : List ℕ) (first : ℕ) → ArePutTo cmp rows old 0 old first
 put_none cmp rows old first = record { len = refl; put = λ i d l. absurd (omega arith); last = λ d l. absurd (omega arith); other = λ n none. refl }
 
-module _ {K : Type 0} (cmp : Order K) (total : IsTotalOrder cmp) (rows : List (Keyed K)) (up : IsSorted (row_cmp cmp total) rows) (one : AreOneKey cmp rows) (n first : ℕ) (old new : List ℕ) (inside : n < length rows) (so_far : ArePutTo cmp rows old n new first) where
+module _ {K : Type 0} (cmp : Order K) (total : IsTotalOrder cmp) (rows : List (Keyed K)) (up : IsSorted (row_cmp cmp total) rows) (one : AreOneKey cmp rows)
+    (n first : ℕ) (old new : List ℕ) (inside : n < length rows) (so_far : ArePutTo cmp rows old n new first) where
   -- the number that is written at the next row
   pub next_new : (b : Bool) → IsNew cmp rows b n → b ≡ true → (d : Keyed K) → IsLeastUnder cmp rows (get_or rows n d).key (get_or rows n d).number
   next_new b is e d = least_here cmp total rows up d n inside (λ j s. is.new e j s d)
@@ -35,7 +36,8 @@ module _ {K : Type 0} (cmp : Order K) (total : IsTotalOrder cmp) (rows : List (K
     put_at i d l = dite (ℕ_discrete (get_or rows i d).number row.number)
         (λ e.
         let same = least_again cmp total rows row.key (get_or rows i d).key next (one row (get_or rows i d) there (contains_at rows i d (omega arith)) (sym e)) least in
-        let written : next ≡ get_or (set new row.number next) (get_or rows i d).number 0 = sym (get_or-set_same new row.number next 0 room) ∙ ap (λ (k : ℕ). get_or (set new row.number next) k 0) (sym e) in
+        let written : next ≡ get_or (set new row.number next) (get_or rows i d).number 0 =
+        sym (get_or-set_same new row.number next 0 room) ∙ ap (λ (k : ℕ). get_or (set new row.number next) k 0) (sym e) in
         subst (λ (m : ℕ). IsLeastUnder cmp rows (get_or rows i d).key m) written same)
         (λ ne.
         let before : i < n = ⊎_elim (λ (lt : i < n). lt) (λ (e : i ≡ n). absurd (ne (ap (λ (k : ℕ). (get_or rows k d).number) e ∙ ap (λ (r : Keyed K). r.number) (is d)))) (grind arith) in
@@ -45,7 +47,10 @@ module _ {K : Type 0} (cmp : Order K) (total : IsTotalOrder cmp) (rows : List (K
     put_more = record {
       len = length-set new row.number next ∙ so_far.len;
       put = put_at;
-      last = λ d l. (let same : n ≡ n + 1 - 1 = omega arith in subst (λ (i : ℕ). IsLeastUnder cmp rows (get_or rows i d).key next) same (subst (λ (r : Keyed K). IsLeastUnder cmp rows r.key next) (sym (is d)) least));
+      last = λ d l. (
+          let same : n ≡ n + 1 - 1 = omega arith in
+          let own = subst (λ (r : Keyed K). IsLeastUnder cmp rows r.key next) (sym (is d)) least in
+          subst (λ (i : ℕ). IsLeastUnder cmp rows (get_or rows i d).key next) same own);
       other = λ m none.
           get_or-set_other new row.number m next 0 (λ e. none n row (omega arith) (ap (λ (r : Keyed K). r.number) (is row) ∙ sym e))
           ∙ so_far.other m (λ i d l. none i d (omega arith));

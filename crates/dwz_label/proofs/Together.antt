@@ -101,7 +101,8 @@ equal_if Less e = absurd (true≢false e)
 equal_if Equal e = refl
 equal_if Greater e = absurd (true≢false e)
 
-pub new_tells : {K : Type 0} (cmp : Order K) (rows : List (Keyed K)) (at : ℕ) (o : Ordering) (b : Bool) (r s : Keyed K) → at < length rows → (at ≡ 0 → ⊥) → o ≡ cmp (get_or rows (at - 1) r).key (get_or rows at s).key → b ≡ is_ne o → IsNew cmp rows b at
+pub new_tells : {K : Type 0} (cmp : Order K) (rows : List (Keyed K)) (at : ℕ) (o : Ordering) (b : Bool) (r s : Keyed K) → at < length rows → (at ≡ 0 → ⊥)
+    → o ≡ cmp (get_or rows (at - 1) r).key (get_or rows at s).key → b ≡ is_ne o → IsNew cmp rows b at
 new_tells {K} cmp rows at o b r s l some is b_is = record {
   new = λ e j next d tied. ne_not o (told j next d ∙ tied) (sym b_is ∙ e);
   again = λ e. (at - 1, omega arith, λ d. sym (told (at - 1) (omega arith) d) ∙ equal_if o (sym b_is ∙ e));

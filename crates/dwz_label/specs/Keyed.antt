@@ -28,17 +28,24 @@ pub record ArePut {K : Type 0} (cmp : Order K) (rows : List (Keyed K)) (old new 
   pub put : (r : Keyed K) → Contains rows r → IsLeastUnder cmp rows r.key (slice_index new r.number)
   pub other : (n : ℕ) → ((r : Keyed K) → Contains rows r → r.number ≡ n → ⊥) → slice_index new n ≡ slice_index old n
 
+-- the key and the number of the row at i
+abbrev pub key_at : {K : Type 0} → List (Keyed K) → ℕ → Keyed K → K
+key_at rows i d = (slice_index_or rows i d).key
+
+abbrev pub number_at : {K : Type 0} → List (Keyed K) → ℕ → Keyed K → ℕ
+number_at rows i d = (slice_index_or rows i d).number
+
 -- whether the row at i is under another key than the row before it
 pub record IsNew {K : Type 0} (cmp : Order K) (rows : List (Keyed K)) (is_new : Bool) (i : ℕ) : Type 0 where
-  pub new : is_new ≡ true → (j : ℕ) → i ≡ suc j → (d : Keyed K) → cmp (slice_index_or rows j d).key (slice_index_or rows i d).key ≡ Equal → ⊥
-  pub again : is_new ≡ false → (j : ℕ) × (i ≡ suc j) × ((d : Keyed K) → cmp (slice_index_or rows j d).key (slice_index_or rows i d).key ≡ Equal)
+  pub new : is_new ≡ true → (j : ℕ) → i ≡ suc j → (d : Keyed K) → cmp (key_at rows j d) (key_at rows i d) ≡ Equal → ⊥
+  pub again : is_new ≡ false → (j : ℕ) × (i ≡ suc j) × ((d : Keyed K) → cmp (key_at rows j d) (key_at rows i d) ≡ Equal)
 
--- the same of the first rows alone; and the number last written is the least under the key of the last of these
-pub record ArePutTo {K : Type 0} (cmp : Order K) (rows : List (Keyed K)) (old : List ℕ) (count : ℕ) (new : List ℕ) (first : ℕ) : Type 0 where
+-- the same of the first rows alone; and the number that was written last is the least under the key of the last of these
+pub record ArePutTo {K : Type 0} (cmp : Order K) (rows : List (Keyed K)) (old : List ℕ) (k : ℕ) (new : List ℕ) (first : ℕ) : Type 0 where
   pub len : length new ≡ length old
-  pub put : (i : ℕ) (d : Keyed K) → i < count → IsLeastUnder cmp rows (slice_index_or rows i d).key (slice_index new (slice_index_or rows i d).number)
-  pub last : (d : Keyed K) → 0 < count → IsLeastUnder cmp rows (slice_index_or rows (count - 1) d).key first
-  pub other : (n : ℕ) → ((i : ℕ) (d : Keyed K) → i < count → (slice_index_or rows i d).number ≡ n → ⊥) → slice_index new n ≡ slice_index old n
+  pub put : (i : ℕ) (d : Keyed K) → i < k → IsLeastUnder cmp rows (key_at rows i d) (slice_index new (number_at rows i d))
+  pub last : (d : Keyed K) → 0 < k → IsLeastUnder cmp rows (key_at rows (k - 1) d) first
+  pub other : (n : ℕ) → ((i : ℕ) (d : Keyed K) → i < k → number_at rows i d ≡ n → ⊥) → slice_index new n ≡ slice_index old n
 
 -- one row or more for each picked number below count, under its key
 pub record AreRows {K : Type 0} (Picked : ℕ → Type 0) (IsKey : ℕ → K → Type 0) (count : ℕ) (rows : List (Keyed K)) : Type 0 where

@@ -5,7 +5,8 @@ use Rattle.std.specs.List.{flat_map}
 use Rattle.dwz_bytes.specs.Spelling.{groups_in, padded}
 use Rattle.dwz_model.specs.declared.place.Base.{Base}
 use Rattle.dwz_model.specs.declared.place.Base.TheVariants.{Unit as FromUnit, Info as FromInfo}
-use Rattle.dwz_meanings.specs.Documents.{Addr, Attr, Block, Entries, Expr, File, Flag, Index, Loc, Node, Num, Operand, Part, Plain, Ref, Same, Sec, Sig, Text, Value}
+use Rattle.dwz_meanings.specs.Documents.{Attr, Entries, Node, Part, Plain, Value}
+use Rattle.dwz_meanings.specs.Documents.{Addr, Block, Expr, File, Flag, Index, Loc, Num, Operand, Ref, Same, Sec, Sig, Text}
 use Rattle.dwz_docs.specs.Trees.{End, Entry, size}
 use Rattle.dwz_alike.specs.Spots.{Spot, Top, Within, name_list}
 

@@ -46,11 +46,15 @@ pub record AreNodes (units : List (FileUnit Spot)) (g : List Node) : Type 0 wher
 
 -- ---- the least alike tops
 
+-- the number of the least top that is alike to t
+abbrev pub IsLeastAlike : List (FileUnit Spot) → Top → ℕ → Type 0
+IsLeastAlike units t n = IsLeastBelow (length (tops_of units)) (Alike units t.number) n
+
 -- of each movable top the number of the least top that is alike to it, in whichever file; of each other one its own
 pub record AreLeast (units : List (FileUnit Spot)) (least : List ℕ) : Type 0 where
   pub len : length least ≡ length (tops_of units)
   pub each : (t : Top) → In t (tops_of units)
-      → IfSo (is_movable units t) (IsLeastBelow (length (tops_of units)) (Alike units t.number) (slice_index least t.number)) (slice_index least t.number ≡ t.number)
+      → IfSo (is_movable units t) (IsLeastAlike units t (slice_index least t.number)) (slice_index least t.number ≡ t.number)
 
 -- both may move, in one scope, and their least alike tops are one
 pub record HaveOneLeast (scope : Scope) (units : List (FileUnit Spot)) (least : List ℕ) (a b : Top) : Type 0 where

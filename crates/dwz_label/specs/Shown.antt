@@ -1,5 +1,5 @@
 -- What labels, flags and lists of targets show of tops, and the nodes that are made of them.
-use Rattle.std.specs.Prelude.{◌≡◌, ℕ, ◌<◌, Bool, true, false, List, [], ◌∷◌, length, if◌then◌else◌, slice_index, slice_index_or}
+use Rattle.std.specs.Prelude.{◌≡◌, ℕ, ◌<◌, Bool, true, false, List, [], length, if◌then◌else◌, slice_index, slice_index_or}
 use Rattle.dwz_meanings.specs.Meanings.{IfSo}
 use Rattle.dwz_docs.specs.Lists.{In}
 use Rattle.dwz_nodes.specs.Graph.{Node, node, node_at}
@@ -21,11 +21,15 @@ pub record AreShown (units : List (FileUnit Spot)) (labels : List (List ℕ)) (m
   pub targets_len : length targets ≡ length (tops_of units)
   pub targets_are : (t : Top) → In t (tops_of units) → Movable units t.number → slice_index_or targets t.number [] ≡ targets_of t
 
+-- m is the least that may move and is the same as n
+abbrev pub IsLeastFree : (ℕ → ℕ → Type 0) → List Bool → ℕ → ℕ → Type 0
+IsLeastFree Same movable n m = IsLeastBelow (length movable) (λ k. (slice_index_or movable k false ≡ true) × Same n k) m
+
 -- of each that may move the least that may and is the same, and of each other one its own number
 pub record AreLeastOf (Same : ℕ → ℕ → Type 0) (movable : List Bool) (least : List ℕ) : Type 0 where
   pub len : length least ≡ length movable
   pub each : (n : ℕ) → n < length movable
-      → IfSo (slice_index_or movable n false) (IsLeastBelow (length movable) (λ m. (slice_index_or movable m false ≡ true) × Same n m) (slice_index least n)) (slice_index least n ≡ n)
+      → IfSo (slice_index_or movable n false) (IsLeastFree Same movable n (slice_index least n)) (slice_index least n ≡ n)
 
 -- the same is here to have the same label
 abbrev pub AreFirsts : List (List ℕ) → List Bool → List ℕ → Type 0
@@ -34,4 +38,5 @@ AreFirsts labels movable firsts = AreLeastOf (λ n m. label_at labels n ≡ labe
 -- a node for each, with these targets if it may move, and else with none
 pub record AreMade (firsts : List ℕ) (movable : List Bool) (targets : List (List ℕ)) (g : List Node) : Type 0 where
   pub len : length g ≡ length firsts
-  pub each : (n : ℕ) → n < length firsts → node_at g n ≡ node (slice_index firsts n) (if slice_index_or movable n false then slice_index_or targets n [] else [])
+  pub each : (n : ℕ) → n < length firsts
+      → node_at g n ≡ node (slice_index firsts n) (if slice_index_or movable n false then slice_index_or targets n [] else [])

@@ -1,8 +1,10 @@
 //! Labels, one behind the other.
 
-ghost use Rattle.std.specs.Prelude.{◌≡◌, ◌<◌, ◌≤◌, [], ◌∷◌, ◌++◌, length, slice_index_or, slice_range, OnOk, OnErr};
+ghost use Rattle.std.specs.Prelude.{◌≡◌, ◌-◌, ◌<◌, ◌≤◌, [], ◌∷◌, ◌++◌, length, map, slice_index_or, slice_range, IfOk, OnOk, OnErr};
+ghost use Rattle.std.specs.List.{range_with_len};
 ghost use Rattle.dwz_groups.specs.Parts.{start_at};
 
+use crate::writer::LabelWriter;
 use dwz_model::NoMemory;
 use std::alloc::Global;
 use std::marker::Model;
@@ -52,6 +54,26 @@ impl Labels {
                 Err(NoMemory::from(failed))
             }
         }
+    }
+
+    // Those of a writer from one number to before another.
+    pub(crate) fn written<W: LabelWriter>(
+        alloc: Global,
+        writer: &W,
+        first: usize,
+        end: usize,
+    ) -> Result<Labels, NoMemory>
+        requires rising { first ≤ end }
+        requires within { end ≤ W.count writer.now }
+        ensures { IfOk result (λ labels. labels ≡ map (W.label writer.now) (range_with_len first (end - first))) }
+    {
+        let mut ends = Vec::new(alloc);
+        let mut bytes = Vec::new(alloc);
+        for n in first..end {
+            writer.put_label(&mut bytes, n)?;
+            ends.push(bytes.len())?;
+        }
+        Ok(Labels { ends, bytes })
     }
 
     /// How many there are.

@@ -62,7 +62,7 @@ unfolding file_numbers
 file_numbers_are s [] = refl
 file_numbers_are s (d ∷ docs) = ap (λ (ns : List ℕ). s ∷ ns) (file_numbers_are (suc s) docs ∙ (let e : suc s ≡ s + 1 = omega arith in ap (λ n. range_with_len n (length docs)) e))
 
-file_is : (units : List (FileUnit Spot)) (i : ℕ) → file_of units i ≡ get_or (map (λ (f : FileUnit Spot). f.file) units) i 0
+pub file_is : (units : List (FileUnit Spot)) (i : ℕ) → file_of units i ≡ get_or (map (λ (f : FileUnit Spot). f.file) units) i 0
 unfolding file_of
 file_is [] i = refl
 file_is (f ∷ units) zero = refl

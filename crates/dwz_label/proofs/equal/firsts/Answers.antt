@@ -5,7 +5,8 @@ use Rattle.dwz_label.proofs.Heads.{hashed_heads, hashed_inside, hashed_one, head
 use Rattle.dwz_label.proofs.equal.firsts.Goals as goal
 
 pub with_least-heads-requires-clause-inside : goal.with_least-heads-requires-clause-inside
-with_least-heads-requires-clause-inside c = hashed_inside c.args.labels.now c.args.movable.now c.requires.many c.in_ok-rows.rows.items c.in_ok-rows.ensures c.in_ok-own.own.items (c.in_ok-own.ensures.len ∙ c.len.ensures)
+with_least-heads-requires-clause-inside c =
+    hashed_inside c.args.labels.now c.args.movable.now c.requires.many c.in_ok-rows.rows.items c.in_ok-rows.ensures c.in_ok-own.own.items (c.in_ok-own.ensures.len ∙ c.len.ensures)
 
 pub with_least-heads-requires-clause-one : goal.with_least-heads-requires-clause-one
 with_least-heads-requires-clause-one c = hashed_one c.args.labels.now c.args.movable.now c.requires.many c.in_ok-rows.rows.items c.in_ok-rows.ensures
@@ -15,7 +16,8 @@ unlike-requires-clause-inside c =
     let heads : List ℕ = c.with_least-heads.result.items in
     let len : length heads ≡ length c.args.labels.now = c.with_least-heads.ensures.len ∙ c.in_ok-own.ensures.len ∙ c.len.ensures in
     let led : AreHeads c.args.labels.now c.args.movable.now heads =
-    hashed_heads c.args.labels.now c.args.movable.now c.requires.many c.in_ok-rows.rows.items c.in_ok-rows.ensures c.in_ok-own.own.items heads (c.in_ok-own.ensures.len ∙ c.len.ensures) (λ n l. c.in_ok-own.ensures.each n (let e = c.len.ensures in omega arith)) c.with_least-heads.ensures in
+    hashed_heads c.args.labels.now c.args.movable.now c.requires.many c.in_ok-rows.rows.items c.in_ok-rows.ensures c.in_ok-own.own.items heads
+    (c.in_ok-own.ensures.len ∙ c.len.ensures) (λ n l. c.in_ok-own.ensures.each n (let e = c.len.ensures in omega arith)) c.with_least-heads.ensures in
     subst (λ (hs : List ℕ). All (λ first. first < length c.args.labels.now) hs) (sym c.as_slice.ensures.value)
     (λ k d l. subst (λ (m : ℕ). m < length c.args.labels.now) (get_or_default heads k 0 d l) (head_inside c.args.labels.now c.args.movable.now c.requires.many heads led k (omega arith)))
 
@@ -24,7 +26,8 @@ with_least-requires-clause-inside c =
     let heads : List ℕ = c.with_least-heads.result.items in
     let len : length heads ≡ length c.args.labels.now = c.with_least-heads.ensures.len ∙ c.in_ok-own.ensures.len ∙ c.len.ensures in
     let led : AreHeads c.args.labels.now c.args.movable.now heads =
-    hashed_heads c.args.labels.now c.args.movable.now c.requires.many c.in_ok-rows.rows.items c.in_ok-rows.ensures c.in_ok-own.own.items heads (c.in_ok-own.ensures.len ∙ c.len.ensures) (λ n l. c.in_ok-own.ensures.each n (let e = c.len.ensures in omega arith)) c.with_least-heads.ensures in
+    hashed_heads c.args.labels.now c.args.movable.now c.requires.many c.in_ok-rows.rows.items c.in_ok-rows.ensures c.in_ok-own.own.items heads
+    (c.in_ok-own.ensures.len ∙ c.len.ensures) (λ n l. c.in_ok-own.ensures.each n (let e = c.len.ensures in omega arith)) c.with_least-heads.ensures in
     let others = subst (λ (hs : List ℕ). AreUnlike c.args.labels.now hs (length c.args.labels.now) c.in_ok-others.others.items) c.as_slice.ensures.value c.in_ok-others.ensures in
     unlike_inside c.args.labels.now c.args.movable.now c.requires.many heads led c.in_ok-others.others.items others len
 
@@ -33,7 +36,8 @@ with_least-requires-clause-one c =
     let heads : List ℕ = c.with_least-heads.result.items in
     let len : length heads ≡ length c.args.labels.now = c.with_least-heads.ensures.len ∙ c.in_ok-own.ensures.len ∙ c.len.ensures in
     let led : AreHeads c.args.labels.now c.args.movable.now heads =
-    hashed_heads c.args.labels.now c.args.movable.now c.requires.many c.in_ok-rows.rows.items c.in_ok-rows.ensures c.in_ok-own.own.items heads (c.in_ok-own.ensures.len ∙ c.len.ensures) (λ n l. c.in_ok-own.ensures.each n (let e = c.len.ensures in omega arith)) c.with_least-heads.ensures in
+    hashed_heads c.args.labels.now c.args.movable.now c.requires.many c.in_ok-rows.rows.items c.in_ok-rows.ensures c.in_ok-own.own.items heads
+    (c.in_ok-own.ensures.len ∙ c.len.ensures) (λ n l. c.in_ok-own.ensures.each n (let e = c.len.ensures in omega arith)) c.with_least-heads.ensures in
     let others = subst (λ (hs : List ℕ). AreUnlike c.args.labels.now hs (length c.args.labels.now) c.in_ok-others.others.items) c.as_slice.ensures.value c.in_ok-others.ensures in
     unlike_one c.args.labels.now c.args.movable.now c.requires.many heads led c.in_ok-others.others.items others
 
@@ -42,6 +46,7 @@ returns c =
     let heads : List ℕ = c.with_least-heads.result.items in
     let len : length heads ≡ length c.args.labels.now = c.with_least-heads.ensures.len ∙ c.in_ok-own.ensures.len ∙ c.len.ensures in
     let led : AreHeads c.args.labels.now c.args.movable.now heads =
-    hashed_heads c.args.labels.now c.args.movable.now c.requires.many c.in_ok-rows.rows.items c.in_ok-rows.ensures c.in_ok-own.own.items heads (c.in_ok-own.ensures.len ∙ c.len.ensures) (λ n l. c.in_ok-own.ensures.each n (let e = c.len.ensures in omega arith)) c.with_least-heads.ensures in
+    hashed_heads c.args.labels.now c.args.movable.now c.requires.many c.in_ok-rows.rows.items c.in_ok-rows.ensures c.in_ok-own.own.items heads
+    (c.in_ok-own.ensures.len ∙ c.len.ensures) (λ n l. c.in_ok-own.ensures.each n (let e = c.len.ensures in omega arith)) c.with_least-heads.ensures in
     let others = subst (λ (hs : List ℕ). AreUnlike c.args.labels.now hs (length c.args.labels.now) c.in_ok-others.others.items) c.as_slice.ensures.value c.in_ok-others.ensures in
     unlike_firsts c.args.labels.now c.args.movable.now c.requires.many heads led c.in_ok-others.others.items others c.with_least.result.items c.with_least.ensures

@@ -24,8 +24,10 @@ loop-n-preserved c =
     elim c.if-ne.branch [
       | then-ne+in_ok-push w ↦
           subst Are (sym (ap (λ v. v.items) w.rows-is ∙ w.in_ok-push.ensures.items))
-          (rows_more Picked IsKey c.loop-n.rows.items c.loop-n.n _ refl (λ e. true≢false (sym (decides.1 (c.get-label.ensures ∙ e ∙ sym c.get.ensures)) ∙ not_true _ (sym c.ne.ensures ∙ w.if-ne.true))) c.get-label.ensures c.loop-n.invariant)
+          (rows_more Picked IsKey c.loop-n.rows.items c.loop-n.n _ refl
+          (λ e. true≢false (sym (decides.1 (c.get-label.ensures ∙ e ∙ sym c.get.ensures)) ∙ not_true _ (sym c.ne.ensures ∙ w.if-ne.true))) c.get-label.ensures c.loop-n.invariant)
       | else-ne w ↦
           subst Are (sym (ap (λ v. v.items) w.rows-is))
-          (rows_passed Picked IsKey c.loop-n.rows.items c.loop-n.n (λ other. other (sym c.get-label.ensures ∙ decides.0 (not_false _ (sym c.ne.ensures ∙ w.if-ne.false)) ∙ c.get.ensures)) c.loop-n.invariant)
+          (rows_passed Picked IsKey c.loop-n.rows.items c.loop-n.n
+          (λ other. other (sym c.get-label.ensures ∙ decides.0 (not_false _ (sym c.ne.ensures ∙ w.if-ne.false)) ∙ c.get.ensures)) c.loop-n.invariant)
     ]

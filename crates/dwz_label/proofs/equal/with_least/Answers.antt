@@ -32,8 +32,10 @@ loop-at-preserved g c =
     let inside : n < length rows = (let t = c.loop-at-test.true in let e = c.len-at-end.ensures in omega arith) in
     let is : (d : Keyed K) → get_or rows n d ≡ row = λ d. get_or_default rows n d row inside ∙ sym c.index.ensures in
     let next = subst (λ (ls : List (Keyed K)). IsNew cmp ls c.is_new.result n) c.as_slice.ensures.value c.is_new.ensures in
-    let room : row.number < length c.loop-at.firsts.items = (let low = All-permutation (λ (r : Keyed K). r.number < length c.args.firsts.items) c.args.rows.items rows c.sort_unstable.ensures.permutation c.requires.inside n row inside in
-    let same = ap (λ (r : Keyed K). r.number) (is row) in let len = c.loop-at.invariant.len in omega arith) in
+    let low = All-permutation (λ (r : Keyed K). r.number < length c.args.firsts.items) c.args.rows.items rows c.sort_unstable.ensures.permutation c.requires.inside n row inside in
+    let same = ap (λ (r : Keyed K). r.number) (is row) in
+    let len = c.loop-at.invariant.len in
+    let room : row.number < length c.loop-at.firsts.items = omega arith in
     let least : IsLeastUnder cmp rows row.key c.if-is_new.first = elim c.if-is_new.branch [
       | then-is_new w ↦
           subst (λ (m : ℕ). IsLeastUnder cmp rows row.key m) (sym w.first-is)

@@ -8,7 +8,9 @@ pub index-end-requires : goal.index-end-requires
 index-end-requires c = let e = length-parts_of 0 c.self.inside.ends.items c.self.inside.bytes.items in let v = ap (λ (g : List (List ℕ)). length g) c.self.view_is in let r = c.requires in omega arith
 
 pub start_of-requires : goal.start_of-requires
-start_of-requires c = let e = length-parts_of 0 c.self.inside.ends.items c.self.inside.bytes.items in let v = ap (λ (g : List (List ℕ)). length g) c.self.view_is in let r = c.requires in let s = ap (λ (l : List ℕ). length l) c.as_slice-2.ensures.value in omega arith
+start_of-requires c =
+    let e = length-parts_of 0 c.self.inside.ends.items c.self.inside.bytes.items in
+    let v = ap (λ (g : List (List ℕ)). length g) c.self.view_is in let r = c.requires in let s = ap (λ (l : List ℕ). length l) c.as_slice-2.ensures.value in omega arith
 
 pub part-requires-clause-rising : goal.part-requires-clause-rising
 part-requires-clause-rising c =
@@ -39,4 +41,6 @@ returns c =
     let l : c.args.n < length es = omega arith in
     let start = c.start_of.ensures ∙ ap (λ (es : List ℕ). start_at 0 es c.args.n) c.as_slice-2.ensures.value in
     let end = c.index-end.ensures in
-    c.part.ensures ∙ ((λ i. slice_range (c.as_slice.ensures.value i) (start i) (end i)) ∙ (sym (get_or-parts_of 0 es ws c.args.n c.index-end.result.now [] l) ∙ ap (λ (g : List (List ℕ)). slice_index_or g c.args.n []) c.self.view_is))
+    c.part.ensures
+    ∙ ((λ i. slice_range (c.as_slice.ensures.value i) (start i) (end i)) ∙ (sym (get_or-parts_of 0 es ws c.args.n c.index-end.result.now [] l)
+    ∙ ap (λ (g : List (List ℕ)). slice_index_or g c.args.n []) c.self.view_is))

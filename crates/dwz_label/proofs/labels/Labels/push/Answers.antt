@@ -11,7 +11,8 @@ invariant_of-self-in-Ok c =
     let all : c.extend_from_slice.new.self.items ≡ ts ++ c.args.label.now = c.in_ok-extend_from_slice.ensures.items in
     let end : c.len-end.result ≡ length c.extend_from_slice.new.self.items = omega arith in
     let m = ap (λ (l : List ℕ). length l) all in
-    subst (λ (n : ℕ). Rise 0 c.push.new.self.items n) end (subst (λ (l : List ℕ). Rise 0 l c.len-end.result) (sym items) (Rise-push 0 es (length ts) c.len-end.result c.self.invariant (omega (arith, length-append ts c.args.label.now))))
+    subst (λ (n : ℕ). Rise 0 c.push.new.self.items n) end
+    (subst (λ (l : List ℕ). Rise 0 l c.len-end.result) (sym items) (Rise-push 0 es (length ts) c.len-end.result c.self.invariant (omega (arith, length-append ts c.args.label.now))))
 
 pub returns-in-Ok-clause-ok : goal.returns-in-Ok-clause-ok
 returns-in-Ok-clause-ok c =

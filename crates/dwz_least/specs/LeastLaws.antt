@@ -1,0 +1,30 @@
+-- The least alike tops, and laws on them.
+use Rattle.std.specs.Prelude.{ℕ, Bool, List, map}
+use Rattle.dwz_alike.specs.Alike.{Apart, Together}
+use Rattle.dwz_alike.specs.Deciding.{AreMovable, alike_test}
+use Rattle.dwz_alike.specs.Spots.{FileUnit, Spot}
+use Rattle.dwz_groups.specs.declared.tops.Tops.{Tops}
+use Rattle.dwz_label.specs.Nodes.{AreLeast}
+use Rattle.dwz_label.specs.Shown.{AreShown}
+use Rattle.dwz_partition.specs.declared.plan.Scope.TheVariants.{Each, Together as All}
+use Rattle.dwz_partition.specs.Shows.{IsLeast, ShowsTops}
+
+-- of whichever units the lists show the tops, these are the least alike ones
+abbrev pub GivesLeast : List (List ℕ) → List Bool → List (List ℕ) → List ℕ → Type 0
+GivesLeast labels movable targets least = (units : List (FileUnit Spot)) → AreShown units labels movable targets → AreLeast units least
+
+-- which tops the rows say may move
+abbrev pub flags_of : Tops → List Bool
+flags_of tops = map (λ row. row.movable) tops.rows
+
+-- all files are one scope
+abbrev pub TogetherLaw : Type 0
+TogetherLaw =
+    (units : List (FileUnit Spot)) (tops : Tops) (least : List ℕ) → ShowsTops units tops
+    → AreMovable units (flags_of tops) → AreLeast units least → IsLeast All tops least (alike_test Together units)
+
+-- each file is one
+abbrev pub ApartLaw : Type 0
+ApartLaw =
+    (units : List (FileUnit Spot)) (tops : Tops) (least : List ℕ) → ShowsTops units tops
+    → AreMovable units (flags_of tops) → AreLeast units least → IsLeast Each tops least (alike_test Apart units)

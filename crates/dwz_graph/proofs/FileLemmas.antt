@@ -147,5 +147,11 @@ in_bytes : (bytes : List ℕ) (o : Option (ℕ × ℕ)) → length (bytes_in byt
 in_bytes bytes None = omega arith
 in_bytes bytes (Some r) = omega (arith, length-take r.1 (drop r.0 bytes), length-drop r.0 bytes)
 
+pub bytes_short : (l : Limits) (bytes : List ℕ) → is_too_long l bytes ≡ false → length bytes < 2 ^ 32
+bytes_short l bytes f = let fits = fits_file l bytes f in omega arith
+
+pub range_short : (bytes shown : List ℕ) (o : Option (ℕ × ℕ)) → shown ≡ bytes_in bytes o → length bytes < 2 ^ 32 → length shown < 2 ^ 32
+range_short bytes shown o e few = let within = in_bytes bytes o in let len = ap (λ (w : List ℕ). length w) e in omega arith
+
 pub content_short : (l : Limits) (bytes shown : List ℕ) (o : Option (ℕ × ℕ)) → shown ≡ bytes_in bytes o → is_too_long l bytes ≡ false → length shown < 2 ^ 32
-content_short l bytes shown o e f = let fits = fits_file l bytes f in let within = in_bytes bytes o in let len = ap (λ (w : List ℕ). length w) e in omega arith
+content_short l bytes shown o e f = range_short bytes shown o e (bytes_short l bytes f)

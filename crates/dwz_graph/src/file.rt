@@ -87,6 +87,7 @@ fn is_other_machine(other: Option<u16>, machine: u16) -> bool
 
 // The sections that values speak of.
 fn sections_of<'a>(elf: &Elf, bytes: &'a [u8]) -> Sections<'a>
+    requires { length bytes.now < 2 ^ 32 }
     ensures sources { elf.now ≡ elf_of bytes.now → sources_view result ≡ Files.sources_of bytes.now }
     ensures aranges { elf.now ≡ elf_of bytes.now → result.aranges.now ≡ Files.debug_aranges bytes.now }
 {

@@ -108,9 +108,6 @@ fn walk(
     ensures files { state.new.files ≡ state.old.files }
     ensures goes { (u : RawUnit) (before : List NamedList) → IsHere (units_of units.now) u here.now → StateIn sections.now (units_of units.now) u here.now before state.old → Walks (units_of units.now) (scope_in sections.now (units_of units.now) u) here.now.number place before state.old state.new result }
 {
-    if sections.lists.len() > u32::MAX as usize {
-        return Err(ReadErr::NoMemory);
-    }
     state.operands.clear();
     let first = state.lists.operands.as_slice().len();
     let read = walk_into(&mut state.operands, sections.lists, place);
@@ -240,18 +237,19 @@ pub(crate) fn add_offset(
 // A slot of the section, and where the list begins that it holds.
 #[derive(Clone, Copy)]
 struct ListSlot {
-    at: u128,
+    at: u32,
     place: u128,
 }
 
 // The slot of an index.
 fn slot_at(section: &[u8], base: u128, index: u128) -> Option<ListSlot>
+    requires { length section.now < 2 ^ 32 }
     ensures { IsSlotAt section.now base index result }
 {
     match slot(section, base, index) {
         None => None,
         Some(offset) => Some(ListSlot {
-            at: base + 4 * index,
+            at: (base + 4 * index) as u32,
             place: base + offset as u128,
         }),
     }
@@ -277,9 +275,6 @@ pub(crate) fn add_indexed(
         return Err(bad_list(at));
     };
     add_list(units, sections, here, at, slot.place, state)?;
-    if slot.at > u32::MAX as u128 {
-        return Err(ReadErr::NoMemory);
-    }
-    state.lists.slots.push(slot.at as u32)?;
+    state.lists.slots.push(slot.at)?;
     Ok(())
 }

@@ -41,7 +41,7 @@ impl<'a> TextSection<'a> {
     }
 }
 
-/// The sections that values speak of. One that isn't there counts as empty.
+/// The sections that values speak of. One that isn't there counts as empty. Places in `.debug_loclists` have 4 bytes.
 #[derive(Clone, Copy)]
 pub struct Sections<'a> {
     /// `.debug_str`
@@ -56,6 +56,7 @@ pub struct Sections<'a> {
     pub lists: &'a [u8],
     /// `.debug_aranges`
     pub aranges: &'a [u8],
+    ghost short: { length lists.now < 2 ^ 32 },
 }
 
 // How far a number is from 0, or a negative one from -1.

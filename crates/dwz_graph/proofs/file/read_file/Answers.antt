@@ -9,7 +9,7 @@ use Rattle.dwz_resolve.specs.Parts.{AreParted, HaveLines}
 use Rattle.dwz_resolve.specs.Resolved.{sources_view}
 use Rattle.dwz_graph.specs.Files.{limits_view}
 use Rattle.dwz_unit.specs.Rows.{units_of}
-use Rattle.dwz_graph.proofs.FileLemmas.{IsGood, content_is, content_short, elf_fails, has_doc, machine_is, named_fail, other_machine, same_rows, too_long, units_fail}
+use Rattle.dwz_graph.proofs.FileLemmas.{IsGood, bytes_short, content_is, content_short, elf_fails, has_doc, machine_is, named_fail, other_machine, same_rows, too_long, units_fail}
 use Rattle.dwz_graph.proofs.file.read_file.Goals as goal
 
 pub returns-then-is_too_long : goal.returns-then-is_too_long
@@ -86,3 +86,6 @@ read-requires-2-clause-info c = content_short (limits_view c.args.left.now) c.ar
 
 pub read-requires-2-clause-abbrevs : goal.read-requires-2-clause-abbrevs
 read-requires-2-clause-abbrevs c = content_short (limits_view c.args.left.now) c.args.bytes.now c.content-abbrevs.result.now _ c.content-abbrevs.ensures (sym c.is_too_long.ensures ∙ c.if-is_too_long.false)
+
+pub sections_of-sections-requires : goal.sections_of-sections-requires
+sections_of-sections-requires c = bytes_short (limits_view c.args.left.now) c.args.bytes.now (sym c.is_too_long.ensures ∙ c.if-is_too_long.false)

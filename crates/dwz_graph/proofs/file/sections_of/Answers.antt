@@ -1,5 +1,5 @@
 use Rattle.std.proofs.Common.{◌∙◌}
-use Rattle.dwz_graph.proofs.FileLemmas.{content_is}
+use Rattle.dwz_graph.proofs.FileLemmas.{content_is, range_short}
 use Rattle.dwz_graph.proofs.file.sections_of.Goals as goal
 
 pub returns-clause-sources : goal.returns-clause-sources
@@ -15,3 +15,6 @@ returns-clause-sources c = λ is.
 
 pub returns-clause-aranges : goal.returns-clause-aranges
 returns-clause-aranges c = λ is. content_is c.args.bytes.now c.content-6.result.now c.args.elf.now 8 is c.content-6.ensures
+
+pub invariant_of-result : goal.invariant_of-result
+invariant_of-result c = record { short = range_short c.args.bytes.now c.content-5.result.now _ c.content-5.ensures c.requires }

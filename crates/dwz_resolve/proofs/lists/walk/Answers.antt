@@ -1,4 +1,4 @@
-use Rattle.std.proofs.Common.{◌<◌, ◌^◌, List, length, refl, sym, ap, ◌∙◌, arith}
+use Rattle.std.proofs.Common.{◌<◌, ◌^◌, List, length, refl, sym, ap, ◌∙◌}
 use Rattle.std.proofs.lemmas.Result.{err_from_is_err_and}
 use Rattle.dwz_unit.specs.Rows.{units_of}
 use Rattle.dwz_resolve.specs.declared.lists.ListRow.{ListRow}
@@ -27,8 +27,7 @@ returns-clause-goes c = λ u before here k. (
     let walks = walks_row c.args.sections.now.lists.now c.args.place c.clear.new.self.items c.walk_into-read.new.operands.items c.deref.result.now c.walk_into-read.result c.clear.ensures.items c.deref.ensures.value c.walk_into-read.ensures.found in
     let kept = c.in_ok-name_operands.ensures u here in
     let read = list_was_read raw s n c.args.place c.deref.result.now c.walk_into-read.result c.in_ok-end.end c.in_ok-end.was walks kept.named in
-    let size = c.if-sections.false in
-    let short : length c.args.sections.now.lists.now < 2 ^ 32 = omega arith in
+    let short : length c.args.sections.now.lists.now < 2 ^ 32 = c.args.sections.now.short in
     let w : ListRow = record { from = c.args.place; end = c.in_ok-end.end; first = length c.as_slice-first.result.now; last = length c.as_slice-last.result.now } in
     let new : State = record c.args.state.now { lists = record c.args.state.now.lists { rows = c.push.new.self; operands = c.name_operands.new.out; seen = c.insert.new.self }; operands = c.walk_into-read.new.operands } in
     state_more raw s n before c.args.place read.list c.args.state.now new read.read refl refl

@@ -33,7 +33,7 @@ pub(crate) fn bad_operand(section: u8, at: u64) -> ReadErr
 
 /// The number of the entry that an operand names: counted from the unit one of its own, else one of the file.
 #[inline(always)]
-pub(crate) fn entry_of(
+pub fn entry_of(
     units: &Units,
     sections: &Sections,
     here: &Here,

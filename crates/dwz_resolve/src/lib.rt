@@ -20,6 +20,7 @@ mod state;
 mod strings;
 
 pub use class::{Class, class_of};
+pub use expressions::entry_of;
 pub use here::{Here, here_of};
 pub use operands::ListOperand;
 pub use resolving::{Resolved, resolve};

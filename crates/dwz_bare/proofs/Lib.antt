@@ -1,0 +1,9 @@
+pub mod ExprLemmas
+pub mod ListLemmas
+pub mod PlainLemmas
+pub mod TargetLemmas
+pub mod RefLemmas
+pub mod ValueLemmas
+pub mod KeptLemmas
+pub mod AttrsLemmas
+pub mod RowsLemmas

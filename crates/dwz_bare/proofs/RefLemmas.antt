@@ -1,0 +1,43 @@
+-- The entries that values name, one by one.
+use Rattle.std.proofs.Common.{◌≡◌, ℕ, zero, suc, ◌+◌, ◌<◌, List, [], ◌∷◌, ◌++◌, length, map, take, drop, get_or, refl, sym, ap, subst, ◌∙◌, arith}
+use Rattle.std.specs.List.{flat_map}
+use Rattle.std.proofs.lemmas.List.{append_assoc, drop_all, append-nil, length-map}
+use Rattle.dwz_alike.specs.Spots.{Spot}
+use Rattle.dwz_docs.specs.Units.{RawUnit}
+use Rattle.dwz_flat.specs.Rows.{AreTargets}
+use Rattle.dwz_label.specs.Labels.{each_counted, number, target_label}
+use Rattle.dwz_meanings.specs.declared.exprs.Operand.{Operand}
+use Rattle.dwz_meanings.specs.Meanings.{Scope, target_of, targets}
+
+-- ---- operands
+
+abbrev named : Scope ℕ → (ℕ → Spot) → List Operand → List ℕ
+named s name operands = flat_map target_label (map name (targets s operands))
+
+pub next_operand : (s : Scope ℕ) (name : ℕ → Spot) (operands : List Operand) (k : ℕ) (o : Operand) (p : ℕ) (out new all : List ℕ) → drop k operands ≡ o ∷ drop (k + 1) operands → s.around.place (target_of s o) ≡ p → new ≡ out ++ target_label (name p)
+    → out ++ named s name (drop k operands) ≡ all → new ++ named s name (drop (k + 1) operands) ≡ all
+next_operand s name operands k o p out new all here at is so =
+    let rest = named s name (drop (k + 1) operands) in
+    ap (λ (w : List ℕ). w ++ rest) (is ∙ ap (λ (n : ℕ). out ++ target_label (name n)) (sym at))
+    ∙ append_assoc out (target_label (name (s.around.place (target_of s o)))) rest
+    ∙ ap (λ (w : List Operand). out ++ named s name w) (sym here) ∙ so
+
+pub no_operand : (s : Scope ℕ) (name : ℕ → Spot) (operands : List Operand) (k : ℕ) (out all : List ℕ) → drop k operands ≡ [] → out ++ named s name (drop k operands) ≡ all → out ≡ all
+no_operand s name operands k out all none so = sym (append-nil out) ∙ ap (λ (w : List Operand). out ++ named s name w) (sym none) ∙ so
+
+-- ---- references
+
+pub take_targets : (raw : List RawUnit) (numbers places : List ℕ) → AreTargets raw numbers places → AreTargets raw (take (length places) numbers) places
+take_targets raw numbers [] h = tt
+take_targets raw [] (p ∷ places) h = absurd h
+take_targets raw (i ∷ numbers) (p ∷ places) h = (h.0, h.1, take_targets raw numbers places h.2)
+
+pub take_many : (raw : List RawUnit) (numbers places : List ℕ) → AreTargets raw numbers places → length places ≡ length (take (length places) numbers)
+take_many raw numbers [] h = refl
+take_many raw [] (p ∷ places) h = absurd h
+take_many raw (i ∷ numbers) (p ∷ places) h = ap suc (take_many raw numbers places h.2)
+
+pub counted_targets : (name : ℕ → Spot) (places : List ℕ) (count : ℕ) (old one two : List ℕ) → length places ≡ count → one ≡ old ++ number count → two ≡ one ++ flat_map target_label (map name places) → two ≡ old ++ each_counted target_label (map name places)
+counted_targets name places count old one two many is_one is_two =
+    let rest = flat_map target_label (map name places) in
+    is_two ∙ ap (λ (w : List ℕ). w ++ rest) (is_one ∙ ap (λ (n : ℕ). old ++ number n) (sym many ∙ sym (length-map places name))) ∙ append_assoc old (number (length (map name places))) rest

@@ -1,0 +1,38 @@
+-- What is left behind a value that was written.
+use Rattle.std.proofs.Common.{◌≡◌, ℕ, ◌+◌, ◌<◌, List, [], ◌∷◌, ◌++◌, length, map, drop, Option, Some, None, slice_get, refl, sym, ap, subst, ◌∙◌, inl, inr, arith, zero, suc}
+use Rattle.std.specs.List.{flat_map}
+use Rattle.std.proofs.lemmas.List.{append_assoc, append-nil, drop-drop, length-append, length-map}
+use Rattle.dwz_alike.specs.Spots.{Spot}
+use Rattle.dwz_bare.specs.Sources.{TellsAttr, TellsValue, attrs_label}
+use Rattle.dwz_docs.specs.Entries.{RawAttr}
+use Rattle.dwz_docs.specs.Lists.{In}
+use Rattle.dwz_docs.specs.Units.{RawUnit}
+use Rattle.dwz_flat.specs.Rows.{AreAttrsMeant, NextAttr}
+use Rattle.dwz_flat.proofs.StepLemmas.{sibling}
+use Rattle.dwz_label.specs.Labels.{attr_label, each_counted, number, value_label}
+use Rattle.dwz_meanings.specs.Documents.{Attr, attr_map, value_map}
+use Rattle.dwz_meanings.specs.Meanings.{Scope, attr_with}
+use Rattle.dwz_resolve.specs.Named.{attrs_refs, value_refs}
+
+pub skipped : (raw : List RawUnit) (s : Scope ℕ) (a : RawAttr) (values : List RawAttr) (name : ℕ → Spot) (attrs : List (Attr ℕ)) (refs old : List ℕ) → a.pair.name ≡ 0x01 → AreAttrsMeant raw s refs (a ∷ values) attrs → TellsAttr raw s values name attrs refs refs old old
+skipped raw s a values name attrs refs old is h = record { left = attrs; rest = sibling raw s refs a values attrs is h; bytes = refl; ends = refl }
+
+-- one behind the other
+drop_both : (m n : ℕ) (xs ys : List ℕ) → ys ≡ drop m xs → drop n ys ≡ drop (m + n) xs
+drop_both m n xs ys e = ap (λ (w : List ℕ). drop n w) e ∙ drop-drop n m xs
+
+pub told : (raw : List RawUnit) (s : Scope ℕ) (a : RawAttr) (values : List RawAttr) (name : ℕ → Spot) (attrs : List (Attr ℕ)) (refs others old one new : List ℕ) (x : NextAttr raw s refs a values attrs) → one ≡ old ++ number a.pair.name → TellsValue name x.value refs others one new → TellsAttr raw s values name attrs refs others old new
+told raw s a values name attrs refs others old one new x is t =
+    let rest = attrs_label name x.left in
+    let here = value_label (value_map name x.value) in
+    record {
+      left = x.left;
+      rest = subst (λ (w : List ℕ). AreAttrsMeant raw s w values x.left) (sym t.ends) x.rest;
+      bytes = ap (λ (w : List ℕ). w ++ rest) (t.bytes ∙ ap (λ (w : List ℕ). w ++ here) is)
+          ∙ append_assoc (old ++ number a.pair.name) here rest ∙ append_assoc old (number a.pair.name) (here ++ rest)
+          ∙ ap (λ (w : List ℕ). old ++ w) (sym (append_assoc (number a.pair.name) here rest))
+          ∙ ap (λ (w : List (Attr ℕ)). old ++ attrs_label name w) (sym x.parts);
+      ends = drop_both (length (value_refs x.value)) (length (attrs_refs x.left)) refs others t.ends
+          ∙ ap (λ (n : ℕ). drop n refs) (sym (length-append (value_refs x.value) (attrs_refs x.left)))
+          ∙ ap (λ (w : List (Attr ℕ)). drop (length (attrs_refs w)) refs) (sym x.parts);
+    }

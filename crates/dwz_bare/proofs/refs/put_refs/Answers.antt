@@ -1,0 +1,14 @@
+use Rattle.std.proofs.Common.{ℕ, List, drop, subst}
+use Rattle.dwz_flat.specs.Rows.{AreTargets}
+use Rattle.dwz_bare.specs.declared.named.Named.{Named}
+use Rattle.dwz_bare.specs.Plain.{NamesSo}
+use Rattle.dwz_resolve.specs.Resolved.{scope_in}
+use Rattle.dwz_unit.specs.Rows.{units_of}
+use Rattle.dwz_bare.proofs.refs.put_refs.Goals as goal
+
+pub returns-in-Next : goal.returns-in-Next
+returns-in-Next c = λ u name v at k names t. (
+    let raw = units_of c.args.units.now in
+    let s = scope_in c.args.sections.now raw u in
+    let n = subst (λ (w : Named). NamesSo s v c.args.operands.now w) c.in-Next.is names in
+    c.put_next.ensures raw name v.refs k (subst (λ (w : List ℕ). AreTargets raw (drop c.args.next c.args.refs.now) w) n.0 t) n.1)

@@ -1,0 +1,4 @@
+pub mod Words
+pub mod Plain
+pub mod Targets
+pub mod Sources

@@ -1,0 +1,47 @@
+-- What is written of a value besides the entries that it names, and which these are.
+use Rattle.std.specs.Prelude.{◌≡◌, ℕ, Bool, true, false, List, [], ◌++◌, length, Option, Some, None, Result, Ok, Err}
+use Rattle.dwz_bare.specs.declared.named.Named.{Named}
+use Rattle.dwz_bare.specs.declared.named.Named.TheVariants.{Next, Kept}
+use Rattle.dwz_docs.specs.Entries.{RawAttr}
+use Rattle.dwz_label.specs.Labels.{plain_label}
+use Rattle.dwz_meanings.specs.declared.exprs.Operand.{Operand}
+use Rattle.dwz_meanings.specs.Documents.{Value}
+use Rattle.dwz_meanings.specs.LineTables.{FileTable}
+use Rattle.dwz_meanings.specs.Meanings.{Class, OfConstant, OfExpression, OfInfoEntry, OfListIndex, OfOffset, OfUnitEntry, Scope, loclists_base, stmt_list, str_offsets_base, targets}
+use Rattle.dwz_resolve.specs.declared.here.Here.{Here}
+use Rattle.dwz_resolve.specs.declared.sections.Sections.{Sections}
+use Rattle.dwz_resolve.specs.FileRows.{HasTable}
+use Rattle.dwz_resolve.specs.Named.{value_refs}
+use Rattle.dwz_resolve.specs.Parts.{numbers_file}
+use Rattle.dwz_resolve.specs.Resolved.{sources_view}
+
+-- what is kept of a unit says what its values stand in, in a file without a supplementary one
+pub record KnowsScope (sections : Sections) (here : Here) (s : Scope ℕ) : Type 0 where
+  pub sources : s.around.sources ≡ sources_view sections
+  pub alone : s.around.common ≡ None
+  pub offsets : here.offsets ≡ str_offsets_base s
+  pub lists : here.lists ≡ loclists_base s
+
+-- the unit's line table is that with a number; or there is none, or the value isn't the number of a file
+abbrev pub KnowsLine : Scope ℕ → RawAttr → List FileTable → Option ℕ → Type 0
+KnowsLine s a tables None = numbers_file a ≡ true → stmt_list s ≡ None
+KnowsLine s a tables (Some number) = (place : ℕ) × (stmt_list s ≡ Some place) × HasTable s.around.sources tables place number
+
+-- values of a class that name no entry, have no expression, and don't depend on the attribute
+abbrev pub is_simple : Class → Bool
+is_simple OfConstant = false
+is_simple OfOffset = false
+is_simple OfUnitEntry = false
+is_simple OfInfoEntry = false
+is_simple OfExpression = false
+is_simple OfListIndex = false
+is_simple _ = true
+
+-- The entries that it names are so many of the references that are kept in order; or those of these operands, which aren't among the references.
+abbrev pub NamesSo : Scope ℕ → Value ℕ → List Operand → Named → Type 0
+NamesSo s v operands (Next count) = (value_refs v ≡ v.refs) × (length v.refs ≡ count)
+NamesSo s v operands Kept = (value_refs v ≡ []) × (v.refs ≡ targets s operands)
+
+pub record TellsPlain (s : Scope ℕ) (v : Value ℕ) (operands : List Operand) (old new : List ℕ) (named : Named) : Type 0 where
+  pub bytes : new ≡ old ++ plain_label v.plain
+  pub names : NamesSo s v operands named

@@ -1,0 +1,21 @@
+//! Labels of tops, from the rows of their entries.
+#![tactic(auto)]
+
+mod entries;
+mod expressions;
+mod lists;
+mod named;
+mod numbers;
+mod plain;
+mod refs;
+mod simple;
+mod source;
+mod targets;
+mod texts;
+mod values;
+
+pub use entries::put_rows;
+pub use named::Named;
+pub use plain::put_plain;
+pub use source::{Scratch, Source};
+pub use targets::put_target;

@@ -1,0 +1,81 @@
+//! Location lists (DWARF 5, 2.6.2): the expressions in them.
+
+ghost use Rattle.std.specs.Prelude.{◌≡◌, ℕ, ◌++◌, ◌+◌, ◌<◌, List, Some, Ok, OnOk, IfOk, length, map};
+ghost use Rattle.std.specs.List.{flat_map};
+ghost use Rattle.dwz_bare.specs.Plain.{TellsPlain};
+ghost use Rattle.dwz_docs.specs.Entries.{RawAttr};
+ghost use Rattle.dwz_label.specs.Labels.{parts_label, plain_label};
+ghost use Rattle.dwz_meanings.specs.Documents.{Loc, Value};
+ghost use Rattle.dwz_meanings.specs.Exprs.{Expression, parts_of};
+ghost use Rattle.dwz_meanings.specs.Meanings.{Scope, list_from, list_meaning, loclists_base};
+ghost use Rattle.dwz_meanings.specs.Meanings;
+
+use crate::expressions::put_parts;
+use crate::named::Named;
+use dwz_expr::{Operand, Ops};
+use dwz_label::put_list;
+use dwz_lists::{walk, walk_into};
+use dwz_model::NoMemory;
+use dwz_resolve::slot;
+use std::alloc::{AllocError, Global};
+
+// Appends the parts of expressions.
+fn put_exprs(out: &mut Vec<u8>, exprs: &[Ops<'_>]) -> Result<(), NoMemory>
+    ensures { OnOk result (out.new.items ≡ out.old.items ++ flat_map parts_label (map parts_of exprs.now)) }
+{
+    for expr in exprs {
+        put_parts(out, expr.bytes(), expr.at(), expr.operands())?;
+    }
+    Ok(())
+}
+
+/// Appends that a value is the location list at a place of `.debug_loclists`; and keeps the operands of its expressions.
+pub(crate) fn put_list_at(
+    alloc: Global,
+    out: &mut Vec<u8>,
+    lists: &[u8],
+    place: u128,
+    operands: &mut Vec<Operand>,
+) -> Result<Named, NoMemory>
+    ensures { (s : Scope ℕ) (a : RawAttr) (v : Value ℕ) → s.around.sources.lists ≡ lists.now → list_meaning s a place ≡ Ok v → IfOk result (λ named. TellsPlain s v operands.new.items out.old.items out.new.items named) }
+{
+    if place >= lists.len() as u128 {
+        return Err(AllocError);
+    }
+    operands.clear();
+    let Ok(_) = walk_into(operands, lists, place as u64) else {
+        return Err(AllocError);
+    };
+    let Ok(list) = walk(alloc, lists, place as u64) else {
+        return Err(AllocError);
+    };
+    put_list(out, list.exprs().len() as u128)?;
+    put_exprs(out, list.exprs())?;
+    Ok(Named::Kept)
+}
+
+/// The same of the list whose offset from a base stands in a slot behind the base (DWARF 5, 7.29).
+pub(crate) fn put_list_by_slot(
+    alloc: Global,
+    out: &mut Vec<u8>,
+    lists: &[u8],
+    base: Option<u32>,
+    index: u128,
+    operands: &mut Vec<Operand>,
+) -> Result<Named, NoMemory>
+    ensures { (s : Scope ℕ) (a : RawAttr) (v : Value ℕ) → s.around.sources.lists ≡ lists.now → base ≡ loclists_base s → index ≡ Meanings.offset_of a → list_from s a base ≡ Ok v → IfOk result (λ named. TellsPlain s v operands.new.items out.old.items out.new.items named) }
+{
+    let Some(base) = base else {
+        return Err(AllocError);
+    };
+    let Some(offset) = slot(lists, base as u128, index) else {
+        return Err(AllocError);
+    };
+    put_list_at(
+        alloc,
+        out,
+        lists,
+        base as u128 + offset as u128,
+        operands,
+    )
+}

@@ -10,5 +10,6 @@ pub mod BackLemmas
 pub mod NameLemmas
 pub mod RebuiltLemmas
 pub mod GivenLemmas
+pub mod ChangedLemmas
 pub mod PlainBackLemmas
 mod RebuiltRows

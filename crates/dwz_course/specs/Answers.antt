@@ -1,5 +1,5 @@
 -- What an answer of the work says.
-use Rattle.std.specs.Prelude.{ℕ, ◌≤◌, List, Result, Ok, Err}
+use Rattle.std.specs.Prelude.{◌≤◌, Result, Ok, Err}
 use Rattle.dwz_model.specs.declared.fault.GraphErr.{GraphErr}
 use Rattle.dwz_model.specs.declared.fault.GraphErr.TheVariants.{NoMemory, Refused}
 use Rattle.dwz_course.specs.declared.output.Output.{Output}

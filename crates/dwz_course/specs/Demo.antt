@@ -1,8 +1,8 @@
 -- A demonstration: two files are made, and worked on with a common one, in place of FILEs that are got. Nothing is put.
-use Rattle.std.specs.Prelude.{ℕ, ◌+◌, ◌<◌, ◌^◌, List, [], ◌∷◌, Option, Some, None, codes, unwrap_or}
+use Rattle.std.specs.Prelude.{ℕ, ◌+◌, ◌<◌, ◌^◌, [], ◌∷◌, Option, Some, None, codes, unwrap_or}
 use Rattle.std.specs.List.{sum_by}
 use Rattle.dwz_report.specs.declared.summary.Summary.{Summary}
-use Rattle.dwz_report.specs.Texts.{Text, demo_text}
+use Rattle.dwz_report.specs.Texts.{Text}
 use Rattle.dwz_words.specs.declared.options.Options.{Options}
 
 -- the options of the work on the files that are made

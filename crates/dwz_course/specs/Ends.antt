@@ -50,15 +50,18 @@ done_text o out = if o.quiet then [] else output_text o.demo out
 -- what each status says of the words, of the files before and after, and of the text
 abbrev pub EndsFor : (ℕ → List (List ℕ)) → Giving → List (List ℕ) → Told → Told → Status → List ℕ → Type 0
 EndsFor makes gives words old new Done text =
-    (out : Output) × (came : Came makes gives words old (writes out)) × PutsDone old new (puts_by came.options.demo out) × (text ≡ done_text came.options out)
+    (out : Output) × (came : Came makes gives words old (writes out)) × PutsDone old new (puts_by came.options.demo out)
+    × (text ≡ done_text came.options out)
 EndsFor makes gives words old new Refused text =
-    (r : Refusal) × (came : Came makes gives words old (refuses r)) × LeavesPuts old new × (text ≡ refusal_text (name_of (asked came.options) r.file) r)
+    (r : Refusal) × (came : Came makes gives words old (refuses r)) × LeavesPuts old new
+    × (text ≡ refusal_text (name_of (asked came.options) r.file) r)
 EndsFor makes gives words old new Usage text = ((o : Options) → ¬ (Lawful words o)) × (new ≡ old) × (text ≡ usage_text)
 EndsFor makes gives words old new ReadFault text =
-    (name : List ℕ) × (o : Options) × Lawful words o × Contains o.files name × FailedRead old new name × LeavesPuts old new × (text ≡ read_text name)
+    (name : List ℕ) × (o : Options) × Lawful words o × Contains o.files name × FailedRead old new name × LeavesPuts old new
+    × (text ≡ read_text name)
 EndsFor makes gives words old new WriteFault text =
-    (out : Output) × (came : Came makes gives words old (writes out)) × (name : List ℕ) × PutsStopped old new (puts_by came.options.demo out) name
-    × (text ≡ write_text name)
+    (out : Output) × (came : Came makes gives words old (writes out)) × (name : List ℕ)
+    × PutsStopped old new (puts_by came.options.demo out) name × (text ≡ write_text name)
 EndsFor makes gives words old new NoMemory text = LeavesPuts old new × (text ≡ memory_text)
 EndsFor makes gives words old new ConsoleFault text = ⊥
 
@@ -95,7 +98,8 @@ before_text ConsoleFault = Done
 before_text status = status
 
 -- how a run ends
-pub record Ends (makes : ℕ → List (List ℕ)) (gives : Giving) (words : List (List ℕ)) (old new : Told) (shown shown_new : Shown) (status : Status) : Type 0 where
+pub record Ends (makes : ℕ → List (List ℕ)) (gives : Giving) (words : List (List ℕ)) (old new : Told)
+    (shown shown_new : Shown) (status : Status) : Type 0 where
   pub text : List ℕ
   pub files : EndsFor makes gives words old new (before_text status) text
   pub console : Says shown shown_new status text
@@ -129,4 +133,5 @@ Complete makes gives words old new shown shown_new status =
 -- and it is refused where the work refuses it, unless memory ran out or a get failed
 abbrev pub Refuses : (ℕ → List (List ℕ)) → Giving → List (List ℕ) → Told → Told → Status → Type 0
 Refuses makes gives words old new status =
-    (r : Refusal) → AsksFor makes gives words old (refuses r) → ¬ (Rose old.read_faults new.read_faults) → (status ≡ Refused) ⊎ (status ≡ NoMemory)
+    (r : Refusal) → AsksFor makes gives words old (refuses r) → ¬ (Rose old.read_faults new.read_faults)
+    → (status ≡ Refused) ⊎ (status ≡ NoMemory)

@@ -62,7 +62,8 @@ fn ended<F: Files, W: Work>(alloc: Global, words: &[Vec<u8>], files: &mut F, wor
 // The run of lawful words that name FILEs.
 fn with_files<F: Files, W: Work>(alloc: Global, options: &Options, files: &mut F, work: &W) -> Ended
     requires { options.now.demo ≡ None }
-    ensures { (words : List (List ℕ)) → Lawful words options.now → EndsFor W.makes W.gives words (F.told files.old) (F.told files.new) (status_of result) (text_of result) }
+    ensures { (words : List (List ℕ)) → Lawful words options.now
+        → EndsFor W.makes W.gives words (F.told files.old) (F.told files.new) (status_of result) (text_of result) }
 {
     let contents = match got_all(alloc, files, options.files.as_slice()) {
         Ok(contents) => contents,
@@ -90,7 +91,8 @@ fn with_files<F: Files, W: Work>(alloc: Global, options: &Options, files: &mut F
 fn demonstrated<W: Work>(alloc: Global, options: &Options, n: u32, work: &W) -> Ended
     requires demo { options.now.demo ≡ Some n }
     requires fits { (2 ≤ n) × (n ≤ 10000) }
-    ensures { (words : List (List ℕ)) → Lawful words options.now → (told : Told) → EndsFor W.makes W.gives words told told (status_of result) (text_of result) }
+    ensures { (words : List (List ℕ)) → Lawful words options.now → (told : Told)
+        → EndsFor W.makes W.gives words told told (status_of result) (text_of result) }
 {
     let Ok(contents) = work.make(alloc, n) else {
         return Ended::OutOfMemory;

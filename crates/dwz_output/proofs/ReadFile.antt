@@ -34,7 +34,8 @@ use Rattle.dwz_output.specs.Out.{changes_of, has_changes, one_file}
 use Rattle.dwz_output.specs.Placing.{UnitSections}
 use Rattle.dwz_output.specs.Plan.{changes}
 use Rattle.dwz_output.specs.Spots.{named_files, tops_from, tops_of}
-use Rattle.dwz_rebuilt.proofs.RebuiltLemmas.{new_contents, reads_back, same_file}
+use Rattle.dwz_rebuilt.proofs.MadeLemmas.{same_file}
+use Rattle.dwz_rebuilt.proofs.RebuiltLemmas.{new_contents, reads_back}
 
 -- ---- a file that reads has no fault
 

@@ -8,7 +8,9 @@ pub mod ShapeLemmas
 pub mod FaultLemmas
 pub mod BackLemmas
 pub mod NameLemmas
+pub mod MadeLemmas
 pub mod RebuiltLemmas
 pub mod GivenLemmas
+pub mod ChangedLemmas
 pub mod PlainBackLemmas
 mod RebuiltRows

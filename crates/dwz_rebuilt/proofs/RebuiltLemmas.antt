@@ -1,393 +1,52 @@
 -- An ELF file that is made from another reads back.
-use Rattle.std.proofs.Common.{◌≡◌, ◌≢◌, ◌⊎◌, inl, inr, ℕ, zero, suc, ◌+◌, ◌*◌, ◌^◌, ◌<◌, ◌≤◌, Bool, true, false, cond, eqb, List, [], ◌∷◌, ◌++◌, length, map, take, drop, get_or, Option, Some, None, refl, sym, ap, subst, ◌∙◌, codes, arith}
-use Rattle.std.specs.Prelude.{◌&&◌, ◌||◌, not, All, slice_get, is_some}
+use Rattle.std.proofs.Common.{◌≡◌, ◌≢◌, ◌⊎◌, inl, inr, ℕ, zero, suc, ◌+◌, ◌*◌, ◌^◌, ◌<◌, ◌≤◌, Bool, true, false, cond, eqb, List, [], ◌∷◌, ◌++◌, length, take, drop, get_or, Option, Some, None, refl, sym, ap, subst, ◌∙◌, codes, arith}
+use Rattle.std.specs.Prelude.{◌&&◌, ◌||◌, All, slice_get, is_some}
 use Rattle.std.specs.Option.{unwrap_or}
-use Rattle.std.specs.List.{AllZip, list_any}
 use Rattle.std.proofs.lemmas.Bool.{cases_lt, cond-false, eqb-false, eqb-true, ne_eqb}
-use Rattle.std.proofs.lemmas.List.{append-nil, length-append, length-drop, length-take, map-append}
-use Rattle.std.proofs.lemmas.List.Elements.{All-head, All-tail, length_all_zip}
-use Rattle.std.proofs.lemmas.Option.{slice_get_within}
+use Rattle.std.proofs.lemmas.List.{append-nil}
+use Rattle.std.proofs.lemmas.List.Elements.{All-head, All-tail}
 use Rattle.dwz_model.specs.declared.fault.Fault.{Fault}
 use Rattle.dwz_docs.specs.declared.elf.FileHeader.{FileHeader}
-use Rattle.dwz_docs.specs.declared.elf.Header.{Header}
 use Rattle.dwz_docs.specs.declared.elf.NewContent.{NewContent}
 use Rattle.dwz_docs.specs.declared.elf.Section.{Section}
-use Rattle.dwz_docs.specs.ElfHeaders.{content, end_of, file_header, header_at, headers_from, is_there, number_at}
-use Rattle.dwz_docs.specs.ElfLayout.{Changes, added_name, content_at, content_for, keep_end, moved_header, moved_in, names_size, new_count, numbers, rebuilt_length, sup_bytes, sup_header}
-use Rattle.dwz_docs.specs.ElfNames.{known_name, name_at, name_table, names_header, sections_in}
+use Rattle.dwz_docs.specs.ElfHeaders.{file_header}
+use Rattle.dwz_docs.specs.ElfLayout.{Changes, content_at, content_for, keep_end, moved_in, new_count, sup_bytes}
+use Rattle.dwz_docs.specs.ElfNames.{names_header, sections_in}
 use Rattle.dwz_docs.specs.ElfNames
 use Rattle.dwz_docs.specs.ElfReading.{bytes_in, elf_fault, elf_of, field_fault, first_in, has_code, header_fault, identification_fault, missing_fault, names_fault, range_in, section_range, unkept_fault}
-use Rattle.dwz_docs.specs.PlainFile.{section_read}
 use Rattle.dwz_docs.proofs.PlainFaults.{header_fine, none_or}
-use Rattle.dwz_docs.proofs.PlainReads.{all_fields, header_of, header_read}
 use Rattle.dwz_meanings.specs.Files.{section_of}
 use Rattle.dwz_docs.specs.ElfBack.{IsBackFault}
-use Rattle.dwz_rebuilt.specs.Rebuilt.{CanBeMade, HasSameFields, IsCarried, IsSup, IsTableField, new_file, new_for}
+use Rattle.dwz_rebuilt.specs.Rebuilt.{CanBeMade, IsCarried, IsSup, IsTableField, new_file, new_for}
 use Rattle.dwz_rebuilt.proofs.BackLemmas.{IsPlainSup, no_back_fault}
-use Rattle.dwz_rebuilt.proofs.FaultLemmas.{HasGoodFields, HasNoFault, ends_there, fields_good, good_fields, is_faultless, long_enough, names_good, names_there, names_within, no_faults, same_identification, table_some}
-use Rattle.dwz_rebuilt.proofs.MovedLemmas.{IsMadeAt, coded_content, made_one, names_content, placed_bytes}
-use Rattle.dwz_rebuilt.proofs.NameLemmas.{added_name_read, in_both, in_front, in_last, no_range, no_sup, range_behind, range_front, range_short, same_name}
-use Rattle.dwz_rebuilt.proofs.OldLemmas.{first_at, is_old, keep_programs, keep_some, names_no_code, no_content}
-use Rattle.dwz_rebuilt.proofs.PieceLemmas.{has_in, has_part, same_number}
-use Rattle.dwz_rebuilt.proofs.SectionLemmas.{IsMade, NotRewritten, all_kept, all_made, first_both, same_codes, same_contents, same_debug, same_headers, same_range}
-use Rattle.dwz_rebuilt.proofs.ShapeLemmas.{IsWhole, count_few, end_within, fits, has_headers, has_sup, is_new, keep_within, kept_same, length_rebuilt, length_to_sup, reads_count, reads_place, small_length, sup_header_behind, table_end, the_end, the_headers, the_headers_at, the_places, to_sup}
-use Rattle.dwz_rebuilt.proofs.TableLemmas.{SameName, header_moved, headers_last, length-sections, moved_at, moved_sections, moved_to, new_header_there, section_at, sections_moved}
-
--- what is known of the old file
-old_good : (input : List ℕ) → HasNoFault input → HasGoodFields 65278 (length input) (file_header input)
-old_good input none = good_fields (length input) (file_header input) none.fields
-
-old_section : (input : List ℕ) (k : ℕ) → k < (file_header input).headers → slice_get (sections_in input) k ≡ Some (ElfNames.section_of (name_table input) (header_at input ((file_header input).headers_at + 64 * k)))
-old_section input k less = section_at (ElfNames.section_of (name_table input)) input (file_header input).headers_at (file_header input).headers k less
-
-section_within : (input : List ℕ) (k : ℕ) (s : Section) → slice_get (sections_in input) k ≡ Some s → k < (file_header input).headers
-section_within input k s is =
-    let less = slice_get_within (sections_in input) k s is in
-    omega (arith, less, length-sections (ElfNames.section_of (name_table input)) input (file_header input).headers_at (file_header input).headers)
-
-all_whole : (input : List ℕ) → HasNoFault input → (k : ℕ) (s : Section) → slice_get (sections_in input) k ≡ Some s → s.header.at + 64 ≤ length input
-all_whole input none k s is =
-    let less = section_within input k s is in
-    let here = old_section input k less in
-    let same : s ≡ ElfNames.section_of (name_table input) (header_at input ((file_header input).headers_at + 64 * k)) = cc in
-    let place : s.header.at ≡ (file_header input).headers_at + 64 * k = ap (λ (w : Section). w.header.at) same in
-    omega (arith, place, less, (old_good input none).table)
-
--- each name ends in the name table
-name_ends : (input : List ℕ) → HasNoFault input → (k : ℕ) → k < (file_header input).headers → (known_name (name_at (name_table input) (header_at input ((file_header input).headers_at + 64 * k)).name)).ends ≡ true
-name_ends input none k less =
-    let s = ElfNames.section_of (name_table input) (header_at input ((file_header input).headers_at + 64 * k)) in
-    let header = first_at (header_fault (length input) (file_header input).names) [] (sections_in input) k s none.headers (old_section input k less) in
-    ends_there (length input) (file_header input).names header.0 s header.2
-
--- some name ends, so the name table has bytes
-some_names_by : (input table : List ℕ) (names at n : ℕ) → 0 < n → first_in (header_fault (length input) names) [] (map (ElfNames.section_of table) (headers_from input at n)) ≡ None → table ≢ []
-unfolding headers_from
-some_names_by input table names at zero some faultless = absurd (omega (arith, some))
-some_names_by input table names at (suc n) some faultless = table_some (length input) names table (header_at input at) (headers_from input (at + 64) n) faultless
-
-some_names : (input : List ℕ) → HasNoFault input → name_table input ≢ []
-some_names input none = some_names_by input (name_table input) (file_header input).names (file_header input).headers_at (file_header input).headers (old_good input none).some none.headers
-
-names_size_some : (input : List ℕ) → HasNoFault input → 0 < (names_header input).size
-names_size_some input none =
-    elim (cases_lt 0 (names_header input).size) [
-      | inl some ↦ some
-      | inr empty ↦
-          let size : (names_header input).size ≡ 0 = omega (arith, empty) in
-          absurd (some_names input none (ap (λ n. take n (drop (names_header input).offset input)) size))
-    ]
-
-pub whole : (input : List ℕ) (changes : Changes) (order : List (ℕ × ℕ)) → CanBeMade input changes order → IsWhole (elf_of input) changes input order
-unfolding elf_of
-whole input changes order can =
-    let none = no_faults input can.reads in
-    record {
-      counted = length-sections (ElfNames.section_of (name_table input)) input (file_header input).headers_at (file_header input).headers;
-      few = (old_good input none).few;
-      whole = all_whole input none;
-      small = can.small;
-    }
-
--- two files with the same fields but two
-file_fields : (old new : List ℕ) (count : ℕ) → number_at new 16 2 ≡ number_at old 16 2 → number_at new 18 2 ≡ number_at old 18 2 → number_at new 32 8 ≡ number_at old 32 8 → number_at new 48 4 ≡ number_at old 48 4 → number_at new 54 2 ≡ number_at old 54 2 → number_at new 56 2 ≡ number_at old 56 2 → number_at new 58 2 ≡ number_at old 58 2 → number_at new 60 2 ≡ count → number_at new 62 2 ≡ number_at old 62 2 → HasSameFields count (file_header old) (file_header new)
-file_fields old new count kind machine programs_at flags program_size programs size counted names = rw (kind, machine, programs_at, flags, program_size, programs, size, counted, names) refl
-
--- the number of section headers, by whether one is added
-counted_by : (sup : Option (List ℕ)) (n : ℕ) → n ≤ n + cond (is_some sup) 1 0
-counted_by None n = omega arith
-counted_by (Some sup) n = omega arith
+use Rattle.dwz_rebuilt.proofs.FaultLemmas.{HasGoodFields, fields_good, is_faultless, names_good, same_identification}
+use Rattle.dwz_rebuilt.proofs.MadeLemmas.{added, are_made, counted_by, is_whole, is_with_place, length_moved, long_new, moved, moved_no_sup, names_less, names_moved, names_new, new_there, none, old_good, old_no_sup, one_at, same_identified, same_sections, short, sup_place, sup_section, sup_within, table_within, with_place}
+use Rattle.dwz_rebuilt.proofs.MovedLemmas.{IsMadeAt}
+use Rattle.dwz_rebuilt.proofs.NameLemmas.{in_both, in_front, in_last, no_range, range_behind, range_front, range_short}
+use Rattle.dwz_rebuilt.proofs.OldLemmas.{first_at, keep_programs, keep_some, no_content}
+use Rattle.dwz_rebuilt.proofs.PieceLemmas.{has_part}
+use Rattle.dwz_rebuilt.proofs.SectionLemmas.{NotRewritten, all_kept, first_both, same_contents, same_debug, same_headers, same_range}
+use Rattle.dwz_rebuilt.proofs.ShapeLemmas.{count_few, end_within, has_sup, is_new, keep_within, kept_same, table_end, the_end, the_headers_at, the_places}
+use Rattle.dwz_rebuilt.proofs.TableLemmas.{moved_at, moved_to}
 
 module _ (input : List ℕ) (changes : Changes) (order : List (ℕ × ℕ)) (can : CanBeMade input changes order) where
-  none : HasNoFault input
-  none = no_faults input can.reads
-
-  is_whole : IsWhole (elf_of input) changes input order
-  is_whole = whole input changes order can
-
-  pub same_length : length (new_file input changes order) ≡ rebuilt_length (elf_of input) changes input order
-  same_length = length_rebuilt (elf_of input) changes input order is_whole
-
-  short : length (new_file input changes order) < 2 ^ 32
-  short = small_length (elf_of input) changes input order is_whole
-
-  -- ---- the file header
-
-  long_old : 64 ≤ length input
-  long_old = long_enough input none.identified
-
-  long_new : 64 ≤ length (new_file input changes order)
-  long_new = let new = is_new (elf_of input) changes input order is_whole in omega (arith, new.within, new.some)
-
-  -- a field of the file header stays
-  field_same : (k w : ℕ) → k + w ≤ 64 → (k + w ≤ 40) ⊎ (48 ≤ k) → (k + w ≤ 60) ⊎ (62 ≤ k) → number_at (new_file input changes order) k w ≡ number_at input k w
-  field_same k w within first second =
-      let kept = keep_some (elf_of input) in
-      same_number (new_file input changes order) input k k w (omega (arith, long_new, within)) (omega (arith, long_old, within))
-      (λ i less. kept_same (elf_of input) changes input order is_whole (k + i) (omega (arith, within, less, kept))
-      (elim first [ inl h ↦ inl (omega (arith, h, less)) | inr h ↦ inr (omega (arith, h)) ])
-      (elim second [ inl h ↦ inl (omega (arith, h, less)) | inr h ↦ inr (omega (arith, h)) ]))
-
-  pub same_file : HasSameFields (new_count (elf_of input) changes) (file_header input) (file_header (new_file input changes order))
-  same_file =
-      file_fields input (new_file input changes order) (new_count (elf_of input) changes)
-      (field_same 16 2 (omega arith) (inl (omega arith)) (inl (omega arith)))
-      (field_same 18 2 (omega arith) (inl (omega arith)) (inl (omega arith)))
-      (field_same 32 8 (omega arith) (inl (omega arith)) (inl (omega arith)))
-      (field_same 48 4 (omega arith) (inr (omega arith)) (inl (omega arith)))
-      (field_same 54 2 (omega arith) (inr (omega arith)) (inl (omega arith)))
-      (field_same 56 2 (omega arith) (inr (omega arith)) (inl (omega arith)))
-      (field_same 58 2 (omega arith) (inr (omega arith)) (inl (omega arith)))
-      (reads_count (elf_of input) changes input order is_whole)
-      (field_same 62 2 (omega arith) (inr (omega arith)) (inr (omega arith)))
-
-  same_identified : (i : ℕ) → i < 7 → get_or (new_file input changes order) i 0 ≡ get_or input i 0
-  same_identified i less = kept_same (elf_of input) changes input order is_whole i (let kept = keep_some (elf_of input) in omega (arith, less, kept)) (inl (omega (arith, less))) (inl (omega (arith, less)))
-
-  -- the file header with the section headers at their new place
-  with_place : FileHeader
-  with_place = record (file_header input) { headers_at = the_headers_at (elf_of input) changes input order; headers = new_count (elf_of input) changes }
-
-  is_with_place : file_header (new_file input changes order) ≡ with_place
-  unfolding with_place
-  is_with_place = same_file ∙ ap (λ (n : ℕ). record (file_header input) { headers_at = n; headers = new_count (elf_of input) changes }) (reads_place (elf_of input) changes input order is_whole)
-
-  -- ---- the sections that were there
-
-  header_there : (k : ℕ) → k < (file_header input).headers
-      → header_at (new_file input changes order) (the_headers_at (elf_of input) changes input order + 64 * k)
-      ≡ moved_to (the_headers_at (elf_of input) changes input order + 64 * k) (moved_in (the_places (elf_of input) changes input order) (0 + k)) (header_at input ((file_header input).headers_at + 64 * k))
-  unfolding elf_of
-  header_there k less =
-      let e = elf_of input in
-      let h = header_at input ((file_header input).headers_at + 64 * k) in
-      let s = ElfNames.section_of (name_table input) h in
-      let placed = the_places e changes input order in
-      let at = the_headers_at e changes input order in
-      let is = old_section input k less in
-      let here = new_header_there input placed 0 (sections_in input) k s (all_whole input none) is in
-      let there = has_in (new_file input changes order) (the_headers e changes input order) (moved_header (take 64 (drop s.header.at input)) (moved_in placed (0 + k))) at (64 * k) (has_headers e changes input order is_whole) here in
-      header_moved input (new_file input changes order) s.header.at (at + 64 * k) (moved_in placed (0 + k)) (all_whole input none k s is) (fits e changes input order is_whole (0 + k)) there
-
-  -- the sections of the new file, by those of the old one
-  pub moved : List Section
-  moved = moved_sections (the_places (elf_of input) changes input order) (the_headers_at (elf_of input) changes input order) 0 (sections_in input)
-
-  names_less : (file_header input).names < (file_header input).headers
-  names_less = (old_good input none).names
-
-  -- the name table has bytes
-  full : (s : Section) → slice_get (sections_in input) (file_header input).names ≡ Some s → 0 < s.header.size
-  full s is =
-      let here = old_section input (file_header input).names names_less in
-      let same : s ≡ ElfNames.section_of (name_table input) (names_header input) = cc in
-      let size : s.header.size ≡ (names_header input).size = ap (λ (w : Section). w.header.size) same in
-      let some = names_size_some input none in
-      omega (arith, size, some)
-
-  one_at : (k place : ℕ) (s : Section) → slice_get (sections_in input) k ≡ Some s
-      → IsMadeAt (new_file input changes order) (content_at (elf_of input) changes input k) s (record { header = moved_to place (moved_in (the_places (elf_of input) changes input order) k) s.header; name = s.name })
-  unfolding elf_of
-  one_at k place s is =
-      let e = elf_of input in
-      let old = is_old e changes input (file_header input).names full none.headers can.fits can.can_change k s is in
-      made_one e changes input (new_file input changes order) order can.is_order (is_new e changes input order is_whole) k place s old
-
-  not_names : (k : ℕ) (s : Section) → slice_get (sections_in input) k ≡ Some s → s.name.code ≢ 0 → k ≢ (file_header input).names
-  not_names k s is coded same = coded (names_no_code (length input) (file_header input).names (sections_in input) s none.headers (ap (slice_get (sections_in input)) (sym same) ∙ is))
-
-  one_made : (k place : ℕ) (s : Section) → slice_get (sections_in input) k ≡ Some s
-      → IsMade input (new_file input changes order) changes s (record { header = moved_to place (moved_in (the_places (elf_of input) changes input order) (0 + k)) s.header; name = s.name })
-  unfolding elf_of
-  one_made k place s is =
-      let e = elf_of input in
-      let index : k ≡ 0 + k = omega arith in
-      let made : IsMadeAt (new_file input changes order) (content_at e changes input k) s (record { header = moved_to place (moved_in (the_places e changes input order) (0 + k)) s.header; name = s.name }) =
-      subst (λ (n : ℕ). IsMadeAt (new_file input changes order) (content_at e changes input k) s (record { header = moved_to place (moved_in (the_places e changes input order) n) s.header; name = s.name })) index (one_at k place s is) in
-      record { wanted = content_at e changes input k; made = made; coded = λ coded. coded_content e changes input k s is (not_names k s is coded) }
-
-  are_made : AllZip (IsMade input (new_file input changes order) changes) (sections_in input) moved
-  unfolding moved
-  are_made = all_made input (new_file input changes order) changes (the_places (elf_of input) changes input order) (the_headers_at (elf_of input) changes input order) 0 (sections_in input) one_made
-
-  -- ---- the name table
-
-  -- its header in the new file
-  names_at : ℕ
-  names_at = the_headers_at (elf_of input) changes input order + 64 * (file_header input).names
-
-  names_new : Header
-  names_new = moved_to names_at (moved_in (the_places (elf_of input) changes input order) (0 + (file_header input).names)) (names_header input)
-
-  names_moved : names_header (new_file input changes order) ≡ names_new
-  unfolding names_new names_at with_place
-  names_moved = ap (λ (f : FileHeader). header_at (new_file input changes order) (f.headers_at + 64 * f.names)) is_with_place ∙ header_there (file_header input).names names_less
-
-  names_made : IsMadeAt (new_file input changes order) (content_at (elf_of input) changes input (file_header input).names) (ElfNames.section_of (name_table input) (names_header input)) (record { header = names_new; name = (ElfNames.section_of (name_table input) (names_header input)).name })
-  unfolding names_new
-  names_made =
-      let s = ElfNames.section_of (name_table input) (names_header input) in
-      let n = (file_header input).names in
-      let index : n ≡ 0 + n = omega arith in
-      subst (λ (k : ℕ). IsMadeAt (new_file input changes order) (content_at (elf_of input) changes input n) s (record { header = moved_to names_at (moved_in (the_places (elf_of input) changes input order) k) (names_header input); name = s.name })) index
-      (one_at n names_at s (old_section input n names_less))
-
-  old_there : is_there (names_header input) ≡ true
-  old_there = names_there (length input) (names_header input) none.names
-
-  new_table : List ℕ
-  new_table = name_table input ++ added_name changes.sup
-
-  -- its content stays, and what is added stands behind it
-  table_kept : content (new_file input changes order) names_new ≡ new_table
-  unfolding new_table elf_of
-  table_kept =
-      let s = ElfNames.section_of (name_table input) (names_header input) in
-      let n = (file_header input).names in
-      let is = old_section input n names_less in
-      let code : s.name.code ≡ 0 = names_no_code (length input) n (sections_in input) s none.headers is in
-      names_made.carried.holds old_there ∙ names_content (elf_of input) changes input n s is refl code
-
-  same_table : name_table (new_file input changes order) ≡ new_table
-  same_table = ap (content (new_file input changes order)) names_moved ∙ table_kept
-
-  -- the name table lies in the file
-  new_there : is_there names_new ≡ true
-  new_there = ap (λ k. not (eqb k 0) && not (eqb k 8)) names_made.carried.kind ∙ old_there
-
-  table_within : end_of names_new ≤ length (new_file input changes order)
-  unfolding new_table
-  table_within =
-      elim (cases_lt 0 names_new.size) [
-        | inl some ↦ (placed_bytes (length (new_file input changes order)) names_new new_there names_made.placed some).1
-        | inr empty ↦
-            let size : names_new.size ≡ 0 = omega (arith, empty) in
-            let nothing : name_table input ++ added_name changes.sup ≡ [] = sym table_kept ∙ ap (λ n. take n (drop names_new.offset (new_file input changes order))) size in
-            absurd (some_names input none (first_nothing (name_table input) (added_name changes.sup) nothing))
-      ]
-    where
-      first_nothing : (xs ys : List ℕ) → xs ++ ys ≡ [] → xs ≡ []
-      first_nothing [] ys is = refl
-      first_nothing (x ∷ xs) ys is = absurd cc
-
-  old_size : length (name_table input) ≡ (names_header input).size
-  old_size =
-      let within = names_within (length input) (names_header input) none.names in
-      omega (arith, within, length-take (names_header input).size (drop (names_header input).offset input), length-drop (names_header input).offset input)
-
-  table_short : length new_table < 2 ^ 32
-  table_short =
-      let out = new_file input changes order in
-      let len : length (take names_new.size (drop names_new.offset out)) ≡ length new_table = ap length table_kept in
-      omega (arith, len, short, length-take names_new.size (drop names_new.offset out), length-drop names_new.offset out)
-
-  same_names : (k : ℕ) → k < (file_header input).headers → SameName (name_table input) new_table (header_at input ((file_header input).headers_at + 64 * k))
-  unfolding new_table
-  same_names k less = same_name (name_table input) (added_name changes.sup) (header_at input ((file_header input).headers_at + 64 * k)) (name_ends input none k less)
-
-  -- ---- the section that is added
-
-  sup_place : ℕ
-  sup_place = the_headers_at (elf_of input) changes input order + 64 * (file_header input).headers
-
-  -- what it is read as
-  sup_section : List ℕ → Section
-  sup_section sup = section_read sup_place (names_header input).size 1 0 (the_end (elf_of input) changes input order) (length sup) 1 (codes ".debug_sup")
-
-  pub added : Option (List ℕ) → List Section
-  added None = []
-  added (Some sup) = sup_section sup ∷ []
-
-  sup_within : (sup : List ℕ) → changes.sup ≡ Some sup → the_end (elf_of input) changes input order + length sup ≤ length (new_file input changes order)
-  sup_within sup is =
-      let has = has_sup (elf_of input) changes input order is_whole in
-      let same : length (sup_bytes changes) ≡ length sup = ap (λ (o : Option (List ℕ)). length (unwrap_or o [])) is in
-      omega (arith, has.within, same)
-
-  sup_read : (sup : List ℕ) → changes.sup ≡ Some sup → header_at (new_file input changes order) sup_place ≡ header_of sup_place (names_header input).size 1 0 (the_end (elf_of input) changes input order) (length sup) 1
-  unfolding sup_place elf_of sup_header new_table
-  sup_read sup is =
-      let e = elf_of input in
-      let n = (file_header input).names in
-      let front = to_sup e changes input order is_whole in
-      let end = the_end e changes input order in
-      let size : names_size (slice_get (sections_in input) n) ≡ (names_header input).size = ap names_size (old_section input n names_less) in
-      let bytes : new_file input changes order ≡ front ++ (numbers (all_fields (names_header input).size 1 0 end (length sup) 1 0) ++ []) =
-      sup_header_behind e changes input order is_whole
-      ∙ (ap (λ (o : Option (List ℕ)). front ++ (sup_header e end o ++ [])) is
-      ∙ ap (λ (m : ℕ). front ++ (numbers (all_fields m 1 0 end (length sup) 1 0) ++ [])) size) in
-      let within = sup_within sup is in
-      let table = length-append (name_table input) (added_name changes.sup) in
-      let few : (names_header input).size < 256 ^ 4 = omega (arith, old_size, table, table_short) in
-      header_read (new_file input changes order) front [] sup_place (names_header input).size 1 0 end (length sup) 1 0 bytes (length_to_sup e changes input order is_whole)
-      few (omega arith) (omega arith) (omega (arith, within, short)) (omega (arith, within, short)) (omega arith)
-
-  sup_seen : (sup : List ℕ) → changes.sup ≡ Some sup → ElfNames.section_of new_table (header_at (new_file input changes order) sup_place) ≡ sup_section sup
-  unfolding sup_section new_table
-  sup_seen sup is =
-      let name : name_at (name_table input ++ added_name changes.sup) (names_header input).size ≡ Some (codes ".debug_sup") =
-      ap (λ (o : Option (List ℕ)). name_at (name_table input ++ added_name o) (names_header input).size) is ∙ added_name_read (name_table input) (names_header input).size old_size in
-      ap (ElfNames.section_of (name_table input ++ added_name changes.sup)) (sup_read sup is)
-      ∙ ap (λ (o : Option (List ℕ)). record { header = header_of sup_place (names_header input).size 1 0 (the_end (elf_of input) changes input order) (length sup) 1; name = known_name o }) name
-
-  -- ---- all sections
-
-  moved_first : map (ElfNames.section_of new_table) (headers_from (new_file input changes order) (the_headers_at (elf_of input) changes input order) (file_header input).headers) ≡ moved
-  unfolding moved
-  moved_first =
-      sections_moved (name_table input) new_table input (new_file input changes order) (the_places (elf_of input) changes input order) (file_header input).headers_at (the_headers_at (elf_of input) changes input order) 0 (file_header input).headers header_there same_names
-
-  all_of : (sup : Option (List ℕ)) → changes.sup ≡ sup
-      → map (ElfNames.section_of new_table) (headers_from (new_file input changes order) (the_headers_at (elf_of input) changes input order) ((file_header input).headers + cond (is_some sup) 1 0)) ≡ moved ++ added sup
-  unfolding added sup_place
-  all_of None is =
-      let count : (file_header input).headers + 0 ≡ (file_header input).headers = omega arith in
-      ap (λ n. map (ElfNames.section_of new_table) (headers_from (new_file input changes order) (the_headers_at (elf_of input) changes input order) n)) count ∙ (moved_first ∙ sym (append-nil moved))
-  all_of (Some sup) is =
-      let out = new_file input changes order in
-      let at = the_headers_at (elf_of input) changes input order in
-      let n = (file_header input).headers in
-      ap (map (ElfNames.section_of new_table)) (headers_last out at n)
-      ∙ (map-append (ElfNames.section_of new_table) (headers_from out at n) (header_at out (at + 64 * n) ∷ [])
-      ∙ (λ j. moved_first j ++ sup_seen sup is j ∷ []))
-
-  pub same_sections : sections_in (new_file input changes order) ≡ moved ++ added changes.sup
-  unfolding with_place elf_of
-  same_sections =
-      let out = new_file input changes order in
-      let file = file_header out in
-      ap (λ (t : List ℕ). map (ElfNames.section_of t) (headers_from out file.headers_at file.headers)) same_table
-      ∙ (ap (λ (f : FileHeader). map (ElfNames.section_of new_table) (headers_from out f.headers_at f.headers)) is_with_place ∙ all_of changes.sup refl)
-
-  length_moved : length moved ≡ (file_header input).headers
-  length_moved =
-      sym (length_all_zip (IsMade input (new_file input changes order) changes) (sections_in input) moved are_made)
-      ∙ length-sections (ElfNames.section_of (name_table input)) input (file_header input).headers_at (file_header input).headers
-
-  -- none of them was `.debug_sup`
-  old_no_sup : list_any (has_code 9) (sections_in input) ≡ false
-  old_no_sup = no_sup (sections_in input) (name_table input) [] (headers_from input (file_header input).headers_at (file_header input).headers) none.kept
-
-  moved_no_sup : list_any (has_code 9) moved ≡ false
-  moved_no_sup = same_codes input (new_file input changes order) changes 9 (sections_in input) moved are_made ∙ old_no_sup
-
   -- ---- no fault
 
-  good_new : HasGoodFields 65279 (length (new_file input changes order)) with_place
+  good_new : HasGoodFields 65279 (length (new_file input changes order)) (with_place input changes order can)
   unfolding with_place elf_of
   good_new =
       let e = elf_of input in
-      let good = old_good input none in
-      let new = is_new e changes input order is_whole in
-      let end = table_end e changes input order is_whole in
+      let good = old_good input (none input changes order can) in
+      let new = is_new e changes input order (is_whole input changes order can) in
+      let end = table_end e changes input order (is_whole input changes order can) in
       let more = counted_by changes.sup (file_header input).headers in
-      let place : 64 ≤ the_headers_at e changes input order = omega (arith, keep_some e, keep_within e changes input order is_whole, end_within e changes input order is_whole) in
+      let place : 64 ≤ the_headers_at e changes input order = omega (arith, keep_some e, keep_within e changes input order (is_whole input changes order can), end_within e changes input order (is_whole input changes order can)) in
       record {
         kind = good.kind;
         some_place = λ none_there. omega (arith, place, none_there);
         size = good.size;
         some = omega (arith, good.some, more);
-        few = count_few e changes input order is_whole;
+        few = count_few e changes input order (is_whole input changes order can);
         some_names = good.some_names;
         names = omega (arith, good.names, more);
         table = omega (arith, end);
@@ -395,21 +54,21 @@ module _ (input : List ℕ) (changes : Changes) (order : List (ℕ × ℕ)) (can
       }
 
   new_identified : identification_fault (new_file input changes order) ≡ None
-  new_identified = same_identification input (new_file input changes order) none.identified long_new same_identified
+  new_identified = same_identification input (new_file input changes order) (none input changes order can).identified (long_new input changes order can) (same_identified input changes order can)
 
   new_names : names_fault (length (new_file input changes order)) (names_header (new_file input changes order)) ≡ None
-  new_names = ap (names_fault (length (new_file input changes order))) names_moved ∙ names_good (length (new_file input changes order)) names_new new_there table_within
+  new_names = ap (names_fault (length (new_file input changes order))) (names_moved input changes order can) ∙ names_good (length (new_file input changes order)) (names_new input changes order can) (new_there input changes order can) (table_within input changes order can)
 
-  sup_header_fine : (sup : List ℕ) → changes.sup ≡ Some sup → header_fault (length (new_file input changes order)) (file_header input).names moved (sup_section sup) ≡ None
+  sup_header_fine : (sup : List ℕ) → changes.sup ≡ Some sup → header_fault (length (new_file input changes order)) (file_header input).names (moved input changes order can) ((sup_section input changes order can) sup) ≡ None
   unfolding sup_section
   sup_header_fine sup is =
       let e = elf_of input in
       let end = the_end e changes input order in
-      let low : 64 ≤ end = omega (arith, keep_some e, keep_within e changes input order is_whole) in
-      let apart : length moved ≢ (file_header input).names = λ same. omega (arith, same, length_moved, names_less) in
-      header_fine (length (new_file input changes order)) (file_header input).names sup_place (names_header input).size 0 end (length sup) (codes ".debug_sup") moved low (sup_within sup is) apart (inr moved_no_sup)
+      let low : 64 ≤ end = omega (arith, keep_some e, keep_within e changes input order (is_whole input changes order can)) in
+      let apart : length (moved input changes order can) ≢ (file_header input).names = λ same. omega (arith, same, (length_moved input changes order can), (names_less input changes order can)) in
+      header_fine (length (new_file input changes order)) (file_header input).names (sup_place input changes order can) (names_header input).size 0 end (length sup) (codes ".debug_sup") (moved input changes order can) low ((sup_within input changes order can) sup is) apart (inr (moved_no_sup input changes order can))
 
-  added_headers : (sup : Option (List ℕ)) → changes.sup ≡ sup → first_in (header_fault (length (new_file input changes order)) (file_header input).names) moved (added sup) ≡ None
+  added_headers : (sup : Option (List ℕ)) → changes.sup ≡ sup → first_in (header_fault (length (new_file input changes order)) (file_header input).names) (moved input changes order can) ((added input changes order can) sup) ≡ None
   unfolding added first_in
   added_headers None is = refl
   added_headers (Some sup) is = none_or _ _ (sup_header_fine sup is) refl
@@ -418,22 +77,22 @@ module _ (input : List ℕ) (changes : Changes) (order : List (ℕ × ℕ)) (can
   unfolding with_place
   new_headers_fine =
       let out = new_file input changes order in
-      ap (λ (f : FileHeader). first_in (header_fault (length out) f.names) [] (sections_in out)) is_with_place
-      ∙ (ap (first_in (header_fault (length out) (file_header input).names) []) same_sections
-      ∙ first_both (header_fault (length out) (file_header input).names) [] moved (added changes.sup)
-      (same_headers input out changes (length input) (file_header input).names (sections_in input) moved are_made none.headers)
+      ap (λ (f : FileHeader). first_in (header_fault (length out) f.names) [] (sections_in out)) (is_with_place input changes order can)
+      ∙ (ap (first_in (header_fault (length out) (file_header input).names) []) (same_sections input changes order can)
+      ∙ first_both (header_fault (length out) (file_header input).names) [] (moved input changes order can) ((added input changes order can) changes.sup)
+      (same_headers input out changes (length input) (file_header input).names (sections_in input) (moved input changes order can) (are_made input changes order can) (none input changes order can).headers)
       (added_headers changes.sup refl))
 
-  added_not_rewritten : (sup : Option (List ℕ)) → NotRewritten input (new_file input changes order) changes (added sup)
+  added_not_rewritten : (sup : Option (List ℕ)) → NotRewritten input (new_file input changes order) changes ((added input changes order can) sup)
   unfolding added sup_section
   added_not_rewritten None = tt
   added_not_rewritten (Some sup) = (refl, tt)
 
-  moved_kept : first_in (λ before. unkept_fault (moved ++ added changes.sup)) [] moved ≡ None
-  moved_kept = all_kept input (new_file input changes order) changes (sections_in input) moved (added changes.sup) are_made (added_not_rewritten changes.sup) none.kept
+  moved_kept : first_in (λ before. unkept_fault ((moved input changes order can) ++ (added input changes order can) changes.sup)) [] (moved input changes order can) ≡ None
+  moved_kept = all_kept input (new_file input changes order) changes (sections_in input) (moved input changes order can) ((added input changes order can) changes.sup) (are_made input changes order can) (added_not_rewritten changes.sup) (none input changes order can).kept
 
   new_debug : missing_fault (sections_in (new_file input changes order)) ≡ None
-  new_debug = ap missing_fault same_sections ∙ same_debug input (new_file input changes order) changes (sections_in input) moved (added changes.sup) are_made none.debug
+  new_debug = ap missing_fault (same_sections input changes order can) ∙ same_debug input (new_file input changes order) changes (sections_in input) (moved input changes order can) ((added input changes order can) changes.sup) (are_made input changes order can) (none input changes order can).debug
 
   -- where no section is added there is no fault of a file that is read first
   pub reads_back : changes.sup ≡ None → elf_fault (new_file input changes order) ≡ None
@@ -441,38 +100,38 @@ module _ (input : List ℕ) (changes : Changes) (order : List (ℕ × ℕ)) (can
   reads_back is =
       let out = new_file input changes order in
       let good = good_new in
-      let few = (old_good input none).few in
-      let same : sections_in out ≡ moved = same_sections ∙ (ap (λ (o : Option (List ℕ)). moved ++ added o) is ∙ append-nil moved) in
-      let all : moved ++ added changes.sup ≡ moved = ap (λ (o : Option (List ℕ)). moved ++ added o) is ∙ append-nil moved in
+      let few = (old_good input (none input changes order can)).few in
+      let same : sections_in out ≡ (moved input changes order can) = (same_sections input changes order can) ∙ (ap (λ (o : Option (List ℕ)). (moved input changes order can) ++ (added input changes order can) o) is ∙ append-nil (moved input changes order can)) in
+      let all : (moved input changes order can) ++ (added input changes order can) changes.sup ≡ (moved input changes order can) = ap (λ (o : Option (List ℕ)). (moved input changes order can) ++ (added input changes order can) o) is ∙ append-nil (moved input changes order can) in
       let count : new_count (elf_of input) changes ≡ (file_header input).headers = ap (λ (o : Option (List ℕ)). (file_header input).headers + cond (is_some o) 1 0) is ∙ omega arith in
-      let less : HasGoodFields 65278 (length out) with_place = record { kind = good.kind; some_place = good.some_place; size = good.size; some = good.some; few = omega (arith, count, few); some_names = good.some_names; names = good.names; table = good.table; programs = good.programs } in
+      let less : HasGoodFields 65278 (length out) (with_place input changes order can) = record { kind = good.kind; some_place = good.some_place; size = good.size; some = good.some; few = omega (arith, count, few); some_names = good.some_names; names = good.names; table = good.table; programs = good.programs } in
       is_faultless out (record {
         identified = new_identified;
-        fields = ap (field_fault (length out)) is_with_place ∙ fields_good (length out) with_place less;
+        fields = ap (field_fault (length out)) (is_with_place input changes order can) ∙ fields_good (length out) (with_place input changes order can) less;
         names = new_names;
         headers = new_headers_fine;
-        kept = ap (λ (xs : List Section). first_in (λ before. unkept_fault xs) [] xs) same ∙ (ap (λ (xs : List Section). first_in (λ before. unkept_fault xs) [] moved) (sym all) ∙ moved_kept);
+        kept = ap (λ (xs : List Section). first_in (λ before. unkept_fault xs) [] xs) same ∙ (ap (λ (xs : List Section). first_in (λ before. unkept_fault xs) [] (moved input changes order can)) (sym all) ∙ moved_kept);
         debug = new_debug;
       })
 
-  sup_plain : (sup : Option (List ℕ)) (j : ℕ) (s : Section) → slice_get (added sup) j ≡ Some s → IsPlainSup s
+  sup_plain : (sup : Option (List ℕ)) (j : ℕ) (s : Section) → slice_get ((added input changes order can) sup) j ≡ Some s → IsPlainSup s
   unfolding added sup_section
   sup_plain None j s is = absurd cc
-  sup_plain (Some sup) zero s is = let same : sup_section sup ≡ s = cc in subst IsPlainSup same (record { there = refl; code = refl; no_relocations = refl; whole = refl })
+  sup_plain (Some sup) zero s is = let same : (sup_section input changes order can) sup ≡ s = cc in subst IsPlainSup same (record { there = refl; code = refl; no_relocations = refl; whole = refl })
   sup_plain (Some sup) (suc j) s is = absurd cc
 
   each_kept : (k : ℕ) (s : Section) → slice_get (sections_in (new_file input changes order)) k ≡ Some s → (unkept_fault (sections_in (new_file input changes order)) s ≡ None) ⊎ IsPlainSup s
   each_kept k s is =
-      let all = moved ++ added changes.sup in
-      elim (in_both moved (added changes.sup) k s (ap (λ (xs : List Section). slice_get xs k) (sym same_sections) ∙ is)) [
-        | inl old ↦ inl (ap (λ (xs : List Section). unkept_fault xs s) same_sections ∙ (first_at (λ before. unkept_fault all) [] moved k s moved_kept old).2)
+      let all = (moved input changes order can) ++ (added input changes order can) changes.sup in
+      elim (in_both (moved input changes order can) ((added input changes order can) changes.sup) k s (ap (λ (xs : List Section). slice_get xs k) (sym (same_sections input changes order can)) ∙ is)) [
+        | inl old ↦ inl (ap (λ (xs : List Section). unkept_fault xs s) (same_sections input changes order can) ∙ (first_at (λ before. unkept_fault all) [] (moved input changes order can) k s moved_kept old).2)
         | inr new ↦ inr (sup_plain changes.sup new.0 s new.1)
       ]
 
   pub back : (f : Fault) → ¬ IsBackFault (new_file input changes order) f
   back = no_back_fault (new_file input changes order) (record {
     identified = new_identified;
-    fields = subst (HasGoodFields 65279 (length (new_file input changes order))) (sym is_with_place) good_new;
+    fields = subst (HasGoodFields 65279 (length (new_file input changes order))) (sym (is_with_place input changes order can)) good_new;
     names = new_names;
     headers = new_headers_fine;
     kept = each_kept;
@@ -481,27 +140,27 @@ module _ (input : List ℕ) (changes : Changes) (order : List (ℕ × ℕ)) (can
 
   -- ---- contents
 
-  added_range : (sup : Option (List ℕ)) (code : ℕ) → eqb code 9 ≡ false → range_in (added sup) code ≡ None
+  added_range : (sup : Option (List ℕ)) (code : ℕ) → eqb code 9 ≡ false → range_in ((added input changes order can) sup) code ≡ None
   unfolding added sup_section
   added_range None code other = refl
   added_range (Some sup) code other =
-      let not_so : has_code code (sup_section sup) ≡ false = ne_eqb 9 code (λ same. eqb-false code 9 other (sym same)) in
+      let not_so : has_code code ((sup_section input changes order can) sup) ≡ false = ne_eqb 9 code (λ same. eqb-false code 9 other (sym same)) in
       rw not_so refl
 
-  range_of : (code : ℕ) → eqb code 9 ≡ false → range_in (moved ++ added changes.sup) code ≡ range_in moved code
-  range_of code other = range_front code moved (added changes.sup) (added_range changes.sup code other)
+  range_of : (code : ℕ) → eqb code 9 ≡ false → range_in ((moved input changes order can) ++ (added input changes order can) changes.sup) code ≡ range_in (moved input changes order can) code
+  range_of code other = range_front code (moved input changes order can) ((added input changes order can) changes.sup) (added_range changes.sup code other)
 
   old_range_of_sup : range_in (sections_in input) 9 ≡ None
-  old_range_of_sup = no_range 9 (sections_in input) old_no_sup
+  old_range_of_sup = no_range 9 (sections_in input) (old_no_sup input changes order can)
 
-  sup_range : (sup : Option (List ℕ)) → range_in (moved ++ added sup) 9 ≡ range_in (added sup) 9
-  sup_range sup = range_behind 9 moved (added sup) (no_range 9 moved moved_no_sup)
+  sup_range : (sup : Option (List ℕ)) → range_in ((moved input changes order can) ++ (added input changes order can) sup) 9 ≡ range_in ((added input changes order can) sup) 9
+  sup_range sup = range_behind 9 (moved input changes order can) ((added input changes order can) sup) (no_range 9 (moved input changes order can) (moved_no_sup input changes order can))
 
   pub same_there : (code : ℕ) → is_some (section_range (sections_in (new_file input changes order)) code) ≡ (is_some (section_range (sections_in input) code) || (eqb code 9 && is_some changes.sup))
   unfolding section_range added sup_section
   same_there code =
-      ap (λ (xs : List Section). is_some (cond (eqb code 0) None (range_in xs code))) same_sections ∙ by (eqb code 0) (eqb code 9) refl refl where
-        with_sup : (sup : Option (List ℕ)) → is_some (range_in (added sup) 9) ≡ is_some sup
+      ap (λ (xs : List Section). is_some (cond (eqb code 0) None (range_in xs code))) (same_sections input changes order can) ∙ by (eqb code 0) (eqb code 9) refl refl where
+        with_sup : (sup : Option (List ℕ)) → is_some (range_in ((added input changes order can) sup) 9) ≡ is_some sup
         with_sup None = refl
         with_sup (Some sup) = refl
 
@@ -510,36 +169,36 @@ module _ (input : List ℕ) (changes : Changes) (order : List (ℕ × ℕ)) (can
         plain_or false = refl
 
         by : (b c : Bool) → eqb code 0 ≡ b → eqb code 9 ≡ c
-            → is_some (cond b None (range_in (moved ++ added changes.sup) code)) ≡ (is_some (cond b None (range_in (sections_in input) code)) || (c && is_some changes.sup))
+            → is_some (cond b None (range_in ((moved input changes order can) ++ (added input changes order can) changes.sup) code)) ≡ (is_some (cond b None (range_in (sections_in input) code)) || (c && is_some changes.sup))
         by true true is also = absurd (let zero_code = eqb-true code 0 is in let nine = eqb-true code 9 also in omega (arith, zero_code, nine))
         by true false is also = refl
         by false true is also =
             let nine = eqb-true code 9 also in
             rw nine (ap is_some (sup_range changes.sup) ∙ (with_sup changes.sup ∙ ap (λ (o : Option (ℕ × ℕ)). is_some o || is_some changes.sup) (sym old_range_of_sup)))
         by false false is also =
-            ap is_some (range_of code also) ∙ (same_range input (new_file input changes order) changes code (sections_in input) moved are_made ∙ plain_or (is_some (range_in (sections_in input) code)))
+            ap is_some (range_of code also) ∙ (same_range input (new_file input changes order) changes code (sections_in input) (moved input changes order can) (are_made input changes order can) ∙ plain_or (is_some (range_in (sections_in input) code)))
 
   sup_content : (sup : List ℕ) → changes.sup ≡ Some sup → take (length sup) (drop (the_end (elf_of input) changes input order) (new_file input changes order)) ≡ sup
   sup_content sup is =
       let same : sup_bytes changes ≡ sup = ap (λ (o : Option (List ℕ)). unwrap_or o []) is in
-      has_part (new_file input changes order) (sup_bytes changes) (the_end (elf_of input) changes input order) (length sup) (has_sup (elf_of input) changes input order is_whole) (ap length (sym same)) ∙ same
+      has_part (new_file input changes order) (sup_bytes changes) (the_end (elf_of input) changes input order) (length sup) (has_sup (elf_of input) changes input order (is_whole input changes order can)) (ap length (sym same)) ∙ same
 
   pub new_contents : (code : ℕ) → section_of (new_file input changes order) code ≡ unwrap_or (new_for changes code) (section_of input code)
   unfolding section_of section_range added sup_section
   new_contents code =
-      ap (λ (xs : List Section). bytes_in (new_file input changes order) (cond (eqb code 0) None (range_in xs code))) same_sections ∙ by (eqb code 0) (eqb code 9) refl refl where
+      ap (λ (xs : List Section). bytes_in (new_file input changes order) (cond (eqb code 0) None (range_in xs code))) (same_sections input changes order can) ∙ by (eqb code 0) (eqb code 9) refl refl where
         none_for_zero : content_for changes.new 0 ≡ None
         none_for_zero = go changes.new can.can_change.coded where
           go : (new : List NewContent) → All (λ n. n.code ≢ 0) new → content_for new 0 ≡ None
           go [] all = refl
           go (n ∷ new) all = cond-false (eqb n.code 0) (Some n.bytes) (content_for new 0) (ne_eqb n.code 0 (All-head (λ m. m.code ≢ 0) n new all)) ∙ go new (All-tail (λ m. m.code ≢ 0) n new all)
 
-        with_sup : (sup : Option (List ℕ)) → changes.sup ≡ sup → bytes_in (new_file input changes order) (range_in (added sup) 9) ≡ unwrap_or sup []
+        with_sup : (sup : Option (List ℕ)) → changes.sup ≡ sup → bytes_in (new_file input changes order) (range_in ((added input changes order can) sup) 9) ≡ unwrap_or sup []
         with_sup None is = refl
         with_sup (Some sup) is = sup_content sup is
 
         by : (b c : Bool) → eqb code 0 ≡ b → eqb code 9 ≡ c
-            → bytes_in (new_file input changes order) (cond b None (range_in (moved ++ added changes.sup) code)) ≡ unwrap_or (cond c changes.sup (content_for changes.new code)) (bytes_in input (cond b None (range_in (sections_in input) code)))
+            → bytes_in (new_file input changes order) (cond b None (range_in ((moved input changes order can) ++ (added input changes order can) changes.sup) code)) ≡ unwrap_or (cond c changes.sup (content_for changes.new code)) (bytes_in input (cond b None (range_in (sections_in input) code)))
         by true true is also = absurd (let zero_code = eqb-true code 0 is in let nine = eqb-true code 9 also in omega (arith, zero_code, nine))
         by true false is also =
             let no_new : content_for changes.new code ≡ None = ap (content_for changes.new) (eqb-true code 0 is) ∙ none_for_zero in
@@ -549,11 +208,11 @@ module _ (input : List ℕ) (changes : Changes) (order : List (ℕ × ℕ)) (can
             rw nine (ap (bytes_in (new_file input changes order)) (sup_range changes.sup) ∙ (with_sup changes.sup refl ∙ ap (λ (o : Option (ℕ × ℕ)). unwrap_or changes.sup (bytes_in input o)) (sym old_range_of_sup)))
         by false false is also =
             ap (bytes_in (new_file input changes order)) (range_of code also)
-            ∙ same_contents input (new_file input changes order) changes code (eqb-false code 0 is) (sections_in input) moved are_made (no_content (sections_in input) changes code can.can_change)
+            ∙ same_contents input (new_file input changes order) changes code (eqb-false code 0 is) (sections_in input) (moved input changes order can) (are_made input changes order can) (no_content (sections_in input) changes code can.can_change)
 
   pub sections_short : (code : ℕ) → length (section_of (new_file input changes order) code) < 2 ^ 32
   unfolding section_of
-  sections_short code = omega (arith, range_short (new_file input changes order) (section_range (sections_in (new_file input changes order)) code), short)
+  sections_short code = omega (arith, range_short (new_file input changes order) (section_range (sections_in (new_file input changes order)) code), (short input changes order can))
 
   -- ---- each section
 
@@ -564,21 +223,21 @@ module _ (input : List ℕ) (changes : Changes) (order : List (ℕ × ℕ)) (can
       let t : Section = record { header = moved_to place (moved_in (the_places (elf_of input) changes input order) (0 + k)) s.header; name = s.name } in
       let here = moved_at (the_places (elf_of input) changes input order) (the_headers_at (elf_of input) changes input order) 0 (sections_in input) k s is in
       let index : k ≡ 0 + k = omega arith in
-      let made = subst (λ (n : ℕ). IsMadeAt (new_file input changes order) (content_at (elf_of input) changes input k) s (record { header = moved_to place (moved_in (the_places (elf_of input) changes input order) n) s.header; name = s.name })) index (one_at k place s is) in
-      (t, ap (λ (xs : List Section). slice_get xs k) same_sections ∙ in_front moved (added changes.sup) k t here, made.carried)
+      let made = subst (λ (n : ℕ). IsMadeAt (new_file input changes order) (content_at (elf_of input) changes input k) s (record { header = moved_to place (moved_in (the_places (elf_of input) changes input order) n) s.header; name = s.name })) index ((one_at input changes order can) k place s is) in
+      (t, ap (λ (xs : List Section). slice_get xs k) (same_sections input changes order can) ∙ in_front (moved input changes order can) ((added input changes order can) changes.sup) k t here, made.carried)
 
   pub sup_added : (sup : List ℕ) → changes.sup ≡ Some sup → (t : Section) × (slice_get (sections_in (new_file input changes order)) (file_header input).headers ≡ Some t) × IsSup (new_file input changes order) sup t
   unfolding added sup_section
   sup_added sup is =
       let n = (file_header input).headers in
-      let there : slice_get (moved ++ added changes.sup) n ≡ Some (sup_section sup) =
-      ap (λ (o : Option (List ℕ)). slice_get (moved ++ added o) n) is ∙ (ap (slice_get (moved ++ sup_section sup ∷ [])) (sym length_moved) ∙ in_last moved (sup_section sup)) in
-      (sup_section sup, ap (λ (xs : List Section). slice_get xs n) same_sections ∙ there, record { name = refl; kind = refl; flags = refl; align = refl; holds = sup_content sup is })
+      let there : slice_get ((moved input changes order can) ++ (added input changes order can) changes.sup) n ≡ Some ((sup_section input changes order can) sup) =
+      ap (λ (o : Option (List ℕ)). slice_get ((moved input changes order can) ++ (added input changes order can) o) n) is ∙ (ap (slice_get ((moved input changes order can) ++ (sup_section input changes order can) sup ∷ [])) (sym (length_moved input changes order can)) ∙ in_last (moved input changes order can) ((sup_section input changes order can) sup)) in
+      ((sup_section input changes order can) sup, ap (λ (xs : List Section). slice_get xs n) (same_sections input changes order can) ∙ there, record { name = refl; kind = refl; flags = refl; align = refl; holds = sup_content sup is })
 
   -- ---- the loaded bytes
 
   pub same_loaded : (at : ℕ) → at < keep_end (elf_of input) → ¬ IsTableField at → get_or (new_file input changes order) at 0 ≡ get_or input at 0
   same_loaded at less other =
-      kept_same (elf_of input) changes input order is_whole at less
+      kept_same (elf_of input) changes input order (is_whole input changes order can) at less
       (elim (cases_lt at 40) [ inl h ↦ inl h | inr h ↦ elim (cases_lt at 48) [ inl k ↦ absurd (other (inl (h, k))) | inr k ↦ inr k ] ])
       (elim (cases_lt at 60) [ inl h ↦ inl h | inr h ↦ elim (cases_lt at 62) [ inl k ↦ absurd (other (inr (h, k))) | inr k ↦ inr k ] ])

@@ -7,4 +7,4 @@ mod plain_back;
 mod rebuilt;
 
 pub use plain_back::{plain_back_laws, supplementary_laws};
-pub use rebuilt::rebuilt_laws;
+pub use rebuilt::{changed_laws, rebuilt_laws};

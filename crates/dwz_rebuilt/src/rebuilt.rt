@@ -1,14 +1,16 @@
 //! An ELF file that is made from another reads back.
 
-ghost use Rattle.std.specs.Prelude.{◌≡◌, ◌==◌, ◌&&◌, ◌||◌, ◌^◌, ℕ, ◌<◌, List, None, is_some, length, slice_index, unwrap_or};
+ghost use Rattle.std.specs.Prelude.{◌≡◌, ◌==◌, ◌&&◌, ◌||◌, ◌^◌, ℕ, ◌<◌, List, Option, None, is_some, length, slice_index, unwrap_or};
 ghost use Rattle.dwz_docs.specs.ElfBack.{IsBackFault};
 ghost use Rattle.dwz_docs.specs.ElfHeaders.{file_header};
 ghost use Rattle.dwz_docs.specs.ElfLayout.{Changes, keep_end, new_count, rebuilt_length};
 ghost use Rattle.dwz_docs.specs.ElfNames.{sections_in};
 ghost use Rattle.dwz_docs.specs.ElfReading.{elf_fault, elf_of, section_range};
-ghost use Rattle.dwz_meanings.specs.Files.{section_of};
+ghost use Rattle.dwz_meanings.specs.Files.{debug_abbrev, debug_aranges, debug_info, section_of, sources_of};
 ghost use Rattle.dwz_model.specs.declared.fault.Fault.{Fault};
-ghost use Rattle.dwz_rebuilt.specs.Rebuilt.{AreCarried, CanBeMade, EachMade, HasSameFields, IsAdded, IsTableField, new_file, new_for};
+ghost use Rattle.dwz_model.specs.declared.sections.Sections.{Sections};
+ghost use Rattle.dwz_rebuilt.specs.Changed.{CanGiveAll, EachChanged, changes_by, sources_after};
+ghost use Rattle.dwz_rebuilt.specs.Rebuilt.{AreCarried, CanBeMade, CanChange, EachMade, HasSameFields, IsAdded, IsTableField, new_file, new_for};
 
 /// The file that is made from one without a fault, with new contents for some of its sections, and perhaps with `.debug_sup`
 /// behind them. It has the length that its layout says. It has no fault of a file that is read back, and where nothing is added
@@ -31,4 +33,15 @@ pub fn rebuilt_laws()
     ensures carried { EachMade AreCarried }
     ensures added { EachMade IsAdded }
     ensures loaded { EachMade (λ input changes out. (at : ℕ) → at < keep_end (elf_of input) → ¬ IsTableField at → slice_index out at ≡ slice_index input at) }
+{}
+
+/// The same where the tool's own sections are given: they can be given wherever they are there and have bytes, or stay empty; and each
+/// that is given is found, and else the old one.
+pub fn changed_laws()
+    ensures can { (input : List ℕ) (s : Sections) (sup : Option (List ℕ)) → CanGiveAll input s → CanChange (sections_in input) (changes_by s sup) }
+    ensures info { EachChanged (λ input s sup out. debug_info out ≡ s.info) }
+    ensures abbrevs { EachChanged (λ input s sup out. debug_abbrev out ≡ s.«abbrev») }
+    ensures sources { EachChanged (λ input s sup out. sources_of out ≡ sources_after input s) }
+    ensures ranges { EachChanged (λ input s sup out. debug_aranges out ≡ unwrap_or s.aranges (debug_aranges input)) }
+    ensures sup { EachChanged (λ input s sup out. section_of out 9 ≡ unwrap_or sup (section_of input 9)) }
 {}

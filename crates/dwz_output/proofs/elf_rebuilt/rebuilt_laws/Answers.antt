@@ -4,7 +4,8 @@ use Rattle.dwz_docs.specs.ElfHeaders.{file_header}
 use Rattle.dwz_docs.specs.ElfNames.{sections_in}
 use Rattle.dwz_docs.specs.ElfReading.{elf_of, section_range}
 use Rattle.dwz_rebuilt.specs.Rebuilt.{HasSameFields, new_file}
-use Rattle.dwz_rebuilt.proofs.RebuiltLemmas.{new_contents, reads_back, same_file, same_length, same_loaded, same_there}
+use Rattle.dwz_rebuilt.proofs.MadeLemmas.{same_file, same_length}
+use Rattle.dwz_rebuilt.proofs.RebuiltLemmas.{new_contents, reads_back, same_loaded, same_there}
 use Rattle.dwz_output.proofs.elf_rebuilt.rebuilt_laws.Goals as goal
 
 -- none is added

@@ -1,4 +1,5 @@
-use Rattle.dwz_rebuilt.proofs.RebuiltLemmas.{back, carried, new_contents, reads_back, same_file, same_length, same_loaded, same_there, sections_short, sup_added}
+use Rattle.dwz_rebuilt.proofs.MadeLemmas.{same_file, same_length}
+use Rattle.dwz_rebuilt.proofs.RebuiltLemmas.{back, carried, new_contents, reads_back, same_loaded, same_there, sections_short, sup_added}
 use Rattle.dwz_rebuilt.proofs.rebuilt.rebuilt_laws.Goals as goal
 
 pub returns-clause-length : goal.returns-clause-length

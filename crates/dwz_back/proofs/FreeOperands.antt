@@ -304,11 +304,14 @@ module _ (scope : Scope) (units : List (FileUnit Spot)) (rule : Rule) (is : IsAl
     part_asks from origin carried =
         let below = tree (image_in m) (m.rows n) End in (
           join_attrs (CarriedAttr from origin) IsFree AsksNone (λ a read none. free a from origin read none) (m.roots n) carried.root.attrs root_free,
-          join_entries (CarriedAttr from origin) IsFree AsksNone (λ a read none. free a from origin read none) below (carried_attrs from origin below carried.below) (new_attrs IsFree m n (held.kinds n part nth) (λ names t h d x a a_in. free_map (image_in m) a (tops_free names t h d x a a_in)) (λ names d h a a_in. free_map (image_in m) a (spaces_free names d h a a_in))),
+          join_entries (CarriedAttr from origin) IsFree AsksNone (λ a read none. free a from origin read none) below (carried_attrs from origin below carried.below)
+              (new_attrs IsFree m n (held.kinds n part nth) (λ names t h d x a a_in. free_map (image_in m) a (tops_free names t h d x a a_in))
+              (λ names d h a a_in. free_map (image_in m) a (spaces_free names d h a a_in))),
         )
 
   -- nor of the partial units of a home
-  pub home_asks : (files : List ℕ) → IsHeld units (plan rule units files) → (h : Home) (from : Sources → Type 0) → Each (λ v. CarriedUnit from (origin_in (plan rule units files) units v.at) v) (partial_units (plan rule units files) h 0 (plan rule units files).parts)
+  pub home_asks : (files : List ℕ) → IsHeld units (plan rule units files) → (h : Home) (from : Sources → Type 0)
+      → Each (λ v. CarriedUnit from (origin_in (plan rule units files) units v.at) v) (partial_units (plan rule units files) h 0 (plan rule units files).parts)
       → Each UnitAsksNone (partial_units (plan rule units files) h 0 (plan rule units files).parts)
   home_asks files held h from carried =
       let m = plan rule units files in

@@ -34,20 +34,23 @@ module _ (units : List (FileUnit Spot)) (m : Move) (old : AreOld units) (i : ℕ
   abbrev kept : DwUnit Spot
   kept = kept_unit m units i u
 
-  pub top_kept : u.unit.kind ≡ Compile → (t : Top) → In t (row_tops (row_of units i)) → m.gone t.number ≡ false → changes m units u.file ≡ true → (e : Seen Spot) → In e (raw_top t) → In (seen_map f e) (seen kept.below)
+  pub top_kept : u.unit.kind ≡ Compile → (t : Top) → In t (row_tops (row_of units i)) → m.gone t.number ≡ false → changes m units u.file ≡ true → (e : Seen Spot) → In e (raw_top t)
+      → In (seen_map f e) (seen kept.below)
   top_kept kind t in_row mv change e h =
       let r = unit_row units i u nth kind in
       let o = tops_somewhere (row_of units i) (row_kinded u.file i (language u.unit) [] r.first (row_of units i) u.unit.below r.is) t in_row in
       let stays = (kept_is m.gone units i o.names (OfTop t)).1 (o.has, mv) in
       subst (λ (w : Entries Spot). In (seen_map f e) (seen w)) (sym (kept_compile m units i u kind change))
-      (tree_seen f (kept_row m.gone units i) (imports i 0 m.parts) o.names t stays (seen_map f e) (subst (λ (w : List (Seen Spot)). In (seen_map f e) w) (sym (seen_top_map f t)) (in_map (seen_map f) e (raw_top t) h)))
+      (tree_seen f (kept_row m.gone units i) (imports i 0 m.parts) o.names t stays (seen_map f e)
+          (subst (λ (w : List (Seen Spot)). In (seen_map f e) w) (sym (seen_top_map f t)) (in_map (seen_map f) e (raw_top t) h)))
 
   pub mapped_kept : (d : Seen Spot) → In d (seen u.unit.below) → kept.below ≡ entries_map f u.unit.below → In (seen_map f d) (seen kept.below)
   mapped_kept d h below =
       let there = subst (λ (w : List (Seen Spot)). In (seen_map f d) w) (sym (seen_entries f u.unit.below)) (in_map (seen_map f) d (seen u.unit.below) h) in
       subst (λ (w : Entries Spot). In (seen_map f d) (seen w)) (sym below) there
 
-  pub space_kept : u.unit.kind ≡ Compile → (names : List (List ℕ)) (c : Node Spot) → Has names (OfSpace c) (row_of units i) → changes m units u.file ≡ true → (e : Seen Spot) × In e (seen kept.below) × (e.at ≡ f c.at)
+  pub space_kept : u.unit.kind ≡ Compile → (names : List (List ℕ)) (c : Node Spot) → Has names (OfSpace c) (row_of units i) → changes m units u.file ≡ true → (e : Seen Spot) × In e (seen kept.below)
+      × (e.at ≡ f c.at)
   space_kept kind names c has change =
       let o = space_seen f (kept_row m.gone units i) (imports i 0 m.parts) names c ((kept_is m.gone units i names (OfSpace c)).1 (has, tt)) in
       (o.0, subst (λ (w : Entries Spot). In o.0 (seen w)) (sym (kept_compile m units i u kind change)) o.1, o.2)

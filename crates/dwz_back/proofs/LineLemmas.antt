@@ -191,7 +191,8 @@ path_there tops t there is = elim (or_cases (any_attr path_attr t.node) (any_ent
       record { top = t; there = there; node = n.node; entry = inr n.there; attr = o.one; is_in = o.there; path = o.passes }
 ]
 
-module _ (from : Sources → Type 0) (scope : InWhich) (units : List (FileUnit Spot)) (rule : Rule) (is : IsAlike scope units rule.alike) (choice : IsChoice units rule) (files : List ℕ) (old : AreOld units) (held : IsHeld units (plan rule units files)) (Good : ℕ → Type 0)
+module _ (from : Sources → Type 0) (scope : InWhich) (units : List (FileUnit Spot)) (rule : Rule) (is : IsAlike scope units rule.alike) (choice : IsChoice units rule) (files : List ℕ)
+    (old : AreOld units) (held : IsHeld units (plan rule units files)) (Good : ℕ → Type 0)
     (are : (i : ℕ) (u : FileUnit Spot) → Nth 0 units i u → Good u.file → CarriedUnit from (bases_in u.unit) u.unit) where
   abbrev m : Move
   m = plan rule units files
@@ -229,11 +230,13 @@ module _ (from : Sources → Type 0) (scope : InWhich) (units : List (FileUnit S
     lines_are b e = root_is ∙ ap LinesOf e
 
     -- what holds of attributes of tops, and of those that number no file, holds of all below
-    files_below : (P : Attr Spot → Type 0) → ((t : Top) → In t part.tops → (d : Node Spot) → EntryOfTop d t → (a : Attr Spot) → In a d.attrs → P (attr_map (image_in m) a)) → ((a : Attr Spot) → names_file a.name ≡ false → P a)
+    files_below : (P : Attr Spot → Type 0) → ((t : Top) → In t part.tops → (d : Node Spot) → EntryOfTop d t → (a : Attr Spot) → In a d.attrs → P (attr_map (image_in m) a))
+        → ((a : Attr Spot) → names_file a.name ≡ false → P a)
         → EachAttr P (tree (image_in m) (m.rows n) End)
     files_below P tops others = new_attrs P m n (held.kinds n part nth)
         (λ names t has d x a a_in. tops t (((part_row_is n part).tops_are names t).0 (subst (Has names (OfTop t)) (row_found rule units files n part nth) has)).0 d x a a_in)
-        (λ names d has a a_in. others (attr_map (image_in m) a) (space_name ((part_row_is n part).spaces_are names d (subst (Has names (OfSpace d)) (row_found rule units files n part nth) has)) a a_in))
+        (λ names d has a a_in. others (attr_map (image_in m) a) (space_name ((part_row_is n part).spaces_are names d (subst (Has names (OfSpace d)) (row_found rule units files n part nth) has)) a
+            a_in))
       where
         space_name : {names : List (List ℕ)} {d : Node Spot} → SpaceOf n part.tops names d → (a : Attr Spot) → In a d.attrs → names_file a.name ≡ false
         space_name o a a_in = elim (subst (λ (w : Node Spot). In a w.attrs) o.is a_in) [ inl e ↦ ap (λ (b : Attr Spot). names_file b.name) (sym e) | inr x ↦ absurd x ]
@@ -255,7 +258,8 @@ module _ (from : Sources → Type 0) (scope : InWhich) (units : List (FileUnit S
           let b = ((part_is scope units rule is choice files n part nth).tops p.top).0 p.there in
           let u = unit_of units p.top b.there in
           let line = table_in p in
-          let known : (bases_in u.unit.unit).line ≡ Some line.0 = ap (λ (w : Bases). w.line) (sym (bases_found units 0 p.top.unit p.top.unit u.unit u.nth (omega arith)) ∙ part_origin scope units rule is choice files n part nth p.top p.there) ∙ line.1 in
+          let known : (bases_in u.unit.unit).line ≡ Some line.0 = ap (λ (w : Bases). w.line)
+              (sym (bases_found units 0 p.top.unit p.top.unit u.unit u.nth (omega arith)) ∙ part_origin scope units rule is choice files n part nth p.top p.there) ∙ line.1 in
           let g = gives (first_named 0x10 u.unit.unit.root.attrs) line.0 known in
           let first = first_is scope units rule is choice files n part nth p.top p.there in
           let root = root_found units 0 p.top.unit p.top.unit u.unit u.nth (omega arith) in
@@ -277,13 +281,15 @@ module _ (from : Sources → Type 0) (scope : InWhich) (units : List (FileUnit S
       roots_carried false e = subst (Each (CarriedAttr from origin)) (sym (lines_are false e)) tt
 
       -- the root says of a line table what the unit said that the tops come from, where one of them numbers a file
-      own_line : (b : Bool) → names_path part ≡ b → (t : Top) → In t part.tops → (d : Node Spot) → EntryOfTop d t → (a : Attr Spot) → In a d.attrs → NumbersFile a → (bases_in (partial_unit m n)).line ≡ origin.line
+      own_line : (b : Bool) → names_path part ≡ b → (t : Top) → In t part.tops → (d : Node Spot) → EntryOfTop d t → (a : Attr Spot) → In a d.attrs → NumbersFile a
+          → (bases_in (partial_unit m n)).line ≡ origin.line
       unfolding first_named
       own_line true e t there d x a a_in numbers =
           let h = has_line e in
           ap (λ (attrs : List (Attr Spot)). offset_in (first_named 0x10 attrs)) (lines_are true e ∙ ap (λ (l : Attr Spot). l ∷ []) (line_is h)) ∙ sym h.known
       own_line false e t there d x a a_in numbers =
-          ap (λ (attrs : List (Attr Spot)). offset_in (first_named 0x10 attrs)) (lines_are false e) ∙ sym (none_table from origin a (attr_carried t there d x a a_in) numbers (no_path e t there d x a a_in))
+          ap (λ (attrs : List (Attr Spot)). offset_in (first_named 0x10 attrs)) (lines_are false e)
+              ∙ sym (none_table from origin a (attr_carried t there d x a a_in) numbers (no_path e t there d x a a_in))
 
       abbrev FileGood : Attr Spot → Type 0
       FileGood a = FileStands NewUnit (bases_in (partial_unit m n)).line origin.line a
@@ -295,7 +301,8 @@ module _ (from : Sources → Type 0) (scope : InWhich) (units : List (FileUnit S
       root_good true e = subst (Each FileGood) (sym (lines_are true e ∙ ap (λ (l : Attr Spot). l ∷ []) (line_is (has_line e)))) (other_good (line_of (Some (has_line e).attr)) refl, tt)
       root_good false e = subst (Each FileGood) (sym (lines_are false e)) tt
 
-      pub part_bases : (texts paths : List (List ℕ)) (offsets : List ℕ) → BasesStand (record { same = same_spot; is_common = false; texts = texts; paths = paths; offsets = offsets; origin = origin_in m units }) (partial_unit m n)
+      pub part_bases : (texts paths : List (List ℕ)) (offsets : List ℕ)
+          → BasesStand (record { same = same_spot; is_common = false; texts = texts; paths = paths; offsets = offsets; origin = origin_in m units }) (partial_unit m n)
       part_bases texts paths offsets = record {
         own = tt;
         root = root_good (names_path part) refl;
@@ -309,10 +316,12 @@ module _ (from : Sources → Type 0) (scope : InWhich) (units : List (FileUnit S
       zero_line = ap (λ (w : Home). line_in units w part.tops) home
 
       -- the root names the line table of the common file just where an entry has a path
-      common_line : (b : Bool) → names_path part ≡ b → (t : Top) → In t part.tops → (d : Node Spot) → EntryOfTop d t → (a : Attr Spot) → In a d.attrs → NumbersFile a → LineFor (bases_in (partial_unit m n)).line a.value.plain
+      common_line : (b : Bool) → names_path part ≡ b → (t : Top) → In t part.tops → (d : Node Spot) → EntryOfTop d t → (a : Attr Spot) → In a d.attrs → NumbersFile a
+          → LineFor (bases_in (partial_unit m n)).line a.value.plain
       unfolding first_named
       common_line true e t there d x a a_in numbers =
-          let line : (bases_in (partial_unit m n)).line ≡ Some 0 = ap (λ (attrs : List (Attr Spot)). offset_in (first_named 0x10 attrs)) (lines_are true e ∙ ap (λ (l : Attr Spot). l ∷ []) zero_line) in
+          let line : (bases_in (partial_unit m n)).line ≡ Some 0 = ap (λ (attrs : List (Attr Spot)). offset_in (first_named 0x10 attrs)) (lines_are true e ∙ ap (λ (l : Attr Spot). l ∷ []) zero_line)
+              in
           line_for (bases_in (partial_unit m n)).line a.value.plain (λ path. line) (λ none.
           (let table = table_in (path_in e) in
           absurd (let z : Some table.0 ≡ None = sym table.1 ∙ none_table from origin a (attr_carried t there d x a a_in) numbers none in cc)))
@@ -330,7 +339,8 @@ module _ (from : Sources → Type 0) (scope : InWhich) (units : List (FileUnit S
       root_common true e = subst (Each CommonGood) (sym (lines_are true e ∙ ap (λ (l : Attr Spot). l ∷ []) zero_line)) (other_common (line_attr (pos 0) (Sec 0)) refl, tt)
       root_common false e = subst (Each CommonGood) (sym (lines_are false e)) tt
 
-      pub common_bases : (texts paths : List (List ℕ)) (offsets : List ℕ) → BasesStand (record { same = same_spot; is_common = true; texts = texts; paths = paths; offsets = offsets; origin = origin_in m units }) (partial_unit m n)
+      pub common_bases : (texts paths : List (List ℕ)) (offsets : List ℕ)
+          → BasesStand (record { same = same_spot; is_common = true; texts = texts; paths = paths; offsets = offsets; origin = origin_in m units }) (partial_unit m n)
       common_bases texts paths offsets = record {
         own = tt;
         root = root_common (names_path part) refl;

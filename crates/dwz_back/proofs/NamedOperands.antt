@@ -41,7 +41,8 @@ pub record IsTold (sources : Sources) (raw : List RawUnit) (names : ℕ → Spot
   pub name : (n : ℕ) → t.name n ≡ names n
 
 -- its operands name its entries, as they are named
-named_read : (sources : Sources) (raw : List RawUnit) (units : List (DwUnit ℕ)) (f : ℕ → Spot) (t : Tells Spot) → IsTold sources raw f t → ((k : Spot) → In k (all_entry_keys (map (unit_map f) units)) → In k t.all)
+named_read : (sources : Sources) (raw : List RawUnit) (units : List (DwUnit ℕ)) (f : ℕ → Spot) (t : Tells Spot) → IsTold sources raw f t
+    → ((k : Spot) → In k (all_entry_keys (map (unit_map f) units)) → In k t.all)
     → (some : List (DwUnit ℕ)) → Each (OperandsStand (reading sources.lists (lists_in sources raw) (λ n. n) (all_entry_keys units))) some
     → (file : ℕ) (u : FileUnit Spot) → In u (map (in_file file) (map (unit_map f) some)) → OperandsStand t u.unit
 named_read sources raw units f t told into [] read file u there = absurd there
@@ -76,7 +77,8 @@ module _ (input : ℕ → List ℕ) (raw : ℕ → List RawUnit) where
   AllOperandsRead own docs = (file : ℕ) (doc : Doc ℕ) → Nth own docs file doc → OperandsRead (sources_of (input file)) (raw file) doc.units
 
   pub files_read : (own unit top : ℕ) (docs : List (Doc ℕ)) → AllOperandsRead own docs → (u : FileUnit Spot) → In u (named_files own unit top docs)
-      → (t : Tells Spot) → IsTold (sources_of (input u.file)) (raw u.file) (λ n. name_from own unit top docs (at_file u.file n)) t → ((k : Spot) → In k (all_entry_keys (units_at u.file (named_files own unit top docs))) → In k t.all) → OperandsStand t u.unit
+      → (t : Tells Spot) → IsTold (sources_of (input u.file)) (raw u.file) (λ n. name_from own unit top docs (at_file u.file n)) t
+      → ((k : Spot) → In k (all_entry_keys (units_at u.file (named_files own unit top docs))) → In k t.all) → OperandsStand t u.unit
   unfolding named_files name_from
   files_read own unit top [] read u there t told into = absurd there
   files_read own unit top (doc ∷ docs) read u there t told into =
@@ -89,19 +91,26 @@ module _ (input : ℕ → List ℕ) (raw : ℕ → List RawUnit) where
       elim (in_cases u block rest there) [
         | inl a ↦
             let file = block_file own (named unit top doc.units) u a in
-            let own_units : units_at u.file block ≡ named unit top doc.units = subst (λ (file : ℕ). units_at file block ≡ named unit top doc.units) (sym file) (at_own own (named unit top doc.units)) in
-            let names : (n : ℕ) → t.name n ≡ f n = λ n. told.name n ∙ ap (λ (b : Bool). elim b as (λ _. Spot) [ true ↦ f n | false ↦ name_from (suc own) (unit + length doc.units) (top + tops_among doc.units) docs (at_file u.file n) ]) (eq-eqb own u.file (sym file)) in
+            let own_units : units_at u.file block ≡ named unit top doc.units =
+                subst (λ (file : ℕ). units_at file block ≡ named unit top doc.units) (sym file) (at_own own (named unit top doc.units)) in
+            let names : (n : ℕ) → t.name n ≡ f n = λ n. told.name n ∙ ap
+                (λ (b : Bool). elim b as (λ _. Spot) [ true ↦ f n | false ↦ name_from (suc own) (unit + length doc.units) (top + tops_among doc.units) docs (at_file u.file n) ])
+                (eq-eqb own u.file (sym file)) in
             let is_told : IsTold (sources_of (input own)) (raw own) f t = record {
               lists = told.lists ∙ ap (λ (x : ℕ). (sources_of (input x)).lists) file;
               named = told.named ∙ ap (λ (x : ℕ). lists_in (sources_of (input x)) (raw x)) file;
               name = names;
             } in
-            named_read (sources_of (input own)) (raw own) doc.units f t is_told (λ k is. whole k (in_left k (all_entry_keys (units_at u.file block)) (all_entry_keys (units_at u.file rest)) (subst (λ (w : List (DwUnit Spot)). In k (all_entry_keys w)) (sym own_units) is)))
+            named_read (sources_of (input own)) (raw own) doc.units f t is_told
+                (λ k is. whole k (in_left k (all_entry_keys (units_at u.file block)) (all_entry_keys (units_at u.file rest))
+                (subst (λ (w : List (DwUnit Spot)). In k (all_entry_keys w)) (sym own_units) is)))
             doc.units (read own doc (inl (refl, refl))) own u a
         | inr b ↦
             let later = later_file (suc own) (unit + length doc.units) (top + tops_among doc.units) docs u b in
             let names : (n : ℕ) → t.name n ≡ name_from (suc own) (unit + length doc.units) (top + tops_among doc.units) docs (at_file u.file n) = λ n.
-            told.name n ∙ ap (λ (b : Bool). elim b as (λ _. Spot) [ true ↦ f n | false ↦ name_from (suc own) (unit + length doc.units) (top + tops_among doc.units) docs (at_file u.file n) ]) (ne_eqb own u.file (λ e. omega (arith, e, later))) in
-            files_read (suc own) (unit + length doc.units) (top + tops_among doc.units) docs (λ file d nth. read file d (inr nth)) u b t (record { lists = told.lists; named = told.named; name = names })
+            told.name n ∙ ap (λ (b : Bool). elim b as (λ _. Spot) [ true ↦ f n | false ↦ name_from (suc own) (unit + length doc.units) (top + tops_among doc.units) docs (at_file u.file n) ])
+                (ne_eqb own u.file (λ e. omega (arith, e, later))) in
+            files_read (suc own) (unit + length doc.units) (top + tops_among doc.units) docs (λ file d nth. read file d (inr nth)) u b t
+                (record { lists = told.lists; named = told.named; name = names })
             (λ k is. whole k (in_right k (all_entry_keys (units_at u.file block)) (all_entry_keys (units_at u.file rest)) is))
       ]

@@ -54,7 +54,8 @@ all_with [] u k there h = absurd there
 all_with (v ∷ units) u k (inl e) h = in_left k (entry_keys v) (all_entry_keys units) (subst (λ (w : DwUnit Spot). In k (entry_keys w)) (sym e) h)
 all_with (v ∷ units) u k (inr r) h = in_right k (entry_keys v) (all_entry_keys units) (all_with units u k r h)
 
-module _ (scope : Scope) (units : List (FileUnit Spot)) (rule : Rule) (is : IsAlike scope units rule.alike) (choice : IsChoice units rule) (files : List ℕ) (old : AreOld units) (held : IsHeld units (plan rule units files)) (file : ℕ) where
+module _ (scope : Scope) (units : List (FileUnit Spot)) (rule : Rule) (is : IsAlike scope units rule.alike) (choice : IsChoice units rule) (files : List ℕ) (old : AreOld units)
+    (held : IsHeld units (plan rule units files)) (file : ℕ) where
   abbrev m : Move
   m = plan rule units files
 
@@ -78,7 +79,8 @@ module _ (scope : Scope) (units : List (FileUnit Spot)) (rule : Rule) (is : IsAl
       record { number = n.number; unit = o.source; nth = n.nth; of_file = eqb-true o.source.file file p.1; is_unit = o.is }
 
   -- what an operand names is in no top that goes
-  operand_stays : (i : ℕ) (u : FileUnit Spot) → Nth 0 units i u → (e : Node Spot) → IsEntryOf e u.unit → (a : Attr Spot) → In a e.attrs → (k : Spot) → In k a.value.refs → has_operand a.value.plain ≡ true → Stays m k
+  operand_stays : (i : ℕ) (u : FileUnit Spot) → Nth 0 units i u → (e : Node Spot) → IsEntryOf e u.unit → (a : Attr Spot) → In a e.attrs → (k : Spot) → In k a.value.refs
+      → has_operand a.value.plain ≡ true → Stays m k
   operand_stays i u nth e entry a a_in k there names n path same =
       let one : list_any (is_in n) a.value.refs ≡ true = any_true (is_in n) k a.value.refs there (ap (is_in n) same ∙ eq-eqb n n refl) in
       let attr : operand_names n a ≡ true = ap (λ (b : Bool). b && list_any (is_in n) a.value.refs) names ∙ one in
@@ -104,7 +106,8 @@ module _ (scope : Scope) (units : List (FileUnit Spot)) (rule : Rule) (is : IsAl
     unfolding out_units
     in_file i u nth e = in_right (kept_unit m units i u) (partial_units m (Local file) 0 m.parts) (kept_units m units file 0 units) (kept_to m units file 0 units i u nth e)
 
-    operand_there : (i : ℕ) (u : FileUnit Spot) → Nth 0 units i u → (base : Base) (k : Spot) → Stays m k → OperandIn before (own_of u.unit) base k → OperandIn t (own_of (kept_unit m units i u)) base (f k)
+    operand_there : (i : ℕ) (u : FileUnit Spot) → Nth 0 units i u → (base : Base) (k : Spot) → Stays m k → OperandIn before (own_of u.unit) base k
+        → OperandIn t (own_of (kept_unit m units i u)) base (f k)
     operand_there i u nth FromUnit k stays there = stays_there i u nth k there stays
     operand_there i u nth FromInfo k stays there =
         let o = unit_with (units_at file units) k there in
@@ -137,11 +140,13 @@ module _ (scope : Scope) (units : List (FileUnit Spot)) (rule : Rule) (is : IsAl
       )
 
     -- the operands of a file name its entries
-    pub out_operands : (from : Sources → Type 0) → Each (λ v. CarriedUnit from (origin_in m units v.at) v) (out_units m units file) → ((i : ℕ) (u : FileUnit Spot) → Nth 0 units i u → u.file ≡ file → OperandsStand before u.unit) → Each (OperandsStand t) (out_units m units file)
+    pub out_operands : (from : Sources → Type 0) → Each (λ v. CarriedUnit from (origin_in m units v.at) v) (out_units m units file)
+        → ((i : ℕ) (u : FileUnit Spot) → Nth 0 units i u → u.file ≡ file → OperandsStand before u.unit) → Each (OperandsStand t) (out_units m units file)
     unfolding out_units
     out_operands from carried read =
         let new = partial_units m (Local file) 0 m.parts in
         let olds = kept_units m units file 0 units in
         let each = each_split (λ v. CarriedUnit from (origin_in m units v.at) v) new olds carried in
         each_append (OperandsStand t) new olds (each_more UnitAsksNone (OperandsStand t) new (asks_operands t) (home_asks scope units rule is choice files held (Local file) from each.0))
-        (each_of (OperandsStand t) olds (λ v there. (let o = kept_from m units file 0 units v there in subst (OperandsStand t) o.is (kept_operands o.number o.unit o.nth (read o.number o.unit o.nth o.file_is)))))
+        (each_of (OperandsStand t) olds (λ v there. (let o = kept_from m units file 0 units v there in subst (OperandsStand t) o.is
+            (kept_operands o.number o.unit o.nth (read o.number o.unit o.nth o.file_is)))))

@@ -50,7 +50,8 @@ whole_at (u ∷ raw) place h = elim (in_cases place (place_if_whole u.kind u.at)
     by (TypeUnit signature offset) (inr x) = absurd x
     by PartialUnit x = absurd x
 
-meant_at : (sources : Sources) (all : List ℕ) (raw : List RawUnit) (units : List (DwUnit ℕ)) → MeanUnits (own sources all) raw units → (u : RawUnit) → In u raw → (v : DwUnit ℕ) × In v units × (v.at ≡ u.at)
+meant_at : (sources : Sources) (all : List ℕ) (raw : List RawUnit) (units : List (DwUnit ℕ)) → MeanUnits (own sources all) raw units → (u : RawUnit) → In u raw → (v : DwUnit ℕ) × In v units
+    × (v.at ≡ u.at)
 meant_at sources all [] [] h u there = absurd there
 meant_at sources all (w ∷ raw) (v ∷ units) h u (inl e) = (v, inl refl, h.0.place ∙ ap (λ (x : RawUnit). x.at) e)
 meant_at sources all (w ∷ raw) (v ∷ units) h u (inr r) = (let o = meant_at sources all raw units h.1 u r in (o.0, inr o.1, o.2))
@@ -75,7 +76,8 @@ nth_later s [] n x h = absurd h
 nth_later s (y ∷ xs) n x (inl e) = omega (arith, e.0)
 nth_later s (y ∷ xs) n x (inr r) = (let le = nth_later (suc s) xs n x r in omega (arith, le))
 
-pub named_at : (own unit top : ℕ) (docs : List (Doc ℕ)) (file : ℕ) (doc : Doc ℕ) → Nth own docs file doc → (v : DwUnit ℕ) → In v doc.units → NamedAt (named_files own unit top docs) file (name_from own unit top docs (at_file file v.at))
+pub named_at : (own unit top : ℕ) (docs : List (Doc ℕ)) (file : ℕ) (doc : Doc ℕ) → Nth own docs file doc → (v : DwUnit ℕ) → In v doc.units
+    → NamedAt (named_files own unit top docs) file (name_from own unit top docs (at_file file v.at))
 unfolding named_files name_from
 named_at own unit top [] file doc nth v there = absurd nth
 named_at own unit top (d ∷ docs) file doc (inl e) v there =
@@ -128,7 +130,8 @@ module _ (n : Numbering Spot) (g : Spot → Place) (common : Option (Common Plac
   kind_whole s PartialUnit (OfType signature main) h whole p = absurd (let z = h in cc)
   kind_whole s PartialUnit Partial h whole p = absurd (whole tt)
 
-  places_back : (all : List ℕ) (sources : Sources) (raw : List RawUnit) (units : List (DwUnit Spot)) → MeanUnits (record { sources = sources; all = all; place = at_file number; common = common }) raw (placed_units n g units)
+  places_back : (all : List ℕ) (sources : Sources) (raw : List RawUnit) (units : List (DwUnit Spot))
+      → MeanUnits (record { sources = sources; all = all; place = at_file number; common = common }) raw (placed_units n g units)
       → ((w : DwUnit Spot) → In w units → at_file number (n.place w.at) ≡ g w.at) → (w : DwUnit Spot) → In w units → (IsPartial w.kind → ⊥) → In (n.place w.at) (unit_places raw)
   unfolding unit_places
   places_back all sources [] [] h own w there whole = absurd there
@@ -136,13 +139,15 @@ module _ (n : Numbering Spot) (g : Spot → Place) (common : Option (Common Plac
       let place : n.place v.at ≡ u.at = ap (λ (p : Place). p.at) (own v (inl refl) ∙ h.0.place) in
       let whole' : IsPartial v.kind → ⊥ = λ partial. whole (subst (λ (x : DwUnit Spot). IsPartial x.kind) e partial) in
       subst (λ (p : ℕ). In p (place_if_whole u.kind u.at ++ unit_places raw)) (sym place ∙ ap (λ (x : DwUnit Spot). n.place x.at) e)
-      (in_left u.at (place_if_whole u.kind u.at) (unit_places raw) (kind_whole (scope_of (record { sources = sources; all = all; place = at_file number; common = common }) u) u.kind v.kind h.0.kind whole' u.at))
+      (in_left u.at (place_if_whole u.kind u.at) (unit_places raw) (kind_whole (scope_of (record { sources = sources; all = all; place = at_file number; common = common }) u) u.kind v.kind h.0.kind
+          whole' u.at))
   places_back all sources (u ∷ raw) (v ∷ units) h own w (inr r) whole =
       in_right (n.place w.at) (place_if_whole u.kind u.at) (unit_places raw) (places_back all sources raw units h.1 (λ x x_in. own x (inr x_in)) w r whole)
   places_back all sources _ _ h own w there whole = absurd h
 
   -- the place of a unit that isn't partial is one of those
-  pub place_back : (raw : List RawUnit) (units : List (DwUnit Spot)) → MeanUnits (around_in common number bytes raw) raw (placed_units n g units) → ((w : DwUnit Spot) → In w units → at_file number (n.place w.at) ≡ g w.at)
+  pub place_back : (raw : List RawUnit) (units : List (DwUnit Spot)) → MeanUnits (around_in common number bytes raw) raw (placed_units n g units)
+      → ((w : DwUnit Spot) → In w units → at_file number (n.place w.at) ≡ g w.at)
       → (w : DwUnit Spot) → In w units → (IsPartial w.kind → ⊥) → is_place_of raw (n.place w.at) ≡ true
   place_back raw units h own w there whole = in_has (n.place w.at) (unit_places raw) (places_back _ _ raw units h own w there whole)
 
@@ -152,7 +157,8 @@ set_known : (is_unit : ℕ → Bool) (sets : List RangeSet) (start : ℕ) (bytes
 set_known is_unit [] start bytes h = tt
 set_known is_unit (s ∷ sets) start bytes h = (ap is_unit h.first.unit ∙ h.first.known, set_known is_unit sets _ h.second_bytes h.second)
 
-are_units : (others : ℕ → Bool) (number : ℕ → ℕ) (is_unit : ℕ → Bool) → ((p : ℕ) → is_unit p ≡ true → (number p < 2 ^ 32) × (others (number p) ≡ true)) → (sets : List RangeSet) → Each (λ s. is_unit s.unit ≡ true) sets
+are_units : (others : ℕ → Bool) (number : ℕ → ℕ) (is_unit : ℕ → Bool) → ((p : ℕ) → is_unit p ≡ true → (number p < 2 ^ 32) × (others (number p) ≡ true)) → (sets : List RangeSet)
+    → Each (λ s. is_unit s.unit ≡ true) sets
     → AreUnits others (map (λ s. number s.unit) sets)
 are_units others number is_unit good [] h = tt
 are_units others number is_unit good (s ∷ sets) h = (let o = good s.unit h.0 in (o.0, o.1, are_units others number is_unit good sets h.1))

@@ -16,7 +16,8 @@ named_both : (names : Operand → Bool) (a b : List Operand) → AreNamed names 
 named_both names [] b h k = k
 named_both names (o ∷ a) b h k = (h.0, named_both names a b h.1 k)
 
-ops_named : (c : ExprContext) (IsExpr : Spelling Expression) (ops : List (List Found)) (start : ℕ) (bytes : List ℕ) → SpellsAll (SpellsOp c IsExpr) ops start bytes → AreNamed c.names (operands_in (joined ops))
+ops_named : (c : ExprContext) (IsExpr : Spelling Expression) (ops : List (List Found)) (start : ℕ) (bytes : List ℕ) → SpellsAll (SpellsOp c IsExpr) ops start bytes
+    → AreNamed c.names (operands_in (joined ops))
 unfolding joined operands_in
 ops_named c IsExpr [] start bytes is = tt
 ops_named c IsExpr (x ∷ ops) start bytes is =
@@ -67,7 +68,8 @@ module _ (c : ExprContext) where
 
   fields_held : (fields : List Field) (founds : List Found) (start : ℕ) (bytes : List ℕ) → SpellsFields (SpellsExpr c) fields founds start bytes → HoldNamed founds
   fields_held [] founds start bytes h = subst HoldNamed (sym h.0) tt
-  fields_held (field ∷ fields) founds start bytes h = subst HoldNamed (sym h.made) (both_held h.x h.y (field_held field h.x start h.both.first_bytes h.both.first) (fields_held fields h.y _ h.both.second_bytes h.both.second))
+  fields_held (field ∷ fields) founds start bytes h = subst HoldNamed (sym h.made)
+      (both_held h.x h.y (field_held field h.x start h.both.first_bytes h.both.first) (fields_held fields h.y _ h.both.second_bytes h.both.second))
 
   entries_held : (entries : List (List Found)) (start : ℕ) (bytes : List ℕ) → SpellsRow (SpellsListEntry c) EndsList entries start bytes → HoldNamed (joined entries)
   unfolding joined

@@ -61,7 +61,8 @@ module _ (t : Tells ℕ) (w : Own ℕ) (s : Scope ℕ) (knows : Knows t w s) whe
   parts_read [] at bytes named = tt
   parts_read (o ∷ os) at bytes named = (one_read o named.0, parts_read os _ _ named.1)
 
-  parts_before : (os : List Operand) (at : ℕ) (bytes : List ℕ) (rest : List Part) (refs : List ℕ) → Named os → OperandsIn t w rest refs → OperandsIn t w (parts_from at bytes os ++ rest) (targets s os ++ refs)
+  parts_before : (os : List Operand) (at : ℕ) (bytes : List ℕ) (rest : List Part) (refs : List ℕ) → Named os → OperandsIn t w rest refs
+      → OperandsIn t w (parts_from at bytes os ++ rest) (targets s os ++ refs)
   unfolding parts_from
   parts_before [] at bytes rest refs named h = h
   parts_before (o ∷ os) at bytes rest refs named h = (one_read o named.0, parts_before os _ _ rest refs named.1 h)
@@ -125,7 +126,8 @@ module _ (t : Tells ℕ) (w : Own ℕ) (s : Scope ℕ) (knows : Knows t w s) whe
     index_read e is =
         let l : NamedList = record { unit = s.unit; from = is.base + is.offset; slot = _; list = is.list.list } in
         let named : NamesList s r l = subst (λ (c : Class). NamesAs c s r l) (sym e)
-        (record { base = is.base; is_base = is.is_base; offset = is.offset; slot = is.slot; named = record { unit = refl; from = refl; slot_is = refl; within = is.list.within; stands = is.list.stands } }) in
+        (record { base = is.base; is_base = is.is_base; offset = is.offset; slot = is.slot;
+            named = record { unit = refl; from = refl; slot_is = refl; within = is.list.within; stands = is.list.stands } }) in
         list_says r b means l refl named (into l named) is.list.value (named_in (is.base + is.offset) b.value is.list)
 
     attr_read : AttrOperands t w b
@@ -181,7 +183,8 @@ module _ (sources : Sources) (all : List ℕ) where
           entries_read told (own_of v) s knows u.below v.below (λ l x. into l (inl (inr x))) h.below,
         )
 
-    units_read : (raw : List RawUnit) (units : List (DwUnit ℕ)) → ((l : NamedList) → AnyUnitNames (own sources all) raw l → In l named) → MeanUnits (own sources all) raw units → Each (OperandsStand told) units
+    units_read : (raw : List RawUnit) (units : List (DwUnit ℕ)) → ((l : NamedList) → AnyUnitNames (own sources all) raw l → In l named) → MeanUnits (own sources all) raw units
+        → Each (OperandsStand told) units
     units_read [] [] into h = tt
     units_read (u ∷ raw) (v ∷ units) into h = (unit_read u v (λ l x. into l (elim x [ inl y ↦ inl y | inr z ↦ absurd z ])) h.0, units_read raw units (λ l x. into l (inr x)) h.1)
     units_read _ _ into h = absurd h
@@ -198,4 +201,5 @@ OperandsRead sources raw units = Each (OperandsStand (reading sources.lists (lis
 
 pub file_read : (sources : Sources) (raw : List RawUnit) (units : List (DwUnit ℕ)) → MeanUnits (own sources (all_places raw)) raw units → OperandsRead sources raw units
 file_read sources raw units h =
-    units_read sources (all_places raw) (lists_in sources raw) (all_entry_keys units) (all_of sources (all_places raw) raw units h) raw units (λ l x. (units_name (own sources (all_places raw)) raw l).1 x) h
+    units_read sources (all_places raw) (lists_in sources raw) (all_entry_keys units) (all_of sources (all_places raw) raw units h) raw units
+        (λ l x. (units_name (own sources (all_places raw)) raw l).1 x) h

@@ -224,7 +224,8 @@ list_known : (s : Scope ℕ) → s.around.place ≡ (λ n. n) → (place : ℕ) 
 list_known s same place v h p is =
     target_known s same (operands_of h.list.exprs) (list_named (expr_context s 7) h.list place h.stands.front h.stands.spelled) p (subst (λ (w : Value ℕ). In p w.refs) h.value is)
 
-offset_known : (s : Scope ℕ) → s.around.place ≡ (λ n. n) → (a : RawAttr) (v : Value ℕ) (b : Bool) → IfSo b (IsLocList s (offset_of a) v) (v ≡ only (Sec (offset_of a))) → (p : ℕ) → In p v.refs → Known s p
+offset_known : (s : Scope ℕ) → s.around.place ≡ (λ n. n) → (a : RawAttr) (v : Value ℕ) (b : Bool) → IfSo b (IsLocList s (offset_of a) v) (v ≡ only (Sec (offset_of a))) → (p : ℕ) → In p v.refs
+    → Known s p
 offset_known s same a v true h p is = list_known s same (offset_of a) v h p is
 offset_known s same a v false h p is = only_known s _ v h p is
 
@@ -256,13 +257,15 @@ class_known OfCommonEntry s same a v h p is = absurd (let none = sym same.1 ∙ 
 class_known OfCommonText s same a v h p is = absurd (let none = sym same.1 ∙ h.1 in cc)
 class_known Unread s same a v h p is = absurd h
 
-attrs_known : (s : Scope ℕ) (same : (s.around.place ≡ (λ n. n)) × (s.around.common ≡ None)) (raw : List RawAttr) (attrs : List (Attr ℕ)) → MeanAttrs s raw attrs → (a : Named ℕ) → In a (map named_value attrs) → (p : ℕ) → In p a.value.refs → Known s p
+attrs_known : (s : Scope ℕ) (same : (s.around.place ≡ (λ n. n)) × (s.around.common ≡ None)) (raw : List RawAttr) (attrs : List (Attr ℕ)) → MeanAttrs s raw attrs → (a : Named ℕ)
+    → In a (map named_value attrs) → (p : ℕ) → In p a.value.refs → Known s p
 attrs_known s same [] [] h a is p ref = absurd is
 attrs_known s same (r ∷ raw) (b ∷ attrs) h a (inl x) p ref = class_known (class_of r.pair.form) s same r b.value h.0.value p (subst (λ (w : Named ℕ). In p w.value.refs) (sym x) ref)
 attrs_known s same (r ∷ raw) (b ∷ attrs) h a (inr y) p ref = attrs_known s same raw attrs h.1 a y p ref
 attrs_known s same _ _ h a is p ref = absurd h
 
-seen_known : (s : Scope ℕ) (same : (s.around.place ≡ (λ n. n)) × (s.around.common ≡ None)) (f : Forest RawEntry) (g : Entries ℕ) → MeanEntries s f g → (e : Seen ℕ) → In e (seen g) → (a : Named ℕ) → In a e.attrs → (p : ℕ) → In p a.value.refs → Known s p
+seen_known : (s : Scope ℕ) (same : (s.around.place ≡ (λ n. n)) × (s.around.common ≡ None)) (f : Forest RawEntry) (g : Entries ℕ) → MeanEntries s f g → (e : Seen ℕ) → In e (seen g) → (a : Named ℕ)
+    → In a e.attrs → (p : ℕ) → In p a.value.refs → Known s p
 unfolding seen
 seen_known s same End End h e is a attr p ref = absurd is
 seen_known s same (Entry r f f') (Entry d g g') h e (inl x) a attr p ref = attrs_known s same (without_siblings r.attrs) d.attrs h.0.attrs a (subst (λ (w : Seen ℕ). In a w.attrs) (sym x) attr) p ref
@@ -309,7 +312,8 @@ own_known (w ∷ raw) u (inr r) p is = in_right p (places_of w) (all_places raw)
 
 -- ---- all of it
 
-module _ (abbrevs info : List ℕ) (mode : Mode) (raw : List RawUnit) (sources : Sources) (units : List (DwUnit ℕ)) (spelled : SpellsUnits abbrevs mode 0 raw 0 info) (means : MeanUnits (own sources (all_places raw)) raw units) where
+module _ (abbrevs info : List ℕ) (mode : Mode) (raw : List RawUnit) (sources : Sources) (units : List (DwUnit ℕ)) (spelled : SpellsUnits abbrevs mode 0 raw 0 info)
+    (means : MeanUnits (own sources (all_places raw)) raw units) where
   read_apart : NoneTwice (units_keys units)
   read_apart = subst NoneTwice (sym (units_places sources (all_places raw) raw units means)) (rise_none 0 (all_raw_keys raw) (0 + length info) (units_rise abbrevs mode 0 raw 0 info spelled))
 
@@ -331,7 +335,8 @@ module _ (abbrevs info : List ℕ) (mode : Mode) (raw : List RawUnit) (sources :
         (let o = root_from units e x in
         let m = means_in sources (all_places raw) raw units means o.unit o.there in
         let s = scope_of (own sources (all_places raw)) m.unit in
-        known_stands m.unit m.there p (attrs_known s (refl, refl) (without_siblings m.unit.root.attrs) o.unit.root.attrs m.means.root.attrs a (subst (λ (w : Seen ℕ). In a w.attrs) (sym o.is) attr) p ref))
+        known_stands m.unit m.there p (attrs_known s (refl, refl) (without_siblings m.unit.root.attrs) o.unit.root.attrs m.means.root.attrs a (subst (λ (w : Seen ℕ). In a w.attrs) (sym o.is) attr) p
+            ref))
     | inr y ↦
         (let o = seen_from units e y in
         let m = means_in sources (all_places raw) raw units means o.unit o.there in
@@ -351,8 +356,10 @@ units_main from units are = λ u there signature main e.
 
 pub read_from : (l : Limits) (input : List ℕ) (raw : List RawUnit) (doc : Doc ℕ) → Reads l input raw doc → AreBytes (debug_info input) → WasReadFrom (sources_of input) doc.units
 read_from l input raw doc reads are =
-    let carried = units_carried (debug_abbrev input) (given l.entries) refl (OfFile (sources_of input)) (own (sources_of input) (all_places raw)) refl raw doc.units 0 0 (debug_info input) reads.spelled reads.means are (units_built (sources_of input) (all_places raw) raw doc.units reads.means) in
+    let carried = units_carried (debug_abbrev input) (given l.entries) refl (OfFile (sources_of input)) (own (sources_of input) (all_places raw)) refl raw doc.units 0 0 (debug_info input)
+        reads.spelled reads.means are (units_built (sources_of input) (all_places raw) raw doc.units reads.means) in
     record {
-      placed = read_placed (debug_abbrev input) (debug_info input) (given l.entries) raw (sources_of input) doc.units reads.spelled reads.means refl (units_main (OfFile (sources_of input)) doc.units carried);
+      placed = read_placed (debug_abbrev input) (debug_info input) (given l.entries) raw (sources_of input) doc.units reads.spelled reads.means refl
+          (units_main (OfFile (sources_of input)) doc.units carried);
       carried = carried;
     }

@@ -103,7 +103,8 @@ module _ (r : Run) (can : CanWrite r) (g : Spot → Place) (ok : IsPlacing r g) 
     line : (sources_of bytes).line ≡ t.line
     none_shared : NoneShared t.named
     lists : AreRenumbered n t (sources_of bytes).lists
-    ranges : (others : ℕ → Bool) → ((w : DwUnit Spot) → In w units → (IsPartial w.kind → ⊥) → (n.place w.at < 2 ^ 32) × (others (n.place w.at) ≡ true)) → (sets : List RangeSet) × SpellsSets others sets 0 (debug_aranges bytes)
+    ranges : (others : ℕ → Bool) → ((w : DwUnit Spot) → In w units → (IsPartial w.kind → ⊥) → (n.place w.at < 2 ^ 32) × (others (n.place w.at) ≡ true)) → (sets : List RangeSet)
+        × SpellsSets others sets 0 (debug_aranges bytes)
     room : Each (UnitHasRoom n) units
     small : FitsSections (sections n units)
     common_few : (k : Spot) → In k t.common → n.place k < 2 ^ 32
@@ -143,7 +144,8 @@ module _ (r : Run) (can : CanWrite r) (g : Spot → Place) (ok : IsPlacing r g) 
           spelled = subst (λ (info : List ℕ). SpellsUnits (debug_abbrev bytes) mode 0 raw 0 info) (sym s.info) (subst (λ (abbrevs : List ℕ). SpellsUnits abbrevs mode 0 raw 0 (sections n units).info) (sym s.abbrevs) spells);
           means = meant;
           ranges = record { sets = sets.0; spelled = sets.1 };
-          lists = units_share_none n g (tables_of [] units) t (units_keys units) (around_in common number bytes raw) around (λ k there. entries_are_keys units k (subst (In k) s.all there)) units (λ k there. there) s.good.0 fit s.good.1;
+          lists = units_share_none n g (tables_of [] units) t (units_keys units) (around_in common number bytes raw) around (λ k there. entries_are_keys units k (subst (In k) s.all there)) units
+              (λ k there. there) s.good.0 fit s.good.1;
         };
         entries = entries;
       }
@@ -181,7 +183,8 @@ module _ (r : Run) (can : CanWrite r) (g : Spot → Place) (ok : IsPlacing r g) 
     offsets = ap (λ (w : Sources). w.offsets) has.sources;
     line = ap (λ (w : Sources). w.line) has.sources;
     none_shared = can.common.over.lists;
-    lists = subst (λ (w : Sources). AreRenumbered n (tells_common r) w.lists) (sym has.sources) (record { number = λ p. 0; are = λ l there. absurd there; patched = record { len = refl; written = λ o there. absurd (no_operands o there); others = λ b none. refl } });
+    lists = subst (λ (w : Sources). AreRenumbered n (tells_common r) w.lists) (sym has.sources)
+        (record { number = λ p. 0; are = λ l there. absurd there; patched = record { len = refl; written = λ o there. absurd (no_operands o there); others = λ b none. refl } });
     ranges = λ others good. ([], has.ranges);
     room = common_room;
     small = small;
@@ -206,7 +209,8 @@ module _ (r : Run) (can : CanWrite r) (g : Spot → Place) (ok : IsPlacing r g) 
   file_room file there changed = (can.file file there changed).over.room
 
   -- its sets of address ranges are of units after
-  file_ranged : (file : ℕ) → In file r.files → (out : List ℕ) (has : HasSections r file out) (others : ℕ → Bool) → ((w : DwUnit Spot) → In w (fitted r file) → (IsPartial w.kind → ⊥) → (n.place w.at < 2 ^ 32) × (others (n.place w.at) ≡ true))
+  file_ranged : (file : ℕ) → In file r.files → (out : List ℕ) (has : HasSections r file out) (others : ℕ → Bool)
+      → ((w : DwUnit Spot) → In w (fitted r file) → (IsPartial w.kind → ⊥) → (n.place w.at < 2 ^ 32) × (others (n.place w.at) ≡ true))
       → SpellsSets others (of_units has.ranges.sets (map (λ s. n.place (name_after r file s.unit)) has.ranges.sets)) 0 (debug_aranges out)
   unfolding fitted
   file_ranged file there out has others good = ranged_spell r file (can.units file there) (debug_aranges out) has.ranges others (λ u u_in whole.
@@ -263,5 +267,6 @@ module _ (r : Run) (can : CanWrite r) (g : Spot → Place) (ok : IsPlacing r g) 
       record {
         sets = has.ranges.sets;
         before = has.ranges.spelled;
-        after = file_ranged file there out has (is_place_of says.raw) (λ w w_in whole. (few_places (fitted r file) (file_stands file there) small w.at (unit_key (fitted r file) w w.at w_in (at_key w)), back w w_in whole));
+        after = file_ranged file there out has (is_place_of says.raw) (λ w w_in whole.
+            (few_places (fitted r file) (file_stands file there) small w.at (unit_key (fitted r file) w w.at w_in (at_key w)), back w w_in whole));
       }

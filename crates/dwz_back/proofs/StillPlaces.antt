@@ -137,7 +137,8 @@ number_nth s (d ∷ docs) file (inr r) = (let o = number_nth (suc s) docs file r
 
 -- ---- the places
 
-module _ (scope : Scope) (docs : List (Doc ℕ)) (rule : Rule) (placed : Each (λ doc. ArePlaced doc.units) docs) (is : IsAlike scope (units_of docs) rule.alike) (choice : IsChoice (units_of docs) rule) (input : Stored) where
+module _ (scope : Scope) (docs : List (Doc ℕ)) (rule : Rule) (placed : Each (λ doc. ArePlaced doc.units) docs) (is : IsAlike scope (units_of docs) rule.alike) (choice : IsChoice (units_of docs) rule)
+    (input : Stored) where
   abbrev r : Run
   r = run_of rule docs input
 

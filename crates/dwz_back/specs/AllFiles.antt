@@ -44,17 +44,21 @@ pub record SaysStill (common : Option (Common Place)) (file : ℕ) (bytes : List
 
 -- The common file says its units, at these places; with it each file of which something moves says its own, and has its address ranges,
 -- and a file that stays as it was read says what it said. All files together say the same as what was read.
-pub record AllBack (scope : Scope) (docs : List (Doc ℕ)) (rule : Rule) (input : Stored) (output : ℕ → List ℕ) (common_bytes : List ℕ) (g : Spot → Place) : Type 0 where
+pub record AllBack (scope : Scope) (docs : List (Doc ℕ)) (rule : Rule) (input : Stored) (output : ℕ → List ℕ) (common_bytes : List ℕ)
+    (g : Spot → Place) : Type 0 where
   pub common : SaysPlaced (run_of rule docs input) g None (run_of rule docs input).common common_bytes (common_fitted (run_of rule docs input))
   pub file : (file : ℕ) → In file (run_of rule docs input).files → changes (run_of rule docs input).move (units_of docs) file ≡ true
       → SaysPlaced (run_of rule docs input) g (Some (given_by (run_of rule docs input).common common_bytes common.raw)) file (output file) (fitted (run_of rule docs input) file)
-  pub ranges : (number : ℕ) → (there : In number (run_of rule docs input).files) → (changed : changes (run_of rule docs input).move (units_of docs) number ≡ true)
+  pub ranges : (number : ℕ) → (there : In number (run_of rule docs input).files)
+      → (changed : changes (run_of rule docs input).move (units_of docs) number ≡ true)
       → RangesBack (run_of rule docs input) number (output number) (file number there changed).raw
-  pub still : (file : ℕ) (doc : Doc ℕ) → Nth 0 docs file doc → SaysStill (Some (given_by (run_of rule docs input).common common_bytes common.raw)) file (input.bytes file) doc
+  pub still : (file : ℕ) (doc : Doc ℕ) → Nth 0 docs file doc
+      → SaysStill (Some (given_by (run_of rule docs input).common common_bytes common.raw)) file (input.bytes file) doc
   pub same : SameBack scope docs rule input g
 
 -- so it is at some places for names: those where they are written, and in files of which nothing moves the old ones
-pub record ReadBack (scope : Scope) (docs : List (Doc ℕ)) (rule : Rule) (input : Stored) (output : ℕ → List ℕ) (common_bytes : List ℕ) : Type 0 where
+pub record ReadBack (scope : Scope) (docs : List (Doc ℕ)) (rule : Rule) (input : Stored) (output : ℕ → List ℕ)
+    (common_bytes : List ℕ) : Type 0 where
   pub place : Spot → Place
   pub placing : IsPlacing (run_of rule docs input) place
   pub old : AreAtOld (run_of rule docs input) place docs
@@ -63,11 +67,13 @@ pub record ReadBack (scope : Scope) (docs : List (Doc ℕ)) (rule : Rule) (input
 -- files that read can be written
 abbrev pub CanWriteLaw : Type 0
 CanWriteLaw =
-    (scope : Scope) (docs : List (Doc ℕ)) (input : Stored) → AreRead input docs → (rule : Rule) → IsAlike scope (units_of docs) rule.alike → IsChoice (units_of docs) rule
+    (scope : Scope) (docs : List (Doc ℕ)) (input : Stored) → AreRead input docs → (rule : Rule) → IsAlike scope (units_of docs) rule.alike
+    → IsChoice (units_of docs) rule
     → AreOver (run_of rule docs input) → CanWrite (run_of rule docs input)
 
 -- and what was made of them reads back as all that was read
 abbrev pub AllBackLaw : Type 0
 AllBackLaw =
-    (scope : Scope) (docs : List (Doc ℕ)) (input : Stored) → AreRead input docs → (rule : Rule) → IsAlike scope (units_of docs) rule.alike → IsChoice (units_of docs) rule
+    (scope : Scope) (docs : List (Doc ℕ)) (input : Stored) → AreRead input docs → (rule : Rule) → IsAlike scope (units_of docs) rule.alike
+    → IsChoice (units_of docs) rule
     → AreOver (run_of rule docs input) → (output : ℕ → List ℕ) (common : List ℕ) → AreMade (run_of rule docs input) output common → ReadBack scope docs rule input output common

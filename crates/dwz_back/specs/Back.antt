@@ -113,7 +113,8 @@ PlacingLaw = (r : Run) → NoneTwice (units_keys (all_units r.move r.units r.fil
 -- a common file that was made so says its units, at their places
 abbrev pub CommonBackLaw : Type 0
 CommonBackLaw =
-    (r : Run) (g : Spot → Place) (out : List ℕ) → CanWrite r → IsPlacing r g → HasCommon out (common_sections r) (texts r) (paths r) → FitsSections (common_sections r)
+    (r : Run) (g : Spot → Place) (out : List ℕ) → CanWrite r → IsPlacing r g → HasCommon out (common_sections r) (texts r) (paths r)
+    → FitsSections (common_sections r)
     → SaysPlaced r g None r.common out (common_fitted r)
 
 -- a file that was made so says its units, at their places, where it is read with the common file
@@ -127,7 +128,8 @@ FileBackLaw =
 pub record RangesBack (r : Run) (file : ℕ) (out : List ℕ) (raw : List RawUnit) : Type 0 where
   pub sets : List RangeSet
   pub before : SpellsSets (is_place_of (r.input.raw file)) sets 0 (debug_aranges (r.input.bytes file))
-  pub after : SpellsSets (is_place_of raw) (of_units sets (map (λ s. (places r).place (name_after r file s.unit)) sets)) 0 (debug_aranges out)
+  pub after : SpellsSets (is_place_of raw) (of_units sets (map (λ s. (places r).place (name_after r file s.unit)) sets)) 0
+      (debug_aranges out)
 
 abbrev pub RangesBackLaw : Type 0
 RangesBackLaw =
@@ -146,7 +148,8 @@ AloneBackLaw =
 
 -- the run of files that say these documents, with the bytes of each
 abbrev pub run_of : Rule → List (Doc ℕ) → Stored → Run
-run_of rule docs input = record { move = plan rule (units_of docs) (file_numbers 0 docs); units = units_of docs; files = file_numbers 0 docs; input = input; name = name_in docs; common = length docs }
+run_of rule docs input = record { move = plan rule (units_of docs) (file_numbers 0 docs); units = units_of docs;
+    files = file_numbers 0 docs; input = input; name = name_in docs; common = length docs }
 
 abbrev pub back_units : Run → (Spot → Place) → Bool → ℕ → Doc ℕ → List (DwUnit Place)
 back_units r g true file doc = placed_units (places r) g (fitted r file)
@@ -177,7 +180,8 @@ pub record SameBack (scope : Scope) (docs : List (Doc ℕ)) (rule : Rule) (input
 abbrev pub SameBackLaw : Type 0
 SameBackLaw =
     (scope : Scope) (docs : List (Doc ℕ)) (rule : Rule) → Each (λ doc. ArePlaced doc.units) docs → IsAlike scope (units_of docs) rule.alike → IsChoice (units_of docs) rule
-    → (input : Stored) (g : Spot → Place) → IsPlacing (run_of rule docs input) g → AreAtOld (run_of rule docs input) g docs → SameBack scope docs rule input g
+    → (input : Stored) (g : Spot → Place) → IsPlacing (run_of rule docs input) g → AreAtOld (run_of rule docs input) g docs
+    → SameBack scope docs rule input g
 
 -- ---- what is read
 
@@ -189,13 +193,15 @@ pub record WasReadFrom (sources : Sources) (units : List (DwUnit ℕ)) : Type 0 
 -- so is each file that reads
 abbrev pub ReadLaw : Type 0
 ReadLaw =
-    (l : Limits) (input : List ℕ) (raw : List RawUnit) (doc : Doc ℕ) → Reads l input raw doc → AreBytes (debug_info input) → WasReadFrom (sources_of input) doc.units
+    (l : Limits) (input : List ℕ) (raw : List RawUnit) (doc : Doc ℕ) → Reads l input raw doc → AreBytes (debug_info input)
+    → WasReadFrom (sources_of input) doc.units
 
 -- after, each reference of a file names an entry of it, or of the common file
 abbrev pub WithinLaw : Type 0
 WithinLaw =
     (scope : Scope) (docs : List (Doc ℕ)) (rule : Rule) → Each (λ doc. ArePlaced doc.units) docs → IsAlike scope (units_of docs) rule.alike → IsChoice (units_of docs) rule
-    → (input : Stored) (file : ℕ) → ClosedIn (tells (run_of rule docs input) file) (out_units (run_of rule docs input).move (units_of docs) file)
+    → (input : Stored) (file : ℕ) → ClosedIn (tells (run_of rule docs input) file)
+    (out_units (run_of rule docs input).move (units_of docs) file)
 
 -- and each of the common file an entry of that
 abbrev pub CommonWithinLaw : Type 0
@@ -214,7 +220,8 @@ one_run rule doc input raw = run_of rule (doc ∷ []) (one_stored input raw)
 
 -- the file that was made from one that reads says its new units by itself, and they are the same as what was read
 pub record OneBack (doc : Doc ℕ) (rule : Rule) (input : List ℕ) (raw : List RawUnit) (out : List ℕ) : Type 0 where
-  pub says : SaysPlaced (one_run rule doc input raw) (place_of (one_run rule doc input raw)) None 0 out (fitted (one_run rule doc input raw) 0)
+  pub says : SaysPlaced (one_run rule doc input raw) (place_of (one_run rule doc input raw)) None 0 out
+      (fitted (one_run rule doc input raw) 0)
   pub same : SameBack Apart (doc ∷ []) rule (one_stored input raw) (place_of (one_run rule doc input raw))
 
 abbrev pub OneBackLaw : Type 0
@@ -223,4 +230,5 @@ OneBackLaw =
     → (rule : Rule) → IsAlike Apart (units_of (doc ∷ [])) rule.alike → IsChoice (units_of (doc ∷ [])) rule
     → FileOver (one_run rule doc input raw) 0
     → changes (one_run rule doc input raw).move (units_of (doc ∷ [])) 0 ≡ true
-    → (out : List ℕ) → HasSections (one_run rule doc input raw) 0 out → FitsSections (sections_of (one_run rule doc input raw) 0) → OneBack doc rule input raw out
+    → (out : List ℕ) → HasSections (one_run rule doc input raw) 0 out → FitsSections (sections_of (one_run rule doc input raw) 0)
+    → OneBack doc rule input raw out

@@ -71,10 +71,12 @@ row_spelled path none start = record {
 rows_spelled : (paths : List (List ℕ)) → AreTexts paths → (start : ℕ) → SpellsAll (SpellsValues formats) (map row_of paths) start (rows_bytes paths)
 unfolding rows_bytes
 rows_spelled [] are start = refl
-rows_spelled (path ∷ paths) are start = record { first_bytes = path ++ 0 ∷ 0 ∷ []; first = row_spelled path are.0 start; second_bytes = rows_bytes paths; second = rows_spelled paths are.1 _; parts = refl }
+rows_spelled (path ∷ paths) are start = record { first_bytes = path ++ 0 ∷ 0 ∷ []; first = row_spelled path are.0 start; second_bytes = rows_bytes paths; second = rows_spelled paths are.1 _;
+    parts = refl }
 
 format_spelled : (content form : ℕ) → content < 128 → form < 128 → (start : ℕ) → SpellsFormat (format_of content form) start (content ∷ form ∷ [])
-format_spelled content form c f start = record { x = content; y = form; both = record { first_bytes = content ∷ []; first = one_byte content c; second_bytes = form ∷ []; second = one_byte form f; parts = refl }; made = refl }
+format_spelled content form c f start = record { x = content; y = form;
+    both = record { first_bytes = content ∷ []; first = one_byte content c; second_bytes = form ∷ []; second = one_byte form f; parts = refl }; made = refl }
 
 one_format : (start : ℕ) → SpellsFormats (path_format ∷ []) start (1 ∷ 1 ∷ 8 ∷ [])
 one_format start = record {
@@ -135,7 +137,8 @@ dirs_spelled start = record {
   made = refl;
 }
 
-files_spelled : (paths : List (List ℕ)) → AreTexts paths → length paths < 2 ^ 64 → (start : ℕ) → SpellsTable (files_table paths) start (2 ∷ 1 ∷ 8 ∷ 2 ∷ 0x0f ∷ [] ++ (uleb (length paths) ++ rows_bytes paths))
+files_spelled : (paths : List (List ℕ)) → AreTexts paths → length paths < 2 ^ 64 → (start : ℕ)
+    → SpellsTable (files_table paths) start (2 ∷ 1 ∷ 8 ∷ 2 ∷ 0x0f ∷ [] ++ (uleb (length paths) ++ rows_bytes paths))
 files_spelled paths are few start = record {
   x = formats;
   y = map row_of paths;
@@ -146,7 +149,8 @@ files_spelled paths are few start = record {
     second = record {
       x = length paths;
       y = map row_of paths;
-      both = record { first_bytes = uleb (length paths); first = uleb_spells (length paths) few; second_bytes = rows_bytes paths; second = (length-map paths row_of, rows_spelled paths are _); parts = refl };
+      both = record { first_bytes = uleb (length paths); first = uleb_spells (length paths) few; second_bytes = rows_bytes paths; second = (length-map paths row_of, rows_spelled paths are _);
+          parts = refl };
       made = refl;
     };
     parts = refl;
@@ -254,7 +258,8 @@ module _ (paths : List (List ℕ)) (some : 0 < length paths) (are : AreTexts pat
 
   whole : of_header bytes ≡ bytes
   whole =
-      ap (take (12 + header_length bytes)) (take_all (4 + line_length bytes) bytes (omega (arith, unit_is, bytes_len))) ∙ take_all (12 + header_length bytes) bytes (omega (arith, header_is, bytes_len))
+      ap (take (12 + header_length bytes)) (take_all (4 + line_length bytes) bytes (omega (arith, unit_is, bytes_len)))
+          ∙ take_all (12 + header_length bytes) bytes (omega (arith, header_is, bytes_len))
 
   abbrev fronts : List ℕ
   fronts = 1 ∷ 1 ∷ 8 ∷ 1 ∷ 0 ∷ [] ++ (2 ∷ 1 ∷ 8 ∷ 2 ∷ 0x0f ∷ [] ++ (uleb (length rows) ++ rows_bytes rows))
@@ -277,7 +282,8 @@ module _ (paths : List (List ℕ)) (some : 0 < length paths) (are : AreTexts pat
 
   -- there are few paths
   pub header_many : length paths < 2 ^ 32
-  header_many = (let long = paths_long paths in let few = rows_long rows in omega (arith, long, few, bytes_len, short, length-append ((standard ++ one_directory) ++ file_formats) (uleb (length rows) ++ rows_bytes rows), length-append (uleb (length rows)) (rows_bytes rows)))
+  header_many = (let long = paths_long paths in let few = rows_long rows in omega
+      (arith, long, few, bytes_len, short, length-append ((standard ++ one_directory) ++ file_formats) (uleb (length rows) ++ rows_bytes rows), length-append (uleb (length rows)) (rows_bytes rows)))
 
   all_tables : Tables
   all_tables = tables_with dirs_table (files_table rows)

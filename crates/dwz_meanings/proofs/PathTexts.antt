@@ -26,17 +26,20 @@ abbrev AllSpelled : List (Pair × Raw) → Type 0
 AllSpelled [] = Unit {0}
 AllSpelled (x ∷ xs) = IsSpelled x × AllSpelled xs
 
-content_spelled : (formats : List Pair) (raws : List Raw) (start : ℕ) (bytes : List ℕ) → list_all is_format formats ≡ true → SpellsValues formats raws start bytes → AllSpelled (with_content 1 formats raws)
+content_spelled : (formats : List Pair) (raws : List Raw) (start : ℕ) (bytes : List ℕ) → list_all is_format formats ≡ true → SpellsValues formats raws start bytes
+    → AllSpelled (with_content 1 formats raws)
 content_spelled [] raws start bytes all h = tt
 content_spelled (pair ∷ pairs) [] start bytes all h = tt
 content_spelled (pair ∷ pairs) (raw ∷ raws) start bytes all h =
     let both = and_true (is_format pair) (list_all is_format pairs) all in
     let first : raw ≡ h.x = (let e = h.made in cc) in
     let rest : raws ≡ h.y = (let e = h.made in cc) in
-    let later = content_spelled pairs raws (start + length h.both.first_bytes) h.both.second_bytes both.1 (subst (λ (w : List Raw). SpellsValues pairs w (start + length h.both.first_bytes) h.both.second_bytes) (sym rest) h.both.second) in
+    let later = content_spelled pairs raws (start + length h.both.first_bytes) h.both.second_bytes both.1
+        (subst (λ (w : List Raw). SpellsValues pairs w (start + length h.both.first_bytes) h.both.second_bytes) (sym rest) h.both.second) in
     by later both.0 (subst (λ (w : Raw). SpellsValue form_rows pair h.both.first_bytes w) (sym first) h.both.first) (eqb pair.name 1) refl
   where
-    by : AllSpelled (with_content 1 pairs raws) → is_format pair ≡ true → SpellsValue form_rows pair h.both.first_bytes raw → (b : Bool) → eqb pair.name 1 ≡ b → AllSpelled (cond b ((pair, raw) ∷ with_content 1 pairs raws) (with_content 1 pairs raws))
+    by : AllSpelled (with_content 1 pairs raws) → is_format pair ≡ true → SpellsValue form_rows pair h.both.first_bytes raw → (b : Bool) → eqb pair.name 1 ≡ b
+        → AllSpelled (cond b ((pair, raw) ∷ with_content 1 pairs raws) (with_content 1 pairs raws))
     by later format spelled true e = (record { content = eqb-true pair.name 1 e; format = format; bytes = h.both.first_bytes; spelled = spelled }, later)
     by later format spelled false e = later
 
@@ -76,7 +79,8 @@ RowTexts (row ∷ rows) = NoZero row.path × RowTexts rows
 row_text : (s : TextSections) (dirs : ℕ) (formats : List Pair) (raws : List Raw) (row : PathRow) → SaysRow s dirs formats raws row → AllSpelled (with_content 1 formats raws) → NoZero row.path
 row_text s dirs formats raws row says all = path_text s says.named (subst AllSpelled says.one_path all).0 row.path says.path
 
-rows_text : (s : TextSections) (dirs : ℕ) (formats : List Pair) → list_all is_format formats ≡ true → (table : List (List Raw)) (rows : List PathRow) (start : ℕ) (bytes : List ℕ) → SpellsAll (SpellsValues formats) table start bytes → SayRows s dirs formats table rows → RowTexts rows
+rows_text : (s : TextSections) (dirs : ℕ) (formats : List Pair) → list_all is_format formats ≡ true → (table : List (List Raw)) (rows : List PathRow) (start : ℕ) (bytes : List ℕ)
+    → SpellsAll (SpellsValues formats) table start bytes → SayRows s dirs formats table rows → RowTexts rows
 rows_text s dirs formats all [] [] start bytes h says = tt
 rows_text s dirs formats all (raws ∷ table) (row ∷ rows) start bytes h says =
     (row_text s dirs formats raws row says.0 (content_spelled formats raws start h.first_bytes all h.first), rows_text s dirs formats all table rows _ h.second_bytes h.second says.1)
@@ -109,7 +113,8 @@ full_texts : (dirs : List PathRow) → RowTexts dirs → (rows : List PathRow) �
 full_texts dirs h [] k = tt
 full_texts dirs h (row ∷ rows) k = (full_text dirs h row k.0, full_texts dirs h rows k.1)
 
-table_texts : (s : TextSections) (dirs : ℕ) (t : Table) (rows : List PathRow) (start : ℕ) (bytes : List ℕ) → SpellsTable t start bytes → list_all is_format t.formats ≡ true → SayRows s dirs t.formats t.rows rows → RowTexts rows
+table_texts : (s : TextSections) (dirs : ℕ) (t : Table) (rows : List PathRow) (start : ℕ) (bytes : List ℕ) → SpellsTable t start bytes → list_all is_format t.formats ≡ true
+    → SayRows s dirs t.formats t.rows rows → RowTexts rows
 table_texts s dirs t rows start bytes h all says =
     let formats : t.formats ≡ h.x = ap (λ (w : Table). w.formats) h.made in
     let table : t.rows ≡ h.both.second.y = ap (λ (w : Table). w.rows) h.made ∙ h.both.second.made in

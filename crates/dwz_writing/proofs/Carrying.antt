@@ -224,11 +224,13 @@ module _ {K : Type 0} (from : Sources → Type 0) (origin : Bases) (a : Attr K) 
     sources = w.scope.around.sources;
     file = came.file;
     numbers = (e, names);
-    says = subst (λ (o : Option ℕ). FileSays (texts_of w.scope.around.sources) w.scope.around.sources.line o a) (ap (λ (b : Bases). b.line) came.unit) (file_by (stmt_list w.scope) (so (names_file old.pair.name) _ _ (ap names_file same_name ∙ names) m));
+    says = subst (λ (o : Option ℕ). FileSays (texts_of w.scope.around.sources) w.scope.around.sources.line o a) (ap (λ (b : Bases). b.line) came.unit)
+        (file_by (stmt_list w.scope) (so (names_file old.pair.name) _ _ (ap names_file same_name ∙ names) m));
     chosen = λ f. ap (λ (d : Class). with_form a (fit_as d f a)) e ∙ ap (λ (b : Bool). with_form a (as_constant b f a)) names;
     sound = other_sound (subst (λ (d : Class). StoresAs d a) (sym e) (number OfConstant e refl (λ x. cc) has_bytes));
   }))))
-  constant e false names m = inr (inr (inr (inr (inr (inr (other OfConstant e (λ f. ap (λ (b : Bool). as_constant b f a) names) (number OfConstant e refl (λ x. cc)) (λ r t own. so_not (names_file a.name) _ _ names r)))))))
+  constant e false names m = inr (inr (inr (inr (inr (inr (other OfConstant e (λ f. ap (λ (b : Bool). as_constant b f a) names) (number OfConstant e refl (λ x. cc))
+      (λ r t own. so_not (names_file a.name) _ _ names r)))))))
 
   plain_is_expr : (m : IsExpression w.scope old w.read.value) → a.value.plain ≡ Expr (parts_of m.expression)
   plain_is_expr m = ap (λ (v : Value K). v.plain) same_value ∙ ap (λ (v : Value ℕ). v.plain) m.value
@@ -357,8 +359,10 @@ lines_is a is =
         constant = λ e. absurd (omega (arith, is.form, e));
         value = subst (λ (d : Class). StoresAs d a) (sym class) bytes;
       };
-      says = λ t own. subst (λ (d : Class). SaysAs d t own a) (sym class) (so_not (names_list a.name) _ _ (ap names_list is.name ∙ no_list) (is.value ∙ ap (λ (z : ℤ). only (Sec (reach z))) (sym is.raw)));
+      says = λ t own. subst (λ (d : Class). SaysAs d t own a) (sym class)
+          (so_not (names_list a.name) _ _ (ap names_list is.name ∙ no_list) (is.value ∙ ap (λ (z : ℤ). only (Sec (reach z))) (sym is.raw)));
     }
 
-pub carried_is : {K : Type 0} (from : Sources → Type 0) (origin : Bases) (a : Attr K) → CarriedAttr from origin a → Reference a ⊎ (Placed from a ⊎ (Slotted from origin a ⊎ (Filed from origin a ⊎ (Computed a ⊎ (Listed a ⊎ Other a)))))
+pub carried_is : {K : Type 0} (from : Sources → Type 0) (origin : Bases) (a : Attr K) → CarriedAttr from origin a
+    → Reference a ⊎ (Placed from a ⊎ (Slotted from origin a ⊎ (Filed from origin a ⊎ (Computed a ⊎ (Listed a ⊎ Other a)))))
 carried_is from origin a is = elim is [ inl c ↦ came_is from origin a c | inr more ↦ elim more [ inl i ↦ inl (imports_is a i) | inr l ↦ inr (inr (inr (inr (inr (inr (lines_is a l)))))) ] ]

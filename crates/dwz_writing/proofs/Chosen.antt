@@ -53,7 +53,8 @@ bases_fit f u = same_bases _ _ _ _ _ _ (first_fit (unit_fit f u) 0x72 u.root.att
 
 own_fit : {K : Type 0} (f : FileFit K) (u : DwUnit K) → own_of u ≡ own_of (fit_unit f u)
 own_fit {K} f u =
-    ap (λ (ks : List K). record { at = u.at; keys = ks; bases = bases_in u }) (sym (fit_entry_keys f u)) ∙ ap (λ (b : Bases). record { at = u.at; keys = entry_keys (fit_unit f u); bases = b }) (sym (bases_fit f u))
+    ap (λ (ks : List K). record { at = u.at; keys = ks; bases = bases_in u }) (sym (fit_entry_keys f u))
+        ∙ ap (λ (b : Bases). record { at = u.at; keys = entry_keys (fit_unit f u); bases = b }) (sym (bases_fit f u))
 
 -- ---- each value is written as its form says
 
@@ -95,7 +96,8 @@ module _ {K : Type 0} (f : FileFit K) (is : IsSame f.same) (from : Sources → T
   list_good : (a : Attr K) → Listed a → AttrOperands t own a → Good t own (fit_attr x a)
   list_good a k there = record { sound = subst SoundAttr (sym (k.stays x)) k.sound; says = subst (AttrSays t own) (sym (k.stays x)) (by k.class) } where
     by : ((class_of a.form ≡ OfOffset) × (names_list a.name ≡ true)) ⊎ (class_of a.form ≡ OfListIndex) → AttrSays t own a
-    by (inl c) = subst (λ (d : Class). SaysAs d t own a) (sym c.0) (so_yes (names_list a.name) _ _ c.1 (so_true (names_list a.name) _ _ c.1 (subst (λ (d : Class). OperandsStandAs d t own a) c.0 there)))
+    by (inl c) = subst (λ (d : Class). SaysAs d t own a) (sym c.0) (so_yes (names_list a.name) _ _ c.1
+        (so_true (names_list a.name) _ _ c.1 (subst (λ (d : Class). OperandsStandAs d t own a) c.0 there)))
     by (inr c) = subst (λ (d : Class). SaysAs d t own a) (sym c) (subst (λ (d : Class). OperandsStandAs d t own a) c there)
 
   attr_good : (a : Attr K) → CarriedAttr from (f.origin u.at) a → Each (λ k. In k t.all ⊎ In k t.common) a.value.refs → At a → Good t own (fit_attr x a)
@@ -158,7 +160,8 @@ module _ {K : Type 0} (f : FileFit K) (is : IsSame f.same) (from : Sources → T
 
 -- ---- the units of a file
 
-sections_common : {K : Type 0} (kind : Kind K) (from : Sources → Type 0) (f : Forms K) (x : Fit K) (t : Tells K) (units : List (DwUnit K)) (b : Bool) → f.texts ≡ x.texts → f.paths ≡ x.paths → f.offsets ≡ x.offsets → SectionsStand b from f t units → SectionsAt (holder_of b kind) from x t
+sections_common : {K : Type 0} (kind : Kind K) (from : Sources → Type 0) (f : Forms K) (x : Fit K) (t : Tells K) (units : List (DwUnit K)) (b : Bool) → f.texts ≡ x.texts → f.paths ≡ x.paths
+    → f.offsets ≡ x.offsets → SectionsStand b from f t units → SectionsAt (holder_of b kind) from x t
 sections_common kind from f x t units true texts paths offsets at =
     record { strs = at.1.strs ∙ ap texts_bytes texts; line = at.1.line ∙ ap lines_bytes paths; few = at.1.few; are_texts = subst AreTexts paths at.1.are_texts }
 sections_common Compile from f x t units false texts paths offsets at = subst (λ (w : List ℕ). SourcesAt from w t) offsets at.1
@@ -197,11 +200,13 @@ record TextsFor {K : Type 0} (h : Holder) (texts paths : List (List ℕ)) (u : D
   root : Each (TextFor h texts paths) u.root.attrs
   below : EachAttr (TextFor h texts paths) u.below
 
-texts_for : {K : Type 0} (u : DwUnit K) (from : Sources → Type 0) (f : Forms K) (t : Tells K) (units : List (DwUnit K)) (b : Bool) → In u units → SectionsStand b from f t units → TextsFor (holder_of b u.kind) f.texts f.paths u
+texts_for : {K : Type 0} (u : DwUnit K) (from : Sources → Type 0) (f : Forms K) (t : Tells K) (units : List (DwUnit K)) (b : Bool) → In u units → SectionsStand b from f t units
+    → TextsFor (holder_of b u.kind) f.texts f.paths u
 texts_for u from f t units true there at =
     let is = each_in (UnitTexts f.texts) u units at.1.texts there in
     let are = each_in (UnitPaths f.paths) u units at.1.paths there in
-    record { root = join_attrs (AttrTexts f.texts) (AttrPaths f.paths) _ (λ a p q. (p, q)) u.root.attrs is.0 are.0; below = join_entries (AttrTexts f.texts) (AttrPaths f.paths) _ (λ a p q. (p, q)) u.below is.1 are.1 }
+    record { root = join_attrs (AttrTexts f.texts) (AttrPaths f.paths) _ (λ a p q. (p, q)) u.root.attrs is.0 are.0;
+        below = join_entries (AttrTexts f.texts) (AttrPaths f.paths) _ (λ a p q. (p, q)) u.below is.1 are.1 }
 texts_for u from f t units false there at = record { root = all_attrs _ (text_for u.kind f.texts f.paths) u.root.attrs; below = all_entries _ (text_for u.kind f.texts f.paths) u.below }
 
 keys_within : {K : Type 0} (units : List (DwUnit K)) (u : DwUnit K) → In u units → (k : K) → In k (unit_keys u) → In k (units_keys units)
@@ -227,12 +232,15 @@ module _ {K : Type 0} (f : Forms K) (is : IsSame f.same) (from : Sources → Typ
       let exprs = each_in (OperandsStand t) u units operands there in
       let texts = texts_for u from f t units f.is_common there stand in
       let h = holder_of f.is_common u.kind in
-      unit_good file is from t (small_strs from f t units f.is_common stand) u within apart inside alone (sections_common u.kind from f (unit_fit file u) t units f.is_common refl refl refl stand) own.own
+      unit_good file is from t (small_strs from f t units f.is_common stand) u within apart inside alone (sections_common u.kind from f (unit_fit file u) t units f.is_common refl refl refl stand)
+          own.own
       (each_in (λ v. CarriedUnit from (f.origin v.at) v) u units carried there) root below
       (join_attrs (AttrAt h f.texts f.paths (bases_in u).line (f.origin u.at).line) (AttrOperands t (own_of u)) _ (λ a p q. (p, q)) u.root.attrs
-      (join_attrs (TextFor h f.texts f.paths) (FileStands h (bases_in u).line (f.origin u.at).line) (AttrAt h f.texts f.paths (bases_in u).line (f.origin u.at).line) (λ a p q. (p, q)) u.root.attrs texts.root own.root) exprs.0)
+      (join_attrs (TextFor h f.texts f.paths) (FileStands h (bases_in u).line (f.origin u.at).line) (AttrAt h f.texts f.paths (bases_in u).line (f.origin u.at).line) (λ a p q. (p, q)) u.root.attrs
+          texts.root own.root) exprs.0)
       (join_entries (AttrAt h f.texts f.paths (bases_in u).line (f.origin u.at).line) (AttrOperands t (own_of u)) _ (λ a p q. (p, q)) u.below
-      (join_entries (TextFor h f.texts f.paths) (FileStands h (bases_in u).line (f.origin u.at).line) (AttrAt h f.texts f.paths (bases_in u).line (f.origin u.at).line) (λ a p q. (p, q)) u.below texts.below own.below) exprs.1)
+      (join_entries (TextFor h f.texts f.paths) (FileStands h (bases_in u).line (f.origin u.at).line) (AttrAt h f.texts f.paths (bases_in u).line (f.origin u.at).line) (λ a p q. (p, q)) u.below
+          texts.below own.below) exprs.1)
 
   each_good : (some : List (DwUnit K)) → ((u : DwUnit K) → In u some → In u units) → Each SoundUnit (map (fit_unit file) some) × Each (UnitSays t) (map (fit_unit file) some)
   each_good [] into = (tt, tt)

@@ -228,7 +228,8 @@ module _ {K : Type 0} (from : Sources → Type 0) (t : Tells K) (small : length 
   ]
 
   pub text_good : (h : Holder) (f : Fit K) → f.holder ≡ h → SectionsAt h from f t → TextFor h f.texts f.paths a → Good t own (fit_attr f a)
-  text_good CommonUnit f e at there = subst (Good t own) (sym (as_text_is CommonUnit f e)) (pooled_good t own a p.text p.value p.sound f.texts small at.strs no_zero (one_of t own a p.text p.value p.sound f.texts (text_there f.texts there.0)))
+  text_good CommonUnit f e at there = subst (Good t own) (sym (as_text_is CommonUnit f e))
+      (pooled_good t own a p.text p.value p.sound f.texts small at.strs no_zero (one_of t own a p.text p.value p.sound f.texts (text_there f.texts there.0)))
   text_good OldUnit f e at there = subst (Good t own) (sym (as_text_is OldUnit f e)) (kept_good f.offsets at)
   text_good NewUnit f e at there = subst (Good t own) (sym (as_text_is NewUnit f e)) (kept_good f.offsets at)
 
@@ -267,7 +268,8 @@ module _ {K : Type 0} (from : Sources → Type 0) (origin : Bases) (t : Tells K)
       let stands = stands_there f.offsets at in
       subst (Good t own) (sym (as_slot_is NewUnit f e)) (subst (λ (n : ℕ). Good t own (in_strs t own a p.text p.value p.sound n)) (sym (number_is f here at)) (strp_good t own a p.text p.value p.sound p.offset (place_less t own a p.text p.value p.sound p.offset small stands) stands))
   slot_good CommonUnit f e here itself at there =
-      subst (Good t own) (sym (as_slot_is CommonUnit f e)) (pooled_good t own a p.text p.value p.sound f.texts small at.strs p.stands.spelled.no_zero (one_of t own a p.text p.value p.sound f.texts (subst (λ (d : Class). TextAs d f.texts a) p.class there.0)))
+      subst (Good t own) (sym (as_slot_is CommonUnit f e)) (pooled_good t own a p.text p.value p.sound f.texts small at.strs p.stands.spelled.no_zero
+          (one_of t own a p.text p.value p.sound f.texts (subst (λ (d : Class). TextAs d f.texts a) p.class there.0)))
 
 -- ---- files
 
@@ -289,7 +291,8 @@ module _ {K : Type 0} (from : Sources → Type 0) (origin : Bases) (t : Tells K)
   file_told : (offsets : List ℕ) → SourcesAt from offsets t → own.bases.line ≡ origin.line → Good t own a
   file_told offsets same line = record {
     sound = p.sound;
-    says = subst (λ (d : Class). SaysAs d t own a) (sym p.numbers.0) (so_yes (names_file a.name) _ _ p.numbers.1 (subst (λ (o : Option ℕ). FileSays (told_texts t) t.line o a) (sym line) (told offsets same origin.line p.says)));
+    says = subst (λ (d : Class). SaysAs d t own a) (sym p.numbers.0) (so_yes (names_file a.name) _ _ p.numbers.1
+        (subst (λ (o : Option ℕ). FileSays (told_texts t) t.line o a) (sym line) (told offsets same origin.line p.says)));
   }
 
   as_file_is : (h : Holder) (f : Fit K) → f.holder ≡ h → fit_attr f a ≡ with_form a (as_file h f a)
@@ -317,9 +320,11 @@ module _ {K : Type 0} (from : Sources → Type 0) (origin : Bases) (t : Tells K)
   none_good paths value line =
       let plain : a.value.plain ≡ File None = ap (λ (v : Value K). v.plain) value in
       let none : own.bases.line ≡ None = subst (LineFor own.bases.line) plain line in
-      subst (λ (q : Plain). Good t own (numbered (file_number paths q))) (sym plain) (numbered_good 0 (omega arith) (subst (λ (o : Option ℕ). FileSays (told_texts t) t.line o (numbered 0)) (sym none) (refl, value)))
+      subst (λ (q : Plain). Good t own (numbered (file_number paths q))) (sym plain)
+          (numbered_good 0 (omega arith) (subst (λ (o : Option ℕ). FileSays (told_texts t) t.line o (numbered 0)) (sym none) (refl, value)))
 
-  some_good : (f : Fit K) → CommonAt f t → (path : List ℕ) → a.value ≡ only (File (Some path)) → AttrPaths f.paths a → LineFor own.bases.line a.value.plain → Good t own (numbered (file_number f.paths a.value.plain))
+  some_good : (f : Fit K) → CommonAt f t → (path : List ℕ) → a.value ≡ only (File (Some path)) → AttrPaths f.paths a → LineFor own.bases.line a.value.plain
+      → Good t own (numbered (file_number f.paths a.value.plain))
   some_good f at path value among line =
       let plain : a.value.plain ≡ File (Some path) = ap (λ (v : Value K). v.plain) value in
       let zero_line : own.bases.line ≡ Some 0 = subst (LineFor own.bases.line) plain line in
@@ -334,13 +339,16 @@ module _ {K : Type 0} (from : Sources → Type 0) (origin : Bases) (t : Tells K)
         value = value;
       } in
       let few = table.2.1 in
-      subst (λ (q : Plain). Good t own (numbered (file_number f.paths q))) (sym plain) (numbered_good number (omega (arith, few)) (subst (λ (o : Option ℕ). FileSays (told_texts t) t.line o (numbered number)) (sym zero_line) says))
+      subst (λ (q : Plain). Good t own (numbered (file_number f.paths q))) (sym plain)
+          (numbered_good number (omega (arith, few)) (subst (λ (o : Option ℕ). FileSays (told_texts t) t.line o (numbered number)) (sym zero_line) says))
 
-  common_good : (f : Fit K) → CommonAt f t → AttrPaths f.paths a → LineFor own.bases.line a.value.plain → (o : Option ℕ) → FileSays (texts_of p.sources) p.sources.line o a → Good t own (numbered (file_number f.paths a.value.plain))
+  common_good : (f : Fit K) → CommonAt f t → AttrPaths f.paths a → LineFor own.bases.line a.value.plain → (o : Option ℕ) → FileSays (texts_of p.sources) p.sources.line o a
+      → Good t own (numbered (file_number f.paths a.value.plain))
   common_good f at among line None says = none_good f.paths says.1 line
   common_good f at among line (Some place) says = some_good f at says.path says.value among line
 
-  pub file_good : (h : Holder) (f : Fit K) → f.holder ≡ h → ComesFromItself h own.bases origin → SectionsAt h from f t → TextFor h f.texts f.paths a → FileStands h own.bases.line origin.line a → Good t own (fit_attr f a)
+  pub file_good : (h : Holder) (f : Fit K) → f.holder ≡ h → ComesFromItself h own.bases origin → SectionsAt h from f t → TextFor h f.texts f.paths a → FileStands h own.bases.line origin.line a
+      → Good t own (fit_attr f a)
   file_good OldUnit f e itself at there file = subst (Good t own) (sym (as_file_is OldUnit f e)) (file_told f.offsets at (ap (λ (b : Bases). b.line) itself))
   file_good NewUnit f e itself at there file = subst (Good t own) (sym (as_file_is NewUnit f e)) (file_told f.offsets at (file p.numbers))
   file_good CommonUnit f e itself at there file = subst (Good t own) (sym (as_file_is CommonUnit f e)) (common_good f at there.1 (file p.numbers) origin.line p.says)

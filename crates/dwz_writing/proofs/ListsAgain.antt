@@ -105,7 +105,8 @@ module _ {K P : Type 0} (n : Numbering K) (g : K → P) (unit : ℕ) (t : Tells 
   attrs_again (a ∷ attrs) at fits says l (inl x) = attr_again a _ refl refl fits.0 says.0 l x
   attrs_again (a ∷ attrs) at fits says l (inr r) = attrs_again attrs _ fits.1 says.1 l r
 
-  node_again : (attrs : List (Attr K)) (at : ℕ) → Each SoundAttr attrs → Each (AttrFits n unit) attrs → Each (AttrSays t own) attrs → (l : NamedList) → AnyNames s (without_siblings (raw_attrs n unit at attrs)) l → Again l
+  node_again : (attrs : List (Attr K)) (at : ℕ) → Each SoundAttr attrs → Each (AttrFits n unit) attrs → Each (AttrSays t own) attrs → (l : NamedList)
+      → AnyNames s (without_siblings (raw_attrs n unit at attrs)) l → Again l
   node_again attrs at sound fits says l names = attrs_again attrs at fits says l (subst (λ (w : List RawAttr). AnyNames s w l) (all_stay n unit attrs at sound) names)
 
   entries_again : (table : List Shape) (f : Entries K) → SoundEntries f → EntriesFit n unit f → EntriesSay t own f → (l : NamedList) → AnyEntryNames s (raw_entries n unit table f) l → Again l
@@ -115,8 +116,10 @@ module _ {K P : Type 0} (n : Numbering K) (g : K → P) (unit : ℕ) (t : Tells 
   entries_again table (Entry e children next) sound fits says l (inr (inl x)) = entries_again table children sound.1 fits.1 says.1 l x
   entries_again table (Entry e children next) sound fits says l (inr (inr x)) = entries_again table next sound.2 fits.2 says.2 l x
 
-module _ {K P : Type 0} (n : Numbering K) (g : K → P) (tables : List (List ℕ)) (t : Tells K) (keys : List K) (around : Around P) (is : IsAround n g t keys around) (within : (k : K) → In k t.all → In k keys) where
-  units_again : (units : List (DwUnit K)) → ((k : K) → In k (units_keys units) → In k keys) → Each SoundUnit units → Each (UnitFits n) units → UnitsSay t units → (l : NamedList) → AnyUnitNames around (raw_units n tables units) l → IsAgain n g t is.lists.number l
+module _ {K P : Type 0} (n : Numbering K) (g : K → P) (tables : List (List ℕ)) (t : Tells K) (keys : List K) (around : Around P) (is : IsAround n g t keys around)
+    (within : (k : K) → In k t.all → In k keys) where
+  units_again : (units : List (DwUnit K)) → ((k : K) → In k (units_keys units) → In k keys) → Each SoundUnit units → Each (UnitFits n) units → UnitsSay t units → (l : NamedList)
+      → AnyUnitNames around (raw_units n tables units) l → IsAgain n g t is.lists.number l
   unfolding raw_units units_keys unit_keys
   units_again [] inside sound fits says l names = absurd names
   units_again (u ∷ units) inside sound fits says l (inl x) =
@@ -155,8 +158,10 @@ module _ (few many : List NamedList) (into : (l : NamedList) → In l few → In
   none_fewer none place h = none place (h.0, operands_into few into h.0 h.1, (h.2.0, shared_into h.0 h.2.1))
 
 -- so the lists that the units name share nothing
-pub units_share_none : {K P : Type 0} (n : Numbering K) (g : K → P) (tables : List (List ℕ)) (t : Tells K) (keys : List K) (around : Around P) → IsAround n g t keys around → ((k : K) → In k t.all → In k keys)
-    → (units : List (DwUnit K)) → ((k : K) → In k (units_keys units) → In k keys) → Each SoundUnit units → Each (UnitFits n) units → UnitsSay t units → NoneShared (lists_of_units around (raw_units n tables units))
+pub units_share_none : {K P : Type 0} (n : Numbering K) (g : K → P) (tables : List (List ℕ)) (t : Tells K) (keys : List K) (around : Around P) → IsAround n g t keys around
+    → ((k : K) → In k t.all → In k keys)
+    → (units : List (DwUnit K)) → ((k : K) → In k (units_keys units) → In k keys) → Each SoundUnit units → Each (UnitFits n) units → UnitsSay t units
+    → NoneShared (lists_of_units around (raw_units n tables units))
 units_share_none {K} n g tables t keys around is within units inside sound fits says =
     let unit : ℕ → ℕ = λ u. n.place (t.name u) in
     let all = map (named_with unit is.lists.number) t.named in

@@ -140,12 +140,14 @@ module _ {K : Type 0} (add : List (List ℕ) → Attr K → List (List ℕ)) (P 
   has_units found (u ∷ units) =
       let one = attrs_with add found u.root.attrs in
       let two = entries_with add one u.below in (
-        (more_attrs one (units_with add two units) u.root.attrs (λ x there. keeps_units two units x (keeps_entries one u.below x there)) (has_attrs found u.root.attrs), more_entries two (units_with add two units) u.below (keeps_units two units) (has_entries one u.below)),
+        (more_attrs one (units_with add two units) u.root.attrs (λ x there. keeps_units two units x (keeps_entries one u.below x there)) (has_attrs found u.root.attrs),
+            more_entries two (units_with add two units) u.below (keeps_units two units) (has_entries one u.below)),
         has_units two units,
       )
 
 -- what is found is as it was, where no attribute adds anything else
-module _ {K : Type 0} (add : List (List ℕ) → Attr K → List (List ℕ)) (Good : List (List ℕ) → Type 0) (C : Attr K → Type 0) (step : (found : List (List ℕ)) (a : Attr K) → C a → Good found → Good (add found a)) where
+module _ {K : Type 0} (add : List (List ℕ) → Attr K → List (List ℕ)) (Good : List (List ℕ) → Type 0) (C : Attr K → Type 0)
+    (step : (found : List (List ℕ)) (a : Attr K) → C a → Good found → Good (add found a)) where
   good_attrs : (found : List (List ℕ)) (attrs : List (Attr K)) → Each C attrs → Good found → Good (attrs_with add found attrs)
   unfolding attrs_with
   good_attrs found [] are good = good
@@ -161,7 +163,8 @@ module _ {K : Type 0} (add : List (List ℕ) → Attr K → List (List ℕ)) (Go
   unfolding units_with
   good_units found [] are good = good
   good_units found (u ∷ units) are good =
-      good_units (entries_with add (attrs_with add found u.root.attrs) u.below) units are.1 (good_entries (attrs_with add found u.root.attrs) u.below are.0.1 (good_attrs found u.root.attrs are.0.0 good))
+      good_units (entries_with add (attrs_with add found u.root.attrs) u.below) units are.1
+          (good_entries (attrs_with add found u.root.attrs) u.below are.0.1 (good_attrs found u.root.attrs are.0.0 good))
 
 -- ---- texts
 
@@ -186,7 +189,8 @@ module _ {K : Type 0} where
 
   pub units_texts : (texts : List (List ℕ)) (units : List (DwUnit K)) → Each (UnitTexts (texts_of texts units)) units
   units_texts texts units =
-      has_units attr_text AttrTexts (λ found a. keeps_as (class_of a.form) found a) (λ few many a more is. more_as (class_of a.form) few many a more is) (λ found a. has_as (class_of a.form) found a) texts units
+      has_units attr_text AttrTexts (λ found a. keeps_as (class_of a.form) found a) (λ few many a more is. more_as (class_of a.form) few many a more is) (λ found a. has_as (class_of a.form) found a)
+          texts units
 
 -- ---- paths
 
@@ -228,7 +232,8 @@ path_added (File None) paths none are = are
 path_added _ paths none are = are
 
 -- so have all of them
-pub paths_texts : {K : Type 0} (units : List (DwUnit K)) → Each (λ u. Each (λ a. PathText a.value.plain) u.root.attrs × EachAttr (λ a. PathText a.value.plain) u.below) units → AreTexts (paths_of [] units)
+pub paths_texts : {K : Type 0} (units : List (DwUnit K)) → Each (λ u. Each (λ a. PathText a.value.plain) u.root.attrs × EachAttr (λ a. PathText a.value.plain) u.below) units
+    → AreTexts (paths_of [] units)
 paths_texts units are = good_units attr_path AreTexts (λ a. PathText a.value.plain) (λ found a is good. path_added a.value.plain found is good) [] units are tt
 
 -- a path that is one of them has its number
@@ -236,7 +241,8 @@ path_nth : (paths : List (List ℕ)) (path : List ℕ) → In path paths → nth
 unfolding nth_path path_index
 path_nth [] path there = absurd there
 path_nth (p ∷ paths) path there = by (λ r. path_nth paths path r) (same_numbers p path) refl where
-  by : (In path paths → nth_path paths (path_index paths path) ≡ Some path) → (b : Bool) → same_numbers p path ≡ b → nth_path (p ∷ paths) (elim b as (λ _. ℕ) [ true ↦ 0 | false ↦ suc (path_index paths path) ]) ≡ Some path
+  by : (In path paths → nth_path paths (path_index paths path) ≡ Some path) → (b : Bool) → same_numbers p path ≡ b
+      → nth_path (p ∷ paths) (elim b as (λ _. ℕ) [ true ↦ 0 | false ↦ suc (path_index paths path) ]) ≡ Some path
   by rest true e = ap (λ (x : List ℕ). Some x) (numbers_true p path e)
   by rest false e = elim there [
     | inl i ↦ absurd (let is : same_numbers p path ≡ true = subst (λ (y : List ℕ). same_numbers p y ≡ true) i (numbers_same p) in cc)

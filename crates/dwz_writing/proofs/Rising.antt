@@ -139,7 +139,8 @@ module _ {K : Type 0} (n : Numbering K) where
 
 -- ---- what names entries fits
 
-module _ {K : Type 0} (n : Numbering K) (unit : ℕ) (t : Tells K) (own : Own K) (inside : (k : K) → In k own.keys → FitsUnit n unit k) (behind : (k : K) → In k own.keys → unit < n.place k) (small : (k : K) → In k t.all → FitsInfo n k) (above : (k : K) → In k t.all → 0 < n.place k)
+module _ {K : Type 0} (n : Numbering K) (unit : ℕ) (t : Tells K) (own : Own K) (inside : (k : K) → In k own.keys → FitsUnit n unit k) (behind : (k : K) → In k own.keys → unit < n.place k)
+    (small : (k : K) → In k t.all → FitsInfo n k) (above : (k : K) → In k t.all → 0 < n.place k)
     (common : (k : K) → In k t.common → FitsInfo n k) where
   -- the number of an operand, which names an entry, and has room for it
   record Counts (base : Base) (k : K) : Type 0 where
@@ -198,7 +199,8 @@ module _ {K : Type 0} (n : Numbering K) (unit : ℕ) (t : Tells K) (own : Own K)
   kind_fits (OfType signature main) says = inside main says
   kind_fits Partial says = tt
 
-module _ {K : Type 0} (n : Numbering K) (t : Tells K) (small : (k : K) → In k t.all → FitsInfo n k) (above : (k : K) → In k t.all → 0 < n.place k) (common : (k : K) → In k t.common → FitsInfo n k) where
+module _ {K : Type 0} (n : Numbering K) (t : Tells K) (small : (k : K) → In k t.all → FitsInfo n k) (above : (k : K) → In k t.all → 0 < n.place k) (common : (k : K) → In k t.common → FitsInfo n k)
+    where
   unit_fits : (u : DwUnit K) (at : ℕ) → UnitStands n u at → unit_size n at u < 2 ^ 32 → UnitHasRoom n u → UnitSays t u → UnitFits n u
   unit_fits u at stands lt room says =
       let unit = n.place u.at in

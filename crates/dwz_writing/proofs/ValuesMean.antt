@@ -172,7 +172,8 @@ module _ {K P : Type 0} (n : Numbering K) (g : K → P) (unit : ℕ) (t : Tells 
       (c.0, c.1, (among, value ∙ ap (λ (q : P). ref q) (sym c.3) ∙ ap (λ (q : ℕ). ref (c.0.place q)) at))
   as_means OfSignature a at end e built stores fits says = (let r = read_of OfSignature a e says in kept g a r.named r.value _ r.same r.means ∙ ap (λ (z : ℤ). only (Sig (reach z))) r.number)
   as_means OfOffset a at end e built stores fits says = by (names_list a.name) refl says where
-    by : (b : Bool) → names_list a.name ≡ b → IfSo b (ListSays t own a) (a.value ≡ only (Sec (reach a.raw))) → IfSo b (IsLocList s (reach a.raw) (value_map g a.value)) (value_map g a.value ≡ only (Sec (reach a.raw)))
+    by : (b : Bool) → names_list a.name ≡ b → IfSo b (ListSays t own a) (a.value ≡ only (Sec (reach a.raw)))
+        → IfSo b (IsLocList s (reach a.raw) (value_map g a.value)) (value_map g a.value ≡ only (Sec (reach a.raw)))
     by true names says =
         (let means = list_means n g unit t own s is a says fits (stored_at OfOffset n unit a at end) refl refl refl in
         let as_offset = subst (λ (c : Class). MeansAs c s (stored_at OfOffset n unit a at end) (value_map g a.value)) e means in
@@ -180,7 +181,8 @@ module _ {K P : Type 0} (n : Numbering K) (g : K → P) (unit : ℕ) (t : Tells 
     by false names says = ap (λ (w : Value K). value_map g w) says
   as_means OfExpression a at end e built stores fits says = expr_means n g unit t own s is a at end fits says
   as_means OfListIndex a at end e built stores fits says =
-      subst (λ (c : Class). MeansAs c s (stored_at OfListIndex n unit a at end) (value_map g a.value)) e (list_means n g unit t own s is a says fits (stored_at OfListIndex n unit a at end) refl refl refl)
+      subst (λ (c : Class). MeansAs c s (stored_at OfListIndex n unit a at end) (value_map g a.value)) e
+          (list_means n g unit t own s is a says fits (stored_at OfListIndex n unit a at end) refl refl refl)
   as_means OfIndex a at end e built stores fits says = (let r = read_of OfIndex a e says in kept g a r.named r.value _ r.same r.means ∙ ap (λ (z : ℤ). only (Index (reach z))) r.number)
   as_means OfCommonText a at end e built stores fits says = absurd built
   as_means Unread a at end e built stores fits says = absurd built

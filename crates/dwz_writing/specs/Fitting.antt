@@ -88,7 +88,8 @@ FitsWidth false width number = number < 256 ^ width
 abbrev pub OperandsHaveRoom : {K : Type 0} → Numbering K → ℕ → List Part → List K → Type 0
 OperandsHaveRoom n unit [] [] = Unit {0}
 OperandsHaveRoom n unit (Same bytes ∷ parts) refs = OperandsHaveRoom n unit parts refs
-OperandsHaveRoom n unit (document.Operand width uleb base ∷ parts) (k ∷ refs) = FitsWidth uleb width (n.place k - base_place unit base) × OperandsHaveRoom n unit parts refs
+OperandsHaveRoom n unit (document.Operand width uleb base ∷ parts) (k ∷ refs) = FitsWidth uleb width (n.place k - base_place unit base)
+    × OperandsHaveRoom n unit parts refs
 OperandsHaveRoom n unit _ _ = ⊥
 
 -- so of an expression, and of a location list

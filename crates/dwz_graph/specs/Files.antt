@@ -12,7 +12,7 @@ use Rattle.dwz_meanings.specs.Files.{Limits, around_of, file_meaning, files_mean
 use Rattle.dwz_docs.specs.Units.{RawUnit, entries_in}
 use Rattle.dwz_meanings.specs.NamedLists.{lists_of_units}
 use Rattle.dwz_meanings.specs.Shared.{AreRows}
-use Rattle.dwz_resolve.specs.ListRows.{operand_view}
+use Rattle.dwz_resolve.specs.ListRows.{AreOfUnits, operand_view}
 use Rattle.dwz_graph.specs.declared.file.File.{File}
 use Rattle.dwz_graph.specs.declared.file.Left.{Left}
 use Rattle.dwz_resolve.specs.Named.{units_refs}
@@ -33,6 +33,7 @@ pub record IsRead (l : Limits) (bytes : List ℕ) (f : File) : Type 0 where
   pub parts : AreParted (around_of bytes (units_of f.units)) (units_of f.units) (entries_in (units_of f.units)) f.resolved.refs.items f.resolved.starts.items
   pub lines : HaveLines (around_of bytes (units_of f.units)) (units_of f.units) (length (units_of f.units)) f.resolved.tables.items f.resolved.lines.items
   pub operands : AreRows (lists_of_units (around_of bytes (units_of f.units)) (units_of f.units)) (map (operand_view (units_of f.units)) f.resolved.operands.items)
+  pub of_units : AreOfUnits (units_of f.units) f.resolved.operands.items
   pub elf : f.elf ≡ elf_of bytes
   pub sections : sources_view f.sections ≡ sources_of bytes
 

@@ -3,6 +3,8 @@
 
 mod file;
 mod graph;
+#[cfg(test)]
+mod tests;
 
 pub use file::File;
 pub use graph::Graph;

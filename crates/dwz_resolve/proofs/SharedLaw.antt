@@ -14,7 +14,7 @@ use Rattle.dwz_resolve.specs.declared.lists.ListRow.{ListRow}
 use Rattle.dwz_resolve.specs.declared.lists.Lists.{Lists}
 use Rattle.dwz_resolve.specs.declared.operands.ListOperand.{ListOperand as Row}
 use Rattle.dwz_resolve.specs.Apart.{AreWide, Before, Clash, FindsApart, Foreign, HasClash, IsCause, Rise, Rows, Same, Test, Tested, places_of_rows}
-use Rattle.dwz_resolve.specs.ListRows.{AreDistinct, IsRowOf, Shows, operand_view, own_rows, row_test, slot_test, start_of, tests_of}
+use Rattle.dwz_resolve.specs.ListRows.{AreOfUnits, AreDistinct, IsRowOf, Shows, operand_view, own_rows, row_test, slot_test, start_of, tests_of}
 use Rattle.dwz_resolve.proofs.ApartLemmas.{each_behind, each_wide, in_both, in_left, in_right, in_take, one_row, same_sym, same_trans}
 
 -- ---- members
@@ -330,7 +330,7 @@ module _ (raw : List RawUnit) (named : List NamedList) (lists : Lists) (shows : 
 -- ---- what is answered
 
 abbrev pub Answered : List RawUnit → List NamedList → List Row → Option ℕ → Type 0
-Answered raw named kept None = (none_shared named ≡ Ok tt) × AreRows named (map (operand_view raw) kept)
+Answered raw named kept None = (none_shared named ≡ Ok tt) × AreRows named (map (operand_view raw) kept) × AreOfUnits raw kept
 Answered raw named kept (Some q) = none_shared named ≡ Err (shared_list q)
 
 no_clash : (place clash : Option ℕ) → ((n : ℕ) → Before place n → Before clash n) → place ≡ None → clash ≡ None
@@ -341,7 +341,7 @@ pub shared_answer : (raw : List RawUnit) (named : List NamedList) (lists : Lists
     → (place : Option ℕ) → Tested sorted kept clash (tests_of lists) place → Answered raw named kept place
 shared_answer raw named lists shows distinct sorted kept moved clash apart None tested =
     let none : NoneShared named = λ q shared. none_at raw named lists shows distinct sorted kept moved clash apart None tested q tt shared in
-    (((shared_agrees named).ok tt).1 none, are_rows raw named lists shows distinct sorted kept moved clash apart None tested (no_clash None clash tested.under refl))
+    (((shared_agrees named).ok tt).1 none, are_rows raw named lists shows distinct sorted kept moved clash apart None tested (no_clash None clash tested.under refl), λ o is. shows.units o (in_unsorted lists.operands.items sorted moved o (apart.from o is)))
 shared_answer raw named lists shows distinct sorted kept moved clash apart (Some q) tested =
     ((shared_agrees named).err (shared_list q)).1 (record {
       place = q;

@@ -60,6 +60,10 @@ pub record IsRowOf (raw : List RawUnit) (operands : List OperandOfCode) (l : Nam
   pub end : w.end ≡ l.list.end
   pub own : map (operand_view raw) (own_rows operands w) ≡ map (of_unit l.unit) (own_operands l)
 
+-- the unit of each is one of them
+abbrev pub AreOfUnits : List RawUnit → List OperandOfCode → Type 0
+AreOfUnits raw rows = (o : OperandOfCode) → In o rows → o.unit < length raw
+
 -- these lists are kept, and no others
 pub record Shows (raw : List RawUnit) (named : List NamedList) (lists : Lists) : Type 0 where
   pub within : AreWithin lists
@@ -68,9 +72,9 @@ pub record Shows (raw : List RawUnit) (named : List NamedList) (lists : Lists) :
   pub slots : (l : NamedList) (slot : ℕ) → In l named → l.slot ≡ Some slot → In slot lists.slots.items
   pub slots_of : (slot : ℕ) → In slot lists.slots.items → OneOf named (λ l. l.slot ≡ Some slot)
   pub operands_of : (o : OperandOfCode) → In o lists.operands.items → OneOf lists.rows.items (λ w. In o (own_rows lists.operands.items w))
-  pub units : (o : OperandOfCode) → In o lists.operands.items → o.unit < length raw
+  pub units : AreOfUnits raw lists.operands.items
   pub stand : (w : ListRow) → In w lists.rows.items → Rows (w.from + 1) (own_rows lists.operands.items w) w.end
 
 -- no list is shared, and these are the operands
 abbrev pub AreUnshared : List RawUnit → List NamedList → List OperandOfCode → Type 0
-AreUnshared raw named rows = (none_shared named ≡ Ok tt) × AreRows named (map (operand_view raw) rows)
+AreUnshared raw named rows = (none_shared named ≡ Ok tt) × AreRows named (map (operand_view raw) rows) × AreOfUnits raw rows

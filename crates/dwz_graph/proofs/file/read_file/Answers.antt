@@ -77,6 +77,7 @@ returns c =
       parts = subst (λ (w : Sources). AreParted (alone w raw) raw (entries_in raw) c.in_ok-resolved.resolved.refs.items c.in_ok-resolved.resolved.starts.items) same c.in_ok-resolved.ensures.starts;
       lines = subst (λ (w : Sources). HaveLines (alone w raw) raw (length raw) c.in_ok-resolved.resolved.tables.items c.in_ok-resolved.resolved.lines.items) same c.in_ok-resolved.ensures.lines;
       operands = same_rows bytes sources (units_of c.in_ok-units.units) _ same c.in_ok-resolved.ensures.operands;
+      of_units = c.in_ok-resolved.ensures.units;
       elf = elf.1;
       sections = same;
     }

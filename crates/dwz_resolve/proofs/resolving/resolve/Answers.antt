@@ -103,3 +103,11 @@ returns-clause-lines c =
     let added = c.in_ok-add_units.ensures.goes none in
     have_lines a raw (length raw) c.add_units.new.state.files c.add_units.new.parts.lines.items added.keeps.tables
     ((c.in_ok-add_units.ensures.parts none (none_parted c.args.sections.now raw c.new-state.result c.in_ok-parts.parts n.refs c.in_ok-parts.ensures.starts c.in_ok-parts.ensures.lines)).lines)
+
+pub returns-clause-units : goal.returns-clause-units
+returns-clause-units c =
+    let raw = units_of c.args.units.now in
+    let a = around c.args.sections.now raw in
+    let n = c.new-state.ensures in
+    let added = c.in_ok-add_units.ensures.goes (none_behind raw a c.new-state.result n.rows n.operands n.slots n.seen (n.tables a.sources)) in
+    (c.in_ok-operands.ensures.ok raw added.lists added.keeps.shows (starts_distinct c.args.units.now)).2

@@ -60,14 +60,19 @@ fn pieces_as_by_hand(rt: HostRuntime) -> Result<(), Fail> {
     let mut out = Vec::new(rt.alloc());
     put_values(&mut out)?;
     let values = [
-        0, 1, 255, 1, 1, 0, 0, 2, 1, 3, 1, 7, 4, 3, b'i', b'n', b't', 5, 1, 1, b'a', 5, 0, 6, 7, 5, 8, 9, 9, 0, 10, 4,
+        0, 1, 255, 1, 1, 0, 0, 2, 1, 3, 1, 7, 4, 3, b'i', b'n', b't', 5, 1, 1, b'a', 5, 0, 6, 7, 5,
+        8, 9, 9, 0, 10, 4,
     ];
     assert_eq!(rt; out.as_slice(), values.as_slice());
     out.clear();
     put_expressions(&mut out)?;
     let expressions = [11, 2, 0, 2, 0x91, 2, 1, 4, 0, 0, 12, 1, 1, 1, 2, 1, 1];
     assert_eq!(rt; out.as_slice(), expressions.as_slice());
-    for (language, bytes) in [(None, [0].as_slice()), (Some(29), &[1, 29]), (Some(-2), &[2, 1])] {
+    for (language, bytes) in [
+        (None, [0].as_slice()),
+        (Some(29), &[1, 29]),
+        (Some(-2), &[2, 1]),
+    ] {
         out.clear();
         put_language(&mut out, language)?;
         assert_eq!(rt; out.as_slice(), bytes);
@@ -143,7 +148,12 @@ impl LabelWriter for Counting {
 fn many_labels_in_order(rt: HostRuntime) -> Result<(), Fail> {
     let labels = labels_by(&rt, rt.alloc(), &Counting, 20000)?;
     assert_eq!(rt; labels.len(), 20000);
-    for (n, bytes) in [(0, [0].as_slice()), (1023, &[255, 7]), (1024, &[128, 8]), (19999, &[159, 156, 1])] {
+    for (n, bytes) in [
+        (0, [0].as_slice()),
+        (1023, &[255, 7]),
+        (1024, &[128, 8]),
+        (19999, &[159, 156, 1]),
+    ] {
         let there = n < labels.len();
         assert!(rt; there);
         assert_eq!(rt; labels.get(n), bytes);

@@ -11,8 +11,8 @@ use Rattle.std.specs.Str.{bytes_eq}
 use Rattle.dwz_bucket.specs.Fnv.{hash_of}
 use Rattle.dwz_nodes.specs.Looks.{IsLeastBelow}
 use Rattle.dwz_label.specs.declared.equal.Keyed.{Keyed}
-use Rattle.dwz_label.specs.Keyed.{AreHashed, AreHeads, AreOneKey, ArePut, AreUnlike, IsUnlike, Order, hash_at}
-use Rattle.dwz_label.specs.Shown.{AreFirsts, label_at}
+use Rattle.dwz_label.specs.Keyed.{AreHashed, AreHeads, AreOneKey, AreLeastPut, AreUnlike, IsUnlike, Order, hash_at}
+use Rattle.dwz_label.specs.Shown.{AreFirstEquals, nth_label}
 use Rattle.dwz_label.proofs.Choices.{by_if, if_false, if_true}
 use Rattle.dwz_label.proofs.Rows.{passed_same, picked_least, rows_inside, rows_one}
 use denote.Ref.{Bor}
@@ -45,7 +45,7 @@ module _ (labels : List (List ℕ)) (movable : List Bool) (many : length movable
   IsHash n key = key ≡ hash_at labels n
 
   abbrev SameLabel : ℕ → ℕ → Type 0
-  SameLabel n m = label_at labels n ≡ label_at labels m
+  SameLabel n m = nth_label labels n ≡ nth_label labels m
 
   -- ---- heads
 
@@ -62,7 +62,7 @@ module _ (labels : List (List ℕ)) (movable : List Bool) (many : length movable
     pub hashed_one : AreOneKey nat_cmp rows
     hashed_one = rows_one IsFree IsHash SameHash nat_cmp hash_tied (length labels) rows are (λ n. refl)
 
-    pub hashed_heads : (own heads : List ℕ) → length own ≡ length labels → ((n : ℕ) → n < length labels → slice_index own n ≡ n) → ArePut nat_cmp rows own heads → AreHeads labels movable heads
+    pub hashed_heads : (own heads : List ℕ) → length own ≡ length labels → ((n : ℕ) → n < length labels → slice_index own n ≡ n) → AreLeastPut nat_cmp rows own heads → AreHeads labels movable heads
     hashed_heads own heads len each put = record {
       len = put.len ∙ len ∙ sym many;
       each = λ n l. by_if (slice_index_or movable n false) _ _
@@ -97,16 +97,16 @@ module _ (labels : List (List ℕ)) (movable : List Bool) (many : length movable
 
     unlike_free : (n : ℕ) → n < length labels → IsUnlike labels heads n → IsFree n
     unlike_free n l other = ⊎_elim (λ (free : IsFree n). free)
-        (λ (bound : slice_index_or movable n false ≡ false). absurd (other (ap (label_at labels) (sym (own_head n l bound)))))
+        (λ (bound : slice_index_or movable n false ≡ false). absurd (other (ap (nth_label labels) (sym (own_head n l bound)))))
         (cases_Bool (slice_index_or movable n false))
 
     -- what has the label of one that is unlike its head is so too
     unlike_too : (n m : ℕ) → n < length labels → m < length labels → IsFree n → IsFree m → SameLabel n m → IsUnlike labels heads n → IsUnlike labels heads m
-    unlike_too n m k l p q e other same = other (e ∙ same ∙ ap (label_at labels) (sym (one_head n m k l p q (ap hash_of e))))
+    unlike_too n m k l p q e other same = other (e ∙ same ∙ ap (nth_label labels) (sym (one_head n m k l p q (ap hash_of e))))
 
     module _ (rows : List (Keyed (Bor (List ℕ)))) (are : AreUnlike labels heads (length labels) rows) where
       abbrev IsKey : ℕ → Bor (List ℕ) → Type 0
-      IsKey n key = key.now ≡ label_at labels n
+      IsKey n key = key.now ≡ nth_label labels n
 
       label_tied : (m n : ℕ) (x y : Bor (List ℕ)) → IsKey m x → IsKey n y → SameLabel m n → by_bytes x y ≡ Equal
       label_tied m n x y p q e = bytes_tied x.now y.now (p ∙ e ∙ sym q)
@@ -120,7 +120,7 @@ module _ (labels : List (List ℕ)) (movable : List Bool) (many : length movable
       pub unlike_one : AreOneKey by_bytes rows
       unlike_one = rows_one (IsUnlike labels heads) IsKey SameLabel by_bytes label_tied (length labels) rows are (λ n. refl)
 
-      module _ (firsts : List ℕ) (put : ArePut by_bytes rows heads firsts) where
+      module _ (firsts : List ℕ) (put : AreLeastPut by_bytes rows heads firsts) where
         -- of one that is like its head
         like_first : (n : ℕ) → n < length labels → IsFree n → SameLabel n (slice_index heads n) → IsLeastBelow (length movable) (λ m. IsFree m × SameLabel n m) (slice_index firsts n)
         like_first n l free same =
@@ -141,18 +141,18 @@ module _ (labels : List (List ℕ)) (movable : List Bool) (many : length movable
 
         free_first : (n : ℕ) → n < length labels → IsFree n → IsLeastBelow (length movable) (λ m. IsFree m × SameLabel n m) (slice_index firsts n)
         free_first n l free =
-            let head = label_at labels (slice_index heads n) in
-            let decides = bytes_eq-Decides (label_at labels n) head in ⊎_elim
-            (λ (e : bytes_eq (label_at labels n) head ≡ true). like_first n l free (decides.0 e))
-            (λ (e : bytes_eq (label_at labels n) head ≡ false). unlike_first n l free (λ same. true≢false (sym (decides.1 same) ∙ e)))
-            (cases_Bool (bytes_eq (label_at labels n) head))
+            let head = nth_label labels (slice_index heads n) in
+            let decides = bytes_eq-Decides (nth_label labels n) head in ⊎_elim
+            (λ (e : bytes_eq (nth_label labels n) head ≡ true). like_first n l free (decides.0 e))
+            (λ (e : bytes_eq (nth_label labels n) head ≡ false). unlike_first n l free (λ same. true≢false (sym (decides.1 same) ∙ e)))
+            (cases_Bool (bytes_eq (nth_label labels n) head))
 
         bound_first : (n : ℕ) → n < length labels → slice_index_or movable n false ≡ false → slice_index firsts n ≡ n
         bound_first n l bound =
             let own = own_head n l bound in
-            passed_same (IsUnlike labels heads) IsKey SameLabel by_bytes label_tied (length labels) rows are label_same heads firsts put n (λ other. other (ap (label_at labels) (sym own))) ∙ own
+            passed_same (IsUnlike labels heads) IsKey SameLabel by_bytes label_tied (length labels) rows are label_same heads firsts put n (λ other. other (ap (nth_label labels) (sym own))) ∙ own
 
-        pub unlike_firsts : AreFirsts labels movable firsts
+        pub unlike_firsts : AreFirstEquals labels movable firsts
         unlike_firsts = record {
           len = put.len ∙ led.len;
           each = λ n low. (

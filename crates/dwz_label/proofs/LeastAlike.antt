@@ -11,11 +11,11 @@ use Rattle.dwz_alike.specs.Spots.{FileUnit, Spot, Top, tops_of}
 use Rattle.dwz_alike.proofs.AlikeBound.{movable_decides}
 use Rattle.dwz_alike.proofs.AlikeLaws.{alike_joins, alike_turns, test_decides}
 use Rattle.dwz_alike.proofs.TopNumbers.{tops_numbers, top_at}
-use Rattle.dwz_label.specs.Nodes.{AreLeast, AreNodes, HaveOneLeast}
+use Rattle.dwz_label.specs.Nodes.{AreLeast, AreTopNodes, HaveOneLeast}
 use Rattle.dwz_label.proofs.Choices.{by_if, if_true}
 use Rattle.dwz_label.proofs.NodeLooks.{bound_node, movable_node, node_looks, top_below}
 
-module _ (units : List (FileUnit Spot)) (g : List Node) (nodes : AreNodes units g) where
+module _ (units : List (FileUnit Spot)) (g : List Node) (nodes : AreTopNodes units g) where
   -- a node with the label of a movable top's is a movable top's
   label_movable : (a b : Top) → In a (tops_of units) → In b (tops_of units) → Movable units a.number → label_at g a.number ≡ label_at g b.number → is_movable units b ≡ true
   label_movable a b i j m e = ⊎_elim (λ t. t)

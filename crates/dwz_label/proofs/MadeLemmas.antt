@@ -11,8 +11,8 @@ use Rattle.dwz_alike.specs.Spots.{FileUnit, Spot, Top, tops_of}
 use Rattle.dwz_alike.proofs.AlikeBound.{movable_decides}
 use Rattle.dwz_alike.proofs.TopNumbers.{tops_numbers, top_at}
 use Rattle.dwz_label.specs.Labels.{label_of}
-use Rattle.dwz_label.specs.Nodes.{AreNodes, IsLikeness}
-use Rattle.dwz_label.specs.Shown.{AreFirsts, AreMade, AreShown, label_at}
+use Rattle.dwz_label.specs.Nodes.{AreTopNodes, IsLikeness}
+use Rattle.dwz_label.specs.Shown.{AreFirstEquals, AreMadeOf, AreShown, nth_label}
 use Rattle.dwz_label.proofs.Choices.{by_if, if_false, if_true}
 use Rattle.dwz_label.proofs.LabelLemmas.{bare_label, label_bare}
 use Rattle.dwz_label.proofs.NodeLooks.{top_below}
@@ -22,7 +22,7 @@ chosen true ts count inside = inside
 chosen false ts count inside = λ k d l. absurd (omega arith)
 
 pub made_closed : (firsts : List ℕ) (movable : List Bool) (targets : List (List ℕ)) (g : List Node) → length targets ≡ length firsts
-    → All (λ ts. All (λ t. t < length targets) ts) targets → AreMade firsts movable targets g → IsClosed g
+    → All (λ ts. All (λ t. t < length targets) ts) targets → AreMadeOf firsts movable targets g → IsClosed g
 made_closed firsts movable targets g many inside made n l =
     let size : length g ≡ length targets = made.len ∙ sym many in
     subst (λ (k : ℕ). All (λ t. t < k) (node_at g n).targets) (sym size)
@@ -30,7 +30,7 @@ made_closed firsts movable targets g many inside made n l =
     (chosen (slice_index_or movable n false) (slice_index_or targets n []) (length targets) (inside n [] (omega arith))))
 
 module _ (units : List (FileUnit Spot)) (labels : List (List ℕ)) (movable : List Bool) (targets : List (List ℕ)) (firsts : List ℕ) (g : List Node)
-    (shown : AreShown units labels movable targets) (are : AreFirsts labels movable firsts) (made : AreMade firsts movable targets g) where
+    (shown : AreShown units labels movable targets) (are : AreFirstEquals labels movable firsts) (made : AreMadeOf firsts movable targets g) where
   many : length firsts ≡ length (tops_of units)
   many = are.len ∙ shown.flags.len
 
@@ -48,7 +48,7 @@ module _ (units : List (FileUnit Spot)) (labels : List (List ℕ)) (movable : Li
       let u = top_at 0 (tops_of units) (slice_index firsts t.number) (tops_numbers units) (omega arith) (omega arith) in
       let flag : is_movable units u.0 ≡ true = sym (shown.flags.each u.0 u.1) ∙ ap (λ (k : ℕ). get_or movable k false) u.2 ∙ r.is.0 in
       let moves = (movable_decides units u.0 u.1).0 flag in
-      let equal : label_of t ≡ label_of u.0 = sym (shown.labels_are t i free) ∙ r.is.1 ∙ ap (label_at labels) (sym u.2) ∙ shown.labels_are u.0 u.1 moves in
+      let equal : label_of t ≡ label_of u.0 = sym (shown.labels_are t i free) ∙ r.is.1 ∙ ap (nth_label labels) (sym u.2) ∙ shown.labels_are u.0 u.1 moves in
       record {
         inside = low;
         is = record { top = u.0; is_top = u.1; number = u.2; movable = subst (λ (k : ℕ). Movable units k) u.2 moves; same = label_bare t u.0 equal };
@@ -56,12 +56,12 @@ module _ (units : List (FileUnit Spot)) (labels : List (List ℕ)) (movable : Li
             let v = like.top in
             let n = like.number in
             let own = subst (λ (k : ℕ). Movable units k) (sym n) like.movable in
-            let same : label_at labels t.number ≡ label_at labels v.number = shown.labels_are t i free ∙ bare_label t v like.same ∙ sym (shown.labels_are v like.is_top own) in
+            let same : nth_label labels t.number ≡ nth_label labels v.number = shown.labels_are t i free ∙ bare_label t v like.same ∙ sym (shown.labels_are v like.is_top own) in
             let up_to = r.least v.number (flag_below v like.is_top) (shown.flags.each v like.is_top ∙ (movable_decides units v like.is_top).1 own, same) in
             omega arith);
       }
 
-  pub made_nodes : AreNodes units g
+  pub made_nodes : AreTopNodes units g
   made_nodes = record {
     len = made.len ∙ many;
     each = λ t i. by_if (is_movable units t) _ _

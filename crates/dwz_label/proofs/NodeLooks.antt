@@ -16,7 +16,7 @@ use Rattle.dwz_alike.specs.Targets.{targets_of}
 use Rattle.dwz_alike.proofs.AlikeBound.{movable_closed, movable_decides}
 use Rattle.dwz_alike.proofs.AlikeLooks.{look_in, look_out}
 use Rattle.dwz_alike.proofs.TopNumbers.{number_below, one_top, tops_numbers, top_at}
-use Rattle.dwz_label.specs.Nodes.{AreNodes, SameBare, ShowsBound, ShowsMovable}
+use Rattle.dwz_label.specs.Nodes.{AreTopNodes, SameBare, ShowsBound, ShowsMovable}
 use Rattle.dwz_label.proofs.Bare.{bare_joins, bare_of, bare_turns, targets_among, top_whole, top_zip}
 use Rattle.dwz_label.proofs.Choices.{if_false, if_true}
 use Rattle.dwz_label.proofs.Pairs.{zip_from, zip_more}
@@ -32,7 +32,7 @@ top_below units t i = let low = number_below 0 (tops_of units) t (tops_numbers u
 pub movable_below : (units : List (FileUnit Spot)) (n : ℕ) → Movable units n → n < length (tops_of units)
 movable_below units n m = let low = top_below units m.top m.is_top in let same = m.number in omega arith
 
-module _ (units : List (FileUnit Spot)) (g : List Node) (nodes : AreNodes units g) where
+module _ (units : List (FileUnit Spot)) (g : List Node) (nodes : AreTopNodes units g) where
   pub movable_node : (t : Top) → In t (tops_of units) → Movable units t.number → ShowsMovable units g t
   movable_node t i m = if_true (is_movable units t) _ _ ((movable_decides units t i).1 m) (nodes.each t i)
 

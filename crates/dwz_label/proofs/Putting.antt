@@ -6,7 +6,7 @@ use Rattle.std.specs.List.Sorted.{IsSorted}
 use Rattle.std.proofs.lemmas.List.Sorted.{Contains-permutation, IsPermutation-sym}
 use Rattle.std.proofs.Math.ListN.{length-set, set}
 use Rattle.dwz_label.specs.declared.equal.Keyed.{Keyed}
-use Rattle.dwz_label.specs.Keyed.{AreOneKey, ArePut, ArePutTo, IsLeastUnder, IsNew, Order}
+use Rattle.dwz_label.specs.Keyed.{AreOneKey, AreLeastPut, ArePutTo, IsLeastUnder, IsNewKey, Order}
 use Rattle.dwz_label.proofs.Together.{contains_at, found_at, least_again, least_here, row_cmp}
 use mathlib.Core.Logic.{dite}
 use native.Mathlib.Decide.{ℕ_discrete}
@@ -17,10 +17,10 @@ put_none cmp rows old first = record { len = refl; put = λ i d l. absurd (omega
 module _ {K : Type 0} (cmp : Order K) (total : IsTotalOrder cmp) (rows : List (Keyed K)) (up : IsSorted (row_cmp cmp total) rows) (one : AreOneKey cmp rows)
     (n first : ℕ) (old new : List ℕ) (inside : n < length rows) (so_far : ArePutTo cmp rows old n new first) where
   -- the number that is written at the next row
-  pub next_new : (b : Bool) → IsNew cmp rows b n → b ≡ true → (d : Keyed K) → IsLeastUnder cmp rows (get_or rows n d).key (get_or rows n d).number
+  pub next_new : (b : Bool) → IsNewKey cmp rows b n → b ≡ true → (d : Keyed K) → IsLeastUnder cmp rows (get_or rows n d).key (get_or rows n d).number
   next_new b is e d = least_here cmp total rows up d n inside (λ j s. is.new e j s d)
 
-  pub next_again : (b : Bool) → IsNew cmp rows b n → b ≡ false → (d : Keyed K) → IsLeastUnder cmp rows (get_or rows n d).key first
+  pub next_again : (b : Bool) → IsNewKey cmp rows b n → b ≡ false → (d : Keyed K) → IsLeastUnder cmp rows (get_or rows n d).key first
   next_again b is e d =
       let a = is.again e in
       let s = a.1 in
@@ -68,7 +68,7 @@ module _ {K : Type 0} (cmp : Order K) (xs ys : List (Keyed K)) (moved : IsPermut
   pub one_moved : AreOneKey cmp xs → AreOneKey cmp ys
   one_moved one r s c d e = one r s (from r c) (from s d) e
 
-  pub put_moved : (old new : List ℕ) (first : ℕ) → ArePutTo cmp ys old (length ys) new first → ArePut cmp xs old new
+  pub put_moved : (old new : List ℕ) (first : ℕ) → ArePutTo cmp ys old (length ys) new first → AreLeastPut cmp xs old new
   put_moved old new first h = record {
     len = h.len;
     put = λ r c. (

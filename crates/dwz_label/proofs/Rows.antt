@@ -6,7 +6,7 @@ use Rattle.std.proofs.Math.Seq.{get_or-append_seam}
 use Rattle.std.proofs.lemmas.List.Elements.{Contains-push}
 use Rattle.dwz_nodes.specs.Looks.{IsLeastBelow}
 use Rattle.dwz_label.specs.declared.equal.Keyed.{Keyed}
-use Rattle.dwz_label.specs.Keyed.{AreOneKey, ArePut, AreRows, Order}
+use Rattle.dwz_label.specs.Keyed.{AreOneKey, AreLeastPut, AreKeyed, Order}
 use Rattle.dwz_label.proofs.Together.{contains_at}
 
 -- ---- gathered
@@ -22,16 +22,16 @@ module _ {K : Type 0} where
       (let l = c.1 in grind (arith, length-append rows (s ∷ [])))
 
 module _ {K : Type 0} (Picked : ℕ → Type 0) (IsKey : ℕ → K → Type 0) where
-  pub rows_none : AreRows Picked IsKey 0 []
+  pub rows_none : AreKeyed Picked IsKey 0 []
   rows_none = record { inside = λ r c. absurd (let l = c.1 in omega arith); all = λ n l p. absurd (omega arith) }
 
-  pub rows_passed : (rows : List (Keyed K)) (n : ℕ) → (Picked n → ⊥) → AreRows Picked IsKey n rows → AreRows Picked IsKey (n + 1) rows
+  pub rows_passed : (rows : List (Keyed K)) (n : ℕ) → (Picked n → ⊥) → AreKeyed Picked IsKey n rows → AreKeyed Picked IsKey (n + 1) rows
   rows_passed rows n not h = record {
     inside = λ r c. (let i = h.inside r c in let l = i.0 in (omega arith, i.1, i.2));
     all = λ m l p. ⊎_elim (λ (lt : m < n). h.all m lt p) (λ (e : m ≡ n). absurd (not (subst Picked e p))) (grind arith);
   }
 
-  pub rows_more : (rows : List (Keyed K)) (n : ℕ) (row : Keyed K) → row.number ≡ n → Picked n → IsKey n row.key → AreRows Picked IsKey n rows → AreRows Picked IsKey (n + 1) (rows ++ row ∷ [])
+  pub rows_more : (rows : List (Keyed K)) (n : ℕ) (row : Keyed K) → row.number ≡ n → Picked n → IsKey n row.key → AreKeyed Picked IsKey n rows → AreKeyed Picked IsKey (n + 1) (rows ++ row ∷ [])
   rows_more rows n row is picked key h = record {
     inside = λ r c. ⊎_elim
         (λ d. let i = h.inside r d in let l = i.0 in (omega arith, i.1, i.2))
@@ -46,7 +46,7 @@ module _ {K : Type 0} (Picked : ℕ → Type 0) (IsKey : ℕ → K → Type 0) w
 -- ---- written
 
 module _ {K : Type 0} (Picked : ℕ → Type 0) (IsKey : ℕ → K → Type 0) (Same : ℕ → ℕ → Type 0) (cmp : Order K)
-    (tied : (m n : ℕ) (x y : K) → IsKey m x → IsKey n y → Same m n → cmp x y ≡ Equal) (count : ℕ) (rows : List (Keyed K)) (are : AreRows Picked IsKey count rows) where
+    (tied : (m n : ℕ) (x y : K) → IsKey m x → IsKey n y → Same m n → cmp x y ≡ Equal) (count : ℕ) (rows : List (Keyed K)) (are : AreKeyed Picked IsKey count rows) where
   pub rows_inside : (old : List ℕ) → length old ≡ count → All (λ r. r.number < length old) rows
   rows_inside old len i d l = let h = (are.inside (get_or rows i d) (contains_at rows i d l)).0 in omega arith
 
@@ -56,7 +56,7 @@ module _ {K : Type 0} (Picked : ℕ → Type 0) (IsKey : ℕ → K → Type 0) (
       let y = are.inside s d in
       tied r.number s.number r.key s.key x.2 y.2 (subst (λ (m : ℕ). Same r.number m) e (self r.number))
 
-  module _ (same : (m n : ℕ) (x y : K) → IsKey m x → IsKey n y → cmp x y ≡ Equal → Same m n) (old new : List ℕ) (put : ArePut cmp rows old new) where
+  module _ (same : (m n : ℕ) (x y : K) → IsKey m x → IsKey n y → cmp x y ≡ Equal → Same m n) (old new : List ℕ) (put : AreLeastPut cmp rows old new) where
     pub picked_least : (n : ℕ) → n < count → Picked n → IsLeastBelow count (λ m. Picked m × Same n m) (slice_index new n)
     picked_least n l p =
         let o = are.all n l p in

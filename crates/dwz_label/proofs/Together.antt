@@ -9,7 +9,7 @@ use Rattle.std.proofs.lemmas.Cmp.{alike_right, by_ranked, nat_cmp_total, on_tota
 use Rattle.std.proofs.lemmas.List.{get_or_default}
 use Rattle.std.proofs.lemmas.List.Sorted.{ranks_by, sorted_far}
 use Rattle.dwz_label.specs.declared.equal.Keyed.{Keyed}
-use Rattle.dwz_label.specs.Keyed.{IsLeastUnder, IsNew, Order}
+use Rattle.dwz_label.specs.Keyed.{IsLeastUnder, IsNewKey, Order}
 
 number_low : (x y : ℕ) → is_lt (nat_cmp x y) ≡ false → y ≤ x
 number_low x y e = by_ranked (x < y) (x ≡ y) (y < x) (nat_cmp x y) (ranked x y (nat_cmp x y) refl)
@@ -102,7 +102,7 @@ equal_if Equal e = refl
 equal_if Greater e = absurd (true≢false e)
 
 pub new_tells : {K : Type 0} (cmp : Order K) (rows : List (Keyed K)) (at : ℕ) (o : Ordering) (b : Bool) (r s : Keyed K) → at < length rows → (at ≡ 0 → ⊥)
-    → o ≡ cmp (get_or rows (at - 1) r).key (get_or rows at s).key → b ≡ is_ne o → IsNew cmp rows b at
+    → o ≡ cmp (get_or rows (at - 1) r).key (get_or rows at s).key → b ≡ is_ne o → IsNewKey cmp rows b at
 new_tells {K} cmp rows at o b r s l some is b_is = record {
   new = λ e j next d tied. ne_not o (told j next d ∙ tied) (sym b_is ∙ e);
   again = λ e. (at - 1, omega arith, λ d. sym (told (at - 1) (omega arith) d) ∙ equal_if o (sym b_is ∙ e));

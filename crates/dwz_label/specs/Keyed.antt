@@ -4,7 +4,7 @@ use Rattle.std.specs.declared.cmp.Ordering.{Ordering}
 use Rattle.std.specs.declared.cmp.Ordering.TheVariants.{Equal}
 use Rattle.dwz_bucket.specs.Fnv.{hash_of}
 use Rattle.dwz_label.specs.declared.equal.Keyed.{Keyed}
-use Rattle.dwz_label.specs.Shown.{AreLeastOf, label_at}
+use Rattle.dwz_label.specs.Shown.{AreLeastOf, nth_label}
 use denote.Ref.{Bor}
 
 abbrev pub Order : Type 0 → Type 0
@@ -23,43 +23,43 @@ abbrev pub AreOneKey : {K : Type 0} → Order K → List (Keyed K) → Type 0
 AreOneKey {K} cmp rows = (r s : Keyed K) → Contains rows r → Contains rows s → r.number ≡ s.number → cmp r.key s.key ≡ Equal
 
 -- at the number of each row stands the least under its key, and at each other number what stood there
-pub record ArePut {K : Type 0} (cmp : Order K) (rows : List (Keyed K)) (old new : List ℕ) : Type 0 where
+pub record AreLeastPut {K : Type 0} (cmp : Order K) (rows : List (Keyed K)) (old new : List ℕ) : Type 0 where
   pub len : length new ≡ length old
   pub put : (r : Keyed K) → Contains rows r → IsLeastUnder cmp rows r.key (slice_index new r.number)
   pub other : (n : ℕ) → ((r : Keyed K) → Contains rows r → r.number ≡ n → ⊥) → slice_index new n ≡ slice_index old n
 
 -- the key and the number of the row at i
-abbrev pub key_at : {K : Type 0} → List (Keyed K) → ℕ → Keyed K → K
-key_at rows i d = (slice_index_or rows i d).key
+abbrev pub row_key : {K : Type 0} → List (Keyed K) → ℕ → Keyed K → K
+row_key rows i d = (slice_index_or rows i d).key
 
-abbrev pub number_at : {K : Type 0} → List (Keyed K) → ℕ → Keyed K → ℕ
-number_at rows i d = (slice_index_or rows i d).number
+abbrev pub row_number : {K : Type 0} → List (Keyed K) → ℕ → Keyed K → ℕ
+row_number rows i d = (slice_index_or rows i d).number
 
 -- whether the row at i is under another key than the row before it
-pub record IsNew {K : Type 0} (cmp : Order K) (rows : List (Keyed K)) (is_new : Bool) (i : ℕ) : Type 0 where
-  pub new : is_new ≡ true → (j : ℕ) → i ≡ suc j → (d : Keyed K) → cmp (key_at rows j d) (key_at rows i d) ≡ Equal → ⊥
-  pub again : is_new ≡ false → (j : ℕ) × (i ≡ suc j) × ((d : Keyed K) → cmp (key_at rows j d) (key_at rows i d) ≡ Equal)
+pub record IsNewKey {K : Type 0} (cmp : Order K) (rows : List (Keyed K)) (is_new : Bool) (i : ℕ) : Type 0 where
+  pub new : is_new ≡ true → (j : ℕ) → i ≡ suc j → (d : Keyed K) → cmp (row_key rows j d) (row_key rows i d) ≡ Equal → ⊥
+  pub again : is_new ≡ false → (j : ℕ) × (i ≡ suc j) × ((d : Keyed K) → cmp (row_key rows j d) (row_key rows i d) ≡ Equal)
 
 -- the same of the first rows alone; and the number that was written last is the least under the key of the last of these
 pub record ArePutTo {K : Type 0} (cmp : Order K) (rows : List (Keyed K)) (old : List ℕ) (k : ℕ) (new : List ℕ) (first : ℕ) : Type 0 where
   pub len : length new ≡ length old
-  pub put : (i : ℕ) (d : Keyed K) → i < k → IsLeastUnder cmp rows (key_at rows i d) (slice_index new (number_at rows i d))
-  pub last : (d : Keyed K) → 0 < k → IsLeastUnder cmp rows (key_at rows (k - 1) d) first
-  pub other : (n : ℕ) → ((i : ℕ) (d : Keyed K) → i < k → number_at rows i d ≡ n → ⊥) → slice_index new n ≡ slice_index old n
+  pub put : (i : ℕ) (d : Keyed K) → i < k → IsLeastUnder cmp rows (row_key rows i d) (slice_index new (row_number rows i d))
+  pub last : (d : Keyed K) → 0 < k → IsLeastUnder cmp rows (row_key rows (k - 1) d) first
+  pub other : (n : ℕ) → ((i : ℕ) (d : Keyed K) → i < k → row_number rows i d ≡ n → ⊥) → slice_index new n ≡ slice_index old n
 
 -- one row or more for each picked number below count, under its key
-pub record AreRows {K : Type 0} (Picked : ℕ → Type 0) (IsKey : ℕ → K → Type 0) (count : ℕ) (rows : List (Keyed K)) : Type 0 where
+pub record AreKeyed {K : Type 0} (Picked : ℕ → Type 0) (IsKey : ℕ → K → Type 0) (count : ℕ) (rows : List (Keyed K)) : Type 0 where
   pub inside : (r : Keyed K) → Contains rows r → (r.number < count) × Picked r.number × IsKey r.number r.key
   pub all : (n : ℕ) → n < count → Picked n → (r : Keyed K) × Contains rows r × (r.number ≡ n)
 
 -- ---- labels by their hashes
 
 abbrev pub hash_at : List (List ℕ) → ℕ → ℕ
-hash_at labels n = hash_of (label_at labels n)
+hash_at labels n = hash_of (nth_label labels n)
 
 -- the rows of those that may move, each under the hash of its label
 abbrev pub AreHashed : List (List ℕ) → List Bool → ℕ → List (Keyed ℕ) → Type 0
-AreHashed labels movable count rows = AreRows (λ n. slice_index_or movable n false ≡ true) (λ n key. key ≡ hash_at labels n) count rows
+AreHashed labels movable count rows = AreKeyed (λ n. slice_index_or movable n false ≡ true) (λ n key. key ≡ hash_at labels n) count rows
 
 -- of each that may move the least whose label has the same hash, and of each other one its own number
 abbrev pub AreHeads : List (List ℕ) → List Bool → List ℕ → Type 0
@@ -67,8 +67,8 @@ AreHeads labels movable heads = AreLeastOf (λ n m. hash_at labels n ≡ hash_at
 
 -- the label isn't that of the number beside it
 abbrev pub IsUnlike : List (List ℕ) → List ℕ → ℕ → Type 0
-IsUnlike labels heads n = label_at labels n ≡ label_at labels (slice_index heads n) → ⊥
+IsUnlike labels heads n = nth_label labels n ≡ nth_label labels (slice_index heads n) → ⊥
 
 -- the rows of those, each under its label
 abbrev pub AreUnlike : List (List ℕ) → List ℕ → ℕ → List (Keyed (Bor (List ℕ))) → Type 0
-AreUnlike labels heads count rows = AreRows (IsUnlike labels heads) (λ n key. key.now ≡ label_at labels n) count rows
+AreUnlike labels heads count rows = AreKeyed (IsUnlike labels heads) (λ n key. key.now ≡ nth_label labels n) count rows

@@ -10,8 +10,8 @@ use Rattle.dwz_alike.specs.Deciding.{Test, alike_test}
 use Rattle.dwz_alike.specs.Spots.{FileUnit, Spot, Top, tops_of}
 use Rattle.dwz_alike.specs.Targets.{targets_of}
 use Rattle.dwz_label.specs.Labels.{label_of, number}
-use Rattle.dwz_label.specs.Nodes.{AreLeast, AreNodes, HaveOneLeast, SameBare}
-use Rattle.dwz_label.specs.Shown.{AreFirsts, AreMade, AreShown}
+use Rattle.dwz_label.specs.Nodes.{AreLeast, AreTopNodes, HaveOneLeast, SameBare}
+use Rattle.dwz_label.specs.Shown.{AreFirstEquals, AreMadeOf, AreShown}
 
 -- labels are equal exactly if languages, name lists and bare trees are
 abbrev pub LabelLaw : Type 0
@@ -22,27 +22,27 @@ abbrev pub NumberLaw : Type 0
 NumberLaw = (n : ℕ) → n < 2 ^ 64 → number n ≡ uleb n
 
 -- the tops of two targets pass the test
-abbrev pub Passes : Test → ℕ → ℕ → Type 0
-Passes test m n = test m n ≡ true
+abbrev pub Passing : Test → ℕ → ℕ → Type 0
+Passing test m n = test m n ≡ true
 
 -- Two tops are the same along a test of the tops of their targets exactly if they are the same but for these, and each two of these
 -- pass the test.
 abbrev pub BareLaw : Type 0
-BareLaw = (test : Test) (a b : Top) → SameTop (Passes test) a b ↔ (SameBare a b × AllZip (Passes test) (targets_of a) (targets_of b))
+BareLaw = (test : Test) (a b : Top) → SameTop (Passing test) a b ↔ (SameBare a b × AllZip (Passing test) (targets_of a) (targets_of b))
 
 -- each target is a node
-abbrev pub ClosedLaw : Type 0
-ClosedLaw = (units : List (FileUnit Spot)) (g : List Node) → AreNodes units g → IsClosed g
+abbrev pub ClosedNodesLaw : Type 0
+ClosedNodesLaw = (units : List (FileUnit Spot)) (g : List Node) → AreTopNodes units g → IsClosed g
 
 -- a look of a depth finds two movable tops equal exactly if it finds their nodes equal
 abbrev pub LooksLaw : Type 0
 LooksLaw =
-    (units : List (FileUnit Spot)) (g : List Node) → AreNodes units g
+    (units : List (FileUnit Spot)) (g : List Node) → AreTopNodes units g
     → (k m n : ℕ) → Movable units m → Movable units n → LookEqual g k m n ↔ Look (tops_of units) k m n
 
 -- the least alike nodes are the least alike tops
 abbrev pub LeastLaw : Type 0
-LeastLaw = (units : List (FileUnit Spot)) (g : List Node) (least : List ℕ) → AreNodes units g → IsRefined g least → AreLeast units least
+LeastLaw = (units : List (FileUnit Spot)) (g : List Node) (least : List ℕ) → AreTopNodes units g → IsRefined g least → AreLeast units least
 
 -- two tops are alike, in either scope, exactly if both may move, they are in one scope, and their least alike tops are one
 abbrev pub OneLeastLaw : Type 0
@@ -56,4 +56,4 @@ abbrev pub MadeLaw : Type 0
 MadeLaw =
     (units : List (FileUnit Spot)) (labels : List (List ℕ)) (movable : List Bool) (targets : List (List ℕ))
     → (firsts : List ℕ) (g : List Node)
-    → AreShown units labels movable targets → AreFirsts labels movable firsts → AreMade firsts movable targets g → AreNodes units g
+    → AreShown units labels movable targets → AreFirstEquals labels movable firsts → AreMadeOf firsts movable targets g → AreTopNodes units g

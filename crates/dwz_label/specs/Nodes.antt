@@ -40,7 +40,7 @@ pub record ShowsBound (g : List Node) (t : Top) : Type 0 where
   pub targets : targets_at g t.number ≡ []
 
 -- one node for each top, in order
-pub record AreNodes (units : List (FileUnit Spot)) (g : List Node) : Type 0 where
+pub record AreTopNodes (units : List (FileUnit Spot)) (g : List Node) : Type 0 where
   pub len : length g ≡ length (tops_of units)
   pub each : (t : Top) → In t (tops_of units) → IfSo (is_movable units t) (ShowsMovable units g t) (ShowsBound g t)
 

@@ -10,14 +10,14 @@ use Rattle.dwz_alike.specs.Spots.{FileUnit, Spot, Top, tops_of}
 use Rattle.dwz_alike.specs.Targets.{targets_of}
 use Rattle.dwz_label.specs.Labels.{label_of}
 
-abbrev pub label_at : List (List ℕ) → ℕ → List ℕ
-label_at labels n = slice_index_or labels n []
+abbrev pub nth_label : List (List ℕ) → ℕ → List ℕ
+nth_label labels n = slice_index_or labels n []
 
 -- of each top whether it may move, and of one that may its label and its targets
 pub record AreShown (units : List (FileUnit Spot)) (labels : List (List ℕ)) (movable : List Bool) (targets : List (List ℕ)) : Type 0 where
   pub flags : AreMovable units movable
   pub labels_len : length labels ≡ length (tops_of units)
-  pub labels_are : (t : Top) → In t (tops_of units) → Movable units t.number → label_at labels t.number ≡ label_of t
+  pub labels_are : (t : Top) → In t (tops_of units) → Movable units t.number → nth_label labels t.number ≡ label_of t
   pub targets_len : length targets ≡ length (tops_of units)
   pub targets_are : (t : Top) → In t (tops_of units) → Movable units t.number → slice_index_or targets t.number [] ≡ targets_of t
 
@@ -32,11 +32,11 @@ pub record AreLeastOf (Same : ℕ → ℕ → Type 0) (movable : List Bool) (lea
       → IfSo (slice_index_or movable n false) (IsLeastFree Same movable n (slice_index least n)) (slice_index least n ≡ n)
 
 -- the same is here to have the same label
-abbrev pub AreFirsts : List (List ℕ) → List Bool → List ℕ → Type 0
-AreFirsts labels movable firsts = AreLeastOf (λ n m. label_at labels n ≡ label_at labels m) movable firsts
+abbrev pub AreFirstEquals : List (List ℕ) → List Bool → List ℕ → Type 0
+AreFirstEquals labels movable firsts = AreLeastOf (λ n m. nth_label labels n ≡ nth_label labels m) movable firsts
 
 -- a node for each, with these targets if it may move, and else with none
-pub record AreMade (firsts : List ℕ) (movable : List Bool) (targets : List (List ℕ)) (g : List Node) : Type 0 where
+pub record AreMadeOf (firsts : List ℕ) (movable : List Bool) (targets : List (List ℕ)) (g : List Node) : Type 0 where
   pub len : length g ≡ length firsts
   pub each : (n : ℕ) → n < length firsts
       → node_at g n ≡ node (slice_index firsts n) (if slice_index_or movable n false then slice_index_or targets n [] else [])

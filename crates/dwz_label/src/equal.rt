@@ -1,8 +1,8 @@
 //! For each top that may move the least one with an equal label.
 
 ghost use Rattle.std.specs.Prelude.{◌≡◌, ℕ, ◌+◌, ◌-◌, ◌<◌, ◌≤◌, ◌^◌, All, length, IfOk, slice_index};
-ghost use Rattle.dwz_label.specs.Shown.{AreFirsts};
-ghost use Rattle.dwz_label.specs.Keyed.{AreHashed, AreOneKey, AreUnlike, ArePut, IsNew};
+ghost use Rattle.dwz_label.specs.Shown.{AreFirstEquals};
+ghost use Rattle.dwz_label.specs.Keyed.{AreHashed, AreOneKey, AreUnlike, AreLeastPut, IsNewKey};
 
 use crate::labels::Labels;
 use dwz_bucket::hash;
@@ -19,7 +19,7 @@ pub(crate) struct Keyed<K> {
 // Whether a row's key is another one than that of the row before it.
 fn is_new<K: Ord>(rows: &[Keyed<K>], at: usize) -> bool
     requires { at < length rows.now }
-    ensures { IsNew K.cmp rows.now result at }
+    ensures { IsNewKey K.cmp rows.now result at }
 {
     at == 0 || rows[at - 1].key.cmp(&rows[at].key).is_ne()
 }
@@ -28,7 +28,7 @@ fn is_new<K: Ord>(rows: &[Keyed<K>], at: usize) -> bool
 fn with_least<K: Ord + Copy>(mut rows: Vec<Keyed<K>>, mut firsts: Vec<u32>) -> Vec<u32>
     requires inside { All (λ r. r.number < length firsts.items) rows.items }
     requires one { AreOneKey K.cmp rows.items }
-    ensures { ArePut K.cmp rows.items firsts.items result.items }
+    ensures { AreLeastPut K.cmp rows.items firsts.items result.items }
 {
     rows.sort_unstable();
     let mut first = 0;
@@ -104,7 +104,7 @@ fn unlike<'l>(
 pub fn firsts(alloc: Global, labels: &Labels, movable: &[bool]) -> Result<Vec<u32>, NoMemory>
     requires many { length movable.now ≡ length labels.now }
     requires few { length labels.now < 2 ^ 32 }
-    ensures { IfOk result (λ firsts. AreFirsts labels.now movable.now firsts.items) }
+    ensures { IfOk result (λ firsts. AreFirstEquals labels.now movable.now firsts.items) }
 {
     let own = numbers(alloc, labels.len())?;
     let rows = hashed(alloc, labels, movable)?;

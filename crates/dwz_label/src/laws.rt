@@ -1,6 +1,6 @@
 //! What labels and nodes say of tops.
 
-ghost use Rattle.dwz_label.specs.LabelLaws.{BareLaw, ClosedLaw, LabelLaw, LeastLaw, LooksLaw, MadeLaw, NumberLaw, OneLeastLaw};
+ghost use Rattle.dwz_label.specs.LabelLaws.{BareLaw, ClosedNodesLaw, LabelLaw, LeastLaw, LooksLaw, MadeLaw, NumberLaw, OneLeastLaw};
 
 /// Laws on labels, of any tops. Two labels are equal exactly if the languages, the name lists and the bare trees are. Each
 /// number of 64 bits has its shortest LEB128 spelling there (DWARF 5, 7.6).
@@ -15,7 +15,7 @@ pub fn label_laws()
 /// either scope, exactly if both are movable, they are in one scope, and their least alike tops are one.
 pub fn node_laws()
     ensures bare { BareLaw }
-    ensures closed { ClosedLaw }
+    ensures closed { ClosedNodesLaw }
     ensures looks { LooksLaw }
     ensures least { LeastLaw }
     ensures alike { OneLeastLaw }

@@ -24,3 +24,6 @@ pub use pieces::{
 };
 pub use runs::labels_by;
 pub use writer::LabelWriter;
+
+#[cfg(test)]
+mod tests;

@@ -1,7 +1,7 @@
 //! The nodes of tops.
 
 ghost use Rattle.std.specs.Prelude.{◌≡◌, ◌-◌, ◌<◌, ◌^◌, [], length, slice_index_or, if◌then◌else◌, IfOk};
-ghost use Rattle.dwz_label.specs.Shown.{AreMade};
+ghost use Rattle.dwz_label.specs.Shown.{AreMadeOf};
 
 use dwz_groups::Groups;
 use dwz_model::NoMemory;
@@ -28,7 +28,7 @@ pub fn nodes(
     requires movable { length movable.now ≡ length firsts.now }
     requires targets { length targets.now ≡ length firsts.now }
     requires few { length firsts.now < 2 ^ 32 - 1 }
-    ensures { IfOk result (λ nodes. AreMade firsts.now movable.now targets.now nodes) }
+    ensures { IfOk result (λ nodes. AreMadeOf firsts.now movable.now targets.now nodes) }
 {
     let mut nodes = Nodes::new(alloc);
     for (n, first) in firsts.iter().enumerate() {

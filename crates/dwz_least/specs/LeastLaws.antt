@@ -18,13 +18,13 @@ abbrev pub flags_of : Tops → List Bool
 flags_of tops = map (λ row. row.movable) tops.rows
 
 -- all files are one scope
-abbrev pub TogetherLaw : Type 0
-TogetherLaw =
+abbrev pub TogetherPlanLaw : Type 0
+TogetherPlanLaw =
     (units : List (FileUnit Spot)) (tops : Tops) (least : List ℕ) → ShowsTops units tops
     → AreMovable units (flags_of tops) → AreLeast units least → IsLeast All tops least (alike_test Together units)
 
 -- each file is one
-abbrev pub ApartLaw : Type 0
-ApartLaw =
+abbrev pub ApartPlanLaw : Type 0
+ApartPlanLaw =
     (units : List (FileUnit Spot)) (tops : Tops) (least : List ℕ) → ShowsTops units tops
     → AreMovable units (flags_of tops) → AreLeast units least → IsLeast Each tops least (alike_test Apart units)

@@ -399,18 +399,6 @@ fn least_of(alloc: Global, case: &Case) -> Result<Vec<u32>, NoMemory> {
     case.tops.iter().map(|(_, least, _)| *least).collect(alloc)
 }
 
-// Whether all numbers of the lists are below `count`.
-fn are_below(lists: &Groups, count: usize) -> bool
-    ensures { IsTrue result → All (λ ts. All (λ t. t < count) ts) lists.now }
-{
-    for key in 0..lists.len() {
-        if !lists.get(key).iter().all(|n| (*n as usize) < count) {
-            return false;
-        }
-    }
-    true
-}
-
 // The plan of a case's tops, if there may be one.
 fn plan_of(alloc: Global, tops: &Tops, least: &[u32], case: &Case) -> Result<Plan, Fail>
     ensures few { IfOk result (λ _. length case.now.moves.now < 2 ^ 32) }
@@ -442,7 +430,7 @@ fn plan_of(alloc: Global, tops: &Tops, least: &[u32], case: &Case) -> Result<Pla
             .as_slice()
             .iter()
             .all(|file| *file < tops.files);
-    if !fits || !are_below(&tops.targets, count) {
+    if !fits || !tops.targets.are_below(count) {
         return Err("no such tops".into());
     }
     Ok(Plan::make(alloc, tops, least, case.scope)?)

@@ -2,7 +2,7 @@ use Rattle.std.proofs.Common.{◌≡◌, ℕ, ◌+◌, Bool, not, true, false, L
 use Rattle.std.proofs.lemmas.Slice.Eq.{bytes_eq-Decides}
 use Rattle.dwz_label.specs.declared.equal.Keyed.{Keyed}
 use Rattle.dwz_label.specs.Keyed.{AreUnlike, IsUnlike}
-use Rattle.dwz_label.specs.Shown.{label_at}
+use Rattle.dwz_label.specs.Shown.{nth_label}
 use Rattle.dwz_label.proofs.Rows.{rows_more, rows_passed}
 use Rattle.dwz_label.proofs.equal.unlike.Goals as goal
 use Rattle.dwz_label.proofs.equal.unlike.Goals.{then-ne+in_ok-push, else-ne}
@@ -18,7 +18,7 @@ not_false false e = absurd cc
 pub loop-n-preserved : goal.loop-n-preserved
 loop-n-preserved c =
     let Picked : ℕ → Type 0 = IsUnlike c.args.labels.now c.args.firsts.now in
-    let IsKey : ℕ → Bor (List ℕ) → Type 0 = λ n key. key.now ≡ label_at c.args.labels.now n in
+    let IsKey : ℕ → Bor (List ℕ) → Type 0 = λ n key. key.now ≡ nth_label c.args.labels.now n in
     let Are : List (Keyed (Bor (List ℕ))) → Type 0 = λ rows. AreUnlike c.args.labels.now c.args.firsts.now (c.loop-n.n + 1) rows in
     let decides = bytes_eq-Decides c.get-label.result.now c.get.result.now in
     elim c.if-ne.branch [

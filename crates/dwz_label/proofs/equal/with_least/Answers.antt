@@ -2,7 +2,7 @@ use Rattle.std.proofs.Common.{◌≡◌, ℕ, ◌<◌, List, length, get_or, sym
 use Rattle.std.proofs.lemmas.List.{get_or_default}
 use Rattle.std.proofs.lemmas.List.Sorted.{All-permutation}
 use Rattle.dwz_label.specs.declared.equal.Keyed.{Keyed}
-use Rattle.dwz_label.specs.Keyed.{ArePutTo, IsLeastUnder, IsNew, Order}
+use Rattle.dwz_label.specs.Keyed.{ArePutTo, IsLeastUnder, IsNewKey, Order}
 use Rattle.dwz_label.proofs.Putting.{next_again, next_new, one_moved, put_more, put_moved}
 use Rattle.dwz_label.proofs.equal.with_least.Goals as goal
 use Rattle.dwz_label.proofs.equal.with_least.Goals.{then-is_new, else-is_new}
@@ -31,7 +31,7 @@ loop-at-preserved g c =
     let row : Keyed K = c.index.result.now in
     let inside : n < length rows = (let t = c.loop-at-test.true in let e = c.len-at-end.ensures in omega arith) in
     let is : (d : Keyed K) → get_or rows n d ≡ row = λ d. get_or_default rows n d row inside ∙ sym c.index.ensures in
-    let next = subst (λ (ls : List (Keyed K)). IsNew cmp ls c.is_new.result n) c.as_slice.ensures.value c.is_new.ensures in
+    let next = subst (λ (ls : List (Keyed K)). IsNewKey cmp ls c.is_new.result n) c.as_slice.ensures.value c.is_new.ensures in
     let low = All-permutation (λ (r : Keyed K). r.number < length c.args.firsts.items) c.args.rows.items rows c.sort_unstable.ensures.permutation c.requires.inside n row inside in
     let same = ap (λ (r : Keyed K). r.number) (is row) in
     let len = c.loop-at.invariant.len in

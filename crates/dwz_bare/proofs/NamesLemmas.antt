@@ -1,10 +1,10 @@
 -- The name of a space is the text of the first value of that name.
-use Rattle.std.proofs.Common.{◌≡◌, ℕ, zero, suc, ◌+◌, ◌<◌, ◌≤◌, Bool, true, false, List, [], ◌∷◌, ◌++◌, length, map, drop, get_or, Option, Some, None, Result, Ok, Err, slice_get, refl, sym, ap, subst, ◌∙◌, arith, eqb-true}
+use Rattle.std.proofs.Common.{◌≡◌, ℕ, suc, Bool, true, false, List, [], ◌∷◌, ◌++◌, length, map, Option, Some, None, Ok, refl, sym, ap, subst, ◌∙◌, eqb-true}
 use Rattle.std.specs.Prelude.{◌==◌, if◌then◌else◌}
 use Rattle.std.specs.List.{flat_map}
 use Rattle.std.proofs.lemmas.List.{append-nil, append_assoc, length-map}
-use Rattle.std.proofs.lemmas.Bool.{false≢true, ne_eqb}
-use Rattle.dwz_alike.specs.Spots.{SpaceName, name_by, name_of}
+use Rattle.std.proofs.lemmas.Bool.{ne_eqb}
+use Rattle.dwz_alike.specs.Spots.{SpaceName, name_by}
 use Rattle.dwz_bytes.specs.Reading.{◌>>=◌}
 use Rattle.dwz_docs.specs.Entries.{RawAttr, RawEntry}
 use Rattle.dwz_docs.proofs.PartLemmas.{bind_ok}
@@ -15,7 +15,6 @@ use Rattle.dwz_label.specs.Labels.{counted, each_counted, number}
 use Rattle.dwz_meanings.specs.Documents.{Attr, Node, Plain, Text, Value, first_named}
 use Rattle.dwz_meanings.specs.Documents as document
 use Rattle.dwz_meanings.specs.Meanings.{Scope, attr_with, attrs_meaning, first_raw, meaning, node_meaning, with_attr, without_siblings}
-use Rattle.dwz_resolve.specs.Resolved.{Each}
 use Rattle.dwz_seen.specs.Spaces.{space_text, text_at, text_in}
 use Rattle.dwz_unit.specs.Rows.{EntryRow}
 
@@ -136,12 +135,17 @@ NameNext s rows i j spaces out all = (depth : ℕ) × (x : SpaceName) × IsSpace
 
 of_names : (s : Scope ℕ) (rows : List EntryRow) (depth i j : ℕ) (names : List SpaceName) (spaces out all : List ℕ) → AreSpaceRows s rows depth i names (j ∷ spaces) → out ++ names_label names ≡ all → NameNext s rows i j spaces out all
 of_names s rows depth i j [] spaces out all h bytes = absurd h
-of_names s rows depth i j (x ∷ names) spaces out all h bytes = (depth, x, h.0, λ new is. record {
-  depth = suc depth;
-  names = names;
-  are = h.1;
-  bytes = ap (λ (w : List ℕ). w ++ names_label names) is ∙ append_assoc out (counted x.text) (names_label names) ∙ bytes;
-})
+of_names s rows depth i j (x ∷ names) spaces out all h bytes = (
+  depth,
+  x,
+  h.0,
+  λ new is. record {
+    depth = suc depth;
+    names = names;
+    are = h.1;
+    bytes = ap (λ (w : List ℕ). w ++ names_label names) is ∙ append_assoc out (counted x.text) (names_label names) ∙ bytes;
+  },
+)
 
 pub next_name : (s : Scope ℕ) (rows : List EntryRow) (i j : ℕ) (left spaces out all : List ℕ) → left ≡ j ∷ spaces → NamesLeft s rows i left out all → NameNext s rows i j spaces out all
 next_name s rows i j left spaces out all e h = of_names s rows h.depth i j h.names spaces out all (subst (λ (w : List ℕ). AreSpaceRows s rows h.depth i h.names w) e h.are) h.bytes

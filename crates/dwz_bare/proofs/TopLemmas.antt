@@ -1,5 +1,5 @@
 -- The rows of a top say what its label does.
-use Rattle.std.proofs.Common.{◌≡◌, ℕ, ℤ, suc, ◌+◌, ◌-◌, List, [], ◌∷◌, ◌++◌, length, map, Option, Some, Ok, refl, sym, ap, subst, ◌∙◌, arith}
+use Rattle.std.proofs.Common.{◌≡◌, ℕ, ℤ, ◌+◌, ◌-◌, List, [], ◌∷◌, ◌++◌, length, Option, Ok, sym, ap, ◌∙◌, arith}
 use Rattle.std.proofs.lemmas.List.{append-nil, append_assoc}
 use Rattle.dwz_alike.specs.Spots.{Spot, Top, name_list}
 use Rattle.dwz_bare.specs.Sources.{rows_label}
@@ -7,7 +7,7 @@ use Rattle.dwz_docs.specs.Entries.{RawEntry}
 use Rattle.dwz_docs.specs.Trees.{End, Entry, Forest, Position, behind, first_below, size}
 use Rattle.dwz_flat.specs.Rows.{RowsMean, nodes}
 use Rattle.dwz_flat.specs.Tops.{HasTop}
-use Rattle.dwz_flat.proofs.TreeLemmas.{Parts, map_size, no_more, parts, same_size, tree_means}
+use Rattle.dwz_flat.proofs.TreeLemmas.{map_size, no_more, parts, same_size, tree_means}
 use Rattle.dwz_label.specs.Labels.{counted, each_counted, entries_label, label_of, language_label, node_label, place_label}
 use Rattle.dwz_meanings.specs.Documents.{Entries, Node, entries_map, node_map}
 use Rattle.dwz_meanings.specs.Meanings.{Scope, entries_meaning}

@@ -1,5 +1,4 @@
-use Rattle.std.proofs.Common.{◌≡◌, ◌++◌, ℕ, List, None, Option, Some, ap, refl, sym, ◌∙◌}
-use Rattle.std.specs.Prelude.{Ok}
+use Rattle.std.proofs.Common.{◌≡◌, ◌++◌, ℕ, List, Some, ap, refl, ◌∙◌}
 use Rattle.dwz_docs.specs.Entries.{RawAttr}
 use Rattle.dwz_label.specs.Labels.{counted}
 use Rattle.dwz_meanings.specs.Meanings.{meaning}

@@ -1,4 +1,4 @@
-use Rattle.std.proofs.Common.{◌≡◌, ◌<◌, ◌++◌, ℕ, List, drop, map}
+use Rattle.std.proofs.Common.{◌<◌, ◌++◌, ℕ, List, drop, map}
 use Rattle.dwz_alike.specs.Spots.{SpaceName}
 use Rattle.dwz_docs.specs.Units.{RawUnit, entries_in}
 use Rattle.dwz_flat.specs.Tops.{AreSpaceRows}

@@ -1,11 +1,10 @@
-use Rattle.std.proofs.Common.{◌≡◌, ◌+◌, ◌++◌, ℕ, List, ap, drop, length, subst, sym, ◌∙◌}
+use Rattle.std.proofs.Common.{◌+◌, ◌++◌, ℕ, List, ap, drop, subst, sym, ◌∙◌}
 use Rattle.dwz_alike.specs.Spots.{name_list}
 use Rattle.dwz_docs.specs.Trees.{End, Entry}
 use Rattle.dwz_flat.specs.Rows.{AreRowsMeant, nodes}
 use Rattle.dwz_flat.specs.Tops.{AreSpaceRows}
 use Rattle.dwz_flat.proofs.PartLemmas.{rows_unit}
 use Rattle.dwz_flat.proofs.TreeLemmas.{tree_means}
-use Rattle.dwz_label.specs.Labels.{place_label}
 use Rattle.dwz_resolve.proofs.RowLemmas.{below-length}
 use Rattle.dwz_unit.specs.Rows.{rows_below, rows_of}
 use Rattle.dwz_bare.specs.Sources.{raw_of, rows_label, scope_at}

@@ -1,16 +1,15 @@
 -- The parts of an expression, operand by operand; and what reading it says where its operands name entries.
-use Rattle.std.proofs.Common.{◌≡◌, ℕ, zero, suc, ◌+◌, ◌*◌, ◌-◌, ◌<◌, ◌≤◌, Bool, List, [], ◌∷◌, ◌++◌, length, take, drop, get_or, Option, Some, None, Result, Ok, Err, refl, sym, ap, subst, ◌∙◌, arith}
+use Rattle.std.proofs.Common.{◌≡◌, ℕ, zero, suc, ◌+◌, ◌*◌, ◌-◌, ◌<◌, ◌≤◌, Bool, List, [], ◌∷◌, ◌++◌, length, take, drop, get_or, Option, Some, None, Result, Ok, refl, sym, ap, ◌∙◌, arith}
 use Rattle.std.specs.List.{flat_map}
 use Rattle.std.proofs.lemmas.List.{append-nil, append_assoc, drop_all}
 use Rattle.dwz_bytes.specs.Input.{Input}
-use Rattle.dwz_expr.specs.FirstFault.{AreAsked, ReadsInto, asked, unless_one}
-use Rattle.dwz_label.specs.Labels.{each_counted, number, part_label, parts_label, plain_label}
+use Rattle.dwz_expr.specs.FirstFault.{ReadsInto, unless_one}
+use Rattle.dwz_label.specs.Labels.{number, part_label, parts_label, plain_label}
 use Rattle.dwz_meanings.specs.declared.exprs.Operand.{Operand}
 use Rattle.dwz_meanings.specs.Documents.{Expr, Part, Same}
 use Rattle.dwz_meanings.specs.Documents as document
 use Rattle.dwz_meanings.specs.Exprs.{ExprContext, Expression, any_operands, expr_at, first_unnamed, parts_from}
 use Rattle.dwz_model.specs.declared.fault.Fault.{Fault}
-use Rattle.dwz_model.specs.declared.fault.ReadErr.{ReadErr}
 
 -- ---- parts
 

@@ -7,3 +7,5 @@ pub mod ValueLemmas
 pub mod KeptLemmas
 pub mod AttrsLemmas
 pub mod RowsLemmas
+pub mod NamesLemmas
+pub mod TopLemmas

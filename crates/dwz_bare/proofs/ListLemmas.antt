@@ -1,5 +1,5 @@
 -- A location list that a value names is the one that is read where nothing is asked of operands.
-use Rattle.std.proofs.Common.{◌≡◌, ℕ, ◌+◌, Bool, true, false, List, [], ◌∷◌, ◌++◌, length, map, drop, Option, Some, None, Result, Ok, Err, refl, sym, ap, subst, ◌∙◌, arith}
+use Rattle.std.proofs.Common.{◌≡◌, ℕ, Bool, true, false, List, ◌∷◌, ◌++◌, length, map, Result, Ok, Err, refl, sym, ap, subst, ◌∙◌}
 use Rattle.std.specs.Prelude.{if◌then◌else◌, nat_lt}
 use Rattle.std.specs.List.{flat_map}
 use Rattle.std.proofs.lemmas.List.{append_assoc, length-map}
@@ -10,19 +10,18 @@ use Rattle.dwz_docs.proofs.PartLemmas.{bind_ok}
 use Rattle.dwz_bare.specs.declared.named.Named.TheVariants.{Kept}
 use Rattle.dwz_bare.specs.Plain.{TellsPlain}
 use Rattle.dwz_bare.proofs.ExprLemmas.{asked_is}
-use Rattle.dwz_label.specs.Labels.{number, parts_label, plain_label}
+use Rattle.dwz_label.specs.Labels.{number, parts_label}
 use Rattle.dwz_lists.specs.FirstFault.{WalksInto}
 use Rattle.dwz_lists.specs.Gathering.{in_lists}
 use Rattle.dwz_meanings.specs.declared.exprs.Operand.{Operand}
-use Rattle.dwz_meanings.specs.Documents.{Loc, Value}
-use Rattle.dwz_meanings.specs.Exprs.{Expression, first_unnamed, parts_of}
+use Rattle.dwz_meanings.specs.Documents.{Value}
+use Rattle.dwz_meanings.specs.Exprs.{first_unnamed, parts_of}
 use Rattle.dwz_meanings.specs.LocLists.{LocList, list_at}
 use Rattle.dwz_meanings.specs.Meanings.{Scope, expr_context, list_meaning, list_read, loc_said, loc_value, targets}
 use Rattle.dwz_meanings.specs.Sequences.{read_from}
 use Rattle.dwz_meanings.specs.Shared.{operands_of}
 use Rattle.dwz_model.specs.declared.fault.Fault.{Fault}
 use Rattle.dwz_model.specs.declared.fault.Reason.TheVariants.{BadList}
-use Rattle.dwz_resolve.specs.Named.{value_refs}
 
 -- the list that the value names
 within : (s : Scope ℕ) (f : Fault) (v : Value ℕ) (r : Result LocList Fault) (b : Bool) → (if b then (r >>= loc_said s) else Err f) ≡ Ok v → (l : LocList) × (r ≡ Ok l) × (loc_value s l ≡ v)

@@ -1,5 +1,5 @@
 -- Which values name entries, by their class.
-use Rattle.std.proofs.Common.{◌≡◌, ℕ, ◌+◌, Bool, true, false, List, [], ◌∷◌, length, Option, Some, None, Result, Ok, Err, refl, sym, ap, subst, ◌∙◌, arith}
+use Rattle.std.proofs.Common.{◌≡◌, ℕ, ◌+◌, Bool, true, false, List, [], length, Option, Some, None, Result, Ok, Err, refl, sym, ap, subst, ◌∙◌}
 use Rattle.std.specs.Prelude.{if◌then◌else◌}
 use Rattle.dwz_bare.specs.Plain.{is_simple}
 use Rattle.dwz_docs.specs.Entries.{RawAttr}
@@ -12,7 +12,6 @@ use Rattle.dwz_model.specs.declared.fault.Fault.{Fault}
 use Rattle.dwz_model.specs.declared.fault.Reason.TheVariants.{BadFile, BadReference}
 use Rattle.dwz_meanings.specs.LineTables.{file_table_at}
 use Rattle.dwz_docs.proofs.PartLemmas.{bind_ok}
-use Rattle.dwz_bytes.specs.Reading.{◌>>=◌}
 use Rattle.dwz_resolve.specs.Classes.{class_view}
 use Rattle.dwz_resolve.specs.declared.class.Class.{Class as ClassOfCode}
 use Rattle.dwz_resolve.specs.declared.class.Class.TheVariants as code

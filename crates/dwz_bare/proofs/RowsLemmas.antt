@@ -1,10 +1,10 @@
 -- Entries row by row.
-use Rattle.std.proofs.Common.{◌≡◌, ℕ, ◌+◌, ◌-◌, ◌<◌, ◌≤◌, List, [], ◌∷◌, ◌++◌, length, map, drop, Ok, slice_get, refl, sym, ap, subst, ◌∙◌, arith}
+use Rattle.std.proofs.Common.{◌≡◌, ℕ, ◌+◌, ◌-◌, ◌<◌, ◌≤◌, List, ◌∷◌, ◌++◌, map, sym, ap, subst, ◌∙◌}
 use Rattle.std.proofs.lemmas.List.{append-nil, append_assoc}
 use Rattle.dwz_alike.specs.Spots.{Spot}
 use Rattle.dwz_bare.specs.Sources.{TellsAttrs, TellsEntry, rows_label}
 use Rattle.dwz_docs.specs.Units.{RawUnit}
-use Rattle.dwz_flat.specs.Rows.{AreRowsMeant, IsEntryMeant, NextRow, node_refs}
+use Rattle.dwz_flat.specs.Rows.{AreRowsMeant, IsEntryMeant, NextRow}
 use Rattle.dwz_flat.proofs.StepLemmas.{no_row, row}
 use Rattle.dwz_label.specs.Labels.{attr_label, each_counted, node_label, number}
 use Rattle.dwz_meanings.specs.Documents.{Node, attr_map, node_map}

@@ -1,7 +1,7 @@
 -- What is told of an entry that is named, and of several one after the other.
-use Rattle.std.proofs.Common.{◌≡◌, ℕ, zero, suc, ◌+◌, ◌<◌, ◌≤◌, List, [], ◌∷◌, ◌++◌, length, map, take, drop, get_or, Option, Some, None, slice_get, refl, sym, ap, subst, ◌∙◌, arith}
+use Rattle.std.proofs.Common.{◌≡◌, ℕ, zero, suc, ◌+◌, ◌<◌, List, [], ◌∷◌, ◌++◌, length, map, take, drop, get_or, Some, None, slice_get, refl, sym, ap, subst, ◌∙◌, arith}
 use Rattle.std.specs.List.{flat_map}
-use Rattle.std.proofs.lemmas.List.{append-nil, append_assoc, drop_all}
+use Rattle.std.proofs.lemmas.List.{append-nil, append_assoc}
 use Rattle.dwz_alike.specs.Spots.{Import, InChain, InType, PartialOf, PartialRoot, RootOf, SpaceAt, Spot, UnitOf, Within}
 use Rattle.dwz_bare.specs.Targets.{KnowsNames}
 use Rattle.dwz_docs.specs.Units.{RawUnit, entries_in}
@@ -53,12 +53,17 @@ FirstLeft raw name i numbers out all = (p : ℕ) × (i < entries_in raw) × (pla
 
 first_of : (raw : List RawUnit) (name : ℕ → Spot) (i : ℕ) (numbers places out all : List ℕ) → AreTargets raw (i ∷ numbers) places → length places ≡ length (i ∷ numbers) → out ++ flat_map target_label (map name places) ≡ all → FirstLeft raw name i numbers out all
 first_of raw name i numbers [] out all h many bytes = absurd (omega (arith, many))
-first_of raw name i numbers (p ∷ places) out all h many bytes = (p, h.0, h.1, λ new is. record {
-  places = places;
-  targets = h.2;
-  many = omega (arith, many);
-  bytes = ap (λ (w : List ℕ). w ++ flat_map target_label (map name places)) is ∙ append_assoc out (target_label (name p)) (flat_map target_label (map name places)) ∙ bytes;
-})
+first_of raw name i numbers (p ∷ places) out all h many bytes = (
+  p,
+  h.0,
+  h.1,
+  λ new is. record {
+    places = places;
+    targets = h.2;
+    many = omega (arith, many);
+    bytes = ap (λ (w : List ℕ). w ++ flat_map target_label (map name places)) is ∙ append_assoc out (target_label (name p)) (flat_map target_label (map name places)) ∙ bytes;
+  },
+)
 
 pub first_left : (raw : List RawUnit) (name : ℕ → Spot) (numbers : List ℕ) (i : ℕ) (others out all : List ℕ) → numbers ≡ i ∷ others → AreLeft raw name numbers out all → FirstLeft raw name i others out all
 first_left raw name numbers i others out all e h =

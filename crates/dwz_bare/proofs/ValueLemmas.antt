@@ -1,17 +1,15 @@
 -- What is left behind a value that was written.
-use Rattle.std.proofs.Common.{◌≡◌, ℕ, ◌+◌, ◌<◌, List, [], ◌∷◌, ◌++◌, length, map, drop, Option, Some, None, slice_get, refl, sym, ap, subst, ◌∙◌, inl, inr, arith, zero, suc}
-use Rattle.std.specs.List.{flat_map}
-use Rattle.std.proofs.lemmas.List.{append_assoc, append-nil, drop-drop, length-append, length-map}
+use Rattle.std.proofs.Common.{◌≡◌, ℕ, ◌+◌, List, ◌∷◌, ◌++◌, length, drop, refl, sym, ap, subst, ◌∙◌}
+use Rattle.std.proofs.lemmas.List.{append_assoc, drop-drop, length-append}
 use Rattle.dwz_alike.specs.Spots.{Spot}
 use Rattle.dwz_bare.specs.Sources.{TellsAttr, TellsValue, attrs_label}
 use Rattle.dwz_docs.specs.Entries.{RawAttr}
-use Rattle.dwz_docs.specs.Lists.{In}
 use Rattle.dwz_docs.specs.Units.{RawUnit}
 use Rattle.dwz_flat.specs.Rows.{AreAttrsMeant, NextAttr}
 use Rattle.dwz_flat.proofs.StepLemmas.{sibling}
-use Rattle.dwz_label.specs.Labels.{attr_label, each_counted, number, value_label}
-use Rattle.dwz_meanings.specs.Documents.{Attr, attr_map, value_map}
-use Rattle.dwz_meanings.specs.Meanings.{Scope, attr_with}
+use Rattle.dwz_label.specs.Labels.{number, value_label}
+use Rattle.dwz_meanings.specs.Documents.{Attr, value_map}
+use Rattle.dwz_meanings.specs.Meanings.{Scope}
 use Rattle.dwz_resolve.specs.Named.{attrs_refs, value_refs}
 
 pub skipped : (raw : List RawUnit) (s : Scope ℕ) (a : RawAttr) (values : List RawAttr) (name : ℕ → Spot) (attrs : List (Attr ℕ)) (refs old : List ℕ) → a.pair.name ≡ 0x01 → AreAttrsMeant raw s refs (a ∷ values) attrs → TellsAttr raw s values name attrs refs refs old old

@@ -1,5 +1,5 @@
 -- What is written of a value besides the entries that it names, and which these are.
-use Rattle.std.specs.Prelude.{◌≡◌, ℕ, Bool, true, false, List, [], ◌++◌, length, Option, Some, None, Result, Ok, Err}
+use Rattle.std.specs.Prelude.{◌≡◌, ℕ, Bool, true, false, List, [], ◌++◌, length, Option, Some, None}
 use Rattle.dwz_bare.specs.declared.named.Named.{Named}
 use Rattle.dwz_bare.specs.declared.named.Named.TheVariants.{Next, Kept}
 use Rattle.dwz_docs.specs.Entries.{RawAttr}

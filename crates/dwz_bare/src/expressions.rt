@@ -77,12 +77,7 @@ pub(crate) fn put_parts(
 }
 
 // Appends that a value is an expression.
-fn put_whole(
-    out: &mut Vec<u8>,
-    bytes: &[u8],
-    at: u64,
-    operands: &[Operand],
-) -> Result<(), NoMemory>
+fn put_whole(out: &mut Vec<u8>, bytes: &[u8], at: u64, operands: &[Operand]) -> Result<(), NoMemory>
     ensures { OnOk result (out.new.items ≡ out.old.items ++ plain_label (Expr (parts_from at bytes.now operands.now))) }
 {
     put_expression(out, operands.len() as u128 * 2 + 1)?;

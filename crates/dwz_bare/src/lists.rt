@@ -71,11 +71,5 @@ pub(crate) fn put_list_by_slot(
     let Some(offset) = slot(lists, base as u128, index) else {
         return Err(AllocError);
     };
-    put_list_at(
-        alloc,
-        out,
-        lists,
-        base as u128 + offset as u128,
-        operands,
-    )
+    put_list_at(alloc, out, lists, base as u128 + offset as u128, operands)
 }

@@ -21,11 +21,7 @@ use std::alloc::AllocError;
 
 /// Appends that a value is the text at an offset of a section, which is there.
 #[inline(always)]
-pub(crate) fn put_text_at(
-    out: &mut Vec<u8>,
-    section: &[u8],
-    offset: u128,
-) -> Result<(), NoMemory>
+pub(crate) fn put_text_at(out: &mut Vec<u8>, section: &[u8], offset: u128) -> Result<(), NoMemory>
     ensures { (text : List ℕ) → Texts.text_at section.now offset ≡ Some text → OnOk result (out.new.items ≡ out.old.items ++ plain_label (Text text)) }
 {
     match text_in(section, offset) {

@@ -26,11 +26,11 @@ targets_rest raw (i ∷ numbers) (x ∷ xs) ys h = targets_rest raw numbers xs y
 
 -- ---- values
 
-skipped : (a : RawAttr) (values : List RawAttr) → a.pair.name ≡ 0x01 → without_siblings (a ∷ values) ≡ without_siblings values
+pub skipped : (a : RawAttr) (values : List RawAttr) → a.pair.name ≡ 0x01 → without_siblings (a ∷ values) ≡ without_siblings values
 unfolding without_siblings
 skipped a values e = ap (λ (b : Bool). if b then without_siblings values else a ∷ without_siblings values) (eq-eqb a.pair.name 0x01 e)
 
-taken : (a : RawAttr) (values : List RawAttr) → (a.pair.name ≡ 0x01 → ⊥) → without_siblings (a ∷ values) ≡ a ∷ without_siblings values
+pub taken : (a : RawAttr) (values : List RawAttr) → (a.pair.name ≡ 0x01 → ⊥) → without_siblings (a ∷ values) ≡ a ∷ without_siblings values
 unfolding without_siblings
 taken a values ne = ap (λ (b : Bool). if b then without_siblings values else a ∷ without_siblings values) (ne_eqb a.pair.name 0x01 ne)
 

@@ -31,8 +31,8 @@ fn is_text(class: Class) -> bool
     }
 }
 
-// The first `DW_AT_name` of an entry.
-fn first_name<'a>(units: &Units<'a>, entry: u32) -> Option<RawAttr<'a>>
+/// The first `DW_AT_name` of an entry (DWARF 5, 2.15).
+pub fn first_name<'a>(units: &Units<'a>, entry: u32) -> Option<RawAttr<'a>>
     requires { entry < entries_in (units_of units.now) }
     ensures { (row : EntryRow) → slice_get (rows_of (units_of units.now)) entry ≡ Some row → option_map attr_view result ≡ first_raw 0x03 row.entry.attrs }
 {

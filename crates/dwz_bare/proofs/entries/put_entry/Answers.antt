@@ -1,4 +1,4 @@
-use Rattle.std.proofs.Common.{◌≡◌, ◌++◌, ◌-◌, ℕ, List, ap, drop, sym, ◌∙◌}
+use Rattle.std.proofs.Common.{◌++◌, ◌-◌, ℕ, ap, drop, sym, ◌∙◌}
 use Rattle.dwz_flat.proofs.TreeLemmas.{node_attrs}
 use Rattle.dwz_label.specs.Labels.{number}
 use Rattle.dwz_resolve.proofs.RowLemmas.{row_is}

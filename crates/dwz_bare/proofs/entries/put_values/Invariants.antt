@@ -1,4 +1,4 @@
-use Rattle.std.proofs.Common.{◌≡◌, ◌++◌, ℕ, List, drop, map, Some, slice_get}
+use Rattle.std.proofs.Common.{◌≡◌, ◌++◌, ℕ, drop, map, Some, slice_get}
 use Rattle.dwz_alike.specs.Spots.{Spot}
 use Rattle.dwz_docs.specs.Units.{RawUnit}
 use Rattle.dwz_bare.specs.Sources.{KnowsUnit, raw_of, scope_at}

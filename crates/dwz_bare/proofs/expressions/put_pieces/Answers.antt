@@ -1,4 +1,4 @@
-use Rattle.std.proofs.Common.{◌++◌, false, drop, arith, ap, ◌∙◌, ℕ, List, take, get_or}
+use Rattle.std.proofs.Common.{false, drop, ap, ◌∙◌, ℕ, take, get_or}
 use Rattle.dwz_meanings.specs.declared.exprs.Operand.{Operand}
 use Rattle.dwz_model.specs.declared.place.Base.TheVariants.{Unit as FromUnit}
 use Rattle.dwz_bare.proofs.ExprLemmas.{here, last_piece, next_operand}

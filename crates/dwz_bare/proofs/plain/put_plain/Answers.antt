@@ -1,5 +1,4 @@
-use Rattle.std.proofs.Common.{ℕ, Option, ap, sym, refl, subst, ◌∙◌}
-use Rattle.std.specs.Prelude.{Ok, Result}
+use Rattle.std.proofs.Common.{ℕ, Option, ap, sym, refl, ◌∙◌}
 use Rattle.dwz_meanings.specs.Meanings.{Sources, list_from}
 use Rattle.dwz_resolve.specs.declared.class.Class.TheVariants as code
 use Rattle.dwz_resolve.specs.Resolved.{stored}

@@ -1,4 +1,4 @@
-use Rattle.std.proofs.Common.{◌+◌, ℕ, drop, false, get_or, refl}
+use Rattle.std.proofs.Common.{false, get_or, refl}
 use Rattle.std.proofs.lemmas.List.{drop_all}
 use Rattle.dwz_meanings.specs.declared.exprs.Operand.{Operand}
 use Rattle.dwz_meanings.specs.Meanings.{target_of}

@@ -1,5 +1,4 @@
-use Rattle.std.proofs.Common.{◌++◌, ◌∷◌, List, ℕ, ap, sym, ◌∙◌}
-use Rattle.std.specs.Prelude.{OnOk}
+use Rattle.std.proofs.Common.{◌++◌, List, ℕ, ap, sym, ◌∙◌}
 use Rattle.dwz_bare.proofs.TargetLemmas.{no_path, some_path}
 use Rattle.dwz_bare.proofs.targets.put_target.Goals as goal
 

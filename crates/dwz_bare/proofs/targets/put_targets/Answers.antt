@@ -1,4 +1,4 @@
-use Rattle.std.proofs.Common.{◌+◌, ◌<◌, ℕ, drop, get_or, length, refl, arith, ap}
+use Rattle.std.proofs.Common.{◌+◌, ◌<◌, drop, get_or, length, arith}
 use Rattle.std.proofs.lemmas.List.{length-drop}
 use Rattle.dwz_bare.proofs.TargetLemmas.{each_rest, first_left, here, name_there, none_left}
 use Rattle.dwz_bare.proofs.targets.put_targets.Goals as goal

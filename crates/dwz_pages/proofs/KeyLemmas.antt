@@ -99,11 +99,11 @@ module _ {K : Type 0} where
         ∙ sym (ap (λ (t : Shape). event_places (with_shape shapes t) (at + length (entry_bytes (with_shape shapes t) t attrs)) es) same) in
         (place, subst (KeysAt n rest) next keys)
 
-    abbrev Keys : Entries K → Type 0
-    Keys f = (shapes table : List Shape) (at : ℕ) → Grown (shapes_in shapes f) table → Stands n unit table at f → (rest : List (Step K)) (es : List Event)
+    abbrev NodesKeys : Entries K → Type 0
+    NodesKeys f = (shapes table : List Shape) (at : ℕ) → Grown (shapes_in shapes f) table → Stands n unit table at f → (rest : List (Step K)) (es : List Event)
         → KeysAt n rest (event_places (shapes_in shapes f) (at + length (spelled zeros 0 table f)) es) → KeysAt n (steps f ++ rest) (event_places shapes at (events zeros 0 f ++ es))
 
-    children_at : (children : Entries K) → Keys children → (shapes table : List Shape) (at : ℕ) → Grown (shapes_in shapes children) table → Stands n unit table at children → (rest : List (Step K)) (es : List Event)
+    children_at : (children : Entries K) → NodesKeys children → (shapes table : List Shape) (at : ℕ) → Grown (shapes_in shapes children) table → Stands n unit table at children → (rest : List (Step K)) (es : List Event)
         → KeysAt n rest (event_places (shapes_in shapes children) (at + length (if_any children (spelled zeros 0 table children))) es)
         → KeysAt n (if_steps children (steps children) ++ rest) (event_places shapes at (if_children children (events zeros 0 children) ++ es))
     unfolding shapes_in
@@ -112,7 +112,7 @@ module _ {K : Type 0} where
         subst (λ (p : ℕ). KeysAt n rest (event_places shapes p es)) none more
     children_at (Entry e c next) keys shapes table at grown stands rest es more = keys shapes table at grown stands rest es more
 
-    pub entries_at : (f : Entries K) → FixedEntries f → Keys f
+    pub entries_at : (f : Entries K) → FixedEntries f → NodesKeys f
     unfolding steps events shapes_in spelled event_places
     entries_at End fixed shapes table at grown stands rest es more = more
     entries_at (Entry e children next) fixed shapes table at grown stands rest es more =

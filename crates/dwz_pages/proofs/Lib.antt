@@ -3,3 +3,8 @@ pub mod PassLemmas
 pub mod StepLemmas
 pub mod KeyLemmas
 pub mod UnitLemmas
+pub mod SectionLemmas
+pub mod FileLemmas
+pub mod LawLemmas
+pub mod ByteLemmas
+pub mod ValueLemmas

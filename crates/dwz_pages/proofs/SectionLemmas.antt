@@ -18,7 +18,7 @@ use Rattle.dwz_places.specs.declared.walk.Entry.{Entry}
 use Rattle.dwz_places.specs.declared.walk.Origin.{Origin}
 use Rattle.dwz_places.specs.declared.walk.Origin.TheVariants.{Chained, Imported, OwnRoot, Read}
 use Rattle.dwz_places.specs.declared.walk.Slot.{Slot}
-use Rattle.dwz_places.specs.Attributes.{Here}
+use Rattle.dwz_places.specs.Attributes.{Here, here_of}
 use Rattle.dwz_places.specs.Entries.{entries_of, items_slots, unit_entries}
 use Rattle.dwz_places.specs.Known.{number_of}
 use Rattle.dwz_places.specs.Laid.{Laying, Made, header_size as sort_size, laid_unit, note, with_unit, with_units}
@@ -190,8 +190,8 @@ module _ {K : Type 0} (keys : Keys K) (n : Numbering K) (k : Known) where
       let rest : UnitsStand n units next = subst (λ (s : ℕ). UnitsStand n units (at + s)) (size_len n zeros at 0 u fixed.0) there.1 in
       let here_at = laid_at keys k here o u shows.0 fixed.0 n at there.0 in
       let now : (IsRight i more) ⊎ InUnits k i order = elim right [
-        | inl r ↦ inl (noted_right _ (items_slots k o.sort o.items) (stands k here o at) i places lt here_at (inl r))
-        | inr w ↦ elim w [ inl h ↦ inl (noted_right _ (items_slots k o.sort o.items) (stands k here o at) i places lt here_at (inr h)) | inr later ↦ inr later ]
+        | inl r ↦ inl (noted_right (here_of k here o.sort) (items_slots k o.sort o.items) (stands k here o at) i places lt here_at (inl r))
+        | inr w ↦ elim w [ inl h ↦ inl (noted_right (here_of k here o.sort) (items_slots k o.sort o.items) (stands k here o at) i places lt here_at (inr h)) | inr later ↦ inr later ]
       ] in
       places_right (suc here) next order units i more less shows.1 fixed.1 rest now
 

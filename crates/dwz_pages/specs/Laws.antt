@@ -1,14 +1,15 @@
 -- What a layout and its bytes are, of files whose units the order shows.
-use Rattle.std.specs.Prelude.{◌≡◌, ℕ, ◌+◌, ◌<◌, List, [], ◌∷◌, length, slice_index}
+use Rattle.std.specs.Prelude.{◌≡◌, ℕ, ◌+◌, ◌<◌, List, [], ◌∷◌, length, slice_index, None}
 use Rattle.dwz_docs.specs.Lists.{In}
 use Rattle.dwz_alike.specs.Spots.{Spot, same_spot}
 use Rattle.dwz_seen.specs.Lists.{Each, NoneTwice}
-use Rattle.dwz_writing.specs.Placing.{FileOut, files_keys, numbering, sections}
+use Rattle.dwz_writing.specs.Placing.{FileOut, FitsSections, files_keys, numbering, sections}
 use Rattle.dwz_writing.specs.Sound.{SoundUnit}
 use Rattle.dwz_writing.specs.Writing.{Numbering, joined}
 use Rattle.dwz_places.specs.declared.known.Known.{Known}
 use Rattle.dwz_places.specs.declared.order.UnitItems.{UnitItems}
 use Rattle.dwz_places.specs.Laid.{AllMade, FileMade, made_of}
+use Rattle.dwz_pages.specs.Limits.{too_large_in}
 use Rattle.dwz_pages.specs.Pages.{units_page}
 use Rattle.dwz_pages.specs.Shown.{FilesRefer, IsWritten, Keys, ShowFiles}
 
@@ -19,12 +20,13 @@ pub record IsOrderOf (keys : Keys Spot) (k : Known) (order : List (List UnitItem
   pub apart : NoneTwice (files_keys files)
   pub refer : FilesRefer k order 0 order
 
--- What is laid of a file, the first unit of which has that number, and the bytes of its units, are its sections; and its units end where
--- these do.
+-- What is laid of a file, the first unit of which has that number, and the bytes of its units, are its sections; its units end where these do;
+-- and where neither is found too large, both have room.
 pub record FileIs (n : Numbering Spot) (k : Known) (places roots : List ℕ) (first : ℕ) (order : List UnitItems) (m : FileMade) (f : FileOut Spot) : Type 0 where
   pub info : units_page k places roots first order m.units ≡ (sections n f.units).info
   pub abbrevs : joined m.tables ≡ (sections n f.units).abbrevs
   pub end : m.end ≡ length (sections n f.units).info
+  pub room : too_large_in m.end (length (joined m.tables)) ≡ None → FitsSections (sections n f.units)
 
 abbrev pub FilesAre : Numbering Spot → Known → (places roots : List ℕ) → ℕ → List (List UnitItems) → List FileMade → List (FileOut Spot) → Type 0
 FilesAre n k places roots first [] [] [] = Unit {0}

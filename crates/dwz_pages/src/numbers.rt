@@ -1,6 +1,6 @@
 //! Numbers of entries and units, once these have their places.
 
-ghost use Rattle.std.specs.Prelude.{◌≡◌, ◌-◌, ◌++◌, OnOk, pos, slice_index};
+ghost use Rattle.std.specs.Prelude.{◌≡◌, ◌+◌, ◌-◌, ◌%◌, ◌++◌, OnOk, cond, pos, slice_index};
 ghost use Rattle.dwz_bytes.specs.Spelling.{le_bytes, padded};
 ghost use Rattle.dwz_meanings.specs.Patching;
 ghost use Rattle.dwz_places.specs.Attributes;
@@ -76,6 +76,15 @@ fn put_bytes(out: &mut Vec<u8>, width: u8, number: u64) -> Result<(), NoMemory>
     Ok(())
 }
 
+// The low seven bits of a number: the last byte of it, or one before others.
+#[inline(always)]
+fn group(number: u64, last: bool) -> u8
+    ensures { result ≡ cond last (number % 128) (number % 128 + 128) }
+{
+    let low = (number % 128) as u8;
+    if last { low } else { low + 128 }
+}
+
 // Appends a number as ULEB128 in so many bytes.
 fn put_groups(out: &mut Vec<u8>, width: u8, number: u64) -> Result<(), NoMemory>
     ensures { OnOk result (out.new.items ≡ out.old.items ++ padded width number) }
@@ -83,8 +92,7 @@ fn put_groups(out: &mut Vec<u8>, width: u8, number: u64) -> Result<(), NoMemory>
     let mut rest = number;
     let mut left = width;
     while left > 0 {
-        let more = if left > 1 { 128 } else { 0 };
-        out.push((rest % 128) as u8 + more)?;
+        out.push(group(rest, left == 1))?;
         rest /= 128;
         left -= 1;
     }

@@ -92,10 +92,10 @@ fn put_entries(
     known: &Known,
     here: Here,
     numbers: Numbers,
-    mut walk: Walk,
+    walk: &mut Walk,
     codes: &[u32],
 ) -> Result<(), NoMemory>
-    ensures { OnOk result (out.new.items ≡ out.old.items ++ entries_page codes.now (calls_of known.now (here_view here) (numbers_view numbers.entry) (entries_of walk))) }
+    ensures { OnOk result (out.new.items ≡ out.old.items ++ entries_page codes.now (calls_of known.now (here_view here) (numbers_view numbers.entry) (entries_of walk.old))) }
 {
     for code in codes {
         let Some(entry) = walk.next() else {
@@ -124,13 +124,14 @@ pub fn put_unit(
         unit: laid.at,
     };
     put_header(out, unit.sort, laid, numbers)?;
+    let mut walk = Walk::new(known, unit);
     put_entries(
         out,
         room,
         known,
         here_of(known, here, unit.sort),
         numbers,
-        Walk::new(known, unit),
+        &mut walk,
         laid.codes.as_slice(),
     )
 }

@@ -1,6 +1,6 @@
 //! What the attributes of an entry store.
 
-ghost use Rattle.std.specs.Prelude.{◌≡◌, ◌-◌, ◌++◌, ◌∷◌, [], OnOk, length};
+ghost use Rattle.std.specs.Prelude.{◌≡◌, ◌-◌, ◌++◌, ◌∷◌, [], ℕ, OnOk, length};
 ghost use Rattle.dwz_bytes.specs.Spelling.{uleb};
 ghost use Rattle.dwz_docs.specs.Values.{HasSpelling, value_bytes};
 ghost use Rattle.dwz_meanings.specs.Exprs.{parts_from};
@@ -9,8 +9,9 @@ ghost use Rattle.dwz_forms.specs.RawValues.{raw_view};
 ghost use Rattle.dwz_places.specs.declared.walk.Origin.TheVariants.{Read};
 ghost use Rattle.dwz_places.specs.Attributes;
 ghost use Rattle.dwz_places.specs.Known.{owner_of};
-ghost use Rattle.dwz_places.specs.Attributes.{OfEntry, after, attrs_of, here_view, line_attrs, operand_count, operand_numbers, out_attr, raw_of, references_from, space_attrs, stored_all, value_read};
+ghost use Rattle.dwz_places.specs.Attributes.{OfEntry, after, attrs_of, here_view, line_attrs, name_by, operand_count, operand_numbers, out_attr, raw_of, references_from, space_attrs, stored_all, value_read};
 ghost use Rattle.dwz_places.specs.Stored.{values_bytes};
+ghost use Rattle.dwz_places.specs.Ways;
 ghost use Rattle.dwz_places.specs.Ways.{holder_view};
 ghost use Rattle.dwz_pages.specs.Views.{numbers_view};
 
@@ -145,37 +146,50 @@ fn put_row(
     Ok(())
 }
 
+// Appends the value of an attribute that names a space.
+#[inline(always)]
+fn put_as_name(
+    out: &mut Vec<u8>,
+    holder: Holder,
+    pair: &Pair,
+    raw: &Raw,
+    text: u32,
+) -> Result<(), NoMemory>
+    requires { HasSpelling pair.now.form (raw_view raw.now) }
+    ensures { (n : Attributes.Numbers) (end : ℕ) → OnOk result (out.new.items ≡ out.old.items ++ values_bytes (stored_all n (name_by text (value_read end pair.now (raw_view raw.now)) (Ways.way_of (holder_view holder) pair.now) ∷ []))) }
+{
+    match way_of(holder, pair) {
+        Way::AsText => put_four(out, text as u64),
+        _ => write_value(pair.form as u16, raw, out),
+    }
+}
+
 // Appends the name of a space of a partial unit.
 fn put_name(
     out: &mut Vec<u8>,
     known: &Known,
     holder: Holder,
-    numbers: Numbers,
     space: SpaceRow,
 ) -> Result<(), NoMemory>
-    ensures { OnOk result (out.new.items ≡ out.old.items ++ values_bytes (stored_all (numbers_view numbers.entry) (space_attrs known.now (holder_view holder) space))) }
+    ensures { (n : Attributes.Numbers) → OnOk result (out.new.items ≡ out.old.items ++ values_bytes (stored_all n (space_attrs known.now (holder_view holder) space))) }
 {
-    let _numbers = numbers;
     let Some(Values { pairs, mut cursor }) = known.values(space.row) else {
         return Ok(());
     };
     for pair in pairs {
         let raw = known_value(&mut cursor, pair);
         if pair.name == NAME {
-            return match way_of(holder, pair) {
-                Way::AsText => put_four(out, space.text as u64),
-                _ => write_value(pair.form as u16, &raw, out),
-            };
+            return put_as_name(out, holder, pair, &raw, space.text);
         }
     }
     Ok(())
 }
 
 // Appends the line table of the root of a partial unit.
-fn put_line(out: &mut Vec<u8>, numbers: Numbers, line: Option<u32>) -> Result<(), NoMemory>
-    ensures { OnOk result (out.new.items ≡ out.old.items ++ values_bytes (stored_all (numbers_view numbers.entry) (line_attrs line))) }
+#[inline(always)]
+fn put_line(out: &mut Vec<u8>, line: Option<u32>) -> Result<(), NoMemory>
+    ensures { (n : Attributes.Numbers) → OnOk result (out.new.items ≡ out.old.items ++ values_bytes (stored_all n (line_attrs line))) }
 {
-    let _numbers = numbers;
     match line {
         None => Ok(()),
         Some(line) => put_four(out, line as u64),
@@ -210,14 +224,8 @@ pub(crate) fn put_values(
 {
     match origin {
         Origin::Read(row) => put_row(out, room, known, here, numbers, row),
-        Origin::OwnRoot(line) => put_line(out, numbers, line),
-        Origin::Chained { space, .. } => put_name(
-            out,
-            known,
-            here.holder,
-            numbers,
-            known.space(space),
-        ),
+        Origin::OwnRoot(line) => put_line(out, line),
+        Origin::Chained { space, .. } => put_name(out, known, here.holder, known.space(space)),
         Origin::Imported(part) => put_root(out, known, here.unit, known.part(part), numbers),
     }
 }

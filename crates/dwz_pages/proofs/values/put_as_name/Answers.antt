@@ -1,0 +1,29 @@
+use Rattle.std.proofs.Common.{◌≡◌, ◌∙◌, ◌∷◌, [], ap, List, rules}
+use Rattle.dwz_forms.specs.RawValues.{raw_view}
+use Rattle.dwz_places.specs.declared.ways.Way.TheVariants.{AsText}
+use Rattle.dwz_places.specs.Attributes.{OutAttr, name_by, read_attr, text_attr, value_read}
+use Rattle.dwz_places.specs.Ways.{holder_view, way_of}
+use Rattle.dwz_places.proofs.NumberLemmas.{form_small}
+use Rattle.dwz_places.proofs.SizeLemmas.{name_read, name_text}
+use Rattle.dwz_pages.proofs.ValueLemmas.{put_mapped, put_read, put_same, put_text}
+use Rattle.dwz_pages.proofs.values.put_as_name.Goals as goal
+
+pub overflow_cast-pair : goal.overflow_cast-pair
+overflow_cast-pair c = let small = form_small c.args.pair.now.form (raw_view c.args.raw.now) c.requires in search (rules, small)
+
+pub returns-in-AsText : goal.returns-in-AsText
+returns-in-AsText c = λ n end. (
+    let a = value_read end c.args.pair.now (raw_view c.args.raw.now) in
+    let way = way_of (holder_view c.args.holder) c.args.pair.now in
+    put_same c.put_four.result n c.args.out.now.items c.put_four.new.out.items (text_attr 0x03 c.args.text ∷ []) (name_by c.args.text a way ∷ [])
+    (ap (λ (x : OutAttr). x ∷ []) (name_text c.args.text a way c.in-AsText.ensures))
+    (put_mapped c.put_four.result (put_text n 0x03 c.args.text c.args.out.now.items c.put_four.new.out.items) c.put_four.ensures))
+
+pub returns-in_default : goal.returns-in_default
+returns-in_default c = λ n end. (
+    let a = value_read end c.args.pair.now (raw_view c.args.raw.now) in
+    let way = way_of (holder_view c.args.holder) c.args.pair.now in
+    let other = λ (e : way ≡ AsText). c.in_default.not-AsText (c.way_of.ensures ∙ e) in
+    put_same c.write_value.result n c.args.out.now.items c.write_value.new.out.items (read_attr a ∷ []) (name_by c.args.text a way ∷ [])
+    (ap (λ (x : OutAttr). x ∷ []) (name_read c.args.text a way other))
+    (put_mapped c.write_value.result (put_read n a c.args.out.now.items c.write_value.new.out.items) c.write_value.ensures.ok))

@@ -1,0 +1,16 @@
+//! What a layout is, and the bytes that are written by it.
+
+ghost use Rattle.std.specs.Prelude.{List};
+ghost use Rattle.dwz_alike.specs.Spots.{Spot};
+ghost use Rattle.dwz_places.specs.declared.known.Known.{Known};
+ghost use Rattle.dwz_places.specs.declared.order.UnitItems.{UnitItems};
+ghost use Rattle.dwz_writing.specs.Placing.{FileOut};
+ghost use Rattle.dwz_pages.specs.Laws.{IsOrderOf, PlacesAre, SectionsAre};
+ghost use Rattle.dwz_pages.specs.Shown.{Keys};
+
+/// Where an order shows the units of files, the common one first, what is laid of each file and written by it are the very sections that
+/// the definitions of the output name, and each entry has the place of its name.
+pub fn layout_laws()
+    ensures sections { (keys : Keys Spot) (k : Known) (order : List (List UnitItems)) (files : List (FileOut Spot)) → IsOrderOf keys k order files → SectionsAre k order files }
+    ensures places { (keys : Keys Spot) (k : Known) (order : List (List UnitItems)) (files : List (FileOut Spot)) → IsOrderOf keys k order files → PlacesAre keys k order files }
+{}

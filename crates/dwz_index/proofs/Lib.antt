@@ -12,3 +12,4 @@ pub mod UnitsMean
 pub mod NameLemmas
 pub mod TopLemmas
 pub mod TopUnits
+pub mod TextLemmas

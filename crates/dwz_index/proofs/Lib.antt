@@ -13,3 +13,4 @@ pub mod NameLemmas
 pub mod TopLemmas
 pub mod TopUnits
 pub mod TextLemmas
+pub mod ChainLemmas

@@ -144,4 +144,3 @@ has_name s e d text means is =
 -- what is answered for a class of texts
 pub text_is : (v : Value ℕ) (other text : List ℕ) → v ≡ only (Text other) → text_in v.plain ≡ Some text → other ≡ text
 text_is v other text e is = let z : Some other ≡ Some text = sym (ap (λ (w : Value ℕ). text_in w.plain) e) ∙ is in cc
-

@@ -1,3 +1,4 @@
+use Rattle.dwz_index.proofs.ChainLemmas.{leads_out}
 use Rattle.dwz_index.proofs.NameLemmas.{read_whole}
 use Rattle.dwz_index.proofs.TopLemmas.{found, many, named}
 use Rattle.dwz_index.proofs.TopUnits.{shows}
@@ -14,3 +15,6 @@ returns-clause-found c = λ l bytes raw doc starts i n reads. found starts doc.u
 
 pub returns-clause-shows : goal.returns-clause-shows
 returns-clause-shows c = shows
+
+pub returns-clause-spaces : goal.returns-clause-spaces
+returns-clause-spaces c = leads_out

@@ -39,17 +39,17 @@ module _ {E : Type 0} (space : E → Bool) where
   tops_many unit inner k first (Entry e c n) =
       go (tops_many unit inner k (first + 1 + size c) n) (tops_many unit (suc k) (suc k) (first + 1) c) (tops_many unit inner (suc k + spaces_by space c) (first + 1 + size c) n) (space e)
     where
-    a : List TopEntry
-    a = tops_among space unit (suc k) (suc k) (first + 1) c
+      a : List TopEntry
+      a = tops_among space unit (suc k) (suc k) (first + 1) c
 
-    b : List TopEntry
-    b = tops_among space unit inner (suc k + spaces_by space c) (first + 1 + size c) n
+      b : List TopEntry
+      b = tops_among space unit inner (suc k + spaces_by space c) (first + 1 + size c) n
 
-    go : length (tops_among space unit inner k (first + 1 + size c) n) ≡ tops_by space n → length a ≡ tops_by space c → length b ≡ tops_by space n → (t : Bool)
-        → length (elim t as (λ _. List TopEntry) [ false ↦ top_entry first unit inner ∷ tops_among space unit inner k (first + 1 + size c) n | true ↦ a ++ b ])
-        ≡ (elim t as (λ _. ℕ) [ false ↦ suc (tops_by space n) | true ↦ tops_by space c + tops_by space n ])
-    go p q r false = ap suc p
-    go p q r true = length-append a b ∙ (λ j. q j + r j)
+      go : length (tops_among space unit inner k (first + 1 + size c) n) ≡ tops_by space n → length a ≡ tops_by space c → length b ≡ tops_by space n → (t : Bool)
+          → length (elim t as (λ _. List TopEntry) [ false ↦ top_entry first unit inner ∷ tops_among space unit inner k (first + 1 + size c) n | true ↦ a ++ b ])
+          ≡ (elim t as (λ _. ℕ) [ false ↦ suc (tops_by space n) | true ↦ tops_by space c + tops_by space n ])
+      go p q r false = ap suc p
+      go p q r true = length-append a b ∙ (λ j. q j + r j)
 
   pub spaces_many : (outer k first : ℕ) (f : Forest E) → length (spaces_among space outer k first f) ≡ spaces_by space f
   unfolding spaces_among spaces_by
@@ -57,14 +57,14 @@ module _ {E : Type 0} (space : E → Bool) where
   spaces_many outer k first (Entry e c n) =
       go (spaces_many outer k (first + 1 + size c) n) (spaces_many (suc k) (suc k) (first + 1) c) (spaces_many outer (suc k + spaces_by space c) (first + 1 + size c) n) (space e)
     where
-    a : List SpaceEntry
-    a = spaces_among space (suc k) (suc k) (first + 1) c
+      a : List SpaceEntry
+      a = spaces_among space (suc k) (suc k) (first + 1) c
 
-    b : List SpaceEntry
-    b = spaces_among space outer (suc k + spaces_by space c) (first + 1 + size c) n
+      b : List SpaceEntry
+      b = spaces_among space outer (suc k + spaces_by space c) (first + 1 + size c) n
 
-    go : length (spaces_among space outer k (first + 1 + size c) n) ≡ spaces_by space n → length a ≡ spaces_by space c → length b ≡ spaces_by space n → (t : Bool)
-        → length (elim t as (λ _. List SpaceEntry) [ false ↦ spaces_among space outer k (first + 1 + size c) n | true ↦ space_entry first outer ∷ (a ++ b) ])
-        ≡ (elim t as (λ _. ℕ) [ false ↦ spaces_by space n | true ↦ suc (spaces_by space c + spaces_by space n) ])
-    go p q r false = p
-    go p q r true = ap suc (length-append a b ∙ (λ j. q j + r j))
+      go : length (spaces_among space outer k (first + 1 + size c) n) ≡ spaces_by space n → length a ≡ spaces_by space c → length b ≡ spaces_by space n → (t : Bool)
+          → length (elim t as (λ _. List SpaceEntry) [ false ↦ spaces_among space outer k (first + 1 + size c) n | true ↦ space_entry first outer ∷ (a ++ b) ])
+          ≡ (elim t as (λ _. ℕ) [ false ↦ spaces_by space n | true ↦ suc (spaces_by space c + spaces_by space n) ])
+      go p q r false = p
+      go p q r true = ap suc (length-append a b ∙ (λ j. q j + r j))

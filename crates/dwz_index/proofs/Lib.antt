@@ -11,3 +11,6 @@ pub mod ShowLemmas
 pub mod UnitsMean
 pub mod NameLemmas
 pub mod TopLemmas
+pub mod TopUnits
+pub mod TextLemmas
+pub mod ChainLemmas

@@ -65,14 +65,14 @@ module _ (s : Scope ℕ) where
       let more : x.starts.top + length (x.tops ++ top_entry first unit inner ∷ []) ≡ suc top = one_more x.starts.top x.tops (top_entry first unit inner) in
       let len = means_size c c' h in
       let steps : ((x.steps ++ step first 0 (suc top) ∷ []) ++ steps_below (suc top) first 0 (first + 1) c) ++ steps_among is_space (x.starts.top + length (x.tops ++ top_entry first unit inner ∷ [])) up (suc i) (first + 1 + size c) n'
-          ≡ x.steps ++ steps_among is_space top up i first (Entry d c' n')
+      ≡ x.steps ++ steps_among is_space top up i first (Entry d c' n')
       = (λ j. ((x.steps ++ step first 0 (suc top) ∷ []) ++ means_below (suc top) first 0 (first + 1) c c' h j) ++ steps_among is_space (more j) up (suc i) (first + 1 + len j) n')
-          ∙ front x.steps (step first 0 (suc top)) (steps_below (suc top) first 0 (first + 1) c') (steps_among is_space (suc top) up (suc i) (first + 1 + size c') n')
-          ∙ ap (λ (w : List Step). x.steps ++ w) (sym (steps_top is_space d c' n' top up i first plain)) in
+      ∙ front x.steps (step first 0 (suc top)) (steps_below (suc top) first 0 (first + 1) c') (steps_among is_space (suc top) up (suc i) (first + 1 + size c') n')
+      ∙ ap (λ (w : List Step). x.steps ++ w) (sym (steps_top is_space d c' n' top up i first plain)) in
       let tops : (x.tops ++ top_entry first unit inner ∷ []) ++ tops_among is_space unit inner k (first + 1 + size c) n' ≡ x.tops ++ tops_among is_space unit inner k first (Entry d c' n')
       = (λ j. (x.tops ++ top_entry first unit inner ∷ []) ++ tops_among is_space unit inner k (first + 1 + len j) n')
-          ∙ append_assoc x.tops (top_entry first unit inner ∷ []) (tops_among is_space unit inner k (first + 1 + size c') n')
-          ∙ ap (λ (w : List TopEntry). x.tops ++ w) (sym (tops_top is_space d c' n' unit inner k first plain)) in
+      ∙ append_assoc x.tops (top_entry first unit inner ∷ []) (tops_among is_space unit inner k (first + 1 + size c') n')
+      ∙ ap (λ (w : List TopEntry). x.tops ++ w) (sym (tops_top is_space d c' n' unit inner k first plain)) in
       let spaces : x.spaces ++ spaces_among is_space inner k (first + 1 + size c) n' ≡ x.spaces ++ spaces_among is_space inner k first (Entry d c' n')
       = (λ j. x.spaces ++ spaces_among is_space inner k (first + 1 + len j) n') ∙ ap (λ (w : List SpaceEntry). x.spaces ++ w) (sym (spaces_top is_space d c' n' inner k first plain)) in
       (λ j. record { steps = steps j; tops = tops j; spaces = spaces j; starts = x.starts })
@@ -94,16 +94,16 @@ module _ (s : Scope ℕ) where
       many_more x.starts.space (x.spaces ++ opened ∷ []) inside_spaces (spaces_by is_space c') (spaces_many is_space (suc k) _ (first + 1) c') ∙ ap (λ (w : ℕ). w + spaces_by is_space c') one in
       let steps : ((x.steps ++ step up i 0 ∷ []) ++ inside_steps) ++ steps_among is_space (x.starts.top + length (x.tops ++ inside_tops)) up (suc i) (first + 1 + size c) n' ≡ x.steps ++ steps_among is_space top up i first (Entry d c' n')
       = (λ j. ((x.steps ++ step up i 0 ∷ []) ++ inside_steps) ++ steps_among is_space (more_tops j) up (suc i) (first + 1 + len j) n')
-          ∙ front x.steps (step up i 0) inside_steps (steps_among is_space (top + tops_by is_space c') up (suc i) (first + 1 + size c') n')
-          ∙ ap (λ (w : List Step). x.steps ++ w) (sym (steps_space is_space d c' n' top up i first is)) in
+      ∙ front x.steps (step up i 0) inside_steps (steps_among is_space (top + tops_by is_space c') up (suc i) (first + 1 + size c') n')
+      ∙ ap (λ (w : List Step). x.steps ++ w) (sym (steps_space is_space d c' n' top up i first is)) in
       let tops : (x.tops ++ inside_tops) ++ tops_among is_space unit inner (x.starts.space + length ((x.spaces ++ opened ∷ []) ++ inside_spaces)) (first + 1 + size c) n' ≡ x.tops ++ tops_among is_space unit inner k first (Entry d c' n')
       = append_assoc x.tops inside_tops _
-          ∙ (λ j. x.tops ++ (tops_among is_space unit (suc k) (one j) (first + 1) c' ++ tops_among is_space unit inner (more_spaces j) (first + 1 + len j) n'))
-          ∙ ap (λ (w : List TopEntry). x.tops ++ w) (sym (tops_space is_space d c' n' unit inner k first is)) in
+      ∙ (λ j. x.tops ++ (tops_among is_space unit (suc k) (one j) (first + 1) c' ++ tops_among is_space unit inner (more_spaces j) (first + 1 + len j) n'))
+      ∙ ap (λ (w : List TopEntry). x.tops ++ w) (sym (tops_space is_space d c' n' unit inner k first is)) in
       let spaces : ((x.spaces ++ opened ∷ []) ++ inside_spaces) ++ spaces_among is_space inner (x.starts.space + length ((x.spaces ++ opened ∷ []) ++ inside_spaces)) (first + 1 + size c) n' ≡ x.spaces ++ spaces_among is_space inner k first (Entry d c' n')
       = front x.spaces opened inside_spaces _
-          ∙ (λ j. x.spaces ++ (opened ∷ (spaces_among is_space (suc k) (one j) (first + 1) c' ++ spaces_among is_space inner (more_spaces j) (first + 1 + len j) n')))
-          ∙ ap (λ (w : List SpaceEntry). x.spaces ++ w) (sym (spaces_space is_space d c' n' inner k first is)) in
+      ∙ (λ j. x.spaces ++ (opened ∷ (spaces_among is_space (suc k) (one j) (first + 1) c' ++ spaces_among is_space inner (more_spaces j) (first + 1 + len j) n')))
+      ∙ ap (λ (w : List SpaceEntry). x.spaces ++ w) (sym (spaces_space is_space d c' n' inner k first is)) in
       (λ j. record { steps = steps j; tops = tops j; spaces = spaces j; starts = x.starts })
 
   pub list_means : (unit inner up i first : ℕ) (f : Forest RawEntry) (g : Entries ℕ) (x : Index) → MeanEntries s f g → with_list unit inner up i first f x ≡ listed unit inner up i first g x
@@ -118,21 +118,21 @@ module _ (s : Scope ℕ) where
   list_means unit inner up i first (Entry e c n) (Entry d c' n') x h =
       by (λ y. list_means unit inner up (suc i) (first + 1 + size c) n n' y h.2) (list_means unit (space_behind x) first 0 (first + 1) c c' (with_space up i inner first x) h.1) (is_space d) refl
     where
-    a : Index
-    a = with_top unit inner first c x
+      a : Index
+      a = with_top unit inner first c x
 
-    b : Index
-    b = with_space up i inner first x
+      b : Index
+      b = with_space up i inner first x
 
-    same : stored_space e ≡ is_space d
-    same = space_means s e d h.0
+      same : stored_space e ≡ is_space d
+      same = space_means s e d h.0
 
-    by : ((y : Index) → with_list unit inner up (suc i) (first + 1 + size c) n y ≡ listed unit inner up (suc i) (first + 1 + size c) n' y)
-        → with_list unit (space_behind x) first 0 (first + 1) c b ≡ listed unit (space_behind x) first 0 (first + 1) c' b
-        → (t : Bool) → is_space d ≡ t → with_list unit inner up i first (Entry e c n) x ≡ listed unit inner up i first (Entry d c' n') x
-    by behind inside false t = list_top unit inner up i first e c n x (sym (same ∙ t)) ∙ behind a ∙ then_top unit inner up i first d c c' n' x h.1 t
-    by behind inside true t =
-        list_space unit inner up i first e c n x (sym (same ∙ t))
-        ∙ ap (with_list unit inner up (suc i) (first + 1 + size c) n) inside
-        ∙ behind (listed unit (space_behind x) first 0 (first + 1) c' b)
-        ∙ then_space unit inner up i first d c c' n' x h.1 t
+      by : ((y : Index) → with_list unit inner up (suc i) (first + 1 + size c) n y ≡ listed unit inner up (suc i) (first + 1 + size c) n' y)
+          → with_list unit (space_behind x) first 0 (first + 1) c b ≡ listed unit (space_behind x) first 0 (first + 1) c' b
+          → (t : Bool) → is_space d ≡ t → with_list unit inner up i first (Entry e c n) x ≡ listed unit inner up i first (Entry d c' n') x
+      by behind inside false t = list_top unit inner up i first e c n x (sym (same ∙ t)) ∙ behind a ∙ then_top unit inner up i first d c c' n' x h.1 t
+      by behind inside true t =
+          list_space unit inner up i first e c n x (sym (same ∙ t))
+          ∙ ap (with_list unit inner up (suc i) (first + 1 + size c) n) inside
+          ∙ behind (listed unit (space_behind x) first 0 (first + 1) c' b)
+          ∙ then_space unit inner up i first d c c' n' x h.1 t

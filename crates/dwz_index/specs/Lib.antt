@@ -4,3 +4,4 @@ pub mod Index
 pub mod Spaces
 pub mod Building
 pub mod Tops
+pub mod Chains

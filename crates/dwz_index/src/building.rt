@@ -122,12 +122,7 @@ impl Index {
     }
 
     // Adds the entries of the unit with a number.
-    fn put_unit(
-        &mut self,
-        units: &Units,
-        number: u32,
-        unit: &RawUnitOfCode,
-    ) -> Result<(), NoMemory>
+    fn put_unit(&mut self, units: &Units, number: u32, unit: &RawUnitOfCode) -> Result<(), NoMemory>
         requires shown { slice_get (shown_units (units_of units.now)) number ≡ Some unit.now }
         requires room { HasRoom self.old.starts (entries_in (units_of units.now)) }
         requires few { IsFew self.old unit.now.first }

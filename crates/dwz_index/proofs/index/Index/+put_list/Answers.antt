@@ -35,8 +35,7 @@ put_list-requires t c =
     let low = c.loop-entry.invariant.low in
     let more = n.2 in
     let less = n.3 in
-    let opened = c.in_ok-space.ensures.space in
-    (
+    let opened = c.in_ok-space.ensures.space in (
       omega arith,
       (
         n.0,

@@ -11,3 +11,4 @@ pub mod NameMarks
 pub mod MarkSteps
 pub mod RowMarks
 pub mod FileSteps
+pub mod UnitSteps

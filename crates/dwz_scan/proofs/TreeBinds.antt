@@ -20,11 +20,14 @@ or_none true b = refl
 or_none false true = refl
 or_none false false = refl
 
-pub any_top : (test : Node Spot → Bool) (name : ℕ → Spot) (d : Node ℕ) (g : Entries ℕ) (t : Top) → t.node ≡ node_map name d → t.below ≡ entries_map name g
-    → any_in test t ≡ list_any test (map (node_map name) (nodes (Entry d g End)))
+-- an entry with all below it
+pub any_whole : (test : Node Spot → Bool) (name : ℕ → Spot) (d : Node ℕ) (g : Entries ℕ) → (test (node_map name d) || any_entry test (entries_map name g)) ≡ list_any test (map (node_map name) (nodes (Entry d g End)))
 unfolding any_entry entries_map
-any_top test name d g t node below =
-    (λ i. test (node i) || any_entry test (below i))
-    ∙ sym (or_none (test (node_map name d)) (any_entry test (entries_map name g)))
+any_whole test name d g =
+    sym (or_none (test (node_map name d)) (any_entry test (entries_map name g)))
     ∙ any_nodes test (entries_map name (Entry d g End))
     ∙ ap (list_any test) (nodes_map name (Entry d g End))
+
+pub any_top : (test : Node Spot → Bool) (name : ℕ → Spot) (d : Node ℕ) (g : Entries ℕ) (t : Top) → t.node ≡ node_map name d → t.below ≡ entries_map name g
+    → any_in test t ≡ list_any test (map (node_map name) (nodes (Entry d g End)))
+any_top test name d g t node below = (λ i. test (node i) || any_entry test (below i)) ∙ any_whole test name d g

@@ -1,10 +1,11 @@
 -- What is known of a file where its tops are looked at.
-use Rattle.std.specs.Prelude.{◌≡◌, ℕ, ◌+◌, List, Option, map}
+use Rattle.std.specs.Prelude.{◌≡◌, ℕ, ◌+◌, ◌||◌, Bool, List, Option, map}
+use Rattle.dwz_alike.specs.Alike.{any_entry}
 use Rattle.dwz_alike.specs.Spots.{Spot, Top}
 use Rattle.dwz_docs.specs.Trees.{size}
 use Rattle.dwz_docs.specs.Units.{RawUnit, entries_in}
 use Rattle.dwz_flat.specs.Tops.{HasTopOfFile}
-use Rattle.dwz_meanings.specs.Documents.{DwUnit}
+use Rattle.dwz_meanings.specs.Documents.{DwUnit, Node}
 use Rattle.dwz_meanings.specs.Meanings.{Around}
 use Rattle.dwz_resolve.specs.Parts.{AreParted}
 use Rattle.dwz_resolve.specs.Resolved.{AreEntries, place_at}
@@ -25,3 +26,7 @@ pub record StandsAt (around : Around ℕ) (name : ℕ → Spot) (raw : List RawU
   pub stands : HasTopOfFile around name raw units file unit t
   pub from : stands.top.p.before ≡ first
   pub to : first + 1 + size stands.top.c ≡ end
+
+-- an entry of the unit passes the test
+abbrev pub in_unit : (Node Spot → Bool) → DwUnit Spot → Bool
+in_unit test u = test u.root || any_entry test u.below

@@ -10,4 +10,4 @@ mod weight;
 
 pub use bind::TopRange;
 pub use marks::Named;
-pub use scan::{top_binds, top_weight};
+pub use scan::{mark_unit, top_binds, top_weight};

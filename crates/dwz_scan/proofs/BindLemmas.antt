@@ -1,6 +1,6 @@
 -- What a value says that binds, by the class of its form.
 use Rattle.std.proofs.Common.{◌≡◌, ◌≢◌, ◌↔◌, ◌⊎◌, ℕ, Bool, true, false, zero, suc, List, [], ◌∷◌, length, drop, map, Option, Some, None, ℤ, Ok, refl, sym, ap, subst, ◌∙◌, eqb, eqb-true, inl, inr, arith}
-use Rattle.std.specs.Prelude.{not, ◌==◌, ◌||◌, ◌&&◌, if◌then◌else◌, slice_index_or}
+use Rattle.std.specs.Prelude.{not, ◌==◌, ◌||◌, if◌then◌else◌, slice_index_or}
 use Rattle.std.specs.List.{list_all, list_any}
 use Rattle.std.proofs.lemmas.Bool.{false≢true, ne_eqb}
 use Rattle.dwz_alike.specs.Alike.{attr_binds, binding_forms, holds_place, leaves}

@@ -1,5 +1,5 @@
 -- The rows of a unit, with the tops that its references go into.
-use Rattle.std.proofs.Common.{◌≡◌, ℕ, zero, suc, ◌+◌, Bool, true, List, [], ◌∷◌, ◌++◌, Option, length, map, drop, Some, Ok, Err, Result, slice_get, refl, sym, ap, subst, ◌∙◌, arith}
+use Rattle.std.proofs.Common.{◌≡◌, ℕ, zero, suc, ◌+◌, List, [], ◌∷◌, ◌++◌, Option, length, drop, Some, Ok, Err, Result, slice_get, refl, sym, ap, ◌∙◌, arith}
 use Rattle.std.specs.Prelude.{OnOk, slice_index}
 use Rattle.std.proofs.lemmas.List.{append_assoc, drop_at, length-append}
 use Rattle.dwz_alike.specs.Alike.{any_attr}
@@ -12,11 +12,11 @@ use Rattle.dwz_docs.proofs.PartLemmas.{bind_ok}
 use Rattle.dwz_flat.specs.Rows.{AreRowsMeant, RowsMean, nodes}
 use Rattle.dwz_flat.proofs.PartLemmas.{part_meant, rows_unit}
 use Rattle.dwz_flat.proofs.TreeLemmas.{tree_means}
-use Rattle.dwz_meanings.specs.Documents.{DwUnit, Entries, Node, node_map, unit_map}
-use Rattle.dwz_meanings.specs.Meanings.{Around, Scope, entries_meaning, kind_meaning, node_meaning, scope_of, unit_meaning, unit_with, with_next}
-use Rattle.dwz_resolve.proofs.RowLemmas.{below-length, in-length}
+use Rattle.dwz_meanings.specs.Documents.{DwUnit, Node, unit_map}
+use Rattle.dwz_meanings.specs.Meanings.{Around, entries_meaning, kind_meaning, node_meaning, scope_of, unit_meaning, unit_with, with_next}
+use Rattle.dwz_resolve.proofs.RowLemmas.{in-length}
 use Rattle.dwz_unit.specs.declared.rows.RawUnit.{RawUnit as UnitOfCode}
-use Rattle.dwz_unit.specs.Rows.{EntryRow, rows_below, rows_from, rows_in, rows_of, shown_from, shown_units, unit_shown}
+use Rattle.dwz_unit.specs.Rows.{EntryRow, rows_from, rows_in, rows_of, shown_from, shown_units, unit_shown}
 use Rattle.dwz_scan.specs.Bound.{EachInto}
 use Rattle.dwz_scan.specs.Known.{KnowsRefs, in_unit}
 use Rattle.dwz_scan.proofs.FileSteps.{each_into}

@@ -1,7 +1,6 @@
-use Rattle.std.proofs.Common.{◌≡◌, ℕ, Bool, true, List, drop, ◌+◌, sym, ap, subst, ◌∙◌, arith}
-use Rattle.std.specs.Prelude.{OnOk, slice_index}
+use Rattle.std.proofs.Common.{◌≡◌, ℕ, true, drop, ◌+◌, sym, ap, subst, ◌∙◌, arith}
+use Rattle.std.specs.Prelude.{slice_index}
 use Rattle.dwz_alike.specs.Alike.{any_attr}
-use Rattle.dwz_docs.specs.Entries.{root_position}
 use Rattle.dwz_docs.specs.Trees.{End, Entry}
 use Rattle.dwz_docs.specs.Units.{RawUnit, entry_count}
 use Rattle.dwz_flat.specs.Rows.{AreRowsMeant, nodes}
@@ -11,7 +10,7 @@ use Rattle.dwz_meanings.specs.Documents.{unit_map}
 use Rattle.dwz_meanings.specs.Meanings.{scope_of}
 use Rattle.dwz_unit.specs.Rows.{rows_in, units_of}
 use Rattle.dwz_scan.specs.Known.{in_unit}
-use Rattle.dwz_scan.specs.Marked.{MarksIf, expression_names, expression_pins}
+use Rattle.dwz_scan.specs.Marked.{expression_names, expression_pins}
 use Rattle.dwz_scan.proofs.MarkLemmas.{marks_as}
 use Rattle.dwz_scan.proofs.RowMarks.{rows_said}
 use Rattle.dwz_scan.proofs.UnitSteps.{on_ok, there, unit_into, unit_meant, unit_said}

@@ -1,12 +1,13 @@
 -- The places that have names, and the name of a place.
 use Rattle.std.proofs.Common.{◌≡◌, ℕ, suc, ◌+◌, ◌==◌, Bool, true, false, List, [], ◌∷◌, ◌++◌, Option, Some, None, refl, sym, ap, subst, ◌∙◌, inl, inr, eqb-true, eq-eqb}
-use Rattle.dwz_meanings.specs.Documents.{Compile, DwUnit, Entries, Kind, Node, OfType, Partial}
+use Rattle.dwz_meanings.specs.Documents.{Compile, DwUnit, Entries, Kind, Node, OfType, Partial, entries_map, kind_map}
 use Rattle.dwz_docs.specs.Lists.{In}
 use Rattle.dwz_docs.specs.Trees.{End, Entry}
 use Rattle.dwz_seen.specs.Lists.{NoneTwice}
 use Rattle.dwz_seen.specs.Seen.{IsPartial}
 use Rattle.dwz_seen.specs.Shown.{keys, unit_keys, units_keys}
 use Rattle.dwz_seen.specs.Spaces.{space_text, tops_under}
+use Rattle.dwz_seen.proofs.SpaceLemmas.{under_count}
 use Rattle.dwz_alike.specs.Spots.{InType, SpaceAt, Spot, Within, below_spots, entry_spots, spot_in, spots_from, top_count, top_spots}
 
 -- ---- the name of a place
@@ -86,3 +87,10 @@ spots_firsts unit top (u ∷ units) h =
     (firsts_append (below_spots unit top u.kind u.below) rest
     ∙ ap (λ (w : List ℕ). w ++ firsts rest) (below_firsts unit top u.kind u.below (h u (inl refl)))
     ∙ ap (λ (w : List ℕ). keys u.below ++ w) (spots_firsts (suc unit) (top + top_count u.kind u.below) units (λ v is. h v (inr is))))
+
+-- ---- counts
+
+pub count_map : {P Q : Type 0} (g : P → Q) (k : Kind P) (f : Entries P) → top_count (kind_map g k) (entries_map g f) ≡ top_count k f
+count_map g Compile f = under_count g f
+count_map g (OfType signature main) f = refl
+count_map g Partial f = refl

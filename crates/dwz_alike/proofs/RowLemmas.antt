@@ -113,7 +113,7 @@ unit_row units i u h k = unit_row_from 0 0 units i u h k
 
 -- ---- the tops of a unit are those of its row
 
-below_unit : (f : FileUnit Spot) (i n : ℕ) (k : Kind Spot) (t : Top) → In t (row_tops (row_below f.file i n f.unit k)) → (t.file ≡ f.file) × (t.unit ≡ i) × (k ≡ Compile)
+pub below_unit : (f : FileUnit Spot) (i n : ℕ) (k : Kind Spot) (t : Top) → In t (row_tops (row_below f.file i n f.unit k)) → (t.file ≡ f.file) × (t.unit ≡ i) × (k ≡ Compile)
 unfolding row_tops
 below_unit f i n Compile t h = let o = row_unit f.file i (language f.unit) [] n (row_in f.file i (language f.unit) [] n f.unit.below) f.unit.below (row_is f.file i (language f.unit) [] n f.unit.below) t h in (o.0, o.1, refl)
 below_unit f i n (OfType signature main) t h = absurd h

@@ -36,7 +36,7 @@ below_numbered file unit n u Compile = row_numbered file unit (language u) [] n 
 below_numbered file unit n u (OfType signature main) = tt
 below_numbered file unit n u Partial = tt
 
-below_length : (file unit n : ℕ) (u : DwUnit Spot) (k : Kind Spot) → length (row_tops (row_below file unit n u k)) ≡ top_count k u.below
+pub below_length : (file unit n : ℕ) (u : DwUnit Spot) (k : Kind Spot) → length (row_tops (row_below file unit n u k)) ≡ top_count k u.below
 unfolding row_tops
 below_length file unit n u Compile = row_count file unit (language u) [] n (row_in file unit (language u) [] n u.below) u.below (row_is file unit (language u) [] n u.below)
 below_length file unit n u (OfType signature main) = refl

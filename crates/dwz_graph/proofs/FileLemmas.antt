@@ -143,7 +143,7 @@ pub fits_file : (l : Limits) (bytes : List ℕ) → is_too_long l bytes ≡ fals
 unfolding longest_file
 fits_file l bytes e = not_above (2 ^ 28) (length bytes) (first_false (ltb (2 ^ 28) (length bytes)) (ltb l.bytes (length bytes)) e)
 
-in_bytes : (bytes : List ℕ) (o : Option (ℕ × ℕ)) → length (bytes_in bytes o) ≤ length bytes
+pub in_bytes : (bytes : List ℕ) (o : Option (ℕ × ℕ)) → length (bytes_in bytes o) ≤ length bytes
 in_bytes bytes None = omega arith
 in_bytes bytes (Some r) = omega (arith, length-take r.1 (drop r.0 bytes), length-drop r.0 bytes)
 

@@ -33,7 +33,7 @@ one_before : (doc : Doc ℕ) (docs : List (Doc ℕ)) (r : Result (List (Doc ℕ)
 one_before doc docs (Ok others) = refl
 one_before doc docs (Err e) = refl
 
-step : (l : Limits) (n : ℕ) (b : List ℕ) (raw : List RawUnit) (doc : Doc ℕ) (rest : List (List ℕ)) → file_meaning l b ≡ Ok (raw, doc) → files_meaning l n (b ∷ rest) ≡ (files_meaning (limits_after l b raw) (suc n) rest >>= with_doc doc)
+pub step : (l : Limits) (n : ℕ) (b : List ℕ) (raw : List RawUnit) (doc : Doc ℕ) (rest : List (List ℕ)) → file_meaning l b ≡ Ok (raw, doc) → files_meaning l n (b ∷ rest) ≡ (files_meaning (limits_after l b raw) (suc n) rest >>= with_doc doc)
 unfolding files_meaning
 step l n b raw doc rest e = ap (λ (r : Result (List RawUnit × Doc ℕ) Fault). in_file n r >>= λ x. files_meaning (limits_after l b x.0) (suc n) rest >>= with_doc x.1) e
 

@@ -8,7 +8,7 @@ ghost use Rattle.dwz_meanings.specs.Shared.{AreRows};
 ghost use Rattle.dwz_resolve.specs.ListRows.{operand_view};
 ghost use Rattle.dwz_docs.specs.ElfReading.{elf_of};
 ghost use Rattle.dwz_meanings.specs.Files.{Limits, around_of, files_meaning, limits_after, no_files_before};
-ghost use Rattle.dwz_graph.specs.Files.{FilesAnswer, HasFile, HasRead, docs_of, limits_view, refused_file};
+ghost use Rattle.dwz_graph.specs.Files.{AreKept, FilesAnswer, HasFile, HasRead, docs_of, limits_view, refused_file};
 ghost use Rattle.dwz_unit.specs.Rows.{units_of};
 
 use crate::file::{File, Left, read_file};
@@ -95,6 +95,13 @@ impl<'a> Graph<'a> {
             contents: files,
             files: kept,
         })
+    }
+
+    /// The files in order, as they were read.
+    pub fn files(&self) -> &[File<'a>]
+        ensures { AreKept self.now result.now }
+    {
+        self.files.as_slice()
     }
 
     /// The file with a number, as it was read.

@@ -11,3 +11,5 @@ pub mod ShowLemmas
 pub mod UnitsMean
 pub mod NameLemmas
 pub mod TopLemmas
+pub mod TopUnits
+pub mod TextLemmas

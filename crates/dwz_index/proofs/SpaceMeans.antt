@@ -1,10 +1,11 @@
 -- An entry is stored as a space just where it means one.
-use Rattle.std.proofs.Common.{◌≡◌, ℕ, ℤ, Bool, true, false, List, [], ◌∷◌, Option, Some, None, ◌==◌, cond, refl, sym, ap, ◌∙◌, eqb-true}
+use Rattle.std.proofs.Common.{◌≡◌, ℕ, ℤ, Bool, true, false, List, [], ◌∷◌, Option, Some, None, Ok, ◌==◌, cond, refl, sym, ap, subst, ◌∙◌, eqb-true}
 use Rattle.std.specs.Option.{is_some}
 use Rattle.dwz_docs.specs.Entries.{RawAttr, RawEntry}
 use Rattle.dwz_meanings.specs.Documents.{Attr, Node, Value, first_named}
-use Rattle.dwz_meanings.specs.Meanings.{Class, IfSo, IsFileBy, IsLocList, MeanAttrs, MeansAs, MeansNode, OfAddress, OfBlock, OfCommonEntry, OfCommonText, OfConstant, OfExpression, OfFlag, OfIndex, OfInfoEntry, OfListIndex, OfOffset, OfSignature, OfText, OfTextBySlot, OfTextInLineStr, OfTextInStr, OfUnitEntry, Scope, Unread, class_of, constant_value, first_raw, names_file, names_list, number_of, offset_of, stmt_list, without_siblings}
-use Rattle.dwz_meanings.specs.Documents.{Sec, only}
+use Rattle.dwz_meanings.specs.Meanings.{Class, IfSo, IsFileBy, IsLocList, MeanAttrs, MeansAs, MeansNode, OfAddress, OfBlock, OfCommonEntry, OfCommonText, OfConstant, OfExpression, OfFlag, OfIndex, OfInfoEntry, OfListIndex, OfOffset, OfSignature, OfText, OfTextBySlot, OfTextInLineStr, OfTextInStr, OfUnitEntry, Scope, Unread, class_of, constant_value, first_raw, names_file, names_list, node_meaning, number_of, offset_of, stmt_list, without_siblings}
+use Rattle.dwz_meanings.specs.Documents.{Sec, Text, only}
+use Rattle.dwz_meanings.proofs.MeaningLemmas.{node_agrees}
 use Rattle.dwz_seen.specs.Spaces.{space_text, text_at, text_in}
 use Rattle.dwz_index.specs.Spaces.{has_text, is_text, stored_space}
 use Rattle.dwz_index.specs.Steps.{is_space}
@@ -78,3 +79,69 @@ space_means s e d h = by (e.tag == 0x39) ∙ ap (λ (n : ℕ). is_some (elim (n 
   by : (b : Bool) → (elim b as (λ _. Bool) [ true ↦ has_text (first_raw 0x03 e.attrs) | false ↦ false ]) ≡ is_some (elim b as (λ _. Option (List ℕ)) [ true ↦ text_at (first_named 0x03 d.attrs) | false ↦ None ])
   by true = first_text s e.attrs d.attrs h.attrs
   by false = refl
+
+-- ---- the name of a space
+
+-- the first DW_AT_name as it is stored, and what it means
+pub record IsNamed (s : Scope ℕ) (raw : List RawAttr) (b : Attr ℕ) : Type 0 where
+  pub attr : RawAttr
+  pub first : first_raw 0x03 raw ≡ Some attr
+  pub means : MeansAs (class_of attr.pair.form) s attr b.value
+
+first_pair : (s : Scope ℕ) (raw : List RawAttr) (attrs : List (Attr ℕ)) (b : Attr ℕ) → MeanAttrs s (without_siblings raw) attrs → first_named 0x03 attrs ≡ Some b → IsNamed s raw b
+unfolding first_raw first_named without_siblings
+first_pair s [] [] b h e = absurd cc
+first_pair s [] (d ∷ attrs) b h e = absurd h
+first_pair s (a ∷ raw) attrs b h e = go (λ attrs h e. first_pair s raw attrs b h e) (a.pair.name == 0x01) refl attrs h e where
+  later : (n : ℕ) → a.pair.name ≡ n → (n == 0x03) ≡ false → IsNamed s raw b → IsNamed s (a ∷ raw) b
+  later n is other r = record { attr = r.attr; first = ap (λ (t : Bool). cond t (Some a) (first_raw 0x03 raw)) (ap (λ (m : ℕ). m == 0x03) is ∙ other) ∙ r.first; means = r.means }
+
+  named : (d : Attr ℕ) (others : List (Attr ℕ)) → d.name ≡ a.pair.name → MeansAs (class_of a.pair.form) s a d.value → (first_named 0x03 others ≡ Some b → IsNamed s raw b) → (t : Bool) → (a.pair.name == 0x03) ≡ t → cond t (Some d) (first_named 0x03 others) ≡ Some b → IsNamed s (a ∷ raw) b
+  named d others same means rest true q e =
+      let one : d ≡ b = cc in
+      record { attr = a; first = ap (λ (t : Bool). cond t (Some a) (first_raw 0x03 raw)) q; means = subst (λ (w : Attr ℕ). MeansAs (class_of a.pair.form) s a w.value) one means }
+  named d others same means rest false q e = later a.pair.name refl q (rest e)
+
+  go : ((attrs : List (Attr ℕ)) → MeanAttrs s (without_siblings raw) attrs → first_named 0x03 attrs ≡ Some b → IsNamed s raw b) → (t : Bool) → (a.pair.name == 0x01) ≡ t
+      → (attrs : List (Attr ℕ)) → MeanAttrs s (cond t (without_siblings raw) (a ∷ without_siblings raw)) attrs → first_named 0x03 attrs ≡ Some b → IsNamed s (a ∷ raw) b
+  go rest true q attrs h e = later 0x01 (eqb-true a.pair.name 0x01 q) refl (rest attrs h e)
+  go rest false q [] h e = absurd h
+  go rest false q (d ∷ attrs) h e =
+      let same = h.0.name in
+      named d attrs same h.0.value (rest attrs h.1) (a.pair.name == 0x03) refl (ap (λ (n : ℕ). cond (n == 0x03) (Some d) (first_named 0x03 attrs)) (sym same) ∙ e)
+
+-- the attribute that names a space
+pub record IsSpaceName (text : List ℕ) (e : Node ℕ) : Type 0 where
+  pub attr : Attr ℕ
+  pub first : first_named 0x03 e.attrs ≡ Some attr
+  pub is : text_in attr.value.plain ≡ Some text
+
+named_by : (d : Node ℕ) (text : List ℕ) → space_text d ≡ Some text → IsSpaceName text d
+unfolding space_text
+named_by d text e = by (d.tag == 0x39) (first_named 0x03 d.attrs) refl e where
+  by : (t : Bool) (o : Option (Attr ℕ)) → first_named 0x03 d.attrs ≡ o → (elim t as (λ _. Option (List ℕ)) [ true ↦ text_at o | false ↦ None ]) ≡ Some text → IsSpaceName text d
+  by true None q e = absurd cc
+  by true (Some a) q e = record { attr = a; first = q; is = e }
+  by false o q e = absurd cc
+
+-- the name of a space is a value that is stored
+pub record HasName (s : Scope ℕ) (e : RawEntry) (text : List ℕ) : Type 0 where
+  pub attr : RawAttr
+  pub value : Value ℕ
+  pub first : first_raw 0x03 e.attrs ≡ Some attr
+  pub means : MeansAs (class_of attr.pair.form) s attr value
+  pub is : text_in value.plain ≡ Some text
+
+pub has_name : (s : Scope ℕ) (e : RawEntry) (d : Node ℕ) (text : List ℕ) → node_meaning s e ≡ Ok d → space_text d ≡ Some text → HasName s e text
+has_name s e d text means is =
+    let h = ((node_agrees s e).ok d).0 means in
+    let n = named_by d text is in
+    let a = first_pair s e.attrs d.attrs n.attr h.attrs n.first in
+    record { attr = a.attr; value = n.attr.value; first = a.first; means = a.means; is = n.is }
+
+-- ---- the text of a value
+
+-- what is answered for a class of texts
+pub text_is : (v : Value ℕ) (other text : List ℕ) → v ≡ only (Text other) → text_in v.plain ≡ Some text → other ≡ text
+text_is v other text e is = let z : Some other ≡ Some text = sym (ap (λ (w : Value ℕ). text_in w.plain) e) ∙ is in cc
+

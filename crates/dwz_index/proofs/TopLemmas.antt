@@ -32,7 +32,7 @@ get_first [] ys k x e = absurd cc
 get_first (z ∷ xs) ys zero x e = e
 get_first (z ∷ xs) ys (suc k) x e = get_first xs ys k x e
 
-get_cases : {X : Type 0} (xs ys : List X) (k : ℕ) (x : X) → slice_get (xs ++ ys) k ≡ Some x → (slice_get xs k ≡ Some x) ⊎ ((j : ℕ) × (k ≡ length xs + j) × (slice_get ys j ≡ Some x))
+pub get_cases : {X : Type 0} (xs ys : List X) (k : ℕ) (x : X) → slice_get (xs ++ ys) k ≡ Some x → (slice_get xs k ≡ Some x) ⊎ ((j : ℕ) × (k ≡ length xs + j) × (slice_get ys j ≡ Some x))
 get_cases [] ys k x e = inr (k, (let n : k ≡ 0 + k = omega arith in n), e)
 get_cases (z ∷ xs) ys zero x e = inl e
 get_cases (z ∷ xs) ys (suc k) x e = elim (get_cases xs ys k x e) [
@@ -148,7 +148,7 @@ among_found unit inner k at path i n first (Entry d c r) j m e =
 abbrev below_names : ℕ → ℕ → Kind ℕ → Entries ℕ → List Spot
 below_names unit top kind f = map name_of (below_spots unit top kind f)
 
-abbrev entries_of : ℕ → ℕ → ℕ → Kind ℕ → Entries ℕ → List TopEntry
+abbrev pub entries_of : ℕ → ℕ → ℕ → Kind ℕ → Entries ℕ → List TopEntry
 entries_of unit k first kind f = top_entries is_space unit k first (record { compile = is_compile kind; list = f })
 
 below_found : (unit k : ℕ) (at top first : ℕ) (kind : Kind ℕ) (f : Entries ℕ) (j m : ℕ) → slice_get (below_names at top kind f) j ≡ Some (Within m []) → IsTopAt top (entries_of unit k first kind f) (first + 1 + j) m
@@ -166,7 +166,7 @@ names_many at top Compile f h = many_tops at [] 0 top f
 names_many at top (OfType signature main) f h = many_names (InType at) [] 0 f
 names_many at top Partial f h = absurd (h tt)
 
-counts_same : (v : DwUnit ℕ) → tops_of_list is_space (below_root v) ≡ top_count v.kind v.below
+pub counts_same : (v : DwUnit ℕ) → tops_of_list is_space (below_root v) ≡ top_count v.kind v.below
 counts_same v = by v.kind where
   by : (kind : Kind ℕ) → tops_of_list is_space (record { compile = is_compile kind; list = v.below }) ≡ top_count kind v.below
   by Compile = counted v.below

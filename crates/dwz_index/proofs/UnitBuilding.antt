@@ -206,3 +206,16 @@ pub units_long : (unit first : ℕ) (raw : List RawUnit) (x : Index) → length 
 unfolding with_units entries_in
 units_long unit first [] x = omega arith
 units_long unit first (u ∷ raw) x = omega (arith, units_long (unit + 1) (first + entry_count u) raw (with_unit unit first u x), unit_long unit first u x)
+
+pub few_units : (unit first : ℕ) (raw : List RawUnit) (x : Index) → IsFew x first → IsFew (with_units unit first raw x) (first + entries_in raw)
+unfolding with_units entries_in
+few_units unit first [] x h = few_more x first (first + 0) (omega arith) h
+few_units unit first (u ∷ raw) x h =
+    let r = few_units (unit + 1) (first + entry_count u) raw (with_unit unit first u x) (few_unit unit first u x h) in
+    few_more (with_units (unit + 1) (first + entry_count u) raw (with_unit unit first u x)) (first + entry_count u + entries_in raw) (first + (entry_count u + entries_in raw)) (omega arith) r
+
+-- there are no more units than entries
+pub units_few : (raw : List RawUnit) → length raw ≤ entries_in raw
+unfolding entries_in
+units_few [] = omega arith
+units_few (u ∷ raw) = omega (arith, units_few raw)

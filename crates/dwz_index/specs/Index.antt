@@ -1,12 +1,12 @@
 -- What an index shows of the entries of a file.
-use Rattle.std.specs.Prelude.{◌≡◌, ℕ, suc, ◌<◌, List, [], ◌∷◌, length, map, Option, Some, None, slice_get}
+use Rattle.std.specs.Prelude.{◌≡◌, ℕ, suc, ◌+◌, ◌<◌, List, [], ◌∷◌, length, map, Option, Some, None, slice_get}
 use Rattle.dwz_meanings.specs.Documents.{DwUnit}
 use Rattle.dwz_alike.specs.Spots.{InType, RootOf, SpaceAt, Spot, Within}
 use Rattle.dwz_index.specs.declared.index.SpaceEntry.{SpaceEntry}
 use Rattle.dwz_index.specs.declared.index.Starts.{Starts}
 use Rattle.dwz_index.specs.declared.index.Step.{Step}
 use Rattle.dwz_index.specs.declared.index.TopEntry.{TopEntry}
-use Rattle.dwz_index.specs.Steps.{all_spaces, all_tops, below_root, is_space, starts_after}
+use Rattle.dwz_index.specs.Steps.{all_spaces, all_tops, below_root, is_space}
 
 -- what is kept: of each entry the way up, the tops, the spaces, and the numbers that the file begins with
 pub record Index : Type 0 where
@@ -14,6 +14,10 @@ pub record Index : Type 0 where
   pub tops : List TopEntry
   pub spaces : List SpaceEntry
   pub starts : Starts
+
+-- the numbers behind a file with so many units
+abbrev pub next_starts : Index → ℕ → Starts
+next_starts x units = record { unit = x.starts.unit + units; top = x.starts.top + length x.tops; space = x.starts.space + length x.spaces }
 
 -- the name of what is above an entry in no top
 abbrev pub above : (ℕ → List ℕ → Spot) → ℕ → List ℕ → Spot

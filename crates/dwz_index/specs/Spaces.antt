@@ -1,7 +1,9 @@
 -- Which entries are spaces, as they are stored.
-use Rattle.std.specs.Prelude.{ℕ, Bool, true, false, Option, Some, None, ◌==◌}
+use Rattle.std.specs.Prelude.{◌≡◌, ℕ, Bool, true, false, Option, Some, None, ◌==◌}
 use Rattle.dwz_docs.specs.Entries.{RawAttr, RawEntry}
-use Rattle.dwz_meanings.specs.Meanings.{Class, OfCommonText, OfText, OfTextBySlot, OfTextInLineStr, OfTextInStr, class_of, first_raw}
+use Rattle.dwz_meanings.specs.Meanings.{Class, OfCommonText, OfText, OfTextBySlot, OfTextInLineStr, OfTextInStr, Scope, class_of, first_raw, str_offsets_base}
+use Rattle.dwz_resolve.specs.declared.sections.Sections.{Sections}
+use Rattle.dwz_resolve.specs.Resolved.{sources_view}
 
 -- the values of the class are texts
 abbrev pub is_text : Class → Bool
@@ -19,3 +21,9 @@ has_text (Some a) = is_text (class_of a.pair.form)
 -- a DW_TAG_namespace whose first DW_AT_name has the form of a text
 unfoldable pub stored_space : RawEntry → Bool
 stored_space e = elim (e.tag == 0x39) as (λ _. Bool) [ true ↦ has_text (first_raw 0x03 e.attrs) | false ↦ false ]
+
+-- the scope of a unit in a file by itself, with these sections, where that is the base of the unit's slots of `.debug_str_offsets`
+pub record IsOwn (sections : Sections) (base : Option ℕ) (s : Scope ℕ) : Type 0 where
+  pub sources : s.around.sources ≡ sources_view sections
+  pub common : s.around.common ≡ None
+  pub base_is : base ≡ str_offsets_base s

@@ -103,11 +103,6 @@ unfoldable pub all_spaces : {E : Type 0} → (E → Bool) → Starts → (first 
 all_spaces space s first [] = []
 all_spaces space s first (b ∷ bs) = space_entries space s.space first b ++ all_spaces space (starts_behind space s b) (first + 1 + size b.list) bs
 
--- the numbers behind those of all units
-unfoldable pub starts_after : {E : Type 0} → (E → Bool) → Starts → List (Below E) → Starts
-starts_after space s [] = s
-starts_after space s (b ∷ bs) = starts_after space (starts_behind space s b) bs
-
 -- ---- in documents
 
 abbrev pub is_compile : {P : Type 0} → Kind P → Bool

@@ -5,8 +5,8 @@ ghost use Rattle.dwz_docs.specs.Units.{entries_in};
 ghost use Rattle.dwz_meanings.specs.Documents.{DwUnit};
 ghost use Rattle.dwz_meanings.specs.Meanings.{Around, units_meaning};
 ghost use Rattle.dwz_alike.specs.Spots.{Spot};
-ghost use Rattle.dwz_index.specs.Building.{HasRoom};
-ghost use Rattle.dwz_index.specs.Index.{HasTops, IsIndex};
+ghost use Rattle.dwz_index.specs.Building.{HasRoom, IsFew};
+ghost use Rattle.dwz_index.specs.Index.{HasTops, IsIndex, next_starts};
 ghost use Rattle.dwz_index.specs.Names.{names_from, path_in, top_in};
 ghost use Rattle.dwz_unit.specs.Rows.{units_of};
 
@@ -77,6 +77,7 @@ impl Index {
     pub fn read(alloc: Global, units: &Units, starts: &Starts) -> Result<Index, NoMemory>
         requires room { HasRoom starts.now (entries_in (units_of units.now)) }
         ensures len { IfOk result (λ x. length x.steps ≡ entries_in (units_of units.now)) }
+        ensures few { IfOk result (λ x. IsFew x (entries_in (units_of units.now))) }
         ensures names { (around : Around ℕ) (said : List (DwUnit ℕ)) → units_meaning around (units_of units.now) ≡ Ok said → IfOk result (λ x. IsIndex (names_from starts.now.unit starts.now.top said) x) }
         ensures tops { (around : Around ℕ) (said : List (DwUnit ℕ)) → units_meaning around (units_of units.now) ≡ Ok said → IfOk result (λ x. HasTops starts.now said x) }
     {
@@ -142,6 +143,19 @@ impl Index {
         ensures { result.now ≡ self.now.spaces }
     {
         self.spaces.as_slice()
+    }
+
+    /// The numbers that the next file begins with, behind this one, which has these units.
+    pub fn behind(&self, units: &Units) -> Starts
+        requires room { HasRoom self.now.starts (entries_in (units_of units.now)) }
+        requires few { IsFew self.now (entries_in (units_of units.now)) }
+        ensures { result ≡ next_starts self.now (length (units_of units.now)) }
+    {
+        Starts {
+            unit: self.starts.unit + units.len(),
+            top: self.starts.top + self.tops.len() as u32,
+            space: self.starts.space + self.spaces.len() as u32,
+        }
     }
 
     /// The numbers that the file begins with.

@@ -12,11 +12,11 @@ use Rattle.dwz_seen.proofs.MainLemmas.{mains_map}
 use Rattle.dwz_seen.proofs.Members.{in_cases, in_left, in_right, nth_from}
 use Rattle.dwz_seen.proofs.ShownLemmas.{closed_shown, map_shown}
 use Rattle.dwz_alike.specs.Spots.{FileUnit, LabelledTop, Row, Spot, Top, in_file, named_files, named_in, row_below, row_from, row_tops, spot_in, spots_from, top_count, tops_among, tops_from, units_of}
-use Rattle.dwz_alike.proofs.NameLists.{firsts, spots_firsts}
+use Rattle.dwz_alike.proofs.NameLists.{count_map, firsts, spots_firsts}
 use Rattle.dwz_alike.proofs.RowLemmas.{behind, row_here, row_later}
 use Rattle.dwz_same.specs.After.{AreOld, ArePlaced, IsNamedUnit, Place, at_file, name_from, placed_from}
 use Rattle.dwz_same.specs.Images.{units_in}
-use Rattle.dwz_same.proofs.OldNames.{count_map, tops_labelled, units_named_at}
+use Rattle.dwz_same.proofs.OldNames.{tops_labelled, units_named_at}
 
 nth_cases : {X : Type 0} (s : ℕ) (xs ys : List X) (i : ℕ) (x : X) → Nth s (xs ++ ys) i x → Nth s xs i x ⊎ Nth (s + length xs) ys i x
 nth_cases s [] ys i x h = (let e : s + 0 ≡ s = omega arith in inr (rw e h))

@@ -10,16 +10,9 @@ use Rattle.dwz_seen.specs.Spaces.{space_text, tops_under}
 use Rattle.dwz_seen.proofs.Members.{in_cases, in_left, in_right, nth_from}
 use Rattle.dwz_seen.proofs.SpaceLemmas.{text_map, under_count}
 use Rattle.dwz_alike.specs.Spots.{ASpace, ATop, FileUnit, InType, Labelled, LabelledSpaces, LabelledTop, Nothing, RootOf, Row, SpaceAt, SpaceName, Spot, Top, UnitOf, Within, below_spots, entry_spots, in_file, name_of, named_in, row_below, row_from, row_in, row_tops, spot_in, spots_from, top_count, top_spots, tops_from}
-use Rattle.dwz_alike.proofs.NameLists.{NotPartial, firsts, spot_is, spots_space, spots_top}
+use Rattle.dwz_alike.proofs.NameLists.{NotPartial, count_map, firsts, spot_is, spots_space, spots_top}
 use Rattle.dwz_alike.proofs.RowLemmas.{RowIs, row_here, row_is, row_later}
 use Rattle.dwz_same.specs.After.{IsNamedBelow, IsNamedUnit}
-
--- ---- counts
-
-pub count_map : {P Q : Type 0} (g : P → Q) (k : Kind P) (f : Entries P) → top_count (kind_map g k) (entries_map g f) ≡ top_count k f
-count_map g Compile f = under_count g f
-count_map g (OfType signature main) f = refl
-count_map g Partial f = refl
 
 -- ---- in one file
 

@@ -23,8 +23,7 @@ use Rattle.dwz_same.specs.Images.{InNoTop}
 use Rattle.dwz_same.specs.Units.{changes, kept_unit, kept_units, out_units, partial_unit, partial_units, units_at}
 use Rattle.dwz_same.proofs.EntryLemmas.{kept_still, top_changes}
 use Rattle.dwz_same.proofs.OldFiles.{counted, filed_count, filed_length}
-use Rattle.dwz_alike.proofs.NameLists.{spots_space, spots_top}
-use Rattle.dwz_same.proofs.OldNames.{count_map}
+use Rattle.dwz_alike.proofs.NameLists.{count_map, spots_space, spots_top}
 
 -- ---- the names of a file
 

@@ -1,5 +1,6 @@
 use Rattle.dwz_index.proofs.NameLemmas.{read_whole}
 use Rattle.dwz_index.proofs.TopLemmas.{found, many, named}
+use Rattle.dwz_index.proofs.TopUnits.{shows}
 use Rattle.dwz_index.proofs.laws.top_laws.Goals as goal
 
 pub returns-clause-many : goal.returns-clause-many
@@ -10,3 +11,6 @@ returns-clause-named c = λ l bytes raw doc starts k x reads. named starts doc.u
 
 pub returns-clause-found : goal.returns-clause-found
 returns-clause-found c = λ l bytes raw doc starts i n reads. found starts doc.units (read_whole l bytes raw doc reads) i n
+
+pub returns-clause-shows : goal.returns-clause-shows
+returns-clause-shows c = shows

@@ -1,4 +1,4 @@
-use Rattle.std.proofs.Common.{◌≡◌, ℕ, ◌+◌, List, [], length, sym, ap, ◌∙◌, arith}
+use Rattle.std.proofs.Common.{◌≡◌, ℕ, ◌+◌, List, [], length, sym, ap, subst, ◌∙◌, arith}
 use Rattle.dwz_docs.specs.Units.{RawUnit, entries_in}
 use Rattle.dwz_meanings.proofs.MeaningLemmas.{units_agree}
 use Rattle.dwz_resolve.proofs.UnitStarts.{all_whole}
@@ -7,9 +7,9 @@ use Rattle.dwz_index.specs.declared.index.SpaceEntry.{SpaceEntry}
 use Rattle.dwz_index.specs.declared.index.Starts.{Starts}
 use Rattle.dwz_index.specs.declared.index.Step.{Step}
 use Rattle.dwz_index.specs.declared.index.TopEntry.{TopEntry}
-use Rattle.dwz_index.specs.Building.{nothing_yet, with_units}
+use Rattle.dwz_index.specs.Building.{IsFew, nothing_yet, with_units}
 use Rattle.dwz_index.specs.Index.{Index}
-use Rattle.dwz_index.proofs.UnitBuilding.{units_long}
+use Rattle.dwz_index.proofs.UnitBuilding.{few_units, units_long}
 use Rattle.dwz_index.proofs.UnitsMean.{has_tops, is_index}
 use Rattle.dwz_index.proofs.index.Index.read.Goals as goal
 
@@ -31,3 +31,11 @@ returns-clause-names c = λ around said means. is_index around c.args.starts.now
 pub returns-clause-tops : goal.returns-clause-tops
 returns-clause-tops c = λ around said means. has_tops around c.args.starts.now (units_of c.args.units.now) said c.put_units.new.self (((units_agree around (units_of c.args.units.now)).ok said).0 means)
     (from_nothing c.put_units.new.self c.args.starts.now (units_of c.args.units.now) c.in_ok-steps.steps.items c.new.result.items c.new-2.result.items c.in_ok-put_units.ensures c.in_ok-steps.ensures.items c.new.ensures.items c.new-2.ensures.items)
+
+pub returns-clause-few : goal.returns-clause-few
+returns-clause-few c =
+    let built = from_nothing c.put_units.new.self c.args.starts.now (units_of c.args.units.now) c.in_ok-steps.steps.items c.new.result.items c.new-2.result.items c.in_ok-put_units.ensures c.in_ok-steps.ensures.items c.new.ensures.items c.new-2.ensures.items in
+    let raw = units_of c.args.units.now in
+    let none : 0 + entries_in raw ≡ entries_in raw = omega arith in
+    subst (λ (n : ℕ). IsFew c.put_units.new.self n) none
+    (subst (λ (w : Index). IsFew w (0 + entries_in raw)) (sym built) (few_units c.args.starts.now.unit 0 raw (nothing_yet c.args.starts.now) (record { tops = omega arith; spaces = omega arith })))

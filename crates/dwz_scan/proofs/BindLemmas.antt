@@ -18,7 +18,8 @@ use Rattle.dwz_meanings.proofs.ClassLemmas.{and_true}
 use Rattle.dwz_meanings.proofs.ExprLemmas.{expr_agrees}
 use Rattle.dwz_meanings.proofs.MeaningLemmas.{value_agrees}
 use Rattle.dwz_resolve.specs.Named.{refs_beside, value_refs}
-use Rattle.dwz_scan.specs.Bound.{AreInto, count_of, is_expression, top_in}
+use Rattle.dwz_scan.specs.Bound.{AreInto, count_of, is_expression}
+use Rattle.dwz_index.specs.Names.{top_in}
 use Rattle.dwz_scan.specs.Values.{is_entry}
 
 -- ---- lists have binding forms

@@ -15,7 +15,8 @@ use Rattle.dwz_meanings.specs.Meanings.{Around, Scope, scope_of}
 use Rattle.dwz_resolve.specs.Resolved.{Each, place_at}
 use Rattle.dwz_resolve.proofs.RowLemmas.{below-length}
 use Rattle.dwz_unit.specs.Rows.{EntryRow, rows_below, rows_of}
-use Rattle.dwz_scan.specs.Bound.{AreInto, EachInto, top_in}
+use Rattle.dwz_scan.specs.Bound.{AreInto, EachInto}
+use Rattle.dwz_index.specs.Names.{top_in}
 use Rattle.dwz_scan.specs.Known.{KnowsRefs, StandsAt, tops_of_refs}
 use Rattle.dwz_scan.proofs.BindSteps.{into_first}
 

@@ -12,3 +12,5 @@ pub mod MarkSteps
 pub mod RowMarks
 pub mod FileSteps
 pub mod UnitSteps
+pub mod IntoLemmas
+pub mod StandLemmas

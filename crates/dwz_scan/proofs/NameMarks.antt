@@ -16,7 +16,8 @@ use Rattle.dwz_meanings.proofs.MeaningLemmas.{value_agrees}
 use Rattle.dwz_moving.specs.Plan.{pins, uleb_targets}
 use Rattle.dwz_resolve.specs.Named.{value_refs}
 use Rattle.dwz_alike.proofs.Targets.{or_first, or_second}
-use Rattle.dwz_scan.specs.Bound.{AreInto, is_expression, top_in}
+use Rattle.dwz_scan.specs.Bound.{AreInto, is_expression}
+use Rattle.dwz_index.specs.Names.{top_in}
 use Rattle.dwz_scan.specs.Marked.{asked_tops, expression_names, expression_pins, in_expression, is_asked}
 use Rattle.dwz_scan.specs.Values.{is_entry}
 

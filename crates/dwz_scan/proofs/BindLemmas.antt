@@ -1,6 +1,6 @@
 -- What a value says that binds, by the class of its form.
 use Rattle.std.proofs.Common.{◌≡◌, ◌≢◌, ◌↔◌, ◌⊎◌, ℕ, Bool, true, false, zero, suc, List, [], ◌∷◌, length, drop, map, Option, Some, None, ℤ, Ok, refl, sym, ap, subst, ◌∙◌, eqb, eqb-true, inl, inr, arith}
-use Rattle.std.specs.Prelude.{not, ◌==◌, ◌||◌, ◌&&◌, if◌then◌else◌, slice_index_or}
+use Rattle.std.specs.Prelude.{not, ◌==◌, ◌||◌, if◌then◌else◌, slice_index_or}
 use Rattle.std.specs.List.{list_all, list_any}
 use Rattle.std.proofs.lemmas.Bool.{false≢true, ne_eqb}
 use Rattle.dwz_alike.specs.Alike.{attr_binds, binding_forms, holds_place, leaves}
@@ -18,7 +18,8 @@ use Rattle.dwz_meanings.proofs.ClassLemmas.{and_true}
 use Rattle.dwz_meanings.proofs.ExprLemmas.{expr_agrees}
 use Rattle.dwz_meanings.proofs.MeaningLemmas.{value_agrees}
 use Rattle.dwz_resolve.specs.Named.{refs_beside, value_refs}
-use Rattle.dwz_scan.specs.Bound.{AreInto, count_of, is_expression, top_in}
+use Rattle.dwz_scan.specs.Bound.{AreInto, count_of, is_expression}
+use Rattle.dwz_index.specs.Names.{top_in}
 use Rattle.dwz_scan.specs.Values.{is_entry}
 
 -- ---- lists have binding forms

@@ -1,6 +1,6 @@
 -- What of an entry's values doesn't bind, and what is left.
-use Rattle.std.proofs.Common.{◌≡◌, ◌≢◌, ℕ, zero, suc, ◌+◌, ◌≤◌, Bool, true, false, List, [], ◌∷◌, ◌++◌, Option, drop, length, map, Some, Ok, slice_get, refl, sym, ap, subst, ◌∙◌, arith, inl, inr}
-use Rattle.std.specs.Prelude.{◌||◌, ◌==◌}
+use Rattle.std.proofs.Common.{◌≡◌, ◌≢◌, ℕ, zero, suc, ◌+◌, ◌≤◌, Bool, true, false, List, [], ◌∷◌, ◌++◌, Option, drop, length, map, Some, Ok, slice_get, refl, sym, ap, subst, ◌∙◌, arith}
+use Rattle.std.specs.Prelude.{◌||◌}
 use Rattle.std.specs.List.{list_any}
 use Rattle.std.proofs.lemmas.Bool.{eq-eqb, ne_eqb}
 use Rattle.std.proofs.lemmas.List.{drop_all}
@@ -12,12 +12,12 @@ use Rattle.dwz_flat.specs.Rows.{AreAttrsMeant, IsEntryMeant, node_refs}
 use Rattle.dwz_flat.proofs.TreeLemmas.{node_attrs}
 use Rattle.dwz_flat.proofs.StepLemmas.{entry, no_value, sibling, value}
 use Rattle.dwz_meanings.specs.Documents.{Attr, Node, Value, attr_map, node_map}
-use Rattle.dwz_meanings.specs.Meanings.{Scope, attr_with, class_of, meaning}
+use Rattle.dwz_meanings.specs.Meanings.{Scope, attr_with, meaning}
 use Rattle.dwz_resolve.specs.Named.{attrs_refs, value_refs}
 use Rattle.dwz_resolve.proofs.RowLemmas.{drop_here}
 use Rattle.dwz_unit.specs.declared.rows.RawEntry.{RawEntry as RawEntryOfCode}
 use Rattle.dwz_unit.specs.Rows.{EntryRow, shown_entries}
-use Rattle.dwz_scan.specs.Bound.{AreInto, count_of}
+use Rattle.dwz_scan.specs.Bound.{AreInto}
 use Rattle.dwz_scan.proofs.RowSteps.{shown_row}
 
 -- ---- tops of what is named first, and of what is named behind it

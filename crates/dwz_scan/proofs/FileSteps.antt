@@ -1,10 +1,10 @@
 -- The rows of a top, with the tops that its references go into.
-use Rattle.std.proofs.Common.{◌≡◌, ℕ, zero, suc, ◌+◌, List, [], ◌∷◌, ◌++◌, Option, length, map, drop, Some, slice_get, refl, sym, ap, subst, ◌∙◌, arith}
+use Rattle.std.proofs.Common.{◌≡◌, ℕ, ◌+◌, List, [], ◌∷◌, ◌++◌, Option, length, drop, Some, slice_get, refl, sym, ap, subst, ◌∙◌, arith}
 use Rattle.std.specs.Prelude.{slice_index}
 use Rattle.std.proofs.lemmas.List.{drop-map}
 use Rattle.dwz_alike.specs.Spots.{Spot, Top}
 use Rattle.dwz_docs.specs.Trees.{End, Entry, size}
-use Rattle.dwz_docs.specs.Units.{RawUnit, entries_in}
+use Rattle.dwz_docs.specs.Units.{RawUnit}
 use Rattle.dwz_flat.specs.Rows.{AreRowsMeant, AreTargets, RowsMean, node_refs, nodes, nodes_refs}
 use Rattle.dwz_flat.specs.Tops.{HasTopOfFile}
 use Rattle.dwz_flat.proofs.PartLemmas.{part_meant, rows_unit}
@@ -15,7 +15,8 @@ use Rattle.dwz_meanings.specs.Meanings.{Around, Scope, scope_of}
 use Rattle.dwz_resolve.specs.Resolved.{Each, place_at}
 use Rattle.dwz_resolve.proofs.RowLemmas.{below-length}
 use Rattle.dwz_unit.specs.Rows.{EntryRow, rows_below, rows_of}
-use Rattle.dwz_scan.specs.Bound.{AreInto, EachInto, top_in}
+use Rattle.dwz_scan.specs.Bound.{AreInto, EachInto}
+use Rattle.dwz_index.specs.Names.{top_in}
 use Rattle.dwz_scan.specs.Known.{KnowsRefs, StandsAt, tops_of_refs}
 use Rattle.dwz_scan.proofs.BindSteps.{into_first}
 

@@ -11,3 +11,6 @@ pub mod NameMarks
 pub mod MarkSteps
 pub mod RowMarks
 pub mod FileSteps
+pub mod UnitSteps
+pub mod IntoLemmas
+pub mod StandLemmas

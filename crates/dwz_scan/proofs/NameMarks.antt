@@ -1,23 +1,24 @@
 -- Which tops an expression names, by the tops of its references.
-use Rattle.std.proofs.Common.{◌≡◌, ◌↔◌, ◌⊎◌, ℕ, zero, suc, ◌+◌, ◌-◌, Bool, true, false, List, [], ◌∷◌, length, map, drop, Option, Ok, Some, None, refl, sym, ap, subst, ◌∙◌, inl, inr, ⊎_elim, arith, if◌then◌else◌}
-use Rattle.std.specs.Prelude.{◌||◌, ◌&&◌, ◌==◌, not}
+use Rattle.std.proofs.Common.{◌≡◌, ◌↔◌, ℕ, ◌+◌, ◌-◌, Bool, true, false, List, [], ◌∷◌, length, map, drop, Option, Ok, Some, None, refl, sym, ap, subst, ◌∙◌, inl, inr, ⊎_elim, arith, if◌then◌else◌}
+use Rattle.std.specs.Prelude.{◌||◌, ◌&&◌}
 use Rattle.std.specs.List.{list_any}
 use Rattle.std.proofs.lemmas.Bool.{eq-eqb, eqb-true, false≢true, or_cases}
 use Rattle.std.proofs.lemmas.List.{length-map}
-use Rattle.dwz_alike.specs.Alike.{has_operand, is_in, is_operand, operand_names}
+use Rattle.dwz_alike.specs.Alike.{is_in, is_operand, operand_names}
 use Rattle.dwz_alike.specs.Spots.{Import, InChain, InType, PartialOf, PartialRoot, RootOf, SpaceAt, Spot, UnitOf, Within}
 use Rattle.dwz_docs.specs.Entries.{RawAttr}
 use Rattle.dwz_docs.specs.Lists.{In}
 use Rattle.dwz_meanings.specs.declared.exprs.Operand.{Operand}
 use Rattle.dwz_meanings.specs.Documents.{Plain, Sec, Value, attr_map, only, ref}
-use Rattle.dwz_meanings.specs.Exprs.{parts_from, parts_of}
+use Rattle.dwz_meanings.specs.Exprs.{parts_from}
 use Rattle.dwz_meanings.specs.Meanings.{Class, IfSo, IsExpression, IsFileBy, IsLocList, MeansAs, OfAddress, OfBlock, OfCommonEntry, OfCommonText, OfConstant, OfExpression, OfFlag, OfIndex, OfInfoEntry, OfListIndex, OfOffset, OfSignature, OfText, OfTextBySlot, OfTextInLineStr, OfTextInStr, OfUnitEntry, Scope, Unread, attr_with, class_of, constant_value, meaning, names_file, names_list, number_of, offset_of, stmt_list, target_of, targets}
 use Rattle.dwz_meanings.proofs.MeaningLemmas.{value_agrees}
 use Rattle.dwz_moving.specs.Plan.{pins, uleb_targets}
 use Rattle.dwz_resolve.specs.Named.{value_refs}
 use Rattle.dwz_alike.proofs.Targets.{or_first, or_second}
-use Rattle.dwz_scan.specs.Bound.{AreInto, count_of, is_expression, top_in}
-use Rattle.dwz_scan.specs.Marked.{asked_tops, expression_names, expression_pins, in_expression, is_asked, later_tops, next_top}
+use Rattle.dwz_scan.specs.Bound.{AreInto, is_expression}
+use Rattle.dwz_index.specs.Names.{top_in}
+use Rattle.dwz_scan.specs.Marked.{asked_tops, expression_names, expression_pins, in_expression, is_asked}
 use Rattle.dwz_scan.specs.Values.{is_entry}
 
 -- ---- names in tops

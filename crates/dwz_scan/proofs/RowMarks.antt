@@ -1,5 +1,5 @@
 -- What is marked by entries, one behind the other, and what is left.
-use Rattle.std.proofs.Common.{◌≡◌, ◌↔◌, ◌⊎◌, ℕ, ◌+◌, ◌<◌, ◌≤◌, Bool, true, false, List, [], ◌∷◌, Option, drop, length, map, refl, sym, ap, subst, ◌∙◌, arith, inl, inr, ⊎_elim}
+use Rattle.std.proofs.Common.{◌≡◌, ◌↔◌, ◌⊎◌, ℕ, ◌+◌, ◌<◌, ◌≤◌, Bool, true, List, ◌∷◌, Option, drop, length, map, refl, sym, ap, subst, ◌∙◌, arith, inl, inr, ⊎_elim}
 use Rattle.std.specs.Prelude.{◌||◌, slice_index}
 use Rattle.std.specs.List.{list_any}
 use Rattle.std.proofs.lemmas.Bool.{false≢true, or_cases}
@@ -73,7 +73,7 @@ module _ (test : Test) (raw : List RawUnit) (s : Scope ℕ) (name : ℕ → Spot
       record {
         len = h.len;
         each = λ n l. (
-            λ x. (h.each n l).0 (inl x),
-            λ x. ⊎_elim (λ o. o) (λ t. absurd (false≢true (sym (ap (λ (ds : List (Node ℕ)). rows_said test name ds n) none.1) ∙ t))) ((h.each n l).1 x),
+          λ x. (h.each n l).0 (inl x),
+          λ x. ⊎_elim (λ o. o) (λ t. absurd (false≢true (sym (ap (λ (ds : List (Node ℕ)). rows_said test name ds n) none.1) ∙ t))) ((h.each n l).1 x),
         );
       }

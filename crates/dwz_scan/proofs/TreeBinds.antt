@@ -1,5 +1,5 @@
 -- What passes a test in a top's tree passes it among its entries in order.
-use Rattle.std.proofs.Common.{◌≡◌, ℕ, Bool, true, false, List, [], ◌∷◌, ◌++◌, map, refl, sym, ap, ◌∙◌}
+use Rattle.std.proofs.Common.{◌≡◌, ℕ, Bool, true, false, map, refl, sym, ap, ◌∙◌}
 use Rattle.std.specs.Prelude.{◌||◌}
 use Rattle.std.specs.List.{list_any}
 use Rattle.std.proofs.lemmas.List.Folds.{list_any-append}
@@ -20,11 +20,14 @@ or_none true b = refl
 or_none false true = refl
 or_none false false = refl
 
-pub any_top : (test : Node Spot → Bool) (name : ℕ → Spot) (d : Node ℕ) (g : Entries ℕ) (t : Top) → t.node ≡ node_map name d → t.below ≡ entries_map name g
-    → any_in test t ≡ list_any test (map (node_map name) (nodes (Entry d g End)))
+-- an entry with all below it
+pub any_whole : (test : Node Spot → Bool) (name : ℕ → Spot) (d : Node ℕ) (g : Entries ℕ) → (test (node_map name d) || any_entry test (entries_map name g)) ≡ list_any test (map (node_map name) (nodes (Entry d g End)))
 unfolding any_entry entries_map
-any_top test name d g t node below =
-    (λ i. test (node i) || any_entry test (below i))
-    ∙ sym (or_none (test (node_map name d)) (any_entry test (entries_map name g)))
+any_whole test name d g =
+    sym (or_none (test (node_map name d)) (any_entry test (entries_map name g)))
     ∙ any_nodes test (entries_map name (Entry d g End))
     ∙ ap (list_any test) (nodes_map name (Entry d g End))
+
+pub any_top : (test : Node Spot → Bool) (name : ℕ → Spot) (d : Node ℕ) (g : Entries ℕ) (t : Top) → t.node ≡ node_map name d → t.below ≡ entries_map name g
+    → any_in test t ≡ list_any test (map (node_map name) (nodes (Entry d g End)))
+any_top test name d g t node below = (λ i. test (node i) || any_entry test (below i)) ∙ any_whole test name d g

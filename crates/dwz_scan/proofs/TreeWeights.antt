@@ -1,8 +1,7 @@
 -- The rows of a top weigh what the top does, by induction over its tree.
-use Rattle.std.proofs.Common.{◌≡◌, ℕ, suc, ◌+◌, ◌<◌, Bool, true, false, List, [], ◌∷◌, ◌++◌, length, Ok, refl, sym, ap, subst, ◌∙◌, arith, ltb}
+use Rattle.std.proofs.Common.{◌≡◌, ℕ, suc, ◌+◌, Bool, true, false, List, [], ◌∷◌, ◌++◌, length, Ok, refl, sym, ap, subst, ◌∙◌, arith}
 use Rattle.std.specs.Prelude.{nat_lt}
 use Rattle.std.proofs.lemmas.Bool.{le-ltb, lt-ltb}
-use Rattle.std.proofs.lemmas.List.{length-append}
 use Rattle.dwz_docs.specs.Entries.{RawEntry}
 use Rattle.dwz_docs.specs.Trees.{End, Entry, Forest, Position, behind, first_below, size}
 use Rattle.dwz_alike.specs.Spots.{Spot, Top}
@@ -10,7 +9,7 @@ use Rattle.dwz_flat.specs.Rows.{nodes}
 use Rattle.dwz_flat.proofs.TreeLemmas.{map_size, no_more, nodes_many, parts, same_size}
 use Rattle.dwz_meanings.specs.Documents.{Entries, Node, entries_map, node_map}
 use Rattle.dwz_meanings.specs.Meanings.{Scope, entries_meaning}
-use Rattle.dwz_moving.specs.Gain.{attrs_weight, entries_weight, top_weight}
+use Rattle.dwz_moving.specs.Gain.{entries_weight, top_weight}
 use Rattle.dwz_unit.specs.Rows.{EntryRow, rows_below}
 use Rattle.dwz_resolve.proofs.RowLemmas.{below-length}
 use Rattle.dwz_scan.specs.Weights.{node_weight, rows_weight}

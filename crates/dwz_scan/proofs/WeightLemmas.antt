@@ -1,6 +1,5 @@
 -- What a value weighs, by the class of its form; an expression is as long whatever its operands are.
-use Rattle.std.proofs.Common.{◌≡◌, ◌≢◌, ℕ, ℤ, zero, suc, ◌+◌, ◌-◌, ◌<◌, Bool, true, false, List, [], ◌∷◌, ◌++◌, length, map, take, drop, Option, Some, None, Ok, refl, sym, ap, subst, ◌∙◌, eqb, arith, if◌then◌else◌, ltb, ltb-true, ◌==◌, ◌||◌, not}
-use Rattle.std.specs.Prelude.{min}
+use Rattle.std.proofs.Common.{◌≡◌, ◌≢◌, ℕ, ◌+◌, ◌-◌, ◌<◌, Bool, true, false, List, [], ◌∷◌, ◌++◌, length, map, take, drop, Option, Some, None, Ok, refl, sym, ap, subst, ◌∙◌, arith, if◌then◌else◌, ltb, ltb-true, ◌==◌, ◌||◌, not}
 use Rattle.std.specs.List.{list_all}
 use Rattle.std.proofs.Math.Logic.{inl, inr}
 use Rattle.std.proofs.lemmas.Bool.{eq-eqb, ne_eqb}
@@ -11,7 +10,7 @@ use Rattle.dwz_codes.specs.declared.shape.Shape.TheVariants.{Fixed16, ZeroEnded,
 use Rattle.dwz_codes.specs.Forms.{form_rows}
 use Rattle.dwz_codes.specs.Rows.{RowView, row_of}
 use Rattle.dwz_docs.specs.Entries.{RawAttr}
-use Rattle.dwz_docs.specs.Values.{Bytes, HasSpelling, Number, Raw, SpellsShape, constant_of, run_bytes, shape_bytes, shape_in, shape_of, value_bytes, written_rows}
+use Rattle.dwz_docs.specs.Values.{Bytes, HasSpelling, Number, Raw, SpellsShape, constant_of, run_bytes, shape_in, shape_of, value_bytes, written_rows}
 use Rattle.dwz_meanings.specs.declared.exprs.Operand.{Operand}
 use Rattle.dwz_meanings.specs.Documents.{Addr, Block, Expr, File, Flag, Index, Loc, Num, Plain, Ref, Sec, Sig, Text, Value, only, ref}
 use Rattle.dwz_meanings.specs.Exprs.{Expression, ExprContext, SpellsExpr, parts_from, parts_of}

@@ -1,6 +1,6 @@
 -- What is weighed of an entry's values, and what is left.
 use Rattle.std.proofs.lemmas.List.{drop_all}
-use Rattle.std.proofs.Common.{◌≡◌, ◌≢◌, ℕ, Bool, true, false, if◌then◌else◌, ◌+◌, ◌<◌, ◌≤◌, List, [], ◌∷◌, drop, length, map, Some, Ok, slice_get, refl, sym, ap, subst, ◌∙◌, arith}
+use Rattle.std.proofs.Common.{◌≡◌, ◌≢◌, ℕ, Bool, true, false, if◌then◌else◌, ◌+◌, ◌<◌, ◌≤◌, List, drop, length, map, Some, Ok, slice_get, refl, sym, ap, subst, ◌∙◌, arith}
 use Rattle.std.specs.Prelude.{nat_lt}
 use Rattle.dwz_alike.specs.Spots.{Spot}
 use Rattle.dwz_docs.specs.Entries.{RawAttr}
@@ -8,7 +8,7 @@ use Rattle.dwz_docs.specs.Units.{RawUnit}
 use Rattle.dwz_flat.specs.Rows.{AreAttrsMeant, AreRowsMeant, IsEntryMeant, node_refs}
 use Rattle.dwz_flat.proofs.StepLemmas.{entry, no_row, no_value, row, sibling, value}
 use Rattle.dwz_meanings.specs.Documents.{Attr, Node, Value, attr_map, node_map}
-use Rattle.dwz_meanings.specs.Meanings.{Scope, attr_with, meaning, number_of}
+use Rattle.dwz_meanings.specs.Meanings.{Scope, meaning, number_of}
 use Rattle.dwz_moving.specs.Gain.{attrs_weight, value_weight}
 use Rattle.dwz_resolve.specs.Named.{value_refs}
 use Rattle.dwz_resolve.proofs.RowLemmas.{drop_here}

@@ -1,9 +1,10 @@
 -- Tops that references go into, and the tops of a unit.
 use Rattle.std.specs.Prelude.{◌≡◌, ℕ, ◌+◌, ◌++◌, drop, slice_index, Bool, true, false, List, [], ◌∷◌, Option, Some, None, ◌&&◌, nat_lt, not, if◌then◌else◌}
 use Rattle.dwz_alike.specs.Alike.{is_number, unit_in}
-use Rattle.dwz_alike.specs.Spots.{Spot, Top, Within}
+use Rattle.dwz_alike.specs.Spots.{Spot, Top}
 use Rattle.dwz_flat.specs.Rows.{node_refs}
 use Rattle.dwz_groups.specs.declared.groups.Pair.{Pair}
+use Rattle.dwz_index.specs.Names.{top_in}
 use Rattle.dwz_meanings.specs.Documents.{Node}
 use Rattle.dwz_meanings.specs.Meanings.{Class, OfExpression}
 use Rattle.dwz_scan.specs.Values.{is_entry}
@@ -12,11 +13,6 @@ use Rattle.dwz_scan.specs.declared.bind.TopRange.{TopRange}
 abbrev pub is_expression : Class → Bool
 is_expression OfExpression = true
 is_expression _ = false
-
--- the number of the top that a name is in
-abbrev pub top_in : Spot → Option ℕ
-top_in (Within top path) = Some top
-top_in _ = None
 
 -- the tops begin with those of the entries at these places, by their names
 abbrev pub AreInto : (ℕ → Spot) → List (Option ℕ) → List ℕ → Type 0

@@ -1,14 +1,19 @@
 -- What is known of a file where its tops are looked at.
-use Rattle.std.specs.Prelude.{◌≡◌, ℕ, ◌+◌, List, Option, map}
+use Rattle.std.specs.Prelude.{◌≡◌, ℕ, ◌+◌, ◌<◌, ◌||◌, Bool, List, Option, Some, map, slice_get}
+use Rattle.dwz_alike.specs.Alike.{any_entry}
 use Rattle.dwz_alike.specs.Spots.{Spot, Top}
 use Rattle.dwz_docs.specs.Trees.{size}
 use Rattle.dwz_docs.specs.Units.{RawUnit, entries_in}
 use Rattle.dwz_flat.specs.Tops.{HasTopOfFile}
-use Rattle.dwz_meanings.specs.Documents.{DwUnit}
+use Rattle.dwz_index.specs.Names.{top_in}
+use Rattle.dwz_meanings.specs.Documents.{DwUnit, Node}
 use Rattle.dwz_meanings.specs.Meanings.{Around}
 use Rattle.dwz_resolve.specs.Parts.{AreParted}
 use Rattle.dwz_resolve.specs.Resolved.{AreEntries, place_at}
-use Rattle.dwz_scan.specs.Bound.{top_in}
+
+-- the entries have the names of their places, by their numbers
+abbrev pub NamesEntries : List RawUnit → (ℕ → Spot) → List Spot → Type 0
+NamesEntries raw name names = (i : ℕ) → i < entries_in raw → slice_get names i ≡ Some (name (place_at raw i))
 
 -- the tops that references to the entries with these numbers go into
 abbrev pub tops_of_refs : (ℕ → Spot) → List RawUnit → List ℕ → List (Option ℕ)
@@ -25,3 +30,7 @@ pub record StandsAt (around : Around ℕ) (name : ℕ → Spot) (raw : List RawU
   pub stands : HasTopOfFile around name raw units file unit t
   pub from : stands.top.p.before ≡ first
   pub to : first + 1 + size stands.top.c ≡ end
+
+-- an entry of the unit passes the test
+abbrev pub in_unit : (Node Spot → Bool) → DwUnit Spot → Bool
+in_unit test u = test u.root || any_entry test u.below

@@ -1,5 +1,5 @@
 -- Tops that are marked.
-use Rattle.std.specs.Prelude.{◌≡◌, ◌↔◌, ◌⊎◌, ℕ, ◌<◌, Bool, true, false, List, [], ◌∷◌, Option, Some, None, length, slice_index_or, ◌&&◌, ◌||◌, not, if◌then◌else◌}
+use Rattle.std.specs.Prelude.{◌≡◌, ◌↔◌, ◌⊎◌, ℕ, ◌<◌, Bool, true, false, List, [], ◌∷◌, Option, Some, None, length, ◌&&◌, ◌||◌, not, if◌then◌else◌}
 use Rattle.dwz_alike.specs.Alike.{is_in, operand_names}
 use Rattle.dwz_alike.specs.Spots.{Spot}
 use Rattle.dwz_docs.specs.Lists.{In}

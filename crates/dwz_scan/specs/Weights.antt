@@ -1,5 +1,5 @@
 -- Weights of entries, counted up to 64.
-use Rattle.std.specs.Prelude.{ℕ, ◌+◌, Bool, true, false, List, [], ◌∷◌, Option, Some, None, min, nat_lt, if◌then◌else◌}
+use Rattle.std.specs.Prelude.{ℕ, ◌+◌, Bool, true, false, List, ◌∷◌, Option, Some, None, min, nat_lt, if◌then◌else◌}
 use Rattle.dwz_alike.specs.Spots.{Spot}
 use Rattle.dwz_meanings.specs.Documents.{Node, node_map}
 use Rattle.dwz_meanings.specs.Meanings.{Class, OfCommonEntry, OfCommonText, OfConstant, OfInfoEntry, OfText, OfTextBySlot, OfTextInLineStr, OfTextInStr, OfUnitEntry}

@@ -14,7 +14,8 @@ ghost use Rattle.dwz_resolve.specs.Classes.{class_view};
 ghost use Rattle.dwz_resolve.specs.Named.{value_refs};
 ghost use Rattle.dwz_resolve.specs.Resolved.{stored};
 ghost use Rattle.dwz_scan.specs.Bound;
-ghost use Rattle.dwz_scan.specs.Bound.{AreInto, HasTops, top_in};
+ghost use Rattle.dwz_scan.specs.Bound.{AreInto, HasTops};
+ghost use Rattle.dwz_index.specs.Names.{top_in};
 ghost use Rattle.dwz_unit.specs.Rows.{EntryRow, units_of};
 
 use crate::values::{SIBLING, is_entry, read_expression};

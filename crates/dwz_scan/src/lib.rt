@@ -2,6 +2,8 @@
 #![tactic(auto)]
 
 mod bind;
+mod into;
+mod laws;
 mod marks;
 mod scan;
 mod tops;
@@ -9,5 +11,7 @@ mod values;
 mod weight;
 
 pub use bind::TopRange;
+pub use into::tops_of;
+pub use laws::stand_laws;
 pub use marks::Named;
-pub use scan::{top_binds, top_weight};
+pub use scan::{mark_unit, top_binds, top_weight};

@@ -129,7 +129,7 @@ fn mark_value<'a>(
 
 // Marks the tops that the operands of expressions name, in the entries from one number to before another. For each reference of the file
 // is given the top that it goes into, and for each entry where its references begin.
-fn mark_entries(
+pub(crate) fn mark_entries(
     units: &Units,
     into: &[Option<u32>],
     starts: &[u32],

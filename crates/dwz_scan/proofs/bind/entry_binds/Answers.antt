@@ -1,9 +1,9 @@
-use Rattle.std.proofs.Common.{◌≡◌, ℕ, ◌+◌, Bool, true, false, List, arith, drop, get_or, refl, subst, sym, ap, ◌∙◌, Ok}
+use Rattle.std.proofs.Common.{◌≡◌, ℕ, ◌+◌, true, false, arith, get_or, refl, subst, sym, ap, ◌∙◌, Ok}
 use Rattle.std.specs.Prelude.{IsOk}
 use Rattle.dwz_alike.specs.Alike.{any_attr, attr_binds}
 use Rattle.dwz_docs.specs.Entries.{RawAttr}
 use Rattle.dwz_forms.specs.RawValues.{raw_view}
-use Rattle.dwz_meanings.specs.Documents.{Value, attr_map, node_map}
+use Rattle.dwz_meanings.specs.Documents.{attr_map, node_map}
 use Rattle.dwz_meanings.specs.Meanings.{attr_with, meaning}
 use Rattle.dwz_resolve.proofs.RowLemmas.{row_there}
 use Rattle.dwz_resolve.proofs.ValueSteps.{next_read, no_pair}

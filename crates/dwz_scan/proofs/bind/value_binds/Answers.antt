@@ -1,17 +1,15 @@
-use Rattle.std.proofs.Common.{◌≡◌, ◌↔◌, ℕ, Bool, true, false, List, [], drop, length, sym, ap, subst, ◌∙◌, arith}
+use Rattle.std.proofs.Common.{◌≡◌, ℕ, true, false, [], drop, length, sym, ap, subst, ◌∙◌, arith}
 use Rattle.std.specs.Prelude.{not, vec_len, ◌==◌}
 use Rattle.dwz_alike.specs.Alike.{binding_forms}
 use Rattle.dwz_docs.specs.Entries.{RawAttr}
 use Rattle.dwz_docs.specs.Lists.{has}
-use Rattle.dwz_meanings.specs.declared.exprs.Operand.{Operand}
 use Rattle.dwz_meanings.specs.Documents.{Value}
-use Rattle.dwz_meanings.specs.Meanings.{Class, class_of}
-use Rattle.dwz_resolve.specs.Classes.{class_view}
+use Rattle.dwz_meanings.specs.Meanings.{class_of}
 use Rattle.dwz_resolve.specs.Named.{value_refs}
 use Rattle.dwz_resolve.specs.Resolved.{stored}
 use Rattle.dwz_scan.specs.Bound.{AreInto, is_expression}
 use Rattle.dwz_scan.specs.Values.{is_entry}
-use Rattle.dwz_scan.proofs.BindLemmas.{binds_address, binds_entry, binds_form, binds_operands, binds_plain, first_into, reads, said_expression, value_says}
+use Rattle.dwz_scan.proofs.BindLemmas.{binds_address, binds_entry, binds_operands, binds_plain, first_into, reads, said_expression, value_says}
 use Rattle.dwz_scan.proofs.bind.value_binds.Goals as goal
 
 pub returns-then-is_entry : goal.returns-then-is_entry

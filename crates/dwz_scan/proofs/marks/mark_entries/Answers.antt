@@ -1,4 +1,4 @@
-use Rattle.std.proofs.Common.{◌≡◌, ℕ, List, Option, arith, sym, subst}
+use Rattle.std.proofs.Common.{ℕ, List, Option, arith, sym, subst}
 use Rattle.dwz_flat.specs.Rows.{node_refs}
 use Rattle.dwz_unit.specs.Rows.{units_of}
 use Rattle.dwz_scan.specs.Bound.{AreInto}

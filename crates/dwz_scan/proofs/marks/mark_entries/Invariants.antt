@@ -1,4 +1,4 @@
-use Rattle.std.proofs.Common.{◌≡◌, ℕ, List}
+use Rattle.std.proofs.Common.{ℕ, List}
 use Rattle.dwz_alike.specs.Spots.{Spot}
 use Rattle.dwz_flat.specs.Rows.{AreRowsMeant}
 use Rattle.dwz_meanings.specs.Documents.{Node}

@@ -1,4 +1,4 @@
-use Rattle.std.proofs.Common.{◌≡◌, ℕ, ◌+◌, Bool, true, Option, List, arith, drop, get_or, refl, subst, sym, ap, ◌∙◌, Ok}
+use Rattle.std.proofs.Common.{◌≡◌, ℕ, ◌+◌, Bool, true, Option, List, arith, drop, get_or, refl, subst, sym, ◌∙◌, Ok}
 use Rattle.std.specs.Prelude.{IsOk}
 use Rattle.dwz_alike.specs.Alike.{any_attr}
 use Rattle.dwz_docs.specs.Entries.{RawAttr}

@@ -1,4 +1,4 @@
-use Rattle.std.proofs.Common.{◌≡◌, ℕ, Bool, drop, sym, subst}
+use Rattle.std.proofs.Common.{◌≡◌, Bool, drop, sym, subst}
 use Rattle.std.specs.Prelude.{IfOk, slice_index}
 use Rattle.dwz_docs.specs.Trees.{End, Entry}
 use Rattle.dwz_flat.specs.Rows.{nodes}

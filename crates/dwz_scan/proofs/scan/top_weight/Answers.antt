@@ -1,4 +1,4 @@
-use Rattle.std.proofs.Common.{◌≡◌, ℕ, drop, sym, ap, ◌∙◌}
+use Rattle.std.proofs.Common.{ℕ, drop, sym, ap, ◌∙◌}
 use Rattle.std.specs.Prelude.{slice_index}
 use Rattle.dwz_docs.specs.Trees.{End, Entry}
 use Rattle.dwz_flat.specs.Rows.{nodes}

@@ -1,4 +1,3 @@
-use Rattle.std.proofs.Common.{arith}
 use Rattle.dwz_scan.proofs.TopSteps.{targets_more}
 use Rattle.dwz_scan.proofs.tops.add_targets.Goals as goal
 

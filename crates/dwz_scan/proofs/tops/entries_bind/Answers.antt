@@ -1,4 +1,4 @@
-use Rattle.std.proofs.Common.{◌≡◌, ℕ, Option, List, map, arith, sym, subst, ◌∙◌}
+use Rattle.std.proofs.Common.{ℕ, Option, List, map, arith, sym, subst}
 use Rattle.std.specs.List.{list_any}
 use Rattle.dwz_alike.specs.Alike.{entry_binds}
 use Rattle.dwz_flat.specs.Rows.{node_refs}

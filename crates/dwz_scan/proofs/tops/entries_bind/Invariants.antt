@@ -1,4 +1,4 @@
-use Rattle.std.proofs.Common.{◌≡◌, ℕ, List, map}
+use Rattle.std.proofs.Common.{ℕ, List, map}
 use Rattle.std.specs.List.{list_any}
 use Rattle.dwz_alike.specs.Alike.{entry_binds}
 use Rattle.dwz_alike.specs.Spots.{Spot, Top}

@@ -1,4 +1,4 @@
-use Rattle.std.proofs.Common.{◌≡◌, ℕ, ◌+◌, arith}
+use Rattle.std.proofs.Common.{◌+◌, arith}
 use Rattle.dwz_unit.specs.Rows.{units_of}
 use Rattle.dwz_scan.specs.Weights.{rows_weight}
 use Rattle.dwz_scan.proofs.WeightSteps.{capped_few, rows_all, rows_heavy, rows_more, rows_none}

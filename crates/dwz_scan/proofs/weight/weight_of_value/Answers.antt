@@ -1,10 +1,7 @@
-use Rattle.std.proofs.Common.{◌≡◌, ◌≢◌, ℕ, ◌+◌, Bool, List, Option, Some, None, length, sym, ap, subst, ◌∙◌, arith}
-use Rattle.dwz_docs.specs.Entries.{RawAttr}
+use Rattle.std.proofs.Common.{◌≡◌, ℕ, ◌+◌, List, Option, Some, None, length, sym, ap, ◌∙◌, arith}
 use Rattle.dwz_docs.specs.Values.{value_bytes}
 use Rattle.dwz_forms.specs.RawValues.{raw_view}
-use Rattle.dwz_meanings.specs.Documents.{Value}
-use Rattle.dwz_meanings.specs.Meanings.{Class, class_of, names_file}
-use Rattle.dwz_resolve.specs.Classes.{class_view}
+use Rattle.dwz_meanings.specs.Meanings.{class_of, names_file}
 use Rattle.dwz_resolve.specs.Resolved.{stored}
 use Rattle.dwz_scan.specs.Weights.{set_weight}
 use Rattle.dwz_scan.proofs.WeightLemmas.{form_fits, text_weighs, value_weighs, weight_or}

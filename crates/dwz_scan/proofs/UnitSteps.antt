@@ -1,0 +1,114 @@
+-- The rows of a unit, with the tops that its references go into.
+use Rattle.std.proofs.Common.{◌≡◌, ℕ, zero, suc, ◌+◌, List, [], ◌∷◌, ◌++◌, Option, length, drop, Some, Ok, Err, Result, slice_get, refl, sym, ap, ◌∙◌, arith}
+use Rattle.std.specs.Prelude.{OnOk, slice_index}
+use Rattle.std.proofs.lemmas.List.{append_assoc, drop_at, length-append}
+use Rattle.dwz_alike.specs.Alike.{any_attr}
+use Rattle.dwz_alike.specs.Spots.{Spot}
+use Rattle.dwz_bytes.specs.Reading.{◌>>=◌}
+use Rattle.dwz_docs.specs.Entries.{root_position}
+use Rattle.dwz_docs.specs.Trees.{End, Entry}
+use Rattle.dwz_docs.specs.Units.{RawUnit, entry_count}
+use Rattle.dwz_docs.proofs.PartLemmas.{bind_ok}
+use Rattle.dwz_flat.specs.Rows.{AreRowsMeant, RowsMean, nodes}
+use Rattle.dwz_flat.proofs.PartLemmas.{part_meant, rows_unit}
+use Rattle.dwz_flat.proofs.TreeLemmas.{tree_means}
+use Rattle.dwz_meanings.specs.Documents.{DwUnit, Node, unit_map}
+use Rattle.dwz_meanings.specs.Meanings.{Around, entries_meaning, kind_meaning, node_meaning, scope_of, unit_meaning, unit_with, with_next}
+use Rattle.dwz_resolve.proofs.RowLemmas.{in-length}
+use Rattle.dwz_unit.specs.declared.rows.RawUnit.{RawUnit as UnitOfCode}
+use Rattle.dwz_unit.specs.Rows.{EntryRow, rows_from, rows_in, rows_of, shown_from, shown_units, unit_shown}
+use Rattle.dwz_scan.specs.Bound.{EachInto}
+use Rattle.dwz_scan.specs.Known.{KnowsRefs, in_unit}
+use Rattle.dwz_scan.proofs.FileSteps.{each_into}
+use Rattle.dwz_scan.proofs.MarkSteps.{Test}
+use Rattle.dwz_scan.proofs.RowMarks.{rows_said}
+use Rattle.dwz_scan.proofs.TreeBinds.{any_whole}
+
+-- ---- where a unit's rows stand
+
+pub record UnitRows (all : List EntryRow) (raw : List RawUnit) (k before n : ℕ) (x : UnitOfCode) : Type 0 where
+  pub u : RawUnit
+  pub is_unit : slice_get raw n ≡ Some u
+  pub front : List EntryRow
+  pub after : List EntryRow
+  pub rows : all ≡ front ++ (rows_in u (k + n) x.first ++ after)
+  pub many : before + length front ≡ x.first
+
+pub rows_at : (raw : List RawUnit) (k before n : ℕ) (x : UnitOfCode) → slice_get (shown_from raw before) n ≡ Some x → UnitRows (rows_from raw k before) raw k before n x
+unfolding shown_from rows_from
+rows_at [] k before n x e = absurd cc
+rows_at (u ∷ raw) k before zero x e =
+    let is : unit_shown before u ≡ x = cc in
+    let first : before ≡ x.first = ap (λ (w : UnitOfCode). w.first) is in
+    let z : k ≡ k + 0 = omega arith in record {
+      u = u;
+      is_unit = refl;
+      front = [];
+      after = rows_from raw (k + 1) (before + entry_count u);
+      rows = (λ i. rows_in u (z i) (first i) ++ rows_from raw (k + 1) (before + entry_count u));
+      many = omega arith;
+    }
+rows_at (u ∷ raw) k before (suc n) x e =
+    let r = rows_at raw (k + 1) (before + entry_count u) n x e in
+    let here = rows_in u k before in
+    let len = in-length u k before in
+    let many = r.many in
+    let both = length-append here r.front in
+    let z : k + 1 + n ≡ k + suc n = omega arith in record {
+      u = r.u;
+      is_unit = r.is_unit;
+      front = here ++ r.front;
+      after = r.after;
+      rows = ap (λ (w : List EntryRow). here ++ w) (r.rows ∙ ap (λ (j : ℕ). r.front ++ (rows_in r.u j x.first ++ r.after)) z) ∙ sym (append_assoc here r.front (rows_in r.u (k + suc n) x.first ++ r.after));
+      many = omega arith;
+    }
+
+-- ---- a unit that means something
+
+root_is : (around : Around ℕ) (u : RawUnit) (v : DwUnit ℕ) → unit_meaning around u ≡ Ok v → entries_meaning (scope_of around u) (Entry u.root u.below End) ≡ Ok (Entry v.root v.below End)
+unfolding entries_meaning
+root_is around u v e =
+    let s = scope_of around u in
+    let x = bind_ok (kind_meaning s u.kind) (λ kind. node_meaning s u.root >>= λ root. entries_meaning s u.below >>= unit_with around u kind root) v e in
+    let y = bind_ok (node_meaning s u.root) (λ root. entries_meaning s u.below >>= unit_with around u x.0 root) v x.2 in
+    let z = bind_ok (entries_meaning s u.below) (unit_with around u x.0 y.0) v y.2 in
+    let is : record { at = around.place u.at; kind = x.0; root = y.0; below = z.0 } ≡ v = cc in
+    (λ i. y.1 i >>= λ d. entries_meaning s u.below >>= λ below. Ok End >>= with_next d below)
+    ∙ (λ i. z.1 i >>= λ below. Ok End >>= with_next y.0 below)
+    ∙ (λ i. Ok (Entry (is i).root (is i).below End))
+
+module _ (around : Around ℕ) (raw : List RawUnit) (name : ℕ → Spot) (refs starts : List ℕ) (into : List (Option ℕ)) (knows : KnowsRefs around raw name refs starts into) (n : ℕ) (u : RawUnit) (v : DwUnit ℕ) (x : UnitOfCode) (is_unit : slice_get raw n ≡ Some u) (means : unit_meaning around u ≡ Ok v) (shown : slice_get (shown_units raw) n ≡ Some x) (end : ℕ) (to : x.first + entry_count u ≡ end) where
+  abbrev pub there : UnitRows (rows_of raw) raw 0 0 n x
+  there = rows_at raw 0 0 n x shown
+
+  same_u : there.u ≡ u
+  same_u = let q : Some there.u ≡ Some u = sym there.is_unit ∙ is_unit in cc
+
+  abbrev rows : List EntryRow
+  rows = rows_in u n x.first
+
+  abbrev ds : List (Node ℕ)
+  ds = nodes (Entry v.root v.below End)
+
+  found : drop x.first (rows_of raw) ≡ rows ++ there.after
+  found =
+      let z : 0 + n ≡ n = omega arith in
+      let many : length there.front ≡ x.first = (let m = there.many in omega arith) in
+      ap (drop x.first) (there.rows ∙ (λ i. there.front ++ (rows_in (same_u i) (z i) x.first ++ there.after))) ∙ drop_at there.front (rows ++ there.after) x.first many
+
+  rows_mean : RowsMean (scope_of around u) rows ds
+  rows_mean = tree_means (scope_of around u) (Entry u.root u.below End) (Entry v.root v.below End) n (root_position x.first) (root_is around u v means)
+
+  pub unit_meant : AreRowsMeant raw (scope_of around u) x.first end (drop (slice_index starts x.first) refs) rows there.after ds
+  unit_meant = part_meant around raw refs starts knows.parted knows.entries n u is_unit x.first end rows there.after ds (rows_unit (Entry u.root u.below End) n (root_position x.first)) found (let many = in-length u n x.first in omega arith) rows_mean
+
+  pub unit_into : EachInto name into starts x.first ds
+  unit_into = each_into around raw name refs starts into knows n u is_unit x.first rows there.after ds (rows_unit (Entry u.root u.below End) n (root_position x.first)) found rows_mean
+
+  pub unit_said : (test : Test) (t : ℕ) → rows_said test name ds t ≡ in_unit (any_attr (test t)) (unit_map name v)
+  unit_said test t = sym (any_whole (any_attr (test t)) name v.root v.below)
+
+-- what holds after a call, from what else does
+pub on_ok : {X E : Type 0} (r : Result X E) (A B : Type 0) → (A → B) → OnOk r A → OnOk r B
+on_ok (Ok x) A B f h = f h
+on_ok (Err e) A B f h = h

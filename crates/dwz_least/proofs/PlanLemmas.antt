@@ -11,7 +11,7 @@ use Rattle.dwz_alike.proofs.TopNumbers.{Numbered, tops_numbers}
 use Rattle.dwz_label.specs.Nodes.{AreLeast}
 use Rattle.dwz_label.proofs.LeastAlike.{alike_joined}
 use Rattle.dwz_moving.proofs.HomeLemmas.{file_of_top}
-use Rattle.dwz_partition.specs.declared.plan.Scope.TheVariants.{Each, Together as All}
+use Rattle.dwz_partition.specs.declared.plan.Scope.TheVariants.{Each, Together as AllTogether}
 use Rattle.dwz_partition.specs.Rows.{Row, rows_from}
 use Rattle.dwz_partition.specs.Shows.{IsLeast, ShowsRows, ShowsTops}
 use Rattle.dwz_partition.proofs.BridgeLemmas.{file_is}
@@ -86,7 +86,7 @@ module _ (units : List (FileUnit Spot)) (tops : Tops) (least : List ℕ) (shows 
   many : length least ≡ length tops.rows
   many = are.len ∙ sym flags.len ∙ length-map tops.rows (λ (row : TopRow). row.movable)
 
-  pub decides_together : IsLeast All tops least (alike_test Together units)
+  pub decides_together : IsLeast AllTogether tops least (alike_test Together units)
   decides_together = record {
     len = many;
     decides = λ a b i j. (

@@ -6,7 +6,7 @@ use Rattle.dwz_alike.specs.Spots.{FileUnit, Spot}
 use Rattle.dwz_groups.specs.declared.tops.Tops.{Tops}
 use Rattle.dwz_label.specs.Nodes.{AreLeast}
 use Rattle.dwz_label.specs.Shown.{AreShown}
-use Rattle.dwz_partition.specs.declared.plan.Scope.TheVariants.{Each, Together as All}
+use Rattle.dwz_partition.specs.declared.plan.Scope.TheVariants.{Each, Together as AllTogether}
 use Rattle.dwz_partition.specs.Shows.{IsLeast, ShowsTops}
 
 -- of whichever units the lists show the tops, these are the least alike ones
@@ -21,7 +21,7 @@ flags_of tops = map (λ row. row.movable) tops.rows
 abbrev pub TogetherPlanLaw : Type 0
 TogetherPlanLaw =
     (units : List (FileUnit Spot)) (tops : Tops) (least : List ℕ) → ShowsTops units tops
-    → AreMovable units (flags_of tops) → AreLeast units least → IsLeast All tops least (alike_test Together units)
+    → AreMovable units (flags_of tops) → AreLeast units least → IsLeast AllTogether tops least (alike_test Together units)
 
 -- each file is one
 abbrev pub ApartPlanLaw : Type 0

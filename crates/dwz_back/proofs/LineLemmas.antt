@@ -33,7 +33,7 @@ use Rattle.dwz_writing.specs.Placing.{CommonUnit, NewUnit}
 use Rattle.dwz_writing.proofs.Carrying.{import_class, no_list, so}
 use Rattle.dwz_writing.proofs.StoredClasses.{offset_class}
 use Rattle.dwz_writing.proofs.ValuesMean.{not_so}
-use Rattle.dwz_back.specs.Carrying.{RootsCarried}
+use Rattle.dwz_back.proofs.CarriedRoots.{RootsCarried}
 use Rattle.dwz_back.specs.Files.{origin_in}
 use Rattle.dwz_back.proofs.AttrLemmas.{new_attrs}
 use Rattle.dwz_back.proofs.HomeLemmas.{part_is, top_file}

@@ -25,8 +25,8 @@ use Rattle.dwz_writing.specs.Fitting.{UnitHasRoom}
 use Rattle.dwz_writing.specs.Meant.{all_entry_keys}
 use Rattle.dwz_writing.specs.Placing.{fit_units}
 use Rattle.dwz_writing.proofs.CarriedMaps.{unit_carried}
-use Rattle.dwz_back.specs.AllFiles.{AreMade, AreOver, AreRead, IsRead, ReadBack, SaysStill}
-use Rattle.dwz_back.specs.Carrying.{RootsCarried}
+use Rattle.dwz_back.specs.AllFiles.{AreMade, AreOver, AreRead, ReadBack, SaysStill}
+use Rattle.dwz_back.proofs.CarriedRoots.{RootsCarried}
 use Rattle.dwz_back.specs.Back.{CanWrite, IsReady, WasReadFrom, given_by, run_of}
 use Rattle.dwz_back.specs.Files.{Run, Stored, common_forms, file_forms, fitted, lists_named, origin_in, paths, places, sources, tells, tells_common, texts}
 use Rattle.dwz_back.proofs.BasesLemmas.{out_bases}

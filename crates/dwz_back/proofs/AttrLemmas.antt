@@ -1,5 +1,5 @@
 -- The attributes of what is kept, and of what is new.
-use Rattle.std.proofs.Common.{◌≡◌, ℕ, Bool, true, false, List, [], ◌∷◌, map, refl, sym, ap, subst, ◌∙◌, inl, inr}
+use Rattle.std.proofs.Common.{◌≡◌, ℕ, Bool, true, false, List, [], ◌∷◌, map, refl, sym, subst, inl, inr}
 use Rattle.dwz_docs.specs.Lists.{In}
 use Rattle.dwz_docs.specs.Trees.{End, Entry}
 use Rattle.dwz_meanings.specs.Documents.{Attr, Compile, Entries, Kind, Node, OfType, Partial, attr_map, entries_map, language, node_map}

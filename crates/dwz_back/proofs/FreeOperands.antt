@@ -1,43 +1,41 @@
 -- What moves has no operands: an expression of a top that moves names no entry.
-use Rattle.std.proofs.Common.{◌≡◌, ◌⊎◌, ℕ, ℤ, Bool, true, false, List, [], ◌∷◌, ◌++◌, ◌||◌, map, Option, Some, None, refl, sym, ap, subst, ◌∙◌, arith, inl, inr}
+use Rattle.std.proofs.Common.{◌≡◌, ℕ, Bool, true, false, List, [], ◌∷◌, ◌||◌, map, Option, Some, None, refl, sym, ap, subst, ◌∙◌, arith, inl, inr}
 use Rattle.std.specs.List.{list_any}
 use Rattle.dwz_docs.specs.Lists.{In, has}
 use Rattle.dwz_docs.specs.Trees.{End, Entry}
 use Rattle.dwz_meanings.specs.declared.exprs.Operand.{Operand}
-use Rattle.dwz_meanings.specs.Documents.{Attr, DwUnit, Entries, Expr, Loc, Node, Part, Plain, Sec, Text, Value, attr_map, node_map, only, value_map}
+use Rattle.dwz_meanings.specs.Documents.{Attr, DwUnit, Entries, Expr, Loc, Node, Plain, Sec, Value, attr_map, only, value_map}
 use Rattle.dwz_meanings.specs.Exprs.{Expression, parts_from, parts_of}
 use Rattle.dwz_meanings.specs.Meanings.{Class, IsExpression, IsListBySlot, MeansAs, OfCommonEntry, OfConstant, OfExpression, OfInfoEntry, OfListIndex, OfOffset, OfTextBySlot, OfTextInLineStr, OfTextInStr, OfUnitEntry, Sources, class_in, class_of, class_rows, names_file, names_list, offset_of, targets}
 use Rattle.dwz_seen.specs.Lists.{Each, Nth}
 use Rattle.dwz_seen.proofs.Members.{each_in, each_more, each_of}
-use Rattle.dwz_alike.specs.Alike.{IsAlike, Movable, Scope, attr_binds, binding_forms, has_address, has_operand, holds_place, is_named, is_operand, leaves}
-use Rattle.dwz_alike.specs.Spots.{FileUnit, PartialOf, Spot, SpaceName, Top, tops_of}
+use Rattle.dwz_alike.specs.Alike.{IsAlike, Movable, Scope, binding_forms, has_address, has_operand, holds_place, is_named, is_operand, leaves}
+use Rattle.dwz_alike.specs.Spots.{FileUnit, PartialOf, Spot, Top, tops_of}
 use Rattle.dwz_alike.proofs.Targets.{free_attr, not_named, or_left, or_right}
 use Rattle.dwz_moving.specs.Homes.{Common, Home, IsChoice, Local, Rule, Stay, is_home, moves}
-use Rattle.dwz_moving.specs.IsPlan.{Has, OfSpace, OfTop, SpaceOf}
-use Rattle.dwz_moving.specs.Moves.{Move, first_unit, image_in, line_attr, line_attrs, line_in, line_of, names_path, plan, root_in_part, root_of}
+use Rattle.dwz_moving.specs.IsPlan.{Has, OfSpace, OfTop}
+use Rattle.dwz_moving.specs.Moves.{Move, first_unit, image_in, line_attrs, line_in, line_of, names_path, plan, root_in_part, root_of}
 use Rattle.dwz_meanings.specs.Documents.{first_named}
 use Rattle.dwz_moving.specs.Plan.{PartialUnit}
 use Rattle.dwz_moving.proofs.RowParts.{part_is as part_row_is}
 use Rattle.dwz_moving.proofs.StandLemmas.{fair}
 use Rattle.dwz_moving.proofs.UserLemmas.{moves_self}
-use Rattle.dwz_same.specs.After.{AreOld}
 use Rattle.dwz_same.specs.Held.{IsHeld}
 use Rattle.dwz_same.specs.Units.{partial_unit, partial_units, tree}
 use Rattle.dwz_same.proofs.HeldLemmas.{part_found, row_found}
 use Rattle.dwz_same.proofs.NodeLemmas.{EntryOfTop}
-use Rattle.dwz_writing.specs.Bases.{Bases, bases_in}
+use Rattle.dwz_writing.specs.Bases.{Bases}
 use Rattle.dwz_writing.specs.Carried.{AttrOperands, CarriedAttr, CarriedEntries, CarriedUnit, ExprIn, OperandsStand, OperandsStandAs}
 use Rattle.dwz_writing.specs.Fitting.{EachAttr, HasRoom, HasRoomAs, OperandsHaveRoom, PlainHasRoom, UnitHasRoom}
 use Rattle.dwz_writing.specs.Meant.{OperandsIn, Own, Tells, own_of}
-use Rattle.dwz_writing.specs.Placing.{FileFit, Fit, Forms, Holder, InCommon, InFile, InUnit, CommonUnit, NewUnit, OldUnit, Reach, as_constant, as_file, as_slot, as_text, fit, fit_as, fit_attr, fit_node, fit_unit, fit_units, reach_of, ref_form, unit_fit, with_form, with_keys}
+use Rattle.dwz_writing.specs.Placing.{FileFit, Fit, Forms, Holder, InCommon, InFile, InUnit, CommonUnit, NewUnit, OldUnit, Reach, as_constant, as_file, as_slot, as_text, fit, fit_as, fit_attr, fit_unit, fit_units, reach_of, ref_form, unit_fit, with_form, with_keys}
 use Rattle.dwz_writing.specs.Writing.{Numbering}
-use Rattle.dwz_writing.proofs.CarriedMaps.{attr_carried}
 use Rattle.dwz_writing.proofs.Carrying.{import_class, no_list}
 use Rattle.dwz_writing.proofs.Chosen.{join_attrs, join_entries}
 use Rattle.dwz_seen.specs.Shown.{units_keys}
 use Rattle.dwz_writing.proofs.StoredClasses.{list_form, offset_class, offset_form}
 use Rattle.dwz_writing.proofs.ValuesMean.{not_so, so_not}
-use Rattle.dwz_back.specs.Files.{bases_at, origin_in}
+use Rattle.dwz_back.specs.Files.{origin_in}
 use Rattle.dwz_back.proofs.AttrLemmas.{new_attrs}
 use Rattle.dwz_back.proofs.HomeLemmas.{part_is, parts_from as found_part}
 

@@ -1,5 +1,5 @@
 -- What was in a unit is in what is kept of it, but the tops that go.
-use Rattle.std.proofs.Common.{◌≡◌, ℕ, Bool, true, false, List, [], ◌∷◌, ◌++◌, map, refl, sym, ap, subst, ◌∙◌, ◌⊎◌, inl, inr}
+use Rattle.std.proofs.Common.{◌≡◌, ℕ, Bool, true, false, List, [], refl, sym, ap, subst, ◌∙◌, ◌⊎◌, inl, inr}
 use Rattle.dwz_docs.specs.Lists.{In}
 use Rattle.dwz_meanings.specs.Documents.{Compile, DwUnit, Entries, Kind, Node, OfType, Partial, entries_map, language}
 use Rattle.dwz_seen.specs.Lists.{Nth}
@@ -12,7 +12,7 @@ use Rattle.dwz_alike.specs.Spots.{FileUnit, Spot, Top, Within, row_of, row_tops}
 use Rattle.dwz_alike.proofs.RowLemmas.{unit_row}
 use Rattle.dwz_alike.proofs.Tops.{row_top}
 use Rattle.dwz_moving.specs.IsPlan.{Has, OfSpace, OfTop}
-use Rattle.dwz_moving.specs.Moves.{Move, image_in, seen_top}
+use Rattle.dwz_moving.specs.Moves.{Move, image_in}
 use Rattle.dwz_moving.specs.Plan.{imports, kept_row}
 use Rattle.dwz_moving.proofs.RowParts.{kept_is}
 use Rattle.dwz_same.specs.After.{AreOld, IsNamedBelow}

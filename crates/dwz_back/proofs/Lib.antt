@@ -9,6 +9,7 @@ pub mod HomeLemmas
 pub mod OriginLemmas
 pub mod BasesLemmas
 pub mod SpaceLemmas
+pub mod CarriedRoots
 pub mod OutsCarried
 pub mod LineLemmas
 pub mod OperandLemmas

@@ -1,18 +1,17 @@
 -- The root of a partial unit of a file names the line table by which its files are numbered.
-use Rattle.std.proofs.Common.{◌≡◌, ◌⊎◌, ℕ, ℤ, pos, zero, suc, ◌+◌, ◌<◌, ◌^◌, Bool, true, false, List, [], ◌∷◌, map, Option, Some, None, cond, eqb, eqb-true, refl, sym, ap, subst, ◌∙◌, arith, inl, inr}
+use Rattle.std.proofs.Common.{◌≡◌, ℕ, ℤ, pos, zero, suc, ◌+◌, Bool, true, false, List, [], ◌∷◌, Option, Some, None, cond, eqb, eqb-true, refl, sym, ap, subst, ◌∙◌, arith, inl, inr}
 use Rattle.std.proofs.lemmas.Bool.{or_cases}
 use Rattle.dwz_bytes.specs.Spelling.{reach}
 use Rattle.dwz_codes.specs.Forms.{form_rows}
 use Rattle.dwz_docs.specs.Entries.{RawAttr}
 use Rattle.dwz_docs.specs.Lists.{In}
-use Rattle.dwz_docs.specs.Trees.{End, Entry}
-use Rattle.dwz_docs.specs.Values.{Raw, SpellsAs, SpellsShape, constant_of, shape_of, unsigned}
+use Rattle.dwz_docs.specs.Trees.{End}
+use Rattle.dwz_docs.specs.Values.{SpellsShape, constant_of, shape_of}
 use Rattle.dwz_docs.proofs.WrittenLemmas.{fixed_less}
-use Rattle.dwz_meanings.specs.Documents.{Attr, DwUnit, Entries, File, Node, Plain, Sec, Value, attr_map, first_named, node_map, only, value_map}
-use Rattle.dwz_meanings.specs.Meanings.{Class, IfSo, IsFileBy, IsFileNumber, IsLocList, MeansAs, OfAddress, OfBlock, OfCommonEntry, OfCommonText, OfConstant, OfExpression, OfFlag, OfIndex, OfInfoEntry, OfListIndex, OfOffset, OfSignature, OfText, OfTextBySlot, OfTextInLineStr, OfTextInStr, OfUnitEntry, Scope, Sources, Unread, class_in, class_of, class_rows, constant_value, names_file, names_list, number_of, offset_of, stmt_list}
+use Rattle.dwz_meanings.specs.Documents.{Attr, File, Node, Plain, Sec, Value, attr_map, first_named, only, value_map}
+use Rattle.dwz_meanings.specs.Meanings.{Class, IfSo, IsFileBy, IsFileNumber, IsLocList, MeansAs, OfAddress, OfBlock, OfCommonEntry, OfCommonText, OfConstant, OfExpression, OfFlag, OfIndex, OfInfoEntry, OfListIndex, OfOffset, OfSignature, OfText, OfTextBySlot, OfTextInLineStr, OfTextInStr, OfUnitEntry, Scope, Sources, Unread, class_of, constant_value, names_file, names_list, number_of, offset_of, stmt_list}
 use Rattle.dwz_seen.specs.Lists.{Each, Nth}
-use Rattle.dwz_seen.specs.Seen.{IsPartial}
-use Rattle.dwz_seen.proofs.Members.{any_false, any_from, each_in, each_of, nth_from}
+use Rattle.dwz_seen.proofs.Members.{any_false, any_from, each_in, nth_from}
 use Rattle.dwz_alike.specs.Alike.{IsAlike, Scope as InWhich, any_attr, any_entry, any_in}
 use Rattle.dwz_alike.specs.Spots.{FileUnit, PartialOf, Spot, Top, same_spot}
 use Rattle.dwz_alike.proofs.Targets.{entry_from, top_false}
@@ -22,20 +21,20 @@ use Rattle.dwz_moving.specs.IsPlan.{Has, OfSpace, OfTop, SpaceOf}
 use Rattle.dwz_moving.specs.Moves.{Move, first_unit, has_path, image_in, line_attr, line_attrs, line_in, line_of, names_path, plan, root_in_part, root_of}
 use Rattle.dwz_moving.specs.Plan.{PartialUnit}
 use Rattle.dwz_moving.proofs.RowParts.{part_is as part_row_is}
-use Rattle.dwz_same.specs.After.{AreOld, IsBelow}
+use Rattle.dwz_same.specs.After.{AreOld}
 use Rattle.dwz_same.specs.Held.{IsHeld}
 use Rattle.dwz_same.specs.Units.{partial_unit, tree}
 use Rattle.dwz_same.proofs.HeldLemmas.{part_found, row_found}
 use Rattle.dwz_same.proofs.NodeLemmas.{EntryOfTop}
 use Rattle.dwz_writing.specs.Bases.{Bases, bases_in, offset_in}
-use Rattle.dwz_writing.specs.Carried.{BasesStand, CameFrom, CarriedAttr, CarriedNode, CarriedUnit, FileStands, LineFor, NamesLines, NumbersFile}
+use Rattle.dwz_writing.specs.Carried.{BasesStand, CarriedAttr, CarriedNode, CarriedUnit, FileStands, LineFor, NamesLines, NumbersFile}
 use Rattle.dwz_writing.specs.Fitting.{EachAttr}
 use Rattle.dwz_writing.specs.Placing.{CommonUnit, NewUnit}
 use Rattle.dwz_writing.proofs.Carrying.{import_class, no_list, so}
 use Rattle.dwz_writing.proofs.StoredClasses.{offset_class}
 use Rattle.dwz_writing.proofs.ValuesMean.{not_so}
-use Rattle.dwz_back.specs.Carrying.{RootsCarried}
-use Rattle.dwz_back.specs.Files.{bases_at, origin_in}
+use Rattle.dwz_back.proofs.CarriedRoots.{RootsCarried}
+use Rattle.dwz_back.specs.Files.{origin_in}
 use Rattle.dwz_back.proofs.AttrLemmas.{new_attrs}
 use Rattle.dwz_back.proofs.HomeLemmas.{part_is, top_file}
 use Rattle.dwz_back.proofs.OriginLemmas.{bases_found, first_is, part_origin}

@@ -1,5 +1,5 @@
 -- The operands of files that are read name entries of these, as they are named.
-use Rattle.std.proofs.Common.{◌≡◌, ℕ, suc, ◌+◌, ◌<◌, ◌≤◌, ◌==◌, Bool, true, false, List, [], ◌∷◌, ◌++◌, length, map, refl, sym, ap, subst, ◌∙◌, arith, inl, inr, eq-eqb, ne_eqb}
+use Rattle.std.proofs.Common.{◌≡◌, ℕ, suc, ◌+◌, ◌≤◌, Bool, true, false, List, [], ◌∷◌, ◌++◌, length, map, refl, sym, ap, subst, ◌∙◌, arith, inl, inr, eq-eqb, ne_eqb}
 use Rattle.dwz_model.specs.declared.place.Base.{Base}
 use Rattle.dwz_model.specs.declared.place.Base.TheVariants.{Unit as FromUnit, Info as FromInfo}
 use Rattle.dwz_docs.specs.Lists.{In}
@@ -7,7 +7,6 @@ use Rattle.dwz_docs.specs.Units.{RawUnit}
 use Rattle.dwz_meanings.specs.Documents.{Doc, DwUnit, unit_map}
 use Rattle.dwz_meanings.specs.Files.{sources_of}
 use Rattle.dwz_meanings.specs.Meanings.{Sources}
-use Rattle.dwz_meanings.specs.Shared.{NamedList}
 use Rattle.dwz_seen.specs.Lists.{Each, Nth}
 use Rattle.dwz_seen.proofs.MainLemmas.{keys_map}
 use Rattle.dwz_seen.proofs.Members.{in_cases, in_left, in_map, in_right}

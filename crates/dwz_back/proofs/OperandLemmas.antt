@@ -1,5 +1,5 @@
 -- Operands that name entries do so under other names.
-use Rattle.std.proofs.Common.{◌≡◌, ℕ, Bool, true, false, List, [], ◌∷◌, ◌++◌, ◌||◌, map, refl, sym, ap, subst, ◌∙◌, inl, inr}
+use Rattle.std.proofs.Common.{◌≡◌, ℕ, Bool, true, false, List, [], ◌∷◌, map, refl, sym, ap, subst, ◌∙◌, inl, inr}
 use Rattle.std.proofs.lemmas.Bool.{or_cases}
 use Rattle.std.proofs.lemmas.List.Folds.{list_any-append}
 use Rattle.std.specs.List.{list_any}
@@ -7,7 +7,7 @@ use Rattle.dwz_model.specs.declared.place.Base.{Base}
 use Rattle.dwz_docs.specs.Lists.{In}
 use Rattle.dwz_docs.specs.Trees.{End, Entry}
 use Rattle.dwz_meanings.specs.declared.exprs.Operand.{Operand as AnOperand}
-use Rattle.dwz_meanings.specs.Documents.{Attr, DwUnit, Entries, Expr, Loc, Operand, Part, Plain, Same, attr_map, entries_map, unit_map}
+use Rattle.dwz_meanings.specs.Documents.{Attr, DwUnit, Entries, Expr, Operand, Part, Plain, Same, attr_map, entries_map, unit_map}
 use Rattle.dwz_meanings.specs.Exprs.{parts_of}
 use Rattle.dwz_meanings.specs.Meanings.{Class, IfSo, OfExpression, OfListIndex, OfOffset, class_of, names_list}
 use Rattle.dwz_meanings.specs.Shared.{own_operands}

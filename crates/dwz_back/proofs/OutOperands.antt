@@ -1,24 +1,23 @@
 -- After, operands name entries of their unit, or of their file: what an operand names stays where it is.
-use Rattle.std.proofs.Common.{◌≡◌, ◌⊎◌, ◌&&◌, ◌==◌, ℕ, Bool, true, false, List, [], ◌∷◌, ◌++◌, map, refl, sym, ap, subst, ◌∙◌, inl, inr, eq-eqb, eqb-true}
+use Rattle.std.proofs.Common.{◌≡◌, ◌⊎◌, ◌&&◌, ◌==◌, ℕ, Bool, true, List, [], ◌∷◌, refl, sym, ap, subst, ◌∙◌, inl, inr, eq-eqb, eqb-true}
 use Rattle.std.specs.List.{filter, list_any}
 use Rattle.dwz_model.specs.declared.place.Base.{Base}
 use Rattle.dwz_model.specs.declared.place.Base.TheVariants.{Unit as FromUnit, Info as FromInfo}
 use Rattle.dwz_docs.specs.Lists.{In}
-use Rattle.dwz_docs.specs.Trees.{End, Entry}
-use Rattle.dwz_meanings.specs.Documents.{Attr, DwUnit, Entries, Node, attr_map}
-use Rattle.dwz_meanings.specs.Meanings.{Class, OfInfoEntry, Sources, class_of}
+use Rattle.dwz_meanings.specs.Documents.{Attr, DwUnit, Node, attr_map}
+use Rattle.dwz_meanings.specs.Meanings.{Class, Sources}
 use Rattle.dwz_seen.specs.Lists.{Each, Nth}
 use Rattle.dwz_seen.specs.Seen.{Seen, see, seen}
 use Rattle.dwz_seen.proofs.Members.{any_true, each_append, each_in, each_more, each_of, each_split, in_cases, in_filter_from, in_left, in_map_from, in_nth, in_right, nth_in}
-use Rattle.dwz_alike.specs.Alike.{IsAlike, Scope, any_attr, any_entry, has_operand, is_in, is_named, names_in_unit, operand_names}
-use Rattle.dwz_alike.specs.Spots.{FileUnit, PartialOf, Spot, Within}
+use Rattle.dwz_alike.specs.Alike.{IsAlike, Scope, any_attr, any_entry, has_operand, is_in, names_in_unit, operand_names}
+use Rattle.dwz_alike.specs.Spots.{FileUnit, Spot}
 use Rattle.dwz_alike.proofs.Targets.{entry_true, or_first, or_second}
 use Rattle.dwz_moving.specs.Homes.{IsChoice, Local, Rule}
 use Rattle.dwz_moving.specs.Moves.{Move, image_in, plan}
-use Rattle.dwz_moving.specs.Plan.{PartialUnit, import_attr}
-use Rattle.dwz_same.specs.After.{AreOld, IsBelow, IsEntryOf}
+use Rattle.dwz_moving.specs.Plan.{import_attr}
+use Rattle.dwz_same.specs.After.{AreOld, IsEntryOf}
 use Rattle.dwz_same.specs.Held.{IsHeld}
-use Rattle.dwz_same.specs.Units.{kept_unit, kept_units, out_units, partial_unit, partial_units, units_at}
+use Rattle.dwz_same.specs.Units.{kept_unit, kept_units, out_units, partial_units, units_at}
 use Rattle.dwz_writing.specs.Bases.{Bases}
 use Rattle.dwz_writing.specs.Carried.{AttrOperands, CarriedUnit, OperandsStand, OperandsStandAs}
 use Rattle.dwz_writing.specs.Meant.{OperandIn, Own, Tells, all_entry_keys, entry_keys, own_of}

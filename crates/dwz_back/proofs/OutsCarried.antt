@@ -30,7 +30,7 @@ use Rattle.dwz_writing.specs.Carried.{CarriedAttr, CarriedEntries, CarriedNode, 
 use Rattle.dwz_writing.specs.Meant.{KindSays, entry_keys}
 use Rattle.dwz_writing.proofs.CarriedMaps.{entries_carried, kind_carried, node_carried, unit_carried}
 use Rattle.dwz_writing.specs.Bases.{Bases, bases_in}
-use Rattle.dwz_back.specs.Carrying.{RootsCarried}
+use Rattle.dwz_back.proofs.CarriedRoots.{RootsCarried}
 use Rattle.dwz_back.specs.Files.{bases_at, origin_in}
 use Rattle.dwz_back.proofs.OriginLemmas.{bases_found, part_origin}
 

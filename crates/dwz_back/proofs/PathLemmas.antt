@@ -1,10 +1,9 @@
 -- The paths of the common file have no zero byte.
-use Rattle.std.proofs.Common.{◌≡◌, ℕ, ℤ, pos, negsuc, true, false, Bool, List, [], ◌∷◌, Option, Some, None, refl, sym, ap, subst, ◌∙◌, inl, inr}
+use Rattle.std.proofs.Common.{◌≡◌, ℕ, ℤ, pos, negsuc, true, false, Bool, List, [], ◌∷◌, Option, Some, None, sym, ap, subst, inl, inr}
 use Rattle.dwz_docs.specs.Entries.{RawAttr}
-use Rattle.dwz_docs.specs.Trees.{End, Entry}
 use Rattle.dwz_docs.specs.Texts.{NoZero}
-use Rattle.dwz_meanings.specs.Documents.{Attr, DwUnit, Entries, File, Plain, Sec, Value, only, value_map}
-use Rattle.dwz_meanings.specs.LineTables.{FileTable, nth_path}
+use Rattle.dwz_meanings.specs.Documents.{Attr, DwUnit, Sec, Value, only}
+use Rattle.dwz_meanings.specs.LineTables.{FileTable}
 use Rattle.dwz_meanings.specs.LinesWritten.{AreTexts}
 use Rattle.dwz_meanings.specs.Meanings.{Class, IfSo, IsFileBy, IsFileNumber, IsLocList, MeansAs, OfAddress, OfBlock, OfCommonEntry, OfCommonText, OfConstant, OfExpression, OfFlag, OfIndex, OfInfoEntry, OfListIndex, OfOffset, OfSignature, OfText, OfTextBySlot, OfTextInLineStr, OfTextInStr, OfUnitEntry, Scope, Sources, Unread, class_of, constant_value, names_file, names_list, number_of, offset_of, path_by, stmt_list}
 use Rattle.dwz_meanings.proofs.PathTexts.{nth_text, table_paths}

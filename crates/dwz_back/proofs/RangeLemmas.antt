@@ -1,28 +1,28 @@
 -- Sets of address ranges are of the units that they were of, where these stand after.
-use Rattle.std.proofs.Common.{◌≡◌, ℕ, suc, ◌+◌, ◌<◌, ◌≤◌, ◌^◌, ◌==◌, Bool, true, false, List, [], ◌∷◌, ◌++◌, length, map, Option, refl, sym, ap, subst, ◌∙◌, arith, inl, inr, eq-eqb, ne_eqb}
+use Rattle.std.proofs.Common.{◌≡◌, ℕ, suc, ◌+◌, ◌<◌, ◌≤◌, ◌^◌, Bool, true, false, List, [], ◌∷◌, ◌++◌, length, map, Option, refl, sym, ap, subst, ◌∙◌, arith, inl, inr, eq-eqb, ne_eqb}
 use Rattle.std.proofs.lemmas.List.{length-map}
-use Rattle.dwz_docs.specs.Lists.{In, has}
+use Rattle.dwz_docs.specs.Lists.{In}
 use Rattle.dwz_docs.specs.Units.{CompileUnit, PartialUnit, RawKind, RawUnit, TypeUnit}
 use Rattle.dwz_meanings.specs.Documents.{Compile, Doc, DwUnit, Entries, Kind, OfType, Partial, kind_map, unit_map}
 use Rattle.dwz_meanings.specs.Files.{is_place_of, place_if_whole, unit_places}
-use Rattle.dwz_meanings.specs.Meanings.{Around, Common, MeanUnits, MeansKind, MeansUnit, Scope, Sources, all_places, scope_of}
-use Rattle.dwz_meanings.specs.Patching.{AreUnits, of_units, with_units}
+use Rattle.dwz_meanings.specs.Meanings.{Common, MeanUnits, MeansKind, Scope, Sources, scope_of}
+use Rattle.dwz_meanings.specs.Patching.{AreUnits, of_units}
 use Rattle.dwz_meanings.specs.Ranges.{RangeSet, SpellsSets}
 use Rattle.dwz_meanings.proofs.MeaningLemmas.{has_in}
 use Rattle.dwz_meanings.proofs.PatchedSets.{sets_patched}
 use Rattle.dwz_seen.specs.Lists.{Each, Nth}
 use Rattle.dwz_seen.specs.Seen.{IsPartial}
-use Rattle.dwz_seen.specs.Shown.{unit_keys, units_keys}
-use Rattle.dwz_seen.proofs.Members.{in_cases, in_has, in_left, in_map, in_nth, in_right, nth_in}
-use Rattle.dwz_alike.specs.Spots.{FileUnit, Row, Spot, UnitOf, in_file, named, named_files, row_of, spot_in, spots_from, tops_among}
+use Rattle.dwz_seen.specs.Shown.{units_keys}
+use Rattle.dwz_seen.proofs.Members.{in_cases, in_has, in_left, in_map, in_nth, in_right}
+use Rattle.dwz_alike.specs.Spots.{FileUnit, Row, Spot, in_file, named, named_files, row_of, spot_in, spots_from, tops_among}
 use Rattle.dwz_moving.specs.Homes.{Local}
-use Rattle.dwz_moving.specs.Moves.{Move, image_in}
+use Rattle.dwz_moving.specs.Moves.{image_in}
 use Rattle.dwz_same.specs.After.{AreOld, IsNamedBelow, Place, at_file, name_from}
 use Rattle.dwz_same.specs.Units.{kept_unit, kept_units, out_units, partial_units}
-use Rattle.dwz_writing.specs.Meant.{placed_unit, placed_units}
+use Rattle.dwz_writing.specs.Meant.{placed_units}
 use Rattle.dwz_writing.specs.Placing.{FileFit, Forms, fit_unit, fit_units, with_keys}
 use Rattle.dwz_writing.specs.Writing.{Numbering}
-use Rattle.dwz_back.specs.Back.{AllStandAfter, StandsAfter, around_in}
+use Rattle.dwz_back.specs.Back.{AllStandAfter, around_in}
 use Rattle.dwz_back.specs.Files.{AreRanged, Run, name_after, places}
 use Rattle.dwz_back.proofs.ReadBuilt.{own}
 use Rattle.dwz_back.proofs.WithinLemmas.{kept_to}

@@ -1,10 +1,10 @@
 -- What is read is written: no value of a file by itself leads to a common file.
-use Rattle.std.proofs.Common.{◌≡◌, ℕ, List, [], ◌∷◌, None, refl, sym, ap, subst, ◌∙◌}
+use Rattle.std.proofs.Common.{◌≡◌, ℕ, List, [], ◌∷◌, None, refl, sym, subst, ◌∙◌}
 use Rattle.dwz_docs.specs.Entries.{RawAttr, RawEntry}
 use Rattle.dwz_docs.specs.Trees.{End, Entry, Forest}
 use Rattle.dwz_docs.specs.Units.{RawUnit}
 use Rattle.dwz_meanings.specs.Documents.{Attr, DwUnit, Entries, Value}
-use Rattle.dwz_meanings.specs.Meanings.{Around, Class, MeanAttrs, MeanEntries, MeanUnits, MeansAs, MeansAttr, OfCommonText, Scope, Sources, Unread, class_of, scope_of, without_siblings}
+use Rattle.dwz_meanings.specs.Meanings.{Around, Class, MeanAttrs, MeanEntries, MeanUnits, MeansAs, OfCommonText, Scope, Sources, Unread, class_of, scope_of, without_siblings}
 use Rattle.dwz_seen.specs.Lists.{Each}
 use Rattle.dwz_writing.specs.Carried.{BuiltAttr, BuiltEntries, BuiltUnit}
 use Rattle.dwz_writing.specs.Sound.{IsBuilt, IsBuiltAs}

@@ -1,15 +1,14 @@
 -- The operands of what is read name entries of their unit, or of their file, as their numbers are counted.
-use Rattle.std.proofs.Common.{◌≡◌, ℕ, suc, ◌+◌, Bool, true, false, List, [], ◌∷◌, ◌++◌, map, refl, sym, ap, subst, ◌∙◌, inl, inr}
+use Rattle.std.proofs.Common.{◌≡◌, ℕ, ◌+◌, Bool, true, false, List, [], ◌∷◌, ◌++◌, map, refl, sym, ap, subst, ◌∙◌, inl, inr}
 use Rattle.std.proofs.lemmas.List.{map-append}
 use Rattle.dwz_model.specs.declared.place.Base.{Base}
 use Rattle.dwz_model.specs.declared.place.Base.TheVariants.{Unit as FromUnit, Info as FromInfo}
 use Rattle.dwz_docs.specs.Entries.{RawAttr, RawEntry}
 use Rattle.dwz_docs.specs.Lists.{In, has}
-use Rattle.dwz_docs.specs.Texts.{slot_place}
 use Rattle.dwz_docs.specs.Trees.{End, Entry, Forest}
 use Rattle.dwz_docs.specs.Units.{RawUnit}
 use Rattle.dwz_meanings.specs.declared.exprs.Operand.{Operand}
-use Rattle.dwz_meanings.specs.Documents.{Attr, DwUnit, Entries, Part, Plain, Value}
+use Rattle.dwz_meanings.specs.Documents.{Attr, DwUnit, Entries, Part, Value}
 use Rattle.dwz_meanings.specs.Exprs.{AreNamed, Expression, parts_from, parts_of}
 use Rattle.dwz_meanings.specs.Meanings.{Class, IfSo, IsExpression, IsListBySlot, IsLocList, MeanAttrs, MeanEntries, MeanUnits, MeansAs, MeansAttr, MeansUnit, OfExpression, OfListIndex, OfOffset, Scope, Sources, all_places, class_of, entries_for, expr_context, leads_to, loc_value, loclists_base, names_list, offset_of, places_of, scope_of, target_of, targets, without_siblings}
 use Rattle.dwz_meanings.specs.NamedLists.{AnyEntryNames, AnyNames, AnyUnitNames, NamesAs, NamesList, lists_of_units}
@@ -19,12 +18,12 @@ use Rattle.dwz_meanings.proofs.NamedLemmas.{units_name}
 use Rattle.dwz_alike.specs.Alike.{joined_parts}
 use Rattle.dwz_seen.specs.Lists.{Each}
 use Rattle.dwz_seen.specs.Shown.{keys}
-use Rattle.dwz_writing.specs.Bases.{Bases, bases_in}
+use Rattle.dwz_writing.specs.Bases.{Bases}
 use Rattle.dwz_writing.specs.Carried.{AttrOperands, ExprIn, OperandsStand, OperandsStandAs}
 use Rattle.dwz_writing.specs.Fitting.{EachAttr}
 use Rattle.dwz_writing.specs.Meant.{ListSays, OperandIn, OperandsIn, Own, Tells, all_entry_keys, by_base, entry_keys, led_to, own_of}
 use Rattle.dwz_writing.proofs.ReadAgain.{bases_read}
-use Rattle.dwz_writing.proofs.ValuesMean.{so_true, so_yes}
+use Rattle.dwz_writing.proofs.ValuesMean.{so_true}
 use Rattle.dwz_back.proofs.ReadBuilt.{own}
 use Rattle.dwz_back.proofs.ReadNamed.{expr_named, list_named}
 use Rattle.dwz_back.proofs.ReadPlaces.{entries_places}

@@ -1,10 +1,10 @@
 -- Units that stay as they were read name the lists that they named, whatever stands for places.
-use Rattle.std.proofs.Common.{◌≡◌, ℕ, List, [], ◌∷◌, Option, inl, inr}
+use Rattle.std.proofs.Common.{ℕ, List, [], ◌∷◌, Option, inl, inr}
 use Rattle.dwz_docs.specs.Entries.{RawAttr}
 use Rattle.dwz_docs.specs.Trees.{End, Entry, Forest}
 use Rattle.dwz_docs.specs.Entries.{RawEntry}
 use Rattle.dwz_docs.specs.Units.{RawUnit}
-use Rattle.dwz_meanings.specs.Meanings.{Around, Class, Common, OfListIndex, OfOffset, Scope, Sources, class_of, scope_of, without_siblings}
+use Rattle.dwz_meanings.specs.Meanings.{Around, Class, Common, OfListIndex, OfOffset, Scope, Sources, class_of, without_siblings}
 use Rattle.dwz_meanings.specs.NamedLists.{AnyEntryNames, AnyNames, AnyUnitNames, IsNamedAt, NamesAs, lists_of_units}
 use Rattle.dwz_meanings.specs.Shared.{NamedList, NoneShared}
 use Rattle.dwz_meanings.proofs.NamedLemmas.{units_name}

@@ -32,8 +32,8 @@ use Rattle.dwz_same.proofs.HeldLemmas.{row_found}
 use Rattle.dwz_same.proofs.KindLemmas.{kept_kinded}
 use Rattle.dwz_same.proofs.OldFiles.{closed_append}
 use Rattle.dwz_same.proofs.StillLemmas.{at_append, at_other, at_own}
-use Rattle.dwz_same.proofs.OldRows.{InTop, IsSpaceSeen, Origin, item_under, raw_seen, raw_top, row_kinded, seen_origin, tops_among, tops_somewhere}
-use Rattle.dwz_same.proofs.TreeLemmas.{Behind, OfASpace, OfATop, TreeOrigin, seen_top_map, space_seen, tree_origin, tree_seen}
+use Rattle.dwz_same.proofs.OldRows.{InTop, IsSpaceSeen, Origin, item_under, raw_seen, raw_top, row_kinded, seen_origin, tops_among}
+use Rattle.dwz_same.proofs.TreeLemmas.{Behind, OfASpace, OfATop, TreeOrigin, seen_top_map, tree_origin, tree_seen}
 use Rattle.std.specs.List.{filter}
 use Rattle.dwz_same.proofs.FileLemmas.{replaced}
 use Rattle.dwz_writing.specs.Carried.{ClosedIn}

@@ -1,8 +1,8 @@
 -- What is written of an expression means its value.
-use Rattle.std.proofs.Common.{◌≡◌, ℕ, ◌∷◌, map, refl, sym, ap, subst, ◌∙◌}
+use Rattle.std.proofs.Common.{ℕ, map, refl, sym, ap, subst, ◌∙◌}
 use Rattle.dwz_docs.specs.Entries.{RawAttr}
 use Rattle.dwz_docs.specs.Values.{Bytes}
-use Rattle.dwz_meanings.specs.Documents.{Attr, Expr, Plain, Value, value_map}
+use Rattle.dwz_meanings.specs.Documents.{Attr, Plain, value_map}
 use Rattle.dwz_meanings.specs.Exprs.{parts_of}
 use Rattle.dwz_meanings.specs.Meanings.{IsExpression, Scope}
 use Rattle.dwz_meanings.specs.Patching.{AreParts}

@@ -1,5 +1,5 @@
 -- A location list whose operands have new numbers means the same expressions, with the entries that these name.
-use Rattle.std.proofs.Common.{◌≡◌, ℕ, ℤ, ◌+◌, ◌-◌, ◌<◌, ◌≤◌, true, false, List, [], ◌∷◌, ◌++◌, map, refl, sym, ap, subst, ◌∙◌, arith, inl, inr}
+use Rattle.std.proofs.Common.{◌≡◌, ℕ, ◌-◌, ◌<◌, true, List, [], ◌∷◌, ◌++◌, map, refl, sym, ap, subst, ◌∙◌, arith, inl, inr}
 use Rattle.std.proofs.lemmas.List.{map-append}
 use Rattle.dwz_bytes.specs.Spelling.{reach}
 use Rattle.dwz_docs.specs.Entries.{RawAttr}
@@ -7,9 +7,9 @@ use Rattle.dwz_docs.specs.Lists.{In, has}
 use Rattle.dwz_model.specs.declared.place.Base.{Base}
 use Rattle.dwz_model.specs.declared.place.Base.TheVariants.{Unit as FromUnit, Info as FromInfo}
 use Rattle.dwz_meanings.specs.declared.exprs.Operand.{Operand}
-use Rattle.dwz_meanings.specs.Documents.{Attr, Loc, Part, Plain, Value, value_map}
+use Rattle.dwz_meanings.specs.Documents.{Attr, Loc, Part, Plain, value_map}
 use Rattle.dwz_meanings.specs.Exprs.{AreNamed, Expression, parts_from, parts_of}
-use Rattle.dwz_meanings.specs.Meanings.{Class, MeansValue, OfListIndex, OfOffset, Scope, class_of, entries_for, expr_context, leads_to, loclists_base, number_of, offset_of, target_of, targets}
+use Rattle.dwz_meanings.specs.Meanings.{Class, MeansValue, OfListIndex, OfOffset, Scope, class_of, entries_for, expr_context, leads_to, number_of, targets}
 use Rattle.dwz_meanings.specs.NamedLists.{NamesAs, NamesList}
 use Rattle.dwz_meanings.specs.Patching.{AllFit, FitsIn}
 use Rattle.dwz_meanings.specs.PatchedLists.{CanHave, IsPatched, NamesAlike, list_value, named_with, with_number}
@@ -19,7 +19,7 @@ use Rattle.dwz_alike.specs.Alike.{joined_parts}
 use Rattle.dwz_seen.specs.Lists.{Each}
 use Rattle.dwz_seen.proofs.Members.{each_append, in_has, in_map}
 use Rattle.dwz_writing.specs.Fitting.{ListFits, OperandsFit}
-use Rattle.dwz_writing.specs.Meant.{ListSays, OperandIn, OperandsIn, Own, Tells, led_to, number_after}
+use Rattle.dwz_writing.specs.Meant.{ListSays, OperandIn, OperandsIn, Own, Tells, led_to}
 use Rattle.dwz_writing.specs.Writing.{Numbering, base_place}
 use Rattle.dwz_writing.proofs.ScopeIs.{IsScope}
 

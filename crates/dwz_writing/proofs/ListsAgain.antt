@@ -1,27 +1,23 @@
 -- The location lists that units name after are those that they named, with new numbers, so they share nothing.
-use Rattle.std.proofs.Common.{◌≡◌, ◌⊎◌, ℕ, ◌+◌, Bool, true, false, List, [], ◌∷◌, ◌++◌, length, map, Option, Some, None, Result, Ok, Err, cond, refl, sym, ap, subst, ◌∙◌, inl, inr}
-use Rattle.dwz_bytes.specs.Spelling.{reach}
+use Rattle.std.proofs.Common.{◌≡◌, ℕ, ◌+◌, Bool, true, false, List, [], ◌∷◌, map, Option, Some, None, Result, Ok, Err, cond, refl, sym, ap, subst, ◌∙◌, inl, inr}
 use Rattle.dwz_docs.specs.Entries.{RawAttr}
 use Rattle.dwz_docs.specs.Lists.{In}
 use Rattle.dwz_docs.specs.Texts.{slot}
 use Rattle.dwz_docs.specs.Trees.{End, Entry}
-use Rattle.dwz_docs.specs.Units.{RawUnit}
-use Rattle.dwz_docs.specs.Values.{Raw}
 use Rattle.dwz_model.specs.declared.fault.Fault.{Fault}
-use Rattle.dwz_meanings.specs.Documents.{Attr, DwUnit, Entries, Node, Sec, only}
+use Rattle.dwz_meanings.specs.Documents.{Attr, DwUnit, Entries}
 use Rattle.dwz_meanings.specs.LocLists.{LocList}
-use Rattle.dwz_meanings.specs.Meanings.{Around, Class, IfSo, OfListIndex, OfOffset, Scope, class_of, list_read, loclists_base, names_list, number_of, offset_of, scope_of, without_siblings}
+use Rattle.dwz_meanings.specs.Meanings.{Around, Class, OfListIndex, OfOffset, Scope, class_of, list_read, loclists_base, names_list, number_of, offset_of, scope_of, without_siblings}
 use Rattle.dwz_meanings.specs.NamedLists.{AnyEntryNames, AnyNames, AnyUnitNames, NamesAs, NamesList, by_base, by_offset, list_of_attr, lists_as, lists_of_units, named_at, named_by}
 use Rattle.dwz_meanings.specs.PatchedLists.{named_with}
-use Rattle.dwz_meanings.specs.Shared.{Clashes, IsInSlot, IsShared, IsSharedAt, ListOperand, NamedList, NoneShared, OneOf, ReadsInside, of_unit, operands_in_lists, own_operands}
+use Rattle.dwz_meanings.specs.Shared.{IsShared, ListOperand, NamedList, NoneShared, of_unit, operands_in_lists, own_operands}
 use Rattle.dwz_meanings.proofs.NamedAgain.{none_again}
 use Rattle.dwz_meanings.proofs.NamedLemmas.{attr_is, units_name}
-use Rattle.dwz_docs.specs.Values.{value_bytes}
 use Rattle.dwz_seen.specs.Lists.{Each}
 use Rattle.dwz_seen.specs.Shown.{unit_keys, units_keys}
 use Rattle.dwz_seen.proofs.Members.{in_cases, in_left, in_map, in_right}
 use Rattle.dwz_writing.specs.Fitting.{AttrFits, EntriesFit, FitsAs, UnitFits}
-use Rattle.dwz_writing.specs.Meant.{AttrSays, EntriesSay, IsAround, ListSays, Own, SaysAs, Tells, UnitSays, UnitsSay, own_of}
+use Rattle.dwz_writing.specs.Meant.{AttrSays, EntriesSay, IsAround, ListSays, Own, SaysAs, Tells, UnitsSay, own_of}
 use Rattle.dwz_writing.specs.Sound.{SoundAttr, SoundEntries, SoundUnit}
 use Rattle.dwz_writing.specs.Writing.{Numbering, Shape, pair_of, stored, stored_as, table_of}
 use Rattle.dwz_writing.proofs.ListMeans.{list_again, unit_again}

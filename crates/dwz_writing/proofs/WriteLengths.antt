@@ -1,5 +1,5 @@
 -- No length depends on the numbers that are written.
-use Rattle.std.proofs.Common.{◌≡◌, ℕ, ℤ, zero, suc, ◌/◌, List, [], ◌∷◌, length, refl, sym, ap, ◌∙◌, Bool, true, false, arith}
+use Rattle.std.proofs.Common.{◌≡◌, ℕ, ℤ, zero, suc, ◌/◌, List, [], ◌∷◌, length, refl, sym, ap, ◌∙◌, arith}
 use Rattle.std.proofs.lemmas.List.{length-append}
 use Rattle.dwz_bytes.specs.Spelling.{group_count, le_bytes, reach, uleb}
 use Rattle.dwz_bytes.proofs.PaddedLemmas.{padded_len}

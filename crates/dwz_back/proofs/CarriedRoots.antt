@@ -1,5 +1,5 @@
--- What is asked of the root of a partial unit.
-use Rattle.std.specs.Prelude.{◌≡◌, ℕ, List}
+-- What is shown of the root of a partial unit.
+use Rattle.std.proofs.Common.{◌≡◌, ℕ, List}
 use Rattle.dwz_meanings.specs.Meanings.{Sources}
 use Rattle.dwz_alike.specs.Spots.{FileUnit, PartialOf, Spot}
 use Rattle.dwz_moving.specs.Homes.{Home}

@@ -240,7 +240,7 @@ module _ (scope : Scope) (docs : List (Doc ℕ)) (input : Stored) (are : AreRead
       record {
         raw = input.raw file;
         says = record {
-          elf = o.reads.elf;
+          elf = λ f b. o.reads.elf f b.0;
           mode = wider (given o.limits.entries);
           whole = refl;
           partial = refl;

@@ -1,7 +1,7 @@
 -- What is written of files is what they say.
 use Rattle.std.proofs.Common.{◌≡◌, ℕ, ◌<◌, ◌^◌, true, List, [], length, map, Option, Some, None, refl, sym, ap, subst, ◌∙◌, arith, Bool, inl}
 use Rattle.dwz_meanings.specs.Documents.{DwUnit}
-use Rattle.dwz_docs.specs.ElfFaults.{IsElfFault}
+use Rattle.dwz_docs.specs.ElfBack.{IsBackFault}
 use Rattle.dwz_meanings.specs.Files.{debug_abbrev, debug_aranges, debug_info, is_place_of, sources_of}
 use Rattle.dwz_meanings.specs.Patching.{of_units}
 use Rattle.dwz_meanings.specs.Ranges.{RangeSet, SpellsSets}
@@ -94,7 +94,7 @@ module _ (r : Run) (can : CanWrite r) (g : Spot → Place) (ok : IsPlacing r g) 
     all : t.all ≡ all_entry_keys units
     good : Each SoundUnit units × UnitsSay t units
     stands : UnitsStand n units 0
-    elf : (f : _) → IsElfFault bytes f → ⊥
+    elf : (f : _) → IsBackFault bytes f → ⊥
     info : debug_info bytes ≡ (sections n units).info
     abbrevs : debug_abbrev bytes ≡ (sections n units).abbrevs
     strs : (sources_of bytes).strs ≡ t.strs

@@ -1,7 +1,7 @@
 -- What files say that are read back with a common file.
 use Rattle.std.specs.Prelude.{◌≡◌, ℕ, suc, Bool, true, false, List, [], ◌∷◌, ◌++◌, length, map, Option, Some, None}
 use Rattle.dwz_meanings.specs.Documents.{Doc, DwUnit, unit_map}
-use Rattle.dwz_docs.specs.ElfFaults.{IsElfFault}
+use Rattle.dwz_docs.specs.ElfBack.{IsBackFault}
 use Rattle.dwz_docs.specs.Entries.{Mode}
 use Rattle.dwz_meanings.specs.Files.{HaveGoodRanges, Limits, Reads, debug_abbrev, debug_aranges, debug_info, is_place_of, section_of, sources_of}
 use Rattle.dwz_docs.specs.Lists.{In}
@@ -40,11 +40,11 @@ given_by number bytes raw = record { entries = all_places raw; place = at_file n
 abbrev pub around_in : Option (Common Place) → ℕ → List ℕ → List RawUnit → Around Place
 around_in common number bytes raw = record { sources = sources_of bytes; all = all_places raw; place = at_file number; common = common }
 
--- The file with a number has no fault of an ELF file; its units, of which some may be partial, with the forms that lead to a common
+-- The file with a number has no fault of an ELF file that is read back; its units, of which some may be partial, with the forms that lead to a common
 -- file, are spelled, and mean these. Each set of address ranges is of one of the units that aren't partial; and no location list shares
 -- a byte with an operand of another. No limit on depth or on entries is asked of it.
 pub record SaysUnits (common : Option (Common Place)) (number : ℕ) (bytes : List ℕ) (raw : List RawUnit) (units : List (DwUnit Place)) : Type 0 where
-  pub elf : (f : _) → IsElfFault bytes f → ⊥
+  pub elf : (f : _) → IsBackFault bytes f → ⊥
   pub mode : Mode
   pub whole : mode.whole ≡ true
   pub partial : mode.partial ≡ true

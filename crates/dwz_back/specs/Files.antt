@@ -1,7 +1,7 @@
 -- What is written for files and a common one: their units, with the forms of their values, where their names stand, and their sections.
 use Rattle.std.specs.Prelude.{◌≡◌, ℕ, zero, suc, ◌<◌, ◌^◌, true, false, List, [], ◌∷◌, map, length, Option, Some, None}
 use Rattle.dwz_meanings.specs.Documents.{DwUnit}
-use Rattle.dwz_docs.specs.ElfFaults.{IsElfFault}
+use Rattle.dwz_docs.specs.ElfBack.{IsBackFault}
 use Rattle.dwz_docs.specs.Units.{RawUnit}
 use Rattle.dwz_meanings.specs.Files.{around_of, debug_abbrev, debug_aranges, debug_info, is_place_of, section_of, sources_of}
 use Rattle.dwz_meanings.specs.Patching.{with_units}
@@ -153,10 +153,10 @@ pub record AreRanged (r : Run) (file : ℕ) (new : List ℕ) : Type 0 where
   pub spelled : SpellsSets (is_place_of (r.input.raw file)) sets 0 (debug_aranges (r.input.bytes file))
   pub are : new ≡ with_units sets (map (λ s. (places r).place (name_after r file s.unit)) sets) (debug_aranges (r.input.bytes file))
 
--- A file without a fault has these two sections; in its location lists and in its address ranges stand the numbers of where things
--- stand; and it has the other sections of which values speak as they were read. Its texts are few.
+-- A file without a fault of one that is read back has these two sections; in its location lists and in its address ranges stand the
+-- numbers of where things stand; and it has the other sections of which values speak as they were read. Its texts are few.
 pub record HasSections (r : Run) (file : ℕ) (out : List ℕ) : Type 0 where
-  pub elf : (f : _) → IsElfFault out f → ⊥
+  pub elf : (f : _) → IsBackFault out f → ⊥
   pub info : debug_info out ≡ (sections_of r file).info
   pub abbrevs : debug_abbrev out ≡ (sections_of r file).abbrevs
   pub strs : (sources_of out).strs ≡ (sources r file).strs
@@ -171,9 +171,10 @@ pub record HasSections (r : Run) (file : ℕ) (out : List ℕ) : Type 0 where
 abbrev pub common_sources : (texts paths : List (List ℕ)) → Sources
 common_sources texts paths = record { strs = texts_bytes texts; line_strs = []; offsets = []; line = lines_bytes paths; lists = [] }
 
--- a common file without a fault, that has these two sections, texts and paths; it has no address ranges; none of its sections is too long
+-- a common file without such a fault, that has these two sections, texts and paths; it has no address ranges; none of its sections is
+-- too long
 pub record HasCommon (out : List ℕ) (s : UnitSections) (texts paths : List (List ℕ)) : Type 0 where
-  pub elf : (f : _) → IsElfFault out f → ⊥
+  pub elf : (f : _) → IsBackFault out f → ⊥
   pub info : debug_info out ≡ s.info
   pub abbrevs : debug_abbrev out ≡ s.abbrevs
   pub sources : sources_of out ≡ common_sources texts paths

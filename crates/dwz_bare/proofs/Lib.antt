@@ -9,3 +9,5 @@ pub mod AttrsLemmas
 pub mod RowsLemmas
 pub mod NamesLemmas
 pub mod TopLemmas
+pub mod FirstLemmas
+pub mod LanguageLemmas

@@ -1,3 +1,4 @@
+pub mod ListFacts
 pub mod ExprLemmas
 pub mod ListLemmas
 pub mod PlainLemmas

@@ -1,18 +1,15 @@
 -- Which values are numbers, by their class.
-use Rattle.std.proofs.Common.{◌≡◌, ℕ, ℤ, ◌+◌, Bool, true, false, List, [], ◌∷◌, Option, Some, None, Result, Ok, Err, refl, sym, ap, subst, ◌∙◌}
+use Rattle.std.proofs.Common.{◌≡◌, ℕ, ◌+◌, Bool, true, false, List, Option, Some, None, Result, Ok, Err, refl, sym, ap, subst, ◌∙◌}
 use Rattle.std.specs.Prelude.{if◌then◌else◌}
-
 use Rattle.dwz_bare.proofs.FirstLemmas.{FirstIs, first_is}
 use Rattle.dwz_bare.proofs.ListLemmas.{list_named}
 use Rattle.dwz_flat.proofs.TreeLemmas.{node_attrs}
-
-use Rattle.dwz_bytes.specs.Reading.{◌>>=◌}
 use Rattle.dwz_docs.specs.Entries.{RawAttr, RawEntry}
 use Rattle.dwz_docs.specs.Texts.{slot, text_at}
 use Rattle.dwz_docs.proofs.PartLemmas.{bind_ok}
 use Rattle.dwz_meanings.specs.Documents.{Attr, Node, Plain, Sec, Text, Value, first_named, number_in, number_of_attr, only, ref}
 use Rattle.dwz_meanings.specs.Exprs.{expr_at}
-use Rattle.dwz_meanings.specs.Meanings.{Class, Common, OfAddress, OfBlock, OfCommonEntry, OfCommonText, OfConstant, OfExpression, OfFlag, OfIndex, OfInfoEntry, OfListIndex, OfOffset, OfSignature, OfText, OfTextBySlot, OfTextInLineStr, OfTextInStr, OfUnitEntry, Scope, Unread, as_class, attr_with, bytes_of, common_entry, common_text, constant_value, content_at, entry_among, expr_context, expr_said, expr_value, file_by, first_raw, has, list_by, list_from, list_meaning, loclists_base, meaning, names_file, names_list, node_meaning, number_of, offset_of, stmt_list, str_offsets_base, text_by, text_from, text_or}
+use Rattle.dwz_meanings.specs.Meanings.{Class, Common, OfAddress, OfBlock, OfCommonEntry, OfCommonText, OfConstant, OfExpression, OfFlag, OfIndex, OfInfoEntry, OfListIndex, OfOffset, OfSignature, OfText, OfTextBySlot, OfTextInLineStr, OfTextInStr, OfUnitEntry, Scope, Unread, as_class, attr_with, bytes_of, common_entry, common_text, constant_value, content_at, expr_context, expr_said, expr_value, file_by, first_raw, has, list_by, list_from, list_meaning, loclists_base, meaning, names_file, names_list, node_meaning, number_of, offset_of, stmt_list, str_offsets_base, text_by, text_from, text_or}
 use Rattle.dwz_model.specs.declared.fault.Fault.{Fault}
 use Rattle.dwz_resolve.specs.Classes.{class_view}
 use Rattle.dwz_resolve.specs.declared.class.Class.{Class as ClassOfCode}

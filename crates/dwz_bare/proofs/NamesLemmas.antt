@@ -1,21 +1,17 @@
 -- The name of a space is the text of the first value of that name.
-use Rattle.std.proofs.Common.{◌≡◌, ℕ, suc, Bool, true, false, List, [], ◌∷◌, ◌++◌, length, map, Option, Some, None, Ok, refl, sym, ap, subst, ◌∙◌, eqb-true}
-use Rattle.std.specs.Prelude.{◌==◌, if◌then◌else◌}
+use Rattle.std.proofs.Common.{◌≡◌, ℕ, suc, Bool, true, false, List, [], ◌∷◌, ◌++◌, length, map, Option, Some, None, Ok, refl, sym, ap, subst, ◌∙◌}
+use Rattle.std.specs.Prelude.{◌==◌}
 use Rattle.std.specs.List.{flat_map}
 use Rattle.std.proofs.lemmas.List.{append-nil, append_assoc, length-map}
-use Rattle.std.proofs.lemmas.Bool.{ne_eqb}
 use Rattle.dwz_alike.specs.Spots.{SpaceName, name_by}
 use Rattle.dwz_bare.proofs.FirstLemmas.{FirstIs, first_is}
-use Rattle.dwz_bytes.specs.Reading.{◌>>=◌}
 use Rattle.dwz_docs.specs.Entries.{RawAttr, RawEntry}
-use Rattle.dwz_docs.proofs.PartLemmas.{bind_ok}
 use Rattle.dwz_flat.specs.Tops.{AreSpaceRows, IsSpaceRow}
-use Rattle.dwz_flat.proofs.StepLemmas.{skipped, taken}
 use Rattle.dwz_flat.proofs.TreeLemmas.{node_attrs}
 use Rattle.dwz_label.specs.Labels.{counted, each_counted, number}
 use Rattle.dwz_meanings.specs.Documents.{Attr, Node, Plain, Text, Value, first_named}
 use Rattle.dwz_meanings.specs.Documents as document
-use Rattle.dwz_meanings.specs.Meanings.{Scope, attr_with, attrs_meaning, first_raw, meaning, node_meaning, with_attr, without_siblings}
+use Rattle.dwz_meanings.specs.Meanings.{Scope, attr_with, attrs_meaning, first_raw, meaning, node_meaning, without_siblings}
 use Rattle.dwz_seen.specs.Spaces.{space_text, text_at, text_in}
 use Rattle.dwz_unit.specs.Rows.{EntryRow}
 

@@ -1,5 +1,5 @@
 -- What is told of an entry that is named, and of several one after the other.
-use Rattle.std.proofs.Common.{◌≡◌, ℕ, zero, suc, ◌+◌, ◌<◌, List, [], ◌∷◌, ◌++◌, length, map, take, drop, get_or, Some, None, slice_get, refl, sym, ap, subst, ◌∙◌, arith}
+use Rattle.std.proofs.Common.{◌≡◌, ℕ, ◌<◌, List, [], ◌∷◌, ◌++◌, length, map, Some, None, slice_get, refl, sym, ap, subst, ◌∙◌, arith}
 use Rattle.std.specs.List.{flat_map}
 use Rattle.std.proofs.lemmas.List.{append-nil, append_assoc}
 use Rattle.dwz_alike.specs.Spots.{Import, InChain, InType, PartialOf, PartialRoot, RootOf, SpaceAt, Spot, UnitOf, Within}
@@ -8,7 +8,7 @@ use Rattle.dwz_docs.specs.Units.{RawUnit, entries_in}
 use Rattle.dwz_flat.specs.Rows.{AreTargets}
 use Rattle.dwz_index.specs.Names.{path_in, top_in}
 use Rattle.dwz_label.specs.Labels.{each_counted, number, target_label}
-use Rattle.dwz_resolve.specs.Resolved.{Each, place_at}
+use Rattle.dwz_resolve.specs.Resolved.{place_at}
 
 pub no_path : (s : Spot) → top_in s ≡ None → target_label s ≡ 0 ∷ []
 no_path (Within top path) e = absurd cc

@@ -1,4 +1,4 @@
-use Rattle.std.proofs.Common.{ap, refl, sym, ◌∙◌}
+use Rattle.std.proofs.Common.{refl, sym, ◌∙◌}
 use Rattle.dwz_unit.specs.Rows.{attr_view}
 use Rattle.dwz_bare.proofs.FirstLemmas.{first_name}
 use Rattle.dwz_bare.proofs.LanguageLemmas.{a_language, no_language}

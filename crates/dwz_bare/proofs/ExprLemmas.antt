@@ -1,5 +1,5 @@
 -- The parts of an expression, operand by operand; and what reading it says where its operands name entries.
-use Rattle.std.proofs.Common.{◌≡◌, ℕ, zero, suc, ◌+◌, ◌*◌, ◌-◌, ◌<◌, ◌≤◌, Bool, List, [], ◌∷◌, ◌++◌, length, take, drop, get_or, Option, Some, None, Result, Ok, refl, sym, ap, ◌∙◌, arith}
+use Rattle.std.proofs.Common.{◌≡◌, ℕ, ◌+◌, ◌*◌, ◌-◌, ◌≤◌, Bool, List, [], ◌∷◌, ◌++◌, length, take, drop, Option, Some, None, Result, Ok, refl, sym, ap, ◌∙◌, arith}
 use Rattle.std.specs.List.{flat_map}
 use Rattle.std.proofs.lemmas.List.{append-nil, append_assoc, drop_all}
 use Rattle.dwz_bytes.specs.Input.{Input}
@@ -12,13 +12,6 @@ use Rattle.dwz_meanings.specs.Exprs.{ExprContext, Expression, any_operands, expr
 use Rattle.dwz_model.specs.declared.fault.Fault.{Fault}
 
 -- ---- parts
-
-drop_one : {X : Type 0} (xs : List X) (k : ℕ) (d : X) → k < length xs → drop k xs ≡ get_or xs k d ∷ drop (k + 1) xs
-drop_one [] k d lt = absurd (omega arith)
-drop_one (x ∷ xs) zero d lt = refl
-drop_one (x ∷ xs) (suc k) d lt =
-    let one : suc (k + 1) ≡ suc k + 1 = omega arith in
-    drop_one xs k d (omega arith) ∙ ap (λ (n : ℕ). get_or xs k d ∷ drop n (x ∷ xs)) one
 
 abbrev pieces : ℕ → List ℕ → List Operand → List ℕ
 pieces place rest operands = flat_map part_label (parts_from place rest operands)
@@ -36,9 +29,6 @@ next_operand operands k o place rest cut left out one two all here is_cut is_lef
     ∙ ap (λ (w : List ℕ). ((out ++ a) ++ b) ++ pieces (o.at + o.width) w more) is_left
     ∙ append_assoc (out ++ a) b c ∙ append_assoc out a (b ++ c)
     ∙ ap (λ (w : List Operand). out ++ pieces place rest w) (sym here) ∙ so
-
-pub here : (operands : List Operand) (k : ℕ) (d : Operand) → k < length operands → drop k operands ≡ get_or operands k d ∷ drop (k + 1) operands
-here operands k d lt = drop_one operands k d lt
 
 pub last_piece : (operands : List Operand) (k place : ℕ) (rest out one all : List ℕ) → length operands ≤ k → one ≡ out ++ part_label (Same rest) → out ++ pieces place rest (drop k operands) ≡ all → one ≡ all
 unfolding parts_from

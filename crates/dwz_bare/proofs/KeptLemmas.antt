@@ -1,5 +1,5 @@
 -- Names other than DW_AT_sibling.
-use Rattle.std.proofs.Common.{◌≡◌, ℕ, zero, suc, ◌+◌, ◌<◌, ◌≤◌, Bool, true, false, List, [], ◌∷◌, length, drop, get_or, refl, sym, ap, ◌∙◌, arith, Ok}
+use Rattle.std.proofs.Common.{◌≡◌, ℕ, suc, ◌+◌, ◌<◌, ◌≤◌, Bool, true, false, List, [], ◌∷◌, length, drop, get_or, refl, sym, ap, ◌∙◌, Ok}
 use Rattle.std.specs.Prelude.{◌==◌, ◌≢◌, if◌then◌else◌}
 use Rattle.std.proofs.lemmas.Bool.{cond-false, cond-true, eq-eqb, ne_eqb}
 use Rattle.std.proofs.lemmas.List.{drop_all}
@@ -10,16 +10,10 @@ use Rattle.dwz_docs.specs.Entries.{RawAttr, attrs_at, in_entry, with_value}
 use Rattle.dwz_meanings.specs.Meanings.{without_siblings}
 use Rattle.dwz_docs.specs.Values.{value_at}
 use Rattle.dwz_docs.proofs.PartLemmas.{bind_ok, same_value}
+use Rattle.dwz_bare.proofs.ListFacts.{drop_at}
 use Rattle.dwz_bare.specs.Words.{kept}
 use Rattle.dwz_model.specs.declared.place.Pair.{Pair}
 use Rattle.dwz_unit.specs.Values.{Reads}
-
-pub drop_at : {X : Type 0} (xs : List X) (k : ℕ) (d : X) → k < length xs → drop k xs ≡ get_or xs k d ∷ drop (k + 1) xs
-drop_at [] k d lt = absurd (omega arith)
-drop_at (x ∷ xs) zero d lt = refl
-drop_at (x ∷ xs) (suc k) d lt =
-    let one : suc (k + 1) ≡ suc k + 1 = omega arith in
-    drop_at xs k d (omega arith) ∙ ap (λ (n : ℕ). get_or xs k d ∷ drop n (x ∷ xs)) one
 
 pub kept_one : (pairs : List Pair) (j : ℕ) (d : Pair) → j < length pairs → (get_or pairs j d).name ≢ 0x01 → kept (drop j pairs) ≡ suc (kept (drop (j + 1) pairs))
 unfolding kept

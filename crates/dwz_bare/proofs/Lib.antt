@@ -1,3 +1,4 @@
+pub mod ListFacts
 pub mod ExprLemmas
 pub mod ListLemmas
 pub mod PlainLemmas
@@ -9,3 +10,5 @@ pub mod AttrsLemmas
 pub mod RowsLemmas
 pub mod NamesLemmas
 pub mod TopLemmas
+pub mod FirstLemmas
+pub mod LanguageLemmas

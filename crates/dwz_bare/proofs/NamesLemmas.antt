@@ -1,20 +1,17 @@
 -- The name of a space is the text of the first value of that name.
-use Rattle.std.proofs.Common.{◌≡◌, ℕ, suc, Bool, true, false, List, [], ◌∷◌, ◌++◌, length, map, Option, Some, None, Ok, refl, sym, ap, subst, ◌∙◌, eqb-true}
-use Rattle.std.specs.Prelude.{◌==◌, if◌then◌else◌}
+use Rattle.std.proofs.Common.{◌≡◌, ℕ, suc, Bool, true, false, List, [], ◌∷◌, ◌++◌, length, map, Option, Some, None, Ok, refl, sym, ap, subst, ◌∙◌}
+use Rattle.std.specs.Prelude.{◌==◌}
 use Rattle.std.specs.List.{flat_map}
 use Rattle.std.proofs.lemmas.List.{append-nil, append_assoc, length-map}
-use Rattle.std.proofs.lemmas.Bool.{ne_eqb}
 use Rattle.dwz_alike.specs.Spots.{SpaceName, name_by}
-use Rattle.dwz_bytes.specs.Reading.{◌>>=◌}
+use Rattle.dwz_bare.proofs.FirstLemmas.{FirstIs, first_is}
 use Rattle.dwz_docs.specs.Entries.{RawAttr, RawEntry}
-use Rattle.dwz_docs.proofs.PartLemmas.{bind_ok}
 use Rattle.dwz_flat.specs.Tops.{AreSpaceRows, IsSpaceRow}
-use Rattle.dwz_flat.proofs.StepLemmas.{skipped, taken}
 use Rattle.dwz_flat.proofs.TreeLemmas.{node_attrs}
 use Rattle.dwz_label.specs.Labels.{counted, each_counted, number}
 use Rattle.dwz_meanings.specs.Documents.{Attr, Node, Plain, Text, Value, first_named}
 use Rattle.dwz_meanings.specs.Documents as document
-use Rattle.dwz_meanings.specs.Meanings.{Scope, attr_with, attrs_meaning, first_raw, meaning, node_meaning, with_attr, without_siblings}
+use Rattle.dwz_meanings.specs.Meanings.{Scope, attr_with, attrs_meaning, first_raw, meaning, node_meaning, without_siblings}
 use Rattle.dwz_seen.specs.Spaces.{space_text, text_at, text_in}
 use Rattle.dwz_unit.specs.Rows.{EntryRow}
 
@@ -27,35 +24,13 @@ pub record FirstMeans (s : Scope ℕ) (values : List RawAttr) (b : Attr ℕ) : T
   pub means : meaning s a ≡ Ok v
   pub is : attr_with a v ≡ b
 
-other_first : (values : List RawAttr) (a : RawAttr) → (a.pair.name ≡ 0x03 → ⊥) → first_raw 0x03 (a ∷ values) ≡ first_raw 0x03 values
-unfolding first_raw
-other_first values a ne = ap (λ (b : Bool). if b then Some a else first_raw 0x03 values) (ne_eqb a.pair.name 0x03 ne)
-
-behind_first : (s : Scope ℕ) (values : List RawAttr) (a : RawAttr) (b : Attr ℕ) → (a.pair.name ≡ 0x03 → ⊥) → FirstMeans s values b → FirstMeans s (a ∷ values) b
-behind_first s values a b ne h = record { a = h.a; v = h.v; first = other_first values a ne ∙ h.first; means = h.means; is = h.is }
+by_first : (s : Scope ℕ) (values : List RawAttr) (b : Attr ℕ) (o : Option RawAttr) → first_raw 0x03 values ≡ o → FirstIs s o (Some b) → FirstMeans s values b
+by_first s values b None e h = absurd h
+by_first s values b (Some a) e h = record { a = a; v = h.0; first = e; means = h.1; is = h.2 }
 
 pub first_means : (s : Scope ℕ) (values : List RawAttr) (attrs : List (Attr ℕ)) (b : Attr ℕ) → attrs_meaning s (without_siblings values) ≡ Ok attrs → first_named 0x03 attrs ≡ Some b → FirstMeans s values b
-unfolding attrs_meaning without_siblings first_named first_raw
-first_means s [] attrs b e f =
-    let none : [] ≡ attrs = cc in
-    let no : None ≡ Some b = ap (first_named 0x03) none ∙ f in
-    absurd cc
-first_means s (a ∷ values) attrs b e f = by (a.pair.name == 0x01) refl (λ others o g. first_means s values others b o g) where
-  here : (v : Value ℕ) (left : List (Attr ℕ)) (t : Bool) → (a.pair.name == 0x03) ≡ t → meaning s a ≡ Ok v → (if t then Some (attr_with a v) else first_named 0x03 left) ≡ Some b → (first_named 0x03 left ≡ Some b → FirstMeans s values b) → FirstMeans s (a ∷ values) b
-  here v left true is means g more = record { a = a; v = v; first = ap (λ (t : Bool). if t then Some a else first_raw 0x03 values) is; means = means; is = (let z : attr_with a v ≡ b = cc in z) }
-  here v left false is means g more = behind_first s values a b (λ same. let z : true ≡ false = sym (ap (λ (n : ℕ). n == 0x03) same) ∙ is in absurd cc) (more g)
-
-  by : (t : Bool) → (a.pair.name == 0x01) ≡ t → ((others : List (Attr ℕ)) → attrs_meaning s (without_siblings values) ≡ Ok others → first_named 0x03 others ≡ Some b → FirstMeans s values b) → FirstMeans s (a ∷ values) b
-  by true is more =
-      let name = eqb-true a.pair.name 0x01 is in
-      behind_first s values a b (λ same. let z : 0x01 ≡ 0x03 = sym name ∙ same in absurd cc) (more attrs (ap (attrs_meaning s) (sym (skipped a values name)) ∙ e) f)
-  by false is more =
-      let ne : a.pair.name ≡ 0x01 → ⊥ = λ same. let z : true ≡ false = sym (ap (λ (n : ℕ). n == 0x01) same) ∙ is in absurd cc in
-      let o = ap (attrs_meaning s) (sym (taken a values ne)) ∙ e in
-      let x = bind_ok (meaning s a) (λ v. attrs_meaning s (without_siblings values) >>= with_attr a v) attrs o in
-      let y = bind_ok (attrs_meaning s (without_siblings values)) (with_attr a x.0) attrs x.2 in
-      let z : attr_with a x.0 ∷ y.0 ≡ attrs = cc in
-      here x.0 y.0 (a.pair.name == 0x03) refl x.1 (ap (first_named 0x03) z ∙ f) (more y.0 y.1)
+first_means s values attrs b e f =
+    by_first s values b (first_raw 0x03 values) refl (subst (λ (w : Option (Attr ℕ)). FirstIs s (first_raw 0x03 values) w) f (first_is s 0x03 (λ same. cc) values attrs e))
 
 -- ---- the text of a space
 

@@ -1,5 +1,5 @@
 -- What is told of an entry that is named, and of several one after the other.
-use Rattle.std.proofs.Common.{◌≡◌, ℕ, zero, suc, ◌+◌, ◌<◌, List, [], ◌∷◌, ◌++◌, length, map, take, drop, get_or, Some, None, slice_get, refl, sym, ap, subst, ◌∙◌, arith}
+use Rattle.std.proofs.Common.{◌≡◌, ℕ, ◌<◌, List, [], ◌∷◌, ◌++◌, length, map, Some, None, slice_get, refl, sym, ap, subst, ◌∙◌, arith}
 use Rattle.std.specs.List.{flat_map}
 use Rattle.std.proofs.lemmas.List.{append-nil, append_assoc}
 use Rattle.dwz_alike.specs.Spots.{Import, InChain, InType, PartialOf, PartialRoot, RootOf, SpaceAt, Spot, UnitOf, Within}
@@ -8,7 +8,7 @@ use Rattle.dwz_docs.specs.Units.{RawUnit, entries_in}
 use Rattle.dwz_flat.specs.Rows.{AreTargets}
 use Rattle.dwz_index.specs.Names.{path_in, top_in}
 use Rattle.dwz_label.specs.Labels.{each_counted, number, target_label}
-use Rattle.dwz_resolve.specs.Resolved.{Each, place_at}
+use Rattle.dwz_resolve.specs.Resolved.{place_at}
 
 pub no_path : (s : Spot) → top_in s ≡ None → target_label s ≡ 0 ∷ []
 no_path (Within top path) e = absurd cc
@@ -41,13 +41,6 @@ pub record AreLeft (raw : List RawUnit) (name : ℕ → Spot) (numbers : List �
   pub many : length places ≡ length numbers
   pub bytes : out ++ flat_map target_label (map name places) ≡ all
 
-pub here : (xs : List ℕ) (k d : ℕ) → k < length xs → drop k xs ≡ get_or xs k d ∷ drop (k + 1) xs
-here [] k d lt = absurd (omega arith)
-here (x ∷ xs) zero d lt = refl
-here (x ∷ xs) (suc k) d lt =
-    let one : suc (k + 1) ≡ suc k + 1 = omega arith in
-    here xs k d (omega arith) ∙ ap (λ (n : ℕ). get_or xs k d ∷ drop n (x ∷ xs)) one
-
 abbrev FirstLeft : List RawUnit → (ℕ → Spot) → ℕ → List ℕ → List ℕ → List ℕ → Type 0
 FirstLeft raw name i numbers out all = (p : ℕ) × (i < entries_in raw) × (place_at raw i ≡ p) × ((new : List ℕ) → new ≡ out ++ target_label (name p) → AreLeft raw name numbers new all)
 
@@ -79,31 +72,6 @@ none_left raw name numbers out all none h = none_of raw name h.places out all (h
 -- the name of the entry with a number
 pub name_there : (raw : List RawUnit) (name : ℕ → Spot) (x : _) (i p : ℕ) (k : KnowsNames raw name x) → i < entries_in raw → place_at raw i ≡ p → slice_get k.names i ≡ Some (name p)
 name_there raw name x i p k lt e = k.named i lt ∙ ap (λ (n : ℕ). Some (name n)) e
-
--- ---- parts of a list of numbers
-
-pub each_first : (P : ℕ → Type 0) (xs : List ℕ) (k d : ℕ) → k < length xs → Each P (drop k xs) → P (get_or xs k d)
-each_first P [] k d lt h = absurd (omega arith)
-each_first P (x ∷ xs) zero d lt h = h.0
-each_first P (x ∷ xs) (suc k) d lt h = each_first P xs k d (omega arith) h
-
-pub each_rest : (P : ℕ → Type 0) (xs : List ℕ) (k : ℕ) → k < length xs → Each P (drop k xs) → Each P (drop (k + 1) xs)
-each_rest P [] k lt h = absurd (omega arith)
-each_rest P (x ∷ xs) zero lt h = h.1
-each_rest P (x ∷ xs) (suc k) lt h =
-    let one : k + 1 + 1 ≡ suc k + 1 = omega arith in
-    let two : suc (k + 1) ≡ suc k + 1 = omega arith in
-    subst (λ (n : ℕ). Each P (drop n (x ∷ xs))) two (each_rest P xs k (omega arith) h)
-
-pub each_drop : (P : ℕ → Type 0) (k : ℕ) (xs : List ℕ) → Each P xs → Each P (drop k xs)
-each_drop P zero xs h = h
-each_drop P (suc k) [] h = h
-each_drop P (suc k) (x ∷ xs) h = each_drop P k xs h.1
-
-pub each_take : (P : ℕ → Type 0) (k : ℕ) (xs : List ℕ) → Each P xs → Each P (take k xs)
-each_take P zero xs h = tt
-each_take P (suc k) [] h = tt
-each_take P (suc k) (x ∷ xs) h = (h.0, each_take P k xs h.1)
 
 -- ---- a path behind the number of its steps
 

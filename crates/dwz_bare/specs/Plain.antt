@@ -37,7 +37,8 @@ is_simple OfExpression = false
 is_simple OfListIndex = false
 is_simple _ = true
 
--- The entries that it names are so many of the references that are kept in order; or those of these operands, which aren't among the references.
+-- The entries that it names are so many of the references that are kept in order; or those of these operands, which aren't among
+-- the references.
 abbrev pub NamesSo : Scope ℕ → Value ℕ → List Operand → Named → Type 0
 NamesSo s v operands (Next count) = (value_refs v ≡ v.refs) × (length v.refs ≡ count)
 NamesSo s v operands Kept = (value_refs v ≡ []) × (v.refs ≡ targets s operands)

@@ -3,6 +3,7 @@
 
 mod entries;
 mod expressions;
+mod language;
 mod lists;
 mod named;
 mod names;
@@ -17,6 +18,7 @@ mod top;
 mod values;
 
 pub use entries::put_rows;
+pub use language::language_of;
 pub use named::Named;
 pub use plain::put_plain;
 pub use source::{Scratch, Source};

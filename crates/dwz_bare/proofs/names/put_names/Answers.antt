@@ -5,7 +5,7 @@ use Rattle.dwz_label.specs.Labels.{counted}
 use Rattle.dwz_resolve.specs.Resolved.{scope_in}
 use Rattle.dwz_unit.specs.Rows.{rows_of, units_of}
 use Rattle.dwz_bare.proofs.NamesLemmas.{names_all, next_name, no_name, text_of_row}
-use Rattle.dwz_bare.proofs.TargetLemmas.{each_rest, here}
+use Rattle.dwz_bare.proofs.ListFacts.{drop_at, each_rest}
 use Rattle.dwz_bare.proofs.names.put_names.Goals as goal
 
 pub loop-space-init : goal.loop-space-init
@@ -27,7 +27,7 @@ loop-space-preserved c =
       within = each_rest (λ n. n < entries_in raw) xs k lt c.loop-space.invariant.within;
       left = λ u depth i names at h. (
           let s = scope_in c.args.sections.now raw u in
-          let n = next_name s (rows_of raw) i x (drop k xs) (drop (k + 1) xs) c.loop-space.out.items _ (here xs k 0 lt) (c.loop-space.invariant.left u depth i names at h) in
+          let n = next_name s (rows_of raw) i x (drop k xs) (drop (k + 1) xs) c.loop-space.out.items _ (drop_at xs k 0 lt) (c.loop-space.invariant.left u depth i names at h) in
           n.3 c.put_name.new.out.items (c.in_ok-put_name.ensures u n.2.row n.2.d n.2.text at n.2.found n.2.means n.2.is_space ∙ ap (λ (w : List ℕ). c.loop-space.out.items ++ counted w) (text_of_row s (rows_of raw) n.0 i n.1 x n.2)));
     }
 

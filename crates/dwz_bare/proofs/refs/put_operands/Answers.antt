@@ -5,7 +5,7 @@ use Rattle.dwz_meanings.specs.Meanings.{target_of}
 use Rattle.dwz_model.specs.declared.place.Base.TheVariants.{Unit as FromUnit}
 use Rattle.dwz_resolve.specs.Resolved.{scope_in}
 use Rattle.dwz_unit.specs.Rows.{units_of}
-use Rattle.dwz_bare.proofs.ExprLemmas.{here}
+use Rattle.dwz_bare.proofs.ListFacts.{drop_at}
 use Rattle.dwz_bare.proofs.RefLemmas.{next_operand, no_operand}
 use Rattle.dwz_bare.proofs.TargetLemmas.{name_there}
 use Rattle.dwz_bare.proofs.refs.put_operands.Goals as goal
@@ -19,7 +19,7 @@ loop-operand-preserved c = λ u name at k. (
     let i = c.loop-operand.operand-index in
     let o = get_or os i d in
     let looks = c.in-Some.ensures.looks u at in
-    next_operand s name os i o (target_of s o) c.loop-operand.out.items c.put_target.new.out.items _ (here os i d c.loop-operand-test.true) refl
+    next_operand s name os i o (target_of s o) c.loop-operand.out.items c.put_target.new.out.items _ (drop_at os i d c.loop-operand-test.true) refl
     (c.in_ok-put_target-in-Some.ensures k.names (name (target_of s o)) k.shown (name_there raw name c.args.index.now c.in-Some.entry (target_of s o) k looks.0 looks.1))
     (c.loop-operand.invariant u name at k))
 

@@ -1,6 +1,7 @@
 use Rattle.std.proofs.Common.{◌+◌, ◌<◌, drop, get_or, length, arith}
 use Rattle.std.proofs.lemmas.List.{length-drop}
-use Rattle.dwz_bare.proofs.TargetLemmas.{each_rest, first_left, here, name_there, none_left}
+use Rattle.dwz_bare.proofs.TargetLemmas.{first_left, name_there, none_left}
+use Rattle.dwz_bare.proofs.ListFacts.{drop_at, each_rest}
 use Rattle.dwz_bare.proofs.targets.put_targets.Goals as goal
 
 pub loop-entry-preserved : goal.loop-entry-preserved
@@ -12,7 +13,7 @@ loop-entry-preserved c =
     record {
       within = each_rest (λ n. n < length c.args.index.now.steps) xs i lt c.loop-entry.invariant.within;
       left = λ raw name places k t many. (
-          let f = first_left raw name (drop i xs) x (drop (i + 1) xs) c.loop-entry.out.items _ (here xs i 0 lt) (c.loop-entry.invariant.left raw name places k t many) in
+          let f = first_left raw name (drop i xs) x (drop (i + 1) xs) c.loop-entry.out.items _ (drop_at xs i 0 lt) (c.loop-entry.invariant.left raw name places k t many) in
           f.3 c.put_target.new.out.items (c.in_ok-put_target.ensures k.names (name f.0) k.shown (name_there raw name c.args.index.now x f.0 k f.1 f.2)));
     }
 

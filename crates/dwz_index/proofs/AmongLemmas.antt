@@ -1,9 +1,8 @@
 -- Lists with tops and spaces: with a top first, and with a space first; how many there are.
-use Rattle.std.proofs.Common.{◌≡◌, ℕ, suc, ◌+◌, Bool, true, false, List, [], ◌∷◌, ◌++◌, length, refl, sym, ap, ◌∙◌, arith}
+use Rattle.std.proofs.Common.{◌≡◌, ℕ, suc, ◌+◌, Bool, true, false, List, ◌∷◌, ◌++◌, length, refl, ap, ◌∙◌}
 use Rattle.std.proofs.lemmas.List.{length-append}
 use Rattle.dwz_docs.specs.Trees.{End, Entry, Forest, size}
 use Rattle.dwz_index.specs.declared.index.SpaceEntry.{SpaceEntry}
-use Rattle.dwz_index.specs.declared.index.Step.{Step}
 use Rattle.dwz_index.specs.declared.index.TopEntry.{TopEntry}
 use Rattle.dwz_index.specs.Steps.{space_entry, spaces_among, spaces_by, step, steps_among, steps_below, top_entry, tops_among, tops_by}
 

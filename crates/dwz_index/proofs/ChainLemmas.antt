@@ -1,8 +1,8 @@
 -- The spaces that tops stand in, list by list.
-use Rattle.std.proofs.Common.{◌≡◌, ℕ, ℤ, zero, suc, ◌+◌, ◌<◌, ◌≤◌, ◌⊎◌, Bool, true, false, List, [], ◌∷◌, ◌++◌, length, drop, map, Option, Some, None, Ok, slice_get, ◌==◌, if◌then◌else◌, refl, sym, ap, subst, ◌∙◌, inl, inr, arith}
+use Rattle.std.proofs.Common.{◌≡◌, ℕ, ℤ, zero, suc, ◌+◌, Bool, true, false, List, [], ◌∷◌, ◌++◌, length, drop, map, Option, Some, None, Ok, slice_get, ◌==◌, if◌then◌else◌, refl, sym, ap, subst, ◌∙◌, arith}
 use Rattle.std.specs.Prelude.{reverse}
 use Rattle.std.specs.Option.{is_some}
-use Rattle.std.proofs.lemmas.List.{append-nil, append_assoc, drop_at, length-append, reverse-append}
+use Rattle.std.proofs.lemmas.List.{append-nil, append_assoc, drop_at, reverse-append}
 use Rattle.dwz_docs.specs.Entries.{RawEntry, root_position}
 use Rattle.dwz_docs.specs.Trees.{End, Entry, Forest, Position, behind, first_below, size}
 use Rattle.dwz_docs.specs.Units.{RawUnit, entry_count}
@@ -12,7 +12,7 @@ use Rattle.dwz_meanings.specs.Meanings.{Around, MeanEntries, MeanUnits, scope_of
 use Rattle.dwz_meanings.proofs.FileLemmas.{file_agrees}
 use Rattle.dwz_seen.specs.Spaces.{space_text, tops_under}
 use Rattle.dwz_seen.proofs.SpaceLemmas.{text_map}
-use Rattle.dwz_alike.specs.Spots.{ASpace, ATop, FileUnit, Row, SpaceName, Spot, Top, in_file, name_by, name_of, row_below, row_in, row_tops, top_count, tops_from}
+use Rattle.dwz_alike.specs.Spots.{FileUnit, SpaceName, Spot, Top, in_file, name_by, name_of, row_below, row_in, row_tops, top_count, tops_from}
 use Rattle.dwz_alike.proofs.NameLists.{count_map}
 use Rattle.dwz_unit.specs.Rows.{EntryRow, rows_below, rows_from, rows_in, rows_of}
 use Rattle.dwz_resolve.proofs.RowLemmas.{below-length, in-length}

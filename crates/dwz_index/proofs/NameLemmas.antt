@@ -1,15 +1,15 @@
 -- The names of entries by their numbers are those of their places.
-use Rattle.std.proofs.Common.{◌≡◌, ℕ, suc, ◌+◌, ◌<◌, ◌≤◌, List, [], ◌∷◌, ◌++◌, length, map, get_or, Option, Some, slice_get, Ok, refl, sym, ap, subst, ◌∙◌, inl, inr, arith}
+use Rattle.std.proofs.Common.{◌≡◌, ℕ, suc, ◌+◌, ◌<◌, ◌≤◌, List, [], ◌∷◌, ◌++◌, length, map, Some, slice_get, Ok, refl, sym, ap, subst, ◌∙◌, inl, inr, arith}
 use Rattle.std.specs.Option.{option_map}
 use Rattle.std.proofs.lemmas.List.{map-append}
 use Rattle.std.proofs.lemmas.Option.{slice_get-get_or, slice_get-map}
 use Rattle.dwz_docs.specs.Entries.{RawEntry, given}
 use Rattle.dwz_docs.specs.Lists.{In}
 use Rattle.dwz_docs.specs.Trees.{End, Entry, Forest}
-use Rattle.dwz_docs.specs.Units.{RawUnit, SpellsUnits, entries_in}
+use Rattle.dwz_docs.specs.Units.{RawUnit, entries_in}
 use Rattle.dwz_meanings.specs.Documents.{Doc, DwUnit, Entries}
-use Rattle.dwz_meanings.specs.Files.{Limits, Reads, around_of, debug_abbrev, debug_info, file_meaning, sources_of, unit_places}
-use Rattle.dwz_meanings.specs.Meanings.{Around, MeanEntries, MeanUnits, Scope, Sources, all_places, alone, places_in, places_of, scope_of, units_meaning}
+use Rattle.dwz_meanings.specs.Files.{Limits, around_of, debug_abbrev, debug_info, file_meaning, sources_of}
+use Rattle.dwz_meanings.specs.Meanings.{MeanEntries, MeanUnits, Sources, all_places, alone, places_in, scope_of, units_meaning}
 use Rattle.dwz_meanings.proofs.FileLemmas.{file_agrees}
 use Rattle.dwz_meanings.proofs.MeaningLemmas.{units_agree}
 use Rattle.dwz_resolve.specs.Resolved.{place_at, places}
@@ -19,7 +19,7 @@ use Rattle.dwz_seen.specs.Lists.{Each, NoneTwice}
 use Rattle.dwz_seen.specs.Seen.{IsPartial}
 use Rattle.dwz_seen.specs.Shown.{keys, unit_keys, units_keys}
 use Rattle.dwz_seen.proofs.Members.{each_in, in_cases, in_left, in_right}
-use Rattle.dwz_alike.specs.Spots.{RootOf, Spot, UnitOf, below_spots, spot_in, spots_from, top_count}
+use Rattle.dwz_alike.specs.Spots.{RootOf, Spot, below_spots, spot_in, spots_from, top_count}
 use Rattle.dwz_alike.proofs.NameLists.{below_firsts, firsts, firsts_append, spot_is, spots_firsts}
 use Rattle.dwz_index.specs.Names.{names_from}
 use Rattle.dwz_index.proofs.UnitsMean.{none_partial, places_number}

@@ -1,12 +1,12 @@
 -- The ways up that are kept show the names of entries, list by list.
-use Rattle.std.proofs.Common.{◌≡◌, ℕ, suc, ◌+◌, ◌<◌, ◌≤◌, Bool, true, false, List, [], ◌∷◌, ◌++◌, length, drop, map, Option, Some, None, slice_get, refl, sym, ap, subst, ◌∙◌, arith}
-use Rattle.std.proofs.lemmas.List.{append-nil, append_assoc, drop_at, length-append, length-map, map-append}
+use Rattle.std.proofs.Common.{◌≡◌, ℕ, suc, ◌+◌, ◌<◌, true, false, List, [], ◌∷◌, ◌++◌, length, drop, map, Option, Some, None, slice_get, refl, sym, ap, subst, ◌∙◌, arith}
+use Rattle.std.proofs.lemmas.List.{append_assoc, drop_at, length-append, map-append}
 use Rattle.std.specs.Option.{is_some}
 use Rattle.dwz_docs.specs.Trees.{End, Entry, size}
-use Rattle.dwz_meanings.specs.Documents.{Compile, DwUnit, Entries, Kind, Node, OfType, Partial}
+use Rattle.dwz_meanings.specs.Documents.{Compile, DwUnit, Entries, Kind, OfType, Partial}
 use Rattle.dwz_seen.specs.Seen.{IsPartial}
 use Rattle.dwz_seen.specs.Spaces.{space_text, tops_under}
-use Rattle.dwz_alike.specs.Spots.{InType, RootOf, SpaceAt, Spot, Within, below_spots, entry_spots, top_count, top_spots}
+use Rattle.dwz_alike.specs.Spots.{InType, RootOf, SpaceAt, Spot, Within, below_spots, entry_spots, top_spots}
 use Rattle.dwz_alike.proofs.NameLists.{spots_space, spots_top}
 use Rattle.dwz_index.specs.declared.index.Step.{Step}
 use Rattle.dwz_index.specs.Index.{IsBelow, Shows, above}

@@ -1,9 +1,8 @@
 -- Which entries are spaces, by what is stored of them and by what they mean.
-use Rattle.std.proofs.Common.{◌≡◌, ◌≢◌, ℕ, Bool, true, false, List, [], ◌∷◌, Option, Some, None, Result, Ok, Err, ◌==◌, refl, sym, ap, ◌∙◌, eq-eqb}
+use Rattle.std.proofs.Common.{◌≡◌, ◌≢◌, ℕ, Bool, true, false, ◌==◌, sym, ap, ◌∙◌, eq-eqb}
 use Rattle.std.proofs.lemmas.Bool.{ne_eqb}
-use Rattle.dwz_docs.specs.Entries.{RawAttr, RawEntry}
+use Rattle.dwz_docs.specs.Entries.{RawEntry}
 use Rattle.dwz_meanings.specs.Meanings.{first_raw}
-use Rattle.dwz_unit.specs.declared.rows.RawEntry.{RawEntry as EntryOfCode}
 use Rattle.dwz_index.specs.Spaces.{has_text, stored_space}
 
 abbrev if_namespace : Bool → Bool → Bool

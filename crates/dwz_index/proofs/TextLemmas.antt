@@ -1,13 +1,12 @@
 -- The text of a value, by where its class says that it stands.
-use Rattle.std.proofs.Common.{◌≡◌, ℕ, List, Option, Some, None, refl, sym, ap, subst, ◌∙◌}
+use Rattle.std.proofs.Common.{◌≡◌, ℕ, List, Option, Some, sym, ap, subst, ◌∙◌}
 use Rattle.dwz_docs.specs.Entries.{RawAttr}
 use Rattle.dwz_docs.specs.Texts.{slot, text_at}
 use Rattle.dwz_docs.proofs.TextLemmas.{here_slot, here_text}
 use Rattle.dwz_meanings.specs.Documents.{Value}
-use Rattle.dwz_meanings.specs.Meanings.{Class, IsTextBySlot, IsTextIn, MeansAs, MeansValue, OfTextBySlot, OfTextInLineStr, OfTextInStr, Scope, Sources, class_of, offset_of}
+use Rattle.dwz_meanings.specs.Meanings.{Class, IsTextIn, MeansAs, MeansValue, OfTextBySlot, OfTextInLineStr, OfTextInStr, Scope, Sources, class_of, offset_of}
 use Rattle.dwz_seen.specs.Spaces.{text_in}
 use Rattle.dwz_resolve.specs.declared.sections.Sections.{Sections}
-use Rattle.dwz_resolve.specs.Resolved.{sources_view}
 use Rattle.dwz_index.specs.Spaces.{IsOwn}
 use Rattle.dwz_index.proofs.SpaceMeans.{text_is}
 

@@ -1,10 +1,9 @@
 -- Tops by their numbers: each has its name, and no other entry has such a name.
-use Rattle.std.proofs.Common.{◌≡◌, ℕ, zero, suc, ◌+◌, ◌-◌, ◌<◌, ◌≤◌, ◌⊎◌, Bool, true, false, List, [], ◌∷◌, ◌++◌, length, map, Option, Some, None, slice_get, refl, sym, ap, subst, ◌∙◌, inl, inr, arith}
+use Rattle.std.proofs.Common.{◌≡◌, ℕ, zero, suc, ◌+◌, ◌⊎◌, List, [], ◌∷◌, ◌++◌, length, map, Option, Some, None, slice_get, refl, sym, ap, subst, ◌∙◌, inl, inr, arith}
 use Rattle.std.specs.Option.{is_some}
-use Rattle.std.proofs.lemmas.Bool.{cases_lt}
 use Rattle.std.proofs.lemmas.List.{append-nil, length-append, map-append}
 use Rattle.dwz_docs.specs.Trees.{End, Entry, size}
-use Rattle.dwz_meanings.specs.Documents.{Compile, DwUnit, Entries, Kind, Node, OfType, Partial}
+use Rattle.dwz_meanings.specs.Documents.{Compile, DwUnit, Entries, Kind, OfType, Partial}
 use Rattle.dwz_seen.specs.Lists.{Each}
 use Rattle.dwz_seen.specs.Seen.{IsPartial}
 use Rattle.dwz_seen.specs.Spaces.{space_text, tops_under}
@@ -13,7 +12,7 @@ use Rattle.dwz_alike.proofs.NameLists.{spots_space, spots_top}
 use Rattle.dwz_index.specs.declared.index.Starts.{Starts}
 use Rattle.dwz_index.specs.declared.index.TopEntry.{TopEntry}
 use Rattle.dwz_index.specs.Names.{names_from}
-use Rattle.dwz_index.specs.Steps.{all_tops, below_root, is_compile, is_space, spaces_by, starts_behind, top_entries, top_entry, tops_among, tops_by, tops_of_list}
+use Rattle.dwz_index.specs.Steps.{all_tops, below_root, is_compile, is_space, spaces_by, starts_behind, top_entries, top_entry, tops_among, tops_of_list}
 use Rattle.dwz_index.specs.Tops.{IsTopAt}
 use Rattle.dwz_index.proofs.AmongLemmas.{tops_many, tops_space, tops_top}
 use Rattle.dwz_index.proofs.ShowLemmas.{At, at_here, at_left as from_left, at_right as from_right, counted, many_names, many_tops}

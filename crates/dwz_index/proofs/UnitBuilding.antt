@@ -1,8 +1,8 @@
 -- Unit by unit: the list below a root, and what is left of all units.
 use Rattle.std.proofs.Common.{◌≡◌, ℕ, zero, suc, ◌+◌, ◌<◌, ◌≤◌, List, [], ◌∷◌, ◌++◌, length, drop, Some, slice_get, refl, sym, ap, subst, ◌∙◌, arith}
-use Rattle.std.proofs.lemmas.List.{append-nil, append_assoc, drop_all, drop_at, length-append}
+use Rattle.std.proofs.lemmas.List.{append-nil, drop_all, drop_at, length-append}
 use Rattle.dwz_docs.specs.Entries.{root_position}
-use Rattle.dwz_docs.specs.Trees.{End, Entry, Forest, Position, behind, first_below, size}
+use Rattle.dwz_docs.specs.Trees.{Position, behind, first_below, size}
 use Rattle.dwz_docs.specs.Units.{CompileUnit, PartialUnit, RawKind, RawUnit, TypeUnit, entries_in, entry_count}
 use Rattle.dwz_unit.specs.declared.rows.RawEntry.{RawEntry as EntryOfCode}
 use Rattle.dwz_unit.specs.declared.rows.RawUnit.{RawUnit as UnitOfCode}

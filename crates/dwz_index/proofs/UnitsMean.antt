@@ -1,6 +1,6 @@
 -- What is built of all units is what the definitions say of the units that they mean; and it shows their names.
-use Rattle.std.proofs.Common.{◌≡◌, ℕ, zero, suc, ◌+◌, ◌<◌, ◌≤◌, Bool, true, false, List, [], ◌∷◌, ◌++◌, length, map, Option, Some, slice_get, refl, sym, ap, subst, ◌∙◌, arith}
-use Rattle.std.proofs.lemmas.List.{append-nil, append_assoc, length-append, length-map}
+use Rattle.std.proofs.Common.{◌≡◌, ℕ, zero, suc, ◌+◌, ◌≤◌, Bool, true, false, List, [], ◌∷◌, ◌++◌, length, map, Some, slice_get, refl, sym, ap, subst, ◌∙◌, arith}
+use Rattle.std.proofs.lemmas.List.{append-nil, append_assoc, length-map}
 use Rattle.dwz_docs.specs.Trees.{size}
 use Rattle.dwz_docs.specs.Units.{CompileUnit, PartialUnit, RawKind, RawUnit, TypeUnit, entry_count}
 use Rattle.dwz_meanings.specs.Documents.{Compile, DwUnit, Kind, Node, OfType, Partial}
@@ -10,10 +10,8 @@ use Rattle.dwz_resolve.proofs.UnitStarts.{starts as places_of_units}
 use Rattle.dwz_seen.specs.Lists.{Each}
 use Rattle.dwz_seen.specs.Seen.{IsPartial}
 use Rattle.dwz_alike.specs.Spots.{Spot, top_count}
-use Rattle.dwz_index.specs.declared.index.SpaceEntry.{SpaceEntry}
 use Rattle.dwz_index.specs.declared.index.Starts.{Starts}
 use Rattle.dwz_index.specs.declared.index.Step.{Step}
-use Rattle.dwz_index.specs.declared.index.TopEntry.{TopEntry}
 use Rattle.dwz_index.specs.Building.{nothing_yet, with_below, with_steps, with_unit, with_units}
 use Rattle.dwz_index.specs.Index.{HasTops, Index, IsIndex, Shows}
 use Rattle.dwz_index.specs.Names.{names_from}

@@ -1,5 +1,5 @@
 -- What an index shows of the entries of a file.
-use Rattle.std.specs.Prelude.{◌≡◌, ℕ, suc, ◌+◌, ◌<◌, List, [], ◌∷◌, length, map, Option, Some, None, slice_get}
+use Rattle.std.specs.Prelude.{◌≡◌, ℕ, suc, ◌+◌, ◌<◌, List, [], ◌∷◌, length, map, Some, slice_get}
 use Rattle.dwz_meanings.specs.Documents.{DwUnit}
 use Rattle.dwz_alike.specs.Spots.{InType, RootOf, SpaceAt, Spot, Within}
 use Rattle.dwz_index.specs.declared.index.SpaceEntry.{SpaceEntry}

@@ -5,3 +5,4 @@ pub mod Spaces
 pub mod Building
 pub mod Tops
 pub mod Chains
+pub mod IndexLaws

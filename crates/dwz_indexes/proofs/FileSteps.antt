@@ -1,11 +1,11 @@
 -- File by file: what was indexed, what is left, and that no number is too great.
-use Rattle.std.proofs.Common.{◌≡◌, ℕ, zero, suc, ◌+◌, ◌-◌, ◌<◌, ◌≤◌, ◌^◌, Bool, true, false, List, [], ◌∷◌, ◌++◌, length, drop, get_or, map, Option, Some, None, Result, Ok, Err, slice_get, refl, sym, ap, subst, ◌∙◌, arith, drop-cons}
-use Rattle.std.proofs.lemmas.List.{append-nil, append_assoc, drop_all, length-append, length-drop, length-map, length-take}
+use Rattle.std.proofs.Common.{◌≡◌, ℕ, suc, ◌+◌, ◌<◌, ◌≤◌, ◌^◌, List, [], ◌∷◌, ◌++◌, length, drop, get_or, Result, Ok, refl, sym, ap, subst, ◌∙◌, arith, drop-cons}
+use Rattle.std.proofs.lemmas.List.{append-nil, append_assoc, drop_all}
 use Rattle.dwz_model.specs.declared.fault.Refusal.{Refusal}
 use Rattle.dwz_bytes.specs.Reading.{◌>>=◌}
 use Rattle.dwz_docs.specs.Units.{RawUnit, entries_in}
 use Rattle.dwz_meanings.specs.Documents.{Doc, DwUnit}
-use Rattle.dwz_meanings.specs.Files.{Limits, around_of, file_meaning, files_meaning, limits_after, longest_files, most_entries, no_files_before, with_doc}
+use Rattle.dwz_meanings.specs.Files.{Limits, around_of, file_meaning, files_meaning, limits_after, longest_files, no_files_before, with_doc}
 use Rattle.dwz_meanings.specs.Meanings.{Around, units_meaning}
 use Rattle.dwz_graph.specs.declared.file.File.{File}
 use Rattle.dwz_graph.specs.Files.{AreKept, AreRead, docs_of, or_none}

@@ -1,11 +1,11 @@
 -- A file has fewer entries than bytes.
-use Rattle.std.proofs.Common.{◌≡◌, ℕ, suc, ◌+◌, ◌≤◌, List, [], ◌∷◌, ◌++◌, length, Option, Result, Ok, refl, ap, ◌∙◌, arith}
+use Rattle.std.proofs.Common.{◌≡◌, ℕ, suc, ◌+◌, ◌≤◌, List, [], ◌∷◌, length, Ok, refl, ap, arith}
 use Rattle.std.proofs.lemmas.List.{length-append}
 use Rattle.dwz_docs.specs.ElfNames.{sections_in}
 use Rattle.dwz_docs.specs.ElfReading.{section_range}
 use Rattle.dwz_docs.specs.Entries.{RawEntry, given}
 use Rattle.dwz_docs.specs.Trees.{End, Entry, Forest, size}
-use Rattle.dwz_docs.specs.Units.{RawUnit, entries_in, entry_count}
+use Rattle.dwz_docs.specs.Units.{RawUnit, entries_in}
 use Rattle.dwz_meanings.specs.Documents.{Doc, DwUnit}
 use Rattle.dwz_meanings.specs.Files.{Limits, around_of, debug_abbrev, debug_info, file_meaning, section_of}
 use Rattle.dwz_meanings.specs.Meanings.{Around, MeanUnits, places_in, places_of}

@@ -1,11 +1,10 @@
 -- The names that stand for the places of one file are as they are asked for.
-use Rattle.std.proofs.Common.{◌≡◌, ℕ, ℤ, suc, ◌+◌, ◌==◌, Bool, true, false, List, [], ◌∷◌, ◌++◌, Option, Some, None, map, refl, sym, ap, subst, ◌∙◌, arith, inl, inr, eqb-true, eq-eqb}
+use Rattle.std.proofs.Common.{◌≡◌, ℕ, ℤ, suc, ◌+◌, List, [], ◌∷◌, ◌++◌, Option, Some, None, map, refl, sym, ap, subst, ◌∙◌, arith, inl, inr}
 use Rattle.dwz_meanings.specs.Documents.{Compile, DwUnit, Entries, Kind, Node, OfType, Partial, entries_map, kind_map, language, node_map, unit_map}
 use Rattle.dwz_docs.specs.Lists.{In}
 use Rattle.dwz_docs.specs.Trees.{End, Entry}
 use Rattle.dwz_seen.specs.Lists.{NoneTwice, Nth}
 use Rattle.dwz_seen.specs.Seen.{IsPartial}
-use Rattle.dwz_seen.specs.Shown.{keys, unit_keys, units_keys}
 use Rattle.dwz_seen.specs.Spaces.{space_text, tops_under}
 use Rattle.dwz_seen.proofs.Members.{in_cases, in_left, in_right, nth_from}
 use Rattle.dwz_seen.proofs.SpaceLemmas.{text_map, under_count}

@@ -1,4 +1,4 @@
-use Rattle.std.proofs.Common.{◌+◌, ◌<◌, ◌≤◌, arith}
+use Rattle.std.proofs.Common.{arith}
 use Rattle.dwz_unit.specs.Rows.{units_of}
 use Rattle.dwz_index.proofs.BelowLemmas.{ends, goes_on, next_list}
 use Rattle.dwz_index.proofs.ListLemmas.{within}

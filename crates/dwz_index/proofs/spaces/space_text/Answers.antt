@@ -1,4 +1,4 @@
-use Rattle.std.proofs.Common.{◌≡◌, Option, Some, None, sym, subst, ◌∙◌}
+use Rattle.std.proofs.Common.{◌≡◌, Some, None, sym, subst, ◌∙◌}
 use Rattle.dwz_docs.specs.Entries.{RawAttr}
 use Rattle.dwz_meanings.specs.Meanings.{MeansValue}
 use Rattle.dwz_unit.specs.Rows.{attr_view}

@@ -1,4 +1,4 @@
-use Rattle.std.proofs.Common.{◌≡◌, ℕ, Option, List, ap, ◌∙◌}
+use Rattle.std.proofs.Common.{ap, ◌∙◌}
 use Rattle.dwz_docs.specs.Texts.{slot, text_at}
 use Rattle.dwz_unit.specs.Rows.{attr_view}
 use Rattle.dwz_index.proofs.TextLemmas.{by_slot, in_line_str, in_str}

@@ -1,4 +1,4 @@
-use Rattle.std.proofs.Common.{◌≡◌, ◌+◌, ◌<◌, ◌≤◌, sym, ap, subst, ◌∙◌, arith}
+use Rattle.std.proofs.Common.{◌+◌, sym, ap, subst, ◌∙◌, arith}
 use Rattle.dwz_docs.specs.Units.{entries_in}
 use Rattle.dwz_unit.specs.Rows.{units_of}
 use Rattle.dwz_index.specs.declared.index.Starts.{Starts}

@@ -1,4 +1,4 @@
-use Rattle.std.proofs.Common.{ℕ, ◌+◌, ◌<◌, ◌≤◌, ap, arith}
+use Rattle.std.proofs.Common.{ℕ, ap, arith}
 use Rattle.dwz_unit.specs.Rows.{units_of}
 use Rattle.dwz_index.specs.Index.{Index}
 use Rattle.dwz_index.proofs.UnitBuilding.{units_few}

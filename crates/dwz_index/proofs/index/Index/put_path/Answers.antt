@@ -1,4 +1,4 @@
-use Rattle.std.proofs.Common.{◌≡◌, ◌<◌, length, ap, arith}
+use Rattle.std.proofs.Common.{◌<◌, length, ap, arith}
 use Rattle.dwz_index.specs.Index.{Index}
 use Rattle.dwz_index.proofs.WayLemmas.{step_there, way_done, way_on}
 use Rattle.dwz_index.proofs.index.Index.put_path.Goals as goal

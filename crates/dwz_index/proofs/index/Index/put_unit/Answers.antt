@@ -1,4 +1,4 @@
-use Rattle.std.proofs.Common.{◌≡◌, ℕ, ◌+◌, ◌<◌, ◌≤◌, [], ◌∷◌, ap, ◌∙◌, arith}
+use Rattle.std.proofs.Common.{ℕ, ◌+◌, [], ◌∷◌, ap, ◌∙◌, arith}
 use Rattle.dwz_unit.specs.Rows.{units_of}
 use Rattle.dwz_index.specs.Building.{with_list, with_steps}
 use Rattle.dwz_index.specs.Index.{Index}

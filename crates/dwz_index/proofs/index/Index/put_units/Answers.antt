@@ -1,6 +1,6 @@
-use Rattle.std.proofs.Common.{◌≤◌, arith, length}
+use Rattle.std.proofs.Common.{arith}
 use Rattle.dwz_unit.specs.Rows.{units_of}
-use Rattle.dwz_index.proofs.UnitBuilding.{first_is, units_begin, units_end, units_on}
+use Rattle.dwz_index.proofs.UnitBuilding.{first_is, units_end, units_on}
 use Rattle.dwz_index.proofs.index.Index.put_units.Goals as goal
 
 pub put_unit-requires-clause-few : goal.put_unit-requires-clause-few

@@ -1,4 +1,4 @@
-use Rattle.std.proofs.Common.{◌≡◌, ap, ◌∙◌}
+use Rattle.std.proofs.Common.{ap, ◌∙◌}
 use Rattle.dwz_index.specs.Index.{Index}
 use Rattle.dwz_index.proofs.WayLemmas.{none_kept, some_kept, step_there, top_shown}
 use Rattle.dwz_index.proofs.index.Index.top_of.Goals as goal

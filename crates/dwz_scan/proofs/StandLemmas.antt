@@ -1,11 +1,11 @@
 -- Each top stands where its file's index says.
-use Rattle.std.proofs.Common.{◌≡◌, ℕ, zero, suc, ◌+◌, ◌<◌, List, [], ◌∷◌, ◌++◌, length, map, drop, get_or, Some, Ok, slice_get, refl, sym, ap, subst, ◌∙◌, arith}
+use Rattle.std.proofs.Common.{◌≡◌, ℕ, zero, suc, ◌+◌, ◌<◌, List, [], ◌∷◌, ◌++◌, length, map, get_or, Some, Ok, slice_get, sym, ap, subst, ◌∙◌, arith}
 use Rattle.std.proofs.lemmas.List.{get_or-map}
 use Rattle.dwz_alike.specs.Spots.{LabelledTop, Spot, Top, Within, in_file, named, spot_in, spots_from, tops_from}
-use Rattle.dwz_alike.proofs.NameLists.{firsts, spots_firsts}
+use Rattle.dwz_alike.proofs.NameLists.{spots_firsts}
 use Rattle.dwz_docs.specs.Lists.{In}
 use Rattle.dwz_docs.specs.Entries.{RawEntry}
-use Rattle.dwz_docs.specs.Trees.{End, Entry, behind, size}
+use Rattle.dwz_docs.specs.Trees.{End, Entry, behind}
 use Rattle.dwz_docs.specs.Units.{RawUnit, entries_in}
 use Rattle.dwz_docs.proofs.PartLemmas.{bind_ok}
 use Rattle.dwz_flat.specs.Tops.{HasTopOfFile}
@@ -16,13 +16,12 @@ use Rattle.dwz_index.specs.declared.index.Starts.{Starts}
 use Rattle.dwz_index.specs.declared.index.TopEntry.{TopEntry}
 use Rattle.dwz_index.specs.Names.{names_from}
 use Rattle.dwz_index.specs.Steps.{all_tops, below_root, is_space}
-use Rattle.dwz_index.specs.Tops.{IsTopAt}
 use Rattle.dwz_index.proofs.NameLemmas.{each_named, means_units, read_whole}
 use Rattle.dwz_index.proofs.TopLemmas.{found}
-use Rattle.dwz_meanings.specs.Documents.{Doc, DwUnit, Node, node_map}
+use Rattle.dwz_meanings.specs.Documents.{Doc, DwUnit, Node}
 use Rattle.dwz_meanings.specs.Files.{Limits, around_of, file_meaning}
 use Rattle.dwz_meanings.specs.Meanings.{Scope, attrs_meaning, node_meaning, node_with, scope_of, without_siblings}
-use Rattle.dwz_resolve.specs.Resolved.{Each, place_at, places}
+use Rattle.dwz_resolve.specs.Resolved.{place_at}
 use Rattle.dwz_resolve.proofs.RowLemmas.{rows-length}
 use Rattle.dwz_same.proofs.OldNames.{tops_labelled}
 use Rattle.dwz_seen.specs.Lists.{NoneTwice}

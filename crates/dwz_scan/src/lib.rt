@@ -6,6 +6,8 @@ mod into;
 mod laws;
 mod marks;
 mod scan;
+#[cfg(test)]
+mod tests;
 mod tops;
 mod values;
 mod weight;

@@ -1,4 +1,4 @@
-use Rattle.std.proofs.Common.{◌≡◌, ℕ, ◌<◌, List, length, get_or, sym, ap, ◌∙◌, arith}
+use Rattle.std.proofs.Common.{ℕ, ◌<◌, List, get_or, arith}
 use Rattle.dwz_docs.specs.Units.{entries_in}
 use Rattle.dwz_resolve.specs.Resolved.{place_at}
 use Rattle.dwz_scan.proofs.IntoLemmas.{entry_at, refs_next}

@@ -1,4 +1,4 @@
-use Rattle.std.proofs.Common.{◌∙◌, [], ap, pos, refl, sym}
+use Rattle.std.proofs.Common.{[], pos, refl, sym}
 use Rattle.dwz_forms.specs.RawValues.{raw_view}
 use Rattle.dwz_model.specs.declared.place.Pair.{Pair}
 use Rattle.dwz_places.specs.Ways.{holder_view}

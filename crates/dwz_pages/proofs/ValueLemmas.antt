@@ -126,10 +126,10 @@ module _ (n : Numbers) (k : Known) (here : Here) (r : Row) (pairs : List Pair) (
         done = m.done ++ attrs;
         left = subst (λ (f : Firsts). LeftOf k here r pairs (j + 1) place f (m.done ++ attrs)) (sym behind) (left_next k here r pairs j d at next m.done m.left lt place raw value);
         put =
-        added
-        ∙ ap (λ (w : List ℕ). w ++ values_bytes (stored_all n attrs)) m.put
-        ∙ append_assoc old (values_bytes (stored_all n m.done)) (values_bytes (stored_all n attrs))
-        ∙ ap (λ (w : List ℕ). old ++ w) (sym (values_more n m.done attrs));
+            added
+            ∙ ap (λ (w : List ℕ). w ++ values_bytes (stored_all n attrs)) m.put
+            ∙ append_assoc old (values_bytes (stored_all n m.done)) (values_bytes (stored_all n attrs))
+            ∙ ap (λ (w : List ℕ). old ++ w) (sym (values_more n m.done attrs));
       }
 
   pub so_far_end : (j : ℕ) (at : Input) (next : Firsts) (out : List ℕ) → PutSoFar n k here r pairs j at next old out → length pairs ≤ j → Put n old out (attrs_of k here (Read r))

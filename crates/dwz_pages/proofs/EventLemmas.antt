@@ -1,5 +1,5 @@
 -- What the entries of a unit leave, one after the other: the unit's table, and the bytes of its tree.
-use Rattle.std.proofs.Common.{◌≡◌, ℕ, ◌+◌, List, [], ◌∷◌, ◌++◌, length, map, Option, refl, sym, ap, ◌∙◌, append_assoc, append-nil}
+use Rattle.std.proofs.Common.{◌≡◌, ℕ, List, [], ◌∷◌, ◌++◌, map, Option, refl, sym, ap, ◌∙◌, append_assoc, append-nil}
 use Rattle.dwz_model.specs.declared.place.Pair.{Pair}
 use Rattle.dwz_meanings.specs.Documents.{Attr, DwUnit, Entries, Node}
 use Rattle.dwz_docs.specs.Trees.{End, Entry}

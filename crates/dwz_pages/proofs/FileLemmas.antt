@@ -1,7 +1,6 @@
 -- Files one after the other: where all stands, and what is written of each.
-use Rattle.std.proofs.Common.{◌≡◌, ◌⊎◌, inl, inr, ℕ, zero, suc, ◌+◌, ◌-◌, ◌<◌, ◌≤◌, List, [], ◌∷◌, ◌++◌, get_or, length, replicate, slice_index, refl, sym, ap, subst, ◌∙◌, append_assoc, append-nil, arith}
+use Rattle.std.proofs.Common.{◌≡◌, ◌⊎◌, inl, inr, ℕ, zero, suc, ◌+◌, ◌-◌, ◌<◌, ◌≤◌, List, [], ◌∷◌, ◌++◌, length, replicate, slice_index, refl, sym, ap, ◌∙◌, append_assoc, append-nil, arith}
 use Rattle.std.proofs.lemmas.List.{get_or-append_right, get_or_append_left}
-use Rattle.dwz_meanings.specs.Documents.{DwUnit}
 use Rattle.dwz_seen.specs.Lists.{Each}
 use Rattle.dwz_writing.specs.Placing.{FileOut, UnitsStand}
 use Rattle.dwz_writing.specs.Writing.{Numbering, tables_of, units_bytes}
@@ -13,10 +12,10 @@ use Rattle.dwz_places.specs.declared.order.UnitItems.{UnitItems}
 use Rattle.dwz_places.specs.declared.walk.Slot.{Slot}
 use Rattle.dwz_places.specs.Attributes.{Content, Here, OfEntry, OfParts, OfRoot, OutAttr, Read, attrs_of, here_of}
 use Rattle.dwz_places.specs.Entries.{items_slots}
-use Rattle.dwz_places.specs.Laid.{AllMade, FileMade, Made, made_of, no_unit, none_made, with_files, with_units}
+use Rattle.dwz_places.specs.Laid.{AllMade, FileMade, Made, made_of, no_unit, none_made, with_files}
 use Rattle.dwz_pages.proofs.ByteLemmas.{below}
 use Rattle.dwz_pages.specs.Pages.{numbers_in, units_page}
-use Rattle.dwz_pages.specs.Shown.{ContentRefers, FilesRefer, IsWritten, Keys, Refer, RowRefers, ShowFiles, ShowUnits, SlotRefers, SortRefers, unit_count}
+use Rattle.dwz_pages.specs.Shown.{ContentRefers, IsWritten, Keys, Refer, RowRefers, ShowFiles, ShowUnits, SlotRefers, SortRefers, unit_count}
 use Rattle.dwz_pages.proofs.SectionLemmas.{AllAgree, IsRight, bytes_are, end_is, end_of, outs_of, places_len, places_of, places_right, roots_len, roots_of, roots_right, units_made}
 use Rattle.dwz_pages.proofs.StepLemmas.{AttrAgrees, ContentAgrees, RowAgrees, SlotAgrees}
 use Rattle.dwz_pages.proofs.UnitLemmas.{SortAgrees}

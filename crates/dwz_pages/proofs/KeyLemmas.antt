@@ -11,13 +11,12 @@ use Rattle.dwz_writing.specs.Writing.{Numbering, Shape, any, attrs_bytes, code_b
 use Rattle.dwz_writing.proofs.WriteCodes.{Grown, Grown-then, code_grows, shapes_cover, with_shape-has}
 use Rattle.dwz_writing.proofs.WriteLengths.{FixedEntries, FixedUnit, if_len, node_len, spelled_len}
 use Rattle.dwz_places.specs.declared.known.Known.{Known}
-use Rattle.dwz_places.specs.declared.walk.Entry.{Entry as PlacedEntry}
 use Rattle.dwz_places.specs.declared.walk.Slot.{Slot}
 use Rattle.dwz_places.specs.Attributes.{Call, Here}
 use Rattle.dwz_places.specs.Laid.{shape_of_call}
 use Rattle.dwz_places.specs.Stored.{StoredAttr, entry_bytes, shape_for, values_bytes}
 use Rattle.dwz_pages.specs.Events.{EndOfList, Event, NewEntry, entry_event, events, if_children, stored_attr, unit_events}
-use Rattle.dwz_pages.specs.Shown.{HeldLine, Keys, key_of, line_held, slot_held}
+use Rattle.dwz_pages.specs.Shown.{Keys, key_of, line_held, slot_held}
 use Rattle.dwz_pages.proofs.PassLemmas.{Stand, call_len, calls_events, laid_from}
 use Rattle.dwz_pages.proofs.StepLemmas.{Begin, Finish, HeldStep, held_depth, held_steps}
 

@@ -6,14 +6,13 @@ use Rattle.dwz_docs.specs.ElfLayout.{too_large}
 use Rattle.dwz_docs.specs.Lists.{In}
 use Rattle.dwz_seen.specs.Lists.{Each}
 use Rattle.dwz_writing.specs.Placing.{FileOut, UnitsStand, numbering, sections}
-use Rattle.dwz_writing.specs.Sound.{SoundUnit}
-use Rattle.dwz_writing.specs.Writing.{Numbering, joined}
+use Rattle.dwz_writing.specs.Writing.{Numbering}
 use Rattle.dwz_writing.proofs.Places.{numbering_stands}
 use Rattle.dwz_writing.proofs.SameLemmas.{spots_same}
 use Rattle.dwz_writing.proofs.WriteLengths.{FixedUnit, sound_units}
 use Rattle.dwz_places.specs.declared.known.Known.{Known}
 use Rattle.dwz_places.specs.declared.order.UnitItems.{UnitItems}
-use Rattle.dwz_places.specs.Laid.{AllMade, made_of}
+use Rattle.dwz_places.specs.Laid.{AllMade}
 use Rattle.dwz_pages.specs.Laws.{FilesAre, IsOrderOf, PlacesAre, SectionsAre}
 use Rattle.dwz_pages.specs.Shown.{FilesRefer, Keys, ShowFiles}
 use Rattle.dwz_pages.proofs.SectionLemmas.{end_of}

@@ -7,7 +7,7 @@ use Rattle.dwz_writing.proofs.WriteCodes.{with_shape-has}
 use Rattle.dwz_places.specs.declared.known.Known.{Known}
 use Rattle.dwz_places.specs.declared.walk.Entry.{Entry}
 use Rattle.dwz_places.specs.Attributes.{Call, Here, call_of, calls_of, no_numbers}
-use Rattle.dwz_places.specs.Laid.{Laying, note, shape_of_call, with_call, with_entries}
+use Rattle.dwz_places.specs.Laid.{Laying, note, shape_of_call, with_entries}
 use Rattle.dwz_places.specs.Stored.{entry_bytes, values_bytes}
 use Rattle.dwz_pages.specs.Events.{EndOfList, Event, NewEntry, Tree, run, tree}
 use Rattle.dwz_pages.specs.Pages.{entries_page, entry_page}

@@ -1,12 +1,12 @@
 -- Units one after the other, file by file: where all stands, the tables, and the bytes.
-use Rattle.std.proofs.Common.{◌≡◌, ◌⊎◌, inl, inr, ℕ, zero, suc, ◌+◌, ◌<◌, Bool, true, false, List, [], ◌∷◌, ◌++◌, length, map, slice_index, slice_set, refl, sym, ap, subst, ◌∙◌, append_assoc, append-nil, arith, eqb, eqb-true, get_or}
+use Rattle.std.proofs.Common.{◌≡◌, ◌⊎◌, inl, inr, ℕ, zero, suc, ◌+◌, ◌<◌, Bool, true, false, List, [], ◌∷◌, ◌++◌, length, slice_index, slice_set, refl, sym, ap, subst, ◌∙◌, append_assoc, append-nil, arith, eqb, eqb-true, get_or}
 use Rattle.std.proofs.lemmas.List.{get_or-set_other, get_or-set_same, length-append, length-set}
 use Rattle.dwz_meanings.specs.Documents.{DwUnit}
 use Rattle.dwz_alike.proofs.SpotLemmas.{eqb_same}
 use Rattle.dwz_seen.specs.Lists.{Each}
 use Rattle.dwz_tables.specs.Shapes.{table_for}
-use Rattle.dwz_writing.specs.Placing.{UnitStands, UnitsStand, zeros}
-use Rattle.dwz_writing.specs.Writing.{Numbering, abbrevs_of, header_size, or_zero, table_in, table_offset, tables_of, unit_bytes, unit_size, units_bytes, with_table}
+use Rattle.dwz_writing.specs.Placing.{UnitsStand, zeros}
+use Rattle.dwz_writing.specs.Writing.{Numbering, abbrevs_of, or_zero, table_in, table_offset, tables_of, unit_bytes, unit_size, units_bytes, with_table}
 use Rattle.dwz_writing.proofs.RawHeaders.{unit_len}
 use Rattle.dwz_writing.proofs.WriteCodes.{Grown, Grown-then}
 use Rattle.dwz_writing.proofs.WriteLengths.{FixedUnit, size_len}
@@ -21,9 +21,9 @@ use Rattle.dwz_places.specs.declared.walk.Slot.{Slot}
 use Rattle.dwz_places.specs.Attributes.{Here, here_of}
 use Rattle.dwz_places.specs.Entries.{entries_of, items_slots, unit_entries}
 use Rattle.dwz_places.specs.Known.{number_of}
-use Rattle.dwz_places.specs.Laid.{Laying, Made, header_size as sort_size, laid_unit, note, with_unit, with_units}
+use Rattle.dwz_places.specs.Laid.{Laying, Made, header_size as sort_size, note, with_units}
 use Rattle.dwz_pages.specs.Pages.{numbers_in, units_page}
-use Rattle.dwz_pages.specs.Shown.{HasRow, InUnits, IsRow, Keys, ShowUnits, ShowsUnit, key_of}
+use Rattle.dwz_pages.specs.Shown.{HasRow, InUnits, IsRow, Keys, ShowUnits, key_of}
 use Rattle.dwz_pages.proofs.KeyLemmas.{SlotsAt}
 use Rattle.dwz_pages.proofs.PassLemmas.{Stand, noted}
 use Rattle.dwz_pages.proofs.UnitLemmas.{SortAgrees, UnitAgrees, header_is, laid_at, out_unit, page_is, stands, unit_laid}

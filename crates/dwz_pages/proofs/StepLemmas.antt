@@ -1,5 +1,5 @@
 -- What steps store under numbers are the events of a unit, and those of entries that are laid.
-use Rattle.std.proofs.Common.{◌≡◌, ℕ, pos, zero, suc, ◌+◌, ◌-◌, Bool, List, [], ◌∷◌, ◌++◌, length, map, replicate, slice_index, refl, sym, ap, ◌∙◌, arith}
+use Rattle.std.proofs.Common.{◌≡◌, ℕ, pos, zero, suc, ◌-◌, Bool, List, [], ◌∷◌, ◌++◌, map, replicate, slice_index, refl, sym, ap, ◌∙◌, arith}
 use Rattle.std.specs.Prelude.{nat_lt, ◌==◌, if◌then◌else◌}
 use Rattle.std.proofs.lemmas.List.{map-append}
 use Rattle.dwz_docs.specs.Trees.{End, Entry}
@@ -8,19 +8,18 @@ use Rattle.dwz_meanings.specs.Documents.{Attr, DwUnit, Entries, Expr, Node, Part
 use Rattle.dwz_meanings.specs.Documents as document
 use Rattle.dwz_meanings.specs.Meanings.{Class, OfCommonEntry, OfExpression, OfInfoEntry, OfUnitEntry, class_of}
 use Rattle.dwz_meanings.specs.Patching.{filled, number_bytes}
-use Rattle.dwz_layout.specs.Lines.{Enter, Leave, Line, Step, depth_of as line_depth, if_steps, steps, steps_of, unit_lines, unit_steps, any as line_any}
+use Rattle.dwz_layout.specs.Lines.{Enter, Leave, Line, Step, depth_of as line_depth, if_steps, steps, steps_of, unit_steps, any as line_any}
 use Rattle.dwz_seen.specs.Lists.{Each}
 use Rattle.dwz_writing.specs.Writing.{Numbering, any, base_place, expr_bytes, first_place, parts_bytes, stored_as}
 use Rattle.dwz_writing.proofs.WriteLengths.{Fixed, FixedAs, FixedEntries, FixedUnit}
 use Rattle.dwz_places.specs.declared.known.Known.{Known}
-use Rattle.dwz_places.specs.declared.walk.Entry.{Entry as PlacedEntry}
 use Rattle.dwz_places.specs.declared.walk.Slot.{Slot}
-use Rattle.dwz_places.specs.Attributes.{Call, Content, Here, Numbers, OfEntry, OfParts, OfRoot, OutAttr, Read, attrs_of, call_of, calls_of, counted, operand_numbers, raw_of, stored_of, tag_of}
+use Rattle.dwz_places.specs.Attributes.{Content, Here, Numbers, OfEntry, OfParts, OfRoot, OutAttr, Read, attrs_of, calls_of, counted, operand_numbers, raw_of, stored_of, tag_of}
 use Rattle.dwz_places.specs.Entries.{depth_of, entries_of}
 use Rattle.dwz_places.specs.Stored.{StoredAttr}
 use Rattle.dwz_pages.specs.Events.{EndOfList, Event, NewEntry, events, if_children, stored_attr, unit_events}
 use Rattle.dwz_pages.specs.Shown.{Held, HeldAttr, HeldLine, Key, Keys, Parts, Value, attr_held, content_held, expr_held, first_held, held_as, held_of, line_held, slot_held}
-use Rattle.dwz_pages.proofs.PassLemmas.{call_events, calls_events}
+use Rattle.dwz_pages.proofs.PassLemmas.{calls_events}
 
 -- ---- what is stored under numbers, in a unit that begins at a place: a ref4 (13) is counted from the unit
 

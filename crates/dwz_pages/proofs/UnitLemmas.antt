@@ -1,9 +1,9 @@
 -- A unit that items show: how it is laid, and its bytes.
-use Rattle.std.proofs.Common.{◌≡◌, ℕ, ◌+◌, ◌-◌, List, [], ◌∷◌, ◌++◌, length, map, replicate, slice_index, refl, sym, ap, subst, ◌∙◌, append_assoc, arith}
+use Rattle.std.proofs.Common.{◌≡◌, ℕ, ◌+◌, ◌-◌, List, [], ◌∷◌, ◌++◌, length, map, slice_index, refl, sym, ap, subst, ◌∙◌, append_assoc, arith}
 use Rattle.dwz_bytes.specs.Spelling.{le_bytes}
 use Rattle.dwz_meanings.specs.Documents.{Compile, DwUnit, Kind, OfType, Partial}
 use Rattle.dwz_model.specs.declared.place.Pair.{Pair}
-use Rattle.dwz_layout.specs.Lines.{Line, Step, steps_of, unit_lines, unit_steps}
+use Rattle.dwz_layout.specs.Lines.{Step, unit_lines}
 use Rattle.dwz_layout.proofs.LineLemmas.{unit_steps_are}
 use Rattle.dwz_seen.specs.Lists.{Each}
 use Rattle.dwz_writing.specs.Placing.{UnitStands, zeros}
@@ -19,10 +19,10 @@ use Rattle.dwz_places.specs.declared.walk.Slot.{Slot}
 use Rattle.dwz_places.specs.Attributes.{Call, Content, Here, Numbers, OfEntry, OfParts, OfRoot, OutAttr, Read, attrs_of, call_of, calls_of, here_of, no_numbers, stored_of}
 use Rattle.dwz_places.specs.Entries.{items_slots, unit_entries}
 use Rattle.dwz_places.specs.Laid.{Laying, header_size as sort_size, laid_unit}
-use Rattle.dwz_places.specs.Stored.{StoredAttr, pairs_of}
+use Rattle.dwz_places.specs.Stored.{pairs_of}
 use Rattle.dwz_pages.specs.Events.{Event, Tree, run, tree, unit_events, unit_tree}
 use Rattle.dwz_pages.specs.Pages.{entries_page, numbers_in, sort_page, type_byte, unit_page}
-use Rattle.dwz_pages.specs.Shown.{HeldLine, Keys, ShowsUnit, SortShows, line_held, unit_held}
+use Rattle.dwz_pages.specs.Shown.{HeldLine, Keys, ShowsUnit, SortShows, unit_held}
 use Rattle.dwz_pages.proofs.EventLemmas.{unit_after}
 use Rattle.dwz_pages.proofs.KeyLemmas.{HeldAt, KeysAt, SlotsAt, event_places, laid_places, lines_held, slots_at, unit_at}
 use Rattle.dwz_pages.proofs.PassLemmas.{SameShapes, Stand, calls_end, calls_events, calls_run, codes_of, end_after, entries_laid, laid_from, noted, shapes_after}

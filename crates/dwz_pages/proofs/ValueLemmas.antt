@@ -1,11 +1,11 @@
 -- What is appended of the values of an entry, by the way of each.
-use Rattle.std.proofs.Common.{◌≡◌, ℕ, ◌+◌, ◌-◌, ◌<◌, ◌≤◌, List, [], ◌∷◌, ◌++◌, get_or, length, pos, slice_index, Some, None, Result, Ok, Err, refl, sym, ap, subst, ◌∙◌, append_assoc, append-nil}
+use Rattle.std.proofs.Common.{◌≡◌, ℕ, ◌+◌, ◌-◌, ◌<◌, ◌≤◌, List, [], ◌∷◌, ◌++◌, get_or, length, slice_index, Some, None, Result, Ok, Err, refl, sym, ap, subst, ◌∙◌, append_assoc, append-nil}
 use Rattle.std.specs.Prelude.{OnOk}
 use Rattle.dwz_bytes.specs.Input.{Input}
 use Rattle.dwz_bytes.specs.Spelling.{le_bytes, uleb}
 use Rattle.dwz_codes.specs.Forms.{form_rows}
 use Rattle.dwz_docs.specs.Entries.{RawAttr}
-use Rattle.dwz_docs.specs.Values.{Number, Raw, value_at, value_bytes}
+use Rattle.dwz_docs.specs.Values.{Raw, value_at, value_bytes}
 use Rattle.dwz_model.specs.declared.place.Pair.{Pair}
 use Rattle.dwz_meanings.specs.declared.exprs.Operand.{Operand}
 use Rattle.dwz_meanings.specs.Documents.{Part}
@@ -16,16 +16,15 @@ use Rattle.dwz_writing.specs.Placing.{reach_by}
 use Rattle.dwz_places.specs.declared.known.Firsts.{Firsts}
 use Rattle.dwz_places.specs.declared.known.Known.{Known}
 use Rattle.dwz_places.specs.declared.known.Row.{Row}
-use Rattle.dwz_places.specs.declared.known.SpaceRow.{SpaceRow}
 use Rattle.dwz_places.specs.declared.walk.Origin.TheVariants.{Read}
 use Rattle.dwz_places.specs.declared.ways.Way.{Way}
-use Rattle.dwz_places.specs.Attributes.{Here, Numbers, OfEntry, OutAttr, after, attrs_of, counted, entry_attr, expr_attr, expr_parts, form_to, import_attr, line_attrs, operand_count, operand_numbers, out_attr, out_by, parts_or, raw_of, read_attr, references_from, space_attrs, stored_all, stored_of, text_attr, value_read}
+use Rattle.dwz_places.specs.Attributes.{Here, Numbers, OfEntry, OutAttr, after, attrs_of, counted, entry_attr, expr_attr, expr_parts, form_to, import_attr, line_attrs, operand_count, operand_numbers, out_attr, out_by, parts_or, raw_of, read_attr, references_from, stored_all, stored_of, text_attr, value_read}
 use Rattle.dwz_places.specs.Known.{HasValues, firsts_of, owner_of, row_at}
 use Rattle.dwz_places.specs.Stored.{values_bytes}
 use Rattle.dwz_places.specs.Ways.{way_of}
 use Rattle.dwz_places.proofs.LeftLemmas.{LeftOf, left_end, left_next, left_start, no_attrs, no_values, one_value, values_more}
 use Rattle.dwz_places.proofs.NumberLemmas.{line_bytes, ref_bytes, strp_bytes}
-use Rattle.dwz_places.proofs.PartLemmas.{count_from, expr_len}
+use Rattle.dwz_places.proofs.PartLemmas.{expr_len}
 use Rattle.dwz_places.proofs.SizeLemmas.{expr_bytes_are}
 
 -- what is appended to bytes
@@ -127,10 +126,10 @@ module _ (n : Numbers) (k : Known) (here : Here) (r : Row) (pairs : List Pair) (
         done = m.done ++ attrs;
         left = subst (λ (f : Firsts). LeftOf k here r pairs (j + 1) place f (m.done ++ attrs)) (sym behind) (left_next k here r pairs j d at next m.done m.left lt place raw value);
         put =
-        added
-        ∙ ap (λ (w : List ℕ). w ++ values_bytes (stored_all n attrs)) m.put
-        ∙ append_assoc old (values_bytes (stored_all n m.done)) (values_bytes (stored_all n attrs))
-        ∙ ap (λ (w : List ℕ). old ++ w) (sym (values_more n m.done attrs));
+            added
+            ∙ ap (λ (w : List ℕ). w ++ values_bytes (stored_all n attrs)) m.put
+            ∙ append_assoc old (values_bytes (stored_all n m.done)) (values_bytes (stored_all n attrs))
+            ∙ ap (λ (w : List ℕ). old ++ w) (sym (values_more n m.done attrs));
       }
 
   pub so_far_end : (j : ℕ) (at : Input) (next : Firsts) (out : List ℕ) → PutSoFar n k here r pairs j at next old out → length pairs ≤ j → Put n old out (attrs_of k here (Read r))

@@ -8,7 +8,7 @@ use Rattle.dwz_writing.specs.Sound.{SoundUnit}
 use Rattle.dwz_writing.specs.Writing.{Numbering, joined}
 use Rattle.dwz_places.specs.declared.known.Known.{Known}
 use Rattle.dwz_places.specs.declared.order.UnitItems.{UnitItems}
-use Rattle.dwz_places.specs.Laid.{AllMade, FileMade, made_of}
+use Rattle.dwz_places.specs.Laid.{FileMade, made_of}
 use Rattle.dwz_pages.specs.Limits.{too_large_in}
 use Rattle.dwz_pages.specs.Pages.{units_page}
 use Rattle.dwz_pages.specs.Shown.{FilesRefer, IsWritten, Keys, ShowFiles}

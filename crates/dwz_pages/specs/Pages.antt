@@ -3,7 +3,6 @@ use Rattle.std.specs.Prelude.{ℕ, ◌-◌, suc, List, [], ◌∷◌, ◌++◌, 
 use Rattle.dwz_bytes.specs.Spelling.{le_bytes, uleb}
 use Rattle.dwz_places.specs.declared.known.Known.{Known}
 use Rattle.dwz_places.specs.declared.layout.OutUnit.{OutUnit}
-use Rattle.dwz_places.specs.declared.layout.Spots.{Spots}
 use Rattle.dwz_places.specs.declared.order.Sort.{Sort}
 use Rattle.dwz_places.specs.declared.order.Sort.TheVariants.{Compile, OfType, Partial}
 use Rattle.dwz_places.specs.declared.order.UnitItems.{UnitItems}

@@ -1,8 +1,7 @@
 -- Which units the items of files show, once entries that were read and units have names.
 use Rattle.std.specs.Prelude.{◌≡◌, ◌⊎◌, ℕ, pos, suc, ◌+◌, ◌-◌, ◌<◌, List, [], ◌∷◌, length, map}
-use Rattle.dwz_docs.specs.Lists.{In}
 use Rattle.dwz_docs.specs.Values.{Bytes, Number, Raw}
-use Rattle.dwz_meanings.specs.Documents.{Attr, Compile, DwUnit, Expr, Kind, Node, OfType, Part, Partial, Plain}
+use Rattle.dwz_meanings.specs.Documents.{Attr, Compile, DwUnit, Expr, Kind, OfType, Part, Partial, Plain}
 use Rattle.dwz_meanings.specs.Meanings.{Class, OfCommonEntry, OfExpression, OfInfoEntry, OfUnitEntry, class_of}
 use Rattle.dwz_model.specs.declared.place.Pair.{Pair}
 use Rattle.dwz_layout.specs.Lines.{Line, unit_lines}

@@ -31,7 +31,12 @@ fn type_of(sort: Sort) -> u8
 fn put_sort(out: &mut Vec<u8>, sort: Sort, numbers: Numbers) -> Result<(), NoMemory>
     ensures { OnOk result (out.new.items ≡ out.old.items ++ sort_page (numbers_view numbers.entry) sort) }
 {
-    if let Sort::OfType { signature, main, .. } = sort {
+    if let Sort::OfType {
+        signature,
+        main,
+        ..
+    } = sort
+    {
         put_fixed(out, 8, signature)?;
         put_four(
             out,

@@ -22,8 +22,8 @@ use dwz_forms::{Raw, write_value};
 use dwz_meanings::Operand;
 use dwz_model::{NoMemory, Pair};
 use dwz_places::{
-    Firsts, Here, Holder, Known, Origin, Row, SpaceRow, Way, content_of, form_to, more, read_operands,
-    way_of,
+    Firsts, Here, Holder, Known, Origin, Row, SpaceRow, Way, content_of, form_to, more,
+    read_operands, way_of,
 };
 use dwz_unit::{Values, known_value};
 

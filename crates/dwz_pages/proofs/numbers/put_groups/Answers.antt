@@ -1,4 +1,4 @@
-use Rattle.std.proofs.Common.{refl, rules, ◌++◌, ◌/◌, ◌-◌}
+use Rattle.std.proofs.Common.{refl, ◌++◌, ◌/◌, ◌-◌}
 use Rattle.dwz_bytes.specs.Spelling.{padded}
 use Rattle.dwz_pages.proofs.ByteLemmas.{padded_done, padded_step}
 use Rattle.dwz_pages.proofs.numbers.put_groups.Goals as goal

@@ -1,4 +1,4 @@
-use Rattle.std.proofs.Common.{◌≡◌, ◌∙◌, ◌∷◌, [], ap, List, rules}
+use Rattle.std.proofs.Common.{◌≡◌, ◌∙◌, ◌∷◌, [], ap, rules}
 use Rattle.dwz_forms.specs.RawValues.{raw_view}
 use Rattle.dwz_places.specs.declared.ways.Way.TheVariants.{AsText}
 use Rattle.dwz_places.specs.Attributes.{OutAttr, name_by, read_attr, text_attr, value_read}

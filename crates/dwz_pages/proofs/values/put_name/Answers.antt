@@ -1,4 +1,4 @@
-use Rattle.std.proofs.Common.{◌∙◌, [], ap, pos, refl, sym}
+use Rattle.std.proofs.Common.{[], pos, refl, sym}
 use Rattle.dwz_forms.specs.RawValues.{raw_view}
 use Rattle.dwz_model.specs.declared.place.Pair.{Pair}
 use Rattle.dwz_places.specs.Ways.{holder_view}
@@ -29,7 +29,7 @@ returns-then-pair-eq-NAME c = λ n.
 pub loop-pair-preserved : goal.loop-pair-preserved
 loop-pair-preserved c = record {
   left = name_next c.args.known.now (holder_view c.args.holder) c.args.space c.in-Some.field-0.pairs.now c.loop-pair.pair-index no_pair c.loop-pair.cursor c.loop-pair.invariant.left c.loop-pair-test.true c.known_value-raw.new.cursor
-  (raw_view c.known_value-raw.result) c.known_value-raw.ensures.value c.if-pair-eq-NAME.false;
+      (raw_view c.known_value-raw.result) c.known_value-raw.ensures.value c.if-pair-eq-NAME.false;
   same = c.loop-pair.invariant.same;
 }
 

@@ -6,7 +6,7 @@ top=$(cd "$here/../.." && pwd)
 copy=${1:-$(mktemp -d)}
 mkdir -p "$copy/crates"
 cp "$top/HANDLES" "$copy/"
-for crate in dwz_model dwz_bytes dwz_codes dwz_docs dwz_meanings dwz_seen dwz_alike dwz_moving dwz_groups dwz_spread dwz_gain dwz_partition; do
+for crate in dwz_model dwz_bytes dwz_codes dwz_docs dwz_meanings dwz_seen dwz_alike dwz_moving dwz_groups dwz_spread dwz_gain dwz_plan; do
     rm -rf "$copy/crates/$crate/src" "$copy/crates/$crate/specs" "$copy/crates/$crate/proofs"
     (cd "$top/crates" && tar cf - --exclude=out "$crate") | tar xf - -C "$copy/crates"
     grep "^$crate[ :]" "$top/crates.txt"
@@ -16,7 +16,7 @@ mkdir -p "$bench/src" "$bench/specs" "$bench/proofs/are_inside"
 cp "$here/main.rt.txt" "$bench/src/main.rt"
 cp "$here/are_inside_Invariants.antt.txt" "$bench/proofs/are_inside/Invariants.antt"
 cp "$here/are_inside_Answers.antt.txt" "$bench/proofs/are_inside/Answers.antt"
-echo "bench_plan: dwz_model dwz_groups dwz_partition" >> "$copy/crates.txt"
+echo "bench_plan: dwz_model dwz_groups dwz_plan" >> "$copy/crates.txt"
 cd "$copy"
 [ -d .git ] || git init -q
 cd crates/bench_plan

@@ -154,16 +154,16 @@ module _ (scope : Scope) (docs : List (Doc ℕ)) (input : Stored) (are : AreRead
   file_operands file carried =
       let name : ℕ → Spot = λ n. name_in docs (at_file file n) in
       out_operands scope (units_of docs) rule is choice r.files whole.old whole.held file (tells r file) name (λ n. refl) (λ k k_in. subst (In k) (sym (fitted_entries r file)) k_in)
-          (OfFile (sources r file)) carried
+      (OfFile (sources r file)) carried
       (λ i u nth of_file.
       (let told : IsTold (sources_of (input.bytes u.file)) (input.raw u.file) (λ n. name_in docs (at_file u.file n))
-          (reading (sources r file).lists (lists_named r file) name (all_entry_keys (units_at file (units_of docs)))) = record {
+      (reading (sources r file).lists (lists_named r file) name (all_entry_keys (units_at file (units_of docs)))) = record {
         lists = ap (λ (x : ℕ). (sources_of (input.bytes x)).lists) (sym of_file);
         named = ap (λ (x : ℕ). lists_in (sources_of (input.bytes x)) (input.raw x)) (sym of_file);
         name = λ n. ap (λ (x : ℕ). name_in docs (at_file x n)) (sym of_file);
       } in
       files_read input.bytes input.raw 0 0 0 docs (λ k d at. file_read (sources_of (input.bytes k)) (input.raw k) d.units (are k d at).reads.means) u (nth_in 0 (units_of docs) i u nth) _ told
-          (λ k k_in. subst (λ (n : ℕ). In k (all_entry_keys (units_at n (units_of docs)))) of_file k_in)))
+      (λ k k_in. subst (λ (n : ℕ). In k (all_entry_keys (units_at n (units_of docs)))) of_file k_in)))
 
   -- no list of a file shares a byte with an operand of another
   file_lists : (file : ℕ) → In file r.files → NoneShared (lists_named r file)
@@ -197,8 +197,8 @@ module _ (scope : Scope) (docs : List (Doc ℕ)) (input : Stored) (are : AreRead
       (new_carried OfAny (units_of docs) r.move whole.old whole.held (λ x. Unit {0}) (λ i u nth file. any_unit (OfFile (sources_of (input.bytes u.file))) (bases_in u.unit) u.unit (unit_read i u nth))
       o.number o.part o.nth (origin_in r.move r.units (PartialOf o.number)) (common_roots rule (units_of docs) r.files o.number o.part o.nth o.home_is)
       (part_spaces OfAny scope (units_of docs) rule is choice r.files o.number o.part o.nth
-          (λ t in_part i u nth of. any_unit (OfFile (sources_of (input.bytes u.file))) (bases_in u.unit) u.unit (unit_read i u nth)))
-          (part_origin scope (units_of docs) rule is choice r.files o.number o.part o.nth)
+      (λ t in_part i u nth of. any_unit (OfFile (sources_of (input.bytes u.file))) (bases_in u.unit) u.unit (unit_read i u nth)))
+      (part_origin scope (units_of docs) rule is choice r.files o.number o.part o.nth)
       (λ names t there in_part. tt) holds)))
 
   any_origins : (i : ℕ) (u : FileUnit Spot) → Nth 0 (units_of docs) i u → Unit {0} → CarriedUnit OfAny (bases_in u.unit) u.unit
@@ -209,7 +209,7 @@ module _ (scope : Scope) (docs : List (Doc ℕ)) (input : Stored) (are : AreRead
   bases_common = each_of (BasesStand (common_forms r)) (partial_units r.move Common 0 r.move.parts) (λ v there.
       (let o = parts_from r.move Common 0 r.move.parts v there in
       subst (BasesStand (common_forms r)) o.is (common_bases OfAny scope (units_of docs) rule is choice r.files whole.old whole.held (λ x. Unit {0}) any_origins o.number o.part o.nth (λ t in_part. tt)
-          o.home_is (texts r) (paths r) [])))
+      o.home_is (texts r) (paths r) [])))
 
   common_asks : Each UnitAsksNone (common_units r.move)
   unfolding common_units
@@ -228,8 +228,12 @@ module _ (scope : Scope) (docs : List (Doc ℕ)) (input : Stored) (are : AreRead
     common = record {
       carried = common_carried;
       closed = common_within scope docs rule placed is choice input;
-      over = record { bases = bases_common; lists = none_named; operands = each_more UnitAsksNone (OperandsStand (tells_common r)) (common_units r.move) (asks_operands (tells_common r)) common_asks;
-          room = common_room };
+      over = record {
+        bases = bases_common;
+        lists = none_named;
+        operands = each_more UnitAsksNone (OperandsStand (tells_common r)) (common_units r.move) (asks_operands (tells_common r)) common_asks;
+        room = common_room;
+      };
     };
   }
 
@@ -259,7 +263,7 @@ module _ (scope : Scope) (docs : List (Doc ℕ)) (input : Stored) (are : AreRead
       let old = back_old scope docs rule placed is choice input in
       let says = common_back r can_write g ok common made.common made.common_fits in
       let file_says = λ (file : ℕ) (there : In file r.files) (changed : changes r.move r.units file ≡ true). file_back r can_write g ok (output file) common made.common_fits says file there changed
-          (made.file file there changed) (made.file_fits file there changed) in
+      (made.file file there changed) (made.file_fits file there changed) in
       record {
         place = g;
         placing = ok;

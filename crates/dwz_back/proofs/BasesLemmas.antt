@@ -49,5 +49,5 @@ module _ (r : Run) (file : ℕ) (old : AreOld r.units) where
   out_bases parts =
       each_append (BasesStand f) (partial_units m (Local file) 0 m.parts) (kept_units m r.units file 0 r.units)
       (each_of (BasesStand f) (partial_units m (Local file) 0 m.parts)
-          (λ v there. (let o = parts_from m (Local file) 0 m.parts v there in subst (BasesStand f) o.is (parts o.number o.part o.nth o.home_is))))
+      (λ v there. (let o = parts_from m (Local file) 0 m.parts v there in subst (BasesStand f) o.is (parts o.number o.part o.nth o.home_is))))
       (each_of (BasesStand f) (kept_units m r.units file 0 r.units) (λ v there. (let o = kept_from m r.units file 0 r.units v there in subst (BasesStand f) o.is (kept_bases o.number o.unit o.nth))))

@@ -42,7 +42,7 @@ module _ (units : List (FileUnit Spot)) (m : Move) (old : AreOld units) (i : ℕ
       let stays = (kept_is m.gone units i o.names (OfTop t)).1 (o.has, mv) in
       subst (λ (w : Entries Spot). In (seen_map f e) (seen w)) (sym (kept_compile m units i u kind change))
       (tree_seen f (kept_row m.gone units i) (imports i 0 m.parts) o.names t stays (seen_map f e)
-          (subst (λ (w : List (Seen Spot)). In (seen_map f e) w) (sym (seen_top_map f t)) (in_map (seen_map f) e (raw_top t) h)))
+      (subst (λ (w : List (Seen Spot)). In (seen_map f e) w) (sym (seen_top_map f t)) (in_map (seen_map f) e (raw_top t) h)))
 
   pub mapped_kept : (d : Seen Spot) → In d (seen u.unit.below) → kept.below ≡ entries_map f u.unit.below → In (seen_map f d) (seen kept.below)
   mapped_kept d h below =

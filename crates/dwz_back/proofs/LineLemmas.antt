@@ -235,7 +235,7 @@ module _ (from : Sources → Type 0) (scope : InWhich) (units : List (FileUnit S
     files_below P tops others = new_attrs P m n (held.kinds n part nth)
         (λ names t has d x a a_in. tops t (((part_row_is n part).tops_are names t).0 (subst (Has names (OfTop t)) (row_found rule units files n part nth) has)).0 d x a a_in)
         (λ names d has a a_in. others (attr_map (image_in m) a) (space_name ((part_row_is n part).spaces_are names d (subst (Has names (OfSpace d)) (row_found rule units files n part nth) has)) a
-            a_in))
+        a_in))
       where
         space_name : {names : List (List ℕ)} {d : Node Spot} → SpaceOf n part.tops names d → (a : Attr Spot) → In a d.attrs → names_file a.name ≡ false
         space_name o a a_in = elim (subst (λ (w : Node Spot). In a w.attrs) o.is a_in) [ inl e ↦ ap (λ (b : Attr Spot). names_file b.name) (sym e) | inr x ↦ absurd x ]
@@ -258,7 +258,7 @@ module _ (from : Sources → Type 0) (scope : InWhich) (units : List (FileUnit S
           let u = unit_of units p.top b.there in
           let line = table_in p in
           let known : (bases_in u.unit.unit).line ≡ Some line.0 = ap (λ (w : Bases). w.line)
-              (sym (bases_found units 0 p.top.unit p.top.unit u.unit u.nth (omega arith)) ∙ part_origin scope units rule is choice files n part nth p.top p.there) ∙ line.1 in
+          (sym (bases_found units 0 p.top.unit p.top.unit u.unit u.nth (omega arith)) ∙ part_origin scope units rule is choice files n part nth p.top p.there) ∙ line.1 in
           let g = gives (first_named 0x10 u.unit.unit.root.attrs) line.0 known in
           let first = first_is scope units rule is choice files n part nth p.top p.there in
           let root = root_found units 0 p.top.unit p.top.unit u.unit u.nth (omega arith) in
@@ -288,7 +288,7 @@ module _ (from : Sources → Type 0) (scope : InWhich) (units : List (FileUnit S
           ap (λ (attrs : List (Attr Spot)). offset_in (first_named 0x10 attrs)) (lines_are true e ∙ ap (λ (l : Attr Spot). l ∷ []) (line_is h)) ∙ sym h.known
       own_line false e t there d x a a_in numbers =
           ap (λ (attrs : List (Attr Spot)). offset_in (first_named 0x10 attrs)) (lines_are false e)
-              ∙ sym (none_table from origin a (attr_carried t there d x a a_in) numbers (no_path e t there d x a a_in))
+          ∙ sym (none_table from origin a (attr_carried t there d x a a_in) numbers (no_path e t there d x a a_in))
 
       abbrev FileGood : Attr Spot → Type 0
       FileGood a = FileStands NewUnit (bases_in (partial_unit m n)).line origin.line a
@@ -320,7 +320,7 @@ module _ (from : Sources → Type 0) (scope : InWhich) (units : List (FileUnit S
       unfolding first_named
       common_line true e t there d x a a_in numbers =
           let line : (bases_in (partial_unit m n)).line ≡ Some 0 = ap (λ (attrs : List (Attr Spot)). offset_in (first_named 0x10 attrs)) (lines_are true e ∙ ap (λ (l : Attr Spot). l ∷ []) zero_line)
-              in
+          in
           line_for (bases_in (partial_unit m n)).line a.value.plain (λ path. line) (λ none.
           (let table = table_in (path_in e) in
           absurd (let z : Some table.0 ≡ None = sym table.1 ∙ none_table from origin a (attr_carried t there d x a a_in) numbers none in cc)))

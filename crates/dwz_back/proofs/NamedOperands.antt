@@ -91,25 +91,25 @@ module _ (input : ℕ → List ℕ) (raw : ℕ → List RawUnit) where
         | inl a ↦
             let file = block_file own (named unit top doc.units) u a in
             let own_units : units_at u.file block ≡ named unit top doc.units =
-                subst (λ (file : ℕ). units_at file block ≡ named unit top doc.units) (sym file) (at_own own (named unit top doc.units)) in
+            subst (λ (file : ℕ). units_at file block ≡ named unit top doc.units) (sym file) (at_own own (named unit top doc.units)) in
             let names : (n : ℕ) → t.name n ≡ f n = λ n. told.name n ∙ ap
-                (λ (b : Bool). elim b as (λ _. Spot) [ true ↦ f n | false ↦ name_from (suc own) (unit + length doc.units) (top + tops_among doc.units) docs (at_file u.file n) ])
-                (eq-eqb own u.file (sym file)) in
+            (λ (b : Bool). elim b as (λ _. Spot) [ true ↦ f n | false ↦ name_from (suc own) (unit + length doc.units) (top + tops_among doc.units) docs (at_file u.file n) ])
+            (eq-eqb own u.file (sym file)) in
             let is_told : IsTold (sources_of (input own)) (raw own) f t = record {
               lists = told.lists ∙ ap (λ (x : ℕ). (sources_of (input x)).lists) file;
               named = told.named ∙ ap (λ (x : ℕ). lists_in (sources_of (input x)) (raw x)) file;
               name = names;
             } in
             named_read (sources_of (input own)) (raw own) doc.units f t is_told
-                (λ k is. whole k (in_left k (all_entry_keys (units_at u.file block)) (all_entry_keys (units_at u.file rest))
-                (subst (λ (w : List (DwUnit Spot)). In k (all_entry_keys w)) (sym own_units) is)))
+            (λ k is. whole k (in_left k (all_entry_keys (units_at u.file block)) (all_entry_keys (units_at u.file rest))
+            (subst (λ (w : List (DwUnit Spot)). In k (all_entry_keys w)) (sym own_units) is)))
             doc.units (read own doc (inl (refl, refl))) own u a
         | inr b ↦
             let later = later_file (suc own) (unit + length doc.units) (top + tops_among doc.units) docs u b in
             let names : (n : ℕ) → t.name n ≡ name_from (suc own) (unit + length doc.units) (top + tops_among doc.units) docs (at_file u.file n) = λ n.
             told.name n ∙ ap (λ (b : Bool). elim b as (λ _. Spot) [ true ↦ f n | false ↦ name_from (suc own) (unit + length doc.units) (top + tops_among doc.units) docs (at_file u.file n) ])
-                (ne_eqb own u.file (λ e. omega (arith, e, later))) in
+            (ne_eqb own u.file (λ e. omega (arith, e, later))) in
             files_read (suc own) (unit + length doc.units) (top + tops_among doc.units) docs (λ file d nth. read file d (inr nth)) u b t
-                (record { lists = told.lists; named = told.named; name = names })
+            (record { lists = told.lists; named = told.named; name = names })
             (λ k is. whole k (in_right k (all_entry_keys (units_at u.file block)) (all_entry_keys (units_at u.file rest)) is))
       ]

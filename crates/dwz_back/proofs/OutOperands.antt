@@ -134,8 +134,8 @@ module _ (scope : Scope) (units : List (FileUnit Spot)) (rule : Rule) (is : IsAl
       kept_operands = (
         attrs_mapped (AttrOperands t own) f u.unit.root.attrs (λ a a_in. attr_there u.unit.root (inl refl) a a_in (each_in (AttrOperands before (own_of u.unit)) a u.unit.root.attrs read.0 a_in)),
         kept_attrs (AttrOperands t own) units m i u nth
-        (λ d there a a_in. attr_there d (inr there) a a_in (each_in (AttrOperands before (own_of u.unit)) a d.attrs (attrs_in (AttrOperands before (own_of u.unit)) u.unit.below read.1 d there) a_in))
-        (λ n. subst (λ (c : Class). OperandsStandAs c t own (import_attr n)) (sym import_class) tt),
+            (λ d there a a_in. attr_there d (inr there) a a_in (each_in (AttrOperands before (own_of u.unit)) a d.attrs (attrs_in (AttrOperands before (own_of u.unit)) u.unit.below read.1 d there) a_in))
+            (λ n. subst (λ (c : Class). OperandsStandAs c t own (import_attr n)) (sym import_class) tt),
       )
 
     -- the operands of a file name its entries
@@ -148,4 +148,4 @@ module _ (scope : Scope) (units : List (FileUnit Spot)) (rule : Rule) (is : IsAl
         let each = each_split (λ v. CarriedUnit from (origin_in m units v.at) v) new olds carried in
         each_append (OperandsStand t) new olds (each_more UnitAsksNone (OperandsStand t) new (asks_operands t) (home_asks scope units rule is choice files held (Local file) from each.0))
         (each_of (OperandsStand t) olds (λ v there. (let o = kept_from m units file 0 units v there in subst (OperandsStand t) o.is
-            (kept_operands o.number o.unit o.nth (read o.number o.unit o.nth o.file_is)))))
+        (kept_operands o.number o.unit o.nth (read o.number o.unit o.nth o.file_is)))))

@@ -140,7 +140,7 @@ module _ (n : Numbering Spot) (g : Spot → Place) (common : Option (Common Plac
       let whole' : IsPartial v.kind → ⊥ = λ partial. whole (subst (λ (x : DwUnit Spot). IsPartial x.kind) e partial) in
       subst (λ (p : ℕ). In p (place_if_whole u.kind u.at ++ unit_places raw)) (sym place ∙ ap (λ (x : DwUnit Spot). n.place x.at) e)
       (in_left u.at (place_if_whole u.kind u.at) (unit_places raw) (kind_whole (scope_of (record { sources = sources; all = all; place = at_file number; common = common }) u) u.kind v.kind h.0.kind
-          whole' u.at))
+      whole' u.at))
   places_back all sources (u ∷ raw) (v ∷ units) h own w (inr r) whole =
       in_right (n.place w.at) (place_if_whole u.kind u.at) (unit_places raw) (places_back all sources raw units h.1 (λ x x_in. own x (inr x_in)) w r whole)
   places_back all sources _ _ h own w there whole = absurd h

@@ -125,8 +125,13 @@ module _ (t : Tells ℕ) (w : Own ℕ) (s : Scope ℕ) (knows : Knows t w s) whe
     index_read e is =
         let l : NamedList = record { unit = s.unit; from = is.base + is.offset; slot = _; list = is.list.list } in
         let named : NamesList s r l = subst (λ (c : Class). NamesAs c s r l) (sym e)
-        (record { base = is.base; is_base = is.is_base; offset = is.offset; slot = is.slot;
-            named = record { unit = refl; from = refl; slot_is = refl; within = is.list.within; stands = is.list.stands } }) in
+        (record {
+          base = is.base;
+          is_base = is.is_base;
+          offset = is.offset;
+          slot = is.slot;
+          named = record { unit = refl; from = refl; slot_is = refl; within = is.list.within; stands = is.list.stands };
+        }) in
         list_says r b means l refl named (into l named) is.list.value (named_in (is.base + is.offset) b.value is.list)
 
     attr_read : AttrOperands t w b
@@ -201,4 +206,4 @@ OperandsRead sources raw units = Each (OperandsStand (reading sources.lists (lis
 pub file_read : (sources : Sources) (raw : List RawUnit) (units : List (DwUnit ℕ)) → MeanUnits (own sources (all_places raw)) raw units → OperandsRead sources raw units
 file_read sources raw units h =
     units_read sources (all_places raw) (lists_in sources raw) (all_entry_keys units) (all_of sources (all_places raw) raw units h) raw units
-        (λ l x. (units_name (own sources (all_places raw)) raw l).1 x) h
+    (λ l x. (units_name (own sources (all_places raw)) raw l).1 x) h

@@ -336,7 +336,7 @@ module _ (abbrevs info : List ℕ) (mode : Mode) (raw : List RawUnit) (sources :
         let m = means_in sources (all_places raw) raw units means o.unit o.there in
         let s = scope_of (own sources (all_places raw)) m.unit in
         known_stands m.unit m.there p (attrs_known s (refl, refl) (without_siblings m.unit.root.attrs) o.unit.root.attrs m.means.root.attrs a (subst (λ (w : Seen ℕ). In a w.attrs) (sym o.is) attr) p
-            ref))
+        ref))
     | inr y ↦
         (let o = seen_from units e y in
         let m = means_in sources (all_places raw) raw units means o.unit o.there in
@@ -357,7 +357,7 @@ units_main from units are = λ u there signature main e.
 pub read_from : (l : Limits) (input : List ℕ) (raw : List RawUnit) (doc : Doc ℕ) → Reads l input raw doc → AreBytes (debug_info input) → WasReadFrom (sources_of input) doc.units
 read_from l input raw doc reads are =
     let carried = units_carried (debug_abbrev input) (given l.entries) refl (OfFile (sources_of input)) (own (sources_of input) (all_places raw)) refl raw doc.units 0 0 (debug_info input)
-        reads.spelled reads.means are (units_built (sources_of input) (all_places raw) raw doc.units reads.means) in
+    reads.spelled reads.means are (units_built (sources_of input) (all_places raw) raw doc.units reads.means) in
     record {
       placed = read_placed (debug_abbrev input) (debug_info input) (given l.entries) raw (sources_of input) doc.units reads.spelled reads.means refl
           (units_main (OfFile (sources_of input)) doc.units carried);

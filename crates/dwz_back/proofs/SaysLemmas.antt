@@ -156,15 +156,17 @@ module _ (r : Run) (can : CanWrite r) (g : Spot → Place) (ok : IsPlacing r g) 
   unfolding common_fitted
   common_good small few =
       let c = can.common in
-      units_good (common_forms r) spots_same OfAny (tells_common r) (common_units r.move) common_all (subst NoneTwice (common_names r) (file_once (files_out r) (run_once r can.apart) (common_out r) (common_there r))) c.carried c.closed (λ k is. absurd is)
-      (small, record {
-        strs = refl;
-        texts = units_texts [] (common_units r.move);
-        line = refl;
-        few = few;
-        are_texts = paths_texts (common_units r.move) (paths_carried OfAny (common_forms r).origin (common_units r.move) c.carried);
-        paths = units_paths [] (common_units r.move);
-      }) c.over.bases c.over.operands
+      units_good (common_forms r) spots_same OfAny (tells_common r) (common_units r.move) common_all (subst NoneTwice (common_names r) (file_once (files_out r) (run_once r can.apart) (common_out r) (common_there r))) c.carried c.closed (λ k is. absurd is) (
+        small,
+        record {
+          strs = refl;
+          texts = units_texts [] (common_units r.move);
+          line = refl;
+          few = few;
+          are_texts = paths_texts (common_units r.move) (paths_carried OfAny (common_forms r).origin (common_units r.move) c.carried);
+          paths = units_paths [] (common_units r.move);
+        },
+      ) c.over.bases c.over.operands
 
   common_room : Each (UnitHasRoom n) (common_fitted r)
   unfolding common_fitted

@@ -148,8 +148,14 @@ AloneBackLaw =
 
 -- the run of files that say these documents, with the bytes of each
 abbrev pub run_of : Rule → List (Doc ℕ) → Stored → Run
-run_of rule docs input = record { move = plan rule (units_of docs) (file_numbers 0 docs); units = units_of docs;
-    files = file_numbers 0 docs; input = input; name = name_in docs; common = length docs }
+run_of rule docs input = record {
+  move = plan rule (units_of docs) (file_numbers 0 docs);
+  units = units_of docs;
+  files = file_numbers 0 docs;
+  input = input;
+  name = name_in docs;
+  common = length docs;
+}
 
 abbrev pub back_units : Run → (Spot → Place) → Bool → ℕ → Doc ℕ → List (DwUnit Place)
 back_units r g true file doc = placed_units (places r) g (fitted r file)

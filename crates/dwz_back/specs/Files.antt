@@ -67,12 +67,24 @@ origin_in m units _ = no_bases
 -- ---- the units with the forms of their values
 
 abbrev pub common_forms : Run → Forms Spot
-common_forms r = record { same = same_spot; is_common = true; texts = texts r; paths = paths r; offsets = [];
-    origin = origin_in r.move r.units }
+common_forms r = record {
+  same = same_spot;
+  is_common = true;
+  texts = texts r;
+  paths = paths r;
+  offsets = [];
+  origin = origin_in r.move r.units;
+}
 
 abbrev pub file_forms : Run → ℕ → Forms Spot
-file_forms r file = record { same = same_spot; is_common = false; texts = texts r; paths = paths r; offsets = (sources r file).offsets;
-    origin = origin_in r.move r.units }
+file_forms r file = record {
+  same = same_spot;
+  is_common = false;
+  texts = texts r;
+  paths = paths r;
+  offsets = (sources r file).offsets;
+  origin = origin_in r.move r.units;
+}
 
 -- the units of the common file, and those of a file, with the forms of their values
 unfoldable pub common_fitted : Run → List (DwUnit Spot)

@@ -4,7 +4,7 @@ use Rattle.dwz_meanings.specs.Documents.{Doc}
 use Rattle.dwz_output.specs.Out.{FitsSections, has_changes, sections_of as out_sections}
 use Rattle.dwz_output.specs.Placing.{UnitSections}
 use Rattle.dwz_output.specs.Writing.{joined}
-use Rattle.dwz_plan.specs.Planned.{Planned}
+use Rattle.dwz_plain.specs.Planned.{Planned}
 use Rattle.dwz_tops.specs.Plain.{are_plain_units}
 use Rattle.dwz_unit.specs.Rows.{Source, units_of}
 use Rattle.dwz_writer.specs.Written.{Written, sections_of}

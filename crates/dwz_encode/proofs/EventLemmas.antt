@@ -17,7 +17,7 @@ use Rattle.dwz_output.specs.Plan.{PartialUnit, chain, image, import_attr, import
 use Rattle.dwz_output.specs.Spots.{PartialRoot, Spot, Top, same_spot, tops_of}
 use Rattle.dwz_output.specs.Writing.{Numbering, any}
 use Rattle.dwz_output.proofs.Members.{each_append, in_cases, in_filter_from}
-use Rattle.dwz_plan.specs.Shows.{import_row, shown_part}
+use Rattle.dwz_plain.specs.Shows.{import_row, shown_part}
 use Rattle.dwz_tops.specs.Laws.{MeanPlain}
 use Rattle.dwz_tops.specs.Plain.{are_plain, are_plain_units, is_plain_attr, is_plain_entry, is_plain_unit}
 use Rattle.dwz_tops.specs.Tops.{RawTop, language_of, tops_below, tops_from, tops_in}

@@ -11,15 +11,15 @@ use Rattle.dwz_model.specs.declared.tops.TopRow.{TopRow}
 use Rattle.dwz_output.specs.Out.{alike_in, one_file}
 use Rattle.dwz_output.specs.Plan.{Common, Home, Local, PartialUnit, imports as unit_imports, kept as unit_kept, partials as unit_partials}
 use Rattle.dwz_output.specs.Spots.{FileUnit, Spot, Top, tops_of}
-use Rattle.dwz_plan.specs.declared.plan.Partial.{Partial}
-use Rattle.dwz_plan.specs.declared.plan.Scope.TheVariants.{Each}
-use Rattle.dwz_plan.specs.Planned.{Planned, imports, imports_from, kept, partial_with, partials, partials_at, plan_of, representatives, staying, units_of}
-use Rattle.dwz_plan.specs.Rows.{Given, Row, given, rows_from}
-use Rattle.dwz_plan.specs.Shows.{IsLeast as Decides, ShowsRows, ShowsTops, import_row, shown_part}
-use Rattle.dwz_plan.proofs.BridgeLemmas.{imports_is, kept_is, partials_is}
-use Rattle.dwz_plan.proofs.ListFacts.{all_from_in, in_filter_from, in_map_from, in_cases}
-use Rattle.dwz_plan.proofs.LedLemmas.{counted_below, rows_counted}
-use Rattle.dwz_plan.proofs.RowLemmas.{length-rows_from}
+use Rattle.dwz_plain.specs.declared.plan.Partial.{Partial}
+use Rattle.dwz_plain.specs.declared.plan.Scope.TheVariants.{Each}
+use Rattle.dwz_plain.specs.Planned.{Planned, imports, imports_from, kept, partial_with, partials, partials_at, plan_of, representatives, staying, units_of}
+use Rattle.dwz_plain.specs.Rows.{Given, Row, given, rows_from}
+use Rattle.dwz_plain.specs.Shows.{IsLeast as Decides, ShowsRows, ShowsTops, import_row, shown_part}
+use Rattle.dwz_plain.proofs.BridgeLemmas.{imports_is, kept_is, partials_is}
+use Rattle.dwz_plain.proofs.ListFacts.{all_from_in, in_filter_from, in_map_from, in_cases}
+use Rattle.dwz_plain.proofs.LedLemmas.{counted_below, rows_counted}
+use Rattle.dwz_plain.proofs.RowLemmas.{length-rows_from}
 use Rattle.std.proofs.lemmas.List.FromFn.{get_or-map-range_with_len, length-map-range_with_len}
 use Rattle.dwz_tops.specs.Laws.{MeanPlain}
 use Rattle.dwz_tops.specs.Tops.{IsLeast, ShowEach, row_of, shown_tops, tops_from}

@@ -8,8 +8,8 @@ use Rattle.dwz_model.specs.declared.fault.ReadErr.TheVariants.{NoMemory as NoMem
 use Rattle.dwz_output.specs.Out.{FitsSections, IsTooLargeSection}
 use Rattle.dwz_output.specs.Placing.{UnitSections}
 use Rattle.dwz_output.specs.Writing.{add_table, joined, or_zero, table_in, with_table}
-use Rattle.dwz_plan.specs.declared.plan.Partial.{Partial}
-use Rattle.dwz_plan.specs.Planned.{Planned}
+use Rattle.dwz_plain.specs.declared.plan.Partial.{Partial}
+use Rattle.dwz_plain.specs.Planned.{Planned}
 use Rattle.dwz_tops.specs.Tops.{RawTop}
 use Rattle.dwz_writer.specs.declared.sort.UnitSort.{UnitSort}
 use Rattle.dwz_writer.specs.declared.sort.UnitSort.TheVariants.{Compile, Partial as PartialSort}

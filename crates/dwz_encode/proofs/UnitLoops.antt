@@ -3,8 +3,8 @@ use Rattle.std.proofs.Common.{◌≡◌, ℕ, suc, ◌+◌, ◌<◌, ◌≤◌, 
 use Rattle.std.specs.Prelude.{slice_index_or}
 use Rattle.std.proofs.lemmas.List.{drop_all}
 use Rattle.dwz_docs.specs.Units.{RawUnit}
-use Rattle.dwz_plan.specs.declared.plan.Partial.{Partial}
-use Rattle.dwz_plan.specs.Planned.{Planned}
+use Rattle.dwz_plain.specs.declared.plan.Partial.{Partial}
+use Rattle.dwz_plain.specs.Planned.{Planned}
 use Rattle.dwz_tops.specs.Tops.{RawTop, tops_from}
 use Rattle.dwz_tops.proofs.RowLemmas.{drop_here, there}
 use Rattle.dwz_writer.specs.declared.sort.UnitSort.TheVariants.{Compile, Partial as PartialSort}

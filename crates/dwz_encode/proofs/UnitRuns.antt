@@ -2,7 +2,7 @@
 use Rattle.std.proofs.Common.{◌≡◌, ℕ, Bool, true, false, List, [], ◌∷◌, ◌++◌, map, Some, if◌then◌else◌, slice_get, slice_index, refl, sym, ap, ◌∙◌}
 use Rattle.dwz_docs.specs.Entries.{RawEntry}
 use Rattle.dwz_docs.specs.Units.{RawUnit}
-use Rattle.dwz_plan.specs.declared.plan.Partial.{Partial}
+use Rattle.dwz_plain.specs.declared.plan.Partial.{Partial}
 use Rattle.dwz_tops.specs.Tops.{RawTop}
 use Rattle.dwz_tops.proofs.RootLemmas.{root_there}
 use Rattle.dwz_unit.specs.declared.rows.RawUnit.{RawUnit as UnitOfCode}

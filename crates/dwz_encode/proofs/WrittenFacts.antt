@@ -32,9 +32,9 @@ use Rattle.dwz_output.proofs.ReadFixed.{ReferIn, outs_refer, units_fixed, units_
 use Rattle.dwz_output.proofs.ReadPlaces.{read_placed}
 use Rattle.dwz_output.proofs.SameLemmas.{spots_same}
 use Rattle.dwz_output.proofs.WriteLengths.{FixedUnit}
-use Rattle.dwz_plan.specs.declared.plan.Partial.{Partial}
-use Rattle.dwz_plan.specs.Planned.{Planned}
-use Rattle.dwz_plan.specs.Shows.{shown_part}
+use Rattle.dwz_plain.specs.declared.plan.Partial.{Partial}
+use Rattle.dwz_plain.specs.Planned.{Planned}
+use Rattle.dwz_plain.specs.Shows.{shown_part}
 use Rattle.dwz_tops.specs.Laws.{MeanPlain}
 use Rattle.dwz_tops.specs.Plain.{are_plain_units}
 use Rattle.dwz_tops.specs.Tops.{RawTop, tops_from}

@@ -7,8 +7,8 @@ use Rattle.dwz_meanings.specs.Meanings.{bytes_of, number_of}
 use Rattle.dwz_docs.specs.Trees.{End, Entry, Forest}
 use Rattle.dwz_docs.specs.Units.{RawUnit}
 use Rattle.dwz_docs.specs.Values.{Bytes, Number, Raw}
-use Rattle.dwz_plan.specs.declared.plan.Partial.{Partial}
-use Rattle.dwz_plan.specs.Planned.{Planned}
+use Rattle.dwz_plain.specs.declared.plan.Partial.{Partial}
+use Rattle.dwz_plain.specs.Planned.{Planned}
 use Rattle.dwz_tops.specs.Tops.{RawTop, tops_from}
 use Rattle.dwz_writer.specs.declared.sort.UnitSort.{UnitSort}
 use Rattle.dwz_writer.specs.declared.sort.UnitSort.TheVariants.{Compile, Partial as PartialSort}

@@ -9,9 +9,9 @@ use Rattle.dwz_model.specs.declared.fault.ReadErr.{ReadErr}
 use Rattle.dwz_model.specs.declared.fault.ReadErr.TheVariants.{NoMemory as NoMemoryToRead, Refused}
 use Rattle.dwz_output.specs.Out.{FitsSections}
 use Rattle.dwz_output.specs.Placing.{UnitSections}
-use Rattle.dwz_plan.specs.declared.plan.Scope.TheVariants.{Each}
-use Rattle.dwz_plan.specs.Planned.{Planned, plan_of}
-use Rattle.dwz_plan.specs.Rows.{given}
+use Rattle.dwz_plain.specs.declared.plan.Scope.TheVariants.{Each}
+use Rattle.dwz_plain.specs.Planned.{Planned, plan_of}
+use Rattle.dwz_plain.specs.Rows.{given}
 use Rattle.dwz_tops.specs.Laws.{MeanPlain}
 use Rattle.dwz_tops.specs.Tops.{IsLeast, shown_tops, tops_from}
 use Rattle.dwz_unit.specs.Rows.{EntryRow}

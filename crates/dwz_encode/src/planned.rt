@@ -6,7 +6,7 @@ ghost use Rattle.dwz_unit.specs.Rows.{units_of};
 ghost use Rattle.dwz_encode.specs.Steps.{IsPlanFor};
 
 use dwz_model::NoMemory;
-use dwz_plan::{Plan, Scope};
+use dwz_plain::{Plan, Scope};
 use dwz_tops::{least_of, tops_of};
 use dwz_unit::Units;
 use std::alloc::Global;

@@ -14,7 +14,7 @@ use crate::pen::Pen;
 use crate::plain::Plain;
 use crate::planned::planned;
 use crate::units::{put_kept, put_partials};
-use dwz_plan::Plan;
+use dwz_plain::Plan;
 use dwz_unit::Units;
 use dwz_writer::Writer;
 use std::alloc::Global;

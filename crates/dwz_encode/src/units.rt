@@ -14,7 +14,7 @@ use crate::error::EncodeErr;
 use crate::pen::Pen;
 use crate::plain::Plain;
 use dwz_model::NoMemory;
-use dwz_plan::{Partial, Plan};
+use dwz_plain::{Partial, Plan};
 use dwz_writer::UnitSort;
 use std::alloc::Global;
 

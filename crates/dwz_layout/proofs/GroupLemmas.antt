@@ -11,10 +11,10 @@ use Rattle.dwz_alike.specs.Spots.{same_numbers}
 use Rattle.dwz_moving.specs.Plan.{distinct}
 use Rattle.dwz_groups.specs.Groups.{grouped, values_at}
 use Rattle.dwz_groups.specs.declared.groups.Pair.{Pair}
-use Rattle.dwz_partition.specs.Steps.{lists_of, number_of, numbered, pair, users_at}
-use Rattle.dwz_partition.proofs.DistinctLemmas.{distinct_apart, in_distinct, number_is}
-use Rattle.dwz_partition.proofs.ListFacts.{filter_in, map_in, map_map}
-use Rattle.dwz_partition.proofs.ListingLemmas.{Numbers, has_list, numbers-all, numbers-low, numbers-more, numbers-none, put}
+use Rattle.dwz_plan.specs.Steps.{lists_of, number_of, numbered, pair, users_at}
+use Rattle.dwz_plan.proofs.DistinctLemmas.{distinct_apart, in_distinct, number_is}
+use Rattle.dwz_plan.proofs.ListFacts.{filter_in, map_in, map_map}
+use Rattle.dwz_plan.proofs.ListingLemmas.{Numbers, has_list, numbers-all, numbers-low, numbers-more, numbers-none, put}
 use Rattle.dwz_layout.specs.declared.partial.TopSpaces.{TopSpaces}
 use Rattle.dwz_layout.specs.Chains.{chains_by, firsts_by, names_at, no_spaces}
 use Rattle.dwz_layout.specs.Grouping.{IsNumbered, one_list, one_lists}

@@ -5,7 +5,7 @@ use Rattle.dwz_docs.specs.Trees.{End}
 use Rattle.dwz_alike.specs.Spots.{FileUnit, Row, SpaceName, Spot}
 use Rattle.dwz_moving.specs.Moves.{Move, image_in}
 use Rattle.dwz_moving.specs.Plan.{PartialUnit, import_of, part_row, imports, kept_row, pinned_first, row_staying}
-use Rattle.dwz_partition.specs.Shows.{import_row}
+use Rattle.dwz_plan.specs.Shows.{import_row}
 use Rattle.dwz_same.specs.Units.{changes, kept_below, kept_unit, partial_root, partial_unit, tree}
 use Rattle.std.proofs.lemmas.List.{append-nil}
 use Rattle.dwz_layout.specs.Chains.{NamesPartial, ShowsSpaced, partial_lines}

@@ -5,7 +5,7 @@ use Rattle.std.proofs.lemmas.List.{append-nil}
 use Rattle.dwz_meanings.specs.Documents.{entries_map, node_map}
 use Rattle.dwz_docs.specs.Lists.{In}
 use Rattle.dwz_seen.proofs.Members.{in_filter_from, in_map}
-use Rattle.dwz_partition.proofs.ListFacts.{map_in, map_map}
+use Rattle.dwz_plan.proofs.ListFacts.{map_in, map_map}
 use Rattle.dwz_alike.specs.Spots.{ASpace, ATop, Nothing, Row, SpaceName, Spot, Top}
 use Rattle.dwz_moving.specs.Plan.{PartialUnit, beside, chain_down, chains, in_root, leading, part_row, same_names, space_entry, top_row}
 use Rattle.dwz_layout.specs.Chains.{ShowsSpaced, chain_lines, chains_by, chains_lines, firsts_by, path_lines, tops_lines}

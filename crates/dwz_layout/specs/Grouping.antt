@@ -1,7 +1,7 @@
 -- Used in proofs alone: tops under the numbers of their name lists, which are numbered as they come.
 use Rattle.std.specs.Prelude.{◌≡◌, ℕ, ◌<◌, All, List, [], ◌∷◌, length, map}
 use Rattle.dwz_groups.specs.declared.groups.Pair.{Pair}
-use Rattle.dwz_partition.specs.Steps.{lists_of, numbered}
+use Rattle.dwz_plan.specs.Steps.{lists_of, numbered}
 use Rattle.dwz_layout.specs.declared.partial.TopSpaces.{TopSpaces}
 
 abbrev pub one_list : TopSpaces → List ℕ

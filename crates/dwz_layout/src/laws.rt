@@ -5,7 +5,7 @@ ghost use Rattle.dwz_docs.specs.Trees.{End};
 ghost use Rattle.dwz_meanings.specs.Documents.{Compile, DwUnit, Entries};
 ghost use Rattle.dwz_moving.specs.Moves.{Move, image_in};
 ghost use Rattle.dwz_moving.specs.Plan.{PartialUnit, imports, part_row, pinned_first, row_staying};
-ghost use Rattle.dwz_partition.specs.Shows.{import_row};
+ghost use Rattle.dwz_plan.specs.Shows.{import_row};
 ghost use Rattle.dwz_same.specs.Units.{changes, kept_unit, partial_unit, tree};
 ghost use Rattle.dwz_layout.specs.Chains.{NamesPartial, ShowsSpaced, partial_lines};
 ghost use Rattle.dwz_layout.specs.Lines.{line, lines, row_lines, steps_of, unit_lines, unit_steps};

@@ -11,10 +11,10 @@ use Rattle.dwz_alike.proofs.TopNumbers.{Numbered, tops_numbers}
 use Rattle.dwz_label.specs.Nodes.{AreLeast}
 use Rattle.dwz_label.proofs.LeastAlike.{alike_joined}
 use Rattle.dwz_moving.proofs.HomeLemmas.{file_of_top}
-use Rattle.dwz_partition.specs.declared.plan.Scope.TheVariants.{Each, Together as AllTogether}
-use Rattle.dwz_partition.specs.Rows.{Row, rows_from}
-use Rattle.dwz_partition.specs.Shows.{IsLeast, ShowsRows, ShowsTops}
-use Rattle.dwz_partition.proofs.BridgeLemmas.{file_is}
+use Rattle.dwz_plan.specs.declared.plan.Scope.TheVariants.{Each, Together as AllTogether}
+use Rattle.dwz_plan.specs.Rows.{Row, rows_from}
+use Rattle.dwz_plan.specs.Shows.{IsLeast, ShowsRows, ShowsTops}
+use Rattle.dwz_plan.proofs.BridgeLemmas.{file_is}
 
 abbrev flags_of : List TopRow → List Bool
 flags_of rows = map (λ (row : TopRow). row.movable) rows

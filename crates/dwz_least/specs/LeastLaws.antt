@@ -6,8 +6,8 @@ use Rattle.dwz_alike.specs.Spots.{FileUnit, Spot}
 use Rattle.dwz_groups.specs.declared.tops.Tops.{Tops}
 use Rattle.dwz_label.specs.Nodes.{AreLeast}
 use Rattle.dwz_label.specs.Shown.{AreShown}
-use Rattle.dwz_partition.specs.declared.plan.Scope.TheVariants.{Each, Together as AllTogether}
-use Rattle.dwz_partition.specs.Shows.{IsLeast, ShowsTops}
+use Rattle.dwz_plan.specs.declared.plan.Scope.TheVariants.{Each, Together as AllTogether}
+use Rattle.dwz_plan.specs.Shows.{IsLeast, ShowsTops}
 
 -- of whichever units the lists show the tops, these are the least alike ones
 abbrev pub GivesLeast : List (List ℕ) → List Bool → List (List ℕ) → List ℕ → Type 0

@@ -71,12 +71,21 @@ row_spelled path none start = record {
 rows_spelled : (paths : List (List ℕ)) → AreTexts paths → (start : ℕ) → SpellsAll (SpellsValues formats) (map row_of paths) start (rows_bytes paths)
 unfolding rows_bytes
 rows_spelled [] are start = refl
-rows_spelled (path ∷ paths) are start = record { first_bytes = path ++ 0 ∷ 0 ∷ []; first = row_spelled path are.0 start; second_bytes = rows_bytes paths; second = rows_spelled paths are.1 _;
-    parts = refl }
+rows_spelled (path ∷ paths) are start = record {
+  first_bytes = path ++ 0 ∷ 0 ∷ [];
+  first = row_spelled path are.0 start;
+  second_bytes = rows_bytes paths;
+  second = rows_spelled paths are.1 _;
+  parts = refl;
+}
 
 format_spelled : (content form : ℕ) → content < 128 → form < 128 → (start : ℕ) → SpellsFormat (format_of content form) start (content ∷ form ∷ [])
-format_spelled content form c f start = record { x = content; y = form;
-    both = record { first_bytes = content ∷ []; first = one_byte content c; second_bytes = form ∷ []; second = one_byte form f; parts = refl }; made = refl }
+format_spelled content form c f start = record {
+  x = content;
+  y = form;
+  both = record { first_bytes = content ∷ []; first = one_byte content c; second_bytes = form ∷ []; second = one_byte form f; parts = refl };
+  made = refl;
+}
 
 one_format : (start : ℕ) → SpellsFormats (path_format ∷ []) start (1 ∷ 1 ∷ 8 ∷ [])
 one_format start = record {
@@ -100,13 +109,16 @@ two_formats start = record {
     first_bytes = 2 ∷ [];
     first = fixed_byte 2;
     second_bytes = 1 ∷ 8 ∷ 2 ∷ 0x0f ∷ [];
-    second = (refl, record {
-      first_bytes = 1 ∷ 8 ∷ [];
-      first = format_spelled 1 8 (omega arith) (omega arith) _;
-      second_bytes = 2 ∷ 0x0f ∷ [];
-      second = record { first_bytes = 2 ∷ 0x0f ∷ []; first = format_spelled 2 0x0f (omega arith) (omega arith) _; second_bytes = []; second = refl; parts = refl };
-      parts = refl;
-    });
+    second = (
+      refl,
+      record {
+        first_bytes = 1 ∷ 8 ∷ [];
+        first = format_spelled 1 8 (omega arith) (omega arith) _;
+        second_bytes = 2 ∷ 0x0f ∷ [];
+        second = record { first_bytes = 2 ∷ 0x0f ∷ []; first = format_spelled 2 0x0f (omega arith) (omega arith) _; second_bytes = []; second = refl; parts = refl };
+        parts = refl;
+      },
+    );
     parts = refl;
   };
   made = refl;
@@ -149,8 +161,13 @@ files_spelled paths are few start = record {
     second = record {
       x = length paths;
       y = map row_of paths;
-      both = record { first_bytes = uleb (length paths); first = uleb_spells (length paths) few; second_bytes = rows_bytes paths; second = (length-map paths row_of, rows_spelled paths are _);
-          parts = refl };
+      both = record {
+        first_bytes = uleb (length paths);
+        first = uleb_spells (length paths) few;
+        second_bytes = rows_bytes paths;
+        second = (length-map paths row_of, rows_spelled paths are _);
+        parts = refl;
+      };
       made = refl;
     };
     parts = refl;
@@ -259,7 +276,7 @@ module _ (paths : List (List ℕ)) (some : 0 < length paths) (are : AreTexts pat
   whole : of_header bytes ≡ bytes
   whole =
       ap (take (12 + header_length bytes)) (take_all (4 + line_length bytes) bytes (omega (arith, unit_is, bytes_len)))
-          ∙ take_all (12 + header_length bytes) bytes (omega (arith, header_is, bytes_len))
+      ∙ take_all (12 + header_length bytes) bytes (omega (arith, header_is, bytes_len))
 
   abbrev fronts : List ℕ
   fronts = 1 ∷ 1 ∷ 8 ∷ 1 ∷ 0 ∷ [] ++ (2 ∷ 1 ∷ 8 ∷ 2 ∷ 0x0f ∷ [] ++ (uleb (length rows) ++ rows_bytes rows))

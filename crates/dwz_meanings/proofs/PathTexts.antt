@@ -35,7 +35,7 @@ content_spelled (pair ∷ pairs) (raw ∷ raws) start bytes all h =
     let first : raw ≡ h.x = (let e = h.made in cc) in
     let rest : raws ≡ h.y = (let e = h.made in cc) in
     let later = content_spelled pairs raws (start + length h.both.first_bytes) h.both.second_bytes both.1
-        (subst (λ (w : List Raw). SpellsValues pairs w (start + length h.both.first_bytes) h.both.second_bytes) (sym rest) h.both.second) in
+    (subst (λ (w : List Raw). SpellsValues pairs w (start + length h.both.first_bytes) h.both.second_bytes) (sym rest) h.both.second) in
     by later both.0 (subst (λ (w : Raw). SpellsValue form_rows pair h.both.first_bytes w) (sym first) h.both.first) (eqb pair.name 1) refl
   where
     by : AllSpelled (with_content 1 pairs raws) → is_format pair ≡ true → SpellsValue form_rows pair h.both.first_bytes raw → (b : Bool) → eqb pair.name 1 ≡ b

@@ -91,9 +91,9 @@ module _ (k : Known) (here : Here) (r : Row) (pairs : List Pair) where
           reads = subst (λ (i : Input). Reads left.entry.entry.at (drop (j + 1) pairs) i (drop (j + 1) attrs)) same_place x.rest;
           count = left.count;
           all =
-          left.all
-          ∙ ap (λ (w : List RawAttr). done ++ out_attrs k r.file here next w) (drop_here attrs j a there)
-          ∙ sym (append_assoc done (out_attr k r.file here next a) rest);
+              left.all
+              ∙ ap (λ (w : List RawAttr). done ++ out_attrs k r.file here next w) (drop_here attrs j a there)
+              ∙ sym (append_assoc done (out_attr k r.file here next a) rest);
         }
 
   pub left_end : (j : ℕ) (at : Input) (next : Firsts) (done : List OutAttr) → LeftOf k here r pairs j at next done → length pairs ≤ j → attrs_of k here (Read r) ≡ done

@@ -152,14 +152,7 @@ impl Layout {
         let mut laid = Vec::new(alloc);
         let mut first = 0;
         for units in files {
-            laid.push(lay_file(
-                alloc,
-                &mut room,
-                known,
-                first,
-                units.as_slice(),
-                &mut spots,
-            )?)?;
+            laid.push(lay_file(alloc, &mut room, known, first, units.as_slice(), &mut spots)?)?;
             first = behind(first, units.len())?;
         }
         Ok(Layout { files: laid, spots })

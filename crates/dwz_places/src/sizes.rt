@@ -138,7 +138,11 @@ fn measure_value(
         Way::AsEntry => {
             let target = known.reference(file, next.reference);
             next.reference = more(next.reference, 1)?;
-            measured(room, entry_pair(known, here.unit, pair.name, target), OFFSET)
+            measured(
+                room,
+                entry_pair(known, here.unit, pair.name, target),
+                OFFSET,
+            )
         }
         Way::AsExpression => {
             let bytes = content_of(raw);
@@ -173,12 +177,7 @@ fn measure_row(room: &mut Room, known: &Known, here: Here, row: Row) -> Result<u
 
 // The same of a name of a space.
 #[inline(always)]
-fn measure_as_name(
-    room: &mut Room,
-    holder: Holder,
-    pair: &Pair,
-    raw: &Raw,
-) -> Result<u64, NoMemory>
+fn measure_as_name(room: &mut Room, holder: Holder, pair: &Pair, raw: &Raw) -> Result<u64, NoMemory>
     requires empty { room.old.pairs.items ≡ [] }
     requires writable { HasSpelling pair.now.form (raw_view raw.now) }
     requires plain { IsPlainPair pair.now }

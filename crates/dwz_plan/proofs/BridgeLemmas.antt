@@ -1,5 +1,5 @@
 -- The plan of rows and the plan of the units whose tops they show.
-use Rattle.std.proofs.Common.{◌≡◌, ◌↔◌, ℕ, Some, zero, suc, ◌+◌, ◌<◌, ◌==◌, ◌&&◌, ◌||◌, inl, inr, not, cond, Bool, true, false, List, [], ◌∷◌, ◌++◌, length, map, filter, find, get_or, refl, sym, ap, subst, ◌∙◌, arith, eqb-true, eq-eqb}
+use Rattle.std.proofs.Common.{◌≡◌, ◌↔◌, ℕ, Some, zero, suc, ◌+◌, ◌<◌, ◌==◌, ◌&&◌, ◌||◌, inl, inr, cond, Bool, true, false, List, [], ◌∷◌, ◌++◌, length, map, filter, find, get_or, refl, sym, ap, subst, ◌∙◌, arith, eqb-true, eq-eqb}
 use Rattle.std.specs.Option.{option_map_or}
 use Rattle.std.specs.List.{flat_map, list_any, range_with_len}
 use Rattle.std.proofs.lemmas.Bool.{and_parts}
@@ -8,24 +8,26 @@ use Rattle.std.proofs.lemmas.Option.{slice_get-get_or}
 use Rattle.dwz_meanings.specs.Documents.{Doc, Entries}
 use Rattle.dwz_docs.specs.Lists.{In, has}
 use Rattle.dwz_docs.specs.Trees.{End, Entry}
-use Rattle.dwz_model.specs.declared.tops.Tops.{Tops}
-use Rattle.dwz_output.specs.Deciding.{Test}
-use Rattle.dwz_output.specs.Out.{file_numbers}
-use Rattle.dwz_output.specs.Plan.{Common, Home, Local, PartialUnit, Stay, distinct, file_of, first_alike, home as unit_home, home_in, import_of, imports as unit_imports, is_home, is_pinned, kept as unit_kept, local_partials, moves as unit_moves, numbers_from, partial_with as unit_partial_with, partials as unit_partials, partials_at as unit_partials_at, rep as unit_rep, representatives as unit_representatives, same_home, stand_in as unit_stand_in, stands_for, staying as unit_staying, users as unit_users, users_of, uses}
-use Rattle.dwz_output.specs.Spots.{FileUnit, Spot, Top, same_numbers, tops_of}
+use Rattle.dwz_groups.specs.declared.tops.Tops.{Tops}
+use Rattle.dwz_alike.specs.Deciding.{Test}
+use Rattle.dwz_alike.specs.Spots.{file_numbers}
+use Rattle.dwz_moving.specs.Homes.{Common, Home, Local, Stay, file_of, first_alike, candidate as unit_home, home as ruled_home, all_rule, home_in, numbers_from, rep as unit_rep, same_home, users as unit_users, uses}
+use Rattle.dwz_moving.specs.Plan.{PartialUnit, distinct, import_of, imports as unit_imports, local_partials, partial_with as unit_partial_with, partials as unit_partials, partials_at as unit_partials_at, representatives as unit_representatives, stands_for, users_of}
+use Rattle.dwz_alike.specs.Spots.{FileUnit, Spot, Top, same_numbers, tops_of}
 use Rattle.dwz_plan.specs.declared.plan.Partial.{Partial}
 use Rattle.dwz_plan.specs.declared.plan.Scope.{Scope}
 use Rattle.dwz_plan.specs.declared.plan.Scope.TheVariants.{Together, Each}
-use Rattle.dwz_plan.specs.Planned.{alike, file_of_home, home, imports_from, in_scope, kept, moves, number_in, partial_with, partials, partials_at, place, place_at, rep, representatives, stand_in, staying, units_of, users}
+use Rattle.dwz_plan.specs.Planned.{alike, file_of_home, home, imports_from, in_scope, number_in, partial_with, partials, partials_at, place, place_at, rep, representatives, units_of, users}
 use Rattle.dwz_plan.specs.Rows.{Given, Row, given}
 use Rattle.dwz_plan.specs.Shows.{InOneScope, IsLeast, IsPlace, Joins, PartAt, ShowsTops, import_row, shown_part}
 use Rattle.dwz_plan.proofs.DistinctLemmas.{from_distinct, get_in}
-use Rattle.dwz_plan.proofs.ListFacts.{filter_in, in_cases, in_filter_from, in_map_from, map_in, map_map}
+use Rattle.dwz_plan.proofs.ListFacts.{filter_in, map_in, map_map}
 use Rattle.dwz_plan.proofs.MoverLemmas.{movers_of}
 use Rattle.dwz_plan.proofs.PartialLemmas.{part_among, same_home_is, tops_with}
 use Rattle.dwz_plan.proofs.RowLemmas.{alike_from, alike_parts}
 use Rattle.dwz_plan.proofs.StepLemmas.{part_of}
 use Rattle.dwz_plan.proofs.ShownLemmas.{SameRow, SameRows, filter_shown, map_shown, numbers_shown, rows_shown, tops_counted}
+use Rattle.dwz_seen.proofs.Members.{in_cases, in_filter_from, in_map_from}
 
 -- ---- the test decides as the rows do
 
@@ -60,7 +62,7 @@ unfolding file_numbers
 file_numbers_are s [] = refl
 file_numbers_are s (d ∷ docs) = ap (λ (ns : List ℕ). s ∷ ns) (file_numbers_are (suc s) docs ∙ (let e : suc s ≡ s + 1 = omega arith in ap (λ n. range_with_len n (length docs)) e))
 
-file_is : (units : List (FileUnit Spot)) (i : ℕ) → file_of units i ≡ get_or (map (λ (f : FileUnit Spot). f.file) units) i 0
+pub file_is : (units : List (FileUnit Spot)) (i : ℕ) → file_of units i ≡ get_or (map (λ (f : FileUnit Spot). f.file) units) i 0
 unfolding file_of
 file_is [] i = refl
 file_is (f ∷ units) zero = refl
@@ -70,7 +72,7 @@ module _ (units : List (FileUnit Spot)) (test : Test) (scope : Scope) (tops : To
   abbrev pub g : Given
   g = given scope tops least
 
-  same : SameRows units g.rows (tops_of units)
+  pub same : SameRows units g.rows (tops_of units)
   same = rows_shown units tops.files_of_units 0 tops.rows least (tops_of units) decides.len shows.rows (tops_counted 0 0 units)
 
   agree : (a b : Row) → In a g.rows → In b g.rows → test a.number b.number ≡ alike scope a b
@@ -118,15 +120,12 @@ module _ (units : List (FileUnit Spot)) (test : Test) (scope : Scope) (tops : To
   pub rep_is : (a : Row) → In a g.rows → unit_rep test units a.number ≡ rep g a
   rep_is a is = first_is a g.rows (tops_of units) same (λ b there. agree a b is there)
 
-  pub moves_is : (a : Row) → In a g.rows → unit_moves test units a.number ≡ moves g a
-  moves_is a is = ap is_home (home_is a is)
-
   -- ---- partial units
 
-  reps_same : (h : Home) → SameRows units (representatives g h) (unit_representatives test units h)
-  unfolding unit_representatives representatives
+  reps_same : (h : Home) → SameRows units (representatives g h) (unit_representatives (all_rule test) units h)
+  unfolding unit_representatives representatives unit_home ruled_home
   reps_same h =
-      filter_shown units (λ a. same_home (home g a) h && rep g a == a.number) (stands_for test units h) g.rows (tops_of units) same
+      filter_shown units (λ a. same_home (home g a) h && rep g a == a.number) (stands_for (all_rule test) units h) g.rows (tops_of units) same
       (λ a t is s. (λ i. same_home ((sym (home_is a is) ∙ ap (unit_home test units) s.number) i) h && (sym (rep_is a is) ∙ ap (unit_rep test units) s.number) i == s.number i))
 
   reps_in : (h : Home) (a : Row) → In a (representatives g h) → In a g.rows
@@ -136,45 +135,30 @@ module _ (units : List (FileUnit Spot)) (test : Test) (scope : Scope) (tops : To
   users_shown : (a : Row) (t : Top) → In a g.rows → SameRow units a t → users g a ≡ users_of test units t
   users_shown a t is s = sym (users_is a is) ∙ ap (unit_users test units) s.number
 
-  partial_is : (h : Home) (us : List ℕ) → shown_part tops.files (unit_partial_with test units h us) ≡ partial_with g h us
+  partial_is : (h : Home) (us : List ℕ) → shown_part tops.files (unit_partial_with (all_rule test) units h us) ≡ partial_with g h us
   partial_is h us =
-      let these = filter_shown units (λ a. same_numbers (users g a) us) (λ t. same_numbers (users_of test units t) us) (representatives g h) (unit_representatives test units h) (reps_same h) (λ a t is s. ap (λ (vs : List ℕ). same_numbers vs us) (users_shown a t (reps_in h a is) s)) in
-      (λ i. record { file = file_of_home tops.files h; users = us; tops = numbers_shown units (filter (λ a. same_numbers (users g a) us) (representatives g h)) (filter (λ t. same_numbers (users_of test units t) us) (unit_representatives test units h)) these i })
+      let these = filter_shown units (λ a. same_numbers (users g a) us) (λ t. same_numbers (users_of test units t) us) (representatives g h) (unit_representatives (all_rule test) units h) (reps_same h) (λ a t is s. ap (λ (vs : List ℕ). same_numbers vs us) (users_shown a t (reps_in h a is) s)) in
+      (λ i. record { file = file_of_home tops.files h; users = us; tops = numbers_shown units (filter (λ a. same_numbers (users g a) us) (representatives g h)) (filter (λ t. same_numbers (users_of test units t) us) (unit_representatives (all_rule test) units h)) these i })
 
-  partials_at_is : (h : Home) → map (shown_part tops.files) (unit_partials_at test units h) ≡ partials_at g h
+  partials_at_is : (h : Home) → map (shown_part tops.files) (unit_partials_at (all_rule test) units h) ≡ partials_at g h
   unfolding unit_partials_at partials_at
   partials_at_is h =
-      map_map (shown_part tops.files) (unit_partial_with test units h) (distinct (map (users_of test units) (unit_representatives test units h)))
-      ∙ ((λ i. map (λ us. partial_is h us i) (distinct (map (users_of test units) (unit_representatives test units h))))
-      ∙ ap (λ (ls : List (List ℕ)). map (partial_with g h) (distinct ls)) (map_shown units (users g) (users_of test units) (representatives g h) (unit_representatives test units h) (reps_same h) (λ a t is s. users_shown a t (reps_in h a is) s)))
+      map_map (shown_part tops.files) (unit_partial_with (all_rule test) units h) (distinct (map (users_of test units) (unit_representatives (all_rule test) units h)))
+      ∙ ((λ i. map (λ us. partial_is h us i) (distinct (map (users_of test units) (unit_representatives (all_rule test) units h))))
+      ∙ ap (λ (ls : List (List ℕ)). map (partial_with g h) (distinct ls)) (map_shown units (users g) (users_of test units) (representatives g h) (unit_representatives (all_rule test) units h) (reps_same h) (λ a t is s. users_shown a t (reps_in h a is) s)))
 
-  local_is : (files : List ℕ) → map (shown_part tops.files) (local_partials test units files) ≡ flat_map (λ file. partials_at g (Local file)) files
+  local_is : (files : List ℕ) → map (shown_part tops.files) (local_partials (all_rule test) units files) ≡ flat_map (λ file. partials_at g (Local file)) files
   unfolding local_partials
   local_is [] = refl
-  local_is (f ∷ files) = map-append (shown_part tops.files) (unit_partials_at test units (Local f)) (local_partials test units files) ∙ (λ i. partials_at_is (Local f) i ++ local_is files i)
+  local_is (f ∷ files) = map-append (shown_part tops.files) (unit_partials_at (all_rule test) units (Local f)) (local_partials (all_rule test) units files) ∙ (λ i. partials_at_is (Local f) i ++ local_is files i)
 
-  pub partials_is : map (shown_part tops.files) (unit_partials test units (range_with_len 0 tops.files)) ≡ partials g
+  pub partials_is : map (shown_part tops.files) (unit_partials (all_rule test) units (range_with_len 0 tops.files)) ≡ partials g
   unfolding unit_partials partials
-  partials_is = map-append (shown_part tops.files) (unit_partials_at test units Common) (local_partials test units (range_with_len 0 tops.files)) ∙ (λ i. partials_at_is Common i ++ local_is (range_with_len 0 tops.files) i)
+  partials_is = map-append (shown_part tops.files) (unit_partials_at (all_rule test) units Common) (local_partials (all_rule test) units (range_with_len 0 tops.files)) ∙ (λ i. partials_at_is Common i ++ local_is (range_with_len 0 tops.files) i)
 
-  -- ---- what is kept and imported, what stands for what
+  -- ---- what is imported
 
-  staying_same : (unit : ℕ) → SameRows units (staying g unit) (unit_staying test units unit)
-  unfolding staying unit_staying
-  staying_same unit =
-      filter_shown units (λ a. a.unit == unit && not (moves g a)) (λ t. t.unit == unit && not (unit_moves test units t.number)) g.rows (tops_of units) same
-      (λ a t is s. (λ i. s.unit i == unit && not ((sym (moves_is a is) ∙ ap (unit_moves test units) s.number) i)))
-
-  pub kept_is : (unit : ℕ) → map (λ (t : Top). t.number) (unit_kept test units unit) ≡ kept g unit
-  unfolding kept unit_kept
-  kept_is unit =
-      let pinned = filter_shown units (λ a. a.pinned) (λ t. is_pinned units t.number) (staying g unit) (unit_staying test units unit) (staying_same unit) (λ a t is s. s.pinned) in
-      let others = filter_shown units (λ a. not a.pinned) (λ t. not (is_pinned units t.number)) (staying g unit) (unit_staying test units unit) (staying_same unit) (λ a t is s. ap not s.pinned) in
-      map-append (λ (t : Top). t.number) (filter (λ t. is_pinned units t.number) (unit_staying test units unit)) (filter (λ t. not (is_pinned units t.number)) (unit_staying test units unit))
-      ∙ ((λ i. numbers_shown units (filter (λ a. a.pinned) (staying g unit)) (filter (λ t. is_pinned units t.number) (unit_staying test units unit)) pinned i ++ numbers_shown units (filter (λ a. not a.pinned) (staying g unit)) (filter (λ t. not (is_pinned units t.number)) (unit_staying test units unit)) others i)
-      ∙ sym (map-append (λ (a : Row). a.number) (filter (λ a. a.pinned) (staying g unit)) (filter (λ a. not a.pinned) (staying g unit))))
-
-  imports_of : (unit n : ℕ) (parts : List PartialUnit) → unit_imports unit n parts ≡ import_row unit (imports_from unit n (map (shown_part tops.files) parts))
+  pub imports_of : (unit n : ℕ) (parts : List PartialUnit) → unit_imports unit n parts ≡ import_row unit (imports_from unit n (map (shown_part tops.files) parts))
   unfolding unit_imports import_row imports_from
   imports_of unit n [] = refl
   imports_of unit n (part ∷ parts) = by (has unit part.users) (imports_of unit (suc n) parts)
@@ -185,46 +169,35 @@ module _ (units : List (FileUnit Spot)) (test : Test) (scope : Scope) (tops : To
       by true more = ap (λ e. Entry (import_of unit n) End e) more
       by false more = more
 
-  pub imports_is : (unit : ℕ) → unit_imports unit 0 (unit_partials test units (range_with_len 0 tops.files)) ≡ import_row unit (imports_from unit 0 (partials g))
-  imports_is unit = imports_of unit 0 (unit_partials test units (range_with_len 0 tops.files)) ∙ ap (λ (ps : List Partial). import_row unit (imports_from unit 0 ps)) partials_is
-
-  pub stand_in_is : (a : Row) → In a g.rows → unit_stand_in test units a.number ≡ stand_in g a
-  unfolding unit_stand_in
-  stand_in_is a is = (λ i. elim (moves_is a is i) as (λ _. ℕ) [ true ↦ rep_is a is i | false ↦ a.number ]) ∙ by (moves g a)
-    where
-      by : (x : Bool) → (elim x as (λ _. ℕ) [ true ↦ rep g a | false ↦ a.number ]) ≡ cond x (rep g a) a.number
-      by true = refl
-      by false = refl
-
   -- ---- where a top goes
 
-  unit_homed : (h : Home) (part : PartialUnit) → In part (unit_partials_at test units h) → part.home ≡ home_in (map (file_of units) part.users)
-  unfolding unit_partials_at unit_representatives unit_home
+  unit_homed : (h : Home) (part : PartialUnit) → In part (unit_partials_at (all_rule test) units h) → part.home ≡ home_in (map (file_of units) part.users)
+  unfolding unit_partials_at unit_representatives unit_home unit_users ruled_home
   unit_homed h part is =
-      let p = in_map_from (unit_partial_with test units h) part (distinct (map (users_of test units) (unit_representatives test units h))) is in
-      let u = in_map_from (users_of test units) p.source (unit_representatives test units h) (from_distinct p.source (map (users_of test units) (unit_representatives test units h)) p.there) in
-      let f = in_filter_from (stands_for test units h) u.source (tops_of units) u.there in
+      let p = in_map_from (unit_partial_with (all_rule test) units h) part (distinct (map (users_of test units) (unit_representatives (all_rule test) units h))) is in
+      let u = in_map_from (users_of test units) p.source (unit_representatives (all_rule test) units h) (from_distinct p.source (map (users_of test units) (unit_representatives (all_rule test) units h)) p.there) in
+      let f = in_filter_from (stands_for (all_rule test) units h) u.source (tops_of units) u.there in
       let e = same_home_is (unit_home test units u.source.number) h (and_parts (same_home (unit_home test units u.source.number) h) (unit_rep test units u.source.number == u.source.number) f.1).0 in
       ap (λ (q : PartialUnit). q.home) (sym p.is) ∙ (sym e ∙ ap (λ (us : List ℕ). home_in (map (file_of units) us)) (u.is ∙ ap (λ (q : PartialUnit). q.users) p.is))
 
-  local_homed : (files : List ℕ) (part : PartialUnit) → In part (local_partials test units files) → part.home ≡ home_in (map (file_of units) part.users)
+  local_homed : (files : List ℕ) (part : PartialUnit) → In part (local_partials (all_rule test) units files) → part.home ≡ home_in (map (file_of units) part.users)
   unfolding local_partials
   local_homed [] part is = absurd is
-  local_homed (f ∷ files) part is = elim (in_cases part (unit_partials_at test units (Local f)) (local_partials test units files) is) [
+  local_homed (f ∷ files) part is = elim (in_cases part (unit_partials_at (all_rule test) units (Local f)) (local_partials (all_rule test) units files) is) [
     | inl here ↦ unit_homed (Local f) part here
     | inr more ↦ local_homed files part more
   ]
 
   -- a partial unit's home is that of its users
-  all_homed : (files : List ℕ) (part : PartialUnit) → In part (unit_partials test units files) → part.home ≡ home_in (map (file_of units) part.users)
+  all_homed : (files : List ℕ) (part : PartialUnit) → In part (unit_partials (all_rule test) units files) → part.home ≡ home_in (map (file_of units) part.users)
   unfolding unit_partials
-  all_homed files part is = elim (in_cases part (unit_partials_at test units Common) (local_partials test units files) is) [
+  all_homed files part is = elim (in_cases part (unit_partials_at (all_rule test) units Common) (local_partials (all_rule test) units files) is) [
     | inl here ↦ unit_homed Common part here
     | inr more ↦ local_homed files part more
   ]
 
   abbrev pub parts : List PartialUnit
-  parts = unit_partials test units (range_with_len 0 tops.files)
+  parts = unit_partials (all_rule test) units (range_with_len 0 tops.files)
 
   no_part : PartialUnit
   no_part = record { home = Stay; users = []; tops = [] }
@@ -250,11 +223,11 @@ module _ (units : List (FileUnit Spot)) (test : Test) (scope : Scope) (tops : To
         holds = subst (λ (ns : List ℕ). In (unit_rep test units a.number) ns) (sym (ap (λ (q : Partial). q.tops) shown)) (subst (λ n. In n (tops_with g (movers_of g) (users g a))) (sym (rep_is a is)) o.holds);
       }
 
-  pub place_is : (a : Row) → In a g.rows → IsPlace test units parts a.number (place g a)
-  unfolding place
+  pub place_is : (a : Row) → In a g.rows → IsPlace (all_rule test) units parts a.number (place g a)
+  unfolding place ruled_home
   place_is a is = by (home g a) refl
     where
-      by : (h : Home) → home g a ≡ h → IsPlace test units parts a.number (place_at h (number_in (partials g) (users g a)))
+      by : (h : Home) → home g a ≡ h → IsPlace (all_rule test) units parts a.number (place_at h (number_in (partials g) (users g a)))
       by Common e = (home_is a is ∙ e, part_at Common a is e (λ s. cc))
       by (Local f) e = (f, home_is a is ∙ e, part_at (Local f) a is e (λ s. cc))
       by Stay e = home_is a is ∙ e

@@ -4,11 +4,13 @@ use Rattle.std.specs.List.{range_with_len, zip}
 use Rattle.std.proofs.lemmas.Bool.{both_ways, cases_eq, ne_eqb, not-true}
 use Rattle.std.proofs.lemmas.List.Elements.{filter-append}
 use Rattle.dwz_docs.specs.Lists.{In}
-use Rattle.dwz_output.specs.Plan.{distinct}
-use Rattle.dwz_output.specs.Spots.{same_numbers}
+use Rattle.dwz_moving.specs.Plan.{distinct}
+use Rattle.dwz_alike.specs.Spots.{same_numbers}
 use Rattle.dwz_plan.specs.Steps.{number_of}
-use Rattle.dwz_plan.proofs.ListFacts.{any_yes, in_filter, in_filter_from}
-use Rattle.dwz_plan.proofs.ListingLemmas.{has_list, same_refl, same_true}
+use Rattle.dwz_plan.proofs.ListFacts.{any_yes}
+use Rattle.dwz_plan.proofs.ListingLemmas.{has_list}
+use Rattle.dwz_seen.proofs.Members.{in_filter, in_filter_from}
+use Rattle.dwz_alike.proofs.SpotLemmas.{numbers_same, numbers_true}
 
 -- no two are the same
 abbrev pub Apart : List (List ℕ) → Type 0
@@ -35,7 +37,7 @@ in_distinct us (vs ∷ lists) (inl e) = inl e
 in_distinct us (vs ∷ lists) (inr r) = by (same_numbers vs us) refl (in_distinct us lists r)
   where
     by : (t : Bool) → same_numbers vs us ≡ t → In us (distinct lists) → In us (vs ∷ filter (λ ws. not (same_numbers vs ws)) (distinct lists))
-    by true e more = inl (same_true vs us e)
+    by true e more = inl (numbers_true vs us e)
     by false e more = inr (in_filter (λ ws. not (same_numbers vs ws)) us (distinct lists) more (ap not e))
 
 pub from_distinct : (us : List ℕ) (lists : List (List ℕ)) → In us (distinct lists) → In us lists
@@ -58,7 +60,7 @@ distinct_join (us ∷ xs) ys h =
     ap (λ (ls : List (List ℕ)). us ∷ filter other ls) more ∙ ap (λ (ls : List (List ℕ)). us ∷ ls) (filter-append other (distinct xs) (distinct ys) ∙ ap (λ (ls : List (List ℕ)). filter other (distinct xs) ++ ls) stay)
 
 pub has_from : (us : List ℕ) (lists : List (List ℕ)) → In us lists → has_list us lists ≡ true
-has_from us lists is = any_yes (same_numbers us) lists us is (same_refl us)
+has_from us lists is = any_yes (same_numbers us) lists us is (numbers_same us)
 
 pub get_in : {X : Type 0} (xs : List X) (i : ℕ) (d : X) → i < length xs → In (get_or xs i d) xs
 get_in [] i d l = absurd (omega arith)
@@ -86,11 +88,11 @@ number_is (vs ∷ lists) us (suc k) apart is l = by (same_numbers us vs) refl is
         both (inr ne) = ne_eqb (1 + n) (suc k) (λ e. ne (omega (arith, e))) ∙ sym (ne_eqb n k ne)
 
     rest : same_numbers us vs ≡ false → In us (vs ∷ lists) → In us lists
-    rest e (inl s) = absurd (both_ways (same_numbers us vs) e (ap (same_numbers us) s ∙ same_refl us))
+    rest e (inl s) = absurd (both_ways (same_numbers us vs) e (ap (same_numbers us) s ∙ numbers_same us))
     rest e (inr r) = r
 
     by : (t : Bool) → same_numbers us vs ≡ t → In us (vs ∷ lists) → (In us lists → number_of lists us == k ≡ same_numbers us (get_or lists k [])) → cond (not t) (1 + number_of lists us) 0 == suc k ≡ same_numbers us (get_or lists k [])
-    by true e is more = ne_eqb 0 (suc k) (λ q. omega (arith, q)) ∙ sym (ap (λ (ws : List ℕ). same_numbers ws (get_or lists k [])) (same_true us vs e) ∙ apart.0 (get_or lists k []) (get_in lists k [] there))
+    by true e is more = ne_eqb 0 (suc k) (λ q. omega (arith, q)) ∙ sym (ap (λ (ws : List ℕ). same_numbers ws (get_or lists k [])) (numbers_true us vs e) ∙ apart.0 (get_or lists k []) (get_in lists k [] there))
     by false e is more = step (number_of lists us) ∙ more (rest e is)
 
 -- ---- a list beside numbers

@@ -2,22 +2,22 @@
 use Rattle.std.proofs.Common.{◌≡◌, ℕ, zero, suc, ◌+◌, ◌<◌, ◌==◌, ◌&&◌, ◌⊎◌, inl, inr, not, cond, Bool, true, false, List, [], ◌∷◌, ◌++◌, length, map, filter, refl, sym, ap, subst, ◌∙◌, arith, eq-eqb}
 use Rattle.std.specs.List.{flat_map, list_any, range_with_len}
 use Rattle.std.proofs.lemmas.Bool.{cases_eq, ne_eqb}
-use Rattle.std.proofs.lemmas.List.{map-append}
 use Rattle.dwz_docs.specs.Lists.{In, has}
-use Rattle.dwz_model.specs.declared.tops.TopRow.{TopRow}
-use Rattle.dwz_model.specs.declared.tops.Tops.{Tops}
-use Rattle.dwz_output.specs.Plan.{Common, Home, Local, Stay, distinct, is_home}
+use Rattle.dwz_groups.specs.declared.tops.TopRow.{TopRow}
+use Rattle.dwz_groups.specs.declared.tops.Tops.{Tops}
+use Rattle.dwz_moving.specs.Homes.{Common, Home, Local}
+use Rattle.dwz_moving.specs.Plan.{distinct}
 use Rattle.dwz_plan.specs.declared.plan.Home.{Home as Place}
 use Rattle.dwz_plan.specs.declared.plan.Partial.{Partial}
 use Rattle.dwz_plan.specs.declared.plan.Scope.{Scope}
-use Rattle.dwz_plan.specs.Groups.{grouped, values_at}
-use Rattle.dwz_plan.specs.Planned.{alike, home, imports, imports_from, kept, moves, number_in, numbers, partial_with, partials, partials_at, place, place_at, representatives, staying, units_of, users}
+use Rattle.dwz_groups.specs.Groups.{values_at}
+use Rattle.dwz_plan.specs.Planned.{alike, imports_from, numbers, partial_with, partials, partials_at, representatives, users}
 use Rattle.dwz_plan.specs.Rows.{Given, Row, given, row_of, rows_from}
 use Rattle.dwz_plan.specs.Steps.{is_in_unit, pair, same_bool, staying_one, staying_pairs, turned}
-use Rattle.dwz_plan.specs.declared.groups.Pair.{Pair}
+use Rattle.dwz_groups.specs.declared.groups.Pair.{Pair}
 use Rattle.dwz_plan.proofs.DistinctLemmas.{from_distinct}
-use Rattle.dwz_plan.proofs.ListFacts.{filter_in, in_cases, in_map_from, map_in}
 use Rattle.dwz_plan.proofs.TurnedLemmas.{repeats, values-turned_one, values_at-append}
+use Rattle.dwz_seen.proofs.Members.{in_cases, in_map_from}
 
 -- ---- what stays
 
@@ -34,7 +34,7 @@ values_one false u n k = refl
 abbrev pub is_staying : (Row → Place) → Bool → ℕ → Row → Bool
 is_staying h pinned unit a = (same_bool a.pinned pinned && is_in_unit (h a)) && a.unit == unit
 
-staying_values : (h : Row → Place) (pinned : Bool) (files : List ℕ) (s : ℕ) (tops : List TopRow) (least : List ℕ) (unit : ℕ)
+pub staying_values : (h : Row → Place) (pinned : Bool) (files : List ℕ) (s : ℕ) (tops : List TopRow) (least : List ℕ) (unit : ℕ)
     → values_at (staying_pairs pinned s tops (map h (rows_from files s tops least))) unit ≡ numbers (filter (is_staying h pinned unit) (rows_from files s tops least))
 unfolding staying_pairs rows_from values_at
 staying_values h pinned files s [] least unit = refl
@@ -53,13 +53,21 @@ staying_values h pinned files s (t ∷ tops) (l ∷ least) unit =
     by true = refl
     by false = refl
 
-filter_twice : {X : Type 0} (p q r : X → Bool) (xs : List X) → ((x : X) → r x ≡ (q x && p x)) → filter r xs ≡ filter p (filter q xs)
+pub filter_twice : {X : Type 0} (p q r : X → Bool) (xs : List X) → ((x : X) → r x ≡ (q x && p x)) → filter r xs ≡ filter p (filter q xs)
 filter_twice p q r [] h = refl
 filter_twice {X} p q r (x ∷ xs) h = by (q x) (h x) (filter_twice p q r xs h)
   where
     by : (t : Bool) → r x ≡ (t && p x) → filter r xs ≡ filter p (filter q xs) → cond (r x) (x ∷ filter r xs) (filter r xs) ≡ filter p (cond t (x ∷ filter q xs) (filter q xs))
     by true e more = (λ i. cond (e i) (x ∷ more i) (more i))
     by false e more = (λ i. cond (e i) (x ∷ more i) (more i))
+
+pub same_pinned : (b : Bool) → same_bool b true ≡ b
+same_pinned true = refl
+same_pinned false = refl
+
+pub same_other : (b : Bool) → same_bool b false ≡ not b
+same_other true = refl
+same_other false = refl
 
 module _ (scope : Scope) (tops : Tops) (least : List ℕ) where
   abbrev rows : List Row
@@ -68,53 +76,10 @@ module _ (scope : Scope) (tops : Tops) (least : List ℕ) where
   abbrev g : Given
   g = given scope tops least
 
-  stays_is : (a : Row) → is_in_unit (place g a) ≡ not (moves g a)
-  unfolding place
-  stays_is a = by (home g a)
-    where
-      by : (h : Home) → is_in_unit (place_at h (number_in (partials g) (users g a))) ≡ not (is_home h)
-      by Common = refl
-      by (Local f) = refl
-      by Stay = refl
-
-  one_kind : (pinned : Bool) (unit : ℕ) → numbers (filter (is_staying (place g) pinned unit) rows) ≡ numbers (filter (λ a. same_bool a.pinned pinned) (staying g unit))
-  unfolding staying
-  one_kind pinned unit = ap numbers (filter_twice (λ a. same_bool a.pinned pinned) (λ a. a.unit == unit && not (moves g a)) (is_staying (place g) pinned unit) rows (λ a. ap (λ t. (same_bool a.pinned pinned && t) && a.unit == unit) (stays_is a) ∙ by (same_bool a.pinned pinned) (not (moves g a)) (a.unit == unit)))
-    where
-      by : (s t u : Bool) → ((s && t) && u) ≡ ((u && t) && s)
-      by true true true = refl
-      by true true false = refl
-      by true false true = refl
-      by true false false = refl
-      by false true true = refl
-      by false true false = refl
-      by false false true = refl
-      by false false false = refl
-
-  same_pinned : (b : Bool) → same_bool b true ≡ b
-  same_pinned true = refl
-  same_pinned false = refl
-
-  same_other : (b : Bool) → same_bool b false ≡ not b
-  same_other true = refl
-  same_other false = refl
-
-  kept_at : (unit : ℕ) → values_at (staying_pairs true 0 tops.rows (map (place g) rows) ++ staying_pairs false 0 tops.rows (map (place g) rows)) unit ≡ kept g unit
-  unfolding kept
-  kept_at unit =
-      let pinned = staying_values (place g) true tops.files_of_units 0 tops.rows least unit ∙ (one_kind true unit ∙ ap numbers (filter_in (λ a. same_bool a.pinned true) (λ a. a.pinned) (staying g unit) (λ a is. same_pinned a.pinned))) in
-      let others = staying_values (place g) false tops.files_of_units 0 tops.rows least unit ∙ (one_kind false unit ∙ ap numbers (filter_in (λ a. same_bool a.pinned false) (λ a. not a.pinned) (staying g unit) (λ a is. same_other a.pinned))) in
-      values_at-append (staying_pairs true 0 tops.rows (map (place g) rows)) (staying_pairs false 0 tops.rows (map (place g) rows)) unit
-      ∙ ((λ i. pinned i ++ others i) ∙ sym (map-append (λ (a : Row). a.number) (filter (λ a. a.pinned) (staying g unit)) (filter (λ a. not a.pinned) (staying g unit))))
-
-  pub kept_are : grouped (length tops.files_of_units) (staying_pairs true 0 tops.rows (map (place g) rows) ++ staying_pairs false 0 tops.rows (map (place g) rows)) ≡ map (kept g) (units_of g)
-  unfolding grouped
-  kept_are = map_in (values_at (staying_pairs true 0 tops.rows (map (place g) rows) ++ staying_pairs false 0 tops.rows (map (place g) rows))) (kept g) (units_of g) (λ unit is. kept_at unit)
-
   -- ---- imports
 
   -- a unit stands there at most once
-  abbrev OnceAt : List ℕ → Type 0
+  abbrev pub OnceAt : List ℕ → Type 0
   OnceAt us = (n unit : ℕ) → repeats n unit us ≡ cond (has unit us) (n ∷ []) []
 
   none_below : (test : ℕ → Bool) (s n m unit : ℕ) → unit < s → repeats m unit (filter test (range_with_len s n)) ≡ []
@@ -170,13 +135,13 @@ module _ (scope : Scope) (tops : Tops) (least : List ℕ) where
     | inr more ↦ of_files (range_with_len 0 tops.files) part more
   ]
 
-  once_at : (part : Partial) → In part (partials g) → OnceAt part.users
+  pub once_at : (part : Partial) → In part (partials g) → OnceAt part.users
   unfolding users
   once_at part is =
       let o = of_row part is in
       subst (λ (us : List ℕ). OnceAt us) o.is (λ n unit. once_range (λ unit. list_any (λ b. b.unit == unit && alike scope o.row b) rows) 0 (length tops.files_of_units) n unit)
 
-  imports_values : (unit s : ℕ) (parts : List Partial) → ((part : Partial) → In part parts → OnceAt part.users) → values_at (turned s (map (λ (part : Partial). part.users) parts)) unit ≡ imports_from unit s parts
+  pub imports_values : (unit s : ℕ) (parts : List Partial) → ((part : Partial) → In part parts → OnceAt part.users) → values_at (turned s (map (λ (part : Partial). part.users) parts)) unit ≡ imports_from unit s parts
   unfolding turned values_at imports_from
   imports_values unit s [] once = refl
   imports_values unit s (part ∷ parts) once =
@@ -188,7 +153,3 @@ module _ (scope : Scope) (tops : Tops) (least : List ℕ) where
       by : (t : Bool) → cond t (s ∷ []) [] ++ imports_from unit (suc s) parts ≡ cond t (s ∷ imports_from unit (suc s) parts) (imports_from unit (suc s) parts)
       by true = refl
       by false = refl
-
-  pub imports_are : grouped (length tops.files_of_units) (turned 0 (map (λ (part : Partial). part.users) (partials g))) ≡ map (imports g) (units_of g)
-  unfolding grouped
-  imports_are = map_in (values_at (turned 0 (map (λ (part : Partial). part.users) (partials g)))) (imports g) (units_of g) (λ unit is. imports_values unit 0 (partials g) once_at)

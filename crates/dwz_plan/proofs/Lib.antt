@@ -1,6 +1,8 @@
 pub mod BridgeLemmas
 pub mod DistinctLemmas
-pub mod GroupLemmas
+pub mod GainedLemmas
+pub mod GainedRows
+pub mod GainedSteps
 pub mod HomeLemmas
 pub mod KeptLemmas
 pub mod LedLemmas
@@ -8,10 +10,9 @@ pub mod ListFacts
 pub mod ListingLemmas
 pub mod MadeLemmas
 pub mod MoverLemmas
-pub mod PartLemmas
+pub mod OnePlan
 pub mod PartialLemmas
 pub mod PlaceLemmas
-pub mod RepeatLemmas
 pub mod RowLemmas
 pub mod ShownLemmas
 pub mod StepLemmas

@@ -1,5 +1,5 @@
 -- Lists of numbers, each listed where it comes first.
-use Rattle.std.proofs.Common.{◌≡◌, ℕ, suc, ◌+◌, ◌<◌, ◌≤◌, ◌==◌, ◌&&◌, ◌||◌, not, All, cond, Bool, true, false, List, [], ◌∷◌, ◌++◌, length, map, filter, fold, get_or, take, refl, sym, ap, subst, ◌∙◌, arith, eqb-true, eq-eqb, length-append}
+use Rattle.std.proofs.Common.{◌≡◌, ℕ, suc, ◌+◌, ◌<◌, ◌≤◌, ◌==◌, ◌&&◌, ◌||◌, not, All, cond, Bool, true, false, List, [], ◌∷◌, ◌++◌, length, map, filter, fold, get_or, take, refl, sym, ap, subst, ◌∙◌, arith, eqb-true, length-append}
 use Rattle.std.specs.Prelude.{nat_eq}
 use Rattle.std.specs.List.{list_any, position_or_len}
 use Rattle.std.proofs.lemmas.Bool.{both_ways, ne_eqb, not-true}
@@ -9,39 +9,24 @@ use Rattle.std.proofs.lemmas.List.Folds.{list_any-append, position_or_len_push}
 use Rattle.std.proofs.lemmas.List.Sums.{fold-append}
 use lib.Pointwise.{pointwise}
 use denote.Bor.{Bor}
-use Rattle.dwz_output.specs.Plan.{distinct}
-use Rattle.dwz_output.specs.Spots.{same_numbers}
+use Rattle.dwz_moving.specs.Plan.{distinct}
+use Rattle.dwz_alike.specs.Spots.{same_numbers}
 use Rattle.dwz_plan.specs.Steps.{lists_of, number_of, numbered, pair, users_at}
-use Rattle.dwz_plan.specs.declared.groups.Pair.{Pair}
+use Rattle.dwz_groups.specs.declared.groups.Pair.{Pair}
+use Rattle.dwz_alike.proofs.SpotLemmas.{numbers_same, numbers_true}
 
 -- ---- equal lists
 
-pub numbers_same : (xs ys : List ℕ) → pointwise nat_eq xs ys ≡ same_numbers xs ys
+pub pointwise_same : (xs ys : List ℕ) → pointwise nat_eq xs ys ≡ same_numbers xs ys
 unfolding same_numbers
-numbers_same [] [] = refl
-numbers_same [] (y ∷ ys) = refl
-numbers_same (x ∷ xs) [] = refl
-numbers_same (x ∷ xs) (y ∷ ys) = by (x == y) (numbers_same xs ys)
+pointwise_same [] [] = refl
+pointwise_same [] (y ∷ ys) = refl
+pointwise_same (x ∷ xs) [] = refl
+pointwise_same (x ∷ xs) (y ∷ ys) = by (x == y) (pointwise_same xs ys)
   where
     by : (t : Bool) → pointwise nat_eq xs ys ≡ same_numbers xs ys → (t && pointwise nat_eq xs ys) ≡ (elim t as (λ _. Bool) [ true ↦ same_numbers xs ys | false ↦ false ])
     by true more = more
     by false more = refl
-
-pub same_true : (xs ys : List ℕ) → same_numbers xs ys ≡ true → xs ≡ ys
-unfolding same_numbers
-same_true [] [] e = refl
-same_true [] (y ∷ ys) e = absurd cc
-same_true (x ∷ xs) [] e = absurd cc
-same_true (x ∷ xs) (y ∷ ys) e = by (x == y) refl e (same_true xs ys)
-  where
-    by : (t : Bool) → x == y ≡ t → (elim t as (λ _. Bool) [ true ↦ same_numbers xs ys | false ↦ false ]) ≡ true → (same_numbers xs ys ≡ true → xs ≡ ys) → x ∷ xs ≡ y ∷ ys
-    by true h e more = (λ i. eqb-true x y h i ∷ more e i)
-    by false h e more = absurd cc
-
-pub same_refl : (xs : List ℕ) → same_numbers xs xs ≡ true
-unfolding same_numbers
-same_refl [] = refl
-same_refl (x ∷ xs) = ap (λ t. elim t as (λ _. Bool) [ true ↦ same_numbers xs xs | false ↦ false ]) (eq-eqb x x refl) ∙ same_refl xs
 
 -- ---- listing
 
@@ -74,7 +59,7 @@ filter_both {X} p q r (x ∷ xs) h = by (q x) (p x) refl (h x) (filter_both p q 
 
 -- a list of equal numbers is there
 has_same : (us vs : List ℕ) (ks : List (List ℕ)) → same_numbers us vs ≡ true → has_list us ks ≡ has_list vs ks
-has_same us vs ks e = ap (λ (xs : List ℕ). has_list xs ks) (same_true us vs e)
+has_same us vs ks e = ap (λ (xs : List ℕ). has_list xs ks) (numbers_true us vs e)
 
 listed_from : (ks ls : List (List ℕ)) → fold put ks ls ≡ ks ++ filter (λ us. not (has_list us ks)) (distinct ls)
 unfolding distinct
@@ -103,8 +88,8 @@ listed_from ks (us ∷ ls) = by (has_list us ks) refl (listed_from ks ls) (liste
         by true false true e f = refl
         by true false false e f = refl
         by false true true e f = refl
-        by false true false e f = absurd (both_ways (same_numbers us vs) f (ap (λ (xs : List ℕ). same_numbers us xs) (same_true vs us e) ∙ same_refl us))
-        by false false true e f = absurd (both_ways (same_numbers vs us) e (ap (λ (xs : List ℕ). same_numbers vs xs) (same_true us vs f) ∙ same_refl vs))
+        by false true false e f = absurd (both_ways (same_numbers us vs) f (ap (λ (xs : List ℕ). same_numbers us xs) (numbers_true vs us e) ∙ numbers_same us))
+        by false false true e f = absurd (both_ways (same_numbers vs us) e (ap (λ (xs : List ℕ). same_numbers vs xs) (numbers_true us vs f) ∙ numbers_same vs))
         by false false false e f = refl
 
     by : (t : Bool) → has_list us ks ≡ t → fold put ks ls ≡ ks ++ filter (missing ks) (distinct ls) → fold put (ks ++ us ∷ []) ls ≡ (ks ++ us ∷ []) ++ filter (missing (ks ++ us ∷ [])) (distinct ls)
@@ -148,7 +133,7 @@ number_new ks us = by (has_list us ks) (position_or_len_push (same_numbers us) k
 
     by : (t : Bool) → number_of (ks ++ us ∷ []) us ≡ cond (number_of ks us == length ks) (length ks + cond (same_numbers us us) 0 1) (number_of ks us) → number_of (cond t ks (ks ++ us ∷ [])) us ≡ number_of ks us
     by true e = refl
-    by false e = e ∙ (ap (λ t. cond (number_of ks us == length ks) (length ks + cond t 0 1) (number_of ks us)) (same_refl us) ∙ at_end (number_of ks us == length ks) refl)
+    by false e = e ∙ (ap (λ t. cond (number_of ks us == length ks) (length ks + cond t 0 1) (number_of ks us)) (numbers_same us) ∙ at_end (number_of ks us == length ks) refl)
 
 has_put : (ks : List (List ℕ)) (us vs : List ℕ) → has_list vs ks ≡ true → has_list vs (put ks us) ≡ true
 has_put ks us vs there = by (has_list us ks)
@@ -166,7 +151,7 @@ has_new ks us = by (has_list us ks) refl
 
     by : (t : Bool) → has_list us ks ≡ t → has_list us (cond t ks (ks ++ us ∷ [])) ≡ true
     by true e = e
-    by false e = list_any-append (same_numbers us) ks (us ∷ []) ∙ (ap (λ t. has_list us ks || (t || false)) (same_refl us) ∙ end (has_list us ks))
+    by false e = list_any-append (same_numbers us) ks (us ∷ []) ∙ (ap (λ t. has_list us ks || (t || false)) (numbers_same us) ∙ end (has_list us ks))
 
 length_put : (ks : List (List ℕ)) (us : List ℕ) → length (put ks us) ≤ length ks + 1
 length_put ks us = by (has_list us ks)
@@ -256,11 +241,11 @@ is_key us b = pointwise nat_eq us b.now
 
 any_seen : (us : List ℕ) (keys : List (Bor (List ℕ))) → list_any (is_key us) keys ≡ has_list us (seen keys)
 any_seen us [] = refl
-any_seen us (b ∷ keys) = (λ i. numbers_same us b.now i || any_seen us keys i)
+any_seen us (b ∷ keys) = (λ i. pointwise_same us b.now i || any_seen us keys i)
 
 pub number_seen : (us : List ℕ) (keys : List (Bor (List ℕ))) → position_or_len (is_key us) keys ≡ number_of (seen keys) us
 number_seen us [] = refl
-number_seen us (b ∷ keys) = (λ i. cond (not (numbers_same us b.now i)) (1 + number_seen us keys i) 0)
+number_seen us (b ∷ keys) = (λ i. cond (not (pointwise_same us b.now i)) (1 + number_seen us keys i) 0)
 
 pub put_seen : (us : List ℕ) (b : Bor (List ℕ)) (keys keys' : List (Bor (List ℕ))) → b.now ≡ us → keys' ≡ cond (list_any (is_key b.now) keys) keys (keys ++ b ∷ []) → seen keys' ≡ put (seen keys) us
 put_seen us b keys keys' e h = ap seen h ∙ (by (list_any (is_key b.now) keys) ∙ (λ i. cond ((any_seen b.now keys ∙ ap (λ (vs : List ℕ). has_list vs (seen keys)) e) i) (seen keys) (seen keys ++ e i ∷ [])))

@@ -4,14 +4,14 @@ use Rattle.std.specs.List.{concat, flat_map, range_with_len}
 use Rattle.std.proofs.lemmas.Bool.{cases_eq, ne_eqb}
 use Rattle.std.proofs.lemmas.List.{map-append}
 use Rattle.dwz_docs.specs.Lists.{In}
-use Rattle.dwz_model.specs.declared.tops.Tops.{Tops}
-use Rattle.dwz_output.specs.Plan.{Common, Home, Local, Stay, same_home}
+use Rattle.dwz_groups.specs.declared.tops.Tops.{Tops}
+use Rattle.dwz_moving.specs.Homes.{Common, Home, Local, Stay, same_home}
 use Rattle.dwz_plan.specs.declared.plan.Scope.{Scope}
-use Rattle.dwz_plan.specs.Groups.{grouped, values_at}
+use Rattle.dwz_groups.specs.Groups.{grouped, values_at}
 use Rattle.dwz_plan.specs.Planned.{home, home_of, numbers, rep, reps_of, representatives}
 use Rattle.dwz_plan.specs.Rows.{Given, Row, given, rows_from}
 use Rattle.dwz_plan.specs.Steps.{all_keys, pair, rank_of, ranked, ranked_one, unit_pairs}
-use Rattle.dwz_plan.specs.declared.groups.Pair.{Pair}
+use Rattle.dwz_groups.specs.declared.groups.Pair.{Pair}
 use Rattle.dwz_plan.proofs.LedLemmas.{Counted, numbers_counted, rows_counted}
 use Rattle.dwz_plan.proofs.ListFacts.{concat_map, filter_in, map_map, range_shift}
 use Rattle.dwz_plan.proofs.RowLemmas.{length-rows_from}

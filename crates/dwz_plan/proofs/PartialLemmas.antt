@@ -6,16 +6,18 @@ use Rattle.std.proofs.lemmas.List.{append-nil, map-append}
 use Rattle.std.proofs.lemmas.List.Elements.{filter-append}
 use Rattle.std.proofs.lemmas.List.Folds.{flat_map-map}
 use Rattle.dwz_docs.specs.Lists.{In}
-use Rattle.dwz_output.specs.Plan.{Common, Home, Local, Stay, distinct, same_home}
-use Rattle.dwz_output.specs.Spots.{same_numbers}
+use Rattle.dwz_moving.specs.Homes.{Common, Home, Local, Stay, same_home}
+use Rattle.dwz_moving.specs.Plan.{distinct}
+use Rattle.dwz_alike.specs.Spots.{same_numbers}
 use Rattle.dwz_plan.specs.declared.plan.Partial.{Partial}
 use Rattle.dwz_plan.specs.Planned.{file_of_home, home, home_of, numbers, partial_with, partials, partials_at, rep, representatives, users}
 use Rattle.dwz_plan.specs.Rows.{Given, Row}
 use Rattle.dwz_plan.specs.Steps.{partial_of}
 use Rattle.dwz_plan.proofs.DistinctLemmas.{distinct_join, from_distinct}
-use Rattle.dwz_plan.proofs.ListFacts.{From, filter_no, in_cases, in_filter_from, in_map_from, map_in}
-use Rattle.dwz_plan.proofs.ListingLemmas.{same_true}
+use Rattle.dwz_plan.proofs.ListFacts.{filter_no, map_in}
 use Rattle.dwz_plan.proofs.MoverLemmas.{movers_of}
+use Rattle.dwz_seen.proofs.Members.{From, in_cases, in_filter_from, in_map_from}
+use Rattle.dwz_alike.proofs.SpotLemmas.{numbers_true}
 
 -- ---- homes
 
@@ -72,7 +74,7 @@ part_among g rows us = partial_of g.files_of_units g.files us (tops_with g rows 
 -- rows whose homes are not that of these users have none of them
 tops_apart : (g : Given) (rows : List Row) (us : List ℕ) → ((a : Row) → In a rows → home g a ≡ home_of g.files_of_units us → ⊥) → filter (λ a. same_numbers (users g a) us) rows ≡ []
 tops_apart g rows us apart =
-    filter_no (λ a. same_numbers (users g a) us) rows (λ a is. false_from_ne_true (same_numbers (users g a) us) (λ e. apart a is (ap (home_of g.files_of_units) (same_true (users g a) us e))))
+    filter_no (λ a. same_numbers (users g a) us) rows (λ a is. false_from_ne_true (same_numbers (users g a) us) (λ e. apart a is (ap (home_of g.files_of_units) (numbers_true (users g a) us e))))
 
 tops_left : (g : Given) (rows others : List Row) (us : List ℕ) → ((a : Row) → In a others → home g a ≡ home_of g.files_of_units us → ⊥) → tops_with g (rows ++ others) us ≡ tops_with g rows us
 tops_left g rows others us apart =
@@ -103,7 +105,7 @@ parts_split g (h ∷ homes) once =
     apart us vs p q =
         let a = in_map_from (users g) us (representatives g h) p in
         let b = in_map_from (users g) vs (flat_map (representatives g) homes) q in
-        false_from_ne_true (same_numbers us vs) (λ e. apart_homes a.source b.source a.there b.there (ap (home_of g.files_of_units) (a.is ∙ (same_true us vs e ∙ sym b.is))))
+        false_from_ne_true (same_numbers us vs) (λ e. apart_homes a.source b.source a.there b.there (ap (home_of g.files_of_units) (a.is ∙ (numbers_true us vs e ∙ sym b.is))))
 
     one : (us : List ℕ) → In us (distinct (map (users g) (representatives g h))) → part_among g (representatives g h ++ flat_map (representatives g) homes) us ≡ partial_with g h us
     one us is =

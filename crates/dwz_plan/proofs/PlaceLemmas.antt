@@ -5,11 +5,11 @@ use Rattle.std.proofs.lemmas.Bool.{cases_eq, ne_eqb}
 use Rattle.std.proofs.lemmas.List.{append-nil, append_assoc, get_or-map, get_or-replicate, get_or-set_other, get_or-set_same, length-map, length-replicate, take_all, take_more}
 use Rattle.std.proofs.lemmas.List.Elements.{All-append, All-cons, All-head, All-nil, All-tail}
 use Rattle.std.proofs.lemmas.List.Sums.{fold_more}
-use Rattle.dwz_model.specs.declared.tops.TopRow.{TopRow}
-use Rattle.dwz_output.specs.Plan.{Common, Home, Local, Stay}
+use Rattle.dwz_groups.specs.declared.tops.TopRow.{TopRow}
+use Rattle.dwz_moving.specs.Homes.{Common, Home, Local, Stay}
 use Rattle.dwz_plan.specs.Planned.{file_of_home, home_of, place_at}
 use Rattle.dwz_plan.specs.Steps.{file_of_rank, is_in_unit, pair, same_bool, partial_of, partials_of, place_of_rank, placed, rank_of, staying_one, staying_pairs, users_at}
-use Rattle.dwz_plan.specs.declared.groups.Pair.{Pair}
+use Rattle.dwz_groups.specs.declared.groups.Pair.{Pair}
 use Rattle.dwz_plan.specs.declared.plan.Home.{Home as Place}
 use Rattle.dwz_plan.specs.declared.plan.Home.TheVariants.{Stay as InUnit}
 use Rattle.dwz_plan.specs.declared.plan.Partial.{Partial}

@@ -1,11 +1,10 @@
 -- Rows and the tops that they show.
-use Rattle.std.proofs.Common.{◌≡◌, ℕ, ℤ, Option, suc, ◌+◌, inl, inr, cond, Bool, true, false, List, [], ◌∷◌, ◌++◌, length, map, filter, refl, sym, ap, subst, arith}
-use Rattle.dwz_meanings.specs.Documents.{Compile, DwUnit, Entries, Kind, OfType, Partial as PartialKind, language}
+use Rattle.std.proofs.Common.{◌≡◌, ℕ, suc, inl, inr, cond, Bool, true, false, List, [], ◌∷◌, length, map, filter, refl, sym, arith}
 use Rattle.dwz_docs.specs.Lists.{In}
-use Rattle.dwz_docs.specs.Trees.{End, Entry}
-use Rattle.dwz_model.specs.declared.tops.TopRow.{TopRow}
-use Rattle.dwz_output.specs.Plan.{is_pinned}
-use Rattle.dwz_output.specs.Spots.{FileUnit, Spot, Top, row_length, top_count, tops_below, tops_from, tops_in}
+use Rattle.dwz_groups.specs.declared.tops.TopRow.{TopRow}
+use Rattle.dwz_moving.specs.Plan.{is_pinned}
+use Rattle.dwz_alike.specs.Spots.{FileUnit, Spot, Top, tops_from}
+use Rattle.dwz_alike.proofs.TopNumbers.{Numbered, from_numbered}
 use Rattle.dwz_plan.specs.Planned.{numbers}
 use Rattle.dwz_plan.specs.Rows.{Row, rows_from}
 use Rattle.dwz_plan.specs.Shows.{ShowsRows}
@@ -13,39 +12,10 @@ use Rattle.dwz_plan.specs.Shows.{ShowsRows}
 -- ---- tops are numbered one by one
 
 abbrev pub TopsFrom : ℕ → List Top → Type 0
-TopsFrom s [] = Unit {0}
-TopsFrom s (t ∷ tops) = (t.number ≡ s) × TopsFrom (suc s) tops
-
-from_append : (s : ℕ) (xs ys : List Top) → TopsFrom s xs → TopsFrom (s + length xs) ys → TopsFrom s (xs ++ ys)
-from_append s [] ys h k = (let e : s + 0 ≡ s = omega arith in subst (λ n. TopsFrom n ys) e k)
-from_append s (t ∷ xs) ys h k = (h.0, from_append (suc s) xs ys h.1 (let e : s + suc (length xs) ≡ suc s + length xs = omega arith in subst (λ n. TopsFrom n ys) e k))
-
-tops_in_from : (file unit : ℕ) (l : Option ℤ) (n : ℕ) (below : Entries Spot) → TopsFrom n (tops_in file unit l n below)
-unfolding tops_in
-tops_in_from file unit l n End = tt
-tops_in_from file unit l n (Entry e children next) = (refl, tops_in_from file unit l (suc n) next)
-
-length-tops_in : (file unit : ℕ) (l : Option ℤ) (n : ℕ) (below : Entries Spot) → length (tops_in file unit l n below) ≡ row_length below
-unfolding tops_in row_length
-length-tops_in file unit l n End = refl
-length-tops_in file unit l n (Entry e children next) = ap suc (length-tops_in file unit l (suc n) next)
-
-below_from : (file unit n : ℕ) (u : DwUnit Spot) (k : Kind Spot) → TopsFrom n (tops_below file unit n u k)
-below_from file unit n u Compile = tops_in_from file unit (language u) n u.below
-below_from file unit n u (OfType signature main) = tt
-below_from file unit n u PartialKind = tt
-
-length-tops_below : (file unit n : ℕ) (u : DwUnit Spot) (k : Kind Spot) → length (tops_below file unit n u k) ≡ top_count k u.below
-length-tops_below file unit n u Compile = length-tops_in file unit (language u) n u.below
-length-tops_below file unit n u (OfType signature main) = refl
-length-tops_below file unit n u PartialKind = refl
+TopsFrom n tops = Numbered n tops
 
 pub tops_counted : (unit n : ℕ) (units : List (FileUnit Spot)) → TopsFrom n (tops_from unit n units)
-unfolding tops_from
-tops_counted unit n [] = tt
-tops_counted unit n (f ∷ units) =
-    from_append n (tops_below f.file unit n f.unit f.unit.kind) (tops_from (suc unit) (n + top_count f.unit.kind f.unit.below) units) (below_from f.file unit n f.unit f.unit.kind)
-    (subst (λ k. TopsFrom (n + k) (tops_from (suc unit) (n + top_count f.unit.kind f.unit.below) units)) (sym (length-tops_below f.file unit n f.unit f.unit.kind)) (tops_counted (suc unit) (n + top_count f.unit.kind f.unit.below) units))
+tops_counted unit n units = from_numbered unit n units
 
 -- ---- a row for each top
 

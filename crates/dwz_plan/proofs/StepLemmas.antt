@@ -5,28 +5,31 @@ use Rattle.std.proofs.lemmas.Bool.{and_from, cases_eq, ne_eqb}
 use Rattle.std.proofs.lemmas.List.{get_or-map, length-map}
 use Rattle.std.proofs.lemmas.List.Elements.{All-map, filter_agree}
 use Rattle.dwz_docs.specs.Lists.{In}
-use Rattle.dwz_model.specs.declared.tops.TopRow.{TopRow}
-use Rattle.dwz_model.specs.declared.tops.Tops.{Tops}
-use Rattle.dwz_output.specs.Plan.{Common, Home, Local, Stay, distinct, is_home, same_home}
-use Rattle.dwz_output.specs.Spots.{same_numbers}
+use Rattle.dwz_groups.specs.declared.tops.TopRow.{TopRow}
+use Rattle.dwz_groups.specs.declared.tops.Tops.{Tops}
+use Rattle.dwz_moving.specs.Homes.{Common, Home, Local, Stay, same_home}
+use Rattle.dwz_moving.specs.Plan.{distinct}
+use Rattle.dwz_alike.specs.Spots.{same_numbers}
 use Rattle.dwz_plan.specs.declared.plan.Home.{Home as Place}
 use Rattle.dwz_plan.specs.declared.plan.Home.TheVariants.{Stay as InUnit}
 use Rattle.dwz_plan.specs.declared.plan.Partial.{Partial}
 use Rattle.dwz_plan.specs.declared.plan.Scope.{Scope}
-use Rattle.dwz_plan.specs.Groups.{grouped, values_at}
-use Rattle.dwz_plan.specs.Planned.{alike, home, home_of, number_in, numbers, partials, place, place_at, rep, reps_of, representatives, stand_in, units_of, users}
+use Rattle.dwz_groups.specs.Groups.{grouped, values_at}
+use Rattle.dwz_plan.specs.Planned.{alike, home, home_of, number_in, numbers, partials, place, place_at, rep, reps_of, representatives, units_of, users}
 use Rattle.dwz_plan.specs.Rows.{Given, Row, given, rows_from}
-use Rattle.dwz_plan.specs.Steps.{all_keys, is_in_unit, keys_under, lists_of, movers_by, number_of, numbered, pair, partial_of, partials_of, parts_by, placed, placed_by, stander, unit_pairs, users_at}
-use Rattle.dwz_plan.specs.declared.groups.Pair.{Pair}
+use Rattle.dwz_plan.specs.Steps.{all_keys, keys_under, lists_of, movers_by, number_of, numbered, pair, partial_of, partials_of, parts_by, placed, placed_by, unit_pairs, users_at}
+use Rattle.dwz_groups.specs.declared.groups.Pair.{Pair}
 use Rattle.dwz_plan.proofs.DistinctLemmas.{distinct_apart, has_from, in_distinct, number_is, zip_range}
 use Rattle.dwz_plan.proofs.HomeLemmas.{local_low}
-use Rattle.dwz_plan.proofs.LedLemmas.{Counted, counted_below, counted_from, numbers_counted, row_in, row_number, rows_counted, same_row, stood, stood_leads}
-use Rattle.dwz_plan.proofs.ListFacts.{all_from_in, filter_in, in_filter, in_filter_from, in_left, in_map, in_map_from, in_range, in_right, map_in, map_map, range_there}
-use Rattle.dwz_plan.proofs.ListingLemmas.{position_found, same_refl, same_true}
+use Rattle.dwz_plan.proofs.LedLemmas.{Counted, counted_below, counted_from, row_in, row_number, rows_counted, same_row, stood, stood_leads}
+use Rattle.dwz_plan.proofs.ListFacts.{all_from_in, filter_in, in_range, map_in, map_map, range_there}
+use Rattle.dwz_plan.proofs.ListingLemmas.{position_found}
 use Rattle.dwz_plan.proofs.MoverLemmas.{led_lists, movers_are, movers_of}
 use Rattle.dwz_plan.proofs.PartialLemmas.{Homed, all_homes, homed, movers_split, part_among, partials_among, tops_with}
 use Rattle.dwz_plan.proofs.RowLemmas.{alike_same, length-rows_from, rep_stays}
 use Rattle.dwz_plan.proofs.UserLemmas.{led_users, led_users_yes}
+use Rattle.dwz_seen.proofs.Members.{in_filter, in_filter_from, in_left, in_map, in_map_from, in_right}
+use Rattle.dwz_alike.proofs.SpotLemmas.{numbers_same, numbers_true}
 
 -- ---- the row of a number
 
@@ -37,7 +40,7 @@ row_found s (b ∷ rows) a (suc i) c (inl h) e = absurd (omega (arith, c.0, ap (
 row_found s (b ∷ rows) a zero c (inr r) e = absurd (omega (arith, counted_from (suc s) rows a c.1 r, e))
 row_found s (b ∷ rows) a (suc i) c (inr r) e = row_found (suc s) rows a i c.1 r (omega (arith, e))
 
-at_number : {X : Type 0} (f : Row → X) (rows : List Row) (a : Row) (d : X) → Counted 0 rows → In a rows → get_or (map f rows) a.number d ≡ f a
+pub at_number : {X : Type 0} (f : Row → X) (rows : List Row) (a : Row) (d : X) → Counted 0 rows → In a rows → get_or (map f rows) a.number d ≡ f a
 at_number f rows a d c is =
     let low = counted_below 0 rows a c is in
     get_or-map f rows a.number a d (omega (arith, low)) ∙ ap f (row_found 0 rows a a.number c is (omega arith))
@@ -127,7 +130,7 @@ module _ (scope : Scope) (tops : Tops) (least : List ℕ) where
   abbrev pub user_lists : List (List ℕ)
   user_lists = distinct (map (users the) (movers_of the))
 
-  counted : Counted 0 the_rows
+  pub counted : Counted 0 the_rows
   counted = rows_counted tops.files_of_units 0 tops.rows least
 
   users_of_leader : (a : Row) → In a the_rows → rep the a ≡ a.number → users_at lists a.number ≡ users the a
@@ -238,7 +241,7 @@ module _ (scope : Scope) (tops : Tops) (least : List ℕ) where
 
   -- ---- for each row
 
-  rep_low : (a : Row) → In a the_rows → rep the a < length the_rows
+  pub rep_low : (a : Row) → In a the_rows → rep the a < length the_rows
   rep_low a is = let l = leader the a is in omega (arith, l.number, counted_below 0 the_rows l.row counted l.there)
 
   pub reps_low : All (λ r. r < length the_rows) (reps_of the)
@@ -250,21 +253,6 @@ module _ (scope : Scope) (tops : Tops) (least : List ℕ) where
   homes_are low of_movers each =
       map_map (λ r. get_or of_movers r InUnit) (rep the) the_rows
       ∙ map_in (λ a. get_or of_movers (rep the a) InUnit) (place the) the_rows (λ a is. each (rep the a) (omega (arith, rep_low a is, length-map the_rows (λ (b : Row). led_users tops least scope b.number))) ∙ placed_is low a is)
-
-  stander_is : (a : Row) → In a the_rows → stander (map (place the) the_rows) (reps_of the) a.number ≡ stand_in the a
-  unfolding place
-  stander_is a is =
-      (λ i. cond (is_in_unit (at_number (λ (b : Row). place_at (home the b) (number_in (partials the) (users the b))) the_rows a InUnit counted is i)) a.number (at_number (rep the) the_rows a 0 counted is i)) ∙ by (home the a)
-    where
-      by : (h : Home) → cond (is_in_unit (place_at h (number_in (partials the) (users the a)))) a.number (rep the a) ≡ cond (is_home h) (rep the a) a.number
-      by Common = refl
-      by (Local f) = refl
-      by Stay = refl
-
-  pub stand_ins_are : map (stander (map (place the) the_rows) (reps_of the)) (range_with_len 0 (length the_rows)) ≡ map (stand_in the) the_rows
-  stand_ins_are =
-      ap (map (stander (map (place the) the_rows) (reps_of the))) (sym (numbers_counted 0 the_rows counted))
-      ∙ (map_map (stander (map (place the) the_rows) (reps_of the)) (λ (a : Row). a.number) the_rows ∙ map_in (λ (a : Row). stander (map (place the) the_rows) (reps_of the) a.number) (stand_in the) the_rows stander_is)
 
   -- ---- what the steps are given
 
@@ -325,7 +313,7 @@ module _ (scope : Scope) (tops : Tops) (least : List ℕ) where
 
       same_list : users the a ≡ get_or user_lists (number_of user_lists (users the a)) []
       same_list =
-          same_true (users the a) (get_or user_lists (number_of user_lists (users the a)) [])
+          numbers_true (users the a) (get_or user_lists (number_of user_lists (users the a)) [])
           (sym (number_is user_lists (users the a) (number_of user_lists (users the a)) (distinct_apart (map (users the) (movers_of the))) listed_there found) ∙ eq-eqb (number_of user_lists (users the a)) (number_of user_lists (users the a)) refl)
 
       at : (d : Partial) → get_or (partials the) (number_in (partials the) (users the a)) d ≡ part_among the (movers_of the) (users the a)
@@ -336,7 +324,7 @@ module _ (scope : Scope) (tops : Tops) (least : List ℕ) where
       standing : In (rep the a) (tops_with the (movers_of the) (users the a))
       standing =
           subst (λ n. In n (tops_with the (movers_of the) (users the a))) (sym l.number)
-          (in_map (λ (b : Row). b.number) l.row (filter (λ b. same_numbers (users the b) (users the a)) (movers_of the)) (in_filter (λ b. same_numbers (users the b) (users the a)) l.row (movers_of the) there (ap (λ (us : List ℕ). same_numbers us (users the a)) l.same_users ∙ same_refl (users the a))))
+          (in_map (λ (b : Row). b.number) l.row (filter (λ b. same_numbers (users the b) (users the a)) (movers_of the)) (in_filter (λ b. same_numbers (users the b) (users the a)) l.row (movers_of the) there (ap (λ (us : List ℕ). same_numbers us (users the a)) l.same_users ∙ numbers_same (users the a))))
 
   -- the row of a number
   pub row_of_number : (n : ℕ) (d : Row) → n < length the_rows → In (get_or the_rows n d) the_rows × ((get_or the_rows n d).number ≡ n)

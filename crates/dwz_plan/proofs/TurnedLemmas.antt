@@ -6,10 +6,10 @@ use Rattle.std.proofs.lemmas.Bool.{ne_eqb}
 use Rattle.std.proofs.lemmas.List.{append-nil, append_assoc, map-append, take_more, length-take-le}
 use Rattle.std.proofs.lemmas.List.Elements.{All-append, All-cons, All-filter, All-head, All-map, All-tail, filter-append}
 use Rattle.std.proofs.lemmas.List.FromFn.{length-map-range_with_len}
-use Rattle.dwz_model.specs.declared.tops.TopRow.{TopRow}
-use Rattle.dwz_plan.specs.Groups.{grouped, values_at}
+use Rattle.dwz_groups.specs.declared.tops.TopRow.{TopRow}
+use Rattle.dwz_groups.specs.Groups.{grouped, values_at}
 use Rattle.dwz_plan.specs.Steps.{all_keys, keys_under, pair, turned, unit_pairs}
-use Rattle.dwz_plan.specs.declared.groups.Pair.{Pair}
+use Rattle.dwz_groups.specs.declared.groups.Pair.{Pair}
 
 -- ---- what stands in the pairs
 

@@ -3,13 +3,13 @@ use Rattle.std.proofs.Common.{◌≡◌, ℕ, suc, ◌==◌, ◌&&◌, ◌||◌,
 use Rattle.std.specs.List.{list_any, range_with_len, zip}
 use Rattle.std.proofs.lemmas.List.Elements.{filter_agree}
 use Rattle.dwz_docs.specs.Lists.{In}
-use Rattle.dwz_model.specs.declared.tops.TopRow.{TopRow}
-use Rattle.dwz_model.specs.declared.tops.Tops.{Tops}
+use Rattle.dwz_groups.specs.declared.tops.TopRow.{TopRow}
+use Rattle.dwz_groups.specs.declared.tops.Tops.{Tops}
 use Rattle.dwz_plan.specs.declared.plan.Scope.{Scope}
 use Rattle.dwz_plan.specs.Planned.{alike, rep, reps_of, users}
 use Rattle.dwz_plan.specs.Rows.{Row, given, row_of, rows_from}
 use Rattle.dwz_plan.specs.Steps.{keys_under, pair, unit_pairs}
-use Rattle.dwz_plan.specs.declared.groups.Pair.{Pair}
+use Rattle.dwz_groups.specs.declared.groups.Pair.{Pair}
 use Rattle.dwz_plan.proofs.ListFacts.{any_in, any_not, filter_no}
 use Rattle.dwz_plan.proofs.LedLemmas.{Counted, is_led, led_is, led_none, rows_counted}
 

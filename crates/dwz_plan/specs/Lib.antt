@@ -1,6 +1,6 @@
 pub mod Classes
-pub mod Groups
-pub mod Parts
+pub mod Gained
+pub mod PlanLaws
 pub mod Planned
 pub mod Rows
 pub mod Shows

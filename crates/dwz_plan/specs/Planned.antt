@@ -1,10 +1,11 @@
--- The plan of rows: which tops move where, what is kept, what is imported.
-use Rattle.std.specs.Prelude.{ℕ, suc, Bool, true, List, [], ◌∷◌, ◌++◌, ◌==◌, ◌&&◌, not, filter, find, length, map, slice_index, if◌then◌else◌}
+-- Rows that are alike, their users and homes; and the groups, which are the partial units if each row that has a home moves.
+use Rattle.std.specs.Prelude.{ℕ, suc, Bool, true, List, [], ◌∷◌, ◌++◌, ◌==◌, ◌&&◌, filter, find, length, map, slice_index, if◌then◌else◌}
 use Rattle.std.specs.Option.{option_map_or}
 use Rattle.std.specs.List.{flat_map, list_any, position_or_len, range_with_len}
 use Rattle.dwz_docs.specs.Lists.{has}
-use Rattle.dwz_output.specs.Plan.{Common, Home, Local, Stay, distinct, home_in, is_home, same_home}
-use Rattle.dwz_output.specs.Spots.{same_numbers}
+use Rattle.dwz_moving.specs.Homes.{Common, Home, Local, Stay, home_in, same_home}
+use Rattle.dwz_moving.specs.Plan.{distinct}
+use Rattle.dwz_alike.specs.Spots.{same_numbers}
 use Rattle.dwz_plan.specs.declared.plan.Home.{Home as Place}
 use Rattle.dwz_plan.specs.declared.plan.Home.TheVariants.{Common as InCommon, Local as InFile, Stay as InUnit}
 use Rattle.dwz_plan.specs.declared.plan.Partial.{Partial}
@@ -45,10 +46,7 @@ home_of files us = home_in (map (slice_index files) us)
 abbrev pub home : Given → Row → Home
 home g a = home_of g.files_of_units (users g a)
 
-abbrev pub moves : Given → Row → Bool
-moves g a = is_home (home g a)
-
--- ---- partial units
+-- ---- groups: the partial units, if each row that has a home moves
 
 -- the rows that stand for those alike to them and have that home
 unfoldable pub representatives : Given → Home → List Row
@@ -89,28 +87,14 @@ place_at Stay n = InUnit
 unfoldable pub place : Given → Row → Place
 place g a = place_at (home g a) (number_in (partials g) (users g a))
 
--- the number of what stands for it after
-abbrev pub stand_in : Given → Row → ℕ
-stand_in g a = if moves g a then rep g a else a.number
-
 -- ---- of each unit
-
-unfoldable pub staying : Given → ℕ → List Row
-staying g unit = filter (λ a. a.unit == unit && not (moves g a)) g.rows
-
--- what stays, pinned ones first
-unfoldable pub kept : Given → ℕ → List ℕ
-kept g unit = numbers (filter (λ a. a.pinned) (staying g unit) ++ filter (λ a. not a.pinned) (staying g unit))
 
 -- the numbers of the partial units that it uses, the first of which has that number
 unfoldable pub imports_from : ℕ → ℕ → List Partial → List ℕ
 imports_from unit n [] = []
 imports_from unit n (part ∷ parts) = if has unit part.users then n ∷ imports_from unit (suc n) parts else imports_from unit (suc n) parts
 
-abbrev pub imports : Given → ℕ → List ℕ
-imports g unit = imports_from unit 0 (partials g)
-
--- ---- the plan
+-- ---- a plan
 
 pub record Planned : Type 0 where
   pub partials : List Partial
@@ -120,12 +104,3 @@ pub record Planned : Type 0 where
   -- for each unit
   pub kept : List (List ℕ)
   pub imports : List (List ℕ)
-
-unfoldable pub plan_of : Given → Planned
-plan_of g = record {
-  partials = partials g;
-  homes = map (place g) g.rows;
-  stand_ins = map (stand_in g) g.rows;
-  kept = map (kept g) (units_of g);
-  imports = map (imports g) (units_of g);
-}

@@ -1,20 +1,26 @@
 -- Rows that show the tops of units, and what their plan then shows of the units' plan.
-use Rattle.std.specs.Prelude.{◌≡◌, ◌↔◌, ℕ, ◌<◌, true, All, List, [], ◌∷◌, Some, length, map, slice_get}
+use Rattle.std.specs.Prelude.{◌≡◌, ◌↔◌, ℕ, ◌<◌, Bool, true, false, All, List, [], ◌∷◌, Some, length, map, slice_get, slice_index, slice_index_or}
+use Rattle.std.specs.List.{range_with_len}
 use Rattle.dwz_meanings.specs.Documents.{Entries}
 use Rattle.dwz_docs.specs.Lists.{In}
 use Rattle.dwz_docs.specs.Trees.{End, Entry}
-use Rattle.dwz_model.specs.declared.tops.TopRow.{TopRow}
-use Rattle.dwz_model.specs.declared.tops.Tops.{Tops}
-use Rattle.dwz_output.specs.Deciding.{Test}
-use Rattle.dwz_output.specs.Plan.{Common, Home, Local, PartialUnit, Stay, home, import_of, is_pinned, rep, users}
-use Rattle.dwz_output.specs.Spots.{FileUnit, Spot, Top, tops_of}
+use Rattle.dwz_groups.specs.declared.tops.TopRow.{TopRow}
+use Rattle.dwz_groups.specs.declared.tops.Tops.{Tops}
+use Rattle.dwz_alike.specs.Alike.{refers_to}
+use Rattle.dwz_alike.specs.Deciding.{Test}
+use Rattle.dwz_moving.specs.Gain.{top_weight}
+use Rattle.dwz_moving.specs.Homes.{Common, Home, Local, Rule, Stay, home, rep, users}
+use Rattle.dwz_moving.specs.Plan.{PartialUnit, import_of, imports as unit_imports, is_pinned, kept as unit_kept, partials as unit_partials, stand_in}
+use Rattle.dwz_alike.specs.Spots.{FileUnit, Spot, Top, tops_of}
 use Rattle.dwz_plan.specs.declared.plan.Home.{Home as Place}
 use Rattle.dwz_plan.specs.declared.plan.Home.TheVariants.{Common as InCommon, Local as InFile, Stay as InUnit}
 use Rattle.dwz_plan.specs.declared.plan.Partial.{Partial}
 use Rattle.dwz_plan.specs.declared.plan.Scope.{Scope}
 use Rattle.dwz_plan.specs.declared.plan.Scope.TheVariants.{Together, Each}
-use Rattle.dwz_plan.specs.Planned.{file_of_home}
-use Rattle.dwz_plan.specs.Rows.{Given, Row, given}
+use Rattle.dwz_gain.specs.Gaining.{weight_at, weights_of}
+use Rattle.dwz_gain.specs.Groups.{IsWeight}
+use Rattle.dwz_plan.specs.Planned.{Planned, file_of_home}
+use Rattle.dwz_plan.specs.Rows.{Row, given}
 
 -- ---- the rows show the tops
 
@@ -28,9 +34,17 @@ ShowsRows units [] [] = Unit {0}
 ShowsRows units (row ∷ rows) (t ∷ tops) = ShowsTop units row t × ShowsRows units rows tops
 ShowsRows units _ _ = ⊥
 
--- Of whether a top may move nothing is said here: that is in what decides which are alike.
+-- the row of that number says that its top may move
+abbrev pub may_move : List TopRow → ℕ → Bool
+may_move rows n = slice_index_or (map (λ row. row.movable) rows) n false
+
+-- Of whether a top may move nothing is said here: that is in what decides which are alike. Weights and targets are shown by the tops'
+-- numbers; of a top that may not move, by its row, any targets do.
 pub record ShowsTops (units : List (FileUnit Spot)) (tops : Tops) : Type 0 where
   pub rows : ShowsRows units tops.rows (tops_of units)
+  pub weights : (t : Top) → In t (tops_of units) → IsWeight (weight_at (weights_of tops.rows) t.number) (top_weight t)
+  pub len : length tops.targets ≡ length (tops_of units)
+  pub targets : (t : Top) → In t (tops_of units) → may_move tops.rows t.number ≡ true → (n : ℕ) → In n (slice_index_or tops.targets t.number []) ↔ (refers_to n t ≡ true)
   pub files_of_units : tops.files_of_units ≡ map (λ f. f.file) units
   pub files : All (λ file. file < tops.files) tops.files_of_units
 
@@ -52,10 +66,6 @@ pub record IsLeast (scope : Scope) (tops : Tops) (least : List ℕ) (alike : Tes
   pub len : length least ≡ length tops.rows
   pub decides : (a b : Row) → In a (given scope tops least).rows → In b (given scope tops least).rows → (alike a.number b.number ≡ true) ↔ Joins scope a b
 
--- P of all units, tests, and rows that show the units' tops with least numbers by which the test decides
-abbrev pub ForShown : (List (FileUnit Spot) → Test → Given → Type 0) → Type 0
-ForShown P = (units : List (FileUnit Spot)) (alike : Test) (scope : Scope) (tops : Tops) (least : List ℕ) → ShowsTops units tops → IsLeast scope tops least alike → P units alike (given scope tops least)
-
 -- ---- what the plan shows
 
 -- a partial unit with numbers for its home and its tops
@@ -71,12 +81,21 @@ pub record PartAt (parts : List PartialUnit) (n : ℕ) (h : Home) (us : List ℕ
   pub holds : In top (map (λ t. t.number) part.tops)
 
 -- The top goes to its home, into the partial unit with its users, which holds the top that stands for it; or it stays.
-abbrev pub IsPlace : Test → List (FileUnit Spot) → List PartialUnit → ℕ → Place → Type 0
-IsPlace alike units parts n (InCommon p) = (home alike units n ≡ Common) × PartAt parts p Common (users alike units n) (rep alike units n)
-IsPlace alike units parts n (InFile p) = (file : ℕ) × (home alike units n ≡ Local file) × PartAt parts p (Local file) (users alike units n) (rep alike units n)
-IsPlace alike units parts n InUnit = home alike units n ≡ Stay
+abbrev pub IsPlace : Rule → List (FileUnit Spot) → List PartialUnit → ℕ → Place → Type 0
+IsPlace rule units parts n (InCommon p) = (home rule units n ≡ Common) × PartAt parts p Common (users rule.alike units n) (rep rule.alike units n)
+IsPlace rule units parts n (InFile p) = (file : ℕ) × (home rule units n ≡ Local file) × PartAt parts p (Local file) (users rule.alike units n) (rep rule.alike units n)
+IsPlace rule units parts n InUnit = home rule units n ≡ Stay
 
 -- imports of partial units with these numbers
 unfoldable pub import_row : ℕ → List ℕ → Entries Spot
 import_row unit [] = End
 import_row unit (n ∷ parts) = Entry (import_of unit n) End (import_row unit parts)
+
+-- ---- a plan of rows shows the plan of units
+
+pub record ShowsPlan (rule : Rule) (units : List (FileUnit Spot)) (files : ℕ) (plan : Planned) : Type 0 where
+  pub partials : map (shown_part files) (unit_partials rule units (range_with_len 0 files)) ≡ plan.partials
+  pub homes : (t : Top) → In t (tops_of units) → IsPlace rule units (unit_partials rule units (range_with_len 0 files)) t.number (slice_index_or plan.homes t.number InUnit)
+  pub stand_ins : (t : Top) → In t (tops_of units) → slice_index plan.stand_ins t.number ≡ stand_in rule units t.number
+  pub kept : (unit : ℕ) → unit < length units → slice_index_or plan.kept unit [] ≡ map (λ t. t.number) (unit_kept rule units unit)
+  pub imports : (unit : ℕ) → unit < length units → unit_imports unit 0 (unit_partials rule units (range_with_len 0 files)) ≡ import_row unit (slice_index_or plan.imports unit [])

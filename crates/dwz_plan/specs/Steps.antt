@@ -1,14 +1,15 @@
 -- The steps in which a plan is made.
 use Rattle.std.specs.Prelude.{ℕ, zero, suc, ◌+◌, Bool, true, false, List, [], ◌∷◌, ◌++◌, ◌==◌, ◌&&◌, not, Option, Some, None, filter, fold, length, map, slice_index, slice_index_or, if◌then◌else◌}
 use Rattle.std.specs.List.{concat, list_any, position_or_len, range_with_len, zip}
-use Rattle.dwz_model.specs.declared.tops.TopRow.{TopRow}
-use Rattle.dwz_output.specs.Plan.{Common, Home, Local, Stay, distinct}
-use Rattle.dwz_output.specs.Spots.{same_numbers}
-use Rattle.dwz_plan.specs.declared.groups.Pair.{Pair}
+use Rattle.dwz_groups.specs.declared.tops.TopRow.{TopRow}
+use Rattle.dwz_moving.specs.Homes.{Common, Home, Local, Stay}
+use Rattle.dwz_moving.specs.Plan.{distinct}
+use Rattle.dwz_alike.specs.Spots.{same_numbers}
+use Rattle.dwz_groups.specs.declared.groups.Pair.{Pair}
 use Rattle.dwz_plan.specs.declared.plan.Home.{Home as Place}
 use Rattle.dwz_plan.specs.declared.plan.Home.TheVariants.{Common as InCommon, Local as InFile, Stay as InUnit}
 use Rattle.dwz_plan.specs.declared.plan.Partial.{Partial}
-use Rattle.dwz_plan.specs.Groups.{grouped}
+use Rattle.dwz_groups.specs.Groups.{grouped}
 use Rattle.dwz_plan.specs.Planned.{file_of_home, home_of, place_at}
 
 abbrev pub pair : ℕ → ℕ → Pair

@@ -1,7 +1,7 @@
 //! Which tops move into which partial units.
 #![tactic(auto)]
 
-mod groups;
+mod gained;
 mod homes;
 mod laws;
 mod parted;

@@ -1,15 +1,17 @@
 //! The plan and how it is made.
 ghost use Rattle.std.specs.Prelude.{◌≡◌, ℕ, ◌+◌, ◌-◌, ◌<◌, ◌≤◌, ◌^◌, [], All, length, map, IfOk, slice_index, slice_index_or};
-ghost use Rattle.dwz_plan.specs.Planned.{partials, place, plan_of, stand_in};
+ghost use Rattle.dwz_plan.specs.Planned.{partials, place, reps_of};
+ghost use Rattle.dwz_plan.specs.Gained.{IsPlanOf};
 ghost use Rattle.dwz_plan.specs.Rows.{given};
 
-use crate::groups::Groups;
+use crate::gained::{homes_after, marks_of, partials_after};
 use crate::homes::{homes, stand_ins};
 use crate::parted::parted;
 use crate::reps::reps;
 use crate::units::{imports, kept};
 use crate::users::users;
-use dwz_model::{NoMemory, Numbers, Tops};
+use dwz_groups::{Groups, Tops};
+use dwz_model::{NoMemory, Numbers};
 use std::alloc::Global;
 use std::marker::Model;
 
@@ -44,12 +46,13 @@ pub struct Partial {
     pub tops: Numbers,
 }
 
-// What moves: the partial units, and for each top where it goes and what stands for it after.
+// If each top with a home moves: the partial units, which are the groups, and for each top where it goes and the first top
+// alike to it.
 #[derive(Drop)]
 struct Moves {
     partials: Vec<Partial>,
     homes: Vec<Home>,
-    stand_ins: Vec<u32>,
+    reps: Vec<u32>,
 }
 
 fn moved(alloc: Global, tops: &Tops, least: &[u32], scope: Scope) -> Result<Moves, NoMemory>
@@ -62,7 +65,7 @@ fn moved(alloc: Global, tops: &Tops, least: &[u32], scope: Scope) -> Result<Move
     ensures partials { IfOk result (λ m. m.partials.items ≡ partials (given scope tops.now least.now)) }
     ensures few { IfOk result (λ m. length m.partials.items < 2 ^ 32) }
     ensures homes { IfOk result (λ m. let g = given scope tops.now least.now in m.homes.items ≡ map (place g) g.rows) }
-    ensures stand_ins { IfOk result (λ m. let g = given scope tops.now least.now in m.stand_ins.items ≡ map (stand_in g) g.rows) }
+    ensures reps { IfOk result (λ m. m.reps.items ≡ reps_of (given scope tops.now least.now)) }
 {
     let files_of_units = tops.files_of_units.as_slice();
     let reps = reps(alloc, tops, least, scope)?;
@@ -74,15 +77,14 @@ fn moved(alloc: Global, tops: &Tops, least: &[u32], scope: Scope) -> Result<Move
     )?;
     let parted = parted(alloc, &users, files_of_units, tops.files)?;
     let homes = homes(alloc, reps.as_slice(), parted.of_movers.as_slice())?;
-    let stand_ins = stand_ins(alloc, homes.as_slice(), reps.as_slice())?;
     Ok(Moves {
         partials: parted.partials,
         homes,
-        stand_ins,
+        reps,
     })
 }
 
-/// Which tops move into which partial units, what the units keep, and which partial units they import.
+/// Which tops move into which partial units, what the units keep, and which partial units they import (DWARF 5, 3.2.5).
 ///
 /// Clauses see it as the record `Planned` of `specs/Planned.antt`.
 #[derive(Drop)]
@@ -105,6 +107,8 @@ impl Model for Plan {
 impl Plan {
     /// The plan of tops, if for each top `least` has the least number of a top alike to it. Tops that can't be moved
     /// are alike to none. Where each file is by itself, equal numbers in different files don't make tops alike.
+    /// A group of tops, those with the same users, moves if that saves more than it takes, or if a top of a group that
+    /// moves refers into it; all else stays.
     pub fn make(alloc: Global, tops: &Tops, least: &[u32], scope: Scope) -> Result<Plan, NoMemory>
         requires rows { length tops.now.rows < 2 ^ 32 }
         requires units { length tops.now.files_of_units < 2 ^ 32 }
@@ -112,16 +116,27 @@ impl Plan {
         requires inside { All (λ n. n < length tops.now.rows) least.now }
         requires of_units { All (λ row. row.unit < length tops.now.files_of_units) tops.now.rows }
         requires files { All (λ file. file < tops.now.files) tops.now.files_of_units }
-        ensures { IfOk result (λ plan. plan ≡ plan_of (given scope tops.now least.now)) }
+        requires targets { length tops.now.targets ≡ length tops.now.rows }
+        requires inside_targets { All (λ ts. All (λ t. t < length tops.now.rows) ts) tops.now.targets }
+        ensures { IfOk result (λ plan. IsPlanOf (given scope tops.now least.now) plan) }
     {
         let moves = moved(alloc, tops, least, scope)?;
         let units = tops.files_of_units.len();
-        let kept = kept(alloc, tops.rows.as_slice(), moves.homes.as_slice(), units)?;
-        let imports = imports(alloc, moves.partials.as_slice(), units)?;
+        let marks = marks_of(
+            alloc,
+            moves.partials.as_slice(),
+            moves.homes.as_slice(),
+            tops,
+        )?;
+        let homes = homes_after(alloc, moves.homes.as_slice(), marks.as_slice())?;
+        let partials = partials_after(alloc, moves.partials, marks.as_slice())?;
+        let stand_ins = stand_ins(alloc, homes.as_slice(), moves.reps.as_slice())?;
+        let kept = kept(alloc, tops.rows.as_slice(), homes.as_slice(), units)?;
+        let imports = imports(alloc, partials.as_slice(), units)?;
         Ok(Plan {
-            partials: moves.partials,
-            homes: moves.homes,
-            stand_ins: moves.stand_ins,
+            partials,
+            homes,
+            stand_ins,
             kept,
             imports,
         })

@@ -1,13 +1,13 @@
 //! What units keep and import.
 ghost use Rattle.std.specs.Prelude.{◌≡◌, ℕ, ◌+◌, ◌-◌, ◌<◌, ◌≤◌, ◌^◌, ◌++◌, ◌∷◌, [], true, false, All, length, map, IfOk, OnOk, ◌&&◌, if◌then◌else◌};
-ghost use Rattle.dwz_plan.specs.Groups.{grouped};
+ghost use Rattle.dwz_groups.specs.Groups.{grouped};
 ghost use Rattle.dwz_plan.specs.Steps.{is_in_unit, same_bool, staying_pairs, turned};
 
-use crate::groups::{Groups, Pair, group};
 use crate::homes::stays;
 use crate::plan::{Home, Partial};
 use crate::users::push_turned;
-use dwz_model::{NoMemory, TopRow};
+use dwz_groups::{Groups, Pair, TopRow, group};
+use dwz_model::NoMemory;
 use std::alloc::Global;
 
 // Appends a pair if it is wanted.

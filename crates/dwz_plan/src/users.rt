@@ -2,8 +2,8 @@
 ghost use Rattle.std.specs.Prelude.{◌≡◌, ℕ, ◌+◌, ◌-◌, ◌<◌, ◌≤◌, ◌^◌, ◌++◌, All, length, map, IfOk, OnOk};
 ghost use Rattle.dwz_plan.specs.Steps.{all_keys, pair, turned, unit_pairs};
 
-use crate::groups::{Groups, Pair, group};
-use dwz_model::{NoMemory, TopRow};
+use dwz_groups::{Groups, Pair, TopRow, group};
+use dwz_model::NoMemory;
 use std::alloc::Global;
 
 // Under the unit of each top that can be moved, the top that stands for it.

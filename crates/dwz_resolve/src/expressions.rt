@@ -33,12 +33,7 @@ pub(crate) fn bad_operand(section: u8, at: u64) -> ReadErr
 
 /// The number of the entry that an operand names: counted from the unit one of its own, else one of the file.
 #[inline(always)]
-pub fn entry_of(
-    units: &Units,
-    sections: &Sections,
-    here: &Here,
-    operand: &Operand,
-) -> Option<u32>
+pub fn entry_of(units: &Units, sections: &Sections, here: &Here, operand: &Operand) -> Option<u32>
     requires { here.now.end ≤ entries_in (units_of units.now) }
     ensures within { IfSome result (λ i. i < entries_in (units_of units.now)) }
     ensures looks { (u : RawUnit) → IsHere (units_of units.now) u here.now → LooksUp (units_of units.now) (scope_in sections.now (units_of units.now) u) operand.now result }

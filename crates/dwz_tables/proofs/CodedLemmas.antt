@@ -136,4 +136,3 @@ module _ (table : List Declaration) (s : Shape) (is : IsCoded table) (none : lea
       grown (new, code) e
       ∙ ap (λ (t : List Declaration). t ++ with_code (entry_shape s) (length table + 1) ∷ []) is
       ∙ sym (ap (coded 1) (shapes_grown new code e) ∙ coded-append 1 (shapes_in table) s ∙ ap (λ (n : ℕ). coded 1 (shapes_in table) ++ declaration_of n s ∷ []) place)
-

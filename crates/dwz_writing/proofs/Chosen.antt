@@ -54,7 +54,7 @@ bases_fit f u = same_bases _ _ _ _ _ _ (first_fit (unit_fit f u) 0x72 u.root.att
 own_fit : {K : Type 0} (f : FileFit K) (u : DwUnit K) → own_of u ≡ own_of (fit_unit f u)
 own_fit {K} f u =
     ap (λ (ks : List K). record { at = u.at; keys = ks; bases = bases_in u }) (sym (fit_entry_keys f u))
-        ∙ ap (λ (b : Bases). record { at = u.at; keys = entry_keys (fit_unit f u); bases = b }) (sym (bases_fit f u))
+    ∙ ap (λ (b : Bases). record { at = u.at; keys = entry_keys (fit_unit f u); bases = b }) (sym (bases_fit f u))
 
 -- ---- each value is written as its form says
 
@@ -205,8 +205,10 @@ texts_for : {K : Type 0} (u : DwUnit K) (from : Sources → Type 0) (f : Forms K
 texts_for u from f t units true there at =
     let is = each_in (UnitTexts f.texts) u units at.1.texts there in
     let are = each_in (UnitPaths f.paths) u units at.1.paths there in
-    record { root = join_attrs (AttrTexts f.texts) (AttrPaths f.paths) _ (λ a p q. (p, q)) u.root.attrs is.0 are.0;
-        below = join_entries (AttrTexts f.texts) (AttrPaths f.paths) _ (λ a p q. (p, q)) u.below is.1 are.1 }
+    record {
+      root = join_attrs (AttrTexts f.texts) (AttrPaths f.paths) _ (λ a p q. (p, q)) u.root.attrs is.0 are.0;
+      below = join_entries (AttrTexts f.texts) (AttrPaths f.paths) _ (λ a p q. (p, q)) u.below is.1 are.1;
+    }
 texts_for u from f t units false there at = record { root = all_attrs _ (text_for u.kind f.texts f.paths) u.root.attrs; below = all_entries _ (text_for u.kind f.texts f.paths) u.below }
 
 keys_within : {K : Type 0} (units : List (DwUnit K)) (u : DwUnit K) → In u units → (k : K) → In k (unit_keys u) → In k (units_keys units)
@@ -233,14 +235,14 @@ module _ {K : Type 0} (f : Forms K) (is : IsSame f.same) (from : Sources → Typ
       let texts = texts_for u from f t units f.is_common there stand in
       let h = holder_of f.is_common u.kind in
       unit_good file is from t (small_strs from f t units f.is_common stand) u within apart inside alone (sections_common u.kind from f (unit_fit file u) t units f.is_common refl refl refl stand)
-          own.own
+      own.own
       (each_in (λ v. CarriedUnit from (f.origin v.at) v) u units carried there) root below
       (join_attrs (AttrAt h f.texts f.paths (bases_in u).line (f.origin u.at).line) (AttrOperands t (own_of u)) _ (λ a p q. (p, q)) u.root.attrs
       (join_attrs (TextFor h f.texts f.paths) (FileStands h (bases_in u).line (f.origin u.at).line) (AttrAt h f.texts f.paths (bases_in u).line (f.origin u.at).line) (λ a p q. (p, q)) u.root.attrs
-          texts.root own.root) exprs.0)
+      texts.root own.root) exprs.0)
       (join_entries (AttrAt h f.texts f.paths (bases_in u).line (f.origin u.at).line) (AttrOperands t (own_of u)) _ (λ a p q. (p, q)) u.below
       (join_entries (TextFor h f.texts f.paths) (FileStands h (bases_in u).line (f.origin u.at).line) (AttrAt h f.texts f.paths (bases_in u).line (f.origin u.at).line) (λ a p q. (p, q)) u.below
-          texts.below own.below) exprs.1)
+      texts.below own.below) exprs.1)
 
   each_good : (some : List (DwUnit K)) → ((u : DwUnit K) → In u some → In u units) → Each SoundUnit (map (fit_unit file) some) × Each (UnitSays t) (map (fit_unit file) some)
   each_good [] into = (tt, tt)

@@ -269,7 +269,7 @@ module _ {K : Type 0} (from : Sources → Type 0) (origin : Bases) (t : Tells K)
       subst (Good t own) (sym (as_slot_is NewUnit f e)) (subst (λ (n : ℕ). Good t own (in_strs t own a p.text p.value p.sound n)) (sym (number_is f here at)) (strp_good t own a p.text p.value p.sound p.offset (place_less t own a p.text p.value p.sound p.offset small stands) stands))
   slot_good CommonUnit f e here itself at there =
       subst (Good t own) (sym (as_slot_is CommonUnit f e)) (pooled_good t own a p.text p.value p.sound f.texts small at.strs p.stands.spelled.no_zero
-          (one_of t own a p.text p.value p.sound f.texts (subst (λ (d : Class). TextAs d f.texts a) p.class there.0)))
+      (one_of t own a p.text p.value p.sound f.texts (subst (λ (d : Class). TextAs d f.texts a) p.class there.0)))
 
 -- ---- files
 
@@ -321,7 +321,7 @@ module _ {K : Type 0} (from : Sources → Type 0) (origin : Bases) (t : Tells K)
       let plain : a.value.plain ≡ File None = ap (λ (v : Value K). v.plain) value in
       let none : own.bases.line ≡ None = subst (LineFor own.bases.line) plain line in
       subst (λ (q : Plain). Good t own (numbered (file_number paths q))) (sym plain)
-          (numbered_good 0 (omega arith) (subst (λ (o : Option ℕ). FileSays (told_texts t) t.line o (numbered 0)) (sym none) (refl, value)))
+      (numbered_good 0 (omega arith) (subst (λ (o : Option ℕ). FileSays (told_texts t) t.line o (numbered 0)) (sym none) (refl, value)))
 
   some_good : (f : Fit K) → CommonAt f t → (path : List ℕ) → a.value ≡ only (File (Some path)) → AttrPaths f.paths a → LineFor own.bases.line a.value.plain
       → Good t own (numbered (file_number f.paths a.value.plain))
@@ -340,7 +340,7 @@ module _ {K : Type 0} (from : Sources → Type 0) (origin : Bases) (t : Tells K)
       } in
       let few = table.2.1 in
       subst (λ (q : Plain). Good t own (numbered (file_number f.paths q))) (sym plain)
-          (numbered_good number (omega (arith, few)) (subst (λ (o : Option ℕ). FileSays (told_texts t) t.line o (numbered number)) (sym zero_line) says))
+      (numbered_good number (omega (arith, few)) (subst (λ (o : Option ℕ). FileSays (told_texts t) t.line o (numbered number)) (sym zero_line) says))
 
   common_good : (f : Fit K) → CommonAt f t → AttrPaths f.paths a → LineFor own.bases.line a.value.plain → (o : Option ℕ) → FileSays (texts_of p.sources) p.sources.line o a
       → Good t own (numbered (file_number f.paths a.value.plain))

@@ -49,7 +49,7 @@ module _ {K : Type 0} (n : Numbering K) (unit : ℕ) (t : Tells K) (own : Own K)
   all_fit [] x = tt
   all_fit (e ∷ exprs) x =
       let both = one_fits e.operands e.at e.bytes (joined_parts (map parts_of exprs)) (map h (operands_of exprs))
-          (subst (OperandsFit n unit (joined_parts (map parts_of (e ∷ exprs)))) (map-append h e.operands (operands_of exprs)) x) in
+      (subst (OperandsFit n unit (joined_parts (map parts_of (e ∷ exprs)))) (map-append h e.operands (operands_of exprs)) x) in
       each_append Fits e.operands (operands_of exprs) both.0 (all_fit exprs both.1)
 
   all_stand : (exprs : List Expression) → OperandsIn t own (joined_parts (map parts_of exprs)) (map h (operands_of exprs)) → Each Stands (operands_of exprs)
@@ -57,7 +57,7 @@ module _ {K : Type 0} (n : Numbering K) (unit : ℕ) (t : Tells K) (own : Own K)
   all_stand [] x = tt
   all_stand (e ∷ exprs) x =
       let both = one_stands e.operands e.at e.bytes (joined_parts (map parts_of exprs)) (map h (operands_of exprs))
-          (subst (OperandsIn t own (joined_parts (map parts_of (e ∷ exprs)))) (map-append h e.operands (operands_of exprs)) x) in
+      (subst (OperandsIn t own (joined_parts (map parts_of (e ∷ exprs)))) (map-append h e.operands (operands_of exprs)) x) in
       each_append Stands e.operands (operands_of exprs) both.0 (all_stand exprs both.1)
 
 -- ---- where the unit is read
@@ -143,13 +143,13 @@ module _ {K P : Type 0} (n : Numbering K) (g : K → P) (unit : ℕ) (t : Tells 
       let stands = subst (OperandsIn t own (joined_parts (map parts_of exprs))) says.refs says.operands in
       let lead = all_lead (own_operands l) (λ o o_in. o_in) (all_fit n unit t own key exprs fits') (all_stand n unit t own key exprs stands) in
       let alike : NamesAlike says.scope s says.old b = record { form = form ∙ sym says.form; name = name ∙ sym says.name; offset = ap reach (raw ∙ sym says.raw); base = is.lists_base ∙ sym says.base }
-          in
+      in
       let patched = subst (λ (w : List ℕ). IsPatched t.named number w s.around.sources.lists) (sym says.section) is.lists.patched in
       let can : CanHave (expr_context s 7) number l = record { fit = fit_in (own_operands l) lead; named = named_in (own_operands l) lead } in
       let named = names_again t.named number says.scope s says.old b l is.none_shared says.there patched can alike says.names in
       let refs = same_refs (own_operands l) lead ∙ ap (map g) (sym says.refs) in
       let same : list_value s number l ≡ value_map g a.value = ap (λ (w : List P). record { plain = Loc (map parts_of exprs); refs = w }) refs
-          ∙ ap (λ (p : Plain). record { plain = p; refs = map g a.value.refs }) (sym says.plain) in
+      ∙ ap (λ (p : Plain). record { plain = p; refs = map g a.value.refs }) (sym says.plain) in
       (named.0, subst (MeansValue s b) same named.1)
 
   pub list_means : ListFits n unit a.value.plain a.value.refs → (b : RawAttr) → b.pair.form ≡ a.form → b.pair.name ≡ a.name → number_of b.raw ≡ a.raw → MeansValue s b (value_map g a.value)

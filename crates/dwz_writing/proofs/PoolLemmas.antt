@@ -140,8 +140,10 @@ module _ {K : Type 0} (add : List (List ℕ) → Attr K → List (List ℕ)) (P 
   has_units found (u ∷ units) =
       let one = attrs_with add found u.root.attrs in
       let two = entries_with add one u.below in (
-        (more_attrs one (units_with add two units) u.root.attrs (λ x there. keeps_units two units x (keeps_entries one u.below x there)) (has_attrs found u.root.attrs),
-            more_entries two (units_with add two units) u.below (keeps_units two units) (has_entries one u.below)),
+        (
+          more_attrs one (units_with add two units) u.root.attrs (λ x there. keeps_units two units x (keeps_entries one u.below x there)) (has_attrs found u.root.attrs),
+          more_entries two (units_with add two units) u.below (keeps_units two units) (has_entries one u.below),
+        ),
         has_units two units,
       )
 
@@ -164,7 +166,7 @@ module _ {K : Type 0} (add : List (List ℕ) → Attr K → List (List ℕ)) (Go
   good_units found [] are good = good
   good_units found (u ∷ units) are good =
       good_units (entries_with add (attrs_with add found u.root.attrs) u.below) units are.1
-          (good_entries (attrs_with add found u.root.attrs) u.below are.0.1 (good_attrs found u.root.attrs are.0.0 good))
+      (good_entries (attrs_with add found u.root.attrs) u.below are.0.1 (good_attrs found u.root.attrs are.0.0 good))
 
 -- ---- texts
 
@@ -190,7 +192,7 @@ module _ {K : Type 0} where
   pub units_texts : (texts : List (List ℕ)) (units : List (DwUnit K)) → Each (UnitTexts (texts_of texts units)) units
   units_texts texts units =
       has_units attr_text AttrTexts (λ found a. keeps_as (class_of a.form) found a) (λ few many a more is. more_as (class_of a.form) few many a more is) (λ found a. has_as (class_of a.form) found a)
-          texts units
+      texts units
 
 -- ---- paths
 

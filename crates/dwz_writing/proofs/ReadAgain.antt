@@ -138,7 +138,7 @@ base_read s name (a ∷ raw) (b ∷ attrs) means = by (base_read s name raw attr
 pub same_bases : (a b c d e f : Option ℕ) → a ≡ b → c ≡ d → e ≡ f → (let x : Bases = record { slots = a; line = c; lists = e } in let y : Bases = record { slots = b; line = d; lists = f } in x ≡ y)
 same_bases a b c d e f p q r =
     ap (λ (o : Option ℕ). record { slots = o; line = c; lists = e }) p ∙ ap (λ (o : Option ℕ). record { slots = b; line = o; lists = e }) q
-        ∙ ap (λ (o : Option ℕ). record { slots = b; line = d; lists = o }) r
+    ∙ ap (λ (o : Option ℕ). record { slots = b; line = d; lists = o }) r
 
 pub bases_read : (s : Scope ℕ) (attrs : List (Attr ℕ)) → MeanAttrs s (without_siblings s.root.attrs) attrs
     → (let y : Bases = record { slots = offset_in (first_named 0x72 attrs); line = offset_in (first_named 0x10 attrs); lists = offset_in (first_named 0x8c attrs) } in bases_of s ≡ y)

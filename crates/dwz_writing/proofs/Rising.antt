@@ -200,28 +200,28 @@ module _ {K : Type 0} (n : Numbering K) (unit : ℕ) (t : Tells K) (own : Own K)
   kind_fits Partial says = tt
 
 module _ {K : Type 0} (n : Numbering K) (t : Tells K) (small : (k : K) → In k t.all → FitsInfo n k) (above : (k : K) → In k t.all → 0 < n.place k) (common : (k : K) → In k t.common → FitsInfo n k)
-    where
-  unit_fits : (u : DwUnit K) (at : ℕ) → UnitStands n u at → unit_size n at u < 2 ^ 32 → UnitHasRoom n u → UnitSays t u → UnitFits n u
-  unit_fits u at stands lt room says =
-      let unit = n.place u.at in
-      let rises = unit_rises n u at stands in
-      let inside : (k : K) → In k (entry_keys u) → FitsUnit n unit k = λ k is.
-      (let from = rises_from n (unit_keys u) at (at + unit_size n at u) k rises (entry_is_key u k is) in
-      let to = rises_to n (unit_keys u) at (at + unit_size n at u) k rises (entry_is_key u k is) in
-      (omega (arith, stands.unit, from), omega (arith, stands.unit, to, lt))) in
-      let behind = unit_above n u at stands in
-      record {
-        kind = kind_fits n unit t (own_of u) inside behind small above common u.kind says.kind;
-        root = node_fits n unit t (own_of u) inside behind small above common u.root.attrs room.0 says.root;
-        below = entries_fit n unit t (own_of u) inside behind small above common u.below room.1 says.below;
-      }
+  where
+    unit_fits : (u : DwUnit K) (at : ℕ) → UnitStands n u at → unit_size n at u < 2 ^ 32 → UnitHasRoom n u → UnitSays t u → UnitFits n u
+    unit_fits u at stands lt room says =
+        let unit = n.place u.at in
+        let rises = unit_rises n u at stands in
+        let inside : (k : K) → In k (entry_keys u) → FitsUnit n unit k = λ k is.
+        (let from = rises_from n (unit_keys u) at (at + unit_size n at u) k rises (entry_is_key u k is) in
+        let to = rises_to n (unit_keys u) at (at + unit_size n at u) k rises (entry_is_key u k is) in
+        (omega (arith, stands.unit, from), omega (arith, stands.unit, to, lt))) in
+        let behind = unit_above n u at stands in
+        record {
+          kind = kind_fits n unit t (own_of u) inside behind small above common u.kind says.kind;
+          root = node_fits n unit t (own_of u) inside behind small above common u.root.attrs room.0 says.root;
+          below = entries_fit n unit t (own_of u) inside behind small above common u.below room.1 says.below;
+        }
 
-  each_fits : (units : List (DwUnit K)) (at : ℕ) → UnitsStand n units at → units_size n units < 2 ^ 32 → Each (UnitHasRoom n) units → UnitsSay t units → Each (UnitFits n) units
-  unfolding units_size
-  each_fits [] at stands lt room says = tt
-  each_fits (u ∷ units) at stands lt room says =
-      let same : unit_size n at u ≡ unit_size n (n.place u.at) u = ap (λ (k : ℕ). unit_size n k u) (sym stands.0.unit) in
-      (unit_fits u at stands.0 (omega (arith, same, lt)) room.0 says.0, each_fits units _ stands.1 (omega (arith, lt)) room.1 says.1)
+    each_fits : (units : List (DwUnit K)) (at : ℕ) → UnitsStand n units at → units_size n units < 2 ^ 32 → Each (UnitHasRoom n) units → UnitsSay t units → Each (UnitFits n) units
+    unfolding units_size
+    each_fits [] at stands lt room says = tt
+    each_fits (u ∷ units) at stands lt room says =
+        let same : unit_size n at u ≡ unit_size n (n.place u.at) u = ap (λ (k : ℕ). unit_size n k u) (sym stands.0.unit) in
+        (unit_fits u at stands.0 (omega (arith, same, lt)) room.0 says.0, each_fits units _ stands.1 (omega (arith, lt)) room.1 says.1)
 
 -- the numbers of units that stand in fewer than 2^32 bytes fit
 pub units_fit : {K : Type 0} (n : Numbering K) (t : Tells K) (units : List (DwUnit K)) → t.all ≡ all_entry_keys units → ((k : K) → In k t.common → FitsInfo n k) → UnitsStand n units 0 → units_size n units < 2 ^ 32 → Each (UnitHasRoom n) units → UnitsSay t units

@@ -182,7 +182,7 @@ module _ {K P : Type 0} (n : Numbering K) (g : K → P) (unit : ℕ) (t : Tells 
   as_means OfExpression a at end e built stores fits says = expr_means n g unit t own s is a at end fits says
   as_means OfListIndex a at end e built stores fits says =
       subst (λ (c : Class). MeansAs c s (stored_at OfListIndex n unit a at end) (value_map g a.value)) e
-          (list_means n g unit t own s is a says fits (stored_at OfListIndex n unit a at end) refl refl refl)
+      (list_means n g unit t own s is a says fits (stored_at OfListIndex n unit a at end) refl refl refl)
   as_means OfIndex a at end e built stores fits says = (let r = read_of OfIndex a e says in kept g a r.named r.value _ r.same r.means ∙ ap (λ (z : ℤ). only (Index (reach z))) r.number)
   as_means OfCommonText a at end e built stores fits says = absurd built
   as_means Unread a at end e built stores fits says = absurd built

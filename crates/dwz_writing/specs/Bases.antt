@@ -21,8 +21,11 @@ offset_in (Some a) = if a.form == 0x17 then Some (reach a.raw) else None
 
 -- the first DW_AT_str_offsets_base, DW_AT_stmt_list and DW_AT_loclists_base of a root
 abbrev pub bases_in : {K : Type 0} → DwUnit K → Bases
-bases_in u = record { slots = offset_in (first_named 0x72 u.root.attrs); line = offset_in (first_named 0x10 u.root.attrs);
-    lists = offset_in (first_named 0x8c u.root.attrs) }
+bases_in u = record {
+  slots = offset_in (first_named 0x72 u.root.attrs);
+  line = offset_in (first_named 0x10 u.root.attrs);
+  lists = offset_in (first_named 0x8c u.root.attrs);
+}
 
 -- the same where a unit is read
 abbrev pub bases_of : {P : Type 0} → Scope P → Bases

@@ -224,12 +224,27 @@ pub record FileFit (K : Type 0) : Type 0 where
   pub keys : List K
 
 abbrev pub with_keys : {K : Type 0} → Forms K → List K → FileFit K
-with_keys f keys = record { same = f.same; is_common = f.is_common; texts = f.texts; paths = f.paths; offsets = f.offsets;
-    origin = f.origin; keys = keys }
+with_keys f keys = record {
+  same = f.same;
+  is_common = f.is_common;
+  texts = f.texts;
+  paths = f.paths;
+  offsets = f.offsets;
+  origin = f.origin;
+  keys = keys;
+}
 
 abbrev pub unit_fit : {K : Type 0} → FileFit K → DwUnit K → Fit K
-unit_fit f u = record { same = f.same; own = unit_keys u; file = f.keys; holder = holder_of f.is_common u.kind; texts = f.texts;
-    paths = f.paths; offsets = f.offsets; origin = f.origin u.at }
+unit_fit f u = record {
+  same = f.same;
+  own = unit_keys u;
+  file = f.keys;
+  holder = holder_of f.is_common u.kind;
+  texts = f.texts;
+  paths = f.paths;
+  offsets = f.offsets;
+  origin = f.origin u.at;
+}
 
 abbrev pub fit_unit : {K : Type 0} → FileFit K → DwUnit K → DwUnit K
 fit_unit f u = record { at = u.at; kind = u.kind; root = fit_node (unit_fit f u) u.root; below = fit (unit_fit f u) u.below }

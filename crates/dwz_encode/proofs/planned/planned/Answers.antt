@@ -1,9 +1,9 @@
 use Rattle.std.proofs.Common.{◌≡◌, ℕ, ◌<◌, List, length, get_or, sym, ap, subst, ◌∙◌, arith}
 use Rattle.std.proofs.lemmas.List.{get_or_default, length-map, length-replicate}
 use Rattle.dwz_model.specs.declared.tops.Tops.{Tops}
-use Rattle.dwz_plan.specs.declared.plan.Scope.TheVariants.{Each}
-use Rattle.dwz_plan.specs.Planned.{Planned, plan_of}
-use Rattle.dwz_plan.specs.Rows.{given}
+use Rattle.dwz_plain.specs.declared.plan.Scope.TheVariants.{Each}
+use Rattle.dwz_plain.specs.Planned.{Planned, plan_of}
+use Rattle.dwz_plain.specs.Rows.{given}
 use Rattle.dwz_tops.specs.Tops.{row_of, shown_tops, tops_from}
 use Rattle.dwz_unit.specs.Rows.{units_of}
 use Rattle.dwz_encode.specs.Steps.{IsPlanFor}

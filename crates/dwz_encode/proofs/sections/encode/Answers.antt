@@ -1,6 +1,6 @@
 use Rattle.std.proofs.Common.{List, length, ap, subst, sym, ◌∙◌, ◌==◌}
 use Rattle.std.proofs.lemmas.Result.{err_from_is_err_and}
-use Rattle.dwz_plan.specs.declared.plan.Partial.{Partial}
+use Rattle.dwz_plain.specs.declared.plan.Partial.{Partial}
 use Rattle.dwz_unit.specs.Rows.{Source, units_of}
 use Rattle.dwz_writer.specs.Written.{sections_of}
 use Rattle.dwz_encode.specs.Calls.{written_by}

@@ -1,7 +1,7 @@
 use Rattle.std.proofs.Common.{Some, sym, ap, ◌∙◌}
 use Rattle.std.proofs.lemmas.Option.{slice_get-get_or}
 use Rattle.std.proofs.lemmas.Result.{err_from_is_err_and}
-use Rattle.dwz_plan.specs.declared.plan.Partial.{Partial}
+use Rattle.dwz_plain.specs.declared.plan.Partial.{Partial}
 use Rattle.dwz_tops.specs.Tops.{tops_from}
 use Rattle.dwz_unit.specs.Rows.{units_of}
 use Rattle.dwz_encode.proofs.UnitLoops.{no_partials, partial_fails, partial_more, partials_done, places_done}

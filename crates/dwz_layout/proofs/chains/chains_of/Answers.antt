@@ -1,6 +1,6 @@
 use Rattle.std.proofs.Common.{◌≡◌, ◌∙◌}
 use Rattle.dwz_groups.specs.Groups.{grouped}
-use Rattle.dwz_partition.specs.Steps.{numbered}
+use Rattle.dwz_plan.specs.Steps.{numbered}
 use Rattle.dwz_layout.specs.Grouping.{one_lists}
 use Rattle.dwz_layout.proofs.GroupLemmas.{grouped_chains}
 use Rattle.dwz_layout.proofs.chains.chains_of.Goals as goal

@@ -1,7 +1,7 @@
 use Rattle.std.proofs.Common.{◌≡◌, ◌∙◌, ◌<◌, ◌+◌, ◌++◌, [], ℕ, List, length, get_or, take, sym, ap, subst, append_assoc, arith, length-take}
 use Rattle.std.proofs.lemmas.List.{take_more}
 use Rattle.dwz_alike.specs.Spots.{Spot}
-use Rattle.dwz_partition.proofs.DistinctLemmas.{get_in}
+use Rattle.dwz_plan.proofs.DistinctLemmas.{get_in}
 use Rattle.dwz_layout.specs.Chains.{Up, chain_lines, chains_lines, down, inner_at}
 use Rattle.dwz_layout.specs.Lines.{Line}
 use Rattle.dwz_layout.specs.Order.{order_lines}

@@ -2,7 +2,7 @@ use Rattle.std.proofs.Common.{◌≡◌, ◌∙◌, ◌<◌, ◌==◌, ◌++◌,
 use Rattle.dwz_docs.specs.Lists.{In}
 use Rattle.dwz_seen.proofs.Members.{in_filter_from}
 use Rattle.dwz_alike.specs.Spots.{Spot}
-use Rattle.dwz_partition.proofs.ListFacts.{all_from_in}
+use Rattle.dwz_plan.proofs.ListFacts.{all_from_in}
 use Rattle.dwz_layout.specs.Chains.{AreUp, IsChain, chains_by, chains_lines, down, names_at, tops_lines}
 use Rattle.dwz_layout.specs.Lines.{Line, line}
 use Rattle.dwz_layout.specs.Order.{order_lines}

@@ -50,7 +50,7 @@ returns-then-pair-eq-NAME-clause-size c =
 pub loop-pair-preserved : goal.loop-pair-preserved
 loop-pair-preserved c = record {
   left = name_next c.args.known.now (holder_view c.args.holder) c.args.space c.in-Some.field-0.pairs.now c.loop-pair.pair-index no_pair c.loop-pair.cursor c.loop-pair.invariant.left c.loop-pair-test.true c.known_value-raw.new.cursor
-  (raw_view c.known_value-raw.result) c.known_value-raw.ensures.value c.if-pair-eq-NAME.false;
+      (raw_view c.known_value-raw.result) c.known_value-raw.ensures.value c.if-pair-eq-NAME.false;
   none = c.loop-pair.invariant.none;
 }
 

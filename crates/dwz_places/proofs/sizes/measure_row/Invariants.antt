@@ -1,4 +1,3 @@
-
 use Rattle.dwz_places.specs.Attributes.{here_view}
 use Rattle.dwz_places.proofs.SizeLemmas.{Measured}
 use Rattle.dwz_places.proofs.sizes.measure_row.Given as goal

@@ -4,8 +4,7 @@ use Rattle.dwz_places.proofs.walk.pull.Goals as goal
 
 pub returns-in_default-split_first : goal.returns-in_default-split_first
 returns-in_default-split_first c =
-    let k = c.args.known.now in
-    (
+    let k = c.args.known.now in (
       none_pulled k c.args.sort (run_slots k c.args.entries) c.args.items.now c.in_default.ensures.0 c.in_default-split_first.ensures.cases,
       none_pulled k c.args.sort (run_slots k c.step.new.self) c.args.items.now c.in_default.ensures.1 c.in_default-split_first.ensures.cases,
     )

@@ -1,14 +1,12 @@
 use Rattle.std.proofs.Common.{◌≡◌, ◌<◌, ◌∙◌, ℕ, All, List, length, get_or, map, ap, sym, subst, arith}
-use Rattle.std.specs.List.{range_with_len}
-use Rattle.std.proofs.lemmas.List.{length-map}
-use Rattle.dwz_model.specs.declared.tops.TopRow.{TopRow}
+use Rattle.dwz_groups.specs.declared.tops.TopRow.{TopRow}
 use Rattle.dwz_plan.specs.declared.plan.Home.{Home}
 use Rattle.dwz_plan.specs.declared.plan.Home.TheVariants.{Stay}
-use Rattle.dwz_plan.specs.Planned.{place, rep, reps_of}
+use Rattle.dwz_plan.specs.Planned.{reps_of}
 use Rattle.dwz_plan.specs.Rows.{Row, given, rows_from}
-use Rattle.dwz_plan.specs.Steps.{parts_by, placed_by, stander}
+use Rattle.dwz_plan.specs.Steps.{parts_by, placed_by}
 use Rattle.dwz_plan.proofs.RowLemmas.{length-rows_from}
-use Rattle.dwz_plan.proofs.StepLemmas.{length_lists, lists, lists_low, parts_are, places_are, reps_low, stand_ins_are, users_are}
+use Rattle.dwz_plan.proofs.StepLemmas.{length_lists, lists, lists_low, parts_are, places_are, reps_low, users_are}
 use Rattle.dwz_plan.proofs.plan.moved.Goals as goal
 
 pub users-requires-clause-reps : goal.users-requires-clause-reps
@@ -58,25 +56,3 @@ returns-clause-homes c =
     ∙ ((λ i. map (λ r. get_or (c.as_slice-4.ensures.value i) r Stay) (reps i))
     ∙ places_are c.args.scope c.args.tops.now c.args.least.now c.requires.files c.in_ok-parted.parted.of_movers.items
     (λ k l. c.in_ok-parted.ensures.each k (omega (arith, l, long)) ∙ (λ i. placed_by (c.as_slice-files_of_units.ensures i) c.args.tops.now.files (users i) k)))
-
-pub stand_ins-requires-clause-few : goal.stand_ins-requires-clause-few
-stand_ins-requires-clause-few c =
-    let reps : c.as_slice-3.result.now ≡ reps_of (given c.args.scope c.args.tops.now c.args.least.now) = c.as_slice-3.ensures.value ∙ c.in_ok-reps.ensures in
-    let homes = ap (λ (hs : List Home). length hs) (c.as_slice-5.ensures.value ∙ c.in_ok-homes.ensures) in
-    omega (
-      arith,
-      homes,
-      length-map c.as_slice-3.result.now (λ r. get_or c.as_slice-4.result.now r Stay),
-      ap (λ (rs : List ℕ). length rs) reps,
-      length-map (rows_from c.args.tops.now.files_of_units 0 c.args.tops.now.rows c.args.least.now) (rep (given c.args.scope c.args.tops.now c.args.least.now)),
-      length-rows_from c.args.tops.now.files_of_units 0 c.args.tops.now.rows c.args.least.now c.requires.least,
-      c.requires.rows,
-    )
-
-pub returns-clause-stand_ins : goal.returns-clause-stand_ins
-returns-clause-stand_ins c =
-    let rows : List Row = rows_from c.args.tops.now.files_of_units 0 c.args.tops.now.rows c.args.least.now in
-    let homes : c.as_slice-5.result.now ≡ map (place (given c.args.scope c.args.tops.now c.args.least.now)) rows = c.as_slice-5.ensures.value ∙ returns-clause-homes c in
-    let reps : c.as_slice-6.result.now ≡ reps_of (given c.args.scope c.args.tops.now c.args.least.now) = c.as_slice-6.ensures.value ∙ c.in_ok-reps.ensures in
-    let long : length c.as_slice-5.result.now ≡ length rows = ap (λ (hs : List Home). length hs) homes ∙ length-map rows (place (given c.args.scope c.args.tops.now c.args.least.now)) in
-    c.in_ok-stand_ins.ensures ∙ ((λ i. map (stander (homes i) (reps i)) (range_with_len 0 (long i))) ∙ stand_ins_are c.args.scope c.args.tops.now c.args.least.now)

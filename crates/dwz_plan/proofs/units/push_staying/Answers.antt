@@ -1,14 +1,14 @@
 use Rattle.std.proofs.Common.{◌≡◌, ◌<◌, ◌+◌, ◌∙◌, ◌++◌, [], ◌∷◌, List, length, get_or, take, ap, sym, arith, false, cond}
 use Rattle.std.proofs.lemmas.List.{append-nil, append_assoc, get_or_default}
-use Rattle.dwz_model.specs.declared.tops.TopRow.{TopRow}
+use Rattle.dwz_groups.specs.declared.tops.TopRow.{TopRow}
 use Rattle.dwz_plan.specs.Steps.{staying_one, staying_pairs}
-use Rattle.dwz_plan.specs.declared.groups.Pair.{Pair}
+use Rattle.dwz_groups.specs.declared.groups.Pair.{Pair}
 use Rattle.dwz_plan.specs.declared.plan.Home.TheVariants.{Common, Stay}
 use Rattle.dwz_plan.proofs.PlaceLemmas.{staying-more}
 use Rattle.dwz_plan.proofs.units.push_staying.Goals as goal
 
 none : TopRow
-none = record { place = record { file = 0; offset = 0 }; unit = 0; movable = false; pinned = false }
+none = record { place = record { file = 0; offset = 0 }; unit = 0; weight = 0; movable = false; pinned = false }
 
 pub loop-top-init : goal.loop-top-init
 unfolding staying_pairs

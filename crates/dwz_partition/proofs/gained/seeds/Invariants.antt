@@ -1,7 +1,0 @@
-use Rattle.std.proofs.Common.{◌≡◌, map, take}
-use Rattle.dwz_gain.specs.Gaining.{weights_of}
-use Rattle.dwz_partition.specs.Gained.{part_seed}
-use Rattle.dwz_partition.proofs.gained.seeds.Given as goal
-
-abbrev pub invariant-loop-part : goal.invariant-loop-part
-invariant-loop-part l = l.seeds.items ≡ map (part_seed (weights_of l.rows)) (take l.part-index l.partials)

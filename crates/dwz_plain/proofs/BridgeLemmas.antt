@@ -1,0 +1,260 @@
+-- The plan of rows and the plan of the units whose tops they show.
+use Rattle.std.proofs.Common.{◌≡◌, ◌↔◌, ℕ, Some, zero, suc, ◌+◌, ◌<◌, ◌==◌, ◌&&◌, ◌||◌, inl, inr, not, cond, Bool, true, false, List, [], ◌∷◌, ◌++◌, length, map, filter, find, get_or, refl, sym, ap, subst, ◌∙◌, arith, eqb-true, eq-eqb}
+use Rattle.std.specs.Option.{option_map_or}
+use Rattle.std.specs.List.{flat_map, list_any, range_with_len}
+use Rattle.std.proofs.lemmas.Bool.{and_parts}
+use Rattle.std.proofs.lemmas.List.{get_or-map, length-map, map-append}
+use Rattle.std.proofs.lemmas.Option.{slice_get-get_or}
+use Rattle.dwz_meanings.specs.Documents.{Doc, Entries}
+use Rattle.dwz_docs.specs.Lists.{In, has}
+use Rattle.dwz_docs.specs.Trees.{End, Entry}
+use Rattle.dwz_model.specs.declared.tops.Tops.{Tops}
+use Rattle.dwz_output.specs.Deciding.{Test}
+use Rattle.dwz_output.specs.Out.{file_numbers}
+use Rattle.dwz_output.specs.Plan.{Common, Home, Local, PartialUnit, Stay, distinct, file_of, first_alike, home as unit_home, home_in, import_of, imports as unit_imports, is_home, is_pinned, kept as unit_kept, local_partials, moves as unit_moves, numbers_from, partial_with as unit_partial_with, partials as unit_partials, partials_at as unit_partials_at, rep as unit_rep, representatives as unit_representatives, same_home, stand_in as unit_stand_in, stands_for, staying as unit_staying, users as unit_users, users_of, uses}
+use Rattle.dwz_output.specs.Spots.{FileUnit, Spot, Top, same_numbers, tops_of}
+use Rattle.dwz_plain.specs.declared.plan.Partial.{Partial}
+use Rattle.dwz_plain.specs.declared.plan.Scope.{Scope}
+use Rattle.dwz_plain.specs.declared.plan.Scope.TheVariants.{Together, Each}
+use Rattle.dwz_plain.specs.Planned.{alike, file_of_home, home, imports_from, in_scope, kept, moves, number_in, partial_with, partials, partials_at, place, place_at, rep, representatives, stand_in, staying, units_of, users}
+use Rattle.dwz_plain.specs.Rows.{Given, Row, given}
+use Rattle.dwz_plain.specs.Shows.{InOneScope, IsLeast, IsPlace, Joins, PartAt, ShowsTops, import_row, shown_part}
+use Rattle.dwz_plain.proofs.DistinctLemmas.{from_distinct, get_in}
+use Rattle.dwz_plain.proofs.ListFacts.{filter_in, in_cases, in_filter_from, in_map_from, map_in, map_map}
+use Rattle.dwz_plain.proofs.MoverLemmas.{movers_of}
+use Rattle.dwz_plain.proofs.PartialLemmas.{part_among, same_home_is, tops_with}
+use Rattle.dwz_plain.proofs.RowLemmas.{alike_from, alike_parts}
+use Rattle.dwz_plain.proofs.StepLemmas.{part_of}
+use Rattle.dwz_plain.proofs.ShownLemmas.{SameRow, SameRows, filter_shown, map_shown, numbers_shown, rows_shown, tops_counted}
+
+-- ---- the test decides as the rows do
+
+scoped_is : (scope : Scope) (a b : Row) → in_scope scope a b ≡ true → InOneScope scope a b
+scoped_is Together a b e = tt
+scoped_is Each a b e = eqb-true a.file b.file e
+
+scoped_from : (scope : Scope) (a b : Row) → InOneScope scope a b → in_scope scope a b ≡ true
+scoped_from Together a b e = refl
+scoped_from Each a b e = eq-eqb a.file b.file e
+
+same_test : (x y : Bool) → (x ≡ true → y ≡ true) → (y ≡ true → x ≡ true) → x ≡ y
+same_test true y f g = sym (f refl)
+same_test false true f g = g refl
+same_test false false f g = refl
+
+agrees : (scope : Scope) (test : Test) (a b : Row) → (test a.number b.number ≡ true) ↔ Joins scope a b → test a.number b.number ≡ alike scope a b
+agrees scope test a b decides =
+    same_test (test a.number b.number) (alike scope a b)
+    (λ e. (let j = decides.0 e in alike_from scope a b record { first = j.first; second = j.second; scoped = scoped_from scope a b j.scoped; least = j.least }))
+    (λ e. (let j = alike_parts scope a b e in decides.1 record { first = j.first; second = j.second; scoped = scoped_is scope a b j.scoped; least = j.least }))
+
+-- ---- files and units by their numbers
+
+pub numbers_are : {X : Type 0} (s : ℕ) (xs : List X) → numbers_from s xs ≡ range_with_len s (length xs)
+unfolding numbers_from
+numbers_are s [] = refl
+numbers_are s (x ∷ xs) = ap (λ (ns : List ℕ). s ∷ ns) (numbers_are (suc s) xs ∙ (let e : suc s ≡ s + 1 = omega arith in ap (λ n. range_with_len n (length xs)) e))
+
+pub file_numbers_are : (s : ℕ) (docs : List (Doc ℕ)) → file_numbers s docs ≡ range_with_len s (length docs)
+unfolding file_numbers
+file_numbers_are s [] = refl
+file_numbers_are s (d ∷ docs) = ap (λ (ns : List ℕ). s ∷ ns) (file_numbers_are (suc s) docs ∙ (let e : suc s ≡ s + 1 = omega arith in ap (λ n. range_with_len n (length docs)) e))
+
+file_is : (units : List (FileUnit Spot)) (i : ℕ) → file_of units i ≡ get_or (map (λ (f : FileUnit Spot). f.file) units) i 0
+unfolding file_of
+file_is [] i = refl
+file_is (f ∷ units) zero = refl
+file_is (f ∷ units) (suc i) = file_is units i
+
+module _ (units : List (FileUnit Spot)) (test : Test) (scope : Scope) (tops : Tops) (least : List ℕ) (shows : ShowsTops units tops) (decides : IsLeast scope tops least test) where
+  abbrev pub g : Given
+  g = given scope tops least
+
+  same : SameRows units g.rows (tops_of units)
+  same = rows_shown units tops.files_of_units 0 tops.rows least (tops_of units) decides.len shows.rows (tops_counted 0 0 units)
+
+  agree : (a b : Row) → In a g.rows → In b g.rows → test a.number b.number ≡ alike scope a b
+  agree a b is there = agrees scope test a b (decides.decides a b is there)
+
+  -- ---- users, representatives, homes
+
+  uses_is : (a : Row) (unit : ℕ) (rows : List Row) (these : List Top) → SameRows units rows these → ((b : Row) → In b rows → test a.number b.number ≡ alike scope a b)
+      → list_any (λ (t : Top). t.unit == unit && test a.number t.number) these ≡ list_any (λ b. b.unit == unit && alike scope a b) rows
+  uses_is a unit [] [] h e = refl
+  uses_is a unit [] (t ∷ these) h e = absurd h
+  uses_is a unit (b ∷ rows) [] h e = absurd h
+  uses_is a unit (b ∷ rows) (t ∷ these) h e =
+      (λ i. (sym h.0.unit i == unit && (ap (test a.number) (sym h.0.number) ∙ e b (inl refl)) i) || uses_is a unit rows these h.1 (λ c is. e c (inr is)) i)
+
+  units_are : numbers_from 0 units ≡ units_of g
+  units_are = numbers_are 0 units ∙ ap (range_with_len 0) (sym (length-map units (λ (f : FileUnit Spot). f.file)) ∙ ap (λ (ns : List ℕ). length ns) (sym shows.files_of_units))
+
+  pub users_is : (a : Row) → In a g.rows → unit_users test units a.number ≡ users g a
+  unfolding unit_users users
+  users_is a is =
+      ap (filter (uses test (tops_of units) a.number)) units_are
+      ∙ filter_in (uses test (tops_of units) a.number) (λ unit. list_any (λ b. b.unit == unit && alike scope a b) g.rows) (units_of g) (λ unit there. uses_is a unit g.rows (tops_of units) same (λ b is'. agree a b is is'))
+
+  pub home_is : (a : Row) → In a g.rows → unit_home test units a.number ≡ home g a
+  unfolding unit_home
+  home_is a is =
+      ap (λ (us : List ℕ). home_in (map (file_of units) us)) (users_is a is)
+      ∙ ap home_in (map_in (file_of units) (λ u. get_or tops.files_of_units u 0) (users g a) (λ u there. file_is units u ∙ ap (λ (fs : List ℕ). get_or fs u 0) (sym shows.files_of_units)))
+
+  first_is : (a : Row) (rows : List Row) (these : List Top) → SameRows units rows these → ((b : Row) → In b rows → test a.number b.number ≡ alike scope a b)
+      → first_alike test a.number these ≡ option_map_or (λ (b : Row). b.number) (find (alike scope a) rows) a.number
+  unfolding first_alike
+  first_is a [] [] h e = refl
+  first_is a [] (t ∷ these) h e = absurd h
+  first_is a (b ∷ rows) [] h e = absurd h
+  first_is a (b ∷ rows) (t ∷ these) h e =
+      ap (λ x. elim x as (λ _. ℕ) [ true ↦ t.number | false ↦ first_alike test a.number these ]) (ap (test a.number) (sym h.0.number) ∙ e b (inl refl)) ∙ by (alike scope a b) (first_is a rows these h.1 (λ c is. e c (inr is)))
+    where
+      by : (x : Bool) → first_alike test a.number these ≡ option_map_or (λ (c : Row). c.number) (find (alike scope a) rows) a.number
+          → (elim x as (λ _. ℕ) [ true ↦ t.number | false ↦ first_alike test a.number these ]) ≡ option_map_or (λ (c : Row). c.number) (cond x (Some b) (find (alike scope a) rows)) a.number
+      by true more = sym h.0.number
+      by false more = more
+
+  pub rep_is : (a : Row) → In a g.rows → unit_rep test units a.number ≡ rep g a
+  rep_is a is = first_is a g.rows (tops_of units) same (λ b there. agree a b is there)
+
+  pub moves_is : (a : Row) → In a g.rows → unit_moves test units a.number ≡ moves g a
+  moves_is a is = ap is_home (home_is a is)
+
+  -- ---- partial units
+
+  reps_same : (h : Home) → SameRows units (representatives g h) (unit_representatives test units h)
+  unfolding unit_representatives representatives
+  reps_same h =
+      filter_shown units (λ a. same_home (home g a) h && rep g a == a.number) (stands_for test units h) g.rows (tops_of units) same
+      (λ a t is s. (λ i. same_home ((sym (home_is a is) ∙ ap (unit_home test units) s.number) i) h && (sym (rep_is a is) ∙ ap (unit_rep test units) s.number) i == s.number i))
+
+  reps_in : (h : Home) (a : Row) → In a (representatives g h) → In a g.rows
+  unfolding representatives
+  reps_in h a is = (in_filter_from (λ b. same_home (home g b) h && rep g b == b.number) a g.rows is).0
+
+  users_shown : (a : Row) (t : Top) → In a g.rows → SameRow units a t → users g a ≡ users_of test units t
+  users_shown a t is s = sym (users_is a is) ∙ ap (unit_users test units) s.number
+
+  partial_is : (h : Home) (us : List ℕ) → shown_part tops.files (unit_partial_with test units h us) ≡ partial_with g h us
+  partial_is h us =
+      let these = filter_shown units (λ a. same_numbers (users g a) us) (λ t. same_numbers (users_of test units t) us) (representatives g h) (unit_representatives test units h) (reps_same h) (λ a t is s. ap (λ (vs : List ℕ). same_numbers vs us) (users_shown a t (reps_in h a is) s)) in
+      (λ i. record { file = file_of_home tops.files h; users = us; tops = numbers_shown units (filter (λ a. same_numbers (users g a) us) (representatives g h)) (filter (λ t. same_numbers (users_of test units t) us) (unit_representatives test units h)) these i })
+
+  partials_at_is : (h : Home) → map (shown_part tops.files) (unit_partials_at test units h) ≡ partials_at g h
+  unfolding unit_partials_at partials_at
+  partials_at_is h =
+      map_map (shown_part tops.files) (unit_partial_with test units h) (distinct (map (users_of test units) (unit_representatives test units h)))
+      ∙ ((λ i. map (λ us. partial_is h us i) (distinct (map (users_of test units) (unit_representatives test units h))))
+      ∙ ap (λ (ls : List (List ℕ)). map (partial_with g h) (distinct ls)) (map_shown units (users g) (users_of test units) (representatives g h) (unit_representatives test units h) (reps_same h) (λ a t is s. users_shown a t (reps_in h a is) s)))
+
+  local_is : (files : List ℕ) → map (shown_part tops.files) (local_partials test units files) ≡ flat_map (λ file. partials_at g (Local file)) files
+  unfolding local_partials
+  local_is [] = refl
+  local_is (f ∷ files) = map-append (shown_part tops.files) (unit_partials_at test units (Local f)) (local_partials test units files) ∙ (λ i. partials_at_is (Local f) i ++ local_is files i)
+
+  pub partials_is : map (shown_part tops.files) (unit_partials test units (range_with_len 0 tops.files)) ≡ partials g
+  unfolding unit_partials partials
+  partials_is = map-append (shown_part tops.files) (unit_partials_at test units Common) (local_partials test units (range_with_len 0 tops.files)) ∙ (λ i. partials_at_is Common i ++ local_is (range_with_len 0 tops.files) i)
+
+  -- ---- what is kept and imported, what stands for what
+
+  staying_same : (unit : ℕ) → SameRows units (staying g unit) (unit_staying test units unit)
+  unfolding staying unit_staying
+  staying_same unit =
+      filter_shown units (λ a. a.unit == unit && not (moves g a)) (λ t. t.unit == unit && not (unit_moves test units t.number)) g.rows (tops_of units) same
+      (λ a t is s. (λ i. s.unit i == unit && not ((sym (moves_is a is) ∙ ap (unit_moves test units) s.number) i)))
+
+  pub kept_is : (unit : ℕ) → map (λ (t : Top). t.number) (unit_kept test units unit) ≡ kept g unit
+  unfolding kept unit_kept
+  kept_is unit =
+      let pinned = filter_shown units (λ a. a.pinned) (λ t. is_pinned units t.number) (staying g unit) (unit_staying test units unit) (staying_same unit) (λ a t is s. s.pinned) in
+      let others = filter_shown units (λ a. not a.pinned) (λ t. not (is_pinned units t.number)) (staying g unit) (unit_staying test units unit) (staying_same unit) (λ a t is s. ap not s.pinned) in
+      map-append (λ (t : Top). t.number) (filter (λ t. is_pinned units t.number) (unit_staying test units unit)) (filter (λ t. not (is_pinned units t.number)) (unit_staying test units unit))
+      ∙ ((λ i. numbers_shown units (filter (λ a. a.pinned) (staying g unit)) (filter (λ t. is_pinned units t.number) (unit_staying test units unit)) pinned i ++ numbers_shown units (filter (λ a. not a.pinned) (staying g unit)) (filter (λ t. not (is_pinned units t.number)) (unit_staying test units unit)) others i)
+      ∙ sym (map-append (λ (a : Row). a.number) (filter (λ a. a.pinned) (staying g unit)) (filter (λ a. not a.pinned) (staying g unit))))
+
+  imports_of : (unit n : ℕ) (parts : List PartialUnit) → unit_imports unit n parts ≡ import_row unit (imports_from unit n (map (shown_part tops.files) parts))
+  unfolding unit_imports import_row imports_from
+  imports_of unit n [] = refl
+  imports_of unit n (part ∷ parts) = by (has unit part.users) (imports_of unit (suc n) parts)
+    where
+      by : (x : Bool) → unit_imports unit (suc n) parts ≡ import_row unit (imports_from unit (suc n) (map (shown_part tops.files) parts))
+          → (elim x as (λ _. Entries Spot) [ true ↦ Entry (import_of unit n) End (unit_imports unit (suc n) parts) | false ↦ unit_imports unit (suc n) parts ])
+          ≡ import_row unit (cond x (n ∷ imports_from unit (suc n) (map (shown_part tops.files) parts)) (imports_from unit (suc n) (map (shown_part tops.files) parts)))
+      by true more = ap (λ e. Entry (import_of unit n) End e) more
+      by false more = more
+
+  pub imports_is : (unit : ℕ) → unit_imports unit 0 (unit_partials test units (range_with_len 0 tops.files)) ≡ import_row unit (imports_from unit 0 (partials g))
+  imports_is unit = imports_of unit 0 (unit_partials test units (range_with_len 0 tops.files)) ∙ ap (λ (ps : List Partial). import_row unit (imports_from unit 0 ps)) partials_is
+
+  pub stand_in_is : (a : Row) → In a g.rows → unit_stand_in test units a.number ≡ stand_in g a
+  unfolding unit_stand_in
+  stand_in_is a is = (λ i. elim (moves_is a is i) as (λ _. ℕ) [ true ↦ rep_is a is i | false ↦ a.number ]) ∙ by (moves g a)
+    where
+      by : (x : Bool) → (elim x as (λ _. ℕ) [ true ↦ rep g a | false ↦ a.number ]) ≡ cond x (rep g a) a.number
+      by true = refl
+      by false = refl
+
+  -- ---- where a top goes
+
+  unit_homed : (h : Home) (part : PartialUnit) → In part (unit_partials_at test units h) → part.home ≡ home_in (map (file_of units) part.users)
+  unfolding unit_partials_at unit_representatives unit_home
+  unit_homed h part is =
+      let p = in_map_from (unit_partial_with test units h) part (distinct (map (users_of test units) (unit_representatives test units h))) is in
+      let u = in_map_from (users_of test units) p.source (unit_representatives test units h) (from_distinct p.source (map (users_of test units) (unit_representatives test units h)) p.there) in
+      let f = in_filter_from (stands_for test units h) u.source (tops_of units) u.there in
+      let e = same_home_is (unit_home test units u.source.number) h (and_parts (same_home (unit_home test units u.source.number) h) (unit_rep test units u.source.number == u.source.number) f.1).0 in
+      ap (λ (q : PartialUnit). q.home) (sym p.is) ∙ (sym e ∙ ap (λ (us : List ℕ). home_in (map (file_of units) us)) (u.is ∙ ap (λ (q : PartialUnit). q.users) p.is))
+
+  local_homed : (files : List ℕ) (part : PartialUnit) → In part (local_partials test units files) → part.home ≡ home_in (map (file_of units) part.users)
+  unfolding local_partials
+  local_homed [] part is = absurd is
+  local_homed (f ∷ files) part is = elim (in_cases part (unit_partials_at test units (Local f)) (local_partials test units files) is) [
+    | inl here ↦ unit_homed (Local f) part here
+    | inr more ↦ local_homed files part more
+  ]
+
+  -- a partial unit's home is that of its users
+  all_homed : (files : List ℕ) (part : PartialUnit) → In part (unit_partials test units files) → part.home ≡ home_in (map (file_of units) part.users)
+  unfolding unit_partials
+  all_homed files part is = elim (in_cases part (unit_partials_at test units Common) (local_partials test units files) is) [
+    | inl here ↦ unit_homed Common part here
+    | inr more ↦ local_homed files part more
+  ]
+
+  abbrev pub parts : List PartialUnit
+  parts = unit_partials test units (range_with_len 0 tops.files)
+
+  no_part : PartialUnit
+  no_part = record { home = Stay; users = []; tops = [] }
+
+  abbrev pub number_for : Row → ℕ
+  number_for a = number_in (partials g) (users g a)
+
+  part_at : (h : Home) (a : Row) → In a g.rows → home g a ≡ h → (h ≡ Stay → ⊥) → PartAt parts (number_for a) h (unit_users test units a.number) (unit_rep test units a.number)
+  unfolding unit_home
+  part_at h a is e other =
+      let o = part_of scope tops least shows.files a is (λ s. other (sym e ∙ s)) in
+      let part : PartialUnit = get_or parts (number_for a) no_part in
+      let long : length (partials g) ≡ length parts = ap (λ (ps : List Partial). length ps) (sym partials_is) ∙ length-map parts (shown_part tops.files) in
+      let low : number_for a < length parts = omega (arith, o.low, long) in
+      let shown : shown_part tops.files part ≡ part_among g (movers_of g) (users g a) =
+      sym (get_or-map (shown_part tops.files) parts (number_for a) no_part (shown_part tops.files no_part) low) ∙ (ap (λ (ps : List Partial). get_or ps (number_for a) (shown_part tops.files no_part)) partials_is ∙ o.is (shown_part tops.files no_part)) in
+      let users_are : part.users ≡ unit_users test units a.number = ap (λ (q : Partial). q.users) shown ∙ sym (users_is a is) in
+      record {
+        part = part;
+        there = slice_get-get_or parts (number_for a) no_part low;
+        home = all_homed (range_with_len 0 tops.files) part (get_in parts (number_for a) no_part low) ∙ (ap (λ (us : List ℕ). home_in (map (file_of units) us)) users_are ∙ (home_is a is ∙ e));
+        users = users_are;
+        holds = subst (λ (ns : List ℕ). In (unit_rep test units a.number) ns) (sym (ap (λ (q : Partial). q.tops) shown)) (subst (λ n. In n (tops_with g (movers_of g) (users g a))) (sym (rep_is a is)) o.holds);
+      }
+
+  pub place_is : (a : Row) → In a g.rows → IsPlace test units parts a.number (place g a)
+  unfolding place
+  place_is a is = by (home g a) refl
+    where
+      by : (h : Home) → home g a ≡ h → IsPlace test units parts a.number (place_at h (number_in (partials g) (users g a)))
+      by Common e = (home_is a is ∙ e, part_at Common a is e (λ s. cc))
+      by (Local f) e = (f, home_is a is ∙ e, part_at (Local f) a is e (λ s. cc))
+      by Stay e = home_is a is ∙ e

@@ -1,0 +1,92 @@
+-- Rows and the tops that they show.
+use Rattle.std.proofs.Common.{◌≡◌, ℕ, ℤ, Option, suc, ◌+◌, inl, inr, cond, Bool, true, false, List, [], ◌∷◌, ◌++◌, length, map, filter, refl, sym, ap, subst, arith}
+use Rattle.dwz_meanings.specs.Documents.{Compile, DwUnit, Entries, Kind, OfType, Partial as PartialKind, language}
+use Rattle.dwz_docs.specs.Lists.{In}
+use Rattle.dwz_docs.specs.Trees.{End, Entry}
+use Rattle.dwz_model.specs.declared.tops.TopRow.{TopRow}
+use Rattle.dwz_output.specs.Plan.{is_pinned}
+use Rattle.dwz_output.specs.Spots.{FileUnit, Spot, Top, row_length, top_count, tops_below, tops_from, tops_in}
+use Rattle.dwz_plain.specs.Planned.{numbers}
+use Rattle.dwz_plain.specs.Rows.{Row, rows_from}
+use Rattle.dwz_plain.specs.Shows.{ShowsRows}
+
+-- ---- tops are numbered one by one
+
+abbrev pub TopsFrom : ℕ → List Top → Type 0
+TopsFrom s [] = Unit {0}
+TopsFrom s (t ∷ tops) = (t.number ≡ s) × TopsFrom (suc s) tops
+
+from_append : (s : ℕ) (xs ys : List Top) → TopsFrom s xs → TopsFrom (s + length xs) ys → TopsFrom s (xs ++ ys)
+from_append s [] ys h k = (let e : s + 0 ≡ s = omega arith in subst (λ n. TopsFrom n ys) e k)
+from_append s (t ∷ xs) ys h k = (h.0, from_append (suc s) xs ys h.1 (let e : s + suc (length xs) ≡ suc s + length xs = omega arith in subst (λ n. TopsFrom n ys) e k))
+
+tops_in_from : (file unit : ℕ) (l : Option ℤ) (n : ℕ) (below : Entries Spot) → TopsFrom n (tops_in file unit l n below)
+unfolding tops_in
+tops_in_from file unit l n End = tt
+tops_in_from file unit l n (Entry e children next) = (refl, tops_in_from file unit l (suc n) next)
+
+length-tops_in : (file unit : ℕ) (l : Option ℤ) (n : ℕ) (below : Entries Spot) → length (tops_in file unit l n below) ≡ row_length below
+unfolding tops_in row_length
+length-tops_in file unit l n End = refl
+length-tops_in file unit l n (Entry e children next) = ap suc (length-tops_in file unit l (suc n) next)
+
+below_from : (file unit n : ℕ) (u : DwUnit Spot) (k : Kind Spot) → TopsFrom n (tops_below file unit n u k)
+below_from file unit n u Compile = tops_in_from file unit (language u) n u.below
+below_from file unit n u (OfType signature main) = tt
+below_from file unit n u PartialKind = tt
+
+length-tops_below : (file unit n : ℕ) (u : DwUnit Spot) (k : Kind Spot) → length (tops_below file unit n u k) ≡ top_count k u.below
+length-tops_below file unit n u Compile = length-tops_in file unit (language u) n u.below
+length-tops_below file unit n u (OfType signature main) = refl
+length-tops_below file unit n u PartialKind = refl
+
+pub tops_counted : (unit n : ℕ) (units : List (FileUnit Spot)) → TopsFrom n (tops_from unit n units)
+unfolding tops_from
+tops_counted unit n [] = tt
+tops_counted unit n (f ∷ units) =
+    from_append n (tops_below f.file unit n f.unit f.unit.kind) (tops_from (suc unit) (n + top_count f.unit.kind f.unit.below) units) (below_from f.file unit n f.unit f.unit.kind)
+    (subst (λ k. TopsFrom (n + k) (tops_from (suc unit) (n + top_count f.unit.kind f.unit.below) units)) (sym (length-tops_below f.file unit n f.unit f.unit.kind)) (tops_counted (suc unit) (n + top_count f.unit.kind f.unit.below) units))
+
+-- ---- a row for each top
+
+pub record SameRow (units : List (FileUnit Spot)) (a : Row) (t : Top) : Type 0 where
+  pub number : a.number ≡ t.number
+  pub unit : a.unit ≡ t.unit
+  pub pinned : a.pinned ≡ is_pinned units t.number
+
+abbrev pub SameRows : List (FileUnit Spot) → List Row → List Top → Type 0
+SameRows units [] [] = Unit {0}
+SameRows units (a ∷ rows) (t ∷ tops) = SameRow units a t × SameRows units rows tops
+SameRows units _ _ = ⊥
+
+pub rows_shown : (units : List (FileUnit Spot)) (files : List ℕ) (s : ℕ) (rows : List TopRow) (least : List ℕ) (tops : List Top) → length least ≡ length rows → ShowsRows units rows tops → TopsFrom s tops → SameRows units (rows_from files s rows least) tops
+unfolding rows_from
+rows_shown units files s [] least [] e h c = tt
+rows_shown units files s [] least (t ∷ tops) e h c = h
+rows_shown units files s (r ∷ rows) least [] e h c = absurd h
+rows_shown units files s (r ∷ rows) [] (t ∷ tops) e h c = absurd (omega (arith, e))
+rows_shown units files s (r ∷ rows) (l ∷ least) (t ∷ tops) e h c = (record { number = sym c.0; unit = h.0.unit; pinned = h.0.pinned }, rows_shown units files (suc s) rows least tops (omega (arith, e)) h.1 c.1)
+
+pub numbers_shown : (units : List (FileUnit Spot)) (rows : List Row) (tops : List Top) → SameRows units rows tops → map (λ (t : Top). t.number) tops ≡ numbers rows
+numbers_shown units [] [] h = refl
+numbers_shown units [] (t ∷ tops) h = absurd h
+numbers_shown units (a ∷ rows) [] h = absurd h
+numbers_shown units (a ∷ rows) (t ∷ tops) h = (λ i. sym h.0.number i ∷ numbers_shown units rows tops h.1 i)
+
+pub filter_shown : (units : List (FileUnit Spot)) (p : Row → Bool) (q : Top → Bool) (rows : List Row) (tops : List Top) → SameRows units rows tops → ((a : Row) (t : Top) → In a rows → SameRow units a t → p a ≡ q t) → SameRows units (filter p rows) (filter q tops)
+filter_shown units p q [] [] h e = tt
+filter_shown units p q [] (t ∷ tops) h e = absurd h
+filter_shown units p q (a ∷ rows) [] h e = absurd h
+filter_shown units p q (a ∷ rows) (t ∷ tops) h e = by (p a) (q t) (e a t (inl refl) h.0) (filter_shown units p q rows tops h.1 (λ b u is. e b u (inr is)))
+  where
+    by : (s r : Bool) → s ≡ r → SameRows units (filter p rows) (filter q tops) → SameRows units (cond s (a ∷ filter p rows) (filter p rows)) (cond r (t ∷ filter q tops) (filter q tops))
+    by true true e more = (h.0, more)
+    by true false e more = absurd cc
+    by false true e more = absurd cc
+    by false false e more = more
+
+pub map_shown : {X : Type 0} (units : List (FileUnit Spot)) (f : Row → X) (g : Top → X) (rows : List Row) (tops : List Top) → SameRows units rows tops → ((a : Row) (t : Top) → In a rows → SameRow units a t → f a ≡ g t) → map g tops ≡ map f rows
+map_shown units f g [] [] h e = refl
+map_shown units f g [] (t ∷ tops) h e = absurd h
+map_shown units f g (a ∷ rows) [] h e = absurd h
+map_shown units f g (a ∷ rows) (t ∷ tops) h e = (λ i. sym (e a t (inl refl) h.0) i ∷ map_shown units f g rows tops h.1 (λ b u is. e b u (inr is)) i)

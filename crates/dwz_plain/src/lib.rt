@@ -1,0 +1,18 @@
+//! Which tops move into which partial units.
+#![tactic(auto)]
+
+mod groups;
+mod homes;
+mod laws;
+mod parted;
+mod parts;
+mod plan;
+mod reps;
+mod units;
+mod users;
+
+pub use laws::plan_shows;
+pub use plan::{Home, Partial, Plan, Scope};
+
+#[cfg(test)]
+mod tests;

@@ -1,0 +1,169 @@
+//! The plan and how it is made.
+ghost use Rattle.std.specs.Prelude.{◌≡◌, ℕ, ◌+◌, ◌-◌, ◌<◌, ◌≤◌, ◌^◌, [], All, length, map, IfOk, slice_index, slice_index_or};
+ghost use Rattle.dwz_plain.specs.Planned.{partials, place, plan_of, stand_in};
+ghost use Rattle.dwz_plain.specs.Rows.{given};
+
+use crate::groups::Groups;
+use crate::homes::{homes, stand_ins};
+use crate::parted::parted;
+use crate::reps::reps;
+use crate::units::{imports, kept};
+use crate::users::users;
+use dwz_model::{NoMemory, Numbers, Tops};
+use std::alloc::Global;
+use std::marker::Model;
+
+/// Which files may share.
+#[derive(Clone, Copy, Debug, PartialEq, Eq)]
+pub enum Scope {
+    /// All files together.
+    Together,
+    /// Each file by itself.
+    Each,
+}
+
+/// Where a top goes.
+#[derive(Clone, Copy, Debug, PartialEq, Eq)]
+pub enum Home {
+    /// Into this partial unit, which is of the common file.
+    Common(u32),
+    /// Into this partial unit, which is of the top's own file.
+    Local(u32),
+    /// It stays in its unit.
+    Stay,
+}
+
+/// A partial unit.
+#[derive(Debug, Drop)]
+pub struct Partial {
+    /// The number of the file that it stands in; the common file's is the number of files.
+    pub file: u32,
+    /// The numbers of the units that import it, in order.
+    pub users: Numbers,
+    /// The numbers of its tops, in order.
+    pub tops: Numbers,
+}
+
+// What moves: the partial units, and for each top where it goes and what stands for it after.
+#[derive(Drop)]
+struct Moves {
+    partials: Vec<Partial>,
+    homes: Vec<Home>,
+    stand_ins: Vec<u32>,
+}
+
+fn moved(alloc: Global, tops: &Tops, least: &[u32], scope: Scope) -> Result<Moves, NoMemory>
+    requires rows { length tops.now.rows < 2 ^ 32 }
+    requires units { length tops.now.files_of_units < 2 ^ 32 }
+    requires least { length least.now ≡ length tops.now.rows }
+    requires inside { All (λ n. n < length tops.now.rows) least.now }
+    requires of_units { All (λ row. row.unit < length tops.now.files_of_units) tops.now.rows }
+    requires files { All (λ file. file < tops.now.files) tops.now.files_of_units }
+    ensures partials { IfOk result (λ m. m.partials.items ≡ partials (given scope tops.now least.now)) }
+    ensures few { IfOk result (λ m. length m.partials.items < 2 ^ 32) }
+    ensures homes { IfOk result (λ m. let g = given scope tops.now least.now in m.homes.items ≡ map (place g) g.rows) }
+    ensures stand_ins { IfOk result (λ m. let g = given scope tops.now least.now in m.stand_ins.items ≡ map (stand_in g) g.rows) }
+{
+    let files_of_units = tops.files_of_units.as_slice();
+    let reps = reps(alloc, tops, least, scope)?;
+    let users = users(
+        alloc,
+        tops.rows.as_slice(),
+        reps.as_slice(),
+        files_of_units.len(),
+    )?;
+    let parted = parted(alloc, &users, files_of_units, tops.files)?;
+    let homes = homes(alloc, reps.as_slice(), parted.of_movers.as_slice())?;
+    let stand_ins = stand_ins(alloc, homes.as_slice(), reps.as_slice())?;
+    Ok(Moves {
+        partials: parted.partials,
+        homes,
+        stand_ins,
+    })
+}
+
+/// Which tops move into which partial units, what the units keep, and which partial units they import.
+///
+/// Clauses see it as the record `Planned` of `specs/Planned.antt`.
+#[derive(Drop)]
+pub struct Plan {
+    partials: Vec<Partial>,
+    homes: Vec<Home>,
+    stand_ins: Vec<u32>,
+    kept: Groups,
+    imports: Groups,
+}
+
+impl Model for Plan {
+    ghost use Rattle.dwz_plain.specs.Planned.{Planned};
+
+    ghost Value = { Planned };
+
+    ghost view = { λ p. record { partials = p.partials.items; homes = p.homes.items; stand_ins = p.stand_ins.items; kept = p.kept; imports = p.imports } };
+}
+
+impl Plan {
+    /// The plan of tops, if for each top `least` has the least number of a top alike to it. Tops that can't be moved
+    /// are alike to none. Where each file is by itself, equal numbers in different files don't make tops alike.
+    pub fn make(alloc: Global, tops: &Tops, least: &[u32], scope: Scope) -> Result<Plan, NoMemory>
+        requires rows { length tops.now.rows < 2 ^ 32 }
+        requires units { length tops.now.files_of_units < 2 ^ 32 }
+        requires least { length least.now ≡ length tops.now.rows }
+        requires inside { All (λ n. n < length tops.now.rows) least.now }
+        requires of_units { All (λ row. row.unit < length tops.now.files_of_units) tops.now.rows }
+        requires files { All (λ file. file < tops.now.files) tops.now.files_of_units }
+        ensures { IfOk result (λ plan. plan ≡ plan_of (given scope tops.now least.now)) }
+    {
+        let moves = moved(alloc, tops, least, scope)?;
+        let units = tops.files_of_units.len();
+        let kept = kept(alloc, tops.rows.as_slice(), moves.homes.as_slice(), units)?;
+        let imports = imports(alloc, moves.partials.as_slice(), units)?;
+        Ok(Plan {
+            partials: moves.partials,
+            homes: moves.homes,
+            stand_ins: moves.stand_ins,
+            kept,
+            imports,
+        })
+    }
+
+    /// The partial units: those of the common file, and then those of each file. A partial unit's number is its place
+    /// here.
+    pub fn partials(&self) -> &[Partial]
+        ensures { result.now ≡ self.now.partials }
+    {
+        self.partials.as_slice()
+    }
+
+    /// Where a top goes.
+    pub fn home(&self, top: u32) -> Home
+        requires { top < length self.now.homes }
+        ensures { result ≡ slice_index_or self.now.homes top Home.Stay }
+    {
+        self.homes[top as usize]
+    }
+
+    /// What stands for a top after: the first top alike to it in its scope if it moves, and else itself.
+    pub fn stand_in(&self, top: u32) -> u32
+        requires { top < length self.now.stand_ins }
+        ensures { result ≡ slice_index self.now.stand_ins top }
+    {
+        self.stand_ins[top as usize]
+    }
+
+    /// The tops of a unit that stay: first the pinned ones and then the others, both in order.
+    pub fn kept(&self, unit: u32) -> &[u32]
+        requires { unit < length self.now.kept }
+        ensures { result.now ≡ slice_index_or self.now.kept unit [] }
+    {
+        self.kept.get(unit as usize)
+    }
+
+    /// The partial units that have a unit among their users, in order.
+    pub fn imports(&self, unit: u32) -> &[u32]
+        requires { unit < length self.now.imports }
+        ensures { result.now ≡ slice_index_or self.now.imports unit [] }
+    {
+        self.imports.get(unit as usize)
+    }
+}

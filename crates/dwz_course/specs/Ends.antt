@@ -108,6 +108,12 @@ pub record Ends (makes : ℕ → List (List ℕ)) (gives : Giving) (words : List
 abbrev pub LeavesFiles : List (List ℕ) → Told → Told → Type 0
 LeavesFiles words old new = (o : Options) → Lawful words o → IsSome o.demo → new ≡ old
 
+-- Which get failed last is as it was, unless the run ends because one did; where memory runs out nothing is said of it.
+abbrev pub KeepsLastRead : Status → Told → Told → Type 0
+KeepsLastRead ReadFault old new = Unit {0}
+KeepsLastRead NoMemory old new = Unit {0}
+KeepsLastRead _ old new = new.last_read ≡ old.last_read
+
 -- ---- the other way round
 
 -- all of these names are held, and have these contents; those that are made count as held

@@ -10,7 +10,7 @@ pub type Puts = DwzList<Put>;
 /// What comes of files that aren't refused.
 #[derive(Debug, Drop)]
 pub struct Output {
-    /// What is put, in order: the common file first, and then the files of which something moves.
+    /// What is put, in order.
     pub puts: Puts,
     /// The lengths of all files, in bytes, before and afterwards.
     pub summary: Summary,

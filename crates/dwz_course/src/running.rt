@@ -3,7 +3,7 @@
 ghost use Rattle.std.specs.Prelude.{◌≡◌, ◌<◌, ◌≤◌, ℕ, List, Some, None, [], IfOk, get_or, length, map};
 ghost use Rattle.dwz_course.specs.Demo.{HasLengths};
 ghost use Rattle.dwz_course.specs.Ended.{IsSaid, status_of, text_of};
-ghost use Rattle.dwz_course.specs.Ends.{Complete, Ends, EndsFor, LeavesFiles, Refuses, done_text};
+ghost use Rattle.dwz_course.specs.Ends.{Complete, Ends, EndsFor, KeepsLastRead, LeavesFiles, Refuses, done_text};
 ghost use Rattle.dwz_course.specs.Outcome.{name_of};
 ghost use Rattle.dwz_course.specs.Ready.{ready_of};
 ghost use Rattle.dwz_course.specs.declared.status.Status.TheVariants.{ReadFault, Refused};
@@ -26,7 +26,7 @@ use std::alloc::Global;
 
 /// Does what the words ask for: gets their FILEs in order, up to the first that fails or is too long; works on them; puts what
 /// comes of it in order, up to the first that fails; and says so, once. For a demonstration two files are made, and nothing is
-/// got or put. From the first put of a file on no memory is taken.
+/// got or put. All memory is taken before the first put of a file: behind it want of memory is no answer.
 pub fn run_course<F: Files, C: Console, W: Work>(
     alloc: Global,
     words: &[Vec<u8>],
@@ -38,6 +38,7 @@ pub fn run_course<F: Files, C: Console, W: Work>(
     ensures complete { Complete W.makes W.gives (bytes_of words.now) (F.told files.old) (F.told files.new) (C.shown console.old) (C.shown console.new) result }
     ensures refuses { Refuses W.makes W.gives (bytes_of words.now) (F.told files.old) (F.told files.new) result }
     ensures demo { LeavesFiles (bytes_of words.now) (F.told files.old) (F.told files.new) }
+    ensures reads { KeepsLastRead result (F.told files.old) (F.told files.new) }
 {
     let end = ended(alloc, words, files, work);
     say(console, &end)
@@ -47,6 +48,7 @@ pub fn run_course<F: Files, C: Console, W: Work>(
 fn ended<F: Files, W: Work>(alloc: Global, words: &[Vec<u8>], files: &mut F, work: &W) -> Ended
     ensures ends { EndsFor W.makes W.gives (bytes_of words.now) (F.told files.old) (F.told files.new) (status_of result) (text_of result) }
     ensures demo { LeavesFiles (bytes_of words.now) (F.told files.old) (F.told files.new) }
+    ensures reads { KeepsLastRead (status_of result) (F.told files.old) (F.told files.new) }
 {
     let options = match parse(alloc, words) {
         Ok(options) => options,
@@ -62,8 +64,9 @@ fn ended<F: Files, W: Work>(alloc: Global, words: &[Vec<u8>], files: &mut F, wor
 // The run of lawful words that name FILEs.
 fn with_files<F: Files, W: Work>(alloc: Global, options: &Options, files: &mut F, work: &W) -> Ended
     requires { options.now.demo ≡ None }
-    ensures { (words : List (List ℕ)) → Lawful words options.now
+    ensures ends { (words : List (List ℕ)) → Lawful words options.now
         → EndsFor W.makes W.gives words (F.told files.old) (F.told files.new) (status_of result) (text_of result) }
+    ensures reads { KeepsLastRead (status_of result) (F.told files.old) (F.told files.new) }
 {
     let contents = match got_all(alloc, files, options.files.as_slice()) {
         Ok(contents) => contents,

@@ -5,7 +5,7 @@ use Rattle.dwz_docs.specs.Trees.{End, Entry}
 use Rattle.dwz_meanings.specs.Documents.{Attr, Doc, DwUnit, Entries, Node, unit_map}
 use Rattle.dwz_docs.specs.Entries.{given}
 use Rattle.dwz_meanings.specs.Files.{around_of, debug_abbrev, debug_info, sources_of}
-use Rattle.dwz_meanings.specs.Meanings.{Common as CommonFile, Sources}
+use Rattle.dwz_meanings.specs.Meanings.{Common as CommonFile}
 use Rattle.dwz_alike.specs.Alike.{IsAlike, Scope}
 use Rattle.dwz_alike.specs.Spots.{FileUnit, PartialOf, Spot, Top, file_numbers, in_file, named, named_files, spot_in, spots_from, units_of}
 use Rattle.dwz_seen.specs.Lists.{Each, Nth}
@@ -20,7 +20,7 @@ use Rattle.dwz_same.specs.Units.{all_units, changes, common_units, out_units, pa
 use Rattle.dwz_same.proofs.FileLemmas.{files_same, replaced}
 use Rattle.dwz_same.proofs.HeldLemmas.{part_found, row_found}
 use Rattle.dwz_writing.specs.Bases.{Bases, bases_in}
-use Rattle.dwz_writing.specs.Carried.{BasesStand, CarriedAttr, CarriedEntries, CarriedNode, CarriedUnit, OfAny, OfFile, OperandsStand}
+use Rattle.dwz_writing.specs.Carried.{BasesStand, CarriedAttr, CarriedEntries, CarriedNode, CarriedUnit, From, OfAny, OfFile, OperandsStand}
 use Rattle.dwz_writing.specs.Fitting.{UnitHasRoom}
 use Rattle.dwz_writing.specs.Meant.{all_entry_keys}
 use Rattle.dwz_writing.specs.Placing.{fit_units}
@@ -53,7 +53,7 @@ use Rattle.dwz_back.proofs.WithinLemmas.{within}
 
 -- ---- what was read in a file was read in some file
 
-module _ {K : Type 0} (from : Sources → Type 0) (origin : Bases) where
+module _ {K : Type 0} (from : From) (origin : Bases) where
   any_attr : (a : Attr K) → CarriedAttr from origin a → CarriedAttr OfAny origin a
   any_attr a (inl c) = inl (record { was_read = c.was_read; file = tt; unit = c.unit; stored = c.stored; built = c.built })
   any_attr a (inr r) = inr r

@@ -25,7 +25,7 @@ use Rattle.dwz_seen.specs.Shown.{HaveMains, keys, unit_keys, units_keys}
 use Rattle.dwz_seen.proofs.Members.{each_in, in_cases, in_left, in_right}
 use Rattle.dwz_seen.proofs.SeenLemmas.{entry_seen, root_from, root_seen, seen_from}
 use Rattle.dwz_same.specs.After.{ArePlaced}
-use Rattle.dwz_writing.specs.Carried.{CarriedUnit, OfFile}
+use Rattle.dwz_writing.specs.Carried.{CarriedUnit, From, OfFile}
 use Rattle.dwz_writing.specs.Bases.{bases_in}
 use Rattle.dwz_writing.specs.Meant.{KindSays, entry_keys}
 use Rattle.dwz_writing.proofs.ReadAgain.{keys_read, units_carried}
@@ -350,7 +350,7 @@ module _ (abbrevs info : List ℕ) (mode : Mode) (raw : List RawUnit) (sources :
 
 -- ---- a file
 
-units_main : (from : Sources → Type 0) (units : List (DwUnit ℕ)) → Each (λ u. CarriedUnit from (bases_in u) u) units → HaveMains units
+units_main : (from : From) (units : List (DwUnit ℕ)) → Each (λ u. CarriedUnit from (bases_in u) u) units → HaveMains units
 units_main from units are = λ u there signature main e.
     (let c = each_in (λ w. CarriedUnit from (bases_in w) w) u units are there in subst (λ (k : Kind ℕ). KindSays (entry_keys u) k) e c.main)
 

@@ -214,7 +214,7 @@ module _ (r : Run) (can : CanWrite r) (g : Spot → Place) (ok : IsPlacing r g) 
       let c = can.file file there changed in
       units_good (file_forms r file) spots_same (OfFile (sources r file)) (tells r file) (out_units r.move r.units file) (file_all file) (subst NoneTwice names (file_once (files_out r) (run_once r can.apart) (file_out r file) (file_there r file there))) c.carried c.closed
       (λ k common own. not_common r can.apart file there k (entries_are_keys (common_fitted r) k common) (subst (In k) (sym names) own))
-      (small, λ s is. (ap (λ (x : Sources). x.strs) (sym is), ap (λ (x : Sources). x.line_strs) (sym is), ap (λ (x : Sources). x.offsets) (sym is), ap (λ (x : Sources). x.line) (sym is), ap (λ (x : Sources). x.offsets) (sym is)), record { strs = refl; few = few }) c.over.bases c.over.operands
+      (small, λ s a is. record { strs = ap (λ (x : Sources). x.strs) (sym is); line_strs = ap (λ (x : Sources). x.line_strs) (sym is); offsets = ap (λ (x : Sources). x.offsets) (sym is); line = ap (λ (x : Sources). x.line) (sym is); slots = ap (λ (x : Sources). x.offsets) (sym is) }, record { strs = refl; few = few }) c.over.bases c.over.operands
 
   file_room : (file : ℕ) → In file r.files → changes r.move r.units file ≡ true → Each (UnitHasRoom n) (fitted r file)
   unfolding fitted

@@ -20,7 +20,7 @@ use Rattle.dwz_same.specs.After.{ArePlaced, Place, at_file, name_in, placed_from
 use Rattle.dwz_same.specs.Images.{IsAlone, OneImage}
 use Rattle.dwz_same.specs.Units.{all_units, changes, common_units, out_units}
 use Rattle.dwz_writing.specs.Bases.{bases_in}
-use Rattle.dwz_writing.specs.Carried.{BasesStand, CarriedUnit, ClosedIn, OfAny, OfFile, OperandsStand}
+use Rattle.dwz_writing.specs.Carried.{BasesStand, CarriedUnit, ClosedIn, From, OfAny, OfFile, OperandsStand}
 use Rattle.dwz_writing.specs.Fitting.{UnitHasRoom, back_forms}
 use Rattle.dwz_writing.specs.Meant.{Tells, all_entry_keys, placed_units}
 use Rattle.dwz_writing.specs.Placing.{FitsSections, Forms, fit_units}
@@ -66,7 +66,7 @@ pub record StandOver (f : Forms Spot) (t : Tells Spot) (n : Numbering Spot) (uni
 
 -- each value of these units was read in such files, in the unit that it is said to come from; each reference names an entry of the
 -- file, or of the common file
-pub record IsReady (from : Sources → Type 0) (f : Forms Spot) (t : Tells Spot) (n : Numbering Spot) (units : List (DwUnit Spot)) : Type 0 where
+pub record IsReady (from : From) (f : Forms Spot) (t : Tells Spot) (n : Numbering Spot) (units : List (DwUnit Spot)) : Type 0 where
   pub carried : Each (λ u. CarriedUnit from (f.origin u.at) u) units
   pub closed : ClosedIn t units
   pub over : StandOver f t n units

@@ -22,7 +22,7 @@ use Rattle.dwz_seen.proofs.Members.{in_cases, in_filter, in_left, in_map, in_rig
 use Rattle.dwz_writing.specs.Bases.{Bases, bases_in}
 use Rattle.dwz_writing.specs.Fitting.{EachAttr}
 use Rattle.dwz_writing.specs.Meant.{AttrSays, EntriesSay, ExprSays, FileSays, KindSays, ListSays, NodeSays, OperandIn, OperandsIn, Own, SaysAs, SlotSays, Tells, TextSays, UnitSays, UnitsSay, WasRead, own_of, told_texts}
-use Rattle.dwz_writing.specs.Pruned.{AreNewSlots, AttrStays, HasNoStrp, StaysAs, UnitStays, all_uses, attr_uses, attrs_uses, entries_uses, number_in_slot, renumbered, renumbered_attr, renumbered_node, renumbered_unit, renumbered_units, slot_after, slot_places, slot_uses, units_uses, with_texts}
+use Rattle.dwz_writing.specs.Pruned.{AreNewSlots, AttrStays, HasNoStrp, StaysAs, UnitStays, all_uses, attr_uses, attrs_uses, entries_uses, number_in_slot, renumbered, renumbered_attr, renumbered_node, renumbered_unit, renumbered_units, slot_after, known_slots, slot_uses, units_uses, with_texts}
 use Rattle.dwz_writing.specs.Sound.{SoundAttr, SoundEntries, SoundUnit}
 use Rattle.dwz_writing.specs.Placing.{with_form}
 use Rattle.dwz_writing.proofs.ChosenValues.{Good, place_less, str_class, strp_good}
@@ -237,12 +237,12 @@ module _ {K : Type 0} (t : Tells K) (uses offsets places : List ℕ) (small : le
 
 -- the units of a file, with all its uses
 pub units_pruned : {K : Type 0} (t : Tells K) (units : List (DwUnit K)) (offsets : List ℕ) → length t.strs < 2 ^ 32
-    → AreNewSlots (slot_after t.strs (all_uses t.strs t.offsets units)) (slot_places t.offsets) t.offsets offsets → Each (UnitStays (told_texts t) t.line (slot_places t.offsets)) units
+    → AreNewSlots (slot_after t.strs (all_uses t.strs t.offsets units)) (known_slots t.offsets) t.offsets offsets → Each (UnitStays (told_texts t) t.line (known_slots t.offsets)) units
     → Each SoundUnit units → UnitsSay t units
     → Each SoundUnit (renumbered_units (new_number t.strs (all_uses t.strs t.offsets units)) units)
     × UnitsSay (with_texts t (pruned t.strs (all_uses t.strs t.offsets units)) offsets) (renumbered_units (new_number t.strs (all_uses t.strs t.offsets units)) units)
 unfolding renumbered_units
 units_pruned t units offsets small new stays sound says =
     let here = units_uses units in
-    let slots = slot_uses t.strs t.offsets (slot_places t.offsets) in
-    each_moved t (all_uses t.strs t.offsets units) offsets (slot_places t.offsets) small new (λ n there. in_right n here slots there) units (λ n there. in_left n here slots there) stays sound says
+    let slots = slot_uses t.strs t.offsets (known_slots t.offsets) in
+    each_moved t (all_uses t.strs t.offsets units) offsets (known_slots t.offsets) small new (λ n there. in_right n here slots there) units (λ n there. in_left n here slots there) stays sound says

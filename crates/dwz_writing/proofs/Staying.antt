@@ -2,13 +2,13 @@
 use Rattle.std.proofs.Common.{◌≡◌, ℕ, ℤ, Bool, true, false, List, [], ◌∷◌, Option, Some, map, refl, sym, ap, subst, ◌∙◌, inl, inr}
 use Rattle.dwz_bytes.specs.Spelling.{reach}
 use Rattle.dwz_docs.specs.Trees.{End, Entry}
-use Rattle.dwz_meanings.specs.Documents.{Attr, Compile, DwUnit, Entries, Kind, OfType, Partial}
+use Rattle.dwz_meanings.specs.Documents.{Attr, Compile, DwUnit, Entries, Kind, Node, OfType, Partial}
 use Rattle.dwz_meanings.specs.Meanings.{Class, OfCommonEntry, OfConstant, OfInfoEntry, OfOffset, OfTextBySlot, OfTextInLineStr, OfTextInStr, OfUnitEntry, Sources, class_in, class_of, class_rows, names_file, number_of, texts_of}
 use Rattle.dwz_meanings.specs.LineTables.{TextSections}
 use Rattle.dwz_seen.specs.Lists.{Each}
 use Rattle.dwz_seen.specs.Shown.{units_keys}
 use Rattle.dwz_writing.specs.Bases.{Bases, bases_in, bases_of}
-use Rattle.dwz_writing.specs.Carried.{BasesStand, CarriedAttr, CarriedEntries, CarriedUnit, ComesFromItself, FileStands}
+use Rattle.dwz_writing.specs.Carried.{BasesStand, CarriedAttr, CarriedEntries, CarriedNode, CarriedUnit, ComesFromItself, FileStands, OfFile}
 use Rattle.dwz_writing.specs.Fitting.{EachAttr}
 use Rattle.dwz_writing.specs.Placing.{Chosen, CommonUnit, FileFit, Fit, Forms, Holder, InCommon, InFile, InUnit, NewUnit, OldUnit, Reach, as_constant, as_file, as_line_text, as_read, as_slot, as_strp_if, as_text, fit, fit_as, fit_attr, fit_unit, fit_units, has_text, holder_of, reach_of, ref_form, slot_number, unit_fit, with_keys}
 use Rattle.dwz_writing.specs.Pruned.{AttrStays, HasNoStrp, StaysAs, StaysIn, UnitStays}
@@ -35,6 +35,43 @@ module _ {K : Type 0} (sources : Sources) (places : List ℕ) (origin : Bases) (
       (subst (λ (b : Bases). StaysAs (class_of w.old.pair.form) (texts_of sources) sources.line places b w.old.pair.name (reach (number_of w.old.raw))) came.unit came.file.1)))
   read_stays (inr (inl i)) = subst (λ (c : Class). Stays c a.name a.raw) (sym (ap class_of i.form ∙ import_class)) tt
   read_stays (inr (inr l)) = subst (λ (c : Class). Stays c a.name a.raw) (sym (ap class_of l.form ∙ offset_class)) tt
+
+-- what was read in a file, and stays so
+module _ {K : Type 0} (sources : Sources) (places : List ℕ) (origin : Bases) where
+  abbrev Here : Attr K → Type 0
+  Here a = AttrStays (texts_of sources) sources.line places origin a
+
+  attr_too : (a : Attr K) → CarriedAttr (OfFile sources) origin a → Here a → CarriedAttr (StaysIn sources places) origin a
+  attr_too a (inl came) stays =
+      let w = came.was_read in
+      let form : w.old.pair.form ≡ a.form = sym w.means.form ∙ sym (ap (λ (b : Attr K). b.form) w.same) in
+      let name : w.old.pair.name ≡ a.name = sym w.means.name ∙ sym (ap (λ (b : Attr K). b.name) w.same) in
+      let raw : number_of w.old.raw ≡ a.raw = sym w.means.raw ∙ sym (ap (λ (b : Attr K). b.raw) w.same) in
+      let old = subst (λ (b : Bases). StaysAs (class_of w.old.pair.form) (texts_of sources) sources.line places b w.old.pair.name (reach (number_of w.old.raw))) (sym came.unit)
+      (subst (λ (f : ℕ). Stays sources places origin a (class_of f) w.old.pair.name (number_of w.old.raw)) (sym form)
+      (subst (λ (n : ℕ). Stays sources places origin a (class_of a.form) n (number_of w.old.raw)) (sym name)
+      (subst (λ (z : ℤ). Stays sources places origin a (class_of a.form) a.name z) (sym raw) stays))) in
+      inl (record { was_read = w; file = (came.file, old); unit = came.unit; stored = came.stored; built = came.built })
+  attr_too a (inr other) stays = inr other
+
+  attrs_too : (attrs : List (Attr K)) → Each (CarriedAttr (OfFile sources) origin) attrs → Each Here attrs → Each (CarriedAttr (StaysIn sources places) origin) attrs
+  attrs_too [] carried stays = tt
+  attrs_too (a ∷ attrs) carried stays = (attr_too a carried.0 stays.0, attrs_too attrs carried.1 stays.1)
+
+  node_too : (e : Node K) → CarriedNode (OfFile sources) origin e → Each Here e.attrs → CarriedNode (StaysIn sources places) origin e
+  node_too e carried stays = record { some_tag = carried.some_tag; tag_fits = carried.tag_fits; attrs = attrs_too e.attrs carried.attrs stays }
+
+  entries_too : (g : Entries K) → CarriedEntries (OfFile sources) origin g → EachAttr Here g → CarriedEntries (StaysIn sources places) origin g
+  entries_too End carried stays = tt
+  entries_too (Entry e children next) carried stays = (node_too e carried.0 stays.0, entries_too children carried.1 stays.1, entries_too next carried.2 stays.2)
+
+  unit_too : (u : DwUnit K) → CarriedUnit (OfFile sources) origin u → Each Here u.root.attrs × EachAttr Here u.below → CarriedUnit (StaysIn sources places) origin u
+  unit_too u carried stays = record { kind = carried.kind; main = carried.main; root = node_too u.root carried.root stays.0; below = entries_too u.below carried.below stays.1 }
+
+pub units_too : {K : Type 0} (sources : Sources) (places : List ℕ) (units : List (DwUnit K)) → Each (λ u. CarriedUnit (OfFile sources) (bases_in u) u) units → Each (UnitStays (texts_of sources) sources.line places) units
+    → Each (λ u. CarriedUnit (StaysIn sources places) (bases_in u) u) units
+units_too sources places [] carried stays = tt
+units_too sources places (u ∷ units) carried stays = (unit_too sources places (bases_in u) u carried.0 stays.0, units_too sources places units carried.1 stays.1)
 
 -- ---- with its form
 

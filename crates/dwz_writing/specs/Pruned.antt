@@ -41,8 +41,8 @@ abbrev pub slots_or_none : Option (List ℕ) → List ℕ
 slots_or_none None = []
 slots_or_none (Some places) = places
 
-abbrev pub slot_places : List ℕ → List ℕ
-slot_places offsets = slots_or_none (slots_in offsets)
+abbrev pub known_slots : List ℕ → List ℕ
+known_slots offsets = slots_or_none (slots_in offsets)
 
 -- the number in the slot at a place
 abbrev pub number_in_slot : List ℕ → ℕ → ℕ
@@ -54,7 +54,7 @@ slot_uses strs offsets places = filter (λ n. is_some (text_at strs n)) (map (nu
 
 -- all uses: the offsets of values of form strp, and the numbers of slots that name a text
 abbrev pub all_uses : {K : Type 0} → (strs offsets : List ℕ) → List (DwUnit K) → List ℕ
-all_uses strs offsets units = units_uses units ++ slot_uses strs offsets (slot_places offsets)
+all_uses strs offsets units = units_uses units ++ slot_uses strs offsets (known_slots offsets)
 
 -- ---- what is written
 

@@ -91,22 +91,26 @@ pub record AreNewSlots (number : ℕ → ℕ) (places old new : List ℕ) : Type
 abbrev pub HasNoStrp : TextSections → (line : List ℕ) → ℕ → Type 0
 HasNoStrp texts line place = (table : FileTable) → IsFileTable texts line place table → table.has_strp ≡ false
 
--- of a value of a class, in a unit of which that is known, with its name and number: the slot that it reads is at one of these places, and the line
--- table that it reads has no such text
+-- of a value of a class, in a unit of which that is known, with its name and number: the slot that it reads is at one of these places, and
+-- the line table that it reads has no such text
 abbrev pub StaysAs : Class → TextSections → (line places : List ℕ) → Bases → (name number : ℕ) → Type 0
 StaysAs OfTextBySlot texts line places own name number = (base : ℕ) → own.slots ≡ Some base → In (slot_place base number) places
-StaysAs OfConstant texts line places own name number = names_file name ≡ true → (place : ℕ) → own.line ≡ Some place → HasNoStrp texts line place
+StaysAs OfConstant texts line places own name number =
+    names_file name ≡ true → (place : ℕ) → own.line ≡ Some place → HasNoStrp texts line place
 StaysAs _ texts line places own name number = Unit {0}
 
 abbrev pub AttrStays : {K : Type 0} → TextSections → (line places : List ℕ) → Bases → Attr K → Type 0
 AttrStays texts line places own a = StaysAs (class_of a.form) texts line places own a.name (reach a.raw)
 
 abbrev pub UnitStays : {K : Type 0} → TextSections → (line places : List ℕ) → DwUnit K → Type 0
-UnitStays texts line places u = Each (AttrStays texts line places (bases_in u)) u.root.attrs × EachAttr (AttrStays texts line places (bases_in u)) u.below
+UnitStays texts line places u =
+    Each (AttrStays texts line places (bases_in u)) u.root.attrs × EachAttr (AttrStays texts line places (bases_in u)) u.below
 
 -- so it is where the attribute was read, in the file with these sections
 abbrev pub StaysIn : Sources → (places : List ℕ) → From
-StaysIn sources places s a = (s.around.sources ≡ sources) × StaysAs (class_of a.pair.form) (texts_of sources) sources.line places (bases_of s) a.pair.name (offset_of a)
+StaysIn sources places s a =
+    (s.around.sources ≡ sources)
+    × StaysAs (class_of a.pair.form) (texts_of sources) sources.line places (bases_of s) a.pair.name (offset_of a)
 
 -- what units are written for, with other sections of texts and of slots
 abbrev pub with_texts : {K : Type 0} → Tells K → (strs offsets : List ℕ) → Tells K

@@ -164,7 +164,8 @@ module _ {K : Type 0} (t : Tells K) (uses offsets places : List ℕ) (small : le
     says_moved OfConstant a other stays h = constant_moved (names_file a.name) a refl stays h
     says_moved _ a other stays h = h
 
-    attr_moved : (a : Attr K) → (a.form ≡ 0x0e → In (reach a.raw) uses) → AttrStays (told_texts t) t.line places own.bases a → SoundAttr a → AttrSays t own a → Good moved own (renumbered_attr number a)
+    attr_moved : (a : Attr K) → (a.form ≡ 0x0e → In (reach a.raw) uses) → AttrStays (told_texts t) t.line places own.bases a → SoundAttr a → AttrSays t own a
+        → Good moved own (renumbered_attr number a)
     attr_moved a used stays sound says = by (eqb a.form 0x0e) refl where
       by : (b : Bool) → eqb a.form 0x0e ≡ b → Good moved own (cond b (with_form a (record { form = 0x0e; raw = pos (number (reach a.raw)) })) a)
       by true e =
@@ -181,7 +182,8 @@ module _ {K : Type 0} (t : Tells K) (uses offsets places : List ℕ) (small : le
       sound : Each SoundAttr attrs
       says : Each (AttrSays moved own) attrs
 
-    attrs_moved : (attrs : List (Attr K)) → ((n : ℕ) → In n (attrs_uses attrs) → In n uses) → Each (AttrStays (told_texts t) t.line places own.bases) attrs → Each SoundAttr attrs → Each (AttrSays t own) attrs
+    attrs_moved : (attrs : List (Attr K)) → ((n : ℕ) → In n (attrs_uses attrs) → In n uses) → Each (AttrStays (told_texts t) t.line places own.bases) attrs → Each SoundAttr attrs
+        → Each (AttrSays t own) attrs
         → GoodAttrs (map (renumbered_attr number) attrs)
     unfolding attrs_uses
     attrs_moved [] used stays sound says = record { sound = tt; says = tt }
@@ -194,7 +196,8 @@ module _ {K : Type 0} (t : Tells K) (uses offsets places : List ℕ) (small : le
       sound : SoundEntries g
       says : EntriesSay moved own g
 
-    entries_moved : (g : Entries K) → ((n : ℕ) → In n (entries_uses g) → In n uses) → EachAttr (AttrStays (told_texts t) t.line places own.bases) g → SoundEntries g → EntriesSay t own g → GoodEntries (renumbered number g)
+    entries_moved : (g : Entries K) → ((n : ℕ) → In n (entries_uses g) → In n uses) → EachAttr (AttrStays (told_texts t) t.line places own.bases) g → SoundEntries g
+        → EntriesSay t own g → GoodEntries (renumbered number g)
     unfolding entries_uses renumbered
     entries_moved End used stays sound says = record { sound = tt; says = tt }
     entries_moved (Entry e children next) used stays sound says =

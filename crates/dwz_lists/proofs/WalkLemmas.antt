@@ -1,5 +1,5 @@
 -- One turn of the loop over entries.
-use Rattle.std.proofs.Common.{◌≡◌, ◌≢◌, ◌⊎◌, ℕ, ◌+◌, ◌<◌, ◌≤◌, List, [], ◌∷◌, length, Option, Some, None, Result, Ok, Err, refl, sym, ap, subst, ◌∙◌, arith, inl, inr, ◌^◌}
+use Rattle.std.proofs.Common.{append_assoc, ◌≡◌, ◌≢◌, ◌⊎◌, ℕ, ◌+◌, ◌<◌, ◌≤◌, List, [], ◌∷◌, ◌++◌, length, Option, Some, None, Result, Ok, Err, refl, sym, ap, subst, ◌∙◌, arith, inl, inr, ◌^◌}
 use Rattle.std.proofs.lemmas.List.{length-append}
 use Rattle.dwz_model.specs.declared.fault.Fault.{Fault}
 use Rattle.dwz_model.specs.declared.fault.ReadErr.{ReadErr}
@@ -21,7 +21,27 @@ use Rattle.dwz_lists.proofs.GatherLemmas.{AreListed, IsKind, end_step, kind_list
 
 -- ---- what the front of an entry leaves
 
+-- what reads bytes from the front leaves the others
+pub record Goes (i j : Input) : Type 0 where
+  pub front : List ℕ
+  pub parts : i.rest ≡ front ++ j.rest
+  pub place : j.at ≡ i.at + length front
+
+same_end : (i j : Input) → Goes i j → j.at + length j.rest ≡ i.at + length i.rest
+same_end i j g = omega (arith, g.place, ap length g.parts, length-append g.front j.rest)
+
+fewer_left : (i j : Input) → Goes i j → length j.rest ≤ length i.rest
+fewer_left i j g = omega (arith, ap length g.parts, length-append g.front j.rest)
+
+goes_twice : (i j m : Input) → Goes i j → Goes j m → Goes i m
+goes_twice i j m g h = record {
+  front = g.front ++ h.front;
+  parts = g.parts ∙ ap (λ (w : List ℕ). g.front ++ w) h.parts ∙ sym (append_assoc g.front h.front m.rest);
+  place = omega (arith, g.place, h.place, length-append g.front h.front);
+}
+
 pub record Leaves (i m : Input) (x : Option Input) : Type 0 where
+  pub goes : Goes i m
   pub end : m.at + length m.rest ≡ i.at + length i.rest
   pub fewer : length m.rest ≤ length i.rest
   pub short : i.at + length i.rest < 2 ^ 64 → IsShort x
@@ -32,28 +52,19 @@ front x j = Ok (x, j)
 same_front : (x y : Option Input) (i j : Input) → front x i ≡ front y j → (x ≡ y) × (i ≡ j)
 same_front x y i j e = (same_value x y i j (front x i) refl e, same_input x y i j (front x i) refl e)
 
--- what reads bytes goes forward to the same end
-record Goes (i j : Input) : Type 0 where
-  end : j.at + length j.rest ≡ i.at + length i.rest
-  fewer : length j.rest ≤ length i.rest
-
 uleb_goes : (bad : Fault) (i : Input) (n : ℕ) (j : Input) → or_fault bad (uleb_at i) ≡ Ok (n, j) → Goes i j
 uleb_goes bad i n j is =
     let t = ((bytes_agree uleb_reads bad i).ok (n, j)).0 is in
-    let at = t.place in
-    let len = ap length t.parts in
-    record { end = omega (arith, at, len, length-append t.front j.rest); fewer = omega (arith, len, length-append t.front j.rest) }
+    record { front = t.front; parts = t.parts; place = t.place }
 
 address_goes : (bad : Fault) (i : Input) (n : ℕ) (j : Input) → or_fault bad (fixed_at 8 i) ≡ Ok (n, j) → Goes i j
 address_goes bad i n j is =
     let t = ((bytes_agree (fixed_reads 8) bad i).ok (n, j)).0 is in
-    let at = t.place in
-    let len = ap length t.parts in
-    record { end = omega (arith, at, len, length-append t.front j.rest); fewer = omega (arith, len, length-append t.front j.rest) }
+    record { front = t.front; parts = t.parts; place = t.place }
 
 -- and so do those behind it
 then_leaves : (i j m : Input) (x : Option Input) → Goes i j → Leaves j m x → Leaves i m x
-then_leaves i j m x g l = record { end = omega (arith, g.end, l.end); fewer = omega (arith, g.fewer, l.fewer); short = λ lt. l.short (omega (arith, g.end, lt)) }
+then_leaves i j m x g l = record { goes = goes_twice i j m g l.goes; end = omega (arith, same_end i j g, l.end); fewer = omega (arith, fewer_left i j g, l.fewer); short = λ lt. l.short (omega (arith, same_end i j g, lt)) }
 
 content_leaves : (bad : Fault) (i : Input) (x : Option Input) (m : Input) → content_at bad i ≡ front x m → Leaves i m x
 content_leaves bad i x m is =
@@ -68,9 +79,10 @@ content_leaves bad i x m is =
     let len = ap length t.parts in
     let size = ap length t.spelled.same in
     let there : Leaves i y.1 (Some (record { at = n.1.at; rest = y.0 })) = record {
-      end = omega (arith, at, len, g.end, length-append t.front y.1.rest);
-      fewer = omega (arith, len, g.fewer, length-append t.front y.1.rest);
-      short = λ lt. omega (arith, at, len, size, g.end, lt, length-append t.front y.1.rest);
+      goes = goes_twice i n.1 y.1 g (record { front = t.front; parts = t.parts; place = t.place });
+      end = omega (arith, at, len, same_end i n.1 g, length-append t.front y.1.rest);
+      fewer = omega (arith, len, fewer_left i n.1 g, length-append t.front y.1.rest);
+      short = λ lt. omega (arith, at, len, size, same_end i n.1 g, lt, length-append t.front y.1.rest);
     } in
     subst (λ (w : Option Input). Leaves i m w) same.0 (subst (λ (w : Input). Leaves i w (Some (record { at = n.1.at; rest = y.0 }))) same.1 there)
 
@@ -78,7 +90,7 @@ front_leaves : (bad : Fault) (fields : List Field) (i : Input) (x : Option Input
 unfolding front_at
 front_leaves bad [] i x m listed is =
     let same = same_front None x i m is in
-    let here : Leaves i i None = record { end = refl; fewer = omega arith; short = λ lt. tt } in
+    let here : Leaves i i None = record { goes = record { front = []; parts = refl; place = omega arith }; end = refl; fewer = omega arith; short = λ lt. tt } in
     subst (λ (w : Option Input). Leaves i m w) same.0 (subst (λ (w : Input). Leaves i w None) same.1 here)
 front_leaves bad (Unsigned ∷ fields) i x m listed is =
     let b = bind_ok (or_fault bad (uleb_at i)) (λ y. front_at bad fields y.1) (x, m) is in

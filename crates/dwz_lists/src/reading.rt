@@ -1,10 +1,11 @@
 //! Location lists that are read.
 
-ghost use Rattle.std.specs.Prelude.{◌≡◌, ◌<◌, length};
+ghost use Rattle.std.specs.Prelude.{◌≡◌, ◌<◌, ◌≤◌, length};
 ghost use Rattle.dwz_docs.specs.Faults.{Answers};
 ghost use Rattle.dwz_meanings.specs.LocLists.{list_at};
 ghost use Rattle.dwz_meanings.specs.Sequences.{read_from};
 ghost use Rattle.dwz_expr.specs.Gathering.{Grows, added};
+ghost use Rattle.dwz_lists.specs.Entries.{ReadsEntry};
 ghost use Rattle.dwz_lists.specs.FirstFault.{WalksInto};
 ghost use Rattle.dwz_lists.specs.Gathering.{Adds, IsShort, content_of, exprs_with, in_lists};
 
@@ -100,7 +101,32 @@ pub fn walk<'a>(alloc: Global, section: &'a [u8], at: u64) -> Result<LocationLis
     }
 }
 
-/// Reads the location list at a place of `.debug_loclists`, as `walk` does, appends the operands of its expressions that name
+/// Reads the entry of a location list that begins at a place of `.debug_loclists`, appends the operands of its expression that name
+/// entries, and answers the place behind it; or nothing, where the list ends there. Refused as `walk` is. Then the operands before the
+/// fault are appended, which are those that are looked up before.
+///
+/// The list at a place is the entry there, and the list behind that entry.
+#[inline(always)]
+pub fn entry_into(
+    operands: &mut Vec<Operand>,
+    section: &[u8],
+    at: u64,
+) -> Result<Option<u64>, ReadErr>
+    requires { at ≤ length section.now }
+    ensures found { ReadsEntry section.now at (added operands.old.items operands.new.items) result }
+    ensures grows { Grows operands.old.items operands.new.items }
+{
+    let mut cursor = Cursor::new(section, at as usize);
+    let kind = byte(&mut cursor, bad_at(at))?;
+    if kind == 0 {
+        return Ok(None);
+    }
+    let content = front(kind, at, &mut cursor)?;
+    push_operands(content, operands)?;
+    Ok(Some(cursor.at() as u64))
+}
+
+/// Reads the location list at a place of `.debug_loclists`, entry by entry, appends the operands of its expressions that name
 /// entries, and answers the place behind the list.
 ///
 /// Where it is refused, the operands before the fault are appended, which are those that are looked up before: so the first of
@@ -110,15 +136,11 @@ pub fn walk_into(operands: &mut Vec<Operand>, section: &[u8], at: u64) -> Result
     ensures found { WalksInto section.now at (added operands.old.items operands.new.items) result }
     ensures grows { Grows operands.old.items operands.new.items }
 {
-    let mut cursor = Cursor::new(section, at as usize);
+    let mut place = at;
     loop {
-        let place = cursor.at() as u64;
-        let kind = byte(&mut cursor, bad_at(place))?;
-        if kind == 0 {
-            let end = cursor.at() as u64;
-            return Ok(end);
+        match entry_into(operands, section, place)? {
+            Some(next) => place = next,
+            None => return Ok(place + 1),
         }
-        let content = front(kind, place, &mut cursor)?;
-        push_operands(content, operands)?;
     }
 }

@@ -1,6 +1,6 @@
 //! Small lists, counted by hand.
 
-use crate::{walk, walk_into};
+use crate::{entry_into, walk, walk_into};
 use dwz_expr::Operand;
 use dwz_model::{Base, Fault, ReadErr, Reason};
 use std::test::Fail;
@@ -42,6 +42,10 @@ fn reads_lists(rt: HostRuntime) -> Result<(), Fail> {
         by_uleb(9, 1, 0x7d),
     ];
     assert_eq!(rt; operands.as_slice(), all.as_slice());
+    // its entry, and the end behind it
+    assert_eq!(rt; entry_into(&mut operands, &section, 0)?, Some(11));
+    assert_eq!(rt; entry_into(&mut operands, &section, 11)?, None);
+    assert_eq!(rt; operands.len(), 5);
     // base_addressx 1, a view pair, default_location, base_address, start_end, start_length
     let section = [
         1, 1, 9, 0, 0, 5, 1, 0x96, 6, 1, 1, 1, 1, 1, 1, 1, 1, 7, 1, 1, 1, 1, 1, 1, 1, 1, 2, 2, 2,

@@ -31,3 +31,4 @@ mod ExprRows
 mod MeaningRows
 mod FileRows
 mod PatchRows
+mod SharedRows

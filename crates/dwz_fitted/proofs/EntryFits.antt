@@ -17,7 +17,7 @@ use Rattle.dwz_resolve.specs.Named.{attrs_refs, value_refs}
 use Rattle.dwz_seen.specs.Lists.{Each}
 use Rattle.dwz_unit.specs.Rows.{EntryRow, rows_of}
 use Rattle.dwz_writing.specs.Carried.{IsStored}
-use Rattle.dwz_writing.specs.Placing.{Fit, Holder, fit_attr, fit_node}
+use Rattle.dwz_writing.specs.Placing.{Fit, Holder}
 use Rattle.dwz_places.specs.declared.known.Firsts.{Firsts}
 use Rattle.dwz_places.specs.declared.known.Known.{Known}
 use Rattle.dwz_places.specs.declared.walk.Origin.TheVariants.{Read as OfRow}
@@ -28,10 +28,10 @@ use Rattle.dwz_places.specs.Ways.{if_file, way_in, way_of, way_rows}
 use Rattle.dwz_places.specs.declared.ways.Way.TheVariants.{Dropped}
 use Rattle.dwz_layout.specs.Lines.{line}
 use Rattle.dwz_pages.specs.Shown.{Keys, attr_held, held_of, line_held, slot_held}
-use Rattle.dwz_fitted.specs.Knows.{FileRead, IsRead, KnowsEntry, KnowsFile, files_in, firsts_at, texts_in}
+use Rattle.dwz_fitted.specs.Knows.{FileRead, IsRead, KnowsEntry, KnowsFile, NewNumbers, files_in, firsts_at, given_attr, given_node, texts_in}
 use Rattle.dwz_fitted.proofs.ValueFits.{IsKnown, value_fits}
 
-module _ (keys : Keys Spot) (k : Known) (f : FileRead) (here : Here) (ft : Fit Spot) (h : Holder) (here_is : here.holder ≡ h) (fit_is : ft.holder ≡ h) where
+module _ (keys : Keys Spot) (k : Known) (f : FileRead) (here : Here) (ft : Fit Spot) (rn : NewNumbers) (h : Holder) (here_is : here.holder ≡ h) (fit_is : ft.holder ≡ h) where
   -- DW_AT_sibling is dropped
   dropped : (next : Firsts) (a : RawAttr) (attrs : List RawAttr) → a.pair.name ≡ 0x01 → out_attrs k f.number here next (a ∷ attrs) ≡ out_attrs k f.number here next attrs
   unfolding out_attrs
@@ -49,16 +49,16 @@ module _ (keys : Keys Spot) (k : Known) (f : FileRead) (here : Here) (ft : Fit S
 
   module _ (s : Scope ℕ) (alone : s.around.common ≡ None) where
     abbrev AttrsKnown : Firsts → List (Attr ℕ) → Type 0
-    AttrsKnown next ds = IsKnown keys k f here.unit ft next (attrs_refs ds) (texts_in (map (attr_map f.after) ds)) (files_in (map (attr_map f.after) ds))
+    AttrsKnown next ds = IsKnown keys k f here.unit ft rn next (attrs_refs ds) (texts_in (map (attr_map f.after) ds)) (files_in (map (attr_map f.after) ds))
 
     abbrev AreFitted : Firsts → List RawAttr → List (Attr ℕ) → Type 0
-    AreFitted next attrs ds = map (attr_held keys) (out_attrs k f.number here next attrs) ≡ map held_of (map (fit_attr ft) (map (attr_map f.after) ds))
+    AreFitted next attrs ds = map (attr_held keys) (out_attrs k f.number here next attrs) ≡ map held_of (map (given_attr ft rn) (map (attr_map f.after) ds))
 
     no_attrs : (next : Firsts) (ds : List (Attr ℕ)) → attrs_meaning s (without_siblings []) ≡ Ok ds → AreFitted next [] ds
     unfolding attrs_meaning without_siblings
     no_attrs next ds means =
         let none : [] ≡ ds = cc in
-        ap (map (attr_held keys)) (none_out next) ∙ ap (λ (w : List (Attr ℕ)). map held_of (map (fit_attr ft) (map (attr_map f.after) w))) none
+        ap (map (attr_held keys)) (none_out next) ∙ ap (λ (w : List (Attr ℕ)). map held_of (map (given_attr ft rn) (map (attr_map f.after) w))) none
 
     one_more : (a : RawAttr) (attrs : List RawAttr) (next : Firsts) (ds : List (Attr ℕ)) → (a.pair.name ≡ 0x01 → ⊥) → attrs_meaning s (a ∷ without_siblings attrs) ≡ Ok ds → IsStored a
         → ((next : Firsts) (ds : List (Attr ℕ)) → attrs_meaning s (without_siblings attrs) ≡ Ok ds → AttrsKnown next ds → AreFitted next attrs ds) → AttrsKnown next ds → AreFitted next (a ∷ attrs) ds
@@ -69,16 +69,17 @@ module _ (keys : Keys Spot) (k : Known) (f : FileRead) (here : Here) (ft : Fit S
         let z : attr_with a x.0 ∷ y.0 ≡ ds = cc in
         let split = subst (AttrsKnown next) (sym z) known in
         let left = map (attr_map f.after) y.0 in
-        let done = value_fits keys k f here ft h here_is fit_is s alone a x.0 stored next other (attrs_refs y.0) (texts_in left) (files_in left) x.1 split in
+        let done = value_fits keys k f here ft rn h here_is fit_is s alone a x.0 stored next other (attrs_refs y.0) (texts_in left) (files_in left) x.1 split in
         ap (map (attr_held keys)) (first_out next a attrs)
         ∙ map-append (attr_held keys) (out_attr k f.number here next a) (out_attrs k f.number here (after here next a) attrs)
         ∙ (λ i. done.fitted i ++ rest (after here next a) y.0 y.1 done.rest i)
-        ∙ ap (λ (w : List (Attr ℕ)). map held_of (map (fit_attr ft) (map (attr_map f.after) w))) z
+        ∙ ap (λ (w : List (Attr ℕ)). map held_of (map (given_attr ft rn) (map (attr_map f.after) w))) z
 
     abbrev Fits : List RawAttr → Type 0
     Fits attrs = (next : Firsts) (ds : List (Attr ℕ)) → attrs_meaning s (without_siblings attrs) ≡ Ok ds → Each IsStored (without_siblings attrs) → AttrsKnown next ds → AreFitted next attrs ds
 
-    by_name : (a : RawAttr) (attrs : List RawAttr) → Fits attrs → (next : Firsts) (ds : List (Attr ℕ)) → attrs_meaning s (without_siblings (a ∷ attrs)) ≡ Ok ds → Each IsStored (without_siblings (a ∷ attrs)) → AttrsKnown next ds
+    by_name : (a : RawAttr) (attrs : List RawAttr) → Fits attrs → (next : Firsts) (ds : List (Attr ℕ)) → attrs_meaning s (without_siblings (a ∷ attrs)) ≡ Ok ds
+        → Each IsStored (without_siblings (a ∷ attrs)) → AttrsKnown next ds
         → (t : Bool) → eqb a.pair.name 0x01 ≡ t → AreFitted next (a ∷ attrs) ds
     by_name a attrs rest next ds means stored known true t =
         let e = eqb-true a.pair.name 0x01 t in
@@ -99,7 +100,7 @@ module _ (keys : Keys Spot) (k : Known) (f : FileRead) (here : Here) (ft : Fit S
     pub row_there : row_at k (row f.number i) ≡ Some r
     row_there = ap (λ (w : List EntryRow). slice_get w i) file.rows ∙ read.found
 
-    pub entry_fits : KnowsEntry keys k f here.unit ft i d → map (attr_held keys) (attrs_of k here (OfRow (row f.number i))) ≡ map held_of (fit_node ft (node_map f.after d)).attrs
+    pub entry_fits : KnowsEntry keys k f here.unit ft rn i d → map (attr_held keys) (attrs_of k here (OfRow (row f.number i))) ≡ map held_of (given_node ft rn (node_map f.after d)).attrs
     entry_fits known =
         let s = scope_of f.around read.unit in
         ap (λ (o : Option EntryRow). map (attr_held keys) (option_map_or (row_attrs k here (OfRow (row f.number i))) o [])) row_there
@@ -107,9 +108,11 @@ module _ (keys : Keys Spot) (k : Known) (f : FileRead) (here : Here) (ft : Fit S
         (record { references = known.references; owners = known.owners; texts = known.texts; files = known.files })
 
     -- with its depth, its name and its tag
-    pub slot_fits : KnowsEntry keys k f here.unit ft i d → keys.row (number_of k (row f.number i)) ≡ f.after d.at → (depth : ℕ) → slot_held keys k here (slot depth (OfRow (row f.number i))) ≡ line_held (line depth (fit_node ft (node_map f.after d)))
+    pub slot_fits : KnowsEntry keys k f here.unit ft rn i d → keys.row (number_of k (row f.number i)) ≡ f.after d.at → (depth : ℕ)
+        → slot_held keys k here (slot depth (OfRow (row f.number i))) ≡ line_held (line depth (given_node ft rn (node_map f.after d)))
     slot_fits known name depth =
         let s = scope_of f.around read.unit in
-        let tag : tag_of k (OfRow (row f.number i)) ≡ d.tag = ap (λ (o : Option EntryRow). option_map_or (λ (x : EntryRow). x.entry.tag) o 0x3d) row_there ∙ sym (node_attrs s r.entry d read.means).1 in
+        let tag : tag_of k (OfRow (row f.number i)) ≡ d.tag = ap (λ (o : Option EntryRow). option_map_or (λ (x : EntryRow). x.entry.tag) o 0x3d) row_there
+        ∙ sym (node_attrs s r.entry d read.means).1 in
         let attrs = entry_fits known in
         (λ j. record { depth = depth; key = name j; tag = tag j; attrs = attrs j })

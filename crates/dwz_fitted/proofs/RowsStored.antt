@@ -27,7 +27,8 @@ have_pairs : (pairs earlier : List Pair) (bytes : List ℕ) → SpellsItems IsPa
 have_pairs [] earlier bytes is = tt
 have_pairs (p ∷ pairs) earlier bytes is = ((is.front, is.first), have_pairs pairs (earlier ++ p ∷ []) is.back is.second)
 
-found_pairs : (table earlier : List Declaration) (bytes : List ℕ) (code : ℕ) (d : Declaration) → SpellsItems IsDeclared EndsTable earlier table bytes → find_decl table code ≡ Some d → Each HasPair d.pairs
+found_pairs : (table earlier : List Declaration) (bytes : List ℕ) (code : ℕ) (d : Declaration) → SpellsItems IsDeclared EndsTable earlier table bytes → find_decl table code ≡ Some d
+    → Each HasPair d.pairs
 found_pairs [] earlier bytes code d is e = absurd cc
 found_pairs (t ∷ table) earlier bytes code d is e = go (found_pairs table (earlier ++ t ∷ []) is.back code d is.second) (eqb t.code code) e where
   go : (find_decl table code ≡ Some d → Each HasPair d.pairs) → (b : Bool) → cond b (Some t) (find_decl table code) ≡ Some d → Each HasPair d.pairs
@@ -39,12 +40,14 @@ found_pairs (t ∷ table) earlier bytes code d is e = go (found_pairs table (ear
 
 -- ---- values
 
-stored_if : (a : RawAttr) (values : List RawAttr) (t : Bool) → eqb a.pair.name 0x01 ≡ t → HasPair a.pair → (bytes : List ℕ) → AreBytes bytes → SpellsValue form_rows a.pair bytes a.raw → Each IsStored values → Each IsStored (cond t values (a ∷ values))
+stored_if : (a : RawAttr) (values : List RawAttr) (t : Bool) → eqb a.pair.name 0x01 ≡ t → HasPair a.pair → (bytes : List ℕ) → AreBytes bytes → SpellsValue form_rows a.pair bytes a.raw
+    → Each IsStored values → Each IsStored (cond t values (a ∷ values))
 stored_if a values true e pair bytes are spelled rest = rest
 stored_if a values false e pair bytes are spelled rest =
     (record { pair_bytes = pair.0; pair = pair.1; no_sibling = eqb-false a.pair.name 0x01 e; bytes = bytes; are_bytes = are; spelled = spelled }, rest)
 
-are_stored : (pairs : List Pair) (attrs : List RawAttr) (start : ℕ) (bytes : List ℕ) → SpellsAttrs form_rows pairs attrs start bytes → Each HasPair pairs → AreBytes bytes → Each IsStored (without_siblings attrs)
+are_stored : (pairs : List Pair) (attrs : List RawAttr) (start : ℕ) (bytes : List ℕ) → SpellsAttrs form_rows pairs attrs start bytes → Each HasPair pairs → AreBytes bytes
+    → Each IsStored (without_siblings attrs)
 unfolding without_siblings
 are_stored [] [] start bytes is have are = tt
 are_stored [] (a ∷ attrs) start bytes is have are = absurd is
@@ -71,12 +74,14 @@ module _ (c : UnitContext) (forms : c.mode.forms ≡ own_forms) (table_bytes : L
       let values = subst (λ (f : ℕ → Bool → List RowView). SpellsAttrs (f c.root_tag (p.depth == 1)) is.decl.pairs e.attrs (start + length parts.first_bytes) parts.second_bytes) forms parts.second in
       are_stored is.decl.pairs e.attrs (start + length parts.first_bytes) parts.second_bytes values pairs (back_bytes parts.first_bytes parts.second_bytes all)
 
-  if_stored : (flag : Bool) (f : Forest RawEntry) (unit : ℕ) (q : Position) (b : List ℕ) (Spelled : Type 0) → IfChildren flag f Spelled b → (Spelled → Each RowStored (rows_below f unit q)) → Each RowStored (rows_below f unit q)
+  if_stored : (flag : Bool) (f : Forest RawEntry) (unit : ℕ) (q : Position) (b : List ℕ) (Spelled : Type 0) → IfChildren flag f Spelled b → (Spelled → Each RowStored (rows_below f unit q))
+      → Each RowStored (rows_below f unit q)
   unfolding rows_below
   if_stored true f unit q b Spelled is deep = deep is
   if_stored false f unit q b Spelled is deep = subst (λ (x : Forest RawEntry). Each RowStored (rows_below x unit q)) (sym is.0) tt
 
-  forest_stored : (f : Forest RawEntry) (unit : ℕ) (q p : Position) (start : ℕ) (bytes : List ℕ) → SpellsForest (λ e. e.children) (SpellsFront c) f p start bytes → AreBytes bytes → Each RowStored (rows_below f unit q)
+  forest_stored : (f : Forest RawEntry) (unit : ℕ) (q p : Position) (start : ℕ) (bytes : List ℕ) → SpellsForest (λ e. e.children) (SpellsFront c) f p start bytes → AreBytes bytes
+      → Each RowStored (rows_below f unit q)
   unfolding rows_below
   forest_stored End unit q p start bytes is are = tt
   forest_stored (Entry e children next) unit q p start bytes is are =
@@ -84,7 +89,8 @@ module _ (c : UnitContext) (forms : c.mode.forms ≡ own_forms) (table_bytes : L
       let rest = back_bytes is.first_bytes (is.second_bytes ++ is.third_bytes) all in (
         entry_stored p e start is.first_bytes is.first (front_bytes is.first_bytes _ all),
         each_append RowStored (rows_below children unit (first_below q)) (rows_below next unit (behind q children))
-            (if_stored e.children children unit (first_below q) is.second_bytes _ is.second (λ s. forest_stored children unit (first_below q) _ _ is.second_bytes s (front_bytes is.second_bytes is.third_bytes rest)))
+            (if_stored e.children children unit (first_below q) is.second_bytes _ is.second (λ s. forest_stored children unit (first_below q) _ _ is.second_bytes s (front_bytes is.second_bytes
+            is.third_bytes rest)))
             (forest_stored next unit (behind q children) _ _ is.third_bytes is.third (back_bytes is.second_bytes is.third_bytes rest)),
       )
 
@@ -123,5 +129,6 @@ each_at [] (suc i) r all e = absurd cc
 each_at (x ∷ rows) zero r all e = (let same : x ≡ r = cc in subst RowStored same all.0)
 each_at (x ∷ rows) (suc i) r all e = each_at rows i r all.1 e
 
-pub rows_stored : (abbrevs info : List ℕ) (mode : Mode) (raw : List RawUnit) → mode.forms ≡ own_forms → SpellsUnits abbrevs mode 0 raw 0 info → AreBytes info → (i : ℕ) (r : EntryRow) → slice_get (rows_of raw) i ≡ Some r → Each IsStored (without_siblings r.entry.attrs)
+pub rows_stored : (abbrevs info : List ℕ) (mode : Mode) (raw : List RawUnit) → mode.forms ≡ own_forms → SpellsUnits abbrevs mode 0 raw 0 info → AreBytes info → (i : ℕ) (r : EntryRow)
+    → slice_get (rows_of raw) i ≡ Some r → Each IsStored (without_siblings r.entry.attrs)
 rows_stored abbrevs info mode raw forms is are i r found = each_at (rows_of raw) i r (units_stored abbrevs mode forms raw 0 0 0 0 info is are) found

@@ -57,7 +57,8 @@ module _ (P Q : Spelling Expression) (go : (e : Expression) (start : ℕ) (bytes
     named = any_named (operands_in founds);
   }
 
-  ops_any : (c : ExprContext) (section : ℕ) (ops : List (List Found)) (start : ℕ) (bytes : List ℕ) → SpellsAll (SpellsOp c P) ops start bytes → SpellsAll (SpellsOp (any_operands section) Q) ops start bytes
+  ops_any : (c : ExprContext) (section : ℕ) (ops : List (List Found)) (start : ℕ) (bytes : List ℕ) → SpellsAll (SpellsOp c P) ops start bytes
+      → SpellsAll (SpellsOp (any_operands section) Q) ops start bytes
   ops_any c section [] start bytes h = h
   ops_any c section (x ∷ ops) start bytes h = record {
     first_bytes = h.first_bytes;

@@ -16,14 +16,15 @@ use Rattle.dwz_writing.specs.Placing.{reach_by}
 use Rattle.dwz_places.specs.declared.known.Firsts.{Firsts}
 use Rattle.dwz_places.specs.declared.known.Known.{Known}
 use Rattle.dwz_places.specs.declared.known.Row.{Row}
+use Rattle.dwz_places.specs.declared.known.TextAt.{TextAt}
 use Rattle.dwz_places.specs.declared.walk.Origin.TheVariants.{Read}
 use Rattle.dwz_places.specs.declared.ways.Way.{Way}
-use Rattle.dwz_places.specs.Attributes.{Here, Numbers, OfEntry, OutAttr, after, attrs_of, counted, entry_attr, expr_attr, expr_parts, form_to, import_attr, line_attrs, operand_count, operand_numbers, out_attr, out_by, parts_or, raw_of, read_attr, references_from, stored_all, stored_of, text_attr, value_read}
+use Rattle.dwz_places.specs.Attributes.{Here, Numbers, OfEntry, OutAttr, after, attrs_of, counted, entry_attr, expr_attr, expr_parts, file_attr, form_to, import_attr, line_attrs, operand_count, operand_numbers, out_attr, out_by, parts_or, raw_of, read_attr, references_from, stored_all, stored_of, text_attr, text_offset, value_read}
 use Rattle.dwz_places.specs.Known.{HasValues, firsts_of, owner_of, row_at}
 use Rattle.dwz_places.specs.Stored.{values_bytes}
 use Rattle.dwz_places.specs.Ways.{way_of}
 use Rattle.dwz_places.proofs.LeftLemmas.{LeftOf, left_end, left_next, left_start, no_attrs, no_values, one_value, values_more}
-use Rattle.dwz_places.proofs.NumberLemmas.{line_bytes, ref_bytes, strp_bytes}
+use Rattle.dwz_places.proofs.NumberLemmas.{line_bytes, number_bytes, ref_bytes, text_bytes}
 use Rattle.dwz_places.proofs.PartLemmas.{expr_len}
 use Rattle.dwz_places.proofs.SizeLemmas.{expr_bytes_are}
 
@@ -40,8 +41,11 @@ put_one n a old new bytes is same = is ∙ ap (λ (w : List ℕ). old ++ w) (sam
 pub put_read : (n : Numbers) (a : RawAttr) (old new : List ℕ) → new ≡ old ++ value_bytes a.pair.form a.raw → Put n old new (read_attr a ∷ [])
 put_read n a old new is = put_one n (read_attr a) old new (value_bytes a.pair.form a.raw) is refl
 
-pub put_text : (n : Numbers) (name offset : ℕ) (old new : List ℕ) → new ≡ old ++ le_bytes 4 offset → Put n old new (text_attr name offset ∷ [])
-put_text n name offset old new is = put_one n (text_attr name offset) old new (le_bytes 4 offset) is (sym (strp_bytes offset))
+pub put_text : (n : Numbers) (name : ℕ) (text : TextAt) (old new : List ℕ) → new ≡ old ++ le_bytes 4 (text_offset text) → Put n old new (text_attr name text ∷ [])
+put_text n name text old new is = put_one n (text_attr name text) old new (le_bytes 4 (text_offset text)) is (sym (text_bytes text))
+
+pub put_file : (n : Numbers) (name number : ℕ) (old new : List ℕ) → new ≡ old ++ uleb number → Put n old new (file_attr name number ∷ [])
+put_file n name number old new is = put_one n (file_attr name number) old new (uleb number) is (sym (number_bytes number))
 
 pub put_line : (n : Numbers) (line : ℕ) (old new : List ℕ) → new ≡ old ++ le_bytes 4 line → Put n old new (line_attrs (Some line))
 put_line n line old new is = is ∙ ap (λ (w : List ℕ). old ++ w) (sym (line_bytes line) ∙ sym (one_value _))

@@ -5,6 +5,8 @@ mod laws;
 mod limits;
 mod numbers;
 mod parts;
+#[cfg(test)]
+mod tests;
 mod units;
 mod values;
 

@@ -1,7 +1,7 @@
 //! What the attributes of an entry store.
 
 ghost use Rattle.std.specs.Prelude.{◌≡◌, ◌-◌, ◌++◌, ◌∷◌, [], ℕ, OnOk, length};
-ghost use Rattle.dwz_bytes.specs.Spelling.{uleb};
+ghost use Rattle.dwz_bytes.specs.Spelling.{le_bytes, uleb};
 ghost use Rattle.dwz_docs.specs.Values.{HasSpelling, value_bytes};
 ghost use Rattle.dwz_meanings.specs.Exprs.{parts_from};
 ghost use Rattle.dwz_meanings.specs.Patching.{filled};
@@ -9,7 +9,7 @@ ghost use Rattle.dwz_forms.specs.RawValues.{raw_view};
 ghost use Rattle.dwz_places.specs.declared.walk.Origin.TheVariants.{Read};
 ghost use Rattle.dwz_places.specs.Attributes;
 ghost use Rattle.dwz_places.specs.Known.{owner_of};
-ghost use Rattle.dwz_places.specs.Attributes.{OfEntry, after, attrs_of, here_view, line_attrs, name_by, operand_count, operand_numbers, out_attr, raw_of, references_from, space_attrs, stored_all, value_read};
+ghost use Rattle.dwz_places.specs.Attributes.{OfEntry, after, attrs_of, here_view, line_attrs, name_by, operand_count, operand_numbers, out_attr, raw_of, references_from, space_attrs, stored_all, text_offset, value_read};
 ghost use Rattle.dwz_places.specs.Stored.{values_bytes};
 ghost use Rattle.dwz_places.specs.Ways;
 ghost use Rattle.dwz_places.specs.Ways.{holder_view};
@@ -22,7 +22,7 @@ use dwz_forms::{Raw, write_value};
 use dwz_meanings::Operand;
 use dwz_model::{NoMemory, Pair};
 use dwz_places::{
-    Firsts, Here, Holder, Known, Origin, Row, SpaceRow, Way, content_of, form_to, more,
+    Firsts, Here, Holder, Known, Origin, Row, SpaceRow, TextAt, Way, content_of, form_to, more,
     read_operands, way_of,
 };
 use dwz_unit::{Values, known_value};
@@ -46,6 +46,17 @@ fn put_entry(
         out,
         counted(numbers, form, at_or_zero(numbers.places, target)),
     )
+}
+
+// Appends the offset of a text.
+#[inline(always)]
+fn put_text(out: &mut Vec<u8>, text: TextAt) -> Result<(), NoMemory>
+    ensures { OnOk result (out.new.items ≡ out.old.items ++ le_bytes 4 (text_offset text)) }
+{
+    match text {
+        TextAt::Own(offset) => put_four(out, offset as u64),
+        TextAt::Shared(offset) => put_four(out, offset as u64),
+    }
 }
 
 // Appends an expression that ends before a place, with the numbers of the entries that its operands name: these are references of a file,
@@ -102,9 +113,14 @@ fn put_value(
             write_value(pair.form as u16, raw, out)
         }
         Way::AsText => {
-            let offset = known.text(file, next.text);
+            let text = known.text(file, next.text);
             next.text = more(next.text, 1)?;
-            put_four(out, offset as u64)
+            put_text(out, text)
+        }
+        Way::AsFile => {
+            let number = known.file(file, next.file);
+            next.file = more(next.file, 1)?;
+            put_uleb(out, number as u64)
         }
         Way::AsEntry => {
             let target = known.reference(file, next.reference);
@@ -153,13 +169,13 @@ fn put_as_name(
     holder: Holder,
     pair: &Pair,
     raw: &Raw,
-    text: u32,
+    text: TextAt,
 ) -> Result<(), NoMemory>
     requires { HasSpelling pair.now.form (raw_view raw.now) }
     ensures { (n : Attributes.Numbers) (end : ℕ) → OnOk result (out.new.items ≡ out.old.items ++ values_bytes (stored_all n (name_by text (value_read end pair.now (raw_view raw.now)) (Ways.way_of (holder_view holder) pair.now) ∷ []))) }
 {
     match way_of(holder, pair) {
-        Way::AsText => put_four(out, text as u64),
+        Way::AsText => put_text(out, text),
         _ => write_value(pair.form as u16, raw, out),
     }
 }

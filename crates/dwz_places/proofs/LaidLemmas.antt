@@ -1,9 +1,8 @@
 -- Entries, units and files, laid one after the other: what is laid and what is left are all of them.
-use Rattle.std.proofs.Common.{◌≡◌, ℕ, suc, ◌+◌, ◌-◌, ◌<◌, ◌≤◌, List, [], ◌∷◌, ◌++◌, drop, get_or, length, map, replicate, take, Some, slice_get, refl, sym, ap, ◌∙◌, arith}
+use Rattle.std.proofs.Common.{◌≡◌, ℕ, suc, ◌+◌, ◌-◌, ◌<◌, ◌≤◌, List, [], ◌∷◌, ◌++◌, drop, get_or, length, map, replicate, take, Some, slice_get, sym, ap, ◌∙◌, arith}
 use Rattle.std.proofs.lemmas.List.{drop_all, map-append}
 use Rattle.std.proofs.lemmas.Option.{slice_get-get_or}
 use Rattle.dwz_resolve.proofs.RowLemmas.{drop_here}
-use Rattle.dwz_writing.specs.Writing.{Shape}
 use Rattle.dwz_places.specs.declared.known.Known.{Known}
 use Rattle.dwz_places.specs.declared.layout.FileLayout.{FileLayout}
 use Rattle.dwz_places.specs.declared.order.UnitItems.{UnitItems}
@@ -11,7 +10,7 @@ use Rattle.dwz_places.specs.declared.walk.Entry.{Entry}
 use Rattle.dwz_places.specs.declared.walk.Slot.{Slot}
 use Rattle.dwz_places.specs.Attributes.{Here, call_of, no_numbers}
 use Rattle.dwz_places.specs.Entries.{entries_of}
-use Rattle.dwz_places.specs.Laid.{AllMade, FileMade, Laying, Made, file_view, no_unit, with_call, with_entries, with_file, with_files, with_unit, with_units}
+use Rattle.dwz_places.specs.Laid.{AllMade, FileMade, Laying, Made, file_view, no_unit, with_call, with_entries, with_files, with_unit, with_units}
 use Rattle.dwz_places.proofs.WalkLemmas.{entries_many, entries_none, take_nil}
 
 -- ---- entries

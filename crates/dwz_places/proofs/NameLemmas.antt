@@ -1,9 +1,8 @@
 -- A loop over the values of a space, up to its name.
-use Rattle.std.proofs.Common.{◌≡◌, ◌≢◌, ℕ, ◌+◌, ◌<◌, ◌≤◌, Bool, true, false, List, [], ◌∷◌, drop, get_or, length, Option, Some, None, slice_get, Result, Ok, Err, refl, sym, ap, subst, ◌∙◌, arith, cond, eqb, eqb-true}
+use Rattle.std.proofs.Common.{◌≡◌, ◌≢◌, ℕ, ◌+◌, ◌<◌, ◌≤◌, Bool, true, false, List, [], ◌∷◌, drop, get_or, length, Option, Some, None, slice_get, Ok, refl, sym, ap, subst, ◌∙◌, arith, cond, eqb, eqb-true}
 use Rattle.std.specs.Prelude.{IsOk}
 use Rattle.std.specs.Option.{option_map_or}
 use Rattle.std.proofs.lemmas.List.{drop_all}
-use Rattle.dwz_alike.proofs.SpotLemmas.{eqb_same}
 use Rattle.dwz_bytes.specs.Input.{Input}
 use Rattle.dwz_codes.specs.Forms.{form_rows}
 use Rattle.dwz_docs.specs.Entries.{RawAttr}
@@ -17,6 +16,7 @@ use Rattle.dwz_unit.proofs.ReadsLemmas.{reads_count, reads_next}
 use Rattle.dwz_writing.specs.Placing.{Holder}
 use Rattle.dwz_places.specs.declared.known.Known.{Known}
 use Rattle.dwz_places.specs.declared.known.SpaceRow.{SpaceRow}
+use Rattle.dwz_places.specs.declared.known.TextAt.{TextAt}
 use Rattle.dwz_places.specs.Attributes.{OutAttr, name_attrs, name_by, space_attrs, value_read}
 use Rattle.dwz_places.specs.Known.{HasValues, row_at}
 use Rattle.dwz_places.specs.Ways.{way_of}
@@ -27,14 +27,14 @@ pub record NameLeft (k : Known) (h : Holder) (s : SpaceRow) (pairs : List Pair) 
   pub count : length entry.entry.attrs ≡ length pairs
   pub all : space_attrs k h s ≡ name_attrs h s.text (drop j entry.entry.attrs)
 
-abbrev by_name : Holder → ℕ → RawAttr → List RawAttr → Bool → List OutAttr
+abbrev by_name : Holder → TextAt → RawAttr → List RawAttr → Bool → List OutAttr
 by_name h text a attrs test = cond test (name_by text a (way_of h a.pair) ∷ []) (name_attrs h text attrs)
 
-first_name : (h : Holder) (text : ℕ) (a : RawAttr) (attrs : List RawAttr) → name_attrs h text (a ∷ attrs) ≡ by_name h text a attrs (eqb a.pair.name 0x03)
+first_name : (h : Holder) (text : TextAt) (a : RawAttr) (attrs : List RawAttr) → name_attrs h text (a ∷ attrs) ≡ by_name h text a attrs (eqb a.pair.name 0x03)
 unfolding name_attrs
 first_name h text a attrs = refl
 
-no_name : (h : Holder) (text : ℕ) → name_attrs h text [] ≡ []
+no_name : (h : Holder) (text : TextAt) → name_attrs h text [] ≡ []
 unfolding name_attrs
 no_name h text = refl
 

@@ -12,6 +12,9 @@ use Rattle.dwz_codes.specs.Rows.{RowView, row_of}
 use Rattle.dwz_docs.specs.Values.{AreBytes, HasSpelling, Number, Raw, SpellsShape, constant_of, shape_in, shape_of, value_bytes, written_rows}
 use Rattle.dwz_docs.proofs.WrittenLemmas.{read_writable}
 use Rattle.dwz_model.specs.declared.place.Pair.{Pair}
+use Rattle.dwz_places.specs.declared.known.TextAt.{TextAt}
+use Rattle.dwz_places.specs.declared.known.TextAt.TheVariants.{Own, Shared}
+use Rattle.dwz_places.specs.Attributes.{text_form, text_offset}
 use Rattle.dwz_writing.specs.Placing.{Reach, InCommon, InFile, InUnit, ref_form}
 use Rattle.dwz_writing.proofs.WriteLengths.{le_len}
 
@@ -66,6 +69,20 @@ ref_bytes InCommon x = refl
 
 four : (form x : ℕ) → value_bytes form (Number (pos x)) ≡ le_bytes 4 x → 4 ≡ length (value_bytes form (Number (pos x)))
 four form x is = sym (ap (λ (w : List ℕ). length w) is ∙ le_len 4 x)
+
+-- DW_FORM_strp, DW_FORM_strp_sup
+pub text_bytes : (t : TextAt) → value_bytes (text_form t) (Number (pos (text_offset t))) ≡ le_bytes 4 (text_offset t)
+unfolding value_bytes form_rows
+text_bytes (Own x) = refl
+text_bytes (Shared x) = refl
+
+pub text_len : (t : TextAt) → 4 ≡ length (value_bytes (text_form t) (Number (pos (text_offset t))))
+text_len t = four (text_form t) (text_offset t) (text_bytes t)
+
+-- DW_FORM_udata
+pub number_bytes : (x : ℕ) → value_bytes 0x0f (Number (pos x)) ≡ uleb x
+unfolding value_bytes form_rows
+number_bytes x = refl
 
 pub strp_len : (x : ℕ) → 4 ≡ length (value_bytes 0x0e (Number (pos x)))
 strp_len x = four 0x0e x (strp_bytes x)

@@ -8,7 +8,7 @@ use Rattle.dwz_expr.specs.FirstFault.{ReadsInto}
 use Rattle.dwz_meanings.specs.declared.exprs.Operand.{Operand}
 use Rattle.dwz_meanings.specs.Documents.{Part, Same}
 use Rattle.dwz_meanings.specs.Documents as document
-use Rattle.dwz_meanings.specs.Exprs.{Expression, any_operands, expr_at, parts_from, parts_of}
+use Rattle.dwz_meanings.specs.Exprs.{Expression, any_operands, expr_at, parts_from}
 use Rattle.dwz_meanings.specs.Meanings.{bytes_of, content_at}
 use Rattle.dwz_meanings.specs.Patching.{filled}
 use Rattle.dwz_meanings.proofs.ExprLemmas.{expr_agrees}

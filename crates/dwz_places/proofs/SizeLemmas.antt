@@ -1,5 +1,5 @@
 -- How many bytes an attribute has, by its way.
-use Rattle.std.proofs.Common.{◌≡◌, ℕ, ◌+◌, ◌-◌, ◌<◌, ◌≤◌, List, [], ◌∷◌, ◌++◌, get_or, length, pos, slice_index, None, Some, refl, sym, ap, subst, ◌∙◌, arith}
+use Rattle.std.proofs.Common.{◌≡◌, ℕ, ◌+◌, ◌-◌, ◌<◌, ◌≤◌, List, [], ◌∷◌, ◌++◌, get_or, length, pos, None, Some, refl, sym, ap, subst, ◌∙◌, arith}
 use Rattle.std.specs.Prelude.{All, IfOk, OnOk, Result, Ok, Err}
 use Rattle.std.proofs.lemmas.List.{length-append}
 use Rattle.dwz_bytes.specs.Spelling.{uleb}
@@ -10,23 +10,23 @@ use Rattle.dwz_docs.specs.Abbrevs.{IsPlainPair}
 use Rattle.dwz_docs.specs.Values.{Bytes, Number, Raw, value_at, value_bytes}
 use Rattle.dwz_model.specs.declared.place.Pair.{Pair}
 use Rattle.dwz_meanings.specs.declared.exprs.Operand.{Operand}
-use Rattle.dwz_meanings.specs.Documents.{Part}
 use Rattle.dwz_meanings.specs.Exprs.{any_operands, expr_at, parts_from}
 use Rattle.dwz_meanings.specs.Meanings.{bytes_of}
 use Rattle.dwz_meanings.specs.Patching.{filled}
-use Rattle.dwz_writing.specs.Placing.{Reach, reach_by}
+use Rattle.dwz_writing.specs.Placing.{reach_by}
 use Rattle.dwz_places.specs.declared.known.Firsts.{Firsts}
 use Rattle.dwz_places.specs.declared.known.Known.{Known}
 use Rattle.dwz_places.specs.declared.known.Row.{Row}
+use Rattle.dwz_places.specs.declared.known.TextAt.{TextAt}
 use Rattle.dwz_places.specs.declared.walk.Origin.TheVariants.{Read}
 use Rattle.dwz_places.specs.declared.ways.Way.{Way}
-use Rattle.dwz_places.specs.declared.ways.Way.TheVariants.{AsEntry, AsExpression, AsRead, AsText, Dropped, KeepsText}
-use Rattle.dwz_places.specs.Attributes.{Here, Numbers, OutAttr, Read as Stored, plain_pair, after, after_by, attrs_of, entry_attr, expr_attr, expr_parts, import_attr, line_attrs, name_by, no_numbers, operand_count, operand_numbers, out_attr, out_by, parts_or, raw_of, read_attr, references_from, stored_all, stored_of, text_attr, value_read}
+use Rattle.dwz_places.specs.declared.ways.Way.TheVariants.{AsEntry, AsExpression, AsFile, AsRead, AsText, Dropped, KeepsText}
+use Rattle.dwz_places.specs.Attributes.{Here, Numbers, OutAttr, Read as Stored, plain_pair, after, after_by, attrs_of, entry_attr, expr_attr, expr_parts, file_attr, import_attr, line_attrs, name_by, no_numbers, operand_count, operand_numbers, out_attr, out_by, parts_or, raw_of, read_attr, references_from, stored_all, stored_of, text_attr, value_read}
 use Rattle.dwz_places.specs.Known.{HasValues, firsts_of, row_at}
 use Rattle.dwz_places.specs.Stored.{pairs_of, values_bytes}
 use Rattle.dwz_places.specs.Ways.{way_of}
 use Rattle.dwz_places.proofs.LeftLemmas.{LeftOf, left_end, left_next, left_start, length_more, no_attrs, no_values, one_value, pairs_more}
-use Rattle.dwz_places.proofs.NumberLemmas.{line_len, ref_len, strp_len}
+use Rattle.dwz_places.proofs.NumberLemmas.{line_len, number_bytes, ref_len, text_len}
 use Rattle.dwz_places.proofs.PartLemmas.{count_from, expr_len}
 use Rattle.dwz_places.proofs.PlainLemmas.{plain_none}
 
@@ -43,8 +43,11 @@ none_sized n = sym (ap (λ (w : List ℕ). length w) no_values)
 pub read_sized : (n : Numbers) (a : RawAttr) (size : ℕ) → size ≡ length (value_bytes a.pair.form a.raw) → Sized n (read_attr a ∷ []) size
 read_sized n a size is = is ∙ sym (one_len n (read_attr a))
 
-pub text_sized : (n : Numbers) (name offset : ℕ) → Sized n (text_attr name offset ∷ []) 4
-text_sized n name offset = strp_len offset ∙ sym (one_len n (text_attr name offset))
+pub text_sized : (n : Numbers) (name : ℕ) (text : TextAt) → Sized n (text_attr name text ∷ []) 4
+text_sized n name text = text_len text ∙ sym (one_len n (text_attr name text))
+
+pub file_sized : (n : Numbers) (name number size : ℕ) → size ≡ length (uleb number) → Sized n (file_attr name number ∷ []) size
+file_sized n name number size is = is ∙ sym (ap (λ (w : List ℕ). length w) (number_bytes number)) ∙ sym (one_len n (file_attr name number))
 
 pub entry_sized : (n : Numbers) (k : Known) (here name number : ℕ) → Sized n (entry_attr k here name number ∷ []) 4
 entry_sized n k here name number = ref_len (reach_by _ _) _ ∙ sym (one_len n (entry_attr k here name number))
@@ -93,12 +96,12 @@ expr_size bytes = length (uleb (length bytes) ++ bytes)
 -- as many more are named as operands are read
 pub expr_next : (k : Known) (file : ℕ) (here : Here) (next : Firsts) (a : RawAttr) → AsExpression ≡ way_of here.holder a.pair → (bytes : List ℕ) → bytes ≡ bytes_of a.raw → (os : List Operand)
     → parts_from (a.end - length bytes) bytes os ≡ parts_or bytes (expr_at (any_operands 1) (record { at = a.end - length bytes; rest = bytes })) → (more len : ℕ) → len ≡ length os → more ≡ next.reference + len
-    → record { reference = more; text = next.text } ≡ after here next a
+    → record { reference = more; text = next.text; file = next.file } ≡ after here next a
 expr_next k file here next a way bytes same os read more len many is =
     let parts : parts_from (a.end - length bytes) bytes os ≡ expr_parts a = read ∙ ap (λ (w : List ℕ). parts_or w (expr_at (any_operands 1) (record { at = a.end - length w; rest = w }))) same in
     let count : len ≡ operand_count (expr_parts a) = many ∙ sym (count_from (a.end - length bytes) bytes os) ∙ ap operand_count parts in
     let sum : more ≡ next.reference + operand_count (expr_parts a) = omega (arith, is, count) in
-    (λ i. let f : Firsts = record { reference = sum i; text = next.text } in f) ∙ after_is k file here next a AsExpression way
+    (λ i. let f : Firsts = record { reference = sum i; text = next.text; file = next.file } in f) ∙ after_is k file here next a AsExpression way
 
 -- ---- the values of an entry, one after the other
 
@@ -156,7 +159,7 @@ pub ok_named : {T E : Type 0} (r : Result T E) (new old : List Pair) (p : Pair) 
 ok_named (Ok x) new old p attrs is none same = is ∙ ap (λ (w : List Pair). w ++ p ∷ []) none ∙ same
 ok_named (Err e) new old p attrs is none same = tt
 
-module _ (text : ℕ) (a : RawAttr) (way : Way) where
+module _ (text : TextAt) (a : RawAttr) (way : Way) where
   pub name_text : AsText ≡ way → text_attr 0x03 text ≡ name_by text a way
   name_text is = ap (name_by text a) is
 
@@ -167,6 +170,7 @@ module _ (text : ℕ) (a : RawAttr) (way : Way) where
     go Dropped differs = refl
     go AsRead differs = refl
     go KeepsText differs = refl
+    go AsFile differs = refl
     go AsEntry differs = refl
     go AsExpression differs = refl
 

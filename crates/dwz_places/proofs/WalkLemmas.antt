@@ -1,14 +1,11 @@
 -- How a walk goes: what is left of the entries of a file begins with the next one.
-use Rattle.std.proofs.Common.{◌≡◌, ℕ, zero, suc, ◌+◌, ◌-◌, ◌<◌, ◌≤◌, List, [], ◌∷◌, ◌++◌, drop, length, map, take, Option, Some, None, slice_get, refl, sym, ap, ◌∙◌, arith, append-nil}
+use Rattle.std.proofs.Common.{◌≡◌, ℕ, zero, suc, ◌+◌, ◌-◌, ◌<◌, ◌≤◌, List, [], ◌∷◌, ◌++◌, drop, length, take, Option, Some, None, slice_get, refl, sym, ap, ◌∙◌, arith}
 use Rattle.std.specs.Prelude.{nat_lt, slice_range}
 use Rattle.std.specs.Option.{option_map, option_map_or, option_to_list}
 use Rattle.std.proofs.lemmas.List.{drop_all}
-use Rattle.std.proofs.lemmas.Option.{slice_get_cases, slice_get_past}
-use Rattle.dwz_docs.specs.Units.{RawUnit, entries_in}
-use Rattle.dwz_resolve.proofs.RowLemmas.{drop_here, row_there, rows-length}
-use Rattle.dwz_unit.specs.Rows.{EntryRow, entry_shown, rows_of, shown_entries, units_of}
+use Rattle.dwz_resolve.proofs.RowLemmas.{drop_here}
+use Rattle.dwz_unit.specs.Rows.{EntryRow, entry_shown}
 use Rattle.dwz_unit.specs.declared.rows.RawEntry.{RawEntry as EntryOfCode}
-use Rattle.dwz_places.specs.declared.known.FileRows.{FileRows}
 use Rattle.dwz_places.specs.declared.known.Known.{Known}
 use Rattle.dwz_places.specs.declared.known.Row.{Row}
 use Rattle.dwz_places.specs.declared.walk.Entry.{Entry}

@@ -17,15 +17,17 @@ use Rattle.dwz_writing.specs.Writing.{base_place}
 use Rattle.dwz_places.specs.declared.known.Firsts.{Firsts}
 use Rattle.dwz_places.specs.declared.known.Known.{Known}
 use Rattle.dwz_places.specs.declared.known.SpaceRow.{SpaceRow}
+use Rattle.dwz_places.specs.declared.known.TextAt.{TextAt}
+use Rattle.dwz_places.specs.declared.known.TextAt.TheVariants.{Own, Shared}
 use Rattle.dwz_places.specs.declared.order.Sort.{Sort}
 use Rattle.dwz_places.specs.declared.order.Sort.TheVariants.{Compile, OfType, Partial}
 use Rattle.dwz_places.specs.declared.walk.Entry.{Entry}
 use Rattle.dwz_places.specs.declared.walk.Origin.{Origin}
 use Rattle.dwz_places.specs.declared.walk.Origin.TheVariants.{Chained, Imported, OwnRoot, Read as OfRow}
 use Rattle.dwz_places.specs.declared.ways.Way.{Way}
-use Rattle.dwz_places.specs.declared.ways.Way.TheVariants.{AsEntry, AsExpression, AsRead, AsText, Dropped, KeepsText}
+use Rattle.dwz_places.specs.declared.ways.Way.TheVariants.{AsEntry, AsExpression, AsFile, AsRead, AsText, Dropped, KeepsText}
 use Rattle.dwz_places.specs.declared.ways.Here.{Here as HereOfCode}
-use Rattle.dwz_places.specs.Known.{firsts_of, owner_of, reference_at, row_at, space_at, text_at, unit_of_part}
+use Rattle.dwz_places.specs.Known.{file_at, firsts_of, owner_of, reference_at, row_at, space_at, text_at, unit_of_part}
 use Rattle.dwz_places.specs.Stored.{StoredAttr}
 use Rattle.dwz_places.specs.Ways.{holder_view, way_of}
 
@@ -99,11 +101,23 @@ references_from k file n (suc count) = reference_at k file n ∷ references_from
 abbrev pub expr_attr : Known → ℕ → ℕ → ℕ → List Part → OutAttr
 expr_attr k file name n parts = record { pair = plain_pair name 0x18; content = OfParts parts (references_from k file n (operand_count parts)) }
 
--- ---- texts
+-- ---- texts and files
 
--- DW_FORM_strp
-abbrev pub text_attr : ℕ → ℕ → OutAttr
-text_attr name offset = record { pair = plain_pair name 0x0e; content = Read (Number (pos offset)) }
+-- DW_FORM_strp, DW_FORM_strp_sup
+abbrev pub text_form : TextAt → ℕ
+text_form (Own offset) = 0x0e
+text_form (Shared offset) = 0x1d
+
+abbrev pub text_offset : TextAt → ℕ
+text_offset (Own offset) = offset
+text_offset (Shared offset) = offset
+
+abbrev pub text_attr : ℕ → TextAt → OutAttr
+text_attr name t = record { pair = plain_pair name (text_form t); content = Read (Number (pos (text_offset t))) }
+
+-- DW_FORM_udata
+abbrev pub file_attr : ℕ → ℕ → OutAttr
+file_attr name number = record { pair = plain_pair name 0x0f; content = Read (Number (pos number)) }
 
 abbrev pub read_attr : RawAttr → OutAttr
 read_attr a = record { pair = a.pair; content = Read a.raw }
@@ -114,12 +128,13 @@ read_attr a = record { pair = a.pair; content = Read a.raw }
 abbrev pub value_read : ℕ → Pair → Raw → RawAttr
 value_read end pair raw = record { at = 0; end = end; pair = pair; raw = raw }
 
--- what is written of an attribute; the first that it names, of the entries and texts that are named in its file, have these numbers
+-- what is written of an attribute; the first that it names, of the entries, texts and files that are named in its file, have these numbers
 abbrev pub out_by : Known → ℕ → ℕ → Firsts → RawAttr → Way → List OutAttr
 out_by k file here next a Dropped = []
 out_by k file here next a AsRead = read_attr a ∷ []
 out_by k file here next a KeepsText = read_attr a ∷ []
 out_by k file here next a AsText = text_attr a.pair.name (text_at k file next.text) ∷ []
+out_by k file here next a AsFile = file_attr a.pair.name (file_at k file next.file) ∷ []
 out_by k file here next a AsEntry = entry_attr k here a.pair.name (reference_at k file next.reference) ∷ []
 out_by k file here next a AsExpression = expr_attr k file a.pair.name next.reference (expr_parts a) ∷ []
 
@@ -130,10 +145,11 @@ out_attr k file here next a = out_by k file here.unit next a (way_of here.holder
 abbrev pub after_by : Firsts → RawAttr → Way → Firsts
 after_by next a Dropped = next
 after_by next a AsRead = next
-after_by next a KeepsText = record { reference = next.reference; text = next.text + 1 }
-after_by next a AsText = record { reference = next.reference; text = next.text + 1 }
-after_by next a AsEntry = record { reference = next.reference + 1; text = next.text }
-after_by next a AsExpression = record { reference = next.reference + operand_count (expr_parts a); text = next.text }
+after_by next a KeepsText = record { reference = next.reference; text = next.text + 1; file = next.file }
+after_by next a AsText = record { reference = next.reference; text = next.text + 1; file = next.file }
+after_by next a AsFile = record { reference = next.reference; text = next.text; file = next.file + 1 }
+after_by next a AsEntry = record { reference = next.reference + 1; text = next.text; file = next.file }
+after_by next a AsExpression = record { reference = next.reference + operand_count (expr_parts a); text = next.text; file = next.file }
 
 abbrev pub after : Here → Firsts → RawAttr → Firsts
 after here next a = after_by next a (way_of here.holder a.pair)
@@ -144,13 +160,13 @@ out_attrs k file here next (a ∷ attrs) = out_attr k file here next a ++ out_at
 
 -- ---- other entries
 
--- the name of a space of a partial unit: as the space has it that it comes from, or the text at an offset
-abbrev pub name_by : ℕ → RawAttr → Way → OutAttr
+-- the name of a space of a partial unit: as the space has it that it comes from, or where that text is written
+abbrev pub name_by : TextAt → RawAttr → Way → OutAttr
 name_by text a AsText = text_attr 0x03 text
 name_by text a _ = read_attr a
 
 -- the first DW_AT_name (3)
-unfoldable pub name_attrs : Holder → ℕ → List RawAttr → List OutAttr
+unfoldable pub name_attrs : Holder → TextAt → List RawAttr → List OutAttr
 name_attrs h text [] = []
 name_attrs h text (a ∷ attrs) = if a.pair.name == 0x03 then name_by text a (way_of h a.pair) ∷ [] else name_attrs h text attrs
 

@@ -10,6 +10,8 @@ use Rattle.dwz_places.specs.declared.known.Firsts.{Firsts}
 use Rattle.dwz_places.specs.declared.known.Known.{Known}
 use Rattle.dwz_places.specs.declared.known.Row.{Row}
 use Rattle.dwz_places.specs.declared.known.SpaceRow.{SpaceRow}
+use Rattle.dwz_places.specs.declared.known.TextAt.{TextAt}
+use Rattle.dwz_places.specs.declared.known.TextAt.TheVariants.{Own}
 
 -- the entries of the file with that number, none where there is no such file
 abbrev pub rows_in : Known → ℕ → List EntryRow
@@ -30,7 +32,7 @@ number_of k r = option_map_or (λ (f : FileRows). f.start) (slice_get k.files.it
 
 -- where what the entry names begins among all that entries of its file name
 abbrev pub no_firsts : Firsts
-no_firsts = record { reference = 0; text = 0 }
+no_firsts = record { reference = 0; text = 0; file = 0 }
 
 abbrev pub firsts_of : Known → Row → Firsts
 firsts_of k r = option_map_or (λ (f : FileRows). slice_index_or f.firsts.items r.entry no_firsts) (slice_get k.files.items r.file) no_firsts
@@ -39,9 +41,16 @@ firsts_of k r = option_map_or (λ (f : FileRows). slice_index_or f.firsts.items 
 abbrev pub reference_at : Known → ℕ → ℕ → ℕ
 reference_at k file n = option_map_or (λ (f : FileRows). slice_index f.references.items n) (slice_get k.files.items file) 0
 
--- for a text of the file, its offset in `.debug_str` where it is written
-abbrev pub text_at : Known → ℕ → ℕ → ℕ
-text_at k file n = option_map_or (λ (f : FileRows). slice_index f.texts.items n) (slice_get k.files.items file) 0
+-- for a text of the file, where it is written
+abbrev pub no_text : TextAt
+no_text = Own 0
+
+abbrev pub text_at : Known → ℕ → ℕ → TextAt
+text_at k file n = option_map_or (λ (f : FileRows). slice_index_or f.texts.items n no_text) (slice_get k.files.items file) no_text
+
+-- for a value of the file that is the number of a file, the number of its path in the common file's line table
+abbrev pub file_at : Known → ℕ → ℕ → ℕ
+file_at k file n = option_map_or (λ (f : FileRows). slice_index f.files.items n) (slice_get k.files.items file) 0
 
 -- the unit in which an entry is written that stands for itself; the one that the partial unit with that number is
 abbrev pub owner_of : Known → ℕ → ℕ
@@ -54,7 +63,7 @@ abbrev pub no_row : Row
 no_row = record { file = 0; entry = 0 }
 
 abbrev pub no_space : SpaceRow
-no_space = record { row = no_row; text = 0 }
+no_space = record { row = no_row; text = no_text }
 
 abbrev pub top_row : Known → ℕ → Row
 top_row k top = slice_index_or k.tops.items top no_row

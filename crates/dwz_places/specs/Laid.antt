@@ -12,7 +12,7 @@ use Rattle.dwz_places.specs.declared.order.Sort.TheVariants.{Compile, OfType, Pa
 use Rattle.dwz_places.specs.declared.order.UnitItems.{UnitItems}
 use Rattle.dwz_places.specs.declared.walk.Entry.{Entry}
 use Rattle.dwz_places.specs.declared.walk.Origin.{Origin}
-use Rattle.dwz_places.specs.declared.walk.Origin.TheVariants.{Chained, Imported, OwnRoot, Read}
+use Rattle.dwz_places.specs.declared.walk.Origin.TheVariants.{Read}
 use Rattle.dwz_places.specs.Attributes.{Call, Here, call_of, here_of, no_numbers}
 use Rattle.dwz_places.specs.Entries.{unit_entries}
 use Rattle.dwz_places.specs.Known.{number_of}

@@ -1,11 +1,12 @@
 -- What is written of a value, by its form and by what holds the unit (DWARF 5, 7.5.6).
-use Rattle.std.specs.Prelude.{ℕ, List, [], ◌∷◌, ◌==◌, if◌then◌else◌}
+use Rattle.std.specs.Prelude.{ℕ, Bool, true, false, List, [], ◌∷◌, ◌==◌, if◌then◌else◌}
 use Rattle.dwz_model.specs.declared.place.Pair.{Pair}
+use Rattle.dwz_meanings.specs.Meanings.{names_file}
 use Rattle.dwz_writing.specs.Placing.{CommonUnit, Holder, NewUnit, OldUnit}
 use Rattle.dwz_places.specs.declared.ways.Holder.{Holder as HolderOfCode}
 use Rattle.dwz_places.specs.declared.ways.Holder.TheVariants as code
 use Rattle.dwz_places.specs.declared.ways.Way.{Way}
-use Rattle.dwz_places.specs.declared.ways.Way.TheVariants.{AsEntry, AsExpression, AsRead, AsText, Dropped, KeepsText}
+use Rattle.dwz_places.specs.declared.ways.Way.TheVariants.{AsEntry, AsExpression, AsFile, AsRead, AsText, Dropped, KeepsText}
 
 abbrev pub holder_view : HolderOfCode → Holder
 holder_view code.OldUnit = OldUnit
@@ -22,10 +23,17 @@ pub record WayRow : Type 0 where
 abbrev pub way_row : ℕ → Way → Way → Way → WayRow
 way_row form old new common = record { form = form; old = old; new = new; common = common }
 
--- strp; ref_addr, and ref1 to ref_udata; exprloc; strx; line_strp; strx1 to strx4. A form without a row is written as it was read.
+-- data2, data4, data8, data1, sdata; strp; udata; ref_addr, and ref1 to ref_udata; exprloc; strx; line_strp; implicit_const; strx1 to strx4.
+-- A form without a row is written as it was read.
 abbrev pub way_rows : List WayRow
 way_rows =
-    way_row 0x0e KeepsText KeepsText AsText
+    way_row 0x05 AsRead AsRead AsFile
+    ∷ way_row 0x06 AsRead AsRead AsFile
+    ∷ way_row 0x07 AsRead AsRead AsFile
+    ∷ way_row 0x0b AsRead AsRead AsFile
+    ∷ way_row 0x0d AsRead AsRead AsFile
+    ∷ way_row 0x0e AsText AsText AsText
+    ∷ way_row 0x0f AsRead AsRead AsFile
     ∷ way_row 0x10 AsEntry AsEntry AsEntry
     ∷ way_row 0x11 AsEntry AsEntry AsEntry
     ∷ way_row 0x12 AsEntry AsEntry AsEntry
@@ -35,6 +43,7 @@ way_rows =
     ∷ way_row 0x18 AsExpression AsExpression AsExpression
     ∷ way_row 0x1a KeepsText AsText AsText
     ∷ way_row 0x1f KeepsText KeepsText AsText
+    ∷ way_row 0x21 AsRead AsRead AsFile
     ∷ way_row 0x25 KeepsText AsText AsText
     ∷ way_row 0x26 KeepsText AsText AsText
     ∷ way_row 0x27 KeepsText AsText AsText
@@ -50,6 +59,12 @@ unfoldable pub way_in : Holder → ℕ → List WayRow → Way
 way_in h form [] = AsRead
 way_in h form (r ∷ rows) = if r.form == form then way_held h r else way_in h form rows
 
+-- a number is that of a file in some attributes alone (2.14)
+abbrev pub if_file : Bool → Way → Way
+if_file true way = way
+if_file false AsFile = AsRead
+if_file false way = way
+
 -- DW_AT_sibling (1) is written nowhere
 abbrev pub way_of : Holder → Pair → Way
-way_of h pair = if pair.name == 0x01 then Dropped else way_in h pair.form way_rows
+way_of h pair = if pair.name == 0x01 then Dropped else if_file (names_file pair.name) (way_in h pair.form way_rows)

@@ -4,7 +4,7 @@ ghost use Rattle.std.specs.Prelude.{◌≡◌, ◌+◌, ◌<◌, ◌^◌, All, I
 ghost use Rattle.std.specs.Option.{option_map};
 ghost use Rattle.dwz_docs.specs.Abbrevs.{IsPlainPair};
 ghost use Rattle.dwz_unit.specs.Rows.{entry_shown};
-ghost use Rattle.dwz_places.specs.Known.{HasValues, firsts_of, number_of, owner_of, reference_at, row_at, space_at, text_at, top_row, unit_of_part};
+ghost use Rattle.dwz_places.specs.Known.{HasValues, file_at, firsts_of, number_of, owner_of, reference_at, row_at, space_at, text_at, top_row, unit_of_part};
 
 use dwz_unit::{RawEntry, Units, Values};
 
@@ -15,11 +15,20 @@ pub struct Row {
     pub entry: u32,
 }
 
-/// Where what an entry names begins, among the references and among the texts of its file.
+/// Where what an entry names begins: among the references, among the texts, and among the numbers of files of its file.
 #[derive(Clone, Copy)]
 pub struct Firsts {
     pub reference: u64,
     pub text: u64,
+    pub file: u64,
+}
+
+/// Where a text is written: at an offset in `.debug_str` of the file that is written (`DW_FORM_strp`), or of the common file
+/// (`DW_FORM_strp_sup`) (DWARF 5, 7.5.5). A unit of the common file has its texts in its own file.
+#[derive(Clone, Copy)]
+pub enum TextAt {
+    Own(u32),
+    Shared(u32),
 }
 
 /// The entries of a file that was read, and what they name.
@@ -33,16 +42,19 @@ pub struct FileRows<'u, 'a> {
     /// For each reference (DWARF 5, 7.5.5), but of `DW_AT_sibling`, and each operand of an expression that names an entry, in preorder,
     /// then in the order of attributes, then of operands: the entry that stands for its target after, by its number among all files.
     pub references: Vec<u32>,
-    /// For each text that is stored by an offset or by a slot, in preorder, then in the order of attributes: its offset in `.debug_str` of
-    /// the file in which the entry is written. The number counts only where another form is written than was read.
-    pub texts: Vec<u32>,
+    /// For each text that is stored by an offset or by a slot, in preorder, then in the order of attributes: where it is written with the
+    /// entry. It counts only where a text isn't written as it was read.
+    pub texts: Vec<TextAt>,
+    /// For each value that is the number of a file (2.14), in preorder, then in the order of attributes: the number of its path in the
+    /// common file's line table, and 0 for no file. It counts only where the entry is written in the common file.
+    pub files: Vec<u32>,
 }
 
-/// A space: its entry, and for a space of a partial unit the offset of its name in `.debug_str` of the file that is written.
+/// A space: its entry, and for a space of a partial unit where its name is written.
 #[derive(Clone, Copy)]
 pub struct SpaceRow {
     pub row: Row,
-    pub text: u32,
+    pub text: TextAt,
 }
 
 /// The entries that were read, what they refer to, and the units in which they are written. Units that are written are counted over all
@@ -54,7 +66,7 @@ pub struct Known<'u, 'a> {
     pub owners: Vec<u32>,
     /// For each top its entry.
     pub tops: Vec<Row>,
-    /// For each space its entry. A space may have several numbers, where its name has several offsets.
+    /// For each space its entry. A space may have several numbers, where its name is written in several places.
     pub spaces: Vec<SpaceRow>,
     /// For each partial unit the unit that it is among those that are written.
     pub parts: Vec<u32>,
@@ -120,6 +132,7 @@ impl<'u, 'a> Known<'u, 'a> {
         let none = Firsts {
             reference: 0,
             text: 0,
+            file: 0,
         };
         match self.files.get(row.file as usize) {
             Some(file) => match file.firsts.get(row.entry as usize) {
@@ -143,11 +156,25 @@ impl<'u, 'a> Known<'u, 'a> {
 
     /// A text of a file.
     #[inline(always)]
-    pub fn text(&self, file: u32, n: u64) -> u32
+    pub fn text(&self, file: u32, n: u64) -> TextAt
         ensures { result ≡ text_at self.now file n }
     {
         match self.files.get(file as usize) {
-            Some(file) => at_or_zero(file.texts.as_slice(), n),
+            Some(file) => match file.texts.get(n as usize) {
+                Some(text) => *text,
+                None => TextAt::Own(0),
+            },
+            None => TextAt::Own(0),
+        }
+    }
+
+    /// The number of a path in the common file's line table, for a number of a file.
+    #[inline(always)]
+    pub fn file(&self, file: u32, n: u64) -> u32
+        ensures { result ≡ file_at self.now file n }
+    {
+        match self.files.get(file as usize) {
+            Some(file) => at_or_zero(file.files.as_slice(), n),
             None => 0,
         }
     }
@@ -188,7 +215,7 @@ impl<'u, 'a> Known<'u, 'a> {
             Some(space) => *space,
             None => SpaceRow {
                 row: Row { file: 0, entry: 0 },
-                text: 0,
+                text: TextAt::Own(0),
             },
         }
     }

@@ -12,7 +12,7 @@ mod walk;
 mod ways;
 
 pub use exprs::read_operands;
-pub use known::{FileRows, Firsts, Known, Row, SpaceRow};
+pub use known::{FileRows, Firsts, Known, Row, SpaceRow, TextAt};
 pub use layout::{FileLayout, Layout, OutUnit, Spots, behind};
 pub use order::{FileItems, Sort, UnitItems};
 pub use pairs::form_to;

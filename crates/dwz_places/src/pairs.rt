@@ -5,7 +5,7 @@ ghost use Rattle.dwz_docs.specs.Abbrevs.{IsPlainPair};
 ghost use Rattle.dwz_places.specs.Attributes;
 ghost use Rattle.dwz_places.specs.Attributes.{plain_pair};
 
-use crate::known::Known;
+use crate::known::{Known, TextAt};
 use dwz_model::Pair;
 
 // `DW_FORM_ref4`, `DW_FORM_ref_addr`, `DW_FORM_ref_sup4`.
@@ -15,8 +15,12 @@ const REF_ADDR: u64 = 0x10;
 
 const REF_SUP4: u64 = 0x1c;
 
-// `DW_FORM_strp`, `DW_FORM_exprloc`.
+// `DW_FORM_strp`, `DW_FORM_strp_sup`, `DW_FORM_udata`, `DW_FORM_exprloc`.
 const STRP: u64 = 0x0e;
+
+const STRP_SUP: u64 = 0x1d;
+
+const UDATA: u64 = 0x0f;
 
 const EXPRLOC: u64 = 0x18;
 
@@ -68,14 +72,27 @@ pub fn entry_pair(known: &Known, here: u32, name: u16, number: u32) -> Pair
     plain(name, form_to(known, here, known.owner(number)))
 }
 
-/// The name and the form of a text at an offset.
+/// The name and the form of a text, by where it is written.
 #[inline(always)]
-pub fn text_pair(name: u16) -> Pair
+pub fn text_pair(name: u16, text: TextAt) -> Pair
     requires { 0 < name }
-    ensures pair { result ≡ plain_pair name 0x0e }
+    ensures pair { result ≡ (Attributes.text_attr name text).pair }
     ensures plain { IsPlainPair result }
 {
-    plain(name, STRP)
+    match text {
+        TextAt::Own(_) => plain(name, STRP),
+        TextAt::Shared(_) => plain(name, STRP_SUP),
+    }
+}
+
+/// The name and the form of the number of a path.
+#[inline(always)]
+pub fn file_pair(name: u16) -> Pair
+    requires { 0 < name }
+    ensures pair { result ≡ plain_pair name 0x0f }
+    ensures plain { IsPlainPair result }
+{
+    plain(name, UDATA)
 }
 
 /// The name and the form of an expression.

@@ -14,8 +14,8 @@ ghost use Rattle.dwz_places.specs.Attributes;
 ghost use Rattle.dwz_places.specs.Stored.{pairs_of, values_bytes};
 
 use crate::exprs::read_operands;
-use crate::known::{Firsts, Known, Row, SpaceRow};
-use crate::pairs::{entry_pair, expr_pair, import_pair, line_pair, text_pair};
+use crate::known::{Firsts, Known, Row, SpaceRow, TextAt};
+use crate::pairs::{entry_pair, expr_pair, file_pair, import_pair, line_pair, text_pair};
 use crate::walk::Origin;
 use crate::ways::{Here, Holder, Way, way_of};
 use dwz_forms::{Raw, size_of_value};
@@ -132,8 +132,14 @@ fn measure_value(
             measured(room, *pair, size_of_value(pair.form as u16, raw))
         }
         Way::AsText => {
+            let text = known.text(file, next.text);
             next.text = more(next.text, 1)?;
-            measured(room, text_pair(pair.name), OFFSET)
+            measured(room, text_pair(pair.name, text), OFFSET)
+        }
+        Way::AsFile => {
+            let number = known.file(file, next.file);
+            next.file = more(next.file, 1)?;
+            measured(room, file_pair(pair.name), uleb_len(number as u64))
         }
         Way::AsEntry => {
             let target = known.reference(file, next.reference);
@@ -177,16 +183,22 @@ fn measure_row(room: &mut Room, known: &Known, here: Here, row: Row) -> Result<u
 
 // The same of a name of a space.
 #[inline(always)]
-fn measure_as_name(room: &mut Room, holder: Holder, pair: &Pair, raw: &Raw) -> Result<u64, NoMemory>
+fn measure_as_name(
+    room: &mut Room,
+    holder: Holder,
+    pair: &Pair,
+    raw: &Raw,
+    text: TextAt,
+) -> Result<u64, NoMemory>
     requires empty { room.old.pairs.items ≡ [] }
     requires writable { HasSpelling pair.now.form (raw_view raw.now) }
     requires plain { IsPlainPair pair.now }
-    ensures pairs { (text end : ℕ) → OnOk result (room.new.pairs.items ≡ pairs_of (stored_all no_numbers (name_by text (value_read end pair.now (raw_view raw.now)) (Ways.way_of (holder_view holder) pair.now) ∷ []))) }
-    ensures size { (text end : ℕ) → IfOk result (λ size. size ≡ length (values_bytes (stored_all no_numbers (name_by text (value_read end pair.now (raw_view raw.now)) (Ways.way_of (holder_view holder) pair.now) ∷ [])))) }
+    ensures pairs { (end : ℕ) → OnOk result (room.new.pairs.items ≡ pairs_of (stored_all no_numbers (name_by text (value_read end pair.now (raw_view raw.now)) (Ways.way_of (holder_view holder) pair.now) ∷ []))) }
+    ensures size { (end : ℕ) → IfOk result (λ size. size ≡ length (values_bytes (stored_all no_numbers (name_by text (value_read end pair.now (raw_view raw.now)) (Ways.way_of (holder_view holder) pair.now) ∷ [])))) }
     ensures plain { OnOk result (All IsPlainPair room.new.pairs.items) }
 {
     match way_of(holder, pair) {
-        Way::AsText => measured(room, text_pair(NAME), OFFSET),
+        Way::AsText => measured(room, text_pair(NAME, text), OFFSET),
         _ => measured(room, *pair, size_of_value(pair.form as u16, raw)),
     }
 }
@@ -209,7 +221,7 @@ fn measure_name(
     for pair in pairs {
         let raw = known_value(&mut cursor, pair);
         if pair.name == NAME {
-            return measure_as_name(room, holder, pair, &raw);
+            return measure_as_name(room, holder, pair, &raw, space.text);
         }
     }
     Ok(0)

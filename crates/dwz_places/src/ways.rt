@@ -1,6 +1,7 @@
 //! What is written of a value, by its name and form, and by what holds the unit.
 
 ghost use Rattle.std.specs.Prelude.{◌≡◌};
+ghost use Rattle.dwz_meanings.specs.Meanings;
 ghost use Rattle.dwz_places.specs.Attributes;
 ghost use Rattle.dwz_places.specs.Attributes.{here_view};
 ghost use Rattle.dwz_places.specs.Ways;
@@ -37,16 +38,22 @@ pub enum Way {
     AsRead,
     /// What was read, a text that is stored by an offset or by a slot.
     KeepsText,
-    /// The offset of the text that it names.
+    /// Where the text stands that it names.
     AsText,
+    /// The number of the path that it names, in the common file's line table.
+    AsFile,
     /// The number of the entry that it names.
     AsEntry,
     /// The expression, with the numbers of the entries that it names.
     AsExpression,
 }
 
-// `DW_AT_sibling`.
+// `DW_AT_sibling`, `DW_AT_decl_file`, `DW_AT_call_file`.
 const SIBLING: u16 = 0x01;
+
+const DECL_FILE: u16 = 0x3a;
+
+const CALL_FILE: u16 = 0x58;
 
 /// The way of a form by rows of forms and ways, in an old unit, in a partial unit of a file, and in one of the common file.
 macro_rules! ways {
@@ -65,13 +72,22 @@ fn way_in(holder: Holder, form: u64) -> Way
     ensures { result ≡ Ways.way_in (holder_view holder) form way_rows }
 {
     ways! { form, holder:
-        0x0e KeepsText KeepsText AsText,
+        0x05 AsRead AsRead AsFile, 0x06 AsRead AsRead AsFile, 0x07 AsRead AsRead AsFile, 0x0b AsRead AsRead AsFile,
+        0x0d AsRead AsRead AsFile, 0x0e AsText AsText AsText, 0x0f AsRead AsRead AsFile,
         0x10 AsEntry AsEntry AsEntry, 0x11 AsEntry AsEntry AsEntry, 0x12 AsEntry AsEntry AsEntry,
         0x13 AsEntry AsEntry AsEntry, 0x14 AsEntry AsEntry AsEntry, 0x15 AsEntry AsEntry AsEntry,
         0x18 AsExpression AsExpression AsExpression,
-        0x1a KeepsText AsText AsText, 0x1f KeepsText KeepsText AsText,
+        0x1a KeepsText AsText AsText, 0x1f KeepsText KeepsText AsText, 0x21 AsRead AsRead AsFile,
         0x25 KeepsText AsText AsText, 0x26 KeepsText AsText AsText, 0x27 KeepsText AsText AsText, 0x28 KeepsText AsText AsText,
     }
+}
+
+// Whether the numbers of an attribute are those of files (2.14).
+#[inline(always)]
+fn names_file(name: u16) -> bool
+    ensures { result ≡ Meanings.names_file name }
+{
+    name == DECL_FILE || name == CALL_FILE
 }
 
 /// What is written of a value with this name and form.
@@ -82,7 +98,14 @@ pub fn way_of(holder: Holder, pair: &Pair) -> Way
     if pair.name == SIBLING {
         return Way::Dropped;
     }
-    way_in(holder, pair.form)
+    let way = way_in(holder, pair.form);
+    if names_file(pair.name) {
+        return way;
+    }
+    match way {
+        Way::AsFile => Way::AsRead,
+        other => other,
+    }
 }
 
 /// The unit with a number, of that sort.

@@ -15,9 +15,9 @@ pub returns-in-AsText : goal.returns-in-AsText
 returns-in-AsText c = λ n end. (
     let a = value_read end c.args.pair.now (raw_view c.args.raw.now) in
     let way = way_of (holder_view c.args.holder) c.args.pair.now in
-    put_same c.put_four.result n c.args.out.now.items c.put_four.new.out.items (text_attr 0x03 c.args.text ∷ []) (name_by c.args.text a way ∷ [])
+    put_same c.put_text.result n c.args.out.now.items c.put_text.new.out.items (text_attr 0x03 c.args.text ∷ []) (name_by c.args.text a way ∷ [])
     (ap (λ (x : OutAttr). x ∷ []) (name_text c.args.text a way c.in-AsText.ensures))
-    (put_mapped c.put_four.result (put_text n 0x03 c.args.text c.args.out.now.items c.put_four.new.out.items) c.put_four.ensures))
+    (put_mapped c.put_text.result (put_text n 0x03 c.args.text c.args.out.now.items c.put_text.new.out.items) c.put_text.ensures))
 
 pub returns-in_default : goal.returns-in_default
 returns-in_default c = λ n end. (

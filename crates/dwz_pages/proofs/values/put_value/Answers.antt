@@ -1,13 +1,14 @@
-use Rattle.std.proofs.Common.{◌++◌, ◌∙◌, ap, rules}
-use Rattle.dwz_bytes.specs.Spelling.{le_bytes}
+use Rattle.std.proofs.Common.{◌++◌, ◌∙◌, ap, rules, ℕ}
+use Rattle.dwz_bytes.specs.Spelling.{le_bytes, uleb}
 use Rattle.dwz_forms.specs.RawValues.{raw_view}
-use Rattle.dwz_places.specs.declared.ways.Way.TheVariants.{AsEntry, AsExpression, AsRead, AsText, Dropped, KeepsText}
-use Rattle.dwz_places.specs.Attributes.{here_view, value_read}
-use Rattle.dwz_places.specs.Known.{reference_at, text_at}
+use Rattle.dwz_places.specs.declared.ways.Way.TheVariants.{AsEntry, AsExpression, AsFile, AsRead, AsText, Dropped, KeepsText}
+use Rattle.dwz_places.specs.declared.known.TextAt.{TextAt}
+use Rattle.dwz_places.specs.Attributes.{here_view, text_offset, value_read}
+use Rattle.dwz_places.specs.Known.{file_at, reference_at, text_at}
 use Rattle.dwz_places.proofs.NumberLemmas.{form_small}
 use Rattle.dwz_places.proofs.SizeLemmas.{expr_next, on_ok}
 use Rattle.dwz_pages.specs.Views.{numbers_view}
-use Rattle.dwz_pages.proofs.ValueLemmas.{put_by, put_expr, put_mapped, put_none, put_number_of, put_read, put_text}
+use Rattle.dwz_pages.proofs.ValueLemmas.{put_by, put_expr, put_file, put_mapped, put_none, put_number_of, put_read, put_text}
 use Rattle.dwz_pages.proofs.values.put_value.Goals as goal
 
 pub overflow_cast-pair : goal.overflow_cast-pair
@@ -56,10 +57,22 @@ returns-in_ok-next-in-AsText-clause-bytes c =
     let next = c.args.next.now in
     let old = c.args.out.now.items in
     let a = value_read c.args.end c.args.pair.now (raw_view c.args.raw.now) in
-    let new = c.put_four.new.out.items in
-    put_mapped c.put_four.result
-    (λ (is : _). put_by n k c.args.file here next a AsText c.in-AsText.ensures old new (put_text n c.args.pair.now.name (text_at k c.args.file next.text) old new (is ∙ ap (λ (x : _). old ++ le_bytes 4 x) c.text-offset.ensures)))
-    c.put_four.ensures
+    let new = c.put_text.new.out.items in
+    put_mapped c.put_text.result
+    (λ (is : _). put_by n k c.args.file here next a AsText c.in-AsText.ensures old new
+    (put_text n c.args.pair.now.name (text_at k c.args.file next.text) old new (is ∙ ap (λ (t : TextAt). old ++ le_bytes 4 (text_offset t)) c.text-text.ensures))) c.put_text.ensures
+
+pub returns-in_ok-next-in-AsFile-clause-bytes : goal.returns-in_ok-next-in-AsFile-clause-bytes
+returns-in_ok-next-in-AsFile-clause-bytes c =
+    let n = numbers_view c.args.numbers in
+    let k = c.args.known.now in
+    let here = here_view c.args.here in
+    let next = c.args.next.now in
+    let old = c.args.out.now.items in
+    let a = value_read c.args.end c.args.pair.now (raw_view c.args.raw.now) in
+    let new = c.put_uleb.new.out.items in
+    put_mapped c.put_uleb.result
+    (λ (is : _). put_by n k c.args.file here next a AsFile c.in-AsFile.ensures old new (put_file n c.args.pair.now.name (file_at k c.args.file next.file) old new (is ∙ ap (λ (x : ℕ). old ++ uleb x) c.file-number.ensures))) c.put_uleb.ensures.ok
 
 pub returns-in_ok-next-in-AsEntry-clause-bytes : goal.returns-in_ok-next-in-AsEntry-clause-bytes
 returns-in_ok-next-in-AsEntry-clause-bytes c =

@@ -1,5 +1,5 @@
 use Rattle.std.proofs.Common.{◌≡◌, length}
-use Rattle.dwz_places.specs.Attributes.{here_of, here_view}
+use Rattle.dwz_places.specs.Attributes.{here_of}
 use Rattle.dwz_places.specs.Entries.{entries_of}
 use Rattle.dwz_places.specs.Laid.{laid_unit, laying_of, with_entries}
 use Rattle.dwz_places.proofs.laying.lay.Given as goal

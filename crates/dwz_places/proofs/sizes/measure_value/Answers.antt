@@ -1,10 +1,11 @@
-use Rattle.std.proofs.Common.{◌∙◌, ap, rules}
+use Rattle.std.proofs.Common.{◌∙◌, ap, length, rules, ℕ}
+use Rattle.dwz_bytes.specs.Spelling.{uleb}
 use Rattle.dwz_forms.specs.RawValues.{raw_view}
-use Rattle.dwz_places.specs.declared.ways.Way.TheVariants.{AsEntry, AsExpression, AsRead, AsText, Dropped, KeepsText}
+use Rattle.dwz_places.specs.declared.ways.Way.TheVariants.{AsEntry, AsExpression, AsFile, AsRead, AsText, Dropped, KeepsText}
 use Rattle.dwz_places.specs.Attributes.{here_view, no_numbers, value_read}
-use Rattle.dwz_places.specs.Known.{reference_at, text_at}
+use Rattle.dwz_places.specs.Known.{file_at, reference_at, text_at}
 use Rattle.dwz_places.proofs.NumberLemmas.{form_small}
-use Rattle.dwz_places.proofs.SizeLemmas.{entry_sized, expr_next, expr_size, expr_sized, none_sized, ok_sized, on_ok, out_sized, read_sized, text_sized}
+use Rattle.dwz_places.proofs.SizeLemmas.{entry_sized, expr_next, expr_size, expr_sized, file_sized, none_sized, ok_sized, on_ok, out_sized, read_sized, text_sized}
 use Rattle.dwz_places.proofs.sizes.measure_value.Goals as goal
 
 pub overflow_cast-pair : goal.overflow_cast-pair
@@ -62,3 +63,12 @@ returns-in_ok-size-in-AsExpression-clause-next c =
     on_ok c.measured-in-AsExpression.result
     (expr_next c.args.known.now c.args.file (here_view c.args.here) c.args.next.now a c.in-AsExpression.ensures c.content_of-bytes.result.now c.content_of-bytes.ensures c.read_operands.new.room.items c.in_ok-read_operands-in-AsExpression.ensures
     c.in_ok-next-in-AsExpression.field-0 c.len.result (c.len.ensures ∙ c.read_operands.new.room.ok.0) c.in_ok-next-in-AsExpression.ensures)
+
+pub returns-in_ok-next-in-AsFile-clause-size : goal.returns-in_ok-next-in-AsFile-clause-size
+returns-in_ok-next-in-AsFile-clause-size c =
+    let a = value_read c.args.end c.args.pair.now (raw_view c.args.raw.now) in
+    let next = c.args.next.now in
+    let size = c.uleb_len.result in
+    ok_sized c.measured-in-AsFile.result size _ c.measured-in-AsFile.ensures.size
+    (out_sized c.args.known.now c.args.file (here_view c.args.here) next a AsFile c.in-AsFile.ensures size
+    (file_sized no_numbers c.args.pair.now.name (file_at c.args.known.now c.args.file next.file) size (c.uleb_len.ensures ∙ ap (λ (x : ℕ). length (uleb x)) c.file-number.ensures)))

@@ -1,4 +1,4 @@
-use Rattle.std.proofs.Common.{ap, arith, subst, sym, ◌≤◌}
+use Rattle.std.proofs.Common.{ap, arith, sym}
 use Rattle.std.specs.Option.{option_map}
 use Rattle.dwz_unit.specs.Rows.{entry_shown}
 use Rattle.dwz_places.proofs.KnownLemmas.{entry_none, entry_some, file_found}

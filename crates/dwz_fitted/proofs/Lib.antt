@@ -1,0 +1,11 @@
+pub mod WeakerLemmas
+pub mod FormWays
+pub mod StoredLemmas
+pub mod ValueFits
+pub mod EntryFits
+pub mod RowFits
+pub mod NameFits
+pub mod UnitFits
+pub mod FileFits
+pub mod AfterLemmas
+pub mod RowsStored

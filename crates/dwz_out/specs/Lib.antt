@@ -1,0 +1,4 @@
+pub mod Contents
+pub mod FilesAfter
+pub mod Refusals
+pub mod Out

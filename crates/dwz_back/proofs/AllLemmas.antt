@@ -180,7 +180,7 @@ module _ (scope : Scope) (docs : List (Doc ℕ)) (input : Stored) (are : AreRead
         over = record {
           bases = out_bases r file whole.old
               (λ n part nth home. part_bases (OfFile (sources r file)) scope (units_of docs) rule is choice r.files whole.old whole.held (λ x. x ≡ file) (file_origins file) n part nth
-              (top_file scope (units_of docs) rule is choice r.files file n part nth home) file home (file_forms r file).texts (file_forms r file).paths (file_forms r file).offsets);
+              (top_file scope (units_of docs) rule is choice r.files file n part nth home) file home (file_forms r file).texts (file_forms r file).shared (file_forms r file).paths (file_forms r file).offsets);
           lists = file_lists file there;
           operands = file_operands file carried;
           room = over file there changed;
@@ -209,7 +209,7 @@ module _ (scope : Scope) (docs : List (Doc ℕ)) (input : Stored) (are : AreRead
   bases_common = each_of (BasesStand (common_forms r)) (partial_units r.move Common 0 r.move.parts) (λ v there.
       (let o = parts_from r.move Common 0 r.move.parts v there in
       subst (BasesStand (common_forms r)) o.is (common_bases OfAny scope (units_of docs) rule is choice r.files whole.old whole.held (λ x. Unit {0}) any_origins o.number o.part o.nth (λ t in_part. tt)
-      o.home_is (texts r) (paths r) [])))
+      o.home_is (texts r) [] (paths r) [])))
 
   common_asks : Each UnitAsksNone (common_units r.move)
   unfolding common_units
@@ -262,7 +262,7 @@ module _ (scope : Scope) (docs : List (Doc ℕ)) (input : Stored) (are : AreRead
       let ok = back_placing scope docs rule placed is choice input in
       let old = back_old scope docs rule placed is choice input in
       let says = common_back r can_write g ok common made.common made.common_fits in
-      let file_says = λ (file : ℕ) (there : In file r.files) (changed : changes r.move r.units file ≡ true). file_back r can_write g ok (output file) common made.common_fits says file there changed
+      let file_says = λ (file : ℕ) (there : In file r.files) (changed : changes r.move r.units file ≡ true). file_back r can_write g ok (output file) common made.common made.common_fits says file there changed
       (made.file file there changed) (made.file_fits file there changed) in
       record {
         place = g;

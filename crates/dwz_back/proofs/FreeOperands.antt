@@ -1,6 +1,7 @@
 -- What moves has no operands: an expression of a top that moves names no entry.
 use Rattle.std.proofs.Common.{◌≡◌, ℕ, Bool, true, false, List, [], ◌∷◌, ◌||◌, map, Option, Some, None, refl, sym, ap, subst, ◌∙◌, arith, inl, inr}
 use Rattle.std.specs.List.{list_any}
+use Rattle.dwz_bytes.specs.Spelling.{reach}
 use Rattle.dwz_docs.specs.Lists.{In, has}
 use Rattle.dwz_docs.specs.Trees.{End, Entry}
 use Rattle.dwz_meanings.specs.declared.exprs.Operand.{Operand}
@@ -28,8 +29,8 @@ use Rattle.dwz_writing.specs.Bases.{Bases}
 use Rattle.dwz_writing.specs.Carried.{AttrOperands, CarriedAttr, CarriedEntries, CarriedUnit, ExprIn, OperandsStand, OperandsStandAs}
 use Rattle.dwz_writing.specs.Fitting.{EachAttr, HasRoom, HasRoomAs, OperandsHaveRoom, PlainHasRoom, UnitHasRoom}
 use Rattle.dwz_writing.specs.Meant.{OperandsIn, Own, Tells, own_of}
-use Rattle.dwz_writing.specs.Placing.{FileFit, Fit, Forms, Holder, InCommon, InFile, InUnit, CommonUnit, NewUnit, OldUnit, Reach, as_constant, as_file, as_slot, as_text, fit, fit_as, fit_attr, fit_unit, fit_units, reach_of, ref_form, unit_fit, with_form, with_keys}
-use Rattle.dwz_writing.specs.Writing.{Numbering}
+use Rattle.dwz_writing.specs.Placing.{FileFit, Fit, Forms, Holder, InCommon, InFile, InUnit, CommonUnit, NewUnit, OldUnit, Reach, as_constant, as_file, as_line_text, as_slot, as_strp_if, as_text, fit, fit_as, fit_attr, fit_unit, fit_units, has_text, reach_of, ref_form, unit_fit, slot_number, with_form, with_keys}
+use Rattle.dwz_writing.specs.Writing.{Numbering, text_in}
 use Rattle.dwz_writing.proofs.Carrying.{import_class, no_list}
 use Rattle.dwz_writing.proofs.Chosen.{join_attrs, join_entries}
 use Rattle.dwz_seen.specs.Shown.{units_keys}
@@ -131,17 +132,28 @@ module _ {K : Type 0} (x : Fit K) (n : Numbering K) (unit : ℕ) (a : Attr K) (a
   entry_room InFile = tt
   entry_room InCommon = tt
 
+  strp_room : (b : Bool) (at : ℕ) → HasRoom n unit (with_form a (as_strp_if b x a at))
+  unfolding class_rows class_in
+  strp_room true at = tt
+  strp_room false at = tt
+
   text_room : (h : Holder) → HasRoom n unit (with_form a (as_text h x a))
   unfolding class_rows class_in
   text_room CommonUnit = tt
-  text_room OldUnit = asks.room n unit
-  text_room NewUnit = asks.room n unit
+  text_room OldUnit = strp_room (has_text x.shared (text_in a.value.plain)) (reach a.raw)
+  text_room NewUnit = strp_room (has_text x.shared (text_in a.value.plain)) (reach a.raw)
+
+  line_text_room : (h : Holder) → HasRoom n unit (with_form a (as_line_text h x a))
+  unfolding class_rows class_in
+  line_text_room CommonUnit = tt
+  line_text_room OldUnit = asks.room n unit
+  line_text_room NewUnit = asks.room n unit
 
   slot_room : (h : Holder) → HasRoom n unit (with_form a (as_slot h x a))
   unfolding class_rows class_in
   slot_room CommonUnit = tt
   slot_room OldUnit = asks.room n unit
-  slot_room NewUnit = tt
+  slot_room NewUnit = strp_room (has_text x.shared (text_in a.value.plain)) (slot_number x.offsets x.origin.slots (reach a.raw))
 
   file_room : (h : Holder) → HasRoom n unit (with_form a (as_file h x a))
   unfolding class_rows class_in
@@ -160,7 +172,7 @@ module _ {K : Type 0} (x : Fit K) (n : Numbering K) (unit : ℕ) (a : Attr K) (a
     by OfInfoEntry = entry_room (reach_of x a.value.refs)
     by OfCommonEntry = entry_room (reach_of x a.value.refs)
     by OfTextInStr = text_room x.holder
-    by OfTextInLineStr = text_room x.holder
+    by OfTextInLineStr = line_text_room x.holder
     by OfTextBySlot = slot_room x.holder
     by OfConstant = constant_room (names_file a.name)
     by _ = asks.room n unit

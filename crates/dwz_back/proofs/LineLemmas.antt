@@ -300,9 +300,9 @@ module _ (from : Sources → Type 0) (scope : InWhich) (units : List (FileUnit S
       root_good true e = subst (Each FileGood) (sym (lines_are true e ∙ ap (λ (l : Attr Spot). l ∷ []) (line_is (has_line e)))) (other_good (line_of (Some (has_line e).attr)) refl, tt)
       root_good false e = subst (Each FileGood) (sym (lines_are false e)) tt
 
-      pub part_bases : (texts paths : List (List ℕ)) (offsets : List ℕ)
-          → BasesStand (record { same = same_spot; is_common = false; texts = texts; paths = paths; offsets = offsets; origin = origin_in m units }) (partial_unit m n)
-      part_bases texts paths offsets = record {
+      pub part_bases : (texts shared paths : List (List ℕ)) (offsets : List ℕ)
+          → BasesStand (record { same = same_spot; is_common = false; texts = texts; shared = shared; paths = paths; offsets = offsets; origin = origin_in m units }) (partial_unit m n)
+      part_bases texts shared paths offsets = record {
         own = tt;
         root = root_good (names_path part) refl;
         below = files_below FileGood (λ t there d x a a_in numbers. own_line (names_path part) refl t there d x a a_in numbers) other_good;
@@ -338,9 +338,9 @@ module _ (from : Sources → Type 0) (scope : InWhich) (units : List (FileUnit S
       root_common true e = subst (Each CommonGood) (sym (lines_are true e ∙ ap (λ (l : Attr Spot). l ∷ []) zero_line)) (other_common (line_attr (pos 0) (Sec 0)) refl, tt)
       root_common false e = subst (Each CommonGood) (sym (lines_are false e)) tt
 
-      pub common_bases : (texts paths : List (List ℕ)) (offsets : List ℕ)
-          → BasesStand (record { same = same_spot; is_common = true; texts = texts; paths = paths; offsets = offsets; origin = origin_in m units }) (partial_unit m n)
-      common_bases texts paths offsets = record {
+      pub common_bases : (texts shared paths : List (List ℕ)) (offsets : List ℕ)
+          → BasesStand (record { same = same_spot; is_common = true; texts = texts; shared = shared; paths = paths; offsets = offsets; origin = origin_in m units }) (partial_unit m n)
+      common_bases texts shared paths offsets = record {
         own = tt;
         root = root_common (names_path part) refl;
         below = files_below CommonGood (λ t there d x a a_in numbers. common_line (names_path part) refl t there d x a a_in numbers) other_common;

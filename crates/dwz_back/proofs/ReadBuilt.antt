@@ -6,22 +6,21 @@ use Rattle.dwz_docs.specs.Units.{RawUnit}
 use Rattle.dwz_meanings.specs.Documents.{Attr, DwUnit, Entries, Value}
 use Rattle.dwz_meanings.specs.Meanings.{Around, Class, MeanAttrs, MeanEntries, MeanUnits, MeansAs, OfCommonText, Scope, Sources, Unread, class_of, scope_of, without_siblings}
 use Rattle.dwz_seen.specs.Lists.{Each}
-use Rattle.dwz_writing.specs.Carried.{BuiltAttr, BuiltEntries, BuiltUnit}
-use Rattle.dwz_writing.specs.Sound.{IsBuilt, IsBuiltAs}
+use Rattle.dwz_writing.specs.Carried.{BuiltAttr, BuiltEntries, BuiltUnit, IsBuilt, IsBuiltAs}
 
 -- what surrounds the units of a file by itself
 abbrev pub own : Sources → List ℕ → Around ℕ
 own sources all = record { sources = sources; all = all; place = λ n. n; common = None }
 
-class_built : (k : Class) (s : Scope ℕ) → s.around.common ≡ None → (a : RawAttr) (v : Value ℕ) (name : ℕ) → MeansAs k s a v → IsBuiltAs k name
-class_built OfCommonText s alone a v name h = absurd (let none = sym alone ∙ h.1 in cc)
-class_built Unread s alone a v name h = absurd h
-class_built _ s alone a v name h = tt
+class_built : (k : Class) (s : Scope ℕ) → s.around.common ≡ None → (a : RawAttr) (v : Value ℕ) → MeansAs k s a v → IsBuiltAs k
+class_built OfCommonText s alone a v h = absurd (let none = sym alone ∙ h.1 in cc)
+class_built Unread s alone a v h = absurd h
+class_built _ s alone a v h = tt
 
 module _ (s : Scope ℕ) (alone : s.around.common ≡ None) where
   attrs_built : (raw : List RawAttr) (attrs : List (Attr ℕ)) → MeanAttrs s raw attrs → Each BuiltAttr attrs
   attrs_built [] [] h = tt
-  attrs_built (r ∷ raw) (b ∷ attrs) h = (subst (λ (form : ℕ). IsBuilt form b.name) (sym h.0.form) (class_built (class_of r.pair.form) s alone r b.value b.name h.0.value), attrs_built raw attrs h.1)
+  attrs_built (r ∷ raw) (b ∷ attrs) h = (subst IsBuilt (sym h.0.form) (class_built (class_of r.pair.form) s alone r b.value h.0.value), attrs_built raw attrs h.1)
   attrs_built _ _ h = absurd h
 
   entries_built : (f : Forest RawEntry) (g : Entries ℕ) → MeanEntries s f g → BuiltEntries g

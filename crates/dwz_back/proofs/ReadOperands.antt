@@ -157,7 +157,7 @@ module _ (t : Tells ℕ) (w : Own ℕ) (s : Scope ℕ) (knows : Knows t w s) whe
 
 -- what is told of a file is its location lists, the names of places, and its entries
 abbrev pub reading : {K : Type 0} → List ℕ → List NamedList → (ℕ → K) → List K → Tells K
-reading lists named name all = record { strs = []; line_strs = []; offsets = []; line = []; lists = lists; named = named; name = name; all = all; common = [] }
+reading lists named name all = record { strs = []; line_strs = []; offsets = []; line = []; common_strs = []; lists = lists; named = named; name = name; all = all; common = [] }
 
 -- the lists that the units of a file name
 abbrev pub lists_in : Sources → List RawUnit → List NamedList

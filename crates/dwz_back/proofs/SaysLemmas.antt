@@ -1,11 +1,13 @@
 -- What is written of files is what they say.
-use Rattle.std.proofs.Common.{◌≡◌, ℕ, ◌<◌, ◌^◌, true, List, [], length, map, Option, Some, None, refl, sym, ap, subst, ◌∙◌, arith, Bool, inl}
+use Rattle.std.proofs.Common.{◌≡◌, ℕ, ◌<◌, ◌^◌, true, false, List, [], ◌∷◌, ◌++◌, length, map, Option, Some, None, refl, sym, ap, subst, ◌∙◌, arith, Bool, inl}
 use Rattle.dwz_meanings.specs.Documents.{DwUnit}
 use Rattle.dwz_docs.specs.ElfBack.{IsBackFault}
 use Rattle.dwz_meanings.specs.Files.{debug_abbrev, debug_aranges, debug_info, is_place_of, sources_of}
 use Rattle.dwz_meanings.specs.Patching.{of_units}
 use Rattle.dwz_meanings.specs.Ranges.{RangeSet, SpellsSets}
 use Rattle.dwz_docs.specs.Lists.{In}
+use Rattle.dwz_docs.specs.Texts.{IsTextAt}
+use Rattle.std.proofs.lemmas.List.{length-append}
 use Rattle.dwz_meanings.specs.Meanings.{Common, Sources}
 use Rattle.dwz_docs.specs.Units.{SpellsUnits}
 use Rattle.dwz_alike.specs.Spots.{Spot, same_spot}
@@ -20,7 +22,7 @@ use Rattle.dwz_same.specs.Units.{all_units, changes, common_units, out_units}
 use Rattle.dwz_writing.specs.Carried.{OfAny, OfFile}
 use Rattle.dwz_writing.specs.Fitting.{AreWritable, UnitFits, UnitHasRoom, mode_for}
 use Rattle.dwz_writing.specs.Meant.{AreRenumbered, IsAround, Tells, UnitsSay, all_entry_keys}
-use Rattle.dwz_writing.specs.Placing.{FitsSections, UnitsStand, lines_bytes, sections, texts_bytes}
+use Rattle.dwz_writing.specs.Placing.{FitsSections, UnitsStand, lines_bytes, sections, texts_bytes, texts_of, units_with}
 use Rattle.dwz_writing.specs.Sound.{SoundUnit}
 use Rattle.dwz_writing.specs.Writing.{Numbering, tables_of}
 use Rattle.dwz_writing.proofs.Chosen.{fit_units_all, fit_units_fixed, units_good}
@@ -37,7 +39,7 @@ use Rattle.dwz_writing.proofs.UnitsSpelled.{units_len}
 use Rattle.dwz_writing.proofs.WriteLaws.{fits, is_roomy, means, spelled}
 use Rattle.dwz_back.specs.Back.{CanWrite, IsPlacing, RangesBack, SaysPlaced, around_in, given_by}
 use Rattle.dwz_meanings.specs.Shared.{ListOperand, NoneShared, operands_in_lists}
-use Rattle.dwz_back.specs.Files.{HasCommon, HasSections, Run, common_fitted, common_forms, common_out, common_sections, file_forms, file_out, files_out, fitted, name_after, paths, place_of, places, sections_of, sources, tells, tells_common, texts}
+use Rattle.dwz_back.specs.Files.{HasCommon, HasSections, Run, common_fitted, common_forms, common_out, common_sections, file_forms, file_out, files_out, fitted, name_after, paths, imports_common, place_of, places, sections_of, shared, shared_if, sources, tells, tells_common, texts}
 use Rattle.dwz_back.proofs.NameLemmas.{common_names, common_there, file_once, file_there, fitted_names, name_in_common, name_in_file, not_common, run_once}
 
 -- the places where names are written are such places
@@ -50,6 +52,11 @@ written_places r once = record {
 at_key : (u : DwUnit Spot) → In u.at (unit_keys u)
 unfolding unit_keys
 at_key u = inl refl
+
+-- no text stands where there are no bytes
+no_text : (at : ℕ) (text : List ℕ) → IsTextAt [] at text → ⊥
+no_text at text stands =
+    omega (arith, ap length stands.parts, ap length stands.spelled.parts, length-append stands.before (stands.front ++ stands.after), length-append stands.front stands.after, length-append text (0 ∷ []))
 
 no_operands : (o : ListOperand) → In o (operands_in_lists []) → ⊥
 unfolding operands_in_lists
@@ -101,6 +108,7 @@ module _ (r : Run) (can : CanWrite r) (g : Spot → Place) (ok : IsPlacing r g) 
     line_strs : (sources_of bytes).line_strs ≡ t.line_strs
     offsets : (sources_of bytes).offsets ≡ t.offsets
     line : (sources_of bytes).line ≡ t.line
+    common_strs : (at : ℕ) (text : List ℕ) → IsTextAt t.common_strs at text → (c : Common Place) × (common ≡ Some c) × IsTextAt c.strs at text
     none_shared : NoneShared t.named
     lists : AreRenumbered n t (sources_of bytes).lists
     ranges : (others : ℕ → Bool) → ((w : DwUnit Spot) → In w units → (IsPartial w.kind → ⊥) → (n.place w.at < 2 ^ 32) × (others (n.place w.at) ≡ true)) → (sets : List RangeSet)
@@ -124,6 +132,7 @@ module _ (r : Run) (can : CanWrite r) (g : Spot → Place) (ok : IsPlacing r g) 
         line_strs = s.line_strs;
         offsets = s.offsets;
         line = s.line;
+        common_strs = s.common_strs;
         none_shared = s.none_shared;
         lists = s.lists;
         all = entries ∙ ap (λ (ks : List Spot). map n.place ks) (sym s.all);
@@ -184,6 +193,7 @@ module _ (r : Run) (can : CanWrite r) (g : Spot → Place) (ok : IsPlacing r g) 
     line_strs = ap (λ (w : Sources). w.line_strs) has.sources;
     offsets = ap (λ (w : Sources). w.offsets) has.sources;
     line = ap (λ (w : Sources). w.line) has.sources;
+    common_strs = λ at text stands. absurd (no_text at text stands);
     none_shared = can.common.over.lists;
     lists = subst (λ (w : Sources). AreRenumbered n (tells_common r) w.lists) (sym has.sources)
         (record { number = λ p. 0; are = λ l there. absurd there; patched = record { len = refl; written = λ o there. absurd (no_operands o there); others = λ b none. refl } });
@@ -197,14 +207,14 @@ module _ (r : Run) (can : CanWrite r) (g : Spot → Place) (ok : IsPlacing r g) 
 
   -- ---- a file
 
-  file_good : (file : ℕ) → In file r.files → changes r.move r.units file ≡ true → length (sources r file).strs < 2 ^ 32 → Each SoundUnit (fitted r file) × UnitsSay (tells r file) (fitted r file)
+  file_good : (file : ℕ) → In file r.files → changes r.move r.units file ≡ true → length (sources r file).strs < 2 ^ 32 → length (texts_bytes (shared r file)) < 2 ^ 32 → Each SoundUnit (fitted r file) × UnitsSay (tells r file) (fitted r file)
   unfolding fitted
-  file_good file there changed small =
+  file_good file there changed small few =
       let names = fitted_names r file in
       let c = can.file file there changed in
       units_good (file_forms r file) spots_same (OfFile (sources r file)) (tells r file) (out_units r.move r.units file) (file_all file) (subst NoneTwice names (file_once (files_out r) (run_once r can.apart) (file_out r file) (file_there r file there))) c.carried c.closed
       (λ k common own. not_common r can.apart file there k (entries_are_keys (common_fitted r) k common) (subst (In k) (sym names) own))
-      (small, λ s is. (ap (λ (x : Sources). x.strs) (sym is), ap (λ (x : Sources). x.line_strs) (sym is), ap (λ (x : Sources). x.offsets) (sym is), ap (λ (x : Sources). x.line) (sym is), ap (λ (x : Sources). x.offsets) (sym is))) c.over.bases c.over.operands
+      (small, λ s is. (ap (λ (x : Sources). x.strs) (sym is), ap (λ (x : Sources). x.line_strs) (sym is), ap (λ (x : Sources). x.offsets) (sym is), ap (λ (x : Sources). x.line) (sym is), ap (λ (x : Sources). x.offsets) (sym is)), record { strs = refl; few = few }) c.over.bases c.over.operands
 
   file_room : (file : ℕ) → In file r.files → changes r.move r.units file ≡ true → Each (UnitHasRoom n) (fitted r file)
   unfolding fitted
@@ -222,10 +232,11 @@ module _ (r : Run) (can : CanWrite r) (g : Spot → Place) (ok : IsPlacing r g) 
 
   with_common : (common : Option (Common Place)) (out : List ℕ) (file : ℕ) → In file r.files → changes r.move r.units file ≡ true → HasSections r file out → FitsSections (sections_of r file)
       → ((k : Spot) → In k (all_entry_keys (common_fitted r)) → n.place k < 2 ^ 32) → ((k : Spot) → In k (all_entry_keys (common_fitted r)) → (c : Common Place) × (common ≡ Some c) × In (n.place k) c.entries × (c.place (n.place k) ≡ g k))
+      → length (texts_bytes (shared r file)) < 2 ^ 32 → ((at : ℕ) (text : List ℕ) → IsTextAt (texts_bytes (shared r file)) at text → (c : Common Place) × (common ≡ Some c) × IsTextAt c.strs at text)
       → SaysPlaced r g common file out (fitted r file)
-  with_common common out file there changed has small few given = said_placed (tells r file) common file out (fitted r file) (record {
+  with_common common out file there changed has small few given few_texts texts_given = said_placed (tells r file) common file out (fitted r file) (record {
     all = refl;
-    good = file_good file there changed (subst (λ (w : List ℕ). length w < 2 ^ 32) has.strs has.small);
+    good = file_good file there changed (subst (λ (w : List ℕ). length w < 2 ^ 32) has.strs has.small) few_texts;
     stands = file_stands file there;
     elf = has.elf;
     info = has.info;
@@ -234,6 +245,7 @@ module _ (r : Run) (can : CanWrite r) (g : Spot → Place) (ok : IsPlacing r g) 
     line_strs = has.line_strs;
     offsets = has.offsets;
     line = has.line;
+    common_strs = texts_given;
     none_shared = (can.file file there changed).over.lists;
     lists = has.lists;
     ranges = λ others good. (_, file_ranged file there out has others good);
@@ -244,22 +256,47 @@ module _ (r : Run) (can : CanWrite r) (g : Spot → Place) (ok : IsPlacing r g) 
     given = given;
   })
 
-  pub file_back : (out common : List ℕ) → FitsSections (common_sections r) → (c : SaysPlaced r g None r.common common (common_fitted r)) → (file : ℕ) → In file r.files → changes r.move r.units file ≡ true
+  -- the texts that a file shares are those of the common file
+  shared_few : (common : List ℕ) → HasCommon common (common_sections r) (texts r) (paths r) → (b : Bool) → length (texts_bytes (shared_if b (texts r))) < 2 ^ 32
+  unfolding texts_bytes
+  shared_few common has true = subst (λ (w : Sources). length w.strs < 2 ^ 32) has.sources has.small
+  shared_few common has false = omega arith
+
+  shared_there : (common : List ℕ) → HasCommon common (common_sections r) (texts r) (paths r) → (b : Bool) (at : ℕ) (text : List ℕ) → IsTextAt (texts_bytes (shared_if b (texts r))) at text
+      → IsTextAt (sources_of common).strs at text
+  unfolding texts_bytes
+  shared_there common has true at text stands = subst (λ (w : Sources). IsTextAt w.strs at text) (sym has.sources) stands
+  shared_there common has false at text stands = absurd (no_text at text stands)
+
+  pub file_back : (out common : List ℕ) → HasCommon common (common_sections r) (texts r) (paths r) → FitsSections (common_sections r) → (c : SaysPlaced r g None r.common common (common_fitted r)) → (file : ℕ) → In file r.files → changes r.move r.units file ≡ true
       → HasSections r file out → FitsSections (sections_of r file) → SaysPlaced r g (Some (given_by r.common common c.raw)) file out (fitted r file)
-  file_back out common common_fits c file there changed has small = with_common (Some (given_by r.common common c.raw)) out file there changed has small (common_small common_fits) (λ k is. (
+  file_back out common made common_fits c file there changed has small = with_common (Some (given_by r.common common c.raw)) out file there changed has small (common_small common_fits) (λ k is. (
     given_by r.common common c.raw,
     refl,
     subst (In (n.place k)) (sym c.entries) (in_map n.place k (all_entry_keys (common_fitted r)) is),
     ok.common k (entries_are_keys (common_fitted r) k is),
-  ))
+  )) (shared_few common made (imports_common r.move r.units file))
+      (λ at text stands. (given_by r.common common c.raw, refl, shared_there common made (imports_common r.move r.units file) at text stands))
 
   none_common : common_units r.move ≡ [] → (k : Spot) → In k (all_entry_keys (common_fitted r)) → ⊥
   unfolding all_entry_keys
   none_common none k is = subst (In k) (common_all ∙ ap (λ (us : List (DwUnit Spot)). all_entry_keys us) none) is
 
+  no_texts : common_units r.move ≡ [] → (b : Bool) → texts_bytes (shared_if b (texts r)) ≡ []
+  unfolding texts_bytes units_with
+  no_texts none true = ap (λ (us : List (DwUnit Spot)). texts_bytes (texts_of [] us)) none
+  no_texts none false = refl
+
+  none_few : common_units r.move ≡ [] → (b : Bool) → length (texts_bytes (shared_if b (texts r))) < 2 ^ 32
+  none_few none b = subst (λ (w : List ℕ). length w < 2 ^ 32) (sym (no_texts none b)) (omega arith)
+
+  none_texts : common_units r.move ≡ [] → (b : Bool) (at : ℕ) (text : List ℕ) → IsTextAt (texts_bytes (shared_if b (texts r))) at text → ⊥
+  none_texts none b at text stands = no_text at text (subst (λ (w : List ℕ). IsTextAt w at text) (no_texts none b) stands)
+
   pub alone_back : (out : List ℕ) → common_units r.move ≡ [] → (file : ℕ) → In file r.files → changes r.move r.units file ≡ true → HasSections r file out → FitsSections (sections_of r file)
       → SaysPlaced r g None file out (fitted r file)
   alone_back out none file there changed has small = with_common None out file there changed has small (λ k is. absurd (none_common none k is)) (λ k is. absurd (none_common none k is))
+      (none_few none (imports_common r.move r.units file)) (λ at text stands. absurd (none_texts none (imports_common r.move r.units file) at text stands))
 
   -- the sets of address ranges of a file are of the units of which they were
   pub ranges_back : (common : Option (Common Place)) (out : List ℕ) (file : ℕ) → In file r.files → changes r.move r.units file ≡ true → HasSections r file out → FitsSections (sections_of r file)

@@ -117,10 +117,11 @@ CommonBackLaw =
     → FitsSections (common_sections r)
     → SaysPlaced r g None r.common out (common_fitted r)
 
--- a file that was made so says its units, at their places, where it is read with the common file
+-- a file that was made so says its units, at their places, where it is read with the common file that was
 abbrev pub FileBackLaw : Type 0
 FileBackLaw =
-    (r : Run) (g : Spot → Place) (out common : List ℕ) → CanWrite r → IsPlacing r g → FitsSections (common_sections r) → (c : SaysPlaced r g None r.common common (common_fitted r))
+    (r : Run) (g : Spot → Place) (out common : List ℕ) → CanWrite r → IsPlacing r g → HasCommon common (common_sections r) (texts r) (paths r)
+    → FitsSections (common_sections r) → (c : SaysPlaced r g None r.common common (common_fitted r))
     → (file : ℕ) → In file r.files → changes r.move r.units file ≡ true → HasSections r file out → FitsSections (sections_of r file)
     → SaysPlaced r g (Some (given_by r.common common c.raw)) file out (fitted r file)
 

@@ -1,5 +1,6 @@
 -- What is written for files and a common one: their units, with the forms of their values, where their names stand, and their sections.
-use Rattle.std.specs.Prelude.{◌≡◌, ℕ, zero, suc, ◌<◌, ◌^◌, true, false, List, [], ◌∷◌, map, length, Option, Some, None}
+use Rattle.std.specs.Prelude.{◌≡◌, ℕ, zero, suc, ◌<◌, ◌^◌, Bool, true, false, ◌&&◌, ◌==◌, List, [], ◌∷◌, map, length, Option, Some, None}
+use Rattle.std.specs.List.{list_any}
 use Rattle.dwz_meanings.specs.Documents.{DwUnit}
 use Rattle.dwz_docs.specs.ElfBack.{IsBackFault}
 use Rattle.dwz_docs.specs.Units.{RawUnit}
@@ -11,6 +12,7 @@ use Rattle.dwz_meanings.specs.Shared.{NamedList}
 use Rattle.dwz_writing.specs.Meant.{AreRenumbered, Tells, all_entry_keys}
 use Rattle.dwz_meanings.specs.Meanings.{Sources}
 use Rattle.dwz_alike.specs.Spots.{FileUnit, PartialOf, Spot, UnitOf, same_spot}
+use Rattle.dwz_moving.specs.Homes.{Common, file_of, same_home}
 use Rattle.dwz_moving.specs.Moves.{Move, first_unit, image_in, part_at}
 use Rattle.dwz_moving.specs.Plan.{PartialUnit}
 use Rattle.dwz_same.specs.After.{Place, at_file}
@@ -47,6 +49,18 @@ texts r = texts_of [] (common_units r.move)
 abbrev pub paths : Run → List (List ℕ)
 paths r = paths_of [] (common_units r.move)
 
+-- a file imports from the common file where one of its units is a user of a partial unit there
+unfoldable pub imports_common : Move → List (FileUnit Spot) → ℕ → Bool
+imports_common m units file = list_any (λ part. same_home part.home Common && list_any (λ i. file_of units i == file) part.users) m.parts
+
+-- then it shares the texts of the common file, and else none
+abbrev pub shared_if : Bool → List (List ℕ) → List (List ℕ)
+shared_if true texts = texts
+shared_if false texts = []
+
+abbrev pub shared : Run → ℕ → List (List ℕ)
+shared r file = shared_if (imports_common r.move r.units file) (texts r)
+
 -- ---- the unit that values come from: an old unit's own, and a partial unit's those of the unit that its first top comes from
 
 -- what the root says of the unit with that number
@@ -71,6 +85,7 @@ common_forms r = record {
   same = same_spot;
   is_common = true;
   texts = texts r;
+  shared = [];
   paths = paths r;
   offsets = [];
   origin = origin_in r.move r.units;
@@ -81,6 +96,7 @@ file_forms r file = record {
   same = same_spot;
   is_common = false;
   texts = texts r;
+  shared = shared r file;
   paths = paths r;
   offsets = (sources r file).offsets;
   origin = origin_in r.move r.units;
@@ -136,6 +152,7 @@ tells r file = record {
   line_strs = (sources r file).line_strs;
   offsets = (sources r file).offsets;
   line = (sources r file).line;
+  common_strs = texts_bytes (shared r file);
   lists = (sources r file).lists;
   named = lists_named r file;
   name = name_after r file;
@@ -150,6 +167,7 @@ tells_common r = record {
   line_strs = [];
   offsets = [];
   line = lines_bytes (paths r);
+  common_strs = [];
   lists = [];
   named = [];
   name = name_after r r.common;

@@ -15,11 +15,11 @@ use Rattle.dwz_meanings.specs.Exprs.{ExprContext, Expression, SpellsExpr, parts_
 use Rattle.dwz_docs.specs.Texts.{IsSlot, IsTextAt}
 use Rattle.dwz_docs.specs.Values.{Bytes, Number, Raw, SpellsShape, SpellsValue, constant_of, shape_of, written_rows}
 use Rattle.dwz_docs.proofs.WrittenLemmas.{same_shape}
-use Rattle.dwz_writing.specs.Carried.{CameFrom, CarriedAttr, Imports, NamesLines, NumbersFile}
+use Rattle.dwz_writing.specs.Carried.{CameFrom, CarriedAttr, Imports, IsBuiltAs, NamesLines, NumbersFile}
 use Rattle.dwz_writing.specs.Bases.{Bases}
 use Rattle.dwz_writing.specs.Meant.{AttrSays, FileSays, Own, SaysAs, Tells, WasRead}
 use Rattle.dwz_writing.specs.Placing.{Chosen, Fit, as_constant, as_entry, as_file, as_read, fit_as, fit_attr, with_form, zeros}
-use Rattle.dwz_writing.specs.Sound.{HasBytes, IsBuiltAs, SoundAttr, StoresAs}
+use Rattle.dwz_writing.specs.Sound.{HasBytes, SoundAttr, StoresAs}
 use Rattle.dwz_writing.specs.Writing.{block_in, expr_bytes, pair_of, text_in}
 use Rattle.dwz_writing.proofs.ValuesMean.{not_so, plain_is, so_not}
 use Rattle.dwz_bytes.proofs.FixedLemmas.{fixed_written}
@@ -175,7 +175,7 @@ module _ {K : Type 0} (from : Sources → Type 0) (origin : Bases) (a : Attr K) 
 
   -- an attribute of a class that names no entry
   other_sound : StoresAs (class_of a.form) a → SoundAttr a
-  other_sound value = record { some_name = some_name; name_fits = name_fits; no_sibling = no_sibling; built = came.built; constant = fits_constant; value = value }
+  other_sound value = record { some_name = some_name; name_fits = name_fits; no_sibling = no_sibling; known = λ u. subst IsBuiltAs u came.built; constant = fits_constant; value = value }
 
   -- one whose form stays
   other : (c : Class) → class_of a.form ≡ c → ((f : Fit K) → fit_as c f a ≡ as_read a) → (HasBytes a old.raw → StoresAs c a) → (WasRead a → (t : Tells K) (own : Own K) → SaysAs c t own a) → Other a
@@ -245,7 +245,7 @@ module _ {K : Type 0} (from : Sources → Type 0) (origin : Bases) (a : Attr K) 
       let same = ap (λ (p : Plain). length (expr_bytes zeros 0 p a.value.refs)) (plain_is_expr m) in
       omega (arith, block, as_long, same)
 
-  by_class : (c : Class) → class_of a.form ≡ c → IsBuiltAs c a.name → MeansAs c w.scope old w.read.value → Kinds
+  by_class : (c : Class) → class_of a.form ≡ c → IsBuiltAs c → MeansAs c w.scope old w.read.value → Kinds
   by_class OfAddress e built m = inr (inr (inr (inr (inr (inr (other OfAddress e (λ f. refl) (number OfAddress e refl (λ x. cc)) (λ r t own. r)))))))
   by_class OfBlock e built m = inr (inr (inr (inr (inr (inr (other OfBlock e (λ f. refl) (content OfBlock _ e refl (sym (ap block_in (plain_of _ m)))) (λ r t own. r)))))))
   by_class OfConstant e built m = constant e (names_file a.name) refl m
@@ -355,7 +355,7 @@ lines_is a is =
         some_name = omega (arith, is.name);
         name_fits = omega (arith, is.name);
         no_sibling = λ e. omega (arith, is.name, e);
-        built = subst (λ (d : Class). IsBuiltAs d a.name) (sym class) tt;
+        known = λ u. (let no : OfOffset ≡ Unread = sym class ∙ u in cc);
         constant = λ e. absurd (omega (arith, is.form, e));
         value = subst (λ (d : Class). StoresAs d a) (sym class) bytes;
       };

@@ -25,7 +25,7 @@ use Rattle.dwz_writing.proofs.Rising.{entries_are_keys}
 use Rattle.dwz_writing.proofs.WriteLengths.{FixedUnit}
 use Rattle.dwz_seen.proofs.Members.{each_in, in_left, in_right}
 use Rattle.dwz_writing.proofs.ChosenNames.{EntriesName, NamesAll, NodeNames, SeenNames, each_fixed, entries_name, fit_all_keys, fit_entry_keys, fit_units_keys, has_in, node_names, offset_fit, unit_apart}
-use Rattle.dwz_writing.proofs.ChosenValues.{AttrAt, Good, SectionsAt, SourcesAt, TextFor, chosen, chosen_sound, common_says_it, file_good, form_is, info_says_it, refs_are, slot_good, text_good, unit_says_it}
+use Rattle.dwz_writing.proofs.ChosenValues.{AttrAt, FileAt, Good, SectionsAt, SourcesAt, TextFor, chosen, chosen_sound, common_says_it, file_good, form_is, info_says_it, refs_are, slot_good, text_good, unit_says_it}
 
 pub none_has : {K : Type 0} (same : K → K → Bool) (is : IsSame same) (k : K) (ks : List K) → In k ks → has_key same k ks ≡ false → ⊥
 unfolding has_key
@@ -160,13 +160,20 @@ module _ {K : Type 0} (f : FileFit K) (is : IsSame f.same) (from : Sources → T
 
 -- ---- the units of a file
 
+file_at : {K : Type 0} (from : Sources → Type 0) (f : Forms K) (x : Fit K) (t : Tells K) (units : List (DwUnit K)) → f.offsets ≡ x.offsets → f.shared ≡ x.shared → SectionsStand false from f t units → FileAt from x t
+file_at from f x t units offsets shared at = record {
+  sources = subst (λ (w : List ℕ). SourcesAt from w t) offsets at.1;
+  shared = at.2.strs ∙ ap texts_bytes shared;
+  few = at.2.few;
+}
+
 sections_common : {K : Type 0} (kind : Kind K) (from : Sources → Type 0) (f : Forms K) (x : Fit K) (t : Tells K) (units : List (DwUnit K)) (b : Bool) → f.texts ≡ x.texts → f.paths ≡ x.paths
-    → f.offsets ≡ x.offsets → SectionsStand b from f t units → SectionsAt (holder_of b kind) from x t
-sections_common kind from f x t units true texts paths offsets at =
+    → f.offsets ≡ x.offsets → f.shared ≡ x.shared → SectionsStand b from f t units → SectionsAt (holder_of b kind) from x t
+sections_common kind from f x t units true texts paths offsets shared at =
     record { strs = at.1.strs ∙ ap texts_bytes texts; line = at.1.line ∙ ap lines_bytes paths; few = at.1.few; are_texts = subst AreTexts paths at.1.are_texts }
-sections_common Compile from f x t units false texts paths offsets at = subst (λ (w : List ℕ). SourcesAt from w t) offsets at.1
-sections_common (OfType signature main) from f x t units false texts paths offsets at = subst (λ (w : List ℕ). SourcesAt from w t) offsets at.1
-sections_common Partial from f x t units false texts paths offsets at = subst (λ (w : List ℕ). SourcesAt from w t) offsets at.1
+sections_common Compile from f x t units false texts paths offsets shared at = file_at from f x t units offsets shared at
+sections_common (OfType signature main) from f x t units false texts paths offsets shared at = file_at from f x t units offsets shared at
+sections_common Partial from f x t units false texts paths offsets shared at = file_at from f x t units offsets shared at
 
 small_strs : {K : Type 0} (from : Sources → Type 0) (f : Forms K) (t : Tells K) (units : List (DwUnit K)) (b : Bool) → SectionsStand b from f t units → length t.strs < 2 ^ 32
 small_strs from f t units true at = at.0
@@ -234,7 +241,7 @@ module _ {K : Type 0} (f : Forms K) (is : IsSame f.same) (from : Sources → Typ
       let exprs = each_in (OperandsStand t) u units operands there in
       let texts = texts_for u from f t units f.is_common there stand in
       let h = holder_of f.is_common u.kind in
-      unit_good file is from t (small_strs from f t units f.is_common stand) u within apart inside alone (sections_common u.kind from f (unit_fit file u) t units f.is_common refl refl refl stand)
+      unit_good file is from t (small_strs from f t units f.is_common stand) u within apart inside alone (sections_common u.kind from f (unit_fit file u) t units f.is_common refl refl refl refl stand)
       own.own
       (each_in (λ v. CarriedUnit from (f.origin v.at) v) u units carried there) root below
       (join_attrs (AttrAt h f.texts f.paths (bases_in u).line (f.origin u.at).line) (AttrOperands t (own_of u)) _ (λ a p q. (p, q)) u.root.attrs

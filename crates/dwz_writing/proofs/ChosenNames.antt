@@ -1,5 +1,5 @@
 -- Choosing forms changes no name and no offset in a root, and all that is written then has a fixed length.
-use Rattle.std.proofs.Common.{◌≡◌, ◌⊎◌, Bool, true, false, List, [], ◌∷◌, ◌++◌, map, Some, None, refl, sym, ap, subst, ◌∙◌, cond, eqb, eqb-true}
+use Rattle.std.proofs.Common.{◌≡◌, ◌⊎◌, ℕ, Bool, true, false, List, [], ◌∷◌, ◌++◌, map, Some, None, refl, sym, ap, subst, ◌∙◌, cond, eqb, eqb-true}
 use Rattle.std.proofs.Math.Logic.{inl, inr}
 use Rattle.dwz_meanings.specs.Documents.{Attr, DwUnit, Entries, Node}
 use Rattle.dwz_docs.specs.Lists.{In}
@@ -9,7 +9,8 @@ use Rattle.dwz_docs.specs.Trees.{End, Entry}
 use Rattle.dwz_seen.specs.Lists.{Each}
 use Rattle.dwz_writing.specs.Bases.{offset_in}
 use Rattle.dwz_writing.specs.Meant.{Tells, all_entry_keys, entry_keys}
-use Rattle.dwz_writing.specs.Placing.{CommonUnit, FileFit, Fit, Holder, InCommon, InFile, InUnit, NewUnit, OldUnit, Reach, as_constant, as_file, as_slot, as_text, fit, fit_as, fit_attr, fit_unit, has_key, reach_of, ref_form, unit_fit, with_form}
+use Rattle.dwz_writing.specs.Placing.{CommonUnit, FileFit, Fit, Holder, InCommon, InFile, InUnit, NewUnit, OldUnit, Reach, as_constant, as_file, as_line_text, as_slot, as_strp_if, as_text, fit, fit_as, fit_attr, fit_unit, has_key, has_text, reach_of, ref_form, slot_number, unit_fit, with_form}
+use Rattle.dwz_writing.specs.Writing.{text_in}
 use Rattle.dwz_seen.specs.Shown.{keys, unit_keys, units_keys}
 use Rattle.dwz_seen.specs.Seen.{Named, Seen, all_seen, named_value, see, seen, seen_below, seen_roots}
 use Rattle.dwz_seen.specs.Lists.{NoneTwice}
@@ -34,15 +35,24 @@ same_offset x a c e other = by c where
   kept : cond (eqb a.form 0x17) (Some (reach a.raw)) None ≡ None
   kept = ap (λ (b : Bool). cond b (Some (reach a.raw)) None) other
 
+  strp : (b : Bool) (at : ℕ) → offset_in (Some (with_form a (as_strp_if b x a at))) ≡ None
+  strp true at = refl
+  strp false at = refl
+
   text : (h : Holder) → offset_in (Some (with_form a (as_text h x a))) ≡ None
   text CommonUnit = refl
-  text OldUnit = kept
-  text NewUnit = kept
+  text OldUnit = strp (has_text x.shared (text_in a.value.plain)) (reach a.raw)
+  text NewUnit = strp (has_text x.shared (text_in a.value.plain)) (reach a.raw)
+
+  line_text : (h : Holder) → offset_in (Some (with_form a (as_line_text h x a))) ≡ None
+  line_text CommonUnit = refl
+  line_text OldUnit = kept
+  line_text NewUnit = kept
 
   slots : (h : Holder) → offset_in (Some (with_form a (as_slot h x a))) ≡ None
   slots CommonUnit = refl
   slots OldUnit = kept
-  slots NewUnit = refl
+  slots NewUnit = strp (has_text x.shared (text_in a.value.plain)) (slot_number x.offsets x.origin.slots (reach a.raw))
 
   files : (h : Holder) → offset_in (Some (with_form a (as_file h x a))) ≡ None
   files CommonUnit = refl
@@ -59,7 +69,7 @@ same_offset x a c e other = by c where
   by OfInfoEntry = entry (reach_of x a.value.refs)
   by OfCommonEntry = entry (reach_of x a.value.refs)
   by OfTextInStr = text x.holder
-  by OfTextInLineStr = text x.holder
+  by OfTextInLineStr = line_text x.holder
   by OfTextBySlot = slots x.holder
   by _ = kept
 
@@ -77,17 +87,28 @@ chosen_fixed a InUnit = refl
 chosen_fixed a InFile = refl
 chosen_fixed a InCommon = refl
 
-text_fixed : {K : Type 0} (h : Holder) (f : Fit K) (a : Attr K) → FixedAs (class_of a.form) a → Fixed (with_form a (as_text h f a))
+strp_fixed : {K : Type 0} (b : Bool) (f : Fit K) (a : Attr K) (at : ℕ) → Fixed (with_form a (as_strp_if b f a at))
 unfolding class_rows class_in
-text_fixed CommonUnit f a e = tt
-text_fixed OldUnit f a e = e
-text_fixed NewUnit f a e = e
+strp_fixed true f a at = tt
+strp_fixed false f a at = tt
+
+text_fixed : {K : Type 0} (h : Holder) (f : Fit K) (a : Attr K) → Fixed (with_form a (as_text h f a))
+unfolding class_rows class_in
+text_fixed CommonUnit f a = tt
+text_fixed OldUnit f a = strp_fixed (has_text f.shared (text_in a.value.plain)) f a (reach a.raw)
+text_fixed NewUnit f a = strp_fixed (has_text f.shared (text_in a.value.plain)) f a (reach a.raw)
+
+line_text_fixed : {K : Type 0} (h : Holder) (f : Fit K) (a : Attr K) → FixedAs (class_of a.form) a → Fixed (with_form a (as_line_text h f a))
+unfolding class_rows class_in
+line_text_fixed CommonUnit f a e = tt
+line_text_fixed OldUnit f a e = e
+line_text_fixed NewUnit f a e = e
 
 slot_fixed : {K : Type 0} (h : Holder) (f : Fit K) (a : Attr K) → FixedAs (class_of a.form) a → Fixed (with_form a (as_slot h f a))
 unfolding class_rows class_in
 slot_fixed CommonUnit f a e = tt
 slot_fixed OldUnit f a e = e
-slot_fixed NewUnit f a e = tt
+slot_fixed NewUnit f a e = strp_fixed (has_text f.shared (text_in a.value.plain)) f a (slot_number f.offsets f.origin.slots (reach a.raw))
 
 file_fixed : {K : Type 0} (h : Holder) (f : Fit K) (a : Attr K) → FixedAs (class_of a.form) a → Fixed (with_form a (as_file h f a))
 unfolding class_rows class_in
@@ -105,8 +126,8 @@ attr_fixed f a = by (class_of a.form) refl where
   by OfUnitEntry e = chosen_fixed a (reach_of f a.value.refs)
   by OfInfoEntry e = chosen_fixed a (reach_of f a.value.refs)
   by OfCommonEntry e = chosen_fixed a (reach_of f a.value.refs)
-  by OfTextInStr e = text_fixed f.holder f a (subst (λ (d : Class). FixedAs d a) (sym e) tt)
-  by OfTextInLineStr e = text_fixed f.holder f a (subst (λ (d : Class). FixedAs d a) (sym e) tt)
+  by OfTextInStr e = text_fixed f.holder f a
+  by OfTextInLineStr e = line_text_fixed f.holder f a (subst (λ (d : Class). FixedAs d a) (sym e) tt)
   by OfTextBySlot e = slot_fixed f.holder f a (subst (λ (d : Class). FixedAs d a) (sym e) tt)
   by OfConstant e = constant_fixed (names_file a.name) f a (subst (λ (d : Class). FixedAs d a) (sym e) tt)
   by c e = subst (λ (d : Class). FixedAs d a) (sym e) tt

@@ -3,7 +3,7 @@ use Rattle.std.proofs.Common.{◌≡◌, ℕ, ℤ, pos, ◌<◌, ◌^◌, List, 
 use Rattle.std.proofs.Math.Logic.{inl, inr}
 use Rattle.dwz_meanings.specs.Documents.{Attr, File, Plain, Text, Value, only}
 use Rattle.dwz_docs.specs.Lists.{In}
-use Rattle.dwz_meanings.specs.Meanings.{Class, OfCommonEntry, OfConstant, OfInfoEntry, OfTextInStr, OfUnitEntry, Sources, class_in, class_of, class_rows, names_file, texts_of}
+use Rattle.dwz_meanings.specs.Meanings.{Class, OfCommonEntry, OfCommonText, OfConstant, OfInfoEntry, OfTextInLineStr, OfTextInStr, OfUnitEntry, Sources, Unread, class_in, class_of, class_rows, names_file, texts_of}
 use Rattle.dwz_bytes.specs.Spelling.{le_bytes, reach, uleb}
 use Rattle.dwz_bytes.proofs.FixedLemmas.{fixed_written}
 use Rattle.dwz_codes.specs.Forms.{form_rows}
@@ -16,8 +16,8 @@ use Rattle.dwz_seen.specs.Lists.{Each}
 use Rattle.dwz_writing.specs.Bases.{Bases}
 use Rattle.dwz_writing.specs.Carried.{AttrPaths, AttrTexts, ComesFromItself, FileStands, LineFor, PathAs, TextAs}
 use Rattle.dwz_writing.specs.Meant.{AttrSays, FileSays, Own, SaysAs, Tells, told_texts}
-use Rattle.dwz_writing.specs.Placing.{CommonUnit, Fit, Holder, InCommon, InFile, InUnit, NewUnit, OldUnit, Reach, as_file, as_slot, as_text, file_number, fit_as, fit_attr, has_key, lines_bytes, path_index, reach_by, reach_of, ref_form, slot_number, text_place, texts_bytes, with_form}
-use Rattle.dwz_writing.specs.Sound.{HasBytes, IsBuiltAs, SoundAttr, StoresAs}
+use Rattle.dwz_writing.specs.Placing.{CommonUnit, Fit, Holder, InCommon, InFile, InUnit, NewUnit, OldUnit, Reach, as_common, as_file, as_line_text, as_slot, as_strp, as_strp_if, as_text, file_number, fit_as, fit_attr, has_key, has_text, lines_bytes, path_index, reach_by, reach_of, ref_form, slot_number, text_place, texts_bytes, with_form}
+use Rattle.dwz_writing.specs.Sound.{HasBytes, SoundAttr, StoresAs}
 use Rattle.dwz_writing.proofs.Carrying.{Filed, Placed, Reference, Slotted}
 use Rattle.dwz_meanings.proofs.LinesWritten.{header_many, header_table}
 use Rattle.dwz_meanings.specs.LinesWritten.{AreTexts, with_row_0}
@@ -26,7 +26,7 @@ use Rattle.dwz_bytes.proofs.PaddedLemmas.{uleb_spells}
 use Rattle.dwz_alike.specs.Spots.{same_numbers}
 use Rattle.dwz_alike.proofs.SpotLemmas.{numbers_same}
 use Rattle.dwz_writing.specs.Writing.{or_zero, pair_of, text_in}
-use Rattle.dwz_writing.proofs.PoolLemmas.{le_are, path_numbered, pool_stands, uleb_are}
+use Rattle.dwz_writing.proofs.PoolLemmas.{le_are, path_numbered, pool_stands, text_has, uleb_are}
 use Rattle.std.proofs.lemmas.List.{length-append}
 
 -- ---- the three forms
@@ -47,25 +47,29 @@ str_class : class_of 0x0e ≡ OfTextInStr
 unfolding class_rows class_in
 str_class = refl
 
+common_text_class : class_of 0x1d ≡ OfCommonText
+unfolding class_rows class_in
+common_text_class = refl
+
 -- a reference with one of the forms
 abbrev pub chosen : {K : Type 0} → Attr K → ℕ → Attr K
 chosen a form = with_form a (record { form = form; raw = a.raw })
 
 module _ {K : Type 0} (a : Attr K) (r : Reference a) where
-  sound_as : (form : ℕ) (c : Class) → class_of form ≡ c → (form ≡ 0x21 → ⊥) → IsBuiltAs c a.name → StoresAs c (chosen a form) → SoundAttr (chosen a form)
-  sound_as form c e other built stores = record {
+  sound_as : (form : ℕ) (c : Class) → class_of form ≡ c → (form ≡ 0x21 → ⊥) → (c ≡ Unread → ⊥) → StoresAs c (chosen a form) → SoundAttr (chosen a form)
+  sound_as form c e other known stores = record {
     some_name = r.some_name;
     name_fits = r.name_fits;
     no_sibling = r.no_sibling;
-    built = subst (λ (d : Class). IsBuiltAs d a.name) (sym e) built;
+    known = λ u. known (sym e ∙ u);
     constant = λ is. absurd (other is);
     value = subst (λ (d : Class). StoresAs d (chosen a form)) (sym e) stores;
   }
 
   pub chosen_sound : (x : Reach) → SoundAttr (chosen a (ref_form x))
-  chosen_sound InUnit = sound_as 0x13 OfUnitEntry unit_class (λ e. omega (arith, e)) tt (record { form = refl; target = r.target; value = r.value })
-  chosen_sound InFile = sound_as 0x10 OfInfoEntry info_class (λ e. omega (arith, e)) tt (record { form = refl; target = r.target; value = r.value })
-  chosen_sound InCommon = sound_as 0x1c OfCommonEntry common_class (λ e. omega (arith, e)) tt (record { form = refl; target = r.target; value = r.value })
+  chosen_sound InUnit = sound_as 0x13 OfUnitEntry unit_class (λ e. omega (arith, e)) (λ u. cc) (record { form = refl; target = r.target; value = r.value })
+  chosen_sound InFile = sound_as 0x10 OfInfoEntry info_class (λ e. omega (arith, e)) (λ u. cc) (record { form = refl; target = r.target; value = r.value })
+  chosen_sound InCommon = sound_as 0x1c OfCommonEntry common_class (λ e. omega (arith, e)) (λ u. cc) (record { form = refl; target = r.target; value = r.value })
 
   pub refs_are : a.value.refs ≡ r.target ∷ []
   refs_are = ap (λ (v : Value K). v.refs) r.value
@@ -96,6 +100,18 @@ strp_bytes a x e lt = record {
   bytes = le_bytes 4 x;
   are_bytes = le_are 4 x;
   spelled = subst (λ (f : ℕ). SpellsShape (shape_of written_rows f) (constant_of (pair_of a)) (le_bytes 4 x) (Number (pos x))) (sym e) (strp_spelled (constant_of (pair_of a)) x lt);
+}
+
+-- the same in DW_FORM_strp_sup
+sup_spelled : (number : ℤ) (x : ℕ) → x < 2 ^ 32 → SpellsShape (shape_of written_rows 0x1d) number (le_bytes 4 x) (Number (pos x))
+unfolding form_rows
+sup_spelled number x lt = record { content = x; spelled = fixed_written 4 x (omega (arith, lt)); value = refl }
+
+sup_bytes : {K : Type 0} (a : Attr K) (x : ℕ) → a.form ≡ 0x1d → x < 2 ^ 32 → HasBytes a (Number (pos x))
+sup_bytes a x e lt = record {
+  bytes = le_bytes 4 x;
+  are_bytes = le_are 4 x;
+  spelled = subst (λ (f : ℕ). SpellsShape (shape_of written_rows f) (constant_of (pair_of a)) (le_bytes 4 x) (Number (pos x))) (sym e) (sup_spelled (constant_of (pair_of a)) x lt);
 }
 
 -- ---- files of the common file
@@ -148,9 +164,15 @@ pub record CommonAt {K : Type 0} (f : Fit K) (t : Tells K) : Type 0 where
   pub are_texts : AreTexts f.paths
 
 -- what is asked of sections, of a unit, and of an attribute, by what holds it
+-- those of any other file, which shares these texts of the common file
+pub record FileAt {K : Type 0} (from : Sources → Type 0) (f : Fit K) (t : Tells K) : Type 0 where
+  pub sources : SourcesAt from f.offsets t
+  pub shared : t.common_strs ≡ texts_bytes f.shared
+  pub few : length t.common_strs < 2 ^ 32
+
 abbrev pub SectionsAt : {K : Type 0} → Holder → (Sources → Type 0) → Fit K → Tells K → Type 0
 SectionsAt CommonUnit from f t = CommonAt f t
-SectionsAt _ from f t = SourcesAt from f.offsets t
+SectionsAt _ from f t = FileAt from f t
 
 abbrev pub TextFor : {K : Type 0} → Holder → (texts paths : List (List ℕ)) → Attr K → Type 0
 TextFor CommonUnit texts paths a = AttrTexts texts a × AttrPaths paths a
@@ -176,7 +198,7 @@ module _ {K : Type 0} (t : Tells K) (own : Own K) (a : Attr K) (text : List ℕ)
       some_name = sound.some_name;
       name_fits = sound.name_fits;
       no_sibling = sound.no_sibling;
-      built = subst (λ (d : Class). IsBuiltAs d a.name) (sym str_class) tt;
+      known = λ u. (let no : OfTextInStr ≡ Unread = sym str_class ∙ u in cc);
       constant = λ e. absurd (omega (arith, e));
       value = subst (λ (d : Class). StoresAs d (in_strs at)) (sym str_class) (strp_bytes (in_strs at) at refl less);
     };
@@ -184,15 +206,46 @@ module _ {K : Type 0} (t : Tells K) (own : Own K) (a : Attr K) (text : List ℕ)
   }
 
   -- a place in a section of fewer than 2^32 bytes
-  place_less : (at : ℕ) → length t.strs < 2 ^ 32 → IsTextAt t.strs at text → at < 2 ^ 32
-  place_less at small stands = omega (arith, small, ap length stands.parts, stands.length_before, length-append stands.before (stands.front ++ stands.after))
+  place_less : (section : List ℕ) (at : ℕ) → length section < 2 ^ 32 → IsTextAt section at text → at < 2 ^ 32
+  place_less section at small stands = omega (arith, small, ap length stands.parts, stands.length_before, length-append stands.before (stands.front ++ stands.after))
 
   -- among the texts of the common file
   pooled_good : (texts : List (List ℕ)) → length t.strs < 2 ^ 32 → t.strs ≡ texts_bytes texts → NoZero text → In text texts → Good t own (in_strs (text_place texts (text_in a.value.plain)))
   pooled_good texts small same none there =
       let is : text_in a.value.plain ≡ text = ap (λ (v : Value K). text_in v.plain) value in
       let stands = subst (λ (w : List ℕ). IsTextAt w (text_place texts text) text) (sym same) (pool_stands texts text there none) in
-      subst (λ (x : List ℕ). Good t own (in_strs (text_place texts x))) (sym is) (strp_good (text_place texts text) (place_less (text_place texts text) small stands) stands)
+      subst (λ (x : List ℕ). Good t own (in_strs (text_place texts x))) (sym is) (strp_good (text_place texts text) (place_less t.strs (text_place texts text) small stands) stands)
+
+  abbrev in_common : ℕ → Attr K
+  in_common at = with_form a (record { form = 0x1d; raw = pos at })
+
+  -- in DW_FORM_strp_sup, where it stands in the common file
+  sup_good : (at : ℕ) → at < 2 ^ 32 → IsTextAt t.common_strs at text → Good t own (in_common at)
+  sup_good at less stands = record {
+    sound = record {
+      some_name = sound.some_name;
+      name_fits = sound.name_fits;
+      no_sibling = sound.no_sibling;
+      known = λ u. (let no : OfCommonText ≡ Unread = sym common_text_class ∙ u in cc);
+      constant = λ e. absurd (omega (arith, e));
+      value = subst (λ (d : Class). StoresAs d (in_common at)) (sym common_text_class) (sup_bytes (in_common at) at refl less);
+    };
+    says = subst (λ (d : Class). SaysAs d t own (in_common at)) (sym common_text_class) (record { text = text; stands = stands; value = value });
+  }
+
+  -- one that stands at a place is shared, or not
+  pub shared_good : {from : Sources → Type 0} (f : Fit K) → FileAt from f t → NoZero text → (at : ℕ) → at < 2 ^ 32 → IsTextAt t.strs at text → Good t own (with_form a (as_strp f a at))
+  shared_good f file none at less stands = by (has_text f.shared (text_in a.value.plain)) refl where
+    is : text_in a.value.plain ≡ text
+    is = ap (λ (v : Value K). text_in v.plain) value
+
+    by : (b : Bool) → has_text f.shared (text_in a.value.plain) ≡ b → Good t own (with_form a (as_strp_if b f a at))
+    by true e =
+        let there : In text f.shared = text_has f.shared text (sym (ap (has_text f.shared) is) ∙ e) in
+        let there_at = subst (λ (w : List ℕ). IsTextAt w (text_place f.shared text) text) (sym file.shared) (pool_stands f.shared text there none) in
+        subst (λ (x : List ℕ). Good t own (in_common (text_place f.shared x))) (sym is)
+        (sup_good (text_place f.shared text) (place_less t.common_strs (text_place f.shared text) file.few there_at) there_at)
+    by false e = strp_good at less stands
 
   -- the text is one of these
   one_of : (texts : List (List ℕ)) → In (text_in a.value.plain) texts → In text texts
@@ -201,16 +254,20 @@ module _ {K : Type 0} (t : Tells K) (own : Own K) (a : Attr K) (text : List ℕ)
 -- ---- texts in a section
 
 module _ {K : Type 0} (from : Sources → Type 0) (t : Tells K) (small : length t.strs < 2 ^ 32) (own : Own K) (a : Attr K) (p : Placed from a) where
-  kept_good : (offsets : List ℕ) → SourcesAt from offsets t → Good t own a
-  kept_good offsets same =
+  -- in `.debug_line_str` it is as it was
+  kept_good : (offsets : List ℕ) → SourcesAt from offsets t → class_of a.form ≡ OfTextInLineStr → IsTextAt p.sources.line_strs (reach a.raw) p.text → Good t own a
+  kept_good offsets same c stands =
       let e = same p.sources p.file in
       record {
         sound = p.sound;
-        says = elim p.class [
-          | inl c ↦ subst (λ (d : Class). SaysAs d t own a) (sym c.0) (record { text = p.text; stands = subst (λ (w : List ℕ). IsTextAt w (reach a.raw) p.text) (sym e.0) c.1; value = p.value })
-          | inr c ↦ subst (λ (d : Class). SaysAs d t own a) (sym c.0) (record { text = p.text; stands = subst (λ (w : List ℕ). IsTextAt w (reach a.raw) p.text) (sym e.1) c.1; value = p.value })
-        ];
+        says = subst (λ (d : Class). SaysAs d t own a) (sym c) (record { text = p.text; stands = subst (λ (w : List ℕ). IsTextAt w (reach a.raw) p.text) (sym e.1) stands; value = p.value });
       }
+
+  -- in `.debug_str` it may be shared
+  strs_good : (f : Fit K) → FileAt from f t → IsTextAt p.sources.strs (reach a.raw) p.text → Good t own (with_form a (as_strp f a (reach a.raw)))
+  strs_good f at stands =
+      let there = subst (λ (w : List ℕ). IsTextAt w (reach a.raw) p.text) (sym (at.sources p.sources p.file).0) stands in
+      shared_good t own a p.text p.value p.sound f at stands.spelled.no_zero (reach a.raw) (place_less t own a p.text p.value p.sound t.strs (reach a.raw) small there) there
 
   text_there : (texts : List (List ℕ)) → AttrTexts texts a → In (text_in a.value.plain) texts
   text_there texts there = elim p.class [
@@ -221,17 +278,29 @@ module _ {K : Type 0} (from : Sources → Type 0) (t : Tells K) (small : length 
   no_zero : NoZero p.text
   no_zero = elim p.class [ inl c ↦ c.1.spelled.no_zero | inr c ↦ c.1.spelled.no_zero ]
 
-  as_text_is : (h : Holder) (f : Fit K) → f.holder ≡ h → fit_attr f a ≡ with_form a (as_text h f a)
-  as_text_is h f e = elim p.class [
-    | inl c ↦ ap (λ (d : Class). with_form a (fit_as d f a)) c.0 ∙ ap (λ (x : Holder). with_form a (as_text x f a)) e
-    | inr c ↦ ap (λ (d : Class). with_form a (fit_as d f a)) c.0 ∙ ap (λ (x : Holder). with_form a (as_text x f a)) e
-  ]
+  as_text_is : (h : Holder) (f : Fit K) → f.holder ≡ h → class_of a.form ≡ OfTextInStr → fit_attr f a ≡ with_form a (as_text h f a)
+  as_text_is h f e c = ap (λ (d : Class). with_form a (fit_as d f a)) c ∙ ap (λ (x : Holder). with_form a (as_text x f a)) e
+
+  as_line_text_is : (h : Holder) (f : Fit K) → f.holder ≡ h → class_of a.form ≡ OfTextInLineStr → fit_attr f a ≡ with_form a (as_line_text h f a)
+  as_line_text_is h f e c = ap (λ (d : Class). with_form a (fit_as d f a)) c ∙ ap (λ (x : Holder). with_form a (as_line_text x f a)) e
+
+  -- in the common file
+  placed_good : (f : Fit K) → CommonAt f t → TextFor CommonUnit f.texts f.paths a → Good t own (with_form a (as_common f a))
+  placed_good f at there = pooled_good t own a p.text p.value p.sound f.texts small at.strs no_zero (one_of t own a p.text p.value p.sound f.texts (text_there f.texts there.0))
 
   pub text_good : (h : Holder) (f : Fit K) → f.holder ≡ h → SectionsAt h from f t → TextFor h f.texts f.paths a → Good t own (fit_attr f a)
-  text_good CommonUnit f e at there = subst (Good t own) (sym (as_text_is CommonUnit f e))
-      (pooled_good t own a p.text p.value p.sound f.texts small at.strs no_zero (one_of t own a p.text p.value p.sound f.texts (text_there f.texts there.0)))
-  text_good OldUnit f e at there = subst (Good t own) (sym (as_text_is OldUnit f e)) (kept_good f.offsets at)
-  text_good NewUnit f e at there = subst (Good t own) (sym (as_text_is NewUnit f e)) (kept_good f.offsets at)
+  text_good CommonUnit f e at there = elim p.class [
+    | inl c ↦ subst (Good t own) (sym (as_text_is CommonUnit f e c.0)) (placed_good f at there)
+    | inr c ↦ subst (Good t own) (sym (as_line_text_is CommonUnit f e c.0)) (placed_good f at there)
+  ]
+  text_good OldUnit f e at there = elim p.class [
+    | inl c ↦ subst (Good t own) (sym (as_text_is OldUnit f e c.0)) (strs_good f at c.1)
+    | inr c ↦ subst (Good t own) (sym (as_line_text_is OldUnit f e c.0)) (kept_good f.offsets at.sources c.0 c.1)
+  ]
+  text_good NewUnit f e at there = elim p.class [
+    | inl c ↦ subst (Good t own) (sym (as_text_is NewUnit f e c.0)) (strs_good f at c.1)
+    | inr c ↦ subst (Good t own) (sym (as_line_text_is NewUnit f e c.0)) (kept_good f.offsets at.sources c.0 c.1)
+  ]
 
 -- ---- texts by slots
 
@@ -263,10 +332,11 @@ module _ {K : Type 0} (from : Sources → Type 0) (origin : Bases) (t : Tells K)
       ap (λ (o : Option ℕ). slot_number f.offsets o (reach a.raw)) base ∙ ap or_zero slot
 
   pub slot_good : (h : Holder) (f : Fit K) → f.holder ≡ h → f.origin ≡ origin → ComesFromItself h own.bases origin → SectionsAt h from f t → TextFor h f.texts f.paths a → Good t own (fit_attr f a)
-  slot_good OldUnit f e here itself at there = subst (Good t own) (sym (as_slot_is OldUnit f e)) (kept_slot f.offsets at itself)
+  slot_good OldUnit f e here itself at there = subst (Good t own) (sym (as_slot_is OldUnit f e)) (kept_slot f.offsets at.sources itself)
   slot_good NewUnit f e here itself at there =
-      let stands = stands_there f.offsets at in
-      subst (Good t own) (sym (as_slot_is NewUnit f e)) (subst (λ (n : ℕ). Good t own (in_strs t own a p.text p.value p.sound n)) (sym (number_is f here at)) (strp_good t own a p.text p.value p.sound p.offset (place_less t own a p.text p.value p.sound p.offset small stands) stands))
+      let stands = stands_there f.offsets at.sources in
+      subst (Good t own) (sym (as_slot_is NewUnit f e)) (subst (λ (n : ℕ). Good t own (with_form a (as_strp f a n))) (sym (number_is f here at.sources))
+      (shared_good t own a p.text p.value p.sound f at p.stands.spelled.no_zero p.offset (place_less t own a p.text p.value p.sound t.strs p.offset small stands) stands))
   slot_good CommonUnit f e here itself at there =
       subst (Good t own) (sym (as_slot_is CommonUnit f e)) (pooled_good t own a p.text p.value p.sound f.texts small at.strs p.stands.spelled.no_zero
       (one_of t own a p.text p.value p.sound f.texts (subst (λ (d : Class). TextAs d f.texts a) p.class there.0)))
@@ -309,7 +379,7 @@ module _ {K : Type 0} (from : Sources → Type 0) (origin : Bases) (t : Tells K)
       some_name = p.sound.some_name;
       name_fits = p.sound.name_fits;
       no_sibling = p.sound.no_sibling;
-      built = subst (λ (d : Class). IsBuiltAs d a.name) (sym udata_class) tt;
+      known = λ u. (let no : OfConstant ≡ Unread = sym udata_class ∙ u in cc);
       constant = λ e. absurd (omega (arith, e));
       value = subst (λ (d : Class). StoresAs d (numbered n)) (sym udata_class) (udata_bytes (numbered n) n refl few);
     };
@@ -349,6 +419,6 @@ module _ {K : Type 0} (from : Sources → Type 0) (origin : Bases) (t : Tells K)
 
   pub file_good : (h : Holder) (f : Fit K) → f.holder ≡ h → ComesFromItself h own.bases origin → SectionsAt h from f t → TextFor h f.texts f.paths a → FileStands h own.bases.line origin.line a
       → Good t own (fit_attr f a)
-  file_good OldUnit f e itself at there file = subst (Good t own) (sym (as_file_is OldUnit f e)) (file_told f.offsets at (ap (λ (b : Bases). b.line) itself))
-  file_good NewUnit f e itself at there file = subst (Good t own) (sym (as_file_is NewUnit f e)) (file_told f.offsets at (file p.numbers))
+  file_good OldUnit f e itself at there file = subst (Good t own) (sym (as_file_is OldUnit f e)) (file_told f.offsets at.sources (ap (λ (b : Bases). b.line) itself))
+  file_good NewUnit f e itself at there file = subst (Good t own) (sym (as_file_is NewUnit f e)) (file_told f.offsets at.sources (file p.numbers))
   file_good CommonUnit f e itself at there file = subst (Good t own) (sym (as_file_is CommonUnit f e)) (common_good f at there.1 (file p.numbers) origin.line p.says)

@@ -74,7 +74,7 @@ keeps_text texts text x there = by (has_text texts text) where
 abbrev Among : List (List ℕ) → List (List ℕ) → Type 0
 Among few many = (x : List ℕ) → In x few → In x many
 
-text_has : (texts : List (List ℕ)) (text : List ℕ) → has_text texts text ≡ true → In text texts
+pub text_has : (texts : List (List ℕ)) (text : List ℕ) → has_text texts text ≡ true → In text texts
 unfolding has_text
 text_has [] text e = absurd cc
 text_has (t ∷ texts) text e = by (λ r. text_has texts text r) (same_numbers t text) refl e where

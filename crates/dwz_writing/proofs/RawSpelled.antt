@@ -15,7 +15,7 @@ use Rattle.dwz_docs.proofs.WrittenLemmas.{value_written}
 use Rattle.dwz_seen.specs.Lists.{Each}
 use Rattle.dwz_writing.specs.Fitting.{AttrFits, EntriesFit, FitsAs, FitsInfo, FitsUnit, NodeFits, back_forms, depth}
 use Rattle.dwz_writing.specs.Placing.{Stands, zeros}
-use Rattle.dwz_writing.specs.Sound.{HasBytes, IsBuiltAs, SoundAttr, SoundEntries, SoundNode, StoresAs}
+use Rattle.dwz_writing.specs.Sound.{HasBytes, SoundAttr, SoundEntries, SoundNode, StoresAs}
 use Rattle.dwz_writing.specs.Writing.{Numbering, Shape as TableShape, any, attrs_bytes, code_bytes, code_in, coded, declaration_of, expr_bytes, first_place, if_any, node_bytes, pair_of, shape_of as entry_shape, spelled, stored, stored_as}
 use Rattle.dwz_writing.proofs.WriteLengths.{expr_len}
 use Rattle.dwz_writing.proofs.RawUnits.{code_of, raw_attrs, raw_entries, raw_entry}
@@ -55,22 +55,22 @@ module _ {K : Type 0} (n : Numbering K) (unit : ℕ) where
   first_info [] fits = omega arith
   first_info (k ∷ refs) fits = fits.0
 
-  as_spelled : (c : Class) (a : Attr K) → IsBuiltAs c a.name → StoresAs c a → FitsAs c n unit a → SpellsValue written_rows (pair_of a) (value_bytes a.form (stored_as c n unit a)) (stored_as c n unit a)
-  as_spelled OfUnitEntry a built s fits = rw s.form (ref4_spelled _ _ (first_unit a.value.refs fits))
-  as_spelled OfInfoEntry a built s fits = rw s.form (ref_addr_spelled _ _ (first_info a.value.refs fits))
-  as_spelled OfCommonEntry a built s fits = rw s.form (ref_sup4_spelled (pos 0) _ (first_info a.value.refs fits))
-  as_spelled OfExpression a built s fits =
+  as_spelled : (c : Class) (a : Attr K) → StoresAs c a → FitsAs c n unit a → SpellsValue written_rows (pair_of a) (value_bytes a.form (stored_as c n unit a)) (stored_as c n unit a)
+  as_spelled OfUnitEntry a s fits = rw s.form (ref4_spelled _ _ (first_unit a.value.refs fits))
+  as_spelled OfInfoEntry a s fits = rw s.form (ref_addr_spelled _ _ (first_info a.value.refs fits))
+  as_spelled OfCommonEntry a s fits = rw s.form (ref_sup4_spelled (pos 0) _ (first_info a.value.refs fits))
+  as_spelled OfExpression a s fits =
       let same = expr_len zeros n 0 unit a.value.plain a.value.refs in
       let short = s.short in
       rw s.form (exprloc_spelled _ (expr_bytes n unit a.value.plain a.value.refs) (omega (arith, same, short)))
-  as_spelled c a built s fits = has_spelled a _ s
+  as_spelled c a s fits = has_spelled a _ s
 
   pub attrs_spelled : (attrs : List (Attr K)) (at : ℕ) → Each SoundAttr attrs → Each (AttrFits n unit) attrs → SpellsAttrs written_rows (map pair_of attrs) (raw_attrs n unit at attrs) at (attrs_bytes n unit attrs)
   unfolding attrs_bytes raw_attrs
   attrs_spelled [] at s fits = refl
   attrs_spelled (a ∷ attrs) at s fits = record {
     first_bytes = value_bytes a.form (stored n unit a);
-    first = record { place = refl; end = refl; same = refl; value = as_spelled (class_of a.form) a s.0.built s.0.value fits.0 };
+    first = record { place = refl; end = refl; same = refl; value = as_spelled (class_of a.form) a s.0.value fits.0 };
     second_bytes = attrs_bytes n unit attrs;
     second = attrs_spelled attrs _ s.1 fits.1;
     parts = refl;

@@ -1,6 +1,7 @@
 -- What a scope has, where a unit that was written is read.
-use Rattle.std.proofs.Common.{◌≡◌, ℕ, map, Some}
+use Rattle.std.proofs.Common.{◌≡◌, ℕ, List, map, Some}
 use Rattle.dwz_docs.specs.Lists.{In}
+use Rattle.dwz_docs.specs.Texts.{IsTextAt}
 use Rattle.dwz_meanings.specs.Meanings.{Common, Scope, loclists_base, stmt_list, str_offsets_base}
 use Rattle.dwz_writing.specs.Meant.{AreRenumbered, Own, Tells}
 use Rattle.dwz_meanings.specs.Shared.{NoneShared}
@@ -12,6 +13,7 @@ pub record IsScope {K P : Type 0} (n : Numbering K) (g : K → P) (at : ℕ) (t 
   pub line_strs : s.around.sources.line_strs ≡ t.line_strs
   pub offsets : s.around.sources.offsets ≡ t.offsets
   pub line : s.around.sources.line ≡ t.line
+  pub common_strs : (at : ℕ) (text : List ℕ) → IsTextAt t.common_strs at text → (c : Common P) × (s.around.common ≡ Some c) × IsTextAt c.strs at text
   pub slots : str_offsets_base s ≡ own.bases.slots
   pub table : stmt_list s ≡ own.bases.line
   pub lists_base : loclists_base s ≡ own.bases.lists

@@ -36,7 +36,7 @@ all_stay n unit (a ∷ attrs) at sound =
 
 module _ {K P : Type 0} (n : Numbering K) (g : K → P) (unit : ℕ) (t : Tells K) (own : Own K) (s : Scope P) (is : IsScope n g unit t own s) where
   attr_means : (a : Attr K) (at end : ℕ) → SoundAttr a → AttrFits n unit a → AttrSays t own a → MeansAttr s (record { at = at; end = end; pair = pair_of a; raw = stored n unit a }) (placed_attr n g unit a)
-  attr_means a at end sound fits says = record { name = refl; form = refl; raw = refl; value = as_means n g unit t own s is (class_of a.form) a at end refl sound.built sound.value fits says }
+  attr_means a at end sound fits says = record { name = refl; form = refl; raw = refl; value = as_means n g unit t own s is (class_of a.form) a at end refl sound.known sound.value fits says }
 
   attrs_mean : (attrs : List (Attr K)) (at : ℕ) → Each SoundAttr attrs → Each (AttrFits n unit) attrs → Each (AttrSays t own) attrs → MeanAttrs s (raw_attrs n unit at attrs) (map (placed_attr n g unit) attrs)
   unfolding raw_attrs
@@ -116,6 +116,7 @@ module _ {K P : Type 0} (n : Numbering K) (g : K → P) (tables : List (List ℕ
     line_strs = is.line_strs;
     offsets = is.offsets;
     line = is.line;
+    common_strs = is.common_strs;
     slots = base_raw n (n.place u.at) 0x72 u.root.attrs _;
     table = base_raw n (n.place u.at) 0x10 u.root.attrs _;
     lists_base = base_raw n (n.place u.at) 0x8c u.root.attrs _;

@@ -4,13 +4,13 @@ use Rattle.dwz_bytes.specs.Spelling.{reach}
 use Rattle.dwz_meanings.specs.Documents.{Addr, Attr, Block, Flag, Index, Num, Plain, Sec, Sig, Text, Value, only, ref, value_map}
 use Rattle.dwz_docs.specs.Entries.{RawAttr}
 use Rattle.dwz_docs.specs.Lists.{In}
-use Rattle.dwz_meanings.specs.Meanings.{Class, IfSo, IsEntryAmong, IsFileBy, IsLocList, IsTextBySlot, IsTextIn, MeansAs, OfAddress, OfBlock, OfCommonEntry, OfCommonText, OfConstant, OfExpression, OfFlag, OfIndex, OfInfoEntry, OfListIndex, OfOffset, OfSignature, OfText, OfTextBySlot, OfTextInLineStr, OfTextInStr, OfUnitEntry, Scope, Unread, bytes_of, class_of, kept_width, names_file, names_list, number_of, stmt_list}
+use Rattle.dwz_meanings.specs.Meanings.{Class, IfSo, IsCommonText, IsEntryAmong, IsFileBy, IsLocList, IsTextBySlot, IsTextIn, MeansAs, OfAddress, OfBlock, OfCommonEntry, OfCommonText, OfConstant, OfExpression, OfFlag, OfIndex, OfInfoEntry, OfListIndex, OfOffset, OfSignature, OfText, OfTextBySlot, OfTextInLineStr, OfTextInStr, OfUnitEntry, Scope, Unread, bytes_of, class_of, kept_width, names_file, names_list, number_of, stmt_list}
 use Rattle.dwz_meanings.specs.LineTables.{IsFileTable}
 use Rattle.dwz_docs.specs.Texts.{IsSlot, IsTextAt}
 use Rattle.dwz_seen.specs.Lists.{Each}
 use Rattle.dwz_writing.specs.Fitting.{FitsAs, FitsUnit}
 use Rattle.dwz_writing.specs.Meant.{FileSays, ListSays, Own, SaysAs, SlotSays, Tells, TextSays, WasRead, told_texts}
-use Rattle.dwz_writing.specs.Sound.{IsBuiltAs, StoresAs}
+use Rattle.dwz_writing.specs.Sound.{StoresAs}
 use Rattle.dwz_writing.specs.Writing.{Numbering, block_in, first_place, pair_of, stored_as, text_in}
 use Rattle.dwz_seen.proofs.Members.{in_map}
 use Rattle.dwz_writing.proofs.ExprMeans.{expr_means}
@@ -107,6 +107,12 @@ module _ {K P : Type 0} (n : Numbering K) (g : K → P) (unit : ℕ) (t : Tells 
     };
   }
 
+  -- a text of the common file
+  common_text_means : (a : Attr K) → TextSays t.common_strs a → IsCommonText s (reach a.raw) (value_map g a.value)
+  common_text_means a says =
+      let there = is.common_strs (reach a.raw) says.text says.stands in
+      (there.0, there.1, record { text = says.text; stands = there.2; value = ap (λ (w : Value K). value_map g w) says.value })
+
   -- a file, by the line table of the unit
   file_means : (a : Attr K) → FileSays (told_texts t) t.line own.bases.line a → IsFileBy (stmt_list s) s a.raw (value_map g a.value)
   file_means a says = subst (λ (o : Option ℕ). IsFileBy o s a.raw (value_map g a.value)) (sym is.table) (by own.bases.line says) where
@@ -129,13 +135,13 @@ module _ {K P : Type 0} (n : Numbering K) (g : K → P) (unit : ℕ) (t : Tells 
       let value' : value_map g a.value ≡ ref (g k) = ap (λ (w : Value K). value_map g w) value in
       (subst (λ (q : ℕ). In q places) here among, value' ∙ ap (λ (q : P). ref q) (sym at) ∙ ap (λ (q : ℕ). ref (place q)) here)
 
-  pub as_means : (c : Class) (a : Attr K) (at end : ℕ) → class_of a.form ≡ c → IsBuiltAs c a.name → StoresAs c a → FitsAs c n unit a → SaysAs c t own a → MeansAs c s (stored_at c n unit a at end) (value_map g a.value)
-  as_means OfAddress a at end e built stores fits says = (let r = read_of OfAddress a e says in kept g a r.named r.value _ r.same r.means ∙ ap (λ (z : ℤ). only (Addr (reach z))) r.number)
-  as_means OfBlock a at end e built stores fits says =
+  pub as_means : (c : Class) (a : Attr K) (at end : ℕ) → class_of a.form ≡ c → (class_of a.form ≡ Unread → ⊥) → StoresAs c a → FitsAs c n unit a → SaysAs c t own a → MeansAs c s (stored_at c n unit a at end) (value_map g a.value)
+  as_means OfAddress a at end e known stores fits says = (let r = read_of OfAddress a e says in kept g a r.named r.value _ r.same r.means ∙ ap (λ (z : ℤ). only (Addr (reach z))) r.number)
+  as_means OfBlock a at end e known stores fits says =
       let r = read_of OfBlock a e says in
       let p : Plain = Block (bytes_of r.old.raw) in
       kept g a r.named r.value p r.same r.means ∙ ap (λ (q : Plain). only (Block (block_in q))) (sym (plain_is a r.named r.value p r.same r.means))
-  as_means OfConstant a at end e built stores fits says = by (names_file a.name) refl says where
+  as_means OfConstant a at end e known stores fits says = by (names_file a.name) refl says where
     by : (b : Bool) → names_file a.name ≡ b → IfSo b (FileSays (told_texts t) t.line own.bases.line a) (WasRead a)
         → IfSo b (IsFileBy (stmt_list s) s a.raw (value_map g a.value)) (value_map g a.value ≡ only (Num (kept_width a.name a.form (reach a.raw)) a.raw))
     by true names f = file_means a f
@@ -143,26 +149,26 @@ module _ {K P : Type 0} (n : Numbering K) (g : K → P) (unit : ℕ) (t : Tells 
         let r = read_of OfConstant a e w in
         let means = not_so (names_file r.old.pair.name) _ _ (ap names_file r.name ∙ names) r.means in
         kept g a r.named r.value _ r.same means ∙ ap (λ (p : Plain). only p) (same_number _ _ _ _ _ _ r.name r.form r.number)
-  as_means OfFlag a at end e built stores fits says = (let r = read_of OfFlag a e says in kept g a r.named r.value _ r.same r.means ∙ ap (λ (p : Plain). only p) (same_flag _ _ _ _ r.form r.number))
-  as_means OfText a at end e built stores fits says =
+  as_means OfFlag a at end e known stores fits says = (let r = read_of OfFlag a e says in kept g a r.named r.value _ r.same r.means ∙ ap (λ (p : Plain). only p) (same_flag _ _ _ _ r.form r.number))
+  as_means OfText a at end e known stores fits says =
       let r = read_of OfText a e says in
       let p : Plain = Text (bytes_of r.old.raw) in
       kept g a r.named r.value p r.same r.means ∙ ap (λ (q : Plain). only (Text (text_in q))) (sym (plain_is a r.named r.value p r.same r.means))
-  as_means OfTextInStr a at end e built stores fits says = text_means t.strs s.around.sources.strs a is.strs says
-  as_means OfTextInLineStr a at end e built stores fits says = text_means t.line_strs s.around.sources.line_strs a is.line_strs says
-  as_means OfTextBySlot a at end e built stores fits says = slot_means a says
-  as_means OfUnitEntry a at end e built stores fits says =
+  as_means OfTextInStr a at end e known stores fits says = text_means t.strs s.around.sources.strs a is.strs says
+  as_means OfTextInLineStr a at end e known stores fits says = text_means t.line_strs s.around.sources.line_strs a is.line_strs says
+  as_means OfTextBySlot a at end e known stores fits says = slot_means a says
+  as_means OfUnitEntry a at end e known stores fits says =
       let refs : a.value.refs ≡ stores.target ∷ [] = ap (λ (w : Value K). w.refs) stores.value in
       let f = (subst (Each (FitsUnit n unit)) refs fits).0 in
       let there = (subst (Each (λ k. In k own.keys)) refs says).0 in
       let first : first_place n a.value.refs ≡ n.place stores.target = ap (first_place n) refs in
       let place : n.place stores.target ≡ s.unit + (first_place n a.value.refs - unit) = omega (arith, first, is.unit, f.0) in
       names s.around.place a stores.target own.keys s.own _ stores.value there is.own_are place (is.place_own stores.target there)
-  as_means OfInfoEntry a at end e built stores fits says =
+  as_means OfInfoEntry a at end e known stores fits says =
       let refs : a.value.refs ≡ stores.target ∷ [] = ap (λ (w : Value K). w.refs) stores.value in
       let there = (subst (Each (λ k. In k t.all)) refs says).0 in
       names s.around.place a stores.target t.all s.around.all _ stores.value there is.all_are (sym (ap (first_place n) refs)) (is.place_all stores.target there)
-  as_means OfCommonEntry a at end e built stores fits says =
+  as_means OfCommonEntry a at end e known stores fits says =
       let refs : a.value.refs ≡ stores.target ∷ [] = ap (λ (w : Value K). w.refs) stores.value in
       let there = (subst (Each (λ k. In k t.common)) refs says).0 in
       let c = is.common stores.target there in
@@ -170,8 +176,8 @@ module _ {K P : Type 0} (n : Numbering K) (g : K → P) (unit : ℕ) (t : Tells 
       let value : value_map g a.value ≡ ref (g stores.target) = ap (λ (w : Value K). value_map g w) stores.value in
       let among : In (first_place n a.value.refs) c.0.entries = subst (λ (q : ℕ). In q c.0.entries) at c.2 in
       (c.0, c.1, (among, value ∙ ap (λ (q : P). ref q) (sym c.3) ∙ ap (λ (q : ℕ). ref (c.0.place q)) at))
-  as_means OfSignature a at end e built stores fits says = (let r = read_of OfSignature a e says in kept g a r.named r.value _ r.same r.means ∙ ap (λ (z : ℤ). only (Sig (reach z))) r.number)
-  as_means OfOffset a at end e built stores fits says = by (names_list a.name) refl says where
+  as_means OfSignature a at end e known stores fits says = (let r = read_of OfSignature a e says in kept g a r.named r.value _ r.same r.means ∙ ap (λ (z : ℤ). only (Sig (reach z))) r.number)
+  as_means OfOffset a at end e known stores fits says = by (names_list a.name) refl says where
     by : (b : Bool) → names_list a.name ≡ b → IfSo b (ListSays t own a) (a.value ≡ only (Sec (reach a.raw)))
         → IfSo b (IsLocList s (reach a.raw) (value_map g a.value)) (value_map g a.value ≡ only (Sec (reach a.raw)))
     by true names says =
@@ -179,10 +185,10 @@ module _ {K P : Type 0} (n : Numbering K) (g : K → P) (unit : ℕ) (t : Tells 
         let as_offset = subst (λ (c : Class). MeansAs c s (stored_at OfOffset n unit a at end) (value_map g a.value)) e means in
         so_true (names_list a.name) _ _ names as_offset)
     by false names says = ap (λ (w : Value K). value_map g w) says
-  as_means OfExpression a at end e built stores fits says = expr_means n g unit t own s is a at end fits says
-  as_means OfListIndex a at end e built stores fits says =
+  as_means OfExpression a at end e known stores fits says = expr_means n g unit t own s is a at end fits says
+  as_means OfListIndex a at end e known stores fits says =
       subst (λ (c : Class). MeansAs c s (stored_at OfListIndex n unit a at end) (value_map g a.value)) e
       (list_means n g unit t own s is a says fits (stored_at OfListIndex n unit a at end) refl refl refl)
-  as_means OfIndex a at end e built stores fits says = (let r = read_of OfIndex a e says in kept g a r.named r.value _ r.same r.means ∙ ap (λ (z : ℤ). only (Index (reach z))) r.number)
-  as_means OfCommonText a at end e built stores fits says = absurd built
-  as_means Unread a at end e built stores fits says = absurd built
+  as_means OfIndex a at end e known stores fits says = (let r = read_of OfIndex a e says in kept g a r.named r.value _ r.same r.means ∙ ap (λ (z : ℤ). only (Index (reach z))) r.number)
+  as_means OfCommonText a at end e known stores fits says = common_text_means a says
+  as_means Unread a at end e known stores fits says = absurd (known e)

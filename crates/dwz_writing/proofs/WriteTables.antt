@@ -1,5 +1,5 @@
 -- Tables by first use: each is spelled, and stands where it is looked for.
-use Rattle.std.proofs.Common.{◌≡◌, ℕ, ℤ, pos, suc, ◌+◌, ◌<◌, ◌≤◌, ◌^◌, ◌⊎◌, Bool, true, false, List, [], ◌∷◌, ◌++◌, length, map, Option, Some, None, refl, sym, ap, subst, ◌∙◌, append_assoc, arith, cond, eqb, eqb-true, ltb, ne_eqb}
+use Rattle.std.proofs.Common.{◌≡◌, ◌≢◌, ℕ, ℤ, pos, suc, ◌+◌, ◌<◌, ◌≤◌, ◌^◌, ◌⊎◌, Bool, true, false, List, [], ◌∷◌, ◌++◌, length, map, Option, Some, None, refl, sym, ap, subst, ◌∙◌, append_assoc, arith, cond, eqb, eqb-true, ltb, ne_eqb}
 use Rattle.std.specs.Prelude.{MatchBool}
 use Rattle.std.proofs.Math.Logic.{inl, inr}
 use Rattle.std.proofs.lemmas.Bool.{ltb-true}
@@ -11,11 +11,11 @@ use Rattle.dwz_bytes.proofs.SignedLemmas.{sleb_spells}
 use Rattle.dwz_docs.specs.Abbrevs.{Declaration, EndsPairs, EndsTable, IsDeclared, IsPair, SpellsDeclaration, SpellsPair, SpellsTable, constant_bytes, declaration_bytes, find_decl, pair_bytes, pairs_bytes, table_bytes}
 use Rattle.dwz_meanings.specs.Documents.{Attr, DwUnit, Entries, Node}
 use Rattle.dwz_docs.specs.Lists.{SpellsItems}
-use Rattle.dwz_meanings.specs.Meanings.{Class, ClassRow, Unread, class_in, class_rows}
+use Rattle.dwz_meanings.specs.Meanings.{Class, ClassRow, Unread, class_in, class_of, class_rows}
 use Rattle.dwz_docs.specs.Parts.{StandsAt}
 use Rattle.dwz_docs.specs.Trees.{End, Entry, size}
 use Rattle.dwz_seen.specs.Lists.{Each}
-use Rattle.dwz_writing.specs.Sound.{IsBuilt, IsBuiltAs, SoundAttr, SoundEntries, SoundNode, SoundUnit}
+use Rattle.dwz_writing.specs.Sound.{SoundAttr, SoundEntries, SoundNode, SoundUnit}
 use Rattle.dwz_alike.specs.Spots.{same_numbers}
 use Rattle.dwz_writing.specs.Writing.{Shape, abbrevs_of, add_table, coded, declaration_of, joined, pair_of, shape_of, table_in, table_of, tables_of, with_table}
 use Rattle.dwz_alike.proofs.SpotLemmas.{numbers_same, numbers_true}
@@ -233,9 +233,9 @@ class_range (r ∷ rows) form e =
       go t rest true e = let same = eqb-true r.form form e in inr (omega (arith, ltb-true 0 r.form t.0), omega (arith, ltb-true r.form 0x10000 t.1))
       go t rest false e = rest
 
-pub form_range : (form name : ℕ) → IsBuilt form name → (0 < form) × (form ≤ 0xffff)
-form_range form name built = elim (class_range class_rows form rows_in_range) [
-  | inl e ↦ absurd (subst (λ (c : Class). IsBuiltAs c name) e built)
+pub form_range : (form : ℕ) → class_of form ≢ Unread → (0 < form) × (form ≤ 0xffff)
+form_range form known = elim (class_range class_rows form rows_in_range) [
+  | inl e ↦ absurd (known e)
   | inr h ↦ h
 ]
 
@@ -246,7 +246,7 @@ module _ {K : Type 0} where
 
   good_pair : (a : Attr K) → SoundAttr a → GoodPair (pair_of a)
   good_pair a s =
-      let r = form_range a.form a.name s.built in
+      let r = form_range a.form s.known in
       record { some_name = s.some_name; name_fits = s.name_fits; some_form = r.0; form_fits = r.1; constant = good_constant a s (eqb a.form 0x21) refl }
 
   good_pairs : (attrs : List (Attr K)) → Each SoundAttr attrs → Each GoodPair (map pair_of attrs)

@@ -7,7 +7,7 @@ use Rattle.dwz_meanings.specs.LinesWritten.{AreTexts}
 use Rattle.dwz_docs.specs.ElfLayout.{too_large}
 use Rattle.dwz_docs.specs.Entries.{RawAttr}
 use Rattle.dwz_docs.specs.Lists.{In}
-use Rattle.dwz_meanings.specs.Meanings.{Class, IfSo, OfConstant, OfExpression, OfListIndex, OfOffset, OfTextBySlot, OfTextInLineStr, OfTextInStr, Sources, class_of, names_file, names_list}
+use Rattle.dwz_meanings.specs.Meanings.{Class, IfSo, OfCommonText, OfConstant, OfExpression, OfListIndex, OfOffset, OfTextBySlot, OfTextInLineStr, OfTextInStr, Sources, Unread, class_of, names_file, names_list}
 use Rattle.dwz_docs.specs.Trees.{End, Entry}
 use Rattle.dwz_docs.specs.Values.{AreBytes, SpellsValue}
 use Rattle.dwz_seen.specs.Lists.{Each}
@@ -18,7 +18,7 @@ use Rattle.dwz_writing.specs.Fitting.{EachAttr}
 use Rattle.dwz_writing.specs.Placing.{CommonUnit, Forms, Holder, NewUnit, OldUnit, holder_of, lines_bytes, texts_bytes}
 use Rattle.dwz_writing.specs.Writing.{text_in}
 use Rattle.dwz_writing.specs.Meant.{KindSays, ListSays, OperandsIn, Own, Tells, WasRead, entry_keys, own_of}
-use Rattle.dwz_writing.specs.Sound.{IsBuilt, SoundKind}
+use Rattle.dwz_writing.specs.Sound.{SoundKind}
 
 -- where an attribute may have been read: in the file with these sections, or in any file
 abbrev pub OfFile : Sources → Sources → Type 0
@@ -26,6 +26,15 @@ OfFile sources s = s ≡ sources
 
 abbrev pub OfAny : Sources → Type 0
 OfAny s = Unit {0}
+
+-- which attributes are carried: not those that name a text of a common file
+abbrev pub IsBuiltAs : Class → Type 0
+IsBuiltAs OfCommonText = ⊥
+IsBuiltAs Unread = ⊥
+IsBuiltAs _ = Unit {0}
+
+abbrev pub IsBuilt : ℕ → Type 0
+IsBuilt form = IsBuiltAs (class_of form)
 
 -- an attribute other than DW_AT_sibling, as a file stores it: its name and form stand in a declaration, and bytes spell its value
 pub record IsStored (old : RawAttr) : Type 0 where
@@ -42,7 +51,7 @@ pub record CameFrom {K : Type 0} (from : Sources → Type 0) (origin : Bases) (a
   pub file : from was_read.scope.around.sources
   pub unit : bases_of was_read.scope ≡ origin
   pub stored : IsStored was_read.old
-  pub built : IsBuilt a.form a.name
+  pub built : IsBuilt a.form
 
 -- DW_AT_import, which names an entry of any unit
 pub record Imports {K : Type 0} (a : Attr K) : Type 0 where
@@ -82,7 +91,7 @@ pub record CarriedUnit {K : Type 0} (from : Sources → Type 0) (origin : Bases)
 -- ---- what is read is carried, where its attributes are among those that are written
 
 abbrev pub BuiltAttr : {K : Type 0} → Attr K → Type 0
-BuiltAttr a = IsBuilt a.form a.name
+BuiltAttr a = IsBuilt a.form
 
 abbrev pub BuiltEntries : {K : Type 0} → Entries K → Type 0
 BuiltEntries End = Unit {0}
@@ -135,12 +144,18 @@ pub record CommonStands {K : Type 0} (f : Forms K) (t : Tells K) (units : List (
   pub are_texts : AreTexts f.paths
   pub paths : Each (UnitPaths f.paths) units
 
--- the sections of a file are those that were read; or they are those of the common file
+-- the texts that a file shares are those of the common file
+pub record SharedStand {K : Type 0} (f : Forms K) (t : Tells K) : Type 0 where
+  pub strs : t.common_strs ≡ texts_bytes f.shared
+  pub few : length t.common_strs < 2 ^ 32
+
+-- the sections of a file are those that were read, and it shares texts of the common file; or they are those of the common file
 abbrev pub SectionsStand : {K : Type 0} → Bool → (Sources → Type 0) → Forms K → Tells K → List (DwUnit K) → Type 0
 SectionsStand true from f t units = (length t.strs < 2 ^ 32) × CommonStands f t units
 SectionsStand false from f t units =
     (length t.strs < 2 ^ 32)
     × ((s : Sources) → from s → (t.strs ≡ s.strs) × (t.line_strs ≡ s.line_strs) × (t.offsets ≡ s.offsets) × (t.line ≡ s.line) × (f.offsets ≡ s.offsets))
+    × SharedStand f t
 
 -- the attribute numbers a file of the line table
 abbrev pub NumbersFile : {K : Type 0} → Attr K → Type 0

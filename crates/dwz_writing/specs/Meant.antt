@@ -3,7 +3,7 @@ use Rattle.std.specs.Prelude.{◌≡◌, ℕ, ◌+◌, ◌-◌, pos, List, [], �
 use Rattle.dwz_meanings.specs.Documents.{Attr, Compile, DwUnit, Entries, Expr, File, Kind, Loc, Node, OfType, Part, Partial, Same, Sec, Text, attr_map, kind_map, only, value_map}
 use Rattle.dwz_docs.specs.Entries.{Mode, RawAttr}
 use Rattle.dwz_docs.specs.Lists.{In}
-use Rattle.dwz_meanings.specs.Meanings.{Around, Class, Common, IfSo, MeanUnits, MeansAttr, OfCommonEntry, OfConstant, OfExpression, OfInfoEntry, OfListIndex, OfOffset, OfTextBySlot, OfTextInLineStr, OfTextInStr, OfUnitEntry, Scope, all_places, class_of, loclists_base, names_file, names_list, number_of, path_by}
+use Rattle.dwz_meanings.specs.Meanings.{Around, Class, Common, IfSo, MeanUnits, MeansAttr, OfCommonEntry, OfCommonText, OfConstant, OfExpression, OfInfoEntry, OfListIndex, OfOffset, OfTextBySlot, OfTextInLineStr, OfTextInStr, OfUnitEntry, Scope, all_places, class_of, loclists_base, names_file, names_list, number_of, path_by}
 use Rattle.dwz_model.specs.declared.place.Base.{Base}
 use Rattle.dwz_model.specs.declared.place.Base.TheVariants.{Unit as FromUnit, Info as FromInfo}
 use Rattle.dwz_meanings.specs.Documents as document
@@ -61,13 +61,15 @@ pub record WasRead {K : Type 0} (a : Attr K) : Type 0 where
   pub name : ℕ → K
   pub same : a ≡ attr_map name read
 
--- What units are written for: the sections that they speak of; `.debug_loclists` as it was read, the lists that units named there, and
--- the names after of places before; the keys of all entries of the file, and of those of the common file.
+-- What units are written for: the sections that they speak of, and what of `.debug_str` of the common file they speak of;
+-- `.debug_loclists` as it was read, the lists that units named there, and the names after of places before; the keys of all entries of the
+-- file, and of those of the common file.
 pub record Tells (K : Type 0) : Type 0 where
   pub strs : List ℕ
   pub line_strs : List ℕ
   pub offsets : List ℕ
   pub line : List ℕ
+  pub common_strs : List ℕ
   pub lists : List ℕ
   pub named : List NamedList
   pub name : ℕ → K
@@ -176,6 +178,7 @@ SaysAs OfTextBySlot t own a = SlotSays t own.bases.slots a
 SaysAs OfExpression t own a = ExprSays t own a
 SaysAs OfOffset t own a = IfSo (names_list a.name) (ListSays t own a) (a.value ≡ only (Sec (reach a.raw)))
 SaysAs OfListIndex t own a = ListSays t own a
+SaysAs OfCommonText t own a = TextSays t.common_strs a
 SaysAs OfConstant t own a = IfSo (names_file a.name) (FileSays (told_texts t) t.line own.bases.line a) (WasRead a)
 SaysAs _ t own a = WasRead a
 
@@ -215,13 +218,14 @@ pub record AreRenumbered {K : Type 0} (n : Numbering K) (t : Tells K) (new : Lis
   pub are : (l : NamedList) → In l t.named → (o : Operand) → In o (own_operands l) → number o.at ≡ number_after n t.name l.unit o
   pub patched : IsPatched t.named number t.lists new
 
--- The file's own places, and those that the common file gives, are where its keys stand; its sections are those that are spoken of, and
--- its location lists, which shared nothing, have the numbers of where things stand.
+-- The file's own places, and those that the common file gives, are where its keys stand; its sections are those that are spoken of, the
+-- common file has the texts that are, and location lists, which shared nothing, have the numbers of where things stand.
 pub record IsAround {K P : Type 0} (n : Numbering K) (g : K → P) (t : Tells K) (keys : List K) (around : Around P) : Type 0 where
   pub strs : around.sources.strs ≡ t.strs
   pub line_strs : around.sources.line_strs ≡ t.line_strs
   pub offsets : around.sources.offsets ≡ t.offsets
   pub line : around.sources.line ≡ t.line
+  pub common_strs : (at : ℕ) (text : List ℕ) → IsTextAt t.common_strs at text → (c : Common P) × (around.common ≡ Some c) × IsTextAt c.strs at text
   pub none_shared : NoneShared t.named
   pub lists : AreRenumbered n t around.sources.lists
   pub all : around.all ≡ map n.place t.all

@@ -95,13 +95,15 @@ holder_of false Partial = NewUnit
 holder_of false _ = OldUnit
 
 -- What forms are chosen by: a test of keys; the keys of the unit and of its file; what holds the unit; the texts of the common file and
--- the paths of its line table, in order; the slots of the file, and what is known of the unit that values come from.
+-- the paths of its line table, in order; the texts that the file shares with it, which are those of the common file where the file imports
+-- from it; the slots of the file, and what is known of the unit that values come from.
 pub record Fit (K : Type 0) : Type 0 where
   pub same : K → K → Bool
   pub own : List K
   pub file : List K
   pub holder : Holder
   pub texts : List (List ℕ)
+  pub shared : List (List ℕ)
   pub paths : List (List ℕ)
   pub offsets : List ℕ
   pub origin : Bases
@@ -144,21 +146,43 @@ unfoldable pub text_place : List (List ℕ) → List ℕ → ℕ
 text_place [] text = 0
 text_place (t ∷ texts) text = elim (same_numbers t text) as (λ _. ℕ) [ true ↦ 0 | false ↦ length t + 1 + text_place texts text ]
 
--- a text is as it was read, or in the common file DW_FORM_strp, with its place in `.debug_str`
+unfoldable pub has_text : List (List ℕ) → List ℕ → Bool
+has_text [] text = false
+has_text (t ∷ texts) text = elim (same_numbers t text) as (λ _. Bool) [ true ↦ true | false ↦ has_text texts text ]
+
+-- a text of the common file: DW_FORM_strp, with its place in `.debug_str`
+abbrev pub as_common : {K : Type 0} → Fit K → Attr K → Chosen
+as_common f a = record { form = 0x0e; raw = pos (text_place f.texts (text_in a.value.plain)) }
+
+-- a text of a file that stands at an offset of `.debug_str`: where it is shared DW_FORM_strp_sup, with its place in that of the common file;
+-- and else DW_FORM_strp
+abbrev pub as_strp_if : {K : Type 0} → Bool → Fit K → Attr K → ℕ → Chosen
+as_strp_if true f a at = record { form = 0x1d; raw = pos (text_place f.shared (text_in a.value.plain)) }
+as_strp_if false f a at = record { form = 0x0e; raw = pos at }
+
+abbrev pub as_strp : {K : Type 0} → Fit K → Attr K → ℕ → Chosen
+as_strp f a at = as_strp_if (has_text f.shared (text_in a.value.plain)) f a at
+
+-- a text in `.debug_str`, at the offset that was read
 abbrev pub as_text : {K : Type 0} → Holder → Fit K → Attr K → Chosen
-as_text CommonUnit f a = record { form = 0x0e; raw = pos (text_place f.texts (text_in a.value.plain)) }
-as_text _ f a = as_read a
+as_text CommonUnit f a = as_common f a
+as_text _ f a = as_strp f a (reach a.raw)
+
+-- a text in `.debug_line_str` is as it was read
+abbrev pub as_line_text : {K : Type 0} → Holder → Fit K → Attr K → Chosen
+as_line_text CommonUnit f a = as_common f a
+as_line_text _ f a = as_read a
 
 -- the number in a slot
 abbrev pub slot_number : List ℕ → Option ℕ → ℕ → ℕ
 slot_number offsets None index = 0
 slot_number offsets (Some base) index = or_zero (slot offsets base index)
 
--- a text by its slot is as it was read; in a partial unit, which has no base, it is DW_FORM_strp, with the offset that is in the slot
+-- a text by its slot is as it was read; in a partial unit, which has no base, it is a text at the offset that is in the slot
 abbrev pub as_slot : {K : Type 0} → Holder → Fit K → Attr K → Chosen
 as_slot OldUnit f a = as_read a
-as_slot NewUnit f a = record { form = 0x0e; raw = pos (slot_number f.offsets f.origin.slots (reach a.raw)) }
-as_slot CommonUnit f a = as_text CommonUnit f a
+as_slot NewUnit f a = as_strp f a (slot_number f.offsets f.origin.slots (reach a.raw))
+as_slot CommonUnit f a = as_common f a
 
 -- where a path is among paths
 unfoldable pub path_index : List (List ℕ) → List ℕ → ℕ
@@ -186,7 +210,7 @@ fit_as OfUnitEntry f a = as_entry f a
 fit_as OfInfoEntry f a = as_entry f a
 fit_as OfCommonEntry f a = as_entry f a
 fit_as OfTextInStr f a = as_text f.holder f a
-fit_as OfTextInLineStr f a = as_text f.holder f a
+fit_as OfTextInLineStr f a = as_line_text f.holder f a
 fit_as OfTextBySlot f a = as_slot f.holder f a
 fit_as _ f a = as_read a
 
@@ -203,12 +227,13 @@ unfoldable pub fit : {K : Type 0} → Fit K → Entries K → Entries K
 fit f End = End
 fit f (Entry e children next) = Entry (fit_node f e) (fit f children) (fit f next)
 
--- what is known of a file: whether it is the common file; the texts and paths of the common file; its slots; and by the key of each unit
--- what is known of the unit that its values come from
+-- what is known of a file: whether it is the common file; the texts and paths of the common file, and the texts that the file shares with
+-- it; its slots; and by the key of each unit what is known of the unit that its values come from
 pub record Forms (K : Type 0) : Type 0 where
   pub same : K → K → Bool
   pub is_common : Bool
   pub texts : List (List ℕ)
+  pub shared : List (List ℕ)
   pub paths : List (List ℕ)
   pub offsets : List ℕ
   pub origin : K → Bases
@@ -218,6 +243,7 @@ pub record FileFit (K : Type 0) : Type 0 where
   pub same : K → K → Bool
   pub is_common : Bool
   pub texts : List (List ℕ)
+  pub shared : List (List ℕ)
   pub paths : List (List ℕ)
   pub offsets : List ℕ
   pub origin : K → Bases
@@ -228,6 +254,7 @@ with_keys f keys = record {
   same = f.same;
   is_common = f.is_common;
   texts = f.texts;
+  shared = f.shared;
   paths = f.paths;
   offsets = f.offsets;
   origin = f.origin;
@@ -241,6 +268,7 @@ unit_fit f u = record {
   file = f.keys;
   holder = holder_of f.is_common u.kind;
   texts = f.texts;
+  shared = f.shared;
   paths = f.paths;
   offsets = f.offsets;
   origin = f.origin u.at;
@@ -258,10 +286,6 @@ fit_units f units = map (fit_unit (with_keys f (units_keys units))) units
 abbrev pub add_unless : Bool → List (List ℕ) → List ℕ → List (List ℕ)
 add_unless true texts text = texts
 add_unless false texts text = texts ++ text ∷ []
-
-unfoldable pub has_text : List (List ℕ) → List ℕ → Bool
-has_text [] text = false
-has_text (t ∷ texts) text = elim (same_numbers t text) as (λ _. Bool) [ true ↦ true | false ↦ has_text texts text ]
 
 abbrev pub with_text : List (List ℕ) → List ℕ → List (List ℕ)
 with_text texts text = add_unless (has_text texts text) texts text

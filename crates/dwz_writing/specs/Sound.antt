@@ -2,21 +2,12 @@
 use Rattle.std.specs.Prelude.{◌≡◌, ◌≢◌, ℕ, ◌<◌, ◌≤◌, ◌^◌, true, List, length}
 use Rattle.dwz_bytes.specs.Spelling.{fits_i64}
 use Rattle.dwz_meanings.specs.Documents.{Attr, Compile, DwUnit, Entries, Kind, Node, OfType, Partial, ref}
-use Rattle.dwz_meanings.specs.Meanings.{Class, OfCommonEntry, OfCommonText, OfExpression, OfInfoEntry, OfUnitEntry, Unread, class_of}
+use Rattle.dwz_meanings.specs.Meanings.{Class, OfCommonEntry, OfExpression, OfInfoEntry, OfUnitEntry, Unread, class_of}
 use Rattle.dwz_docs.specs.Trees.{End, Entry}
 use Rattle.dwz_docs.specs.Values.{AreBytes, Raw, SpellsValue, written_rows}
 use Rattle.dwz_seen.specs.Lists.{Each}
 use Rattle.dwz_writing.specs.Placing.{zeros}
 use Rattle.dwz_writing.specs.Writing.{expr_bytes, pair_of, stored_as}
-
--- which attributes are written: not those that name a text of a common file
-abbrev pub IsBuiltAs : Class → ℕ → Type 0
-IsBuiltAs OfCommonText name = ⊥
-IsBuiltAs Unread name = ⊥
-IsBuiltAs _ name = Unit {0}
-
-abbrev pub IsBuilt : ℕ → ℕ → Type 0
-IsBuilt form name = IsBuiltAs (class_of form) name
 
 -- some bytes spell what the attribute stores, in its form
 pub record HasBytes {K : Type 0} (a : Attr K) (raw : Raw) : Type 0 where
@@ -44,12 +35,12 @@ StoresAs OfCommonEntry a = NamesEntry 0x1c a
 StoresAs OfExpression a = StoresExpr a
 StoresAs c a = HasBytes a (stored_as c zeros 0 a)
 
--- an attribute other than DW_AT_sibling, as a declaration and an entry hold it
+-- an attribute other than DW_AT_sibling, as a declaration and an entry hold it, of a form that is read
 pub record SoundAttr {K : Type 0} (a : Attr K) : Type 0 where
   pub some_name : 0 < a.name
   pub name_fits : a.name ≤ 0xffff
   pub no_sibling : a.name ≢ 0x01
-  pub built : IsBuilt a.form a.name
+  pub known : class_of a.form ≢ Unread
   pub constant : a.form ≡ 0x21 → fits_i64 a.raw ≡ true
   pub value : StoresAs (class_of a.form) a
 

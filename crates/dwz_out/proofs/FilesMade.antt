@@ -1,20 +1,19 @@
 -- The file that is made of one that reads holds its new sections, and reads back.
-use Rattle.std.proofs.Common.{◌≡◌, ℕ, ◌<◌, ◌≤◌, true, List, [], ◌∷◌, length, Option, Some, None, unwrap_or, refl, sym, ap, subst, ◌∙◌, inl, inr}
+use Rattle.std.proofs.Common.{◌≡◌, ℕ, ◌<◌, true, List, [], ◌∷◌, length, Option, Some, None, unwrap_or, refl, sym, ap, subst, ◌∙◌, inl, inr}
 use Rattle.std.proofs.lemmas.Bool.{cases_lt}
 use Rattle.dwz_model.specs.declared.fault.Fault.{Fault}
 use Rattle.dwz_model.specs.declared.sections.Sections.{Sections}
 use Rattle.dwz_docs.specs.ElfLayout.{layout_fault, rebuilt_length, too_large}
 use Rattle.dwz_docs.specs.ElfReading.{elf_of}
-use Rattle.dwz_docs.specs.Lists.{In}
 use Rattle.dwz_docs.specs.Units.{RawUnit, SpellsUnits}
 use Rattle.dwz_meanings.specs.Documents.{Doc}
 use Rattle.dwz_docs.specs.Entries.{given}
-use Rattle.dwz_meanings.specs.Files.{debug_abbrev, debug_aranges, debug_info, section_of, sources_of}
+use Rattle.dwz_meanings.specs.Files.{debug_abbrev, debug_aranges, debug_info, section_of}
 use Rattle.dwz_meanings.specs.Meanings.{Sources}
 use Rattle.dwz_rebuilt.specs.Changed.{CanGiveAll, changes_by}
 use Rattle.dwz_rebuilt.specs.Rebuilt.{CanBeMade}
 use Rattle.dwz_rebuilt.proofs.ChangedLemmas.{abbrevs_after, can_change, info_after, sources_are}
-use Rattle.dwz_rebuilt.proofs.ChangedLemmas as changed
+use Rattle.dwz_rebuilt.proofs.ChangedLemmas as after_changes
 use Rattle.dwz_rebuilt.proofs.RebuiltLemmas.{back, sections_short}
 use Rattle.dwz_same.specs.Units.{changes}
 use Rattle.dwz_writing.specs.Meant.{AreRenumbered}
@@ -23,7 +22,7 @@ use Rattle.dwz_back.specs.AllFiles.{IsRead}
 use Rattle.dwz_back.specs.Files.{AreRanged, HasSections, Run, places, sections_of, sources, tells}
 use Rattle.dwz_out.specs.Contents.{lists_after, ranges_after, sections_after}
 use Rattle.dwz_out.specs.FilesAfter.{changes_after, file_after, order_of, sup_after}
-use Rattle.dwz_out.specs.Refusals.{FileFault, FirstNarrow, IsLargeSection, OfFirst, OrElse, SectionsFault, spoken, too_large_at}
+use Rattle.dwz_out.specs.Refusals.{FileFault, FirstNarrow, IsLargeFile, IsLargeSection, IsUnplaced, OfFirst, OrElse, SectionsFault, spoken, too_large_at}
 use Rattle.dwz_out.specs.Contents.{listed}
 use Rattle.dwz_out.proofs.FreeLemmas.{Nothing, is_short, not_first, not_then}
 use Rattle.dwz_out.proofs.GivenSections.{can_give, can_give_other, other_is, reads_sound, some_bytes}
@@ -72,12 +71,6 @@ module _ (name : List ℕ) (r : Run) (file : ℕ) (doc : Doc ℕ) (read : IsRead
       is_short (changes_by s None).new none_large (record { code = 2; bytes = s.abbrev }) (inr (inl refl)),
     )
 
-    abbrev Layout : Fault → Type 0
-    Layout = λ g. layout_fault (elf_of input) (changes_after name r file) ≡ Some g
-
-    abbrev Large : Fault → Type 0
-    Large = λ g. (g ≡ too_large_at 0) × (too_large ≤ rebuilt_length (elf_of input) (changes_after name r file) input (order_of (elf_of input)))
-
     layout_none : (o : Option Fault) → ((f : Fault) → o ≡ Some f → ⊥) → o ≡ None
     layout_none None free = refl
     layout_none (Some f) free = absurd (free f refl)
@@ -86,11 +79,11 @@ module _ (name : List ℕ) (r : Run) (file : ℕ) (doc : Doc ℕ) (read : IsRead
     can_be_made = record {
       reads = reads_sound read.limits input (r.input.raw file) doc read.reads;
       can_change = can_change input s (sup_after name r file) can_give_all;
-      fits = layout_none (layout_fault (elf_of input) (changes_after name r file)) (not_first Layout Large (λ f is. file_free f (changed, is)));
+      fits = layout_none (layout_fault (elf_of input) (changes_after name r file)) (not_first (IsUnplaced name r file) (IsLargeFile name r file) (λ f is. file_free f (changed, is)));
       is_order = is_order (elf_of input);
       small = elim (cases_lt (rebuilt_length (elf_of input) (changes_after name r file) input (order_of (elf_of input))) too_large) [
         | inl less ↦ less
-        | inr large ↦ absurd (not_then Layout Large (λ f is. file_free f (changed, is)) (too_large_at 0) (refl, large))
+        | inr large ↦ absurd (not_then (IsUnplaced name r file) (IsLargeFile name r file) (λ f is. file_free f (changed, is)) (too_large_at 0) (refl, large))
       ];
     }
 
@@ -112,11 +105,11 @@ module _ (name : List ℕ) (r : Run) (file : ℕ) (doc : Doc ℕ) (read : IsRead
           line = ap (λ (x : Sources). x.line) all;
           lists = subst (AreRenumbered (places r) (tells r file)) (sym (ap (λ (x : Sources). x.lists) all ∙ other_is (sources r file).lists (lists_after r file))) (lists_made r file doc read);
           ranges = subst (AreRanged r file)
-              (sym (changed.ranges_after input s (sup_after name r file) (order_of (elf_of input)) can_be_made ∙ other_is (debug_aranges input) (ranges_after r file))) (ranges_made r file read.reads.ranges);
+              (sym (after_changes.ranges_after input s (sup_after name r file) (order_of (elf_of input)) can_be_made ∙ other_is (debug_aranges input) (ranges_after r file))) (ranges_made r file read.reads.ranges);
           small = sections_short input (changes_after name r file) (order_of (elf_of input)) can_be_made 3;
         }
 
     -- and what `.debug_sup` says
     pub has_sup : section_of out 9 ≡ unwrap_or (sup_after name r file) (section_of input 9)
     unfolding file_after
-    has_sup = changed.sup_after input s (sup_after name r file) (order_of (elf_of input)) can_be_made
+    has_sup = after_changes.sup_after input s (sup_after name r file) (order_of (elf_of input)) can_be_made

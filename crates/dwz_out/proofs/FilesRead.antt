@@ -1,5 +1,5 @@
 -- Contents that read, file by file, with the units as they are stored.
-use Rattle.std.proofs.Common.{◌≡◌, ℕ, zero, suc, ◌+◌, List, [], ◌∷◌, drop, get_or, Option, Some, None, Result, Ok, Err, refl, sym, ap, subst, ◌∙◌, inl, inr, arith}
+use Rattle.std.proofs.Common.{◌≡◌, ℕ, zero, suc, ◌+◌, List, [], ◌∷◌, drop, get_or, Option, Some, None, Result, Ok, Err, sym, ap, subst, inl, inr, arith}
 use Rattle.dwz_model.specs.declared.fault.Fault.{Fault}
 use Rattle.dwz_docs.specs.ElfNames.{sections_in}
 use Rattle.dwz_docs.specs.ElfReading.{bytes_in, section_range}
@@ -7,7 +7,7 @@ use Rattle.dwz_docs.specs.Units.{RawUnit}
 use Rattle.dwz_docs.specs.Values.{AreBytes}
 use Rattle.dwz_docs.proofs.WrittenLemmas.{drop_bytes}
 use Rattle.dwz_meanings.specs.Documents.{Doc}
-use Rattle.dwz_meanings.specs.Files.{Limits, ReadAll, Reads, debug_info, file_meaning, limits_after, no_files_before, section_of}
+use Rattle.dwz_meanings.specs.Files.{Limits, ReadAll, Reads, limits_after, no_files_before, section_of}
 use Rattle.dwz_meanings.proofs.FileLemmas.{file_agrees}
 use Rattle.dwz_seen.specs.Lists.{Each, Nth}
 use Rattle.dwz_writing.proofs.ReadAgain.{take_bytes}
@@ -45,7 +45,7 @@ read_at l [] (d ∷ docs) s all are n doc nth = absurd all
 read_at l (bytes ∷ files) [] s all are n doc nth = absurd all
 read_at l (bytes ∷ files) (d ∷ docs) s all are n doc (inl e) = record {
   index = 0;
-  is_index = sym e.0 ∙ omega arith;
+  is_index = let same = e.0 in omega (arith, same);
   read = subst (λ (raw : List (List RawUnit)). IsRead bytes (get_or raw 0 []) doc) (sym (raws_by l bytes files all.0 d all.1))
       (subst (IsRead bytes all.0) e.1 (record { limits = l; reads = all.1; are_bytes = section_bytes bytes 1 are.0 }));
 }
@@ -61,7 +61,8 @@ read_at l (bytes ∷ files) (d ∷ docs) s all are n doc (inr later) =
 pub are_read : (contents : List (List ℕ)) (docs : List (Doc ℕ)) → ReadAll no_files_before contents docs → Each AreBytes contents → AreRead (stored_of contents) docs
 are_read contents docs all are file doc nth =
     let o = read_at no_files_before contents docs 0 all are file doc nth in
-    let at : o.index ≡ file = sym o.is_index ∙ omega arith in
+    let is = o.is_index in
+    let at : o.index ≡ file = omega (arith, is) in
     at_index o.index file at o.read where
       at_index : (k n : ℕ) → k ≡ n → IsRead (get_or contents k []) (get_or (raws no_files_before contents) k []) doc → IsRead (get_or contents n []) (get_or (raws no_files_before contents) n []) doc
       at_index k n e r = subst (λ (x : ℕ). IsRead (get_or contents x []) (get_or (raws no_files_before contents) x []) doc) e r

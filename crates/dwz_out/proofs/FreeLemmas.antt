@@ -1,5 +1,5 @@
 -- What holds where no refusal is the first.
-use Rattle.std.proofs.Common.{◌≡◌, ℕ, ◌<◌, ◌≤◌, List, [], ◌∷◌, length, refl, subst, inl, inr}
+use Rattle.std.proofs.Common.{◌<◌, List, [], ◌∷◌, length, refl, subst, inl, inr}
 use Rattle.std.proofs.lemmas.Bool.{cases_lt}
 use Rattle.dwz_docs.specs.declared.elf.NewContent.{NewContent}
 use Rattle.dwz_docs.specs.ElfLayout.{too_large}

@@ -1,0 +1,13 @@
+pub mod Orders
+pub mod OperandNumbers
+pub mod ListsWritten
+pub mod ListsStand
+pub mod GivenSections
+pub mod FreeLemmas
+pub mod OneRefusal
+pub mod OneOutcome
+pub mod FilesRead
+pub mod SectionsMade
+pub mod FilesMade
+pub mod CommonMade
+pub mod AllMade

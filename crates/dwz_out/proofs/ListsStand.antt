@@ -1,7 +1,6 @@
 -- The location lists that units name stand in the section.
-use Rattle.std.proofs.Common.{◌≡◌, ℕ, List, [], ◌∷◌, Some, None, sym, subst, ◌+◌, inl, inr}
+use Rattle.std.proofs.Common.{ℕ, List, [], ◌∷◌, Option, Some, None, sym, subst, ◌+◌, inl, inr}
 use Rattle.dwz_docs.specs.Entries.{RawAttr, RawEntry}
-use Rattle.dwz_docs.specs.Lists.{In}
 use Rattle.dwz_docs.specs.Texts.{slot_place}
 use Rattle.dwz_docs.specs.Trees.{End, Entry, Forest}
 use Rattle.dwz_docs.specs.Units.{RawUnit}
@@ -12,7 +11,6 @@ use Rattle.dwz_meanings.specs.NamedLists.{AnyEntryNames, AnyNames, AnyUnitNames,
 use Rattle.dwz_meanings.specs.Sequences.{StandsFrom}
 use Rattle.dwz_meanings.specs.Shared.{NamedList}
 use Rattle.dwz_meanings.proofs.NamedLemmas.{units_name}
-use Rattle.std.specs.Option.{Option}
 use Rattle.dwz_out.proofs.ListsWritten.{AllStand}
 
 module _ {P : Type 0} (s : Scope P) (l : NamedList) where

@@ -1,23 +1,22 @@
 -- Numbers that are written over the operands of lists that share nothing, in whatever order, leave a section that is patched; and there is
 -- just one such section.
-use Rattle.std.proofs.Common.{◌≡◌, ◌⊎◌, ℕ, zero, suc, ◌+◌, ◌-◌, ◌<◌, ◌≤◌, Bool, true, false, List, [], ◌∷◌, ◌++◌, length, take, drop, get_or, set, map, refl, sym, ap, subst, ◌∙◌, inl, inr, arith, eqb, eq-eqb, eqb-true, ltb}
+use Rattle.std.proofs.Common.{◌≡◌, ◌⊎◌, ℕ, zero, suc, ◌+◌, ◌-◌, ◌<◌, ◌≤◌, Bool, true, false, List, [], ◌∷◌, ◌++◌, length, take, drop, get_or, set, map, refl, sym, ap, subst, ◌∙◌, inl, inr, arith, eqb, eq-eqb, eqb-true}
 use Rattle.std.proofs.Math.ListN.{length-set}
 use Rattle.std.proofs.lemmas.Bool.{cases_lt}
 use Rattle.std.proofs.lemmas.List.{ext_get_or, get_or-drop, get_or-set_other, get_or-set_same, get_or-take, length-drop, length-take-le}
 use Rattle.dwz_docs.specs.Lists.{In}
-use Rattle.dwz_model.specs.declared.place.Base.{Base}
 use Rattle.dwz_meanings.specs.declared.exprs.Operand.{Operand}
 use Rattle.dwz_meanings.specs.Exprs.{ExprContext}
 use Rattle.dwz_meanings.specs.LocLists.{SpellsList}
 use Rattle.dwz_meanings.specs.PatchedLists.{IsPatched, with_number, with_operands}
 use Rattle.dwz_meanings.specs.Patching.{number_bytes, written_at}
 use Rattle.dwz_meanings.specs.Sequences.{StandsFrom}
-use Rattle.dwz_meanings.specs.Shared.{Clashes, HasByte, IsSame, ListOperand, NamedList, NoneShared, has_byte, is_same, of_unit, operands_in_lists, own_operands}
+use Rattle.dwz_meanings.specs.Shared.{HasByte, IsSame, ListOperand, NamedList, NoneShared, has_byte, is_same, of_unit, operands_in_lists, own_operands}
 use Rattle.dwz_meanings.proofs.CutLemmas.{number_len}
 use Rattle.dwz_meanings.proofs.NamedAgain.{in_map, map_in}
 use Rattle.dwz_meanings.proofs.SharedLemmas.{has_decides, same_decides}
 use Rattle.dwz_meanings.proofs.WriteOver.{written_len}
-use Rattle.dwz_out.proofs.OperandNumbers.{IsWithin, number_stands, operand_within, value_of}
+use Rattle.dwz_out.proofs.OperandNumbers.{number_stands, operand_within, value_of}
 
 -- ---- bytes written over others
 
@@ -70,35 +69,35 @@ over_byte : (os : List Operand) (bytes : List ℕ) → ((o : Operand) → In o o
 unfolding with_operands
 over_byte [] bytes within b = inr (λ o there has. absurd there, refl)
 over_byte (o ∷ os) bytes within b = elim (over_byte os first (λ p there. (let end = within p (inr there) in omega (arith, end, written_len o.at (spelled o) bytes))) b) [
-    | inl is ↦ inl (record { operand = is.operand; there = inr is.there; has = is.has; value_is = is.value_is })
-    | inr none ↦ by none (has_byte b o) refl
-  ] where
-    first : List ℕ
-    first = written_at o.at (spelled o) bytes
+  | inl is ↦ inl (record { operand = is.operand; there = inr is.there; has = is.has; value_is = is.value_is })
+  | inr none ↦ by none (has_byte b o) refl
+] where
+  first : List ℕ
+  first = written_at o.at (spelled o) bytes
 
-    by : IsOfNone os b × (get_or (with_operands os first) b 0 ≡ get_or first b 0) → (t : Bool) → has_byte b o ≡ t
-        → IsOf (o ∷ os) b (get_or (with_operands os first) b 0) ⊎ (IsOfNone (o ∷ os) b × (get_or (with_operands os first) b 0 ≡ get_or bytes b 0))
-    by none true e =
-        let has = (has_decides b o).yes e in
-        let low = has.0 in
-        let high = has.1 in
-        let place : o.at + (b - o.at) ≡ b = omega (arith, low) in
-        let len = spelled_len o in
-        let end = within o (inl refl) in
-        inl (record {
-          operand = o;
-          there = inl refl;
-          has = has;
-          value_is = none.1 ∙ ap (λ (n : ℕ). get_or first n 0) (sym place) ∙ written_in o.at (spelled o) bytes (b - o.at) (omega (arith, low, high, len)) (omega (arith, len, end));
-        })
-    by none false e =
-        let lacks = (has_decides b o).no e in
-        let len = spelled_len o in
-        let out : (b < o.at) ⊎ (o.at + length (spelled o) ≤ b) = elim (cases_lt b o.at) [
-          | inl before ↦ inl before
-          | inr from ↦ elim (cases_lt b (o.at + o.width)) [ inl to ↦ absurd (lacks (from, to)) | inr behind ↦ inr (omega (arith, behind, len)) ]
-        ] in
-        inr (λ p there has. elim there [ inl same ↦ lacks (subst (λ (q : Operand). HasByte q b) (sym same) has) | inr later ↦ none.0 p later has ], none.1 ∙ written_out o.at (spelled o) bytes b out)
+  by : IsOfNone os b × (get_or (with_operands os first) b 0 ≡ get_or first b 0) → (t : Bool) → has_byte b o ≡ t
+      → IsOf (o ∷ os) b (get_or (with_operands os first) b 0) ⊎ (IsOfNone (o ∷ os) b × (get_or (with_operands os first) b 0 ≡ get_or bytes b 0))
+  by none true e =
+      let has = (has_decides b o).yes e in
+      let low = has.0 in
+      let high = has.1 in
+      let place : o.at + (b - o.at) ≡ b = omega (arith, low) in
+      let len = spelled_len o in
+      let end = within o (inl refl) in
+      inl (record {
+        operand = o;
+        there = inl refl;
+        has = has;
+        value_is = none.1 ∙ ap (λ (n : ℕ). get_or first n 0) (sym place) ∙ written_in o.at (spelled o) bytes (b - o.at) (omega (arith, low, high, len)) (omega (arith, len, end));
+      })
+  by none false e =
+      let lacks = (has_decides b o).no e in
+      let len = spelled_len o in
+      let out : (b < o.at) ⊎ (o.at + length (spelled o) ≤ b) = elim (cases_lt b o.at) [
+        | inl before ↦ inl before
+        | inr from ↦ elim (cases_lt b (o.at + o.width)) [ inl to ↦ absurd (lacks (from, to)) | inr behind ↦ inr (omega (arith, behind, len)) ]
+      ] in
+      inr (λ p there has. elim there [ inl same ↦ lacks (subst (λ (q : Operand). HasByte q b) (sym same) has) | inr later ↦ none.0 p later has ], none.1 ∙ written_out o.at (spelled o) bytes b out)
 
 -- ---- the operands of lists
 

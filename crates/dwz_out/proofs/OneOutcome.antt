@@ -1,13 +1,12 @@
 -- Of options and contents at most one thing comes.
-use Rattle.std.proofs.Common.{◌≡◌, ℕ, List, Ok, Err, sym, ap, subst, ◌∙◌, inl, inr}
+use Rattle.std.proofs.Common.{◌≡◌, ℕ, List, sym, ap, subst, ◌∙◌, inl, inr}
 use Rattle.dwz_model.specs.declared.fault.Refusal.{Refusal}
 use Rattle.dwz_meanings.specs.Documents.{Doc}
 use Rattle.dwz_meanings.specs.Files.{First, ReadAll, no_files_before}
 use Rattle.dwz_meanings.proofs.FileLemmas.{files_agree}
 use Rattle.dwz_words.specs.declared.options.Options.{Options}
-use Rattle.dwz_course.specs.declared.output.Output.{Output}
 use Rattle.dwz_course.specs.Outcome.{Outcome, refuses, writes}
-use Rattle.dwz_out.specs.Out.{IsWritten, Out, output_of, run_for, sup_name}
+use Rattle.dwz_out.specs.Out.{Out, output_of, run_for, sup_name}
 use Rattle.dwz_out.specs.Refusals.{OutFault}
 use Rattle.dwz_out.proofs.OneRefusal.{one_refusal}
 

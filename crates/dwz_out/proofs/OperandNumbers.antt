@@ -1,13 +1,13 @@
 -- The number of an operand of a location list is the one that stands at its place, so operands at one place have one number.
-use Rattle.std.proofs.Common.{◌≡◌, ◌⊎◌, ℕ, zero, suc, ◌+◌, ◌-◌, ◌<◌, ◌≤◌, Bool, true, false, cond, eqb, List, [], ◌∷◌, ◌++◌, length, take, drop, refl, sym, ap, subst, ◌∙◌, inl, inr, arith, append-nil}
+use Rattle.std.proofs.Common.{◌≡◌, ℕ, zero, suc, ◌+◌, ◌-◌, ◌<◌, ◌≤◌, Bool, true, false, cond, eqb, List, [], ◌∷◌, ◌++◌, length, take, drop, sym, ap, subst, ◌∙◌, inl, inr, arith, append-nil}
 use Rattle.std.proofs.lemmas.List.{drop-append-le, length-append, length-drop, take-append-le, take_all}
-use Rattle.std.proofs.Math.Seq.{drop-append-add, drop-append_seam, take-append_seam}
-use Rattle.dwz_bytes.specs.Spelling.{SpellsFixed, SpellsUleb, groups_value, le_value}
+use Rattle.std.proofs.Math.Seq.{drop-append-add}
+use Rattle.dwz_bytes.specs.Spelling.{SpellsUleb, groups_value, le_value}
 use Rattle.dwz_model.specs.declared.place.Base.{Base}
 use Rattle.dwz_model.specs.declared.place.Base.TheVariants.{Unit as FromUnit}
 use Rattle.dwz_docs.specs.Lists.{In}
 use Rattle.dwz_meanings.specs.declared.exprs.Operand.{Operand}
-use Rattle.dwz_meanings.specs.Exprs.{AnAddress, Counted, Entry4, EntryOrGeneric, EntryUleb, ExprContext, Expression, Field, Found, Holds, Inside, Located, LocatedBy, Names, Run, Signed, Sized, SpellsExpr, SpellsField, SpellsFields, SpellsOp, SpellsWithin, Unsigned, an_operand, an_operand_or_generic, joined, most_inside, operands_in}
+use Rattle.dwz_meanings.specs.Exprs.{AnAddress, Counted, Entry4, EntryOrGeneric, EntryUleb, ExprContext, Expression, Field, Found, Holds, Inside, Located, LocatedBy, Run, Signed, Sized, SpellsExpr, SpellsField, SpellsFields, SpellsOp, SpellsWithin, Unsigned, an_operand, an_operand_or_generic, joined, most_inside, operands_in}
 use Rattle.dwz_meanings.specs.LocLists.{EndsList, LocList, SpellsList, SpellsListEntry}
 use Rattle.dwz_meanings.specs.Sequences.{Spelling, SpellsAll, SpellsRow, StandsFrom}
 use Rattle.dwz_meanings.specs.Shared.{operands_of}

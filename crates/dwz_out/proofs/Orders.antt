@@ -94,7 +94,6 @@ one_order (x ∷ xs) (y ∷ ys) one other same =
     let rest = one_order xs ys one.1 other.1 (same_rest x y xs ys first same) in
     ap (λ (k : Key). k ∷ xs) first ∙ ap (λ (ks : List Key). y ∷ ks) rest
 
-
 pub same_order : (e : ElfView) (a b : List Key) → IsOrder e a → IsOrder e b → a ≡ b
 same_order e a b one other =
     one_order a b (ascend a one.ascends) (ascend b other.ascends) (λ f. sum_by-IsPermutation f _ a one.same ∙ sym (sum_by-IsPermutation f _ b other.same))

@@ -1,18 +1,15 @@
 -- Numbers that are changed in place: what is asked of `.debug_loclists` and of `.debug_aranges` holds of the bytes that are written, and of
 -- no others.
-use Rattle.std.proofs.Common.{◌≡◌, ℕ, ◌+◌, ◌-◌, List, [], ◌∷◌, length, map, Ok, Err, refl, sym, ap, subst, ◌∙◌}
+use Rattle.std.proofs.Common.{◌≡◌, ℕ, ◌+◌, ◌-◌, List, [], ◌∷◌, length, map, refl, sym, ap, subst, ◌∙◌}
 use Rattle.dwz_bytes.specs.Input.{input}
 use Rattle.dwz_bytes.specs.Spelling.{le_bytes}
 use Rattle.dwz_docs.specs.Lists.{In}
-use Rattle.dwz_docs.specs.Units.{RawUnit}
 use Rattle.dwz_model.specs.declared.place.Base.{Base}
-use Rattle.dwz_meanings.specs.declared.exprs.Operand.{Operand}
 use Rattle.dwz_meanings.specs.Documents.{Doc}
-use Rattle.dwz_meanings.specs.Files.{HaveGoodRanges, around_of, debug_aranges, is_place_of, sets_said}
-use Rattle.dwz_meanings.specs.PatchedLists.{with_operands}
+use Rattle.dwz_meanings.specs.Files.{HaveGoodRanges, around_of, debug_aranges, is_place_of}
 use Rattle.dwz_meanings.specs.Patching.{with_units, written_at}
 use Rattle.dwz_meanings.specs.Ranges.{RangeSet, SpellsSets}
-use Rattle.dwz_meanings.specs.Shared.{ListOperand, NamedList, NoneShared, of_unit, own_operands}
+use Rattle.dwz_meanings.specs.Shared.{ListOperand, NoneShared, of_unit}
 use Rattle.dwz_meanings.proofs.PassLemmas.{own_in}
 use Rattle.dwz_meanings.proofs.RangeLemmas.{sets_agree}
 use Rattle.dwz_meanings.proofs.WriteOver.{written_len}

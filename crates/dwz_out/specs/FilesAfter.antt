@@ -1,5 +1,5 @@
 -- The bytes of each file after: the file that was read with its new sections, and the common file.
-use Rattle.std.specs.Prelude.{◌≡◌, ℕ, Bool, true, false, List, [], ◌∷◌, Option, Some, None, ◌==◌, ◌&&◌, if◌then◌else◌}
+use Rattle.std.specs.Prelude.{ℕ, Bool, true, false, List, [], ◌∷◌, Option, Some, None, if◌then◌else◌}
 use Rattle.std.specs.List.{list_any}
 use Rattle.std.specs.Ordering.{is_lt, nat_cmp, ordering_then}
 use Rattle.dwz_docs.specs.declared.supplementary.Sup.{Sup}
@@ -10,12 +10,10 @@ use Rattle.dwz_docs.specs.Supplementary.{sup_bytes}
 use Rattle.dwz_rebuilt.specs.Changed.{changes_by}
 use Rattle.dwz_rebuilt.specs.Rebuilt.{new_file}
 use Rattle.dwz_sup.specs.Common.{common_file, common_sum}
-use Rattle.dwz_alike.specs.Spots.{FileUnit, Spot}
-use Rattle.dwz_moving.specs.Homes.{Common, file_of, same_home}
-use Rattle.dwz_moving.specs.Moves.{Move}
+use Rattle.dwz_moving.specs.Homes.{Common, same_home}
 use Rattle.dwz_moving.specs.Plan.{PartialUnit}
 use Rattle.dwz_same.specs.Units.{changes}
-use Rattle.dwz_back.specs.Files.{Run}
+use Rattle.dwz_back.specs.Files.{Run, imports_common}
 use Rattle.dwz_out.specs.Contents.{common_after, sections_after}
 
 -- ---- the common file
@@ -30,10 +28,6 @@ has_common r = list_any is_common r.move.parts
 -- its machine (e_machine) and flags (e_flags) are those of the first file
 unfoldable pub common_bytes : Run → List ℕ
 common_bytes r = common_file (file_header (r.input.bytes 0)).machine (file_header (r.input.bytes 0)).flags (common_after r)
-
--- a file imports from it where one of its units is a user of a partial unit there
-unfoldable pub imports_common : Move → List (FileUnit Spot) → ℕ → Bool
-imports_common m units file = list_any (λ part. is_common part && list_any (λ i. file_of units i == file) part.users) m.parts
 
 -- ---- the order of sections that are written again: by old offset, and by index where that is the same
 

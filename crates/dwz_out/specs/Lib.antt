@@ -2,3 +2,4 @@ pub mod Contents
 pub mod FilesAfter
 pub mod Refusals
 pub mod Out
+pub mod Laws

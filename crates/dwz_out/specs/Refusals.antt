@@ -1,11 +1,10 @@
 -- Why nothing is written of files that read: a number doesn't fit, a section or a file is too large, a file can't be laid out; and in
 -- which order these are found.
-use Rattle.std.specs.Prelude.{◌≡◌, ◌⊎◌, ℕ, ◌^◌, ◌<◌, ◌≤◌, Bool, true, false, List, [], ◌∷◌, ◌++◌, length, Option, Some, None, Result, Ok, Err}
+use Rattle.std.specs.Prelude.{◌≡◌, ◌⊎◌, ℕ, ◌^◌, ◌≤◌, Bool, true, false, List, [], ◌∷◌, ◌++◌, length, Some, None, Result, Ok, Err}
 use Rattle.dwz_model.specs.declared.fault.Fault.{Fault}
 use Rattle.dwz_model.specs.declared.fault.Reason.TheVariants.{OperandWidth, TooLarge}
 use Rattle.dwz_model.specs.declared.fault.Refusal.{Refusal}
 use Rattle.dwz_docs.specs.declared.elf.NewContent.{NewContent}
-use Rattle.dwz_docs.specs.ElfFaults.{file_fault}
 use Rattle.dwz_docs.specs.ElfLayout.{layout_fault, rebuilt_length, too_large}
 use Rattle.dwz_docs.specs.ElfReading.{elf_of}
 use Rattle.dwz_docs.specs.Entries.{RawAttr, RawEntry}
@@ -103,9 +102,12 @@ IsLargeSection n f = (f ≡ too_large_at n.code) × (too_large ≤ length n.byte
 
 -- ---- faults of files
 
+abbrev pub IsLargeCommon : Run → Fault → Type 0
+IsLargeCommon r f = (f ≡ too_large_at 0) × (too_large ≤ length (common_bytes r))
+
 -- of the common file: its first section that is too large, or else the file is
 abbrev pub CommonFault : Run → Fault → Type 0
-CommonFault r = OrElse (OfFirst IsLargeSection (changes_by (common_after r) None).new) (λ f. (f ≡ too_large_at 0) × (too_large ≤ length (common_bytes r)))
+CommonFault r = OrElse (OfFirst IsLargeSection (changes_by (common_after r) None).new) (IsLargeCommon r)
 
 -- of a file of which something moves: the first operand that is too narrow, in `.debug_info` or else in `.debug_loclists`; or else its
 -- first section that is too large
@@ -115,13 +117,17 @@ SectionsFault r file f =
     × OrElse (FirstNarrow r file 1 (spoken r file))
     (OrElse (FirstNarrow r file 7 (listed r file)) (OfFirst IsLargeSection (changes_by (sections_after r file) None).new)) f
 
+abbrev pub IsUnplaced : List ℕ → Run → ℕ → Fault → Type 0
+IsUnplaced name r file f = layout_fault (elf_of (r.input.bytes file)) (changes_after name r file) ≡ Some f
+
+abbrev pub IsLargeFile : List ℕ → Run → ℕ → Fault → Type 0
+IsLargeFile name r file f =
+    let e = elf_of (r.input.bytes file) in
+    (f ≡ too_large_at 0) × (too_large ≤ rebuilt_length e (changes_after name r file) (r.input.bytes file) (order_of e))
+
 -- of such a file: the first section that can't be laid out around its loaded bytes; or else it is too large
 abbrev pub FileFault : List ℕ → Run → ℕ → Fault → Type 0
-FileFault name r file f =
-    (changes r.move r.units file ≡ true)
-    × OrElse (λ g. layout_fault (elf_of (r.input.bytes file)) (changes_after name r file) ≡ Some g)
-    (λ g. (g ≡ too_large_at 0)
-    × (too_large ≤ rebuilt_length (elf_of (r.input.bytes file)) (changes_after name r file) (r.input.bytes file) (order_of (elf_of (r.input.bytes file))))) f
+FileFault name r file f = (changes r.move r.units file ≡ true) × OrElse (IsUnplaced name r file) (IsLargeFile name r file) f
 
 -- ---- refusals
 

@@ -3,3 +3,7 @@
 //!
 //! There is no running code here. The definitions stand in `specs/`; here are laws, which are functions without a body.
 #![tactic(auto)]
+
+mod out;
+
+pub use out::out_laws;

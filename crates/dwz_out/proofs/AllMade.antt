@@ -1,0 +1,116 @@
+-- Where nothing refuses them, all files are made as is asked.
+use Rattle.std.proofs.Common.{◌≡◌, ◌&&◌, ◌==◌, ℕ, suc, ◌+◌, Bool, true, List, [], ◌∷◌, length, map, refl, sym, ap, subst, ◌∙◌, inl, inr, eqb-true}
+use Rattle.std.proofs.lemmas.Bool.{and_parts}
+use Rattle.std.specs.List.{list_any}
+use Rattle.dwz_model.specs.declared.fault.Refusal.{Refusal}
+use Rattle.dwz_docs.specs.Lists.{In}
+use Rattle.dwz_docs.specs.Units.{RawUnit}
+use Rattle.dwz_docs.specs.Values.{AreBytes}
+use Rattle.dwz_meanings.specs.Documents.{Doc, DwUnit}
+use Rattle.dwz_meanings.specs.Files.{ReadAll, around_of, no_files_before}
+use Rattle.dwz_meanings.specs.Meanings.{MeanUnits}
+use Rattle.dwz_seen.specs.Lists.{Each, Nth}
+use Rattle.dwz_seen.proofs.Members.{any_from, in_cases, nth_in}
+use Rattle.dwz_alike.specs.Spots.{FileUnit, Spot, Top, in_file, named, named_files, tops_among, tops_of, units_of}
+use Rattle.dwz_alike.proofs.Tops.{unit_of}
+use Rattle.dwz_same.specs.Units.{changes}
+use Rattle.dwz_words.specs.declared.options.Options.{Options}
+use Rattle.dwz_back.specs.AllFiles.{AreMade, AreRead, IsRead}
+use Rattle.dwz_back.specs.Files.{Run, Stored}
+use Rattle.dwz_out.specs.FilesAfter.{common_bytes, file_after, has_common}
+use Rattle.dwz_out.specs.Out.{IsWritten, run_for, stored_of, sup_name}
+use Rattle.dwz_out.specs.Refusals.{CommonFault, CommonRefusal, FileFault, InFile, OfFirst, OrElse, SectionsFault}
+use Rattle.dwz_out.proofs.CommonMade.{has_it, is_small}
+use Rattle.dwz_out.proofs.FilesMade.{has_sections, sections_fit}
+use Rattle.dwz_out.proofs.FilesRead.{are_read, content_bytes}
+use Rattle.dwz_out.proofs.FreeLemmas.{Nothing, not_any, not_first, not_then}
+
+-- ---- a file of which something moves has units
+
+-- the document of a unit's file
+record DocOf (own : ℕ) (docs : List (Doc ℕ)) (u : FileUnit Spot) : Type 0 where
+  doc : Doc ℕ
+  nth : Nth own docs u.file doc
+  filled : (doc.units ≡ []) → ⊥
+
+in_block : (file : ℕ) (units : List (DwUnit Spot)) (u : FileUnit Spot) → In u (map (in_file file) units) → (u.file ≡ file) × ((units ≡ []) → ⊥)
+in_block file [] u there = absurd there
+in_block file (v ∷ units) u (inl e) = (ap (λ (w : FileUnit Spot). w.file) (sym e), λ none. cc)
+in_block file (v ∷ units) u (inr r) = ((in_block file units u r).0, λ none. cc)
+
+none_named : (unit top : ℕ) (units : List (DwUnit ℕ)) → units ≡ [] → named unit top units ≡ []
+none_named unit top [] e = refl
+none_named unit top (u ∷ units) e = absurd cc
+
+doc_of : (own unit top : ℕ) (docs : List (Doc ℕ)) (u : FileUnit Spot) → In u (named_files own unit top docs) → DocOf own docs u
+unfolding named_files
+doc_of own unit top [] u there = absurd there
+doc_of own unit top (d ∷ docs) u there = elim (in_cases u (map (in_file own) (named unit top d.units)) (named_files (suc own) (unit + length d.units) (top + tops_among d.units) docs) there) [
+  | inl a ↦ (let b = in_block own (named unit top d.units) u a in record { doc = d; nth = inl (sym b.0, refl); filled = λ none. b.1 (none_named unit top d.units none) })
+  | inr b ↦ (let o = doc_of (suc own) (unit + length d.units) (top + tops_among d.units) docs u b in record { doc = o.doc; nth = inr o.nth; filled = o.filled })
+]
+
+means_some : (bytes : List ℕ) (raw : List RawUnit) (all : List RawUnit) (units : List (DwUnit ℕ)) → MeanUnits (around_of bytes all) raw units → ((units ≡ []) → ⊥) → (raw ≡ []) → ⊥
+means_some bytes [] all [] means filled none = filled refl
+means_some bytes [] all (v ∷ units) means filled none = absurd means
+means_some bytes (u ∷ raw) all units means filled none = cc
+
+module _ (docs : List (Doc ℕ)) (input : Stored) (are : AreRead input docs) (gone : ℕ → Bool) where
+  -- what is known of such a file
+  pub record IsChanged (file : ℕ) : Type 0 where
+    pub doc : Doc ℕ
+    pub read : IsRead (input.bytes file) (input.raw file) doc
+    pub some : (input.raw file ≡ []) → ⊥
+
+  pub changed_file : (file : ℕ) → list_any (λ (t : Top). t.file == file && gone t.number) (tops_of (units_of docs)) ≡ true → IsChanged file
+  changed_file file moves =
+      let o = any_from (λ (t : Top). t.file == file && gone t.number) (tops_of (units_of docs)) moves in
+      let of_file = eqb-true o.one.file file (and_parts (o.one.file == file) (gone o.one.number) o.passes).0 in
+      let u = unit_of (units_of docs) o.one o.there in
+      let d = doc_of 0 0 0 docs u.unit (nth_in 0 (units_of docs) o.one.unit u.unit u.nth) in
+      let same : u.unit.file ≡ file = sym u.file_is ∙ of_file in
+      let nth : Nth 0 docs file d.doc = subst (λ (n : ℕ). Nth 0 docs n d.doc) same d.nth in
+      let read = are file d.doc nth in
+      record { doc = d.doc; read = read; some = means_some (input.bytes file) (input.raw file) (input.raw file) d.doc.units read.reads.means d.filled }
+
+-- ---- all of them
+
+module _ (o : Options) (contents : List (List ℕ)) (docs : List (Doc ℕ)) (bytes : Each AreBytes contents) (all : ReadAll no_files_before contents docs) (written : IsWritten o docs contents) where
+  abbrev r : Run
+  r = run_for o docs contents
+
+  abbrev name : List ℕ
+  name = sup_name o
+
+  pub are : AreRead (stored_of contents) docs
+  are = are_read contents docs all bytes
+
+  abbrev Files : Refusal → Type 0
+  Files = OrElse (OfFirst (InFile (SectionsFault r)) r.files) (OfFirst (InFile (FileFault name r)) r.files)
+
+  common_free : has_common r ≡ true → Nothing (CommonFault r)
+  common_free there f is = not_first (CommonRefusal r) Files written _ (there, (f, is, refl))
+
+  sections_free : (file : ℕ) → In file r.files → Nothing (SectionsFault r file)
+  sections_free file there f is =
+      not_any (InFile (SectionsFault r)) r.files (not_first (OfFirst (InFile (SectionsFault r)) r.files) _ (not_then (CommonRefusal r) Files written)) file there _ (f, is, refl)
+
+  file_free : (file : ℕ) → In file r.files → Nothing (FileFault name r file)
+  file_free file there f is =
+      not_any (InFile (FileFault name r)) r.files (not_then (OfFirst (InFile (SectionsFault r)) r.files) (OfFirst (InFile (FileFault name r)) r.files) (not_then (CommonRefusal r) Files written)) file there _ (f, is, refl)
+
+  changed : (file : ℕ) → changes r.move r.units file ≡ true → IsChanged docs (stored_of contents) are r.move.gone file
+  unfolding changes
+  changed file moves = changed_file docs (stored_of contents) are r.move.gone file moves
+
+  pub are_made : AreMade r (file_after name r) (common_bytes r)
+  are_made =
+      let small = is_small r common_free in
+      record {
+        common = has_it r (content_bytes contents bytes 0) small.file small.lines;
+        common_fits = small.sections;
+        file = λ file there moves.
+            (let c = changed file moves in has_sections name r file c.doc c.read c.some moves (sections_free file there) (file_free file there));
+        file_fits = λ file there moves.
+            (let c = changed file moves in sections_fit name r file c.doc c.read c.some moves (sections_free file there) (file_free file there));
+      }

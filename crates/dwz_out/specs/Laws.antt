@@ -1,0 +1,48 @@
+-- Laws on what a run puts.
+use Rattle.std.specs.Prelude.{◌≡◌, ℕ, List}
+use Rattle.dwz_model.specs.declared.fault.Refusal.{Refusal}
+use Rattle.dwz_docs.specs.ElfLayout.{IsOrder}
+use Rattle.dwz_docs.specs.ElfReading.{ElfView}
+use Rattle.dwz_docs.specs.Values.{AreBytes}
+use Rattle.dwz_meanings.specs.Documents.{Doc}
+use Rattle.dwz_meanings.specs.Files.{ReadAll, no_files_before}
+use Rattle.dwz_seen.specs.Lists.{Each}
+use Rattle.dwz_writing.specs.Meant.{AreRenumbered}
+use Rattle.dwz_back.specs.AllFiles.{AreMade, IsRead}
+use Rattle.dwz_back.specs.Files.{AreRanged, Run, places, tells}
+use Rattle.dwz_words.specs.declared.options.Options.{Options}
+use Rattle.dwz_course.specs.Outcome.{Outcome}
+use Rattle.dwz_out.specs.Contents.{lists_after, ranges_after}
+use Rattle.dwz_out.specs.FilesAfter.{common_bytes, file_after, order_of}
+use Rattle.dwz_out.specs.Out.{IsWritten, Out, run_for, sup_name}
+use Rattle.dwz_out.specs.Refusals.{OutFault}
+
+-- there is one order of the sections that are written again
+abbrev pub OrderLaw : Type 0
+OrderLaw = (e : ElfView) → IsOrder e (order_of e) × ((order : List (ℕ × ℕ)) → IsOrder e order → order ≡ order_of e)
+
+-- at most one refusal is the first
+abbrev pub OneRefusalLaw : Type 0
+OneRefusalLaw = (name : List ℕ) (r : Run) (p q : Refusal) → OutFault name r p → OutFault name r q → p ≡ q
+
+-- at most one thing comes of options and contents
+abbrev pub OneOutcomeLaw : Type 0
+OneOutcomeLaw = (o : Options) (contents : List (List ℕ)) (a b : Outcome) → Out o contents a → Out o contents b → a ≡ b
+
+-- in the location lists of a file that reads stand the numbers of where things stand, and in no other bytes do
+abbrev pub ListsLaw : Type 0
+ListsLaw =
+    (r : Run) (file : ℕ) (doc : Doc ℕ) → IsRead (r.input.bytes file) (r.input.raw file) doc
+    → AreRenumbered (places r) (tells r file) (lists_after r file) × ((new : List ℕ) → AreRenumbered (places r) (tells r file) new → new ≡ lists_after r file)
+
+-- so it is with its address ranges
+abbrev pub RangesLaw : Type 0
+RangesLaw =
+    (r : Run) (file : ℕ) (doc : Doc ℕ) → IsRead (r.input.bytes file) (r.input.raw file) doc
+    → AreRanged r file (ranges_after r file) × ((new : List ℕ) → AreRanged r file new → new ≡ ranges_after r file)
+
+-- Where the files are written, what is written of them is made as is asked, so that it reads back.
+abbrev pub MadeLaw : Type 0
+MadeLaw =
+    (o : Options) (contents : List (List ℕ)) (docs : List (Doc ℕ)) → Each AreBytes contents → ReadAll no_files_before contents docs → IsWritten o docs contents
+    → AreMade (run_for o docs contents) (file_after (sup_name o) (run_for o docs contents)) (common_bytes (run_for o docs contents))

@@ -1,0 +1,15 @@
+//! What a run puts, or why it puts nothing.
+
+ghost use Rattle.dwz_out.specs.Laws.{ListsLaw, MadeLaw, OneOutcomeLaw, OneRefusalLaw, OrderLaw, RangesLaw};
+
+/// Laws on what a run puts. There is one order of the sections that are written again. The numbers that are changed in place leave
+/// just one `.debug_loclists`, and one `.debug_aranges`. At most one refusal is the first, and of options and contents comes at most one
+/// thing. Where files are written, each is made as is asked, so that it reads back.
+pub fn out_laws()
+    ensures order { OrderLaw }
+    ensures lists { ListsLaw }
+    ensures ranges { RangesLaw }
+    ensures refusal { OneRefusalLaw }
+    ensures outcome { OneOutcomeLaw }
+    ensures made { MadeLaw }
+{}

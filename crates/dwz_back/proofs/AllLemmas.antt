@@ -5,7 +5,7 @@ use Rattle.dwz_docs.specs.Trees.{End, Entry}
 use Rattle.dwz_meanings.specs.Documents.{Attr, Doc, DwUnit, Entries, Node, unit_map}
 use Rattle.dwz_docs.specs.Entries.{given}
 use Rattle.dwz_meanings.specs.Files.{around_of, debug_abbrev, debug_info, sources_of}
-use Rattle.dwz_meanings.specs.Meanings.{Common as CommonFile, Sources}
+use Rattle.dwz_meanings.specs.Meanings.{Common as CommonFile, Sources, texts_of}
 use Rattle.dwz_alike.specs.Alike.{IsAlike, Scope}
 use Rattle.dwz_alike.specs.Spots.{FileUnit, PartialOf, Spot, Top, file_numbers, in_file, named, named_files, spot_in, spots_from, units_of}
 use Rattle.dwz_seen.specs.Lists.{Each, Nth}
@@ -20,15 +20,22 @@ use Rattle.dwz_same.specs.Units.{all_units, changes, common_units, out_units, pa
 use Rattle.dwz_same.proofs.FileLemmas.{files_same, replaced}
 use Rattle.dwz_same.proofs.HeldLemmas.{part_found, row_found}
 use Rattle.dwz_writing.specs.Bases.{Bases, bases_in}
-use Rattle.dwz_writing.specs.Carried.{BasesStand, CarriedAttr, CarriedEntries, CarriedNode, CarriedUnit, OfAny, OfFile, OperandsStand}
+use Rattle.dwz_writing.specs.Carried.{BasesStand, CarriedAttr, CarriedEntries, CarriedNode, CarriedUnit, From, OfAny, OfFile, OperandsStand}
 use Rattle.dwz_writing.specs.Fitting.{UnitHasRoom}
 use Rattle.dwz_writing.specs.Meant.{all_entry_keys}
 use Rattle.dwz_writing.specs.Placing.{fit_units}
+use Rattle.dwz_writing.specs.Pruned.{StaysIn, UnitStays, known_slots, slots_or_none}
+use Rattle.dwz_writing.proofs.Renumbered.{room_renumbered}
+use Rattle.dwz_writing.proofs.Staying.{units_stay, units_too}
+use Rattle.dwz_docs.specs.Pruning.{new_number}
+use Rattle.dwz_docs.proofs.OffsetLemmas.{slots_again}
+use Rattle.dwz_back.specs.Prunable.{IsPrunable}
+use Rattle.dwz_back.proofs.FewTexts.{read_few}
 use Rattle.dwz_writing.proofs.CarriedMaps.{unit_carried}
 use Rattle.dwz_back.specs.AllFiles.{AreMade, AreOver, AreRead, ReadBack, SaysStill}
 use Rattle.dwz_back.proofs.CarriedRoots.{RootsCarried}
 use Rattle.dwz_back.specs.Back.{CanWrite, IsReady, WasReadFrom, given_by, run_of}
-use Rattle.dwz_back.specs.Files.{Run, Stored, common_forms, file_forms, fitted, lists_named, origin_in, paths, places, sources, tells, tells_common, texts}
+use Rattle.dwz_back.specs.Files.{Run, Stored, common_forms, file_forms, fitted, fitted_if, formed, lists_named, origin_in, paths, places, sources, tells, tells_common, texts, uses}
 use Rattle.dwz_back.proofs.BasesLemmas.{out_bases}
 use Rattle.dwz_back.proofs.CommonLemmas.{common_within}
 use Rattle.dwz_back.proofs.FreeOperands.{UnitAsksNone, asks_operands, asks_room, home_asks}
@@ -53,7 +60,7 @@ use Rattle.dwz_back.proofs.WithinLemmas.{within}
 
 -- ---- what was read in a file was read in some file
 
-module _ {K : Type 0} (from : Sources → Type 0) (origin : Bases) where
+module _ {K : Type 0} (from : From) (origin : Bases) where
   any_attr : (a : Attr K) → CarriedAttr from origin a → CarriedAttr OfAny origin a
   any_attr a (inl c) = inl (record { was_read = c.was_read; file = tt; unit = c.unit; stored = c.stored; built = c.built })
   any_attr a (inr r) = inr r
@@ -74,29 +81,41 @@ module _ {K : Type 0} (from : Sources → Type 0) (origin : Bases) where
 
 -- ---- the units before
 
-abbrev WasRead : (ℕ → List ℕ) → FileUnit Spot → Type 0
-WasRead input u = CarriedUnit (OfFile (sources_of (input u.file))) (bases_in u.unit) u.unit
+-- the units of each file were read so
+abbrev WasRead : (ℕ → From) → FileUnit Spot → Type 0
+WasRead from u = CarriedUnit (from u.file) (bases_in u.unit) u.unit
 
-file_carried : (input : ℕ → List ℕ) (file : ℕ) (f : ℕ → Spot) (some : List (DwUnit ℕ)) → Each (λ v. CarriedUnit (OfFile (sources_of (input file))) (bases_in v) v) some → (u : FileUnit Spot) → In u (map (in_file file) (map (unit_map f) some)) → WasRead input u
-file_carried input file f [] are u there = absurd there
-file_carried input file f (v ∷ some) are u (inl e) =
-    subst (WasRead input) e (subst (λ (b : Bases). CarriedUnit (OfFile (sources_of (input file))) b (unit_map f v)) (sym (bases_mapped f v)) (unit_carried (OfFile (sources_of (input file))) (bases_in v) f v are.0))
-file_carried input file f (v ∷ some) are u (inr r) = file_carried input file f some are.1 u r
+file_carried : (from : ℕ → From) (file : ℕ) (f : ℕ → Spot) (some : List (DwUnit ℕ)) → Each (λ v. CarriedUnit (from file) (bases_in v) v) some → (u : FileUnit Spot) → In u (map (in_file file) (map (unit_map f) some)) → WasRead from u
+file_carried from file f [] are u there = absurd there
+file_carried from file f (v ∷ some) are u (inl e) =
+    subst (WasRead from) e (subst (λ (b : Bases). CarriedUnit (from file) b (unit_map f v)) (sym (bases_mapped f v)) (unit_carried (from file) (bases_in v) f v are.0))
+file_carried from file f (v ∷ some) are u (inr r) = file_carried from file f some are.1 u r
 
-abbrev Read : (ℕ → List ℕ) → ℕ → List (Doc ℕ) → Type 0
-Read input own docs = (file : ℕ) (doc : Doc ℕ) → Nth own docs file doc → WasReadFrom (sources_of (input file)) doc.units
+abbrev Read : (ℕ → From) → ℕ → List (Doc ℕ) → Type 0
+Read from own docs = (file : ℕ) (doc : Doc ℕ) → Nth own docs file doc → Each (λ v. CarriedUnit (from file) (bases_in v) v) doc.units
 
-files_carried : (input : ℕ → List ℕ) (own unit top : ℕ) (docs : List (Doc ℕ)) → Read input own docs → (u : FileUnit Spot) → In u (named_files own unit top docs) → WasRead input u
+files_carried : (from : ℕ → From) (own unit top : ℕ) (docs : List (Doc ℕ)) → Read from own docs → (u : FileUnit Spot) → In u (named_files own unit top docs) → WasRead from u
 unfolding named_files
-files_carried input own unit top [] read u there = absurd there
-files_carried input own unit top (doc ∷ docs) read u there = elim (in_cases u (map (in_file own) (named unit top doc.units)) _ there) [
-  | inl a ↦ file_carried input own (spot_in (spots_from unit top doc.units)) doc.units (read own doc (inl (refl, refl))).carried u a
-  | inr b ↦ files_carried input (suc own) _ _ docs (λ file d nth. read file d (inr nth)) u b
+files_carried from own unit top [] read u there = absurd there
+files_carried from own unit top (doc ∷ docs) read u there = elim (in_cases u (map (in_file own) (named unit top doc.units)) _ there) [
+  | inl a ↦ file_carried from own (spot_in (spots_from unit top doc.units)) doc.units (read own doc (inl (refl, refl))) u a
+  | inr b ↦ files_carried from (suc own) _ _ docs (λ file d nth. read file d (inr nth)) u b
 ]
 
-all_placed : (own : ℕ) (input : ℕ → List ℕ) (docs : List (Doc ℕ)) → Read input own docs → Each (λ doc. ArePlaced doc.units) docs
-all_placed own input [] read = tt
-all_placed own input (doc ∷ docs) read = ((read own doc (inl (refl, refl))).placed, all_placed (suc own) input docs (λ file d nth. read file d (inr nth)))
+all_placed : (own : ℕ) (docs : List (Doc ℕ)) → ((file : ℕ) (doc : Doc ℕ) → Nth own docs file doc → ArePlaced doc.units) → Each (λ doc. ArePlaced doc.units) docs
+all_placed own [] read = tt
+all_placed own (doc ∷ docs) read = (read own doc (inl (refl, refl)), all_placed (suc own) docs (λ file d nth. read file d (inr nth)))
+
+-- in a file that is prunable they were read so that they stay where texts move
+abbrev from_if : Bool → Sources → From
+from_if true sources = StaysIn sources (known_slots sources.offsets)
+from_if false sources = OfFile sources
+
+prunable_stays : (bytes : List ℕ) (units : List (DwUnit ℕ)) → Each (λ v. CarriedUnit (OfFile (sources_of bytes)) (bases_in v) v) units → IsPrunable bytes units
+    → Each (λ v. CarriedUnit (StaysIn (sources_of bytes) (known_slots (sources_of bytes).offsets)) (bases_in v) v) units
+prunable_stays bytes units carried is =
+    let places : is.places ≡ known_slots (sources_of bytes).offsets = sym (ap slots_or_none (slots_again (sources_of bytes).offsets is.places is.slots)) in
+    units_too (sources_of bytes) (known_slots (sources_of bytes).offsets) units carried (subst (λ (w : List ℕ). Each (UnitStays (texts_of (sources_of bytes)) (sources_of bytes).line w) units) places is.units)
 
 -- ---- the root of a partial unit of the common file
 
@@ -131,11 +150,23 @@ module _ (scope : Scope) (docs : List (Doc ℕ)) (input : Stored) (are : AreRead
   abbrev r : Run
   r = run_of rule docs input
 
-  read : Read input.bytes 0 docs
-  read file doc nth = (let o = are file doc nth in read_from o.limits (input.bytes file) (input.raw file) doc o.reads o.are_bytes)
+  was_read : (file : ℕ) (doc : Doc ℕ) → Nth 0 docs file doc → WasReadFrom (sources_of (input.bytes file)) doc.units
+  was_read file doc nth = (let o = are file doc nth in read_from o.limits (input.bytes file) (input.raw file) doc o.reads o.are_bytes)
+
+  abbrev of_file : ℕ → From
+  of_file file = OfFile (sources_of (input.bytes file))
+
+  abbrev stays_in : ℕ → From
+  stays_in file = from_if (input.prunes file) (sources_of (input.bytes file))
+
+  stays_read : Read stays_in 0 docs
+  stays_read file doc nth = by (input.prunes file) refl where
+    by : (b : Bool) → input.prunes file ≡ b → Each (λ v. CarriedUnit (from_if b (sources_of (input.bytes file))) (bases_in v) v) doc.units
+    by true e = prunable_stays (input.bytes file) doc.units (was_read file doc nth).carried ((are file doc nth).prunable.0 e)
+    by false e = (was_read file doc nth).carried
 
   placed : Each (λ doc. ArePlaced doc.units) docs
-  placed = all_placed 0 input.bytes docs read
+  placed = all_placed 0 docs (λ file doc nth. (was_read file doc nth).placed)
 
   together : FilesSame scope docs rule (file_numbers 0 docs)
   together = files_same scope docs rule placed is choice
@@ -143,8 +174,14 @@ module _ (scope : Scope) (docs : List (Doc ℕ)) (input : Stored) (are : AreRead
   whole : Replaces (units_of docs) r.move (all_units r.move r.units r.files)
   whole = replaced scope docs rule placed is choice
 
-  unit_read : (i : ℕ) (u : FileUnit Spot) → Nth 0 (units_of docs) i u → WasRead input.bytes u
-  unit_read i u nth = files_carried input.bytes 0 0 0 docs read u (nth_in 0 (units_of docs) i u nth)
+  unit_read : (i : ℕ) (u : FileUnit Spot) → Nth 0 (units_of docs) i u → WasRead of_file u
+  unit_read i u nth = files_carried of_file 0 0 0 docs (λ file doc at. (was_read file doc at).carried) u (nth_in 0 (units_of docs) i u nth)
+
+  unit_stays : (file : ℕ) → input.prunes file ≡ true → (i : ℕ) (u : FileUnit Spot) → Nth 0 (units_of docs) i u → u.file ≡ file
+      → CarriedUnit (StaysIn (sources r file) (known_slots (sources r file).offsets)) (bases_in u.unit) u.unit
+  unit_stays file prunes i u nth same =
+      subst (λ (b : Bool). CarriedUnit (from_if b (sources r file)) (bases_in u.unit) u.unit) prunes
+      (subst (λ (n : ℕ). CarriedUnit (stays_in n) (bases_in u.unit) u.unit) same (files_carried stays_in 0 0 0 docs stays_read u (nth_in 0 (units_of docs) i u nth)))
 
   file_origins : (file : ℕ) (i : ℕ) (u : FileUnit Spot) → Nth 0 (units_of docs) i u → u.file ≡ file → CarriedUnit (OfFile (sources r file)) (bases_in u.unit) u.unit
   file_origins file i u nth of_file = subst (λ (n : ℕ). CarriedUnit (OfFile (sources_of (input.bytes n))) (bases_in u.unit) u.unit) of_file (unit_read i u nth)
@@ -169,8 +206,30 @@ module _ (scope : Scope) (docs : List (Doc ℕ)) (input : Stored) (are : AreRead
   file_lists : (file : ℕ) → In file r.files → NoneShared (lists_named r file)
   file_lists file there = (let o = doc_at 0 docs file there in (are file o.0 o.1).reads.lists)
 
-  file_ready : (file : ℕ) → In file r.files → changes r.move r.units file ≡ true → IsReady (OfFile (sources r file)) (file_forms r file) (tells r file) (places r) (out_units r.move r.units file)
+  file_bases : (file : ℕ) → Each (BasesStand (file_forms r file)) (out_units r.move r.units file)
+  file_bases file = out_bases r file whole.old
+      (λ n part nth home. part_bases (OfFile (sources r file)) scope (units_of docs) rule is choice r.files whole.old whole.held (λ x. x ≡ file) (file_origins file) n part nth
+      (top_file scope (units_of docs) rule is choice r.files file n part nth home) file home (file_forms r file).texts (file_forms r file).shared (file_forms r file).paths (file_forms r file).offsets)
+
+  -- room for operands is that before texts are pruned
+  formed_room : (file : ℕ) → Each (UnitHasRoom (places r)) (fitted r file) → Each (UnitHasRoom (places r)) (formed r file)
   unfolding fitted
+  formed_room file room = by (input.prunes file) room where
+    by : (b : Bool) → Each (UnitHasRoom (places r)) (fitted_if b r file) → Each (UnitHasRoom (places r)) (formed r file)
+    by true room = room_renumbered (new_number (sources r file).strs (uses r file)) (places r) (formed r file) room
+    by false room = room
+
+  -- the units of one that is prunable stay so
+  file_stay : (file : ℕ) → input.prunes file ≡ true → Each (UnitStays (texts_of (sources r file)) (sources r file).line (known_slots (sources r file).offsets)) (formed r file)
+  unfolding formed
+  file_stay file prunes =
+      let from : From = StaysIn (sources r file) (known_slots (sources r file).offsets) in
+      units_stay (file_forms r file) (sources r file) (known_slots (sources r file).offsets) refl (out_units r.move r.units file)
+      (out_carried from scope (units_of docs) rule is choice r.files whole.old whole.held file (unit_stays file prunes)
+      (local_roots from scope (units_of docs) rule is choice r.files whole.old whole.held (λ x. x ≡ file) (unit_stays file prunes) file refl)) (file_bases file)
+
+  file_ready : (file : ℕ) → In file r.files → changes r.move r.units file ≡ true → IsReady (OfFile (sources r file)) (file_forms r file) (tells r file) (places r) (out_units r.move r.units file)
+  unfolding formed
   file_ready file there changed =
       let carried = out_carried (OfFile (sources r file)) scope (units_of docs) rule is choice r.files whole.old whole.held file (file_origins file)
       (local_roots (OfFile (sources r file)) scope (units_of docs) rule is choice r.files whole.old whole.held (λ x. x ≡ file) (file_origins file) file refl) in
@@ -178,12 +237,10 @@ module _ (scope : Scope) (docs : List (Doc ℕ)) (input : Stored) (are : AreRead
         carried = carried;
         closed = within scope docs rule placed is choice input file;
         over = record {
-          bases = out_bases r file whole.old
-              (λ n part nth home. part_bases (OfFile (sources r file)) scope (units_of docs) rule is choice r.files whole.old whole.held (λ x. x ≡ file) (file_origins file) n part nth
-              (top_file scope (units_of docs) rule is choice r.files file n part nth home) file home (file_forms r file).texts (file_forms r file).shared (file_forms r file).paths (file_forms r file).offsets);
+          bases = file_bases file;
           lists = file_lists file there;
           operands = file_operands file carried;
-          room = over file there changed;
+          room = formed_room file (over file there changed);
         };
       }
 
@@ -222,6 +279,8 @@ module _ (scope : Scope) (docs : List (Doc ℕ)) (input : Stored) (are : AreRead
   can_write = record {
     apart = together.apart;
     file = file_ready;
+    few = λ file there. (let o = doc_at 0 docs file there in let read = are file o.0 o.1 in read_few read.limits (input.bytes file) (input.raw file) o.0 read.reads 3);
+    stay = λ file there changed prunes. file_stay file prunes;
     units = λ file there.
         (let o = doc_at 0 docs file there in
         stand_after r whole.old file (sources_of (input.bytes file)) _ o.0.units (are file o.0 o.1).reads.means (λ v v_in. named_at 0 0 0 docs file o.0 o.1 v v_in));

@@ -7,7 +7,7 @@ use Rattle.dwz_docs.specs.Trees.{End, Entry}
 use Rattle.dwz_meanings.specs.declared.exprs.Operand.{Operand}
 use Rattle.dwz_meanings.specs.Documents.{Attr, DwUnit, Entries, Expr, Loc, Node, Plain, Sec, Value, attr_map, only, value_map}
 use Rattle.dwz_meanings.specs.Exprs.{Expression, parts_from, parts_of}
-use Rattle.dwz_meanings.specs.Meanings.{Class, IsExpression, IsListBySlot, MeansAs, OfCommonEntry, OfConstant, OfExpression, OfInfoEntry, OfListIndex, OfOffset, OfTextBySlot, OfTextInLineStr, OfTextInStr, OfUnitEntry, Sources, class_in, class_of, class_rows, names_file, names_list, offset_of, targets}
+use Rattle.dwz_meanings.specs.Meanings.{Class, IsExpression, IsListBySlot, MeansAs, OfCommonEntry, OfConstant, OfExpression, OfInfoEntry, OfListIndex, OfOffset, OfTextBySlot, OfTextInLineStr, OfTextInStr, OfUnitEntry, class_in, class_of, class_rows, names_file, names_list, offset_of, targets}
 use Rattle.dwz_seen.specs.Lists.{Each, Nth}
 use Rattle.dwz_seen.proofs.Members.{each_in, each_more, each_of}
 use Rattle.dwz_alike.specs.Alike.{IsAlike, Movable, Scope, binding_forms, has_address, has_operand, holds_place, is_named, is_operand, leaves}
@@ -26,7 +26,7 @@ use Rattle.dwz_same.specs.Units.{partial_unit, partial_units, tree}
 use Rattle.dwz_same.proofs.HeldLemmas.{part_found, row_found}
 use Rattle.dwz_same.proofs.NodeLemmas.{EntryOfTop}
 use Rattle.dwz_writing.specs.Bases.{Bases}
-use Rattle.dwz_writing.specs.Carried.{AttrOperands, CarriedAttr, CarriedEntries, CarriedUnit, ExprIn, OperandsStand, OperandsStandAs}
+use Rattle.dwz_writing.specs.Carried.{AttrOperands, CarriedAttr, CarriedEntries, CarriedUnit, ExprIn, From, OperandsStand, OperandsStandAs}
 use Rattle.dwz_writing.specs.Fitting.{EachAttr, HasRoom, HasRoomAs, OperandsHaveRoom, PlainHasRoom, UnitHasRoom}
 use Rattle.dwz_writing.specs.Meant.{OperandsIn, Own, Tells, own_of}
 use Rattle.dwz_writing.specs.Placing.{FileFit, Fit, Forms, Holder, InCommon, InFile, InUnit, CommonUnit, NewUnit, OldUnit, Reach, as_constant, as_file, as_line_text, as_slot, as_strp_if, as_text, fit, fit_as, fit_attr, fit_unit, fit_units, has_text, reach_of, ref_form, unit_fit, slot_number, with_form, with_keys}
@@ -93,7 +93,7 @@ module _ {K : Type 0} (a : Attr K) where
       asks_as OfOffset class (λ t own. so_not (names_list a.name) _ _ none tt) (λ n unit. subst (λ (v : Value K). PlainHasRoom n unit v.plain v.refs) (sym value) tt)
 
   -- what was read, and is free
-  pub free : (from : Sources → Type 0) (origin : Bases) → CarriedAttr from origin a → IsFree a → AsksNone a
+  pub free : (from : From) (origin : Bases) → CarriedAttr from origin a → IsFree a → AsksNone a
   free from origin (inl came) none = by (class_of a.form) refl where
     value : a.value ≡ value_map came.was_read.name came.was_read.read.value
     value = ap (λ (b : Attr K). b.value) came.was_read.same
@@ -217,7 +217,7 @@ asks_room f n units asks = units_room (with_keys f (units_keys units)) n units a
 
 -- ---- partial units
 
-pub carried_attrs : {K : Type 0} (from : Sources → Type 0) (origin : Bases) (g : Entries K) → CarriedEntries from origin g → EachAttr (CarriedAttr from origin) g
+pub carried_attrs : {K : Type 0} (from : From) (origin : Bases) (g : Entries K) → CarriedEntries from origin g → EachAttr (CarriedAttr from origin) g
 carried_attrs from origin End h = tt
 carried_attrs from origin (Entry e children next) h = (h.0.attrs, carried_attrs from origin children h.1, carried_attrs from origin next h.2)
 
@@ -310,7 +310,7 @@ module _ (scope : Scope) (units : List (FileUnit Spot)) (rule : Rule) (is : IsAl
       by false = tt
 
     -- none of its attributes asks for an entry or for room
-    pub part_asks : (from : Sources → Type 0) (origin : Bases) → CarriedUnit from origin (partial_unit m n) → UnitAsksNone (partial_unit m n)
+    pub part_asks : (from : From) (origin : Bases) → CarriedUnit from origin (partial_unit m n) → UnitAsksNone (partial_unit m n)
     part_asks from origin carried =
         let below = tree (image_in m) (m.rows n) End in (
           join_attrs (CarriedAttr from origin) IsFree AsksNone (λ a read none. free a from origin read none) (m.roots n) carried.root.attrs root_free,
@@ -320,7 +320,7 @@ module _ (scope : Scope) (units : List (FileUnit Spot)) (rule : Rule) (is : IsAl
         )
 
   -- nor of the partial units of a home
-  pub home_asks : (files : List ℕ) → IsHeld units (plan rule units files) → (h : Home) (from : Sources → Type 0)
+  pub home_asks : (files : List ℕ) → IsHeld units (plan rule units files) → (h : Home) (from : From)
       → Each (λ v. CarriedUnit from (origin_in (plan rule units files) units v.at) v) (partial_units (plan rule units files) h 0 (plan rule units files).parts)
       → Each UnitAsksNone (partial_units (plan rule units files) h 0 (plan rule units files).parts)
   home_asks files held h from carried =

@@ -26,5 +26,6 @@ pub mod ReadMode
 pub mod StillMeans
 pub mod StillPlaces
 pub mod StillLists
+pub mod FewTexts
 pub mod AllLemmas
 pub mod OneLemmas

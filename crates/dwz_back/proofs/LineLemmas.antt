@@ -9,7 +9,7 @@ use Rattle.dwz_docs.specs.Trees.{End}
 use Rattle.dwz_docs.specs.Values.{SpellsShape, constant_of, shape_of}
 use Rattle.dwz_docs.proofs.WrittenLemmas.{fixed_less}
 use Rattle.dwz_meanings.specs.Documents.{Attr, File, Node, Plain, Sec, Value, attr_map, first_named, only, value_map}
-use Rattle.dwz_meanings.specs.Meanings.{Class, IfSo, IsFileBy, IsFileNumber, IsLocList, MeansAs, OfAddress, OfBlock, OfCommonEntry, OfCommonText, OfConstant, OfExpression, OfFlag, OfIndex, OfInfoEntry, OfListIndex, OfOffset, OfSignature, OfText, OfTextBySlot, OfTextInLineStr, OfTextInStr, OfUnitEntry, Scope, Sources, Unread, class_of, constant_value, names_file, names_list, number_of, offset_of, stmt_list}
+use Rattle.dwz_meanings.specs.Meanings.{Class, IfSo, IsFileBy, IsFileNumber, IsLocList, MeansAs, OfAddress, OfBlock, OfCommonEntry, OfCommonText, OfConstant, OfExpression, OfFlag, OfIndex, OfInfoEntry, OfListIndex, OfOffset, OfSignature, OfText, OfTextBySlot, OfTextInLineStr, OfTextInStr, OfUnitEntry, Scope, Unread, class_of, constant_value, names_file, names_list, number_of, offset_of, stmt_list}
 use Rattle.dwz_seen.specs.Lists.{Each, Nth}
 use Rattle.dwz_seen.proofs.Members.{any_false, any_from, each_in, nth_from}
 use Rattle.dwz_alike.specs.Alike.{IsAlike, Scope as InWhich, any_attr, any_entry, any_in}
@@ -27,7 +27,7 @@ use Rattle.dwz_same.specs.Units.{partial_unit, tree}
 use Rattle.dwz_same.proofs.HeldLemmas.{part_found, row_found}
 use Rattle.dwz_same.proofs.NodeLemmas.{EntryOfTop}
 use Rattle.dwz_writing.specs.Bases.{Bases, bases_in, offset_in}
-use Rattle.dwz_writing.specs.Carried.{BasesStand, CarriedAttr, CarriedNode, CarriedUnit, FileStands, LineFor, NamesLines, NumbersFile}
+use Rattle.dwz_writing.specs.Carried.{BasesStand, CarriedAttr, CarriedNode, CarriedUnit, FileStands, From, LineFor, NamesLines, NumbersFile}
 use Rattle.dwz_writing.specs.Fitting.{EachAttr}
 use Rattle.dwz_writing.specs.Placing.{CommonUnit, NewUnit}
 use Rattle.dwz_writing.proofs.Carrying.{import_class, no_list, so}
@@ -110,7 +110,7 @@ module _ {P : Type 0} where
   table_of OfCommonText s a v h is = absurd (not_path v _ h.2.value refl is)
   table_of Unread s a v h is = absurd h
 
-module _ (from : Sources → Type 0) (origin : Bases) (a : Attr Spot) where
+module _ (from : From) (origin : Bases) (a : Attr Spot) where
   -- a path is that of a row of the line table
   path_table : CarriedAttr from origin a → has_path a.value.plain ≡ true → (place : ℕ) × (origin.line ≡ Some place)
   path_table (inl came) is =
@@ -190,7 +190,7 @@ path_there tops t there is = elim (or_cases (any_attr path_attr t.node) (any_ent
       record { top = t; there = there; node = n.node; entry = inr n.there; attr = o.one; is_in = o.there; path = o.passes }
 ]
 
-module _ (from : Sources → Type 0) (scope : InWhich) (units : List (FileUnit Spot)) (rule : Rule) (is : IsAlike scope units rule.alike) (choice : IsChoice units rule) (files : List ℕ)
+module _ (from : From) (scope : InWhich) (units : List (FileUnit Spot)) (rule : Rule) (is : IsAlike scope units rule.alike) (choice : IsChoice units rule) (files : List ℕ)
     (old : AreOld units) (held : IsHeld units (plan rule units files)) (Good : ℕ → Type 0)
     (are : (i : ℕ) (u : FileUnit Spot) → Nth 0 units i u → Good u.file → CarriedUnit from (bases_in u.unit) u.unit) where
   abbrev m : Move

@@ -5,18 +5,21 @@ use Rattle.std.proofs.lemmas.List.{append_assoc}
 use Rattle.dwz_meanings.specs.Documents.{DwUnit}
 use Rattle.dwz_docs.specs.Lists.{In}
 use Rattle.dwz_alike.specs.Spots.{Spot, same_spot}
-use Rattle.dwz_seen.specs.Lists.{NoneTwice}
+use Rattle.dwz_seen.specs.Lists.{Each, NoneTwice}
 use Rattle.dwz_seen.specs.Shown.{unit_keys, units_keys}
 use Rattle.dwz_seen.proofs.Members.{in_left, in_map, in_right}
 use Rattle.dwz_same.specs.Units.{all_units, common_units, file_units, out_units}
 use Rattle.dwz_writing.specs.Meant.{all_entry_keys}
 use Rattle.dwz_writing.specs.Placing.{FileOut, file_in, files_keys, has_key}
 use Rattle.dwz_seen.proofs.OnceLemmas.{none_both, none_left, none_right}
-use Rattle.dwz_writing.proofs.Chosen.{fit_units_all, fit_units_names, none_has}
+use Rattle.dwz_writing.proofs.Chosen.{fit_units_all, fit_units_fixed, fit_units_names, none_has}
+use Rattle.dwz_writing.proofs.Renumbered.{renumbered_entry_keys, renumbered_fixed, renumbered_keys}
+use Rattle.dwz_writing.proofs.WriteLengths.{FixedUnit}
+use Rattle.dwz_docs.specs.Pruning.{new_number}
 use Rattle.dwz_writing.proofs.ChosenNames.{has_in}
 use Rattle.dwz_writing.proofs.Places.{IsSame}
 use Rattle.dwz_writing.proofs.SameLemmas.{spots_same}
-use Rattle.dwz_back.specs.Files.{Run, common_fitted, common_forms, common_out, file_forms, file_of_name, file_out, files_out, fitted}
+use Rattle.dwz_back.specs.Files.{Run, common_fitted, common_forms, common_out, file_forms, file_of_name, file_out, files_out, fitted, fitted_if, formed, sources, uses}
 
 pub keys_append : {K : Type 0} (xs ys : List (DwUnit K)) → units_keys (xs ++ ys) ≡ units_keys xs ++ units_keys ys
 unfolding units_keys
@@ -56,9 +59,27 @@ file_once (x ∷ files) once f (inr r) = file_once files (none_right (units_keys
 -- ---- the names of a run
 
 module _ (r : Run) where
+  formed_names : (file : ℕ) → units_keys (formed r file) ≡ units_keys (out_units r.move r.units file)
+  unfolding formed
+  formed_names file = fit_units_names (file_forms r file) (out_units r.move r.units file)
+
   pub fitted_names : (file : ℕ) → units_keys (fitted r file) ≡ units_keys (out_units r.move r.units file)
   unfolding fitted
-  fitted_names file = fit_units_names (file_forms r file) (out_units r.move r.units file)
+  fitted_names file = by (r.input.prunes file) where
+    by : (b : Bool) → units_keys (fitted_if b r file) ≡ units_keys (out_units r.move r.units file)
+    by true = renumbered_keys (new_number (sources r file).strs (uses r file)) (formed r file) ∙ formed_names file
+    by false = formed_names file
+
+  -- all that is written in its units has a fixed length
+  pub fitted_fixed : (file : ℕ) → Each FixedUnit (fitted r file)
+  unfolding fitted formed
+  fitted_fixed file = by (r.input.prunes file) where
+    fixed : Each FixedUnit (formed r file)
+    fixed = fit_units_fixed (file_forms r file) (out_units r.move r.units file)
+
+    by : (b : Bool) → Each FixedUnit (fitted_if b r file)
+    by true = renumbered_fixed (new_number (sources r file).strs (uses r file)) (formed r file) fixed
+    by false = fixed
 
   pub common_names : units_keys (common_fitted r) ≡ units_keys (common_units r.move)
   unfolding common_fitted
@@ -101,8 +122,11 @@ module _ (r : Run) where
       none_both (units_keys (common_fitted r)) (files_keys (map (file_out r) r.files)) (run_once once) k common (in_file_keys (map (file_out r) r.files) (file_out r file) k (in_map (file_out r) file r.files there) own)
 
   pub fitted_entries : (file : ℕ) → all_entry_keys (fitted r file) ≡ all_entry_keys (out_units r.move r.units file)
-  unfolding fitted
-  fitted_entries file = fit_units_all (file_forms r file) (out_units r.move r.units file)
+  unfolding fitted formed
+  fitted_entries file = by (r.input.prunes file) where
+    by : (b : Bool) → all_entry_keys (fitted_if b r file) ≡ all_entry_keys (out_units r.move r.units file)
+    by true = renumbered_entry_keys (new_number (sources r file).strs (uses r file)) (formed r file) ∙ fit_units_all (file_forms r file) (out_units r.move r.units file)
+    by false = fit_units_all (file_forms r file) (out_units r.move r.units file)
 
   pub common_entries : all_entry_keys (common_fitted r) ≡ all_entry_keys (common_units r.move)
   unfolding common_fitted

@@ -1,5 +1,5 @@
 -- One file by itself.
-use Rattle.std.proofs.Common.{◌≡◌, ℕ, true, false, List, [], ◌∷◌, refl, sym, subst, ◌∙◌, inl, inr}
+use Rattle.std.proofs.Common.{◌≡◌, ◌↔◌, ℕ, Bool, true, false, List, [], ◌∷◌, refl, sym, subst, ◌∙◌, inl, inr}
 use Rattle.dwz_meanings.specs.Documents.{Doc}
 use Rattle.dwz_meanings.specs.Files.{Limits, Reads, debug_info}
 use Rattle.dwz_docs.specs.Lists.{In}
@@ -14,6 +14,7 @@ use Rattle.dwz_same.specs.Units.{changes, common_units}
 use Rattle.dwz_writing.specs.Placing.{FitsSections}
 use Rattle.dwz_back.specs.AllFiles.{AreOver, AreRead}
 use Rattle.dwz_back.specs.Back.{CanWrite, FileOver, OneBack, one_run, one_stored}
+use Rattle.dwz_back.specs.Prunable.{IsPrunable}
 use Rattle.dwz_back.specs.Files.{HasSections, Run, Stored, place_of, sections_of}
 use Rattle.dwz_back.proofs.AllLemmas.{can_write}
 use Rattle.dwz_back.proofs.HomeLemmas.{no_common}
@@ -36,22 +37,22 @@ is_first : (doc : Doc ℕ) → In 0 (file_numbers 0 (doc ∷ []))
 unfolding file_numbers
 is_first doc = inl refl
 
-module _ (l : Limits) (input : List ℕ) (raw : List RawUnit) (doc : Doc ℕ) (reads : Reads l input raw doc) (are : AreBytes (debug_info input))
-    (rule : Rule) (is : IsAlike Apart (units_of (doc ∷ [])) rule.alike) (choice : IsChoice (units_of (doc ∷ [])) rule) (over : FileOver (one_run rule doc input raw) 0) where
+module _ (l : Limits) (input : List ℕ) (raw : List RawUnit) (doc : Doc ℕ) (reads : Reads l input raw doc) (are : AreBytes (debug_info input)) (prunes : Bool) (prunable : (prunes ≡ true) ↔ IsPrunable input doc.units)
+    (rule : Rule) (is : IsAlike Apart (units_of (doc ∷ [])) rule.alike) (choice : IsChoice (units_of (doc ∷ [])) rule) (over : FileOver (one_run rule doc input raw prunes) 0) where
   abbrev docs : List (Doc ℕ)
   docs = doc ∷ []
 
   abbrev stored : Stored
-  stored = one_stored input raw
+  stored = one_stored input raw prunes
 
   abbrev r : Run
-  r = one_run rule doc input raw
+  r = one_run rule doc input raw prunes
 
   placed : Each (λ d. ArePlaced d.units) docs
   placed = ((read_from l input raw doc reads are).placed, tt)
 
   are_read : AreRead stored docs
-  are_read file d (inl e) = record { limits = l; reads = subst (Reads l input raw) e.1 reads; are_bytes = are }
+  are_read file d (inl e) = record { limits = l; reads = subst (Reads l input raw) e.1 reads; are_bytes = are; prunable = subst (λ (w : Doc ℕ). (prunes ≡ true) ↔ IsPrunable input w.units) e.1 prunable }
   are_read file d (inr x) = absurd x
 
   none_shared : common_units r.move ≡ []
@@ -64,7 +65,7 @@ module _ (l : Limits) (input : List ℕ) (raw : List RawUnit) (doc : Doc ℕ) (r
   can : CanWrite r
   can = can_write Apart docs stored are_read rule is choice all_over
 
-  pub one_back : changes r.move r.units 0 ≡ true → (out : List ℕ) → HasSections r 0 out → FitsSections (sections_of r 0) → OneBack doc rule input raw out
+  pub one_back : changes r.move r.units 0 ≡ true → (out : List ℕ) → HasSections r 0 out → FitsSections (sections_of r 0) → OneBack doc rule input raw prunes out
   one_back changed out has small =
       let ok = written_places r can.apart in
       let not_old : (file : ℕ) → In file r.files → changes r.move r.units file ≡ false → ⊥ = λ file there still. (let yes = subst (λ (f : ℕ). changes r.move r.units f ≡ true) (sym (first_file doc file there)) changed in let both : true ≡ false = sym yes ∙ still in cc) in

@@ -5,7 +5,7 @@ use Rattle.dwz_model.specs.declared.place.Base.{Base}
 use Rattle.dwz_model.specs.declared.place.Base.TheVariants.{Unit as FromUnit, Info as FromInfo}
 use Rattle.dwz_docs.specs.Lists.{In}
 use Rattle.dwz_meanings.specs.Documents.{Attr, DwUnit, Node, attr_map}
-use Rattle.dwz_meanings.specs.Meanings.{Class, Sources}
+use Rattle.dwz_meanings.specs.Meanings.{Class}
 use Rattle.dwz_seen.specs.Lists.{Each, Nth}
 use Rattle.dwz_seen.specs.Seen.{Seen, see, seen}
 use Rattle.dwz_seen.proofs.Members.{any_true, each_append, each_in, each_more, each_of, each_split, in_cases, in_filter_from, in_left, in_map_from, in_nth, in_right, nth_in}
@@ -19,7 +19,7 @@ use Rattle.dwz_same.specs.After.{AreOld, IsEntryOf}
 use Rattle.dwz_same.specs.Held.{IsHeld}
 use Rattle.dwz_same.specs.Units.{kept_unit, kept_units, out_units, partial_units, units_at}
 use Rattle.dwz_writing.specs.Bases.{Bases}
-use Rattle.dwz_writing.specs.Carried.{AttrOperands, CarriedUnit, OperandsStand, OperandsStandAs}
+use Rattle.dwz_writing.specs.Carried.{AttrOperands, CarriedUnit, From, OperandsStand, OperandsStandAs}
 use Rattle.dwz_writing.specs.Meant.{OperandIn, Own, Tells, all_entry_keys, entry_keys, own_of}
 use Rattle.dwz_writing.proofs.Carrying.{import_class}
 use Rattle.dwz_back.specs.Files.{origin_in}
@@ -139,7 +139,7 @@ module _ (scope : Scope) (units : List (FileUnit Spot)) (rule : Rule) (is : IsAl
       )
 
     -- the operands of a file name its entries
-    pub out_operands : (from : Sources → Type 0) → Each (λ v. CarriedUnit from (origin_in m units v.at) v) (out_units m units file)
+    pub out_operands : (from : From) → Each (λ v. CarriedUnit from (origin_in m units v.at) v) (out_units m units file)
         → ((i : ℕ) (u : FileUnit Spot) → Nth 0 units i u → u.file ≡ file → OperandsStand before u.unit) → Each (OperandsStand t) (out_units m units file)
     unfolding out_units
     out_operands from carried read =

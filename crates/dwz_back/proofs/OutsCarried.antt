@@ -2,7 +2,6 @@
 use Rattle.std.proofs.Common.{◌≡◌, ℕ, Bool, true, false, List, [], map, refl, sym, ap, subst, ◌∙◌, arith, inl, inr}
 use Rattle.dwz_meanings.specs.Documents.{Compile, DwUnit, Entries, Kind, Node, OfType, Partial, kind_map, language}
 use Rattle.dwz_docs.specs.Lists.{In}
-use Rattle.dwz_meanings.specs.Meanings.{Sources}
 use Rattle.dwz_docs.specs.Trees.{End, Entry}
 use Rattle.dwz_seen.specs.Lists.{Each, Nth}
 use Rattle.dwz_seen.proofs.Members.{each_append, each_of, in_map_from}
@@ -26,7 +25,7 @@ use Rattle.dwz_same.specs.Units.{changes, kept_below, kept_unit, kept_units, out
 use Rattle.dwz_same.proofs.KindLemmas.{kept_kinded}
 use Rattle.dwz_same.proofs.NodeLemmas.{EntryOfTop, FromLast, FromSpace, FromTop, NodeFrom, below_row, node_from, top_below, type_kept, under_below}
 use Rattle.dwz_same.proofs.OldRows.{item_under, row_kinded, tops_among}
-use Rattle.dwz_writing.specs.Carried.{CarriedAttr, CarriedEntries, CarriedNode, CarriedUnit}
+use Rattle.dwz_writing.specs.Carried.{CarriedAttr, CarriedEntries, CarriedNode, CarriedUnit, From}
 use Rattle.dwz_writing.specs.Meant.{KindSays, entry_keys}
 use Rattle.dwz_writing.proofs.CarriedMaps.{entries_carried, kind_carried, node_carried, unit_carried}
 use Rattle.dwz_writing.specs.Bases.{Bases, bases_in}
@@ -34,7 +33,7 @@ use Rattle.dwz_back.proofs.CarriedRoots.{RootsCarried}
 use Rattle.dwz_back.specs.Files.{bases_at, origin_in}
 use Rattle.dwz_back.proofs.OriginLemmas.{bases_found, part_origin}
 
-module _ (from : Sources → Type 0) (origin : Bases) where
+module _ (from : From) (origin : Bases) where
   below_node : (g : Entries Spot) → CarriedEntries from origin g → (e : Node Spot) → IsBelow e g → CarriedNode from origin e
   below_node End is e h = absurd h
   below_node (Entry d g k) is e (inl x) = subst (CarriedNode from origin) x is.0
@@ -48,7 +47,7 @@ module _ (from : Sources → Type 0) (origin : Bases) where
   import_carried : (unit n : ℕ) → CarriedNode from origin (import_of unit n)
   import_carried unit n = record { some_tag = omega arith; tag_fits = omega arith; attrs = (inr (inl (record { name = refl; form = refl; target = PartialRoot n; value = refl })), tt) }
 
-module _ (from : Sources → Type 0) (units : List (FileUnit Spot)) (m : Move) (old : AreOld units) (held : IsHeld units m) (Good : ℕ → Type 0)
+module _ (from : From) (units : List (FileUnit Spot)) (m : Move) (old : AreOld units) (held : IsHeld units m) (Good : ℕ → Type 0)
     (are : (i : ℕ) (u : FileUnit Spot) → Nth 0 units i u → Good u.file → CarriedUnit from (bases_in u.unit) u.unit) where
   abbrev f : Spot → Spot
   f = image_in m
@@ -123,7 +122,7 @@ module _ (from : Sources → Type 0) (units : List (FileUnit Spot)) (m : Move) (
 
 -- ---- the spaces of a partial unit
 
-pub part_spaces : (from : Sources → Type 0) (scope : Scope) (units : List (FileUnit Spot)) (rule : Rule) → (is : IsAlike scope units rule.alike) → (choice : IsChoice units rule) → (files : List ℕ)
+pub part_spaces : (from : From) (scope : Scope) (units : List (FileUnit Spot)) (rule : Rule) → (is : IsAlike scope units rule.alike) → (choice : IsChoice units rule) → (files : List ℕ)
     → (n : ℕ) (part : PartialUnit) → Nth 0 (plan rule units files).parts n part → ((t : Top) → In t part.tops → (i : ℕ) (u : FileUnit Spot) → Nth 0 units i u → u.file ≡ t.file → CarriedUnit from (bases_in u.unit) u.unit)
     → (names : List (List ℕ)) (d : Node Spot) → Has names (OfSpace d) ((plan rule units files).rows n) → CarriedNode from (origin_in (plan rule units files) units (PartialOf n)) d
 part_spaces from scope units rule is choice files n part nth are names d has =
@@ -136,7 +135,7 @@ part_spaces from scope units rule is choice files n part nth are names d has =
 
 -- ---- the units of a file
 
-module _ (from : Sources → Type 0) (scope : Scope) (units : List (FileUnit Spot)) (rule : Rule) (is : IsAlike scope units rule.alike) (choice : IsChoice units rule) (files : List ℕ) (old : AreOld units) (held : IsHeld units (plan rule units files)) (file : ℕ)
+module _ (from : From) (scope : Scope) (units : List (FileUnit Spot)) (rule : Rule) (is : IsAlike scope units rule.alike) (choice : IsChoice units rule) (files : List ℕ) (old : AreOld units) (held : IsHeld units (plan rule units files)) (file : ℕ)
     (are : (i : ℕ) (u : FileUnit Spot) → Nth 0 units i u → u.file ≡ file → CarriedUnit from (bases_in u.unit) u.unit) (own : RootsCarried from (plan rule units files) units (Local file)) where
   abbrev m : Move
   m = plan rule units files

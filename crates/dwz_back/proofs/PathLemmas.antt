@@ -5,11 +5,11 @@ use Rattle.dwz_docs.specs.Texts.{NoZero}
 use Rattle.dwz_meanings.specs.Documents.{Attr, DwUnit, Sec, Value, only}
 use Rattle.dwz_meanings.specs.LineTables.{FileTable}
 use Rattle.dwz_meanings.specs.LinesWritten.{AreTexts}
-use Rattle.dwz_meanings.specs.Meanings.{Class, IfSo, IsFileBy, IsFileNumber, IsLocList, MeansAs, OfAddress, OfBlock, OfCommonEntry, OfCommonText, OfConstant, OfExpression, OfFlag, OfIndex, OfInfoEntry, OfListIndex, OfOffset, OfSignature, OfText, OfTextBySlot, OfTextInLineStr, OfTextInStr, OfUnitEntry, Scope, Sources, Unread, class_of, constant_value, names_file, names_list, number_of, offset_of, path_by, stmt_list}
+use Rattle.dwz_meanings.specs.Meanings.{Class, IfSo, IsFileBy, IsFileNumber, IsLocList, MeansAs, OfAddress, OfBlock, OfCommonEntry, OfCommonText, OfConstant, OfExpression, OfFlag, OfIndex, OfInfoEntry, OfListIndex, OfOffset, OfSignature, OfText, OfTextBySlot, OfTextInLineStr, OfTextInStr, OfUnitEntry, Scope, Unread, class_of, constant_value, names_file, names_list, number_of, offset_of, path_by, stmt_list}
 use Rattle.dwz_meanings.proofs.PathTexts.{nth_text, table_paths}
 use Rattle.dwz_seen.specs.Lists.{Each}
 use Rattle.dwz_writing.specs.Bases.{Bases}
-use Rattle.dwz_writing.specs.Carried.{CarriedAttr, CarriedUnit}
+use Rattle.dwz_writing.specs.Carried.{CarriedAttr, CarriedUnit, From}
 use Rattle.dwz_writing.specs.Fitting.{EachAttr}
 use Rattle.dwz_writing.proofs.PoolLemmas.{PathText}
 use Rattle.dwz_back.proofs.FreeOperands.{carried_attrs, entries_more}
@@ -55,7 +55,7 @@ module _ {P : Type 0} where
   class_path OfCommonText s a v h = as_is v _ h.2.value tt
   class_path Unread s a v h = absurd h
 
-module _ {K : Type 0} (from : Sources → Type 0) (origin : Bases) where
+module _ {K : Type 0} (from : From) (origin : Bases) where
   attr_path : (a : Attr K) → CarriedAttr from origin a → PathText a.value.plain
   attr_path a (inl came) =
       let w = came.was_read in
@@ -69,7 +69,7 @@ module _ {K : Type 0} (from : Sources → Type 0) (origin : Bases) where
     entries_more (CarriedAttr from origin) (λ a. PathText a.value.plain) attr_path u.below (carried_attrs from origin u.below is.below),
   )
 
-pub paths_carried : {K : Type 0} (from : Sources → Type 0) (origin : K → Bases) (units : List (DwUnit K)) → Each (λ u. CarriedUnit from (origin u.at) u) units
+pub paths_carried : {K : Type 0} (from : From) (origin : K → Bases) (units : List (DwUnit K)) → Each (λ u. CarriedUnit from (origin u.at) u) units
     → Each (λ u. Each (λ a. PathText a.value.plain) u.root.attrs × EachAttr (λ a. PathText a.value.plain) u.below) units
 paths_carried from origin [] are = tt
 paths_carried from origin (u ∷ units) are = (unit_paths from (origin u.at) u are.0, paths_carried from origin units are.1)

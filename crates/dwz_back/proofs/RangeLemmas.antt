@@ -23,7 +23,9 @@ use Rattle.dwz_writing.specs.Meant.{placed_units}
 use Rattle.dwz_writing.specs.Placing.{FileFit, Forms, fit_unit, fit_units, with_keys}
 use Rattle.dwz_writing.specs.Writing.{Numbering}
 use Rattle.dwz_back.specs.Back.{AllStandAfter, around_in}
-use Rattle.dwz_back.specs.Files.{AreRanged, Run, name_after, places}
+use Rattle.dwz_back.specs.Files.{AreRanged, Run, file_forms, fitted, fitted_if, formed, name_after, places, sources, uses}
+use Rattle.dwz_docs.specs.Pruning.{new_number}
+use Rattle.dwz_writing.specs.Pruned.{renumbered_unit, renumbered_units}
 use Rattle.dwz_back.proofs.ReadBuilt.{own}
 use Rattle.dwz_back.proofs.WithinLemmas.{kept_to}
 
@@ -166,9 +168,23 @@ are_units others number is_unit good (s ∷ sets) h = (let o = good s.unit h.0 i
 fitted_there : (f : FileFit Spot) (units : List (DwUnit Spot)) (u : DwUnit Spot) → In u units → In (fit_unit f u) (map (fit_unit f) units)
 fitted_there f units u there = in_map (fit_unit f) u units there
 
-pub fit_there : (f : Forms Spot) (units : List (DwUnit Spot)) (u : DwUnit Spot) → In u units → (w : DwUnit Spot) × In w (fit_units f units) × (w.at ≡ u.at) × (w.kind ≡ u.kind)
+fit_there : (f : Forms Spot) (units : List (DwUnit Spot)) (u : DwUnit Spot) → In u units → (w : DwUnit Spot) × In w (fit_units f units) × (w.at ≡ u.at) × (w.kind ≡ u.kind)
 unfolding fit_units
 fit_there f units u there = (fit_unit (with_keys f (units_keys units)) u, fitted_there (with_keys f (units_keys units)) units u there, refl, refl)
+
+-- each unit of a file is written
+pub written_there : (r : Run) (file : ℕ) (u : DwUnit Spot) → In u (out_units r.move r.units file) → (w : DwUnit Spot) × In w (fitted r file) × (w.at ≡ u.at) × (w.kind ≡ u.kind)
+unfolding fitted formed renumbered_units
+written_there r file u there = by (r.input.prunes file) where
+  formed_there : (w : DwUnit Spot) × In w (formed r file) × (w.at ≡ u.at) × (w.kind ≡ u.kind)
+  formed_there = fit_there (file_forms r file) (out_units r.move r.units file) u there
+
+  by : (b : Bool) → (w : DwUnit Spot) × In w (fitted_if b r file) × (w.at ≡ u.at) × (w.kind ≡ u.kind)
+  by true =
+      let number = new_number (sources r file).strs (uses r file) in
+      let w = formed_there in
+      (renumbered_unit number w.0, in_map (renumbered_unit number) w.0 (formed r file) w.1, w.2, w.3)
+  by false = formed_there
 
 -- sets that were changed are of units, where the places of units after pass the test
 pub ranged_spell : (r : Run) (file : ℕ) → AllStandAfter r file → (new : List ℕ) → (are : AreRanged r file new)

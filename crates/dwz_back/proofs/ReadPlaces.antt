@@ -15,7 +15,7 @@ use Rattle.dwz_model.specs.declared.place.Base.TheVariants.{Unit as FromUnit, In
 use Rattle.dwz_meanings.specs.declared.exprs.Operand.{Operand}
 use Rattle.dwz_meanings.specs.Exprs.{AreNamed}
 use Rattle.dwz_meanings.proofs.MeaningLemmas.{has_in}
-use Rattle.dwz_meanings.specs.Meanings.{Class, IsLocList, MeanAttrs, MeanEntries, MeanUnits, MeansAs, MeansKind, MeansUnit, OfAddress, OfBlock, OfCommonEntry, OfCommonText, OfConstant, OfExpression, OfFlag, OfIndex, OfInfoEntry, OfListIndex, OfOffset, OfSignature, OfText, OfTextBySlot, OfTextInLineStr, OfTextInStr, OfUnitEntry, Scope, Sources, IfSo, IsFileBy, Unread, all_places, class_of, entries_for, expr_context, kept_width, names_file, names_list, number_of, offset_of, places_in, places_of, scope_of, stmt_list, target_of, targets, without_siblings}
+use Rattle.dwz_meanings.specs.Meanings.{Around, Class, IsLocList, MeanAttrs, MeanEntries, MeanUnits, MeansAs, MeansKind, MeansUnit, OfAddress, OfBlock, OfCommonEntry, OfCommonText, OfConstant, OfExpression, OfFlag, OfIndex, OfInfoEntry, OfListIndex, OfOffset, OfSignature, OfText, OfTextBySlot, OfTextInLineStr, OfTextInStr, OfUnitEntry, Scope, Sources, IfSo, IsFileBy, Unread, all_places, class_of, entries_for, expr_context, kept_width, names_file, names_list, number_of, offset_of, places_in, places_of, scope_of, stmt_list, target_of, targets, without_siblings}
 use Rattle.dwz_docs.specs.Trees.{End, Entry, Forest, IfChildren, Position, SpellsForest, behind, first_below}
 use Rattle.dwz_docs.specs.Units.{CompileUnit, PartialUnit, RawKind, RawUnit, SpellsTree, SpellsUnit, SpellsUnits, TypeUnit, entry_count, header_size, is_read, kind_by, unit_type}
 use Rattle.dwz_docs.specs.Values.{AreBytes}
@@ -25,7 +25,7 @@ use Rattle.dwz_seen.specs.Shown.{HaveMains, keys, unit_keys, units_keys}
 use Rattle.dwz_seen.proofs.Members.{each_in, in_cases, in_left, in_right}
 use Rattle.dwz_seen.proofs.SeenLemmas.{entry_seen, root_from, root_seen, seen_from}
 use Rattle.dwz_same.specs.After.{ArePlaced}
-use Rattle.dwz_writing.specs.Carried.{CarriedUnit, OfFile}
+use Rattle.dwz_writing.specs.Carried.{CarriedUnit, From, OfFile}
 use Rattle.dwz_writing.specs.Bases.{bases_in}
 use Rattle.dwz_writing.specs.Meant.{KindSays, entry_keys}
 use Rattle.dwz_writing.proofs.ReadAgain.{keys_read, units_carried}
@@ -350,13 +350,13 @@ module _ (abbrevs info : List ℕ) (mode : Mode) (raw : List RawUnit) (sources :
 
 -- ---- a file
 
-units_main : (from : Sources → Type 0) (units : List (DwUnit ℕ)) → Each (λ u. CarriedUnit from (bases_in u) u) units → HaveMains units
+units_main : (from : From) (units : List (DwUnit ℕ)) → Each (λ u. CarriedUnit from (bases_in u) u) units → HaveMains units
 units_main from units are = λ u there signature main e.
     (let c = each_in (λ w. CarriedUnit from (bases_in w) w) u units are there in subst (λ (k : Kind ℕ). KindSays (entry_keys u) k) e c.main)
 
 pub read_from : (l : Limits) (input : List ℕ) (raw : List RawUnit) (doc : Doc ℕ) → Reads l input raw doc → AreBytes (debug_info input) → WasReadFrom (sources_of input) doc.units
 read_from l input raw doc reads are =
-    let carried = units_carried (debug_abbrev input) (given l.entries) refl (OfFile (sources_of input)) (own (sources_of input) (all_places raw)) refl raw doc.units 0 0 (debug_info input)
+    let carried = units_carried (debug_abbrev input) (given l.entries) refl (OfFile (sources_of input)) (own (sources_of input) (all_places raw)) (λ s a same. ap (λ (w : Around ℕ). w.sources) same) raw doc.units 0 0 (debug_info input)
     reads.spelled reads.means are (units_built (sources_of input) (all_places raw) raw doc.units reads.means) in
     record {
       placed = read_placed (debug_abbrev input) (debug_info input) (given l.entries) raw (sources_of input) doc.units reads.spelled reads.means refl

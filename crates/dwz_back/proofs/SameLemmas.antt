@@ -1,5 +1,5 @@
 -- What all files say is shown by the units after, and each name has one place.
-use Rattle.std.proofs.Common.{◌≡◌, ◌⊎◌, ℕ, suc, ◌+◌, ◌<◌, Bool, true, false, List, [], ◌∷◌, ◌++◌, length, map, refl, sym, ap, subst, ◌∙◌, arith}
+use Rattle.std.proofs.Common.{◌≡◌, ◌⊎◌, ℕ, suc, ◌+◌, ◌<◌, Bool, true, false, List, [], ◌∷◌, ◌++◌, length, map, refl, sym, ap, subst, ◌∙◌, arith, cond, eqb, pos}
 use Rattle.std.proofs.Math.Logic.{inl, inr}
 use Rattle.dwz_meanings.specs.Documents.{Attr, Doc, DwUnit, Entries, Node}
 use Rattle.dwz_docs.specs.Lists.{In}
@@ -15,15 +15,18 @@ use Rattle.dwz_same.specs.After.{ArePlaced, FilesSame, Place, at_file}
 use Rattle.dwz_same.specs.Units.{all_units, changes, common_units, file_units, out_units}
 use Rattle.dwz_same.proofs.FileLemmas.{files_same}
 use Rattle.dwz_writing.specs.Meant.{placed_attr, placed_entries, placed_node, placed_units}
-use Rattle.dwz_writing.specs.Placing.{FileFit, Fit, fit, fit_attr, fit_node, fit_unit, fit_units, unit_fit, with_keys}
+use Rattle.dwz_writing.specs.Placing.{FileFit, Fit, fit, fit_attr, fit_node, fit_unit, fit_units, unit_fit, with_form, with_keys}
 use Rattle.dwz_writing.specs.Writing.{Numbering}
 use Rattle.dwz_writing.proofs.Chosen.{fit_units_fixed}
 use Rattle.dwz_writing.proofs.Places.{numbering_stands}
 use Rattle.dwz_writing.proofs.Rising.{place_one}
 use Rattle.dwz_writing.proofs.SameLemmas.{spots_same}
 use Rattle.dwz_back.specs.Back.{AreAtOld, IsPlacing, SameBack, all_back, back_units, files_back, run_of}
-use Rattle.dwz_back.specs.Files.{Run, Stored, common_fitted, common_forms, common_out, file_forms, file_out, files_out, fitted, places}
-use Rattle.dwz_back.proofs.NameLemmas.{common_names, common_there, file_there, fitted_names, keys_append, run_once}
+use Rattle.dwz_back.specs.Files.{Run, Stored, common_fitted, common_forms, common_out, file_forms, file_out, files_out, fitted, fitted_if, formed, places, sources, uses}
+use Rattle.dwz_docs.specs.Pruning.{new_number}
+use Rattle.dwz_writing.specs.Pruned.{renumbered, renumbered_attr, renumbered_node, renumbered_unit, renumbered_units}
+use Rattle.dwz_bytes.specs.Spelling.{reach}
+use Rattle.dwz_back.proofs.NameLemmas.{common_names, common_there, file_there, fitted_fixed, fitted_names, keys_append, run_once}
 
 -- ---- forms and numbers aren't seen
 
@@ -44,6 +47,39 @@ units_shown : {K P : Type 0} (n : Numbering K) (g : K → P) (f : FileFit K) (un
 units_shown n g f [] = tt
 units_shown n g f (u ∷ units) =
     (record { kind = refl; root = node_shown n g (n.place u.at) (unit_fit f u) u.root; below = entries_shown n g (n.place u.at) (unit_fit f u) u.below }, units_shown n g f units)
+
+-- nor are new numbers of texts
+module _ {K P : Type 0} (n : Numbering K) (g : K → P) (number : ℕ → ℕ) where
+  attr_seen : (unit : ℕ) (a : Attr K) → named_value (placed_attr n g unit (renumbered_attr number a)) ≡ named_value (placed_attr n g unit a)
+  attr_seen unit a = by (eqb a.form 0x0e) where
+    by : (b : Bool) → named_value (placed_attr n g unit (cond b (with_form a (record { form = 0x0e; raw = pos (number (reach a.raw)) })) a)) ≡ named_value (placed_attr n g unit a)
+    by true = refl
+    by false = refl
+
+  attrs_seen : (unit : ℕ) (attrs : List (Attr K)) → map named_value (map (placed_attr n g unit) (map (renumbered_attr number) attrs)) ≡ map named_value (map (placed_attr n g unit) attrs)
+  attrs_seen unit [] = refl
+  attrs_seen unit (a ∷ attrs) =
+      ap (λ (w : Named P). w ∷ map named_value (map (placed_attr n g unit) (map (renumbered_attr number) attrs))) (attr_seen unit a)
+      ∙ ap (λ (w : List (Named P)). named_value (placed_attr n g unit a) ∷ w) (attrs_seen unit attrs)
+
+  node_again : (unit : ℕ) (e d : Node K) → IsShown g e (placed_node n g unit d) → IsShown g e (placed_node n g unit (renumbered_node number d))
+  node_again unit e d is = record { at = is.at; tag = is.tag; attrs = attrs_seen unit d.attrs ∙ is.attrs }
+
+  entries_again : (unit : ℕ) (t d : Entries K) → AreShown g t (placed_entries n g unit d) → AreShown g t (placed_entries n g unit (renumbered number d))
+  unfolding placed_entries renumbered
+  entries_again unit End End is = tt
+  entries_again unit End (Entry d f k) is = absurd is
+  entries_again unit (Entry e f k) End is = absurd is
+  entries_again unit (Entry e f k) (Entry d f' k') is = (node_again unit e d is.0, entries_again unit f f' is.1, entries_again unit k k' is.2)
+
+  units_again : (units some : List (DwUnit K)) → UnitsShown g units (placed_units n g some) → UnitsShown g units (placed_units n g (map (renumbered_unit number) some))
+  units_again [] [] is = tt
+  units_again [] (v ∷ some) is = absurd is
+  units_again (u ∷ units) [] is = absurd is
+  units_again (u ∷ units) (v ∷ some) is = (
+    record { kind = is.0.kind; root = node_again (n.place v.at) u.root v.root is.0.root; below = entries_again (n.place v.at) u.below v.below is.0.below },
+    units_again units some is.1,
+  )
 
 shown_append : {P Q : Type 0} (g : P → Q) (a b : List (DwUnit P)) (c d : List (DwUnit Q)) → UnitsShown g a c → UnitsShown g b d → UnitsShown g (a ++ b) (c ++ d)
 shown_append g [] b [] d h k = k
@@ -73,8 +109,14 @@ module _ (scope : Scope) (docs : List (Doc ℕ)) (rule : Rule) (placed : Each (�
   common_shown = units_shown n g (with_keys (common_forms r) (units_keys (common_units r.move))) (common_units r.move)
 
   written_shown : (file : ℕ) → UnitsShown g (out_units r.move r.units file) (placed_units n g (fitted r file))
-  unfolding fitted fit_units
-  written_shown file = units_shown n g (with_keys (file_forms r file) (units_keys (out_units r.move r.units file))) (out_units r.move r.units file)
+  unfolding fitted formed fit_units renumbered_units
+  written_shown file = by (r.input.prunes file) where
+    shown : UnitsShown g (out_units r.move r.units file) (placed_units n g (formed r file))
+    shown = units_shown n g (with_keys (file_forms r file) (units_keys (out_units r.move r.units file))) (out_units r.move r.units file)
+
+    by : (b : Bool) → UnitsShown g (out_units r.move r.units file) (placed_units n g (fitted_if b r file))
+    by true = units_again n g (new_number (sources r file).strs (uses r file)) (out_units r.move r.units file) (formed r file) shown
+    by false = shown
 
   file_shown : (file : ℕ) (doc : Doc ℕ) → Nth 0 docs file doc → UnitsShown g (out_units r.move r.units file) (back_units r g (changes r.move r.units file) file doc)
   file_shown file doc nth = by (changes r.move r.units file) refl where
@@ -134,12 +176,11 @@ module _ (scope : Scope) (docs : List (Doc ℕ)) (rule : Rule) (placed : Each (�
       place_one n (common_fitted r) stands x y (subst (In x) (sym (common_names r)) a) (subst (In y) (sym (common_names r)) b) same
 
   file_one : (file : ℕ) → In file r.files → OnePlace g (out_units r.move r.units file)
-  unfolding fitted
   file_one file there x y a b e = by (changes r.move r.units file) refl where
     by : (c : Bool) → changes r.move r.units file ≡ c → x ≡ y
     by false c = old.one file there c x y a b e
     by true c =
-        (let stands = numbering_stands same_spot spots_same (files_out r) (run_once r together.apart) (file_out r file) (file_there r file there) (fit_units_fixed (file_forms r file) (out_units r.move r.units file)) in
+        (let stands = numbering_stands same_spot spots_same (files_out r) (run_once r together.apart) (file_out r file) (file_there r file there) (fitted_fixed r file) in
         let same : n.place x ≡ n.place y = ap (λ (p : Place). p.at) (file_place file there c x a ∙ e ∙ sym (file_place file there c y b)) in
         place_one n (fitted r file) stands x y (subst (In x) (sym (fitted_names r file)) a) (subst (In y) (sym (fitted_names r file)) b) same)
 

@@ -15,7 +15,7 @@ use Rattle.dwz_seen.specs.Lists.{Each, NoneTwice}
 use Rattle.dwz_seen.specs.Shown.{unit_keys, units_keys}
 use Rattle.dwz_seen.specs.Seen.{IsPartial}
 use Rattle.dwz_seen.proofs.ShownLemmas.{unit_key}
-use Rattle.dwz_back.proofs.RangeLemmas.{fit_there, place_back, ranged_spell}
+use Rattle.dwz_back.proofs.RangeLemmas.{place_back, ranged_spell, written_there}
 use Rattle.dwz_seen.proofs.Members.{in_map}
 use Rattle.dwz_same.specs.After.{Place, at_file}
 use Rattle.dwz_same.specs.Units.{all_units, changes, common_units, out_units}
@@ -39,8 +39,12 @@ use Rattle.dwz_writing.proofs.UnitsSpelled.{units_len}
 use Rattle.dwz_writing.proofs.WriteLaws.{fits, is_roomy, means, spelled}
 use Rattle.dwz_back.specs.Back.{CanWrite, IsPlacing, RangesBack, SaysPlaced, around_in, given_by}
 use Rattle.dwz_meanings.specs.Shared.{ListOperand, NoneShared, operands_in_lists}
-use Rattle.dwz_back.specs.Files.{HasCommon, HasSections, Run, common_fitted, common_forms, common_out, common_sections, file_forms, file_out, files_out, fitted, name_after, paths, imports_common, place_of, places, sections_of, shared, shared_if, sources, tells, tells_common, texts}
-use Rattle.dwz_back.proofs.NameLemmas.{common_names, common_there, file_once, file_there, fitted_names, name_in_common, name_in_file, not_common, run_once}
+use Rattle.dwz_back.specs.Files.{HasCommon, HasSections, Run, common_fitted, common_forms, common_out, common_sections, file_forms, file_out, files_out, fitted, fitted_if, formed, imports_common, name_after, OffsetsIf, paths, place_of, places, sections_of, shared, shared_if, sources, strs_if, tells, tells_common, texts, uses}
+use Rattle.dwz_docs.specs.Pruning.{new_number}
+use Rattle.dwz_writing.specs.Pruned.{with_texts}
+use Rattle.dwz_writing.proofs.PrunedUnits.{units_pruned}
+use Rattle.dwz_writing.proofs.Renumbered.{renumbered_room}
+use Rattle.dwz_back.proofs.NameLemmas.{common_names, common_there, file_once, file_there, fitted_entries, fitted_fixed, fitted_names, name_in_common, name_in_file, not_common, run_once}
 
 -- the places where names are written are such places
 pub written_places : (r : Run) → NoneTwice (units_keys (all_units r.move r.units r.files)) → IsPlacing r (place_of r)
@@ -71,16 +75,11 @@ module _ (r : Run) (can : CanWrite r) (g : Spot → Place) (ok : IsPlacing r g) 
   common_stands = numbering_stands same_spot spots_same (files_out r) (run_once r can.apart) (common_out r) (common_there r) (fit_units_fixed (common_forms r) (common_units r.move))
 
   file_stands : (file : ℕ) → In file r.files → UnitsStand n (fitted r file) 0
-  unfolding fitted
-  file_stands file there = numbering_stands same_spot spots_same (files_out r) (run_once r can.apart) (file_out r file) (file_there r file there) (fit_units_fixed (file_forms r file) (out_units r.move r.units file))
+  file_stands file there = numbering_stands same_spot spots_same (files_out r) (run_once r can.apart) (file_out r file) (file_there r file there) (fitted_fixed r file)
 
   common_all : all_entry_keys (common_fitted r) ≡ all_entry_keys (common_units r.move)
   unfolding common_fitted
   common_all = fit_units_all (common_forms r) (common_units r.move)
-
-  file_all : (file : ℕ) → all_entry_keys (fitted r file) ≡ all_entry_keys (out_units r.move r.units file)
-  unfolding fitted
-  file_all file = fit_units_all (file_forms r file) (out_units r.move r.units file)
 
   -- a name's place is small
   few_places : (units : List (DwUnit Spot)) → UnitsStand n units 0 → FitsSections (sections n units) → (k : Spot) → In k (units_keys units) → n.place k < 2 ^ 32
@@ -207,26 +206,40 @@ module _ (r : Run) (can : CanWrite r) (g : Spot → Place) (ok : IsPlacing r g) 
 
   -- ---- a file
 
-  file_good : (file : ℕ) → In file r.files → changes r.move r.units file ≡ true → length (sources r file).strs < 2 ^ 32 → length (texts_bytes (shared r file)) < 2 ^ 32 → Each SoundUnit (fitted r file) × UnitsSay (tells r file) (fitted r file)
-  unfolding fitted
-  file_good file there changed small few =
+  formed_good : (file : ℕ) → In file r.files → changes r.move r.units file ≡ true → length (texts_bytes (shared r file)) < 2 ^ 32 → Each SoundUnit (formed r file) × UnitsSay (tells r file) (formed r file)
+  unfolding formed
+  formed_good file there changed few =
       let names = fitted_names r file in
       let c = can.file file there changed in
-      units_good (file_forms r file) spots_same (OfFile (sources r file)) (tells r file) (out_units r.move r.units file) (file_all file) (subst NoneTwice names (file_once (files_out r) (run_once r can.apart) (file_out r file) (file_there r file there))) c.carried c.closed
+      units_good (file_forms r file) spots_same (OfFile (sources r file)) (tells r file) (out_units r.move r.units file) (fitted_entries r file) (subst NoneTwice names (file_once (files_out r) (run_once r can.apart) (file_out r file) (file_there r file there))) c.carried c.closed
       (λ k common own. not_common r can.apart file there k (entries_are_keys (common_fitted r) k common) (subst (In k) (sym names) own))
-      (small, λ s is. (ap (λ (x : Sources). x.strs) (sym is), ap (λ (x : Sources). x.line_strs) (sym is), ap (λ (x : Sources). x.offsets) (sym is), ap (λ (x : Sources). x.line) (sym is), ap (λ (x : Sources). x.offsets) (sym is)), record { strs = refl; few = few }) c.over.bases c.over.operands
+      (can.few file there, λ s a is. record { strs = ap (λ (x : Sources). x.strs) (sym is); line_strs = ap (λ (x : Sources). x.line_strs) (sym is); offsets = ap (λ (x : Sources). x.offsets) (sym is); line = ap (λ (x : Sources). x.line) (sym is); slots = ap (λ (x : Sources). x.offsets) (sym is) }, record { strs = refl; few = few }) c.over.bases c.over.operands
+
+  -- where the file is pruned its units say the same of what stays
+  file_good : (file : ℕ) → In file r.files → changes r.move r.units file ≡ true → length (texts_bytes (shared r file)) < 2 ^ 32 → (offsets : List ℕ) → OffsetsIf (r.input.prunes file) r file offsets
+      → Each SoundUnit (fitted r file) × UnitsSay (with_texts (tells r file) (strs_if (r.input.prunes file) r file) offsets) (fitted r file)
+  unfolding fitted uses
+  file_good file there changed few offsets new = by (r.input.prunes file) refl new where
+    good : Each SoundUnit (formed r file) × UnitsSay (tells r file) (formed r file)
+    good = formed_good file there changed few
+
+    by : (b : Bool) → r.input.prunes file ≡ b → OffsetsIf b r file offsets → Each SoundUnit (fitted_if b r file) × UnitsSay (with_texts (tells r file) (strs_if b r file) offsets) (fitted_if b r file)
+    by true e new = units_pruned (tells r file) (formed r file) offsets (can.few file there) new (can.stay file there changed e) good.0 good.1
+    by false e new = (good.0, subst (λ (w : List ℕ). UnitsSay (with_texts (tells r file) (sources r file).strs w) (formed r file)) (sym new) good.1)
 
   file_room : (file : ℕ) → In file r.files → changes r.move r.units file ≡ true → Each (UnitHasRoom n) (fitted r file)
-  unfolding fitted
-  file_room file there changed = (can.file file there changed).over.room
+  unfolding fitted formed
+  file_room file there changed = by (r.input.prunes file) where
+    by : (b : Bool) → Each (UnitHasRoom n) (fitted_if b r file)
+    by true = renumbered_room (new_number (sources r file).strs (uses r file)) n (formed r file) (can.file file there changed).over.room
+    by false = (can.file file there changed).over.room
 
   -- its sets of address ranges are of units after
   file_ranged : (file : ℕ) → In file r.files → (out : List ℕ) (has : HasSections r file out) (others : ℕ → Bool)
       → ((w : DwUnit Spot) → In w (fitted r file) → (IsPartial w.kind → ⊥) → (n.place w.at < 2 ^ 32) × (others (n.place w.at) ≡ true))
       → SpellsSets others (of_units has.ranges.sets (map (λ s. n.place (name_after r file s.unit)) has.ranges.sets)) 0 (debug_aranges out)
-  unfolding fitted
   file_ranged file there out has others good = ranged_spell r file (can.units file there) (debug_aranges out) has.ranges others (λ u u_in whole.
-      (let w = fit_there (file_forms r file) (out_units r.move r.units file) u u_in in
+      (let w = written_there r file u u_in in
       let o = good w.0 w.1 (λ partial. whole (subst IsPartial w.3 partial)) in
       subst (λ (k : Spot). (n.place k < 2 ^ 32) × (others (n.place k) ≡ true)) w.2 o))
 
@@ -234,20 +247,20 @@ module _ (r : Run) (can : CanWrite r) (g : Spot → Place) (ok : IsPlacing r g) 
       → ((k : Spot) → In k (all_entry_keys (common_fitted r)) → n.place k < 2 ^ 32) → ((k : Spot) → In k (all_entry_keys (common_fitted r)) → (c : Common Place) × (common ≡ Some c) × In (n.place k) c.entries × (c.place (n.place k) ≡ g k))
       → length (texts_bytes (shared r file)) < 2 ^ 32 → ((at : ℕ) (text : List ℕ) → IsTextAt (texts_bytes (shared r file)) at text → (c : Common Place) × (common ≡ Some c) × IsTextAt c.strs at text)
       → SaysPlaced r g common file out (fitted r file)
-  with_common common out file there changed has small few given few_texts texts_given = said_placed (tells r file) common file out (fitted r file) (record {
+  with_common common out file there changed has small few given few_texts texts_given = said_placed (with_texts (tells r file) (strs_if (r.input.prunes file) r file) (sources_of out).offsets) common file out (fitted r file) (record {
     all = refl;
-    good = file_good file there changed (subst (λ (w : List ℕ). length w < 2 ^ 32) has.strs has.small) few_texts;
+    good = file_good file there changed few_texts (sources_of out).offsets has.offsets;
     stands = file_stands file there;
     elf = has.elf;
     info = has.info;
     abbrevs = has.abbrevs;
     strs = has.strs;
     line_strs = has.line_strs;
-    offsets = has.offsets;
+    offsets = refl;
     line = has.line;
     common_strs = texts_given;
     none_shared = (can.file file there changed).over.lists;
-    lists = has.lists;
+    lists = record { number = has.lists.number; are = has.lists.are; patched = has.lists.patched };
     ranges = λ others good. (_, file_ranged file there out has others good);
     room = file_room file there changed;
     small = small;

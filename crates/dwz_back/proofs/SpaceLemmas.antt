@@ -4,7 +4,7 @@ use Rattle.dwz_docs.specs.Entries.{RawAttr}
 use Rattle.dwz_docs.specs.Lists.{In}
 use Rattle.dwz_docs.specs.Trees.{End, Entry}
 use Rattle.dwz_meanings.specs.Documents.{Attr, Entries, Node, File, Sec, Text, Value, first_named, language, only, value_map}
-use Rattle.dwz_meanings.specs.Meanings.{Class, IfSo, IsFileBy, IsLocList, MeansAs, OfAddress, OfBlock, OfCommonEntry, OfCommonText, OfConstant, OfExpression, OfFlag, OfIndex, OfInfoEntry, OfListIndex, OfOffset, OfSignature, OfText, OfTextBySlot, OfTextInLineStr, OfTextInStr, OfUnitEntry, Scope, Sources, Unread, class_of, constant_value, names_file, names_list, number_of, offset_of, stmt_list}
+use Rattle.dwz_meanings.specs.Meanings.{Class, IfSo, IsFileBy, IsLocList, MeansAs, OfAddress, OfBlock, OfCommonEntry, OfCommonText, OfConstant, OfExpression, OfFlag, OfIndex, OfInfoEntry, OfListIndex, OfOffset, OfSignature, OfText, OfTextBySlot, OfTextInLineStr, OfTextInStr, OfUnitEntry, Scope, Unread, class_of, constant_value, names_file, names_list, number_of, offset_of, stmt_list}
 use Rattle.dwz_seen.specs.Lists.{Each, Nth}
 use Rattle.dwz_seen.specs.Spaces.{space_text, text_at, text_in}
 use Rattle.dwz_seen.proofs.Members.{each_append, each_in, in_cases}
@@ -13,7 +13,7 @@ use Rattle.dwz_alike.proofs.RowLemmas.{RowIs, unit_row}
 use Rattle.dwz_alike.proofs.Tops.{unit_of}
 use Rattle.dwz_moving.specs.Plan.{space_entry}
 use Rattle.dwz_writing.specs.Bases.{Bases, bases_in}
-use Rattle.dwz_writing.specs.Carried.{CarriedAttr, CarriedEntries, CarriedNode, CarriedUnit}
+use Rattle.dwz_writing.specs.Carried.{CarriedAttr, CarriedEntries, CarriedNode, CarriedUnit, From}
 use Rattle.dwz_back.specs.Files.{bases_at}
 use Rattle.dwz_back.proofs.OriginLemmas.{bases_found}
 
@@ -61,7 +61,7 @@ module _ {P : Type 0} (text : List ℕ) where
   as_text OfCommonText s a v h is = own_text v _ h.2.value is
   as_text Unread s a v h is = absurd h
 
-module _ (from : Sources → Type 0) (origin : Bases) where
+module _ (from : From) (origin : Bases) where
   text_only : (a : Attr Spot) (text : List ℕ) → CarriedAttr from origin a → text_in a.value.plain ≡ Some text → a.value ≡ only (Text text)
   text_only a text (inl came) is =
       let w = came.was_read in
@@ -115,7 +115,7 @@ module _ (from : Sources → Type 0) (origin : Bases) where
     row_names spaces n (ASpace d inner row) End h names carried t is = absurd h
 
 -- the names of the spaces that a top stands in
-pub top_names : (from : Sources → Type 0) (units : List (FileUnit Spot)) (t : Top) → In t (tops_of units) → ((i : ℕ) (u : FileUnit Spot) → Nth 0 units i u → u.file ≡ t.file → CarriedUnit from (bases_in u.unit) u.unit)
+pub top_names : (from : From) (units : List (FileUnit Spot)) (t : Top) → In t (tops_of units) → ((i : ℕ) (u : FileUnit Spot) → Nth 0 units i u → u.file ≡ t.file → CarriedUnit from (bases_in u.unit) u.unit)
     → (s : SpaceName) → In s t.spaces → NameCarried from (bases_at units t.unit) s
 top_names from units t there are s is =
     let o = unit_of units t there in
@@ -124,5 +124,5 @@ top_names from units t there are s is =
     let names = row_names from origin o.unit.file t.unit (language o.unit.unit) [] r.first (row_of units t.unit) o.unit.unit.below r.is tt (are t.unit o.unit o.nth (sym o.file_is)).below t o.in_row in
     subst (λ (b : Bases). NameCarried from b s) (sym (bases_found units 0 t.unit t.unit o.unit o.nth (omega arith))) (each_in (NameCarried from origin) s t.spaces names is)
 
-pub space_carried : (from : Sources → Type 0) (origin : Bases) (part chain depth : ℕ) (s : SpaceName) → NameCarried from origin s → CarriedNode from origin (space_entry part chain depth s)
+pub space_carried : (from : From) (origin : Bases) (part chain depth : ℕ) (s : SpaceName) → NameCarried from origin s → CarriedNode from origin (space_entry part chain depth s)
 space_carried from origin part chain depth s is = record { some_tag = omega arith; tag_fits = omega arith; attrs = (is, tt) }

@@ -1,5 +1,5 @@
 -- What all files say together, from the bytes that were read to those that are read back.
-use Rattle.std.specs.Prelude.{◌≡◌, ℕ, true, List, map, Option, Some, None}
+use Rattle.std.specs.Prelude.{◌≡◌, ◌↔◌, ℕ, Bool, true, List, map, Option, Some, None}
 use Rattle.dwz_docs.specs.Lists.{In}
 use Rattle.dwz_docs.specs.Units.{RawUnit}
 use Rattle.dwz_docs.specs.Values.{AreBytes}
@@ -14,17 +14,19 @@ use Rattle.dwz_same.specs.After.{Place, at_file}
 use Rattle.dwz_same.specs.Units.{changes}
 use Rattle.dwz_writing.specs.Placing.{FitsSections}
 use Rattle.dwz_back.specs.Back.{AreAtOld, CanWrite, FileOver, IsPlacing, RangesBack, SameBack, SaysPlaced, SaysUnits, given_by, run_of}
+use Rattle.dwz_back.specs.Prunable.{IsPrunable}
 use Rattle.dwz_back.specs.Files.{HasCommon, HasSections, Run, Stored, common_fitted, common_sections, fitted, paths, sections_of, texts}
 
--- the file with these bytes and units reads, and says a document
-pub record IsRead (bytes : List ℕ) (raw : List RawUnit) (doc : Doc ℕ) : Type 0 where
+-- the file with these bytes and units reads, and says a document; and the answer is whether it is prunable
+pub record IsRead (bytes : List ℕ) (raw : List RawUnit) (prunes : Bool) (doc : Doc ℕ) : Type 0 where
   pub limits : Limits
   pub reads : Reads limits bytes raw doc
   pub are_bytes : AreBytes (debug_info bytes)
+  pub prunable : (prunes ≡ true) ↔ IsPrunable bytes doc.units
 
 -- each file reads, and says the document with its number
 abbrev pub AreRead : Stored → List (Doc ℕ) → Type 0
-AreRead input docs = (file : ℕ) (doc : Doc ℕ) → Nth 0 docs file doc → IsRead (input.bytes file) (input.raw file) doc
+AreRead input docs = (file : ℕ) (doc : Doc ℕ) → Nth 0 docs file doc → IsRead (input.bytes file) (input.raw file) (input.prunes file) doc
 
 -- each file of which something moves has room for its operands
 abbrev pub AreOver : Run → Type 0

@@ -1,11 +1,11 @@
 -- What files say that are read back with a common file.
-use Rattle.std.specs.Prelude.{◌≡◌, ℕ, suc, Bool, true, false, List, [], ◌∷◌, ◌++◌, length, map, Option, Some, None}
+use Rattle.std.specs.Prelude.{◌≡◌, ◌↔◌, ℕ, suc, ◌<◌, ◌^◌, Bool, true, false, List, [], ◌∷◌, ◌++◌, length, map, Option, Some, None}
 use Rattle.dwz_meanings.specs.Documents.{Doc, DwUnit, unit_map}
 use Rattle.dwz_docs.specs.ElfBack.{IsBackFault}
 use Rattle.dwz_docs.specs.Entries.{Mode}
 use Rattle.dwz_meanings.specs.Files.{HaveGoodRanges, Limits, Reads, debug_abbrev, debug_aranges, debug_info, is_place_of, section_of, sources_of}
 use Rattle.dwz_docs.specs.Lists.{In}
-use Rattle.dwz_meanings.specs.Meanings.{Around, Common, MeanUnits, Sources, all_places}
+use Rattle.dwz_meanings.specs.Meanings.{Around, Common, MeanUnits, Sources, all_places, texts_of}
 use Rattle.dwz_docs.specs.Units.{RawUnit, SpellsUnits}
 use Rattle.dwz_docs.specs.Values.{AreBytes}
 use Rattle.dwz_seen.specs.Lists.{Each, NoneTwice, Nth}
@@ -20,12 +20,14 @@ use Rattle.dwz_same.specs.After.{ArePlaced, Place, at_file, name_in, placed_from
 use Rattle.dwz_same.specs.Images.{IsAlone, OneImage}
 use Rattle.dwz_same.specs.Units.{all_units, changes, common_units, out_units}
 use Rattle.dwz_writing.specs.Bases.{bases_in}
-use Rattle.dwz_writing.specs.Carried.{BasesStand, CarriedUnit, ClosedIn, OfAny, OfFile, OperandsStand}
+use Rattle.dwz_writing.specs.Carried.{BasesStand, CarriedUnit, ClosedIn, From, OfAny, OfFile, OperandsStand}
 use Rattle.dwz_writing.specs.Fitting.{UnitHasRoom, back_forms}
 use Rattle.dwz_writing.specs.Meant.{Tells, all_entry_keys, placed_units}
 use Rattle.dwz_writing.specs.Placing.{FitsSections, Forms, fit_units}
 use Rattle.dwz_writing.specs.Writing.{Numbering}
-use Rattle.dwz_back.specs.Files.{HasCommon, HasSections, Run, Stored, common_fitted, common_forms, common_sections, file_forms, fitted, name_after, paths, place_of, places, sections_of, sources, tells, tells_common, texts}
+use Rattle.dwz_back.specs.Files.{HasCommon, HasSections, Run, Stored, common_fitted, common_forms, common_sections, file_forms, fitted, formed, name_after, paths, place_of, places, sections_of, sources, tells, tells_common, texts}
+use Rattle.dwz_writing.specs.Pruned.{UnitStays, known_slots}
+use Rattle.dwz_back.specs.Prunable.{IsPrunable}
 use Rattle.dwz_meanings.specs.NamedLists.{lists_of_units}
 use Rattle.dwz_meanings.specs.Shared.{NoneShared}
 use Rattle.dwz_meanings.specs.Patching.{of_units}
@@ -66,7 +68,7 @@ pub record StandOver (f : Forms Spot) (t : Tells Spot) (n : Numbering Spot) (uni
 
 -- each value of these units was read in such files, in the unit that it is said to come from; each reference names an entry of the
 -- file, or of the common file
-pub record IsReady (from : Sources → Type 0) (f : Forms Spot) (t : Tells Spot) (n : Numbering Spot) (units : List (DwUnit Spot)) : Type 0 where
+pub record IsReady (from : From) (f : Forms Spot) (t : Tells Spot) (n : Numbering Spot) (units : List (DwUnit Spot)) : Type 0 where
   pub carried : Each (λ u. CarriedUnit from (f.origin u.at) u) units
   pub closed : ClosedIn t units
   pub over : StandOver f t n units
@@ -86,10 +88,13 @@ pub record StandsAfter (r : Run) (file place : ℕ) : Type 0 where
 abbrev pub AllStandAfter : Run → ℕ → Type 0
 AllStandAfter r file = (place : ℕ) → is_place_of (r.input.raw file) place ≡ true → StandsAfter r file place
 
--- no name stands twice, and the units of each file of which something moves, and of the common file, are ready
+-- no name stands twice, and the units of each file of which something moves, and of the common file, are ready; texts of a file are few, and
+-- values of one that is prunable stay where they move
 pub record CanWrite (r : Run) : Type 0 where
   pub apart : NoneTwice (units_keys (all_units r.move r.units r.files))
   pub file : (file : ℕ) → In file r.files → changes r.move r.units file ≡ true → IsReady (OfFile (sources r file)) (file_forms r file) (tells r file) (places r) (out_units r.move r.units file)
+  pub few : (file : ℕ) → In file r.files → length (sources r file).strs < 2 ^ 32
+  pub stay : (file : ℕ) → In file r.files → changes r.move r.units file ≡ true → r.input.prunes file ≡ true → Each (UnitStays (texts_of (sources r file)) (sources r file).line (known_slots (sources r file).offsets)) (formed r file)
   pub units : (file : ℕ) → In file r.files → AllStandAfter r file
   pub common : IsReady OfAny (common_forms r) (tells_common r) (places r) (common_units r.move)
 
@@ -218,24 +223,24 @@ CommonWithinLaw =
 
 -- ---- one file by itself
 
--- the file as it is stored
-abbrev pub one_stored : List ℕ → List RawUnit → Stored
-one_stored input raw = record { bytes = λ file. input; raw = λ file. raw }
+-- the file as it is stored, and whether it is prunable
+abbrev pub one_stored : List ℕ → List RawUnit → Bool → Stored
+one_stored input raw prunes = record { bytes = λ file. input; raw = λ file. raw; prunes = λ file. prunes }
 
-abbrev pub one_run : Rule → Doc ℕ → List ℕ → List RawUnit → Run
-one_run rule doc input raw = run_of rule (doc ∷ []) (one_stored input raw)
+abbrev pub one_run : Rule → Doc ℕ → List ℕ → List RawUnit → Bool → Run
+one_run rule doc input raw prunes = run_of rule (doc ∷ []) (one_stored input raw prunes)
 
 -- the file that was made from one that reads says its new units by itself, and they are the same as what was read
-pub record OneBack (doc : Doc ℕ) (rule : Rule) (input : List ℕ) (raw : List RawUnit) (out : List ℕ) : Type 0 where
-  pub says : SaysPlaced (one_run rule doc input raw) (place_of (one_run rule doc input raw)) None 0 out
-      (fitted (one_run rule doc input raw) 0)
-  pub same : SameBack Apart (doc ∷ []) rule (one_stored input raw) (place_of (one_run rule doc input raw))
+pub record OneBack (doc : Doc ℕ) (rule : Rule) (input : List ℕ) (raw : List RawUnit) (prunes : Bool) (out : List ℕ) : Type 0 where
+  pub says : SaysPlaced (one_run rule doc input raw prunes) (place_of (one_run rule doc input raw prunes)) None 0 out
+      (fitted (one_run rule doc input raw prunes) 0)
+  pub same : SameBack Apart (doc ∷ []) rule (one_stored input raw prunes) (place_of (one_run rule doc input raw prunes))
 
 abbrev pub OneBackLaw : Type 0
 OneBackLaw =
     (l : Limits) (input : List ℕ) (raw : List RawUnit) (doc : Doc ℕ) → Reads l input raw doc → AreBytes (debug_info input)
-    → (rule : Rule) → IsAlike Apart (units_of (doc ∷ [])) rule.alike → IsChoice (units_of (doc ∷ [])) rule
-    → FileOver (one_run rule doc input raw) 0
-    → changes (one_run rule doc input raw).move (units_of (doc ∷ [])) 0 ≡ true
-    → (out : List ℕ) → HasSections (one_run rule doc input raw) 0 out → FitsSections (sections_of (one_run rule doc input raw) 0)
-    → OneBack doc rule input raw out
+    → (prunes : Bool) → ((prunes ≡ true) ↔ IsPrunable input doc.units) → (rule : Rule) → IsAlike Apart (units_of (doc ∷ [])) rule.alike → IsChoice (units_of (doc ∷ [])) rule
+    → FileOver (one_run rule doc input raw prunes) 0
+    → changes (one_run rule doc input raw prunes).move (units_of (doc ∷ [])) 0 ≡ true
+    → (out : List ℕ) → HasSections (one_run rule doc input raw prunes) 0 out → FitsSections (sections_of (one_run rule doc input raw prunes) 0)
+    → OneBack doc rule input raw prunes out

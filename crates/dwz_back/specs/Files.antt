@@ -20,12 +20,15 @@ use Rattle.dwz_same.specs.Units.{common_units, out_units}
 use Rattle.dwz_writing.specs.Bases.{Bases, bases_in, no_bases}
 use Rattle.dwz_writing.specs.Placing.{FileOut, Forms, UnitSections, file_in, fit_units, lines_bytes, numbering, paths_of, sections, texts_bytes, texts_of}
 use Rattle.dwz_docs.specs.ElfLayout.{too_large}
+use Rattle.dwz_docs.specs.Pruning.{new_number, pruned}
+use Rattle.dwz_writing.specs.Pruned.{AreNewSlots, all_uses, renumbered_units, slot_after, known_slots}
 use Rattle.dwz_writing.specs.Writing.{Numbering}
 
--- files as they are stored: the bytes of each, and its units
+-- files as they are stored: the bytes of each, and its units; and a test which of them are prunable
 pub record Stored : Type 0 where
   pub bytes : ℕ → List ℕ
   pub raw : ℕ → List RawUnit
+  pub prunes : ℕ → Bool
 
 -- what is written of: a move of the tops of units of these files, the files as they were stored, the names of what stood at places, and
 -- the number of the common file
@@ -106,8 +109,20 @@ file_forms r file = record {
 unfoldable pub common_fitted : Run → List (DwUnit Spot)
 common_fitted r = fit_units (common_forms r) (common_units r.move)
 
+unfoldable pub formed : Run → ℕ → List (DwUnit Spot)
+formed r file = fit_units (file_forms r file) (out_units r.move r.units file)
+
+-- what these use of the texts of the file
+unfoldable pub uses : Run → ℕ → List ℕ
+uses r file = all_uses (sources r file).strs (sources r file).offsets (formed r file)
+
+-- in a file that is prunable each use has its new number
+abbrev pub fitted_if : Bool → Run → ℕ → List (DwUnit Spot)
+fitted_if true r file = renumbered_units (new_number (sources r file).strs (uses r file)) (formed r file)
+fitted_if false r file = formed r file
+
 unfoldable pub fitted : Run → ℕ → List (DwUnit Spot)
-fitted r file = fit_units (file_forms r file) (out_units r.move r.units file)
+fitted r file = fitted_if (r.input.prunes file) r file
 
 abbrev pub common_out : Run → FileOut Spot
 common_out r = record { number = r.common; units = common_fitted r }
@@ -145,7 +160,7 @@ lists_named r file = lists_of_units (around_of (r.input.bytes file) (r.input.raw
 abbrev pub name_after : Run → ℕ → ℕ → Spot
 name_after r file p = image_in r.move (r.name (at_file file p))
 
--- what a file's units are written for
+-- what a file's units are written for, as it was read
 abbrev pub tells : Run → ℕ → Tells Spot
 tells r file = record {
   strs = (sources r file).strs;
@@ -183,19 +198,28 @@ pub record AreRanged (r : Run) (file : ℕ) (new : List ℕ) : Type 0 where
   pub spelled : SpellsSets (is_place_of (r.input.raw file)) sets 0 (debug_aranges (r.input.bytes file))
   pub are : new ≡ with_units sets (map (λ s. (places r).place (name_after r file s.unit)) sets) (debug_aranges (r.input.bytes file))
 
--- A file without a fault of one that is read back has these two sections; in its location lists and in its address ranges stand the
--- numbers of where things stand; and it has the other sections of which values speak as they were read. Its texts are few.
+-- `.debug_str`: where the file is prunable, just the texts that are used
+abbrev pub strs_if : Bool → Run → ℕ → List ℕ
+strs_if true r file = pruned (sources r file).strs (uses r file)
+strs_if false r file = (sources r file).strs
+
+-- `.debug_str_offsets`: then its slots that name a text have the new numbers
+abbrev pub OffsetsIf : Bool → Run → ℕ → List ℕ → Type 0
+OffsetsIf true r file new = AreNewSlots (slot_after (sources r file).strs (uses r file)) (known_slots (sources r file).offsets) (sources r file).offsets new
+OffsetsIf false r file new = new ≡ (sources r file).offsets
+
+-- A file without a fault of one that is read back has these two sections; texts, and slots of texts, as they are pruned; in its location
+-- lists and in its address ranges the numbers of where things stand; and the other sections of which values speak as they were read.
 pub record HasSections (r : Run) (file : ℕ) (out : List ℕ) : Type 0 where
   pub elf : (f : _) → IsBackFault out f → ⊥
   pub info : debug_info out ≡ (sections_of r file).info
   pub abbrevs : debug_abbrev out ≡ (sections_of r file).abbrevs
-  pub strs : (sources_of out).strs ≡ (sources r file).strs
+  pub strs : (sources_of out).strs ≡ strs_if (r.input.prunes file) r file
   pub line_strs : (sources_of out).line_strs ≡ (sources r file).line_strs
-  pub offsets : (sources_of out).offsets ≡ (sources r file).offsets
+  pub offsets : OffsetsIf (r.input.prunes file) r file (sources_of out).offsets
   pub line : (sources_of out).line ≡ (sources r file).line
   pub lists : AreRenumbered (places r) (tells r file) (sources_of out).lists
   pub ranges : AreRanged r file (debug_aranges out)
-  pub small : length (section_of out 3) < 2 ^ 32
 
 -- `.debug_str` and `.debug_line` of the common file, which has no other section that values speak of
 abbrev pub common_sources : (texts paths : List (List ℕ)) → Sources

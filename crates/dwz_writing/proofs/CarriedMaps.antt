@@ -3,11 +3,10 @@ use Rattle.std.proofs.Common.{◌≡◌, ℕ, List, [], ◌∷◌, ◌++◌, map
 use Rattle.std.proofs.Math.Logic.{inl, inr}
 use Rattle.std.proofs.lemmas.List.{map-append}
 use Rattle.dwz_meanings.specs.Documents.{Attr, Compile, DwUnit, Entries, Kind, Node, OfType, Partial, Value, attr_map, entries_map, kind_map, node_map, unit_map, value_map}
-use Rattle.dwz_meanings.specs.Meanings.{Sources}
 use Rattle.dwz_docs.specs.Trees.{End, Entry}
 use Rattle.dwz_seen.specs.Lists.{Each}
 use Rattle.dwz_writing.specs.Bases.{Bases}
-use Rattle.dwz_writing.specs.Carried.{CameFrom, CarriedAttr, CarriedEntries, CarriedNode, CarriedUnit, Imports, NamesLines}
+use Rattle.dwz_writing.specs.Carried.{CameFrom, CarriedAttr, CarriedEntries, CarriedNode, CarriedUnit, From, Imports, NamesLines}
 use Rattle.dwz_writing.specs.Meant.{KindSays, entry_keys}
 use Rattle.dwz_seen.specs.Shown.{keys}
 use Rattle.dwz_writing.specs.Sound.{SoundKind}
@@ -17,7 +16,7 @@ map_twice : {P Q R : Type 0} (f : P → Q) (g : Q → R) (ps : List P) → map g
 map_twice f g [] = refl
 map_twice {P} {Q} {R} f g (p ∷ ps) = ap (λ (w : List R). g (f p) ∷ w) (map_twice f g ps)
 
-module _ {K L : Type 0} (from : Sources → Type 0) (origin : Bases) (f : K → L) where
+module _ {K L : Type 0} (from : From) (origin : Bases) (f : K → L) where
   attr_twice : (name : ℕ → K) (b : Attr ℕ) → attr_map f (attr_map name b) ≡ attr_map (λ p. f (name p)) b
   attr_twice name b = ap (λ (w : List L). record { name = b.name; form = b.form; raw = b.raw; value = record { plain = b.value.plain; refs = w } }) (map_twice name f b.value.refs)
 

@@ -9,13 +9,13 @@ use Rattle.dwz_codes.specs.Forms.{form_rows}
 use Rattle.dwz_docs.specs.Abbrevs.{SpellsPair}
 use Rattle.dwz_meanings.specs.Documents.{Attr, Expr, Plain, Sec, Text, Value, only, ref, value_map}
 use Rattle.dwz_docs.specs.Entries.{RawAttr}
-use Rattle.dwz_meanings.specs.Meanings.{Class, IfSo, IsExpression, IsFileBy, MeansAs, OfAddress, OfBlock, OfCommonEntry, OfCommonText, OfConstant, OfExpression, OfFlag, OfIndex, OfInfoEntry, OfListIndex, OfOffset, OfSignature, OfText, OfTextBySlot, OfTextInLineStr, OfTextInStr, OfUnitEntry, Sources, Unread, bytes_of, class_in, class_of, class_rows, content_at, expr_context, names_file, names_list, number_of, path_by, stmt_list, texts_of, target_of, targets}
+use Rattle.dwz_meanings.specs.Meanings.{Class, IfSo, IsExpression, IsFileBy, MeansAs, OfAddress, OfBlock, OfCommonEntry, OfCommonText, OfConstant, OfExpression, OfFlag, OfIndex, OfInfoEntry, OfListIndex, OfOffset, OfSignature, OfText, OfTextBySlot, OfTextInLineStr, OfTextInStr, OfUnitEntry, Scope, Unread, bytes_of, class_in, class_of, class_rows, content_at, expr_context, names_file, names_list, number_of, path_by, stmt_list, target_of, targets, texts_of}
 use Rattle.dwz_meanings.specs.declared.exprs.Operand.{Operand}
 use Rattle.dwz_meanings.specs.Exprs.{ExprContext, Expression, SpellsExpr, parts_of}
 use Rattle.dwz_docs.specs.Texts.{IsSlot, IsTextAt}
 use Rattle.dwz_docs.specs.Values.{Bytes, Number, Raw, SpellsShape, SpellsValue, constant_of, shape_of, written_rows}
 use Rattle.dwz_docs.proofs.WrittenLemmas.{same_shape}
-use Rattle.dwz_writing.specs.Carried.{CameFrom, CarriedAttr, Imports, IsBuiltAs, NamesLines, NumbersFile}
+use Rattle.dwz_writing.specs.Carried.{CameFrom, CarriedAttr, From, Imports, IsBuiltAs, NamesLines, NumbersFile}
 use Rattle.dwz_writing.specs.Bases.{Bases}
 use Rattle.dwz_writing.specs.Meant.{AttrSays, FileSays, Own, SaysAs, Tells, WasRead}
 use Rattle.dwz_writing.specs.Placing.{Chosen, Fit, as_constant, as_entry, as_file, as_read, fit_as, fit_attr, with_form, zeros}
@@ -56,34 +56,37 @@ pub record Reference {K : Type 0} (a : Attr K) : Type 0 where
   pub chosen : (f : Fit K) → fit_attr f a ≡ with_form a (as_entry f a)
 
 -- a text that has a place in a section
-pub record Placed {K : Type 0} (from : Sources → Type 0) (a : Attr K) : Type 0 where
-  pub sources : Sources
-  pub file : from sources
+pub record Placed {K : Type 0} (from : From) (a : Attr K) : Type 0 where
+  pub scope : Scope ℕ
+  pub old : RawAttr
+  pub file : from scope old
   pub text : List ℕ
   pub value : a.value ≡ only (Text text)
   pub sound : SoundAttr a
-  pub class : ((class_of a.form ≡ OfTextInStr) × IsTextAt sources.strs (reach a.raw) text) ⊎ ((class_of a.form ≡ OfTextInLineStr) × IsTextAt sources.line_strs (reach a.raw) text)
+  pub class : ((class_of a.form ≡ OfTextInStr) × IsTextAt scope.around.sources.strs (reach a.raw) text) ⊎ ((class_of a.form ≡ OfTextInLineStr) × IsTextAt scope.around.sources.line_strs (reach a.raw) text)
 
 -- a text by its slot
-pub record Slotted {K : Type 0} (from : Sources → Type 0) (origin : Bases) (a : Attr K) : Type 0 where
-  pub sources : Sources
-  pub file : from sources
+pub record Slotted {K : Type 0} (from : From) (origin : Bases) (a : Attr K) : Type 0 where
+  pub scope : Scope ℕ
+  pub old : RawAttr
+  pub file : from scope old
   pub base : ℕ
   pub is_base : origin.slots ≡ Some base
   pub offset : ℕ
-  pub slot : IsSlot sources.offsets base (reach a.raw) offset
+  pub slot : IsSlot scope.around.sources.offsets base (reach a.raw) offset
   pub text : List ℕ
-  pub stands : IsTextAt sources.strs offset text
+  pub stands : IsTextAt scope.around.sources.strs offset text
   pub value : a.value ≡ only (Text text)
   pub sound : SoundAttr a
   pub class : class_of a.form ≡ OfTextBySlot
 
 -- the number of a file
-pub record Filed {K : Type 0} (from : Sources → Type 0) (origin : Bases) (a : Attr K) : Type 0 where
-  pub sources : Sources
-  pub file : from sources
+pub record Filed {K : Type 0} (from : From) (origin : Bases) (a : Attr K) : Type 0 where
+  pub scope : Scope ℕ
+  pub old : RawAttr
+  pub file : from scope old
   pub numbers : NumbersFile a
-  pub says : FileSays (texts_of sources) sources.line origin.line a
+  pub says : FileSays (texts_of scope.around.sources) scope.around.sources.line origin.line a
   pub chosen : (f : Fit K) → fit_attr f a ≡ with_form a (as_file f.holder f a)
   pub sound : SoundAttr a
 
@@ -110,7 +113,7 @@ pub record Other {K : Type 0} (a : Attr K) : Type 0 where
   pub sound : SoundAttr a
   pub says : (t : Tells K) (own : Own K) → AttrSays t own a
 
-module _ {K : Type 0} (from : Sources → Type 0) (origin : Bases) (a : Attr K) (came : CameFrom from origin a) where
+module _ {K : Type 0} (from : From) (origin : Bases) (a : Attr K) (came : CameFrom from origin a) where
   abbrev old : RawAttr
   old = came.was_read.old
 
@@ -221,7 +224,8 @@ module _ {K : Type 0} (from : Sources → Type 0) (origin : Bases) (a : Attr K) 
 
   constant : class_of a.form ≡ OfConstant → (b : Bool) → names_file a.name ≡ b → MeansAs OfConstant w.scope old w.read.value → Kinds
   constant e true names m = inr (inr (inr (inl (record {
-    sources = w.scope.around.sources;
+    scope = w.scope;
+    old = w.old;
     file = came.file;
     numbers = (e, names);
     says = subst (λ (o : Option ℕ). FileSays (texts_of w.scope.around.sources) w.scope.around.sources.line o a) (ap (λ (b : Bases). b.line) came.unit)
@@ -252,7 +256,8 @@ module _ {K : Type 0} (from : Sources → Type 0) (origin : Bases) (a : Attr K) 
   by_class OfFlag e built m = inr (inr (inr (inr (inr (inr (other OfFlag e (λ f. refl) (number OfFlag e refl (λ x. cc)) (λ r t own. r)))))))
   by_class OfText e built m = inr (inr (inr (inr (inr (inr (other OfText e (λ f. refl) (content OfText _ e refl (sym (ap text_in (plain_of _ m)))) (λ r t own. r)))))))
   by_class OfTextInStr e built m = inr (inl (record {
-    sources = w.scope.around.sources;
+    scope = w.scope;
+    old = w.old;
     file = came.file;
     text = m.text;
     value = same_value ∙ ap (λ (v : Value ℕ). value_map w.name v) m.value;
@@ -260,7 +265,8 @@ module _ {K : Type 0} (from : Sources → Type 0) (origin : Bases) (a : Attr K) 
     class = inl (e, subst (λ (z : ℤ). IsTextAt w.scope.around.sources.strs (reach z) m.text) same_raw m.stands);
   }))
   by_class OfTextInLineStr e built m = inr (inl (record {
-    sources = w.scope.around.sources;
+    scope = w.scope;
+    old = w.old;
     file = came.file;
     text = m.text;
     value = same_value ∙ ap (λ (v : Value ℕ). value_map w.name v) m.value;
@@ -268,7 +274,8 @@ module _ {K : Type 0} (from : Sources → Type 0) (origin : Bases) (a : Attr K) 
     class = inr (e, subst (λ (z : ℤ). IsTextAt w.scope.around.sources.line_strs (reach z) m.text) same_raw m.stands);
   }))
   by_class OfTextBySlot e built m = inr (inr (inl (record {
-    sources = w.scope.around.sources;
+    scope = w.scope;
+    old = w.old;
     file = came.file;
     base = m.base;
     is_base = sym (ap (λ (b : Bases). b.slots) came.unit) ∙ m.is_base;
@@ -363,6 +370,6 @@ lines_is a is =
           (so_not (names_list a.name) _ _ (ap names_list is.name ∙ no_list) (is.value ∙ ap (λ (z : ℤ). only (Sec (reach z))) (sym is.raw)));
     }
 
-pub carried_is : {K : Type 0} (from : Sources → Type 0) (origin : Bases) (a : Attr K) → CarriedAttr from origin a
+pub carried_is : {K : Type 0} (from : From) (origin : Bases) (a : Attr K) → CarriedAttr from origin a
     → Reference a ⊎ (Placed from a ⊎ (Slotted from origin a ⊎ (Filed from origin a ⊎ (Computed a ⊎ (Listed a ⊎ Other a)))))
 carried_is from origin a is = elim is [ inl c ↦ came_is from origin a c | inr more ↦ elim more [ inl i ↦ inl (imports_is a i) | inr l ↦ inr (inr (inr (inr (inr (inr (lines_is a l)))))) ] ]

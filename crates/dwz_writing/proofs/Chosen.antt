@@ -3,11 +3,11 @@ use Rattle.std.proofs.Common.{◌≡◌, ◌⊎◌, ℕ, ◌<◌, ◌^◌, Bool,
 use Rattle.std.proofs.Math.Logic.{inl, inr}
 use Rattle.dwz_meanings.specs.Documents.{Attr, Compile, DwUnit, Entries, Kind, OfType, Partial, Plain, first_named}
 use Rattle.dwz_docs.specs.Lists.{In}
-use Rattle.dwz_meanings.specs.Meanings.{Class, OfListIndex, OfOffset, Sources, names_list, class_of}
+use Rattle.dwz_meanings.specs.Meanings.{Class, OfListIndex, OfOffset, class_of, names_list}
 use Rattle.dwz_docs.specs.Trees.{End, Entry}
 use Rattle.dwz_seen.specs.Lists.{Each}
 use Rattle.dwz_writing.specs.Bases.{Bases, bases_in, offset_in}
-use Rattle.dwz_writing.specs.Carried.{ApartIn, AttrPaths, AttrTexts, BasesStand, CarriedAttr, CarriedEntries, CarriedUnit, ClosedIn, AttrOperands, ComesFromItself, ExprIn, FileStands, OperandsStand, OperandsStandAs, SectionsStand, UnitPaths, UnitTexts}
+use Rattle.dwz_writing.specs.Carried.{ApartIn, AttrOperands, AttrPaths, AttrTexts, BasesStand, CarriedAttr, CarriedEntries, CarriedUnit, ClosedIn, ComesFromItself, ExprIn, FileStands, From, OperandsStand, OperandsStandAs, SectionsStand, UnitPaths, UnitTexts}
 use Rattle.dwz_meanings.specs.LinesWritten.{AreTexts}
 use Rattle.dwz_writing.specs.Fitting.{EachAttr}
 use Rattle.dwz_writing.specs.Meant.{AttrSays, EntriesSay, KindSays, NodeSays, Own, SaysAs, Tells, UnitSays, UnitsSay, all_entry_keys, entry_keys, own_of}
@@ -48,7 +48,7 @@ first_fit x name (a ∷ attrs) = by (first_fit x name attrs) (eqb a.name name) w
   by rest true = offset_fit x a
   by rest false = rest
 
-bases_fit : {K : Type 0} (f : FileFit K) (u : DwUnit K) → bases_in (fit_unit f u) ≡ bases_in u
+pub bases_fit : {K : Type 0} (f : FileFit K) (u : DwUnit K) → bases_in (fit_unit f u) ≡ bases_in u
 bases_fit f u = same_bases _ _ _ _ _ _ (first_fit (unit_fit f u) 0x72 u.root.attrs) (first_fit (unit_fit f u) 0x10 u.root.attrs) (first_fit (unit_fit f u) 0x8c u.root.attrs)
 
 own_fit : {K : Type 0} (f : FileFit K) (u : DwUnit K) → own_of u ≡ own_of (fit_unit f u)
@@ -58,7 +58,7 @@ own_fit {K} f u =
 
 -- ---- each value is written as its form says
 
-module _ {K : Type 0} (f : FileFit K) (is : IsSame f.same) (from : Sources → Type 0) (t : Tells K) (small : length t.strs < 2 ^ 32) (u : DwUnit K) (within : (k : K) → In k t.all → In k f.keys) (other : (k : K) → In k t.common → In k f.keys → ⊥)
+module _ {K : Type 0} (f : FileFit K) (is : IsSame f.same) (from : From) (t : Tells K) (small : length t.strs < 2 ^ 32) (u : DwUnit K) (within : (k : K) → In k t.all → In k f.keys) (other : (k : K) → In k t.common → In k f.keys → ⊥)
     (entries : (k : K) → In k (unit_keys u) → In k f.keys) (apart : In u.at t.all → ⊥) (sections_at : SectionsAt (holder_of f.is_common u.kind) from (unit_fit f u) t) (itself : ComesFromItself (holder_of f.is_common u.kind) (bases_in u) (f.origin u.at)) where
   abbrev x : Fit K
   x = unit_fit f u
@@ -160,14 +160,14 @@ module _ {K : Type 0} (f : FileFit K) (is : IsSame f.same) (from : Sources → T
 
 -- ---- the units of a file
 
-file_at : {K : Type 0} (from : Sources → Type 0) (f : Forms K) (x : Fit K) (t : Tells K) (units : List (DwUnit K)) → f.offsets ≡ x.offsets → f.shared ≡ x.shared → SectionsStand false from f t units → FileAt from x t
+file_at : {K : Type 0} (from : From) (f : Forms K) (x : Fit K) (t : Tells K) (units : List (DwUnit K)) → f.offsets ≡ x.offsets → f.shared ≡ x.shared → SectionsStand false from f t units → FileAt from x t
 file_at from f x t units offsets shared at = record {
   sources = subst (λ (w : List ℕ). SourcesAt from w t) offsets at.1;
   shared = at.2.strs ∙ ap texts_bytes shared;
   few = at.2.few;
 }
 
-sections_common : {K : Type 0} (kind : Kind K) (from : Sources → Type 0) (f : Forms K) (x : Fit K) (t : Tells K) (units : List (DwUnit K)) (b : Bool) → f.texts ≡ x.texts → f.paths ≡ x.paths
+sections_common : {K : Type 0} (kind : Kind K) (from : From) (f : Forms K) (x : Fit K) (t : Tells K) (units : List (DwUnit K)) (b : Bool) → f.texts ≡ x.texts → f.paths ≡ x.paths
     → f.offsets ≡ x.offsets → f.shared ≡ x.shared → SectionsStand b from f t units → SectionsAt (holder_of b kind) from x t
 sections_common kind from f x t units true texts paths offsets shared at =
     record { strs = at.1.strs ∙ ap texts_bytes texts; line = at.1.line ∙ ap lines_bytes paths; few = at.1.few; are_texts = subst AreTexts paths at.1.are_texts }
@@ -175,7 +175,7 @@ sections_common Compile from f x t units false texts paths offsets shared at = f
 sections_common (OfType signature main) from f x t units false texts paths offsets shared at = file_at from f x t units offsets shared at
 sections_common Partial from f x t units false texts paths offsets shared at = file_at from f x t units offsets shared at
 
-small_strs : {K : Type 0} (from : Sources → Type 0) (f : Forms K) (t : Tells K) (units : List (DwUnit K)) (b : Bool) → SectionsStand b from f t units → length t.strs < 2 ^ 32
+small_strs : {K : Type 0} (from : From) (f : Forms K) (t : Tells K) (units : List (DwUnit K)) (b : Bool) → SectionsStand b from f t units → length t.strs < 2 ^ 32
 small_strs from f t units true at = at.0
 small_strs from f t units false at = at.0
 
@@ -207,7 +207,7 @@ record TextsFor {K : Type 0} (h : Holder) (texts paths : List (List ℕ)) (u : D
   root : Each (TextFor h texts paths) u.root.attrs
   below : EachAttr (TextFor h texts paths) u.below
 
-texts_for : {K : Type 0} (u : DwUnit K) (from : Sources → Type 0) (f : Forms K) (t : Tells K) (units : List (DwUnit K)) (b : Bool) → In u units → SectionsStand b from f t units
+texts_for : {K : Type 0} (u : DwUnit K) (from : From) (f : Forms K) (t : Tells K) (units : List (DwUnit K)) (b : Bool) → In u units → SectionsStand b from f t units
     → TextsFor (holder_of b u.kind) f.texts f.paths u
 texts_for u from f t units true there at =
     let is = each_in (UnitTexts f.texts) u units at.1.texts there in
@@ -224,7 +224,7 @@ keys_within [] u there k is = there
 keys_within {K} (w ∷ units) u (inl e) k is = in_left k (unit_keys w) (units_keys units) (subst (λ (y : DwUnit K). In k (unit_keys y)) (sym e) is)
 keys_within (w ∷ units) u (inr r) k is = in_right k (unit_keys w) (units_keys units) (keys_within units u r k is)
 
-module _ {K : Type 0} (f : Forms K) (is : IsSame f.same) (from : Sources → Type 0) (t : Tells K) (units : List (DwUnit K)) (all : t.all ≡ all_entry_keys units) (once : NoneTwice (units_keys units))
+module _ {K : Type 0} (f : Forms K) (is : IsSame f.same) (from : From) (t : Tells K) (units : List (DwUnit K)) (all : t.all ≡ all_entry_keys units) (once : NoneTwice (units_keys units))
     (carried : Each (λ u. CarriedUnit from (f.origin u.at) u) units) (closed : ClosedIn t units) (apart : ApartIn t units) (stand : SectionsStand f.is_common from f t units) (bases : Each (BasesStand f) units) (operands : Each (OperandsStand t) units) where
   abbrev file : FileFit K
   file = with_keys f (units_keys units)

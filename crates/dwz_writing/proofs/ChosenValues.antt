@@ -3,7 +3,8 @@ use Rattle.std.proofs.Common.{◌≡◌, ℕ, ℤ, pos, ◌<◌, ◌^◌, List, 
 use Rattle.std.proofs.Math.Logic.{inl, inr}
 use Rattle.dwz_meanings.specs.Documents.{Attr, File, Plain, Text, Value, only}
 use Rattle.dwz_docs.specs.Lists.{In}
-use Rattle.dwz_meanings.specs.Meanings.{Class, OfCommonEntry, OfCommonText, OfConstant, OfInfoEntry, OfTextInLineStr, OfTextInStr, OfUnitEntry, Sources, Unread, class_in, class_of, class_rows, names_file, texts_of}
+use Rattle.dwz_meanings.specs.Meanings.{Class, OfCommonEntry, OfCommonText, OfConstant, OfInfoEntry, OfTextInLineStr, OfTextInStr, OfUnitEntry, Scope, Unread, class_in, class_of, class_rows, names_file, texts_of}
+use Rattle.dwz_docs.specs.Entries.{RawAttr}
 use Rattle.dwz_bytes.specs.Spelling.{le_bytes, reach, uleb}
 use Rattle.dwz_bytes.proofs.FixedLemmas.{fixed_written}
 use Rattle.dwz_codes.specs.Forms.{form_rows}
@@ -14,7 +15,7 @@ use Rattle.dwz_writing.proofs.ValuesMean.{so_yes}
 use Rattle.dwz_docs.specs.Values.{Number, SpellsShape, constant_of, shape_of, written_rows}
 use Rattle.dwz_seen.specs.Lists.{Each}
 use Rattle.dwz_writing.specs.Bases.{Bases}
-use Rattle.dwz_writing.specs.Carried.{AttrPaths, AttrTexts, ComesFromItself, FileStands, LineFor, PathAs, TextAs}
+use Rattle.dwz_writing.specs.Carried.{AttrPaths, AttrTexts, ComesFromItself, FileStands, From, IsOf, LineFor, PathAs, TextAs}
 use Rattle.dwz_writing.specs.Meant.{AttrSays, FileSays, Own, SaysAs, Tells, told_texts}
 use Rattle.dwz_writing.specs.Placing.{CommonUnit, Fit, Holder, InCommon, InFile, InUnit, NewUnit, OldUnit, Reach, as_common, as_file, as_line_text, as_slot, as_strp, as_strp_if, as_text, file_number, fit_as, fit_attr, has_key, has_text, lines_bytes, path_index, reach_by, reach_of, ref_form, slot_number, text_place, texts_bytes, with_form}
 use Rattle.dwz_writing.specs.Sound.{HasBytes, SoundAttr, StoresAs}
@@ -43,7 +44,7 @@ common_class : class_of 0x1c ≡ OfCommonEntry
 unfolding class_rows class_in
 common_class = refl
 
-str_class : class_of 0x0e ≡ OfTextInStr
+pub str_class : class_of 0x0e ≡ OfTextInStr
 unfolding class_rows class_in
 str_class = refl
 
@@ -153,8 +154,8 @@ pool_table (p ∷ paths) path there are few s =
     (t.0, t.1, (t.2, omega (arith, less, many)))
 
 -- the sections of the file are those that were read
-abbrev pub SourcesAt : {K : Type 0} → (Sources → Type 0) → List ℕ → Tells K → Type 0
-SourcesAt from offsets t = (s : Sources) → from s → (t.strs ≡ s.strs) × (t.line_strs ≡ s.line_strs) × (t.offsets ≡ s.offsets) × (t.line ≡ s.line) × (offsets ≡ s.offsets)
+abbrev pub SourcesAt : {K : Type 0} → From → List ℕ → Tells K → Type 0
+SourcesAt from offsets t = (s : Scope ℕ) (a : RawAttr) → from s a → IsOf offsets t s.around.sources
 
 -- those of the common file have its texts, and its paths
 pub record CommonAt {K : Type 0} (f : Fit K) (t : Tells K) : Type 0 where
@@ -165,12 +166,12 @@ pub record CommonAt {K : Type 0} (f : Fit K) (t : Tells K) : Type 0 where
 
 -- what is asked of sections, of a unit, and of an attribute, by what holds it
 -- those of any other file, which shares these texts of the common file
-pub record FileAt {K : Type 0} (from : Sources → Type 0) (f : Fit K) (t : Tells K) : Type 0 where
+pub record FileAt {K : Type 0} (from : From) (f : Fit K) (t : Tells K) : Type 0 where
   pub sources : SourcesAt from f.offsets t
   pub shared : t.common_strs ≡ texts_bytes f.shared
   pub few : length t.common_strs < 2 ^ 32
 
-abbrev pub SectionsAt : {K : Type 0} → Holder → (Sources → Type 0) → Fit K → Tells K → Type 0
+abbrev pub SectionsAt : {K : Type 0} → Holder → From → Fit K → Tells K → Type 0
 SectionsAt CommonUnit from f t = CommonAt f t
 SectionsAt _ from f t = FileAt from f t
 
@@ -192,7 +193,7 @@ module _ {K : Type 0} (t : Tells K) (own : Own K) (a : Attr K) (text : List ℕ)
   in_strs at = with_form a (record { form = 0x0e; raw = pos at })
 
   -- that stands at a place
-  strp_good : (at : ℕ) → at < 2 ^ 32 → IsTextAt t.strs at text → Good t own (in_strs at)
+  pub strp_good : (at : ℕ) → at < 2 ^ 32 → IsTextAt t.strs at text → Good t own (in_strs at)
   strp_good at less stands = record {
     sound = record {
       some_name = sound.some_name;
@@ -206,7 +207,7 @@ module _ {K : Type 0} (t : Tells K) (own : Own K) (a : Attr K) (text : List ℕ)
   }
 
   -- a place in a section of fewer than 2^32 bytes
-  place_less : (section : List ℕ) (at : ℕ) → length section < 2 ^ 32 → IsTextAt section at text → at < 2 ^ 32
+  pub place_less : (section : List ℕ) (at : ℕ) → length section < 2 ^ 32 → IsTextAt section at text → at < 2 ^ 32
   place_less section at small stands = omega (arith, small, ap length stands.parts, stands.length_before, length-append stands.before (stands.front ++ stands.after))
 
   -- among the texts of the common file
@@ -234,7 +235,7 @@ module _ {K : Type 0} (t : Tells K) (own : Own K) (a : Attr K) (text : List ℕ)
   }
 
   -- one that stands at a place is shared, or not
-  pub shared_good : {from : Sources → Type 0} (f : Fit K) → FileAt from f t → NoZero text → (at : ℕ) → at < 2 ^ 32 → IsTextAt t.strs at text → Good t own (with_form a (as_strp f a at))
+  pub shared_good : {from : From} (f : Fit K) → FileAt from f t → NoZero text → (at : ℕ) → at < 2 ^ 32 → IsTextAt t.strs at text → Good t own (with_form a (as_strp f a at))
   shared_good f file none at less stands = by (has_text f.shared (text_in a.value.plain)) refl where
     is : text_in a.value.plain ≡ text
     is = ap (λ (v : Value K). text_in v.plain) value
@@ -253,20 +254,20 @@ module _ {K : Type 0} (t : Tells K) (own : Own K) (a : Attr K) (text : List ℕ)
 
 -- ---- texts in a section
 
-module _ {K : Type 0} (from : Sources → Type 0) (t : Tells K) (small : length t.strs < 2 ^ 32) (own : Own K) (a : Attr K) (p : Placed from a) where
+module _ {K : Type 0} (from : From) (t : Tells K) (small : length t.strs < 2 ^ 32) (own : Own K) (a : Attr K) (p : Placed from a) where
   -- in `.debug_line_str` it is as it was
-  kept_good : (offsets : List ℕ) → SourcesAt from offsets t → class_of a.form ≡ OfTextInLineStr → IsTextAt p.sources.line_strs (reach a.raw) p.text → Good t own a
+  kept_good : (offsets : List ℕ) → SourcesAt from offsets t → class_of a.form ≡ OfTextInLineStr → IsTextAt p.scope.around.sources.line_strs (reach a.raw) p.text → Good t own a
   kept_good offsets same c stands =
-      let e = same p.sources p.file in
+      let e = same p.scope p.old p.file in
       record {
         sound = p.sound;
-        says = subst (λ (d : Class). SaysAs d t own a) (sym c) (record { text = p.text; stands = subst (λ (w : List ℕ). IsTextAt w (reach a.raw) p.text) (sym e.1) stands; value = p.value });
+        says = subst (λ (d : Class). SaysAs d t own a) (sym c) (record { text = p.text; stands = subst (λ (w : List ℕ). IsTextAt w (reach a.raw) p.text) (sym e.line_strs) stands; value = p.value });
       }
 
   -- in `.debug_str` it may be shared
-  strs_good : (f : Fit K) → FileAt from f t → IsTextAt p.sources.strs (reach a.raw) p.text → Good t own (with_form a (as_strp f a (reach a.raw)))
+  strs_good : (f : Fit K) → FileAt from f t → IsTextAt p.scope.around.sources.strs (reach a.raw) p.text → Good t own (with_form a (as_strp f a (reach a.raw)))
   strs_good f at stands =
-      let there = subst (λ (w : List ℕ). IsTextAt w (reach a.raw) p.text) (sym (at.sources p.sources p.file).0) stands in
+      let there = subst (λ (w : List ℕ). IsTextAt w (reach a.raw) p.text) (sym (at.sources p.scope p.old p.file).strs) stands in
       shared_good t own a p.text p.value p.sound f at stands.spelled.no_zero (reach a.raw) (place_less t own a p.text p.value p.sound t.strs (reach a.raw) small there) there
 
   text_there : (texts : List (List ℕ)) → AttrTexts texts a → In (text_in a.value.plain) texts
@@ -304,12 +305,12 @@ module _ {K : Type 0} (from : Sources → Type 0) (t : Tells K) (small : length 
 
 -- ---- texts by slots
 
-module _ {K : Type 0} (from : Sources → Type 0) (origin : Bases) (t : Tells K) (small : length t.strs < 2 ^ 32) (own : Own K) (a : Attr K) (p : Slotted from origin a) where
+module _ {K : Type 0} (from : From) (origin : Bases) (t : Tells K) (small : length t.strs < 2 ^ 32) (own : Own K) (a : Attr K) (p : Slotted from origin a) where
   as_slot_is : (h : Holder) (f : Fit K) → f.holder ≡ h → fit_attr f a ≡ with_form a (as_slot h f a)
   as_slot_is h f e = ap (λ (d : Class). with_form a (fit_as d f a)) p.class ∙ ap (λ (x : Holder). with_form a (as_slot x f a)) e
 
   stands_there : (offsets : List ℕ) → SourcesAt from offsets t → IsTextAt t.strs p.offset p.text
-  stands_there offsets same = subst (λ (w : List ℕ). IsTextAt w p.offset p.text) (sym (same p.sources p.file).0) p.stands
+  stands_there offsets same = subst (λ (w : List ℕ). IsTextAt w p.offset p.text) (sym (same p.scope p.old p.file).strs) p.stands
 
   kept_slot : (offsets : List ℕ) → SourcesAt from offsets t → own.bases ≡ origin → Good t own a
   kept_slot offsets same itself = record {
@@ -318,7 +319,7 @@ module _ {K : Type 0} (from : Sources → Type 0) (origin : Bases) (t : Tells K)
       base = p.base;
       is_base = ap (λ (b : Bases). b.slots) itself ∙ p.is_base;
       offset = p.offset;
-      slot = subst (λ (w : List ℕ). IsSlot w p.base (reach a.raw) p.offset) (sym (same p.sources p.file).2) p.slot;
+      slot = subst (λ (w : List ℕ). IsSlot w p.base (reach a.raw) p.offset) (sym (same p.scope p.old p.file).offsets) p.slot;
       text = p.text;
       stands = stands_there offsets same;
       value = p.value;
@@ -328,7 +329,7 @@ module _ {K : Type 0} (from : Sources → Type 0) (origin : Bases) (t : Tells K)
   number_is : (f : Fit K) → f.origin ≡ origin → SourcesAt from f.offsets t → slot_number f.offsets f.origin.slots (reach a.raw) ≡ p.offset
   number_is f here same =
       let base : f.origin.slots ≡ Some p.base = ap (λ (b : Bases). b.slots) here ∙ p.is_base in
-      let slot = here_slot f.offsets p.base (reach a.raw) p.offset (subst (λ (w : List ℕ). IsSlot w p.base (reach a.raw) p.offset) (sym (same p.sources p.file).4) p.slot) in
+      let slot = here_slot f.offsets p.base (reach a.raw) p.offset (subst (λ (w : List ℕ). IsSlot w p.base (reach a.raw) p.offset) (sym (same p.scope p.old p.file).slots) p.slot) in
       ap (λ (o : Option ℕ). slot_number f.offsets o (reach a.raw)) base ∙ ap or_zero slot
 
   pub slot_good : (h : Holder) (f : Fit K) → f.holder ≡ h → f.origin ≡ origin → ComesFromItself h own.bases origin → SectionsAt h from f t → TextFor h f.texts f.paths a → Good t own (fit_attr f a)
@@ -343,16 +344,16 @@ module _ {K : Type 0} (from : Sources → Type 0) (origin : Bases) (t : Tells K)
 
 -- ---- files
 
-module _ {K : Type 0} (from : Sources → Type 0) (origin : Bases) (t : Tells K) (own : Own K) (a : Attr K) (p : Filed from origin a) where
-  told : (offsets : List ℕ) → SourcesAt from offsets t → (o : Option ℕ) → FileSays (texts_of p.sources) p.sources.line o a → FileSays (told_texts t) t.line o a
+module _ {K : Type 0} (from : From) (origin : Bases) (t : Tells K) (own : Own K) (a : Attr K) (p : Filed from origin a) where
+  told : (offsets : List ℕ) → SourcesAt from offsets t → (o : Option ℕ) → FileSays (texts_of p.scope.around.sources) p.scope.around.sources.line o a → FileSays (told_texts t) t.line o a
   told offsets same None says = says
   told offsets same (Some place) says =
-      let e = same p.sources p.file in
+      let e = same p.scope p.old p.file in
       record {
         table = says.table;
-        stands = subst (λ (w : List ℕ). IsFileTable (record { strs = w; line_strs = t.line_strs }) t.line place says.table) (sym e.0)
-            (subst (λ (w : List ℕ). IsFileTable (record { strs = p.sources.strs; line_strs = w }) t.line place says.table) (sym e.1)
-            (subst (λ (w : List ℕ). IsFileTable (record { strs = p.sources.strs; line_strs = p.sources.line_strs }) w place says.table) (sym e.3) says.stands));
+        stands = subst (λ (w : List ℕ). IsFileTable (record { strs = w; line_strs = t.line_strs }) t.line place says.table) (sym e.strs)
+            (subst (λ (w : List ℕ). IsFileTable (record { strs = p.scope.around.sources.strs; line_strs = w }) t.line place says.table) (sym e.line_strs)
+            (subst (λ (w : List ℕ). IsFileTable (record { strs = p.scope.around.sources.strs; line_strs = p.scope.around.sources.line_strs }) w place says.table) (sym e.line) says.stands));
         path = says.path;
         is_path = says.is_path;
         value = says.value;
@@ -412,7 +413,7 @@ module _ {K : Type 0} (from : Sources → Type 0) (origin : Bases) (t : Tells K)
       subst (λ (q : Plain). Good t own (numbered (file_number f.paths q))) (sym plain)
       (numbered_good number (omega (arith, few)) (subst (λ (o : Option ℕ). FileSays (told_texts t) t.line o (numbered number)) (sym zero_line) says))
 
-  common_good : (f : Fit K) → CommonAt f t → AttrPaths f.paths a → LineFor own.bases.line a.value.plain → (o : Option ℕ) → FileSays (texts_of p.sources) p.sources.line o a
+  common_good : (f : Fit K) → CommonAt f t → AttrPaths f.paths a → LineFor own.bases.line a.value.plain → (o : Option ℕ) → FileSays (texts_of p.scope.around.sources) p.scope.around.sources.line o a
       → Good t own (numbered (file_number f.paths a.value.plain))
   common_good f at among line None says = none_good f.paths says.1 line
   common_good f at among line (Some place) says = some_good f at says.path says.value among line

@@ -12,14 +12,14 @@ use Rattle.dwz_docs.specs.Abbrevs.{Declaration, EndsPairs, EndsTable, IsDeclared
 use Rattle.dwz_meanings.specs.Documents.{Attr, DwUnit, Entries, Kind, Node, attr_map, first_named}
 use Rattle.dwz_docs.specs.Entries.{Mode, RawAttr, RawEntry, SpellsAttrs, SpellsEntry, SpellsFront, UnitContext, own_forms}
 use Rattle.dwz_docs.specs.Lists.{SpellsItems}
-use Rattle.dwz_meanings.specs.Meanings.{Around, MeanAttrs, MeanEntries, MeanUnits, MeansAttr, MeansKind, MeansNode, MeansUnit, Scope, Sources, base_in, first_raw, number_of, places_in, scope_of, without_siblings}
+use Rattle.dwz_meanings.specs.Meanings.{Around, MeanAttrs, MeanEntries, MeanUnits, MeansAttr, MeansKind, MeansNode, MeansUnit, Scope, base_in, first_raw, number_of, places_in, scope_of, without_siblings}
 use Rattle.dwz_writing.specs.Bases.{Bases, bases_in, bases_of, offset_in}
 use Rattle.dwz_docs.specs.Trees.{End, Entry, Forest, IfChildren, Position, SpellsForest}
 use Rattle.dwz_docs.specs.Units.{CompileUnit, PartialUnit, RawKind, RawUnit, SpellsUnit, SpellsUnits, TypeUnit, header_size, kind_by, root_tag}
 use Rattle.dwz_docs.specs.Values.{AreBytes, SpellsValue}
 use Rattle.dwz_docs.proofs.WrittenLemmas.{drop_bytes, front_bytes, le_value-less}
 use Rattle.dwz_seen.specs.Lists.{Each}
-use Rattle.dwz_writing.specs.Carried.{BuiltAttr, BuiltEntries, BuiltUnit, CarriedAttr, CarriedEntries, CarriedNode, CarriedUnit, IsStored}
+use Rattle.dwz_writing.specs.Carried.{BuiltAttr, BuiltEntries, BuiltUnit, CarriedAttr, CarriedEntries, CarriedNode, CarriedUnit, From, IsStored}
 use Rattle.dwz_writing.specs.Meant.{KindSays, entry_keys}
 use Rattle.dwz_seen.specs.Shown.{keys}
 use Rattle.dwz_writing.specs.Sound.{SoundKind}
@@ -98,13 +98,13 @@ map_same (p ∷ ps) = ap (λ (w : List ℕ). p ∷ w) (map_same ps)
 attr_same : (b : Attr ℕ) → b ≡ attr_map (λ p. p) b
 attr_same b = ap (λ (w : List ℕ). record { name = b.name; form = b.form; raw = b.raw; value = record { plain = b.value.plain; refs = w } }) (map_same b.value.refs)
 
-module _ (from : Sources → Type 0) (origin : Bases) (s : Scope ℕ) (same : from s.around.sources) (unit : bases_of s ≡ origin) where
+module _ (from : From) (origin : Bases) (s : Scope ℕ) (same : (a : RawAttr) → from s a) (unit : bases_of s ≡ origin) where
   attrs_carried : (raw : List RawAttr) (attrs : List (Attr ℕ)) → MeanAttrs s raw attrs → Each IsStored raw → Each BuiltAttr attrs → Each (CarriedAttr from origin) attrs
   attrs_carried [] [] means stored built = tt
   attrs_carried [] (b ∷ attrs) means stored built = absurd means
   attrs_carried (a ∷ raw) [] means stored built = absurd means
   attrs_carried (a ∷ raw) (b ∷ attrs) means stored built = (
-    inl (record { was_read = record { scope = s; old = a; read = b; means = means.0; name = λ p. p; same = attr_same b }; file = same; unit = unit; stored = stored.0; built = built.0 }),
+    inl (record { was_read = record { scope = s; old = a; read = b; means = means.0; name = λ p. p; same = attr_same b }; file = same a; unit = unit; stored = stored.0; built = built.0 }),
     attrs_carried raw attrs means.1 stored.1 built.1,
   )
 
@@ -149,7 +149,7 @@ bases_read s attrs means = same_bases _ _ _ _ _ _
 
 -- ---- entries
 
-module _ (from : Sources → Type 0) (origin : Bases) (s : Scope ℕ) (same : from s.around.sources) (unit : bases_of s ≡ origin) (c : UnitContext) (forms : c.mode.forms ≡ own_forms) (table_bytes : List ℕ) (table : SpellsTable table_bytes c.table) where
+module _ (from : From) (origin : Bases) (s : Scope ℕ) (same : (a : RawAttr) → from s a) (unit : bases_of s ≡ origin) (c : UnitContext) (forms : c.mode.forms ≡ own_forms) (table_bytes : List ℕ) (table : SpellsTable table_bytes c.table) where
   node_carried : (p : Position) (e : RawEntry) (d : Node ℕ) (start : ℕ) (bytes : List ℕ) → SpellsEntry c p e start bytes → MeansNode s e d → AreBytes bytes → Each BuiltAttr d.attrs → CarriedNode from origin d
   node_carried p e d start bytes is means are built =
       let parts = is.parts in
@@ -225,7 +225,7 @@ kind_says s CompileUnit m means = subst (KindSays (map s.around.place s.own)) (s
 kind_says s PartialUnit m means = subst (KindSays (map s.around.place s.own)) (sym means) tt
 kind_says s (TypeUnit signature offset) m means = subst (KindSays (map s.around.place s.own)) (sym means.1) (in_map s.around.place (s.unit + offset) s.own means.0)
 
-module _ (abbrevs : List ℕ) (mode : Mode) (forms : mode.forms ≡ own_forms) (from : Sources → Type 0) (around : Around ℕ) (same : from around.sources) where
+module _ (abbrevs : List ℕ) (mode : Mode) (forms : mode.forms ≡ own_forms) (from : From) (around : Around ℕ) (same : (s : Scope ℕ) (a : RawAttr) → s.around ≡ around → from s a) where
   unit_carried : (u : RawUnit) (v : DwUnit ℕ) (before start : ℕ) (bytes : List ℕ) → SpellsUnit abbrevs mode before u start bytes → MeansUnit around u v → AreBytes bytes → BuiltUnit v → CarriedUnit from (bases_in v) v
   unit_carried u v before start bytes is means are built =
       let s = scope_of around u in
@@ -247,8 +247,8 @@ module _ (abbrevs : List ℕ) (mode : Mode) (forms : mode.forms ≡ own_forms) (
       record {
         kind = kind_sound s u.kind v.kind v.root.tag means.kind tag fits;
         main = subst (λ (w : List ℕ). KindSays w v.kind) own (kind_says s u.kind v.kind means.kind);
-        root = node_carried from (bases_in v) s same unit c same_forms at.stands.front at.stands.spelled _ u.root v.root _ t.first_bytes first means.root (front_bytes t.first_bytes t.second_bytes in_tree) built.0;
-        below = if_carried from (bases_in v) s same unit c same_forms at.stands.front at.stands.spelled u.root.children u.below v.below t.second_bytes _ t.second (λ q. entries_carried from (bases_in v) s same unit c same_forms at.stands.front at.stands.spelled u.below v.below _ _ t.second_bytes q means.below (back_bytes t.first_bytes t.second_bytes in_tree) built.1) means.below;
+        root = node_carried from (bases_in v) s (λ a. same s a refl) unit c same_forms at.stands.front at.stands.spelled _ u.root v.root _ t.first_bytes first means.root (front_bytes t.first_bytes t.second_bytes in_tree) built.0;
+        below = if_carried from (bases_in v) s (λ a. same s a refl) unit c same_forms at.stands.front at.stands.spelled u.root.children u.below v.below t.second_bytes _ t.second (λ q. entries_carried from (bases_in v) s (λ a. same s a refl) unit c same_forms at.stands.front at.stands.spelled u.below v.below _ _ t.second_bytes q means.below (back_bytes t.first_bytes t.second_bytes in_tree) built.1) means.below;
       }
 
   pub units_carried : (raw : List RawUnit) (units : List (DwUnit ℕ)) (before start : ℕ) (bytes : List ℕ) → SpellsUnits abbrevs mode before raw start bytes → MeanUnits around raw units → AreBytes bytes → Each BuiltUnit units → Each (λ v. CarriedUnit from (bases_in v) v) units

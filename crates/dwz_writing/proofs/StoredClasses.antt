@@ -4,7 +4,7 @@ use Rattle.std.proofs.Math.Logic.{inl, inr}
 use Rattle.dwz_codes.specs.declared.shape.Shape.{Shape}
 use Rattle.dwz_codes.specs.declared.shape.Shape.TheVariants.{Nothing, Fixed1, Fixed2, Fixed3, Fixed4, Fixed8, Fixed16, Uleb, Sleb, ZeroEnded, Block1, Block2, Block4, BlockUleb, Address}
 use Rattle.dwz_codes.specs.Forms.{form_rows}
-use Rattle.dwz_meanings.specs.Meanings.{Class, ClassRow, OfBlock, OfExpression, OfListIndex, OfOffset, OfText, Unread, bytes_of, class_in, class_of, class_rows, number_of}
+use Rattle.dwz_meanings.specs.Meanings.{Class, ClassRow, OfBlock, OfExpression, OfListIndex, OfOffset, OfText, OfTextInStr, Unread, bytes_of, class_in, class_of, class_rows, number_of}
 use Rattle.dwz_docs.specs.Values.{Bytes, Number, Raw, SpellsShape, shape_of, written_rows}
 
 -- ---- which classes store bytes, and which a number
@@ -102,10 +102,14 @@ form_in is f none (r ∷ rows) form e h =
       go same rest true p q = sym (eqb-true r.form form p) ∙ eqb-true r.form f (sym same ∙ q)
       go same rest false p q = rest q
 
--- exprloc, sec_offset, loclistx
+-- exprloc, strp, sec_offset, loclistx
 abbrev is_expression : Class → Bool
 is_expression OfExpression = true
 is_expression _ = false
+
+abbrev is_strp : Class → Bool
+is_strp OfTextInStr = true
+is_strp _ = false
 
 abbrev is_offset : Class → Bool
 is_offset OfOffset = true
@@ -119,6 +123,10 @@ expressions_are : only_form is_expression 0x18 class_rows ≡ true
 unfolding class_rows
 expressions_are = refl
 
+strps_are : only_form is_strp 0x0e class_rows ≡ true
+unfolding class_rows
+strps_are = refl
+
 offsets_are : only_form is_offset 0x17 class_rows ≡ true
 unfolding class_rows
 offsets_are = refl
@@ -129,6 +137,9 @@ lists_are = refl
 
 pub expression_form : (form : ℕ) → class_of form ≡ OfExpression → form ≡ 0x18
 expression_form form e = form_in is_expression 0x18 refl class_rows form expressions_are (ap is_expression e)
+
+pub strp_form : (form : ℕ) → class_of form ≡ OfTextInStr → form ≡ 0x0e
+strp_form form e = form_in is_strp 0x0e refl class_rows form strps_are (ap is_strp e)
 
 pub offset_form : (form : ℕ) → class_of form ≡ OfOffset → form ≡ 0x17
 offset_form form e = form_in is_offset 0x17 refl class_rows form offsets_are (ap is_offset e)

@@ -7,7 +7,7 @@ use Rattle.dwz_meanings.specs.LinesWritten.{AreTexts}
 use Rattle.dwz_docs.specs.ElfLayout.{too_large}
 use Rattle.dwz_docs.specs.Entries.{RawAttr}
 use Rattle.dwz_docs.specs.Lists.{In}
-use Rattle.dwz_meanings.specs.Meanings.{Class, IfSo, OfCommonText, OfConstant, OfExpression, OfListIndex, OfOffset, OfTextBySlot, OfTextInLineStr, OfTextInStr, Sources, Unread, class_of, names_file, names_list}
+use Rattle.dwz_meanings.specs.Meanings.{Class, IfSo, OfCommonText, OfConstant, OfExpression, OfListIndex, OfOffset, OfTextBySlot, OfTextInLineStr, OfTextInStr, Scope, Sources, Unread, class_of, names_file, names_list}
 use Rattle.dwz_docs.specs.Trees.{End, Entry}
 use Rattle.dwz_docs.specs.Values.{AreBytes, SpellsValue}
 use Rattle.dwz_seen.specs.Lists.{Each}
@@ -20,12 +20,16 @@ use Rattle.dwz_writing.specs.Writing.{text_in}
 use Rattle.dwz_writing.specs.Meant.{KindSays, ListSays, OperandsIn, Own, Tells, WasRead, entry_keys, own_of}
 use Rattle.dwz_writing.specs.Sound.{SoundKind}
 
--- where an attribute may have been read: in the file with these sections, or in any file
-abbrev pub OfFile : Sources → Sources → Type 0
-OfFile sources s = s ≡ sources
+-- where an attribute may have been read: in which unit of which file, and what it was there
+abbrev pub From : Type 1
+From = Scope ℕ → RawAttr → Type 0
 
-abbrev pub OfAny : Sources → Type 0
-OfAny s = Unit {0}
+-- in the file with these sections, or in any file
+abbrev pub OfFile : Sources → From
+OfFile sources s a = s.around.sources ≡ sources
+
+abbrev pub OfAny : From
+OfAny s a = Unit {0}
 
 -- which attributes are carried: not those that name a text of a common file
 abbrev pub IsBuiltAs : Class → Type 0
@@ -46,9 +50,9 @@ pub record IsStored (old : RawAttr) : Type 0 where
   pub spelled : SpellsValue form_rows old.pair bytes old.raw
 
 -- the attribute was read in a file with such sources, which stores it so, in a unit of which that is known
-pub record CameFrom {K : Type 0} (from : Sources → Type 0) (origin : Bases) (a : Attr K) : Type 0 where
+pub record CameFrom {K : Type 0} (from : From) (origin : Bases) (a : Attr K) : Type 0 where
   pub was_read : WasRead a
-  pub file : from was_read.scope.around.sources
+  pub file : from was_read.scope was_read.old
   pub unit : bases_of was_read.scope ≡ origin
   pub stored : IsStored was_read.old
   pub built : IsBuilt a.form
@@ -69,20 +73,20 @@ pub record NamesLines {K : Type 0} (a : Attr K) : Type 0 where
   pub fits : place < 2 ^ 32
   pub value : a.value ≡ only (Sec place)
 
-abbrev pub CarriedAttr : {K : Type 0} → (Sources → Type 0) → Bases → Attr K → Type 0
+abbrev pub CarriedAttr : {K : Type 0} → From → Bases → Attr K → Type 0
 CarriedAttr from origin a = CameFrom from origin a ⊎ (Imports a ⊎ NamesLines a)
 
-pub record CarriedNode {K : Type 0} (from : Sources → Type 0) (origin : Bases) (e : Node K) : Type 0 where
+pub record CarriedNode {K : Type 0} (from : From) (origin : Bases) (e : Node K) : Type 0 where
   pub some_tag : 0 < e.tag
   pub tag_fits : e.tag ≤ 0xffff
   pub attrs : Each (CarriedAttr from origin) e.attrs
 
-abbrev pub CarriedEntries : {K : Type 0} → (Sources → Type 0) → Bases → Entries K → Type 0
+abbrev pub CarriedEntries : {K : Type 0} → From → Bases → Entries K → Type 0
 CarriedEntries from origin End = Unit {0}
 CarriedEntries from origin (Entry e children next) = CarriedNode from origin e × CarriedEntries from origin children × CarriedEntries from origin next
 
 -- the root has the tag of its kind, and the type of a type unit is an entry of that unit
-pub record CarriedUnit {K : Type 0} (from : Sources → Type 0) (origin : Bases) (u : DwUnit K) : Type 0 where
+pub record CarriedUnit {K : Type 0} (from : From) (origin : Bases) (u : DwUnit K) : Type 0 where
   pub kind : SoundKind u.kind u.root.tag
   pub main : KindSays (entry_keys u) u.kind
   pub root : CarriedNode from origin u.root
@@ -149,12 +153,20 @@ pub record SharedStand {K : Type 0} (f : Forms K) (t : Tells K) : Type 0 where
   pub strs : t.common_strs ≡ texts_bytes f.shared
   pub few : length t.common_strs < 2 ^ 32
 
+-- the sections that units are written for are these, and so is that of slots from which forms are chosen
+pub record IsOf {K : Type 0} (numbers : List ℕ) (t : Tells K) (s : Sources) : Type 0 where
+  pub strs : t.strs ≡ s.strs
+  pub line_strs : t.line_strs ≡ s.line_strs
+  pub offsets : t.offsets ≡ s.offsets
+  pub line : t.line ≡ s.line
+  pub slots : numbers ≡ s.offsets
+
 -- the sections of a file are those that were read, and it shares texts of the common file; or they are those of the common file
-abbrev pub SectionsStand : {K : Type 0} → Bool → (Sources → Type 0) → Forms K → Tells K → List (DwUnit K) → Type 0
+abbrev pub SectionsStand : {K : Type 0} → Bool → From → Forms K → Tells K → List (DwUnit K) → Type 0
 SectionsStand true from f t units = (length t.strs < 2 ^ 32) × CommonStands f t units
 SectionsStand false from f t units =
     (length t.strs < 2 ^ 32)
-    × ((s : Sources) → from s → (t.strs ≡ s.strs) × (t.line_strs ≡ s.line_strs) × (t.offsets ≡ s.offsets) × (t.line ≡ s.line) × (f.offsets ≡ s.offsets))
+    × ((s : Scope ℕ) (a : RawAttr) → from s a → IsOf f.offsets t s.around.sources)
     × SharedStand f t
 
 -- the attribute numbers a file of the line table

@@ -1,18 +1,20 @@
 //! What holds of the bytes of units: their lengths, where things stand, and what they say.
 
-ghost use Rattle.std.specs.Prelude.{◌≡◌, ◌<◌, ℕ, Bool, false, true, List, length, map};
+ghost use Rattle.std.specs.Prelude.{◌≡◌, ◌<◌, ◌^◌, ℕ, Bool, false, true, List, length, map};
 ghost use Rattle.dwz_meanings.specs.Documents.{Attr, DwUnit, Entries, Kind, Node, entries_map, node_map, unit_map};
 ghost use Rattle.dwz_docs.specs.Entries.{Mode, own_forms};
 ghost use Rattle.dwz_docs.specs.Lists.{In};
-ghost use Rattle.dwz_meanings.specs.Meanings.{Around, MeanUnits, Sources};
+ghost use Rattle.dwz_docs.specs.Pruning.{new_number, pruned};
+ghost use Rattle.dwz_meanings.specs.Meanings.{Around, MeanUnits, Sources, texts_of};
 ghost use Rattle.dwz_docs.specs.Units.{RawUnit, SpellsUnits};
 ghost use Rattle.dwz_docs.specs.Values.{AreBytes};
 ghost use Rattle.dwz_seen.specs.Lists.{Each};
 ghost use Rattle.dwz_writing.specs.Bases.{Bases, bases_in};
 ghost use Rattle.dwz_writing.specs.Carried.{ApartIn, BasesStand, BuiltUnit, CarriedEntries, CarriedNode, CarriedUnit, ClosedIn, OfAny, OfFile, OperandsStand, SectionsStand};
 ghost use Rattle.dwz_writing.specs.Fitting.{AreWritable, IsRoomy, UnitFits, mode_for};
-ghost use Rattle.dwz_writing.specs.Meant.{Spells, Tells, UnitsSay, all_entry_keys};
+ghost use Rattle.dwz_writing.specs.Meant.{Spells, Tells, UnitsSay, all_entry_keys, told_texts};
 ghost use Rattle.dwz_writing.specs.Placing.{FileOut, Forms, UnitsStand, files_keys, fit_units, numbering, sections};
+ghost use Rattle.dwz_writing.specs.Pruned.{AreNewSlots, StaysIn, UnitStays, all_uses, known_slots, renumbered_units, slot_after, with_texts};
 ghost use Rattle.dwz_seen.specs.Shown.{units_keys};
 ghost use Rattle.dwz_writing.specs.Sound.{SoundAttr, SoundEntries, SoundNode, SoundUnit};
 ghost use Rattle.dwz_alike.specs.Spots.{Spot, same_spot};
@@ -76,4 +78,19 @@ pub fn carried_laws()
     ensures unit { (sources : Sources) (origin : Bases) (f : Spot → Spot) (u : DwUnit Spot) → CarriedUnit (OfFile sources) origin u → CarriedUnit (OfFile sources) origin (unit_map f u) }
     ensures entry { (sources : Sources) (origin : Bases) (f : Spot → Spot) (e : Node Spot) → CarriedNode (OfFile sources) origin e → CarriedNode (OfFile sources) origin (node_map f e) }
     ensures entries { (sources : Sources) (origin : Bases) (f : Spot → Spot) (entries : Entries Spot) → CarriedEntries (OfFile sources) origin entries → CarriedEntries (OfFile sources) origin (entries_map f entries) }
+{}
+
+/// Texts that move. What was read in a file whose slots and line tables let it stay does so in the unit in which it is written, once the
+/// forms of values are chosen. Then units are sound, and say the same, where just the texts stay that are used: their values of
+/// DW_FORM_strp have the new numbers of their uses, and so have the slots of `.debug_str_offsets` that name a text. No name is changed.
+pub fn pruned_laws()
+    ensures stays { (f : Forms Spot) (sources : Sources) (places : List ℕ) (units : List (DwUnit Spot)) → f.is_common ≡ false
+        → Each (λ u. CarriedUnit (StaysIn sources places) (f.origin u.at) u) units → Each (BasesStand f) units
+        → Each (UnitStays (texts_of sources) sources.line places) (fit_units f units) }
+    ensures said { (t : Tells Spot) (units : List (DwUnit Spot)) (offsets : List ℕ) → length t.strs < 2 ^ 32
+        → let uses = all_uses t.strs t.offsets units in AreNewSlots (slot_after t.strs uses) (known_slots t.offsets) t.offsets offsets
+        → Each (UnitStays (told_texts t) t.line (known_slots t.offsets)) units → Each SoundUnit units → UnitsSay t units
+        → Each SoundUnit (renumbered_units (new_number t.strs uses) units)
+        × UnitsSay (with_texts t (pruned t.strs uses) offsets) (renumbered_units (new_number t.strs uses) units) }
+    ensures keys { (number : ℕ → ℕ) (units : List (DwUnit Spot)) → units_keys (renumbered_units number units) ≡ units_keys units }
 {}

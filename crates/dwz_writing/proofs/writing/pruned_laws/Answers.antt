@@ -1,0 +1,13 @@
+use Rattle.dwz_writing.proofs.PrunedUnits.{units_pruned}
+use Rattle.dwz_writing.proofs.Renumbered.{renumbered_keys}
+use Rattle.dwz_writing.proofs.Staying.{units_stay}
+use Rattle.dwz_writing.proofs.writing.pruned_laws.Goals as goal
+
+pub returns-clause-stays : goal.returns-clause-stays
+returns-clause-stays c f sources places units own = units_stay f sources places own units
+
+pub returns-clause-said : goal.returns-clause-said
+returns-clause-said c = units_pruned
+
+pub returns-clause-keys : goal.returns-clause-keys
+returns-clause-keys c = renumbered_keys

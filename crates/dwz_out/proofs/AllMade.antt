@@ -7,7 +7,7 @@ use Rattle.dwz_docs.specs.Lists.{In}
 use Rattle.dwz_docs.specs.Units.{RawUnit}
 use Rattle.dwz_docs.specs.Values.{AreBytes}
 use Rattle.dwz_meanings.specs.Documents.{Doc, DwUnit}
-use Rattle.dwz_meanings.specs.Files.{ReadAll, around_of, no_files_before}
+use Rattle.dwz_meanings.specs.Files.{around_of}
 use Rattle.dwz_meanings.specs.Meanings.{MeanUnits}
 use Rattle.dwz_seen.specs.Lists.{Each, Nth}
 use Rattle.dwz_seen.proofs.Members.{any_from, in_cases, nth_in}
@@ -59,7 +59,7 @@ module _ (docs : List (Doc ℕ)) (input : Stored) (are : AreRead input docs) (go
   -- what is known of such a file
   pub record IsChanged (file : ℕ) : Type 0 where
     pub doc : Doc ℕ
-    pub read : IsRead (input.bytes file) (input.raw file) doc
+    pub read : IsRead (input.bytes file) (input.raw file) (input.prunes file) doc
     pub some : (input.raw file ≡ []) → ⊥
 
   pub changed_file : (file : ℕ) → list_any (λ (t : Top). t.file == file && gone t.number) (tops_of (units_of docs)) ≡ true → IsChanged file
@@ -75,33 +75,33 @@ module _ (docs : List (Doc ℕ)) (input : Stored) (are : AreRead input docs) (go
 
 -- ---- all of them
 
-module _ (o : Options) (contents : List (List ℕ)) (docs : List (Doc ℕ)) (bytes : Each AreBytes contents) (all : ReadAll no_files_before contents docs) (written : IsWritten o docs contents) where
+module _ (o : Options) (contents : List (List ℕ)) (docs : List (Doc ℕ)) (prunes : List Bool) (bytes : Each AreBytes contents) (written : IsWritten o contents docs prunes) where
   abbrev r : Run
-  r = run_for o docs contents
+  r = run_for o contents docs prunes
 
   abbrev name : List ℕ
   name = sup_name o
 
-  pub are : AreRead (stored_of contents) docs
-  are = are_read contents docs all bytes
+  pub are : AreRead (stored_of contents prunes) docs
+  are = are_read contents docs prunes written.read bytes
 
   abbrev Files : Refusal → Type 0
   Files = OrElse (OfFirst (InFile (SectionsFault r)) r.files) (OfFirst (InFile (FileFault name r)) r.files)
 
   common_free : has_common r ≡ true → Nothing (CommonFault r)
-  common_free there f is = not_first (CommonRefusal r) Files written _ (there, (f, is, refl))
+  common_free there f is = not_first (CommonRefusal r) Files written.free _ (there, (f, is, refl))
 
   sections_free : (file : ℕ) → In file r.files → Nothing (SectionsFault r file)
   sections_free file there f is =
-      not_any (InFile (SectionsFault r)) r.files (not_first (OfFirst (InFile (SectionsFault r)) r.files) _ (not_then (CommonRefusal r) Files written)) file there _ (f, is, refl)
+      not_any (InFile (SectionsFault r)) r.files (not_first (OfFirst (InFile (SectionsFault r)) r.files) _ (not_then (CommonRefusal r) Files written.free)) file there _ (f, is, refl)
 
   file_free : (file : ℕ) → In file r.files → Nothing (FileFault name r file)
   file_free file there f is =
-      not_any (InFile (FileFault name r)) r.files (not_then (OfFirst (InFile (SectionsFault r)) r.files) (OfFirst (InFile (FileFault name r)) r.files) (not_then (CommonRefusal r) Files written)) file there _ (f, is, refl)
+      not_any (InFile (FileFault name r)) r.files (not_then (OfFirst (InFile (SectionsFault r)) r.files) (OfFirst (InFile (FileFault name r)) r.files) (not_then (CommonRefusal r) Files written.free)) file there _ (f, is, refl)
 
-  changed : (file : ℕ) → changes r.move r.units file ≡ true → IsChanged docs (stored_of contents) are r.move.gone file
+  changed : (file : ℕ) → changes r.move r.units file ≡ true → IsChanged docs (stored_of contents prunes) are r.move.gone file
   unfolding changes
-  changed file moves = changed_file docs (stored_of contents) are r.move.gone file moves
+  changed file moves = changed_file docs (stored_of contents prunes) are r.move.gone file moves
 
   pub are_made : AreMade r (file_after name r) (common_bytes r)
   are_made =
@@ -110,7 +110,7 @@ module _ (o : Options) (contents : List (List ℕ)) (docs : List (Doc ℕ)) (byt
         common = has_it r (content_bytes contents bytes 0) small.file small.lines;
         common_fits = small.sections;
         file = λ file there moves.
-            (let c = changed file moves in has_sections name r file c.doc c.read c.some moves (sections_free file there) (file_free file there));
+            (let c = changed file moves in has_sections name r file c.doc c.read (content_bytes contents bytes file) c.some moves (sections_free file there) (file_free file there));
         file_fits = λ file there moves.
-            (let c = changed file moves in sections_fit name r file c.doc c.read c.some moves (sections_free file there) (file_free file there));
+            (let c = changed file moves in sections_fit name r file c.doc c.read (content_bytes contents bytes file) c.some moves (sections_free file there) (file_free file there));
       }

@@ -75,17 +75,20 @@ no_bytes : (bytes : List ℕ) → length bytes ≡ 0 → bytes ≡ []
 no_bytes [] e = refl
 no_bytes (b ∷ bytes) e = absurd (omega (arith, e))
 
--- other bytes of the same length can be given
-pub can_give_other : (input : List ℕ) (code : ℕ) (new : List ℕ) → length new ≡ length (section_of input code) → CanGive input code (if_other (section_of input code) new)
-can_give_other input code new len = by (same_numbers (section_of input code) new) refl where
+-- as where they are as many
+pub none_if_none : (old new : List ℕ) → length new ≡ length old → old ≡ [] → new ≡ []
+none_if_none old new len none = no_bytes new (len ∙ ap length none)
+
+-- other bytes can be given, where there are none if there were none
+pub can_give_other : (input : List ℕ) (code : ℕ) (new : List ℕ) → (section_of input code ≡ [] → new ≡ []) → CanGive input code (if_other (section_of input code) new)
+can_give_other input code new empty = by (same_numbers (section_of input code) new) refl where
   some : same_numbers (section_of input code) new ≡ false → 0 < length (section_of input code)
-  some e = filled (section_of input code) len e where
-    filled : (old : List ℕ) → length new ≡ length old → same_numbers old new ≡ false → 0 < length old
-    filled [] same no_same =
-        let empty = no_bytes new same in
-        let yes : same_numbers [] new ≡ true = ap (same_numbers []) empty ∙ numbers_same [] in
+  some e = filled (section_of input code) empty e where
+    filled : (old : List ℕ) → (old ≡ [] → new ≡ []) → same_numbers old new ≡ false → 0 < length old
+    filled [] nothing no_same =
+        let yes : same_numbers [] new ≡ true = ap (same_numbers []) (nothing refl) ∙ numbers_same [] in
         absurd (let z : true ≡ false = sym yes ∙ no_same in cc)
-    filled (b ∷ old) same no_same = omega arith
+    filled (b ∷ old) nothing no_same = omega arith
 
   by : (t : Bool) → same_numbers (section_of input code) new ≡ t → CanGive input code (cond t None (Some new))
   by true e = tt

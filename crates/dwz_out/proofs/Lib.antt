@@ -8,6 +8,7 @@ pub mod OneRefusal
 pub mod OneOutcome
 pub mod FilesRead
 pub mod SectionsMade
+pub mod SlotsMade
 pub mod FilesMade
 pub mod CommonMade
 pub mod AllMade

@@ -43,7 +43,7 @@ written_in at (n ∷ new) bytes (suc k) lt le =
 
 -- ---- operand by operand, in whatever order
 
-abbrev spelled : Operand → List ℕ
+abbrev pub spelled : Operand → List ℕ
 spelled o = number_bytes o.uleb o.width o.number
 
 spelled_len : (o : Operand) → length (spelled o) ≡ o.width
@@ -55,16 +55,16 @@ over_len [] bytes = refl
 over_len (o ∷ os) bytes = over_len os (written_at o.at (spelled o) bytes) ∙ written_len o.at (spelled o) bytes
 
 -- the byte is one of an operand of these, and of its number
-record IsOf (os : List Operand) (b value : ℕ) : Type 0 where
-  operand : Operand
-  there : In operand os
-  has : HasByte operand b
-  value_is : value ≡ get_or (spelled operand) (b - operand.at) 0
+pub record IsOf (os : List Operand) (b value : ℕ) : Type 0 where
+  pub operand : Operand
+  pub there : In operand os
+  pub has : HasByte operand b
+  pub value_is : value ≡ get_or (spelled operand) (b - operand.at) 0
 
-abbrev IsOfNone : List Operand → ℕ → Type 0
+abbrev pub IsOfNone : List Operand → ℕ → Type 0
 IsOfNone os b = (o : Operand) → In o os → HasByte o b → ⊥
 
-over_byte : (os : List Operand) (bytes : List ℕ) → ((o : Operand) → In o os → o.at + o.width ≤ length bytes) → (b : ℕ)
+pub over_byte : (os : List Operand) (bytes : List ℕ) → ((o : Operand) → In o os → o.at + o.width ≤ length bytes) → (b : ℕ)
     → IsOf os b (get_or (with_operands os bytes) b 0) ⊎ (IsOfNone os b × (get_or (with_operands os bytes) b 0 ≡ get_or bytes b 0))
 unfolding with_operands
 over_byte [] bytes within b = inr (λ o there has. absurd there, refl)

@@ -166,7 +166,7 @@ pub record IsWithin (start end : ℕ) (o : Operand) : Type 0 where
   pub some : 0 < o.width
   pub to : o.at + o.width ≤ end
 
-lies_within : (at end : ℕ) (os : List Operand) → Lie at end os → (o : Operand) → In o os → IsWithin at end o
+pub lies_within : (at end : ℕ) (os : List Operand) → Lie at end os → (o : Operand) → In o os → IsWithin at end o
 lies_within at end [] h o there = absurd there
 lies_within at end (p ∷ os) h o (inl same) =
     let last = lie_le (p.at + p.width) end os h.2 in

@@ -32,7 +32,7 @@ pub lists_len : (r : Run) (file : ℕ) → length (lists_after r file) ≡ lengt
 unfolding lists_after
 lists_len r file = over_len (map (operand_after r file) (listed r file)) (sources r file).lists
 
-module _ (r : Run) (file : ℕ) (doc : Doc ℕ) (read : IsRead (r.input.bytes file) (r.input.raw file) doc) where
+module _ (r : Run) (file : ℕ) (doc : Doc ℕ) (read : IsRead (r.input.bytes file) (r.input.raw file) (r.input.prunes file) doc) where
   none : NoneShared (lists_named r file)
   none = read.reads.lists
 

@@ -1,17 +1,19 @@
 -- The new sections of a file of which something moves, and those of the common file, by a run.
-use Rattle.std.specs.Prelude.{ℕ, List, [], ◌∷◌, Option, Some, None, Result, Ok, Err, map, if◌then◌else◌}
+use Rattle.std.specs.Prelude.{ℕ, Bool, true, false, List, [], ◌∷◌, Option, Some, None, Result, Ok, Err, map, if◌then◌else◌}
+use Rattle.dwz_bytes.specs.Spelling.{le_bytes}
 use Rattle.dwz_model.specs.declared.fault.Fault.{Fault}
 use Rattle.dwz_model.specs.declared.sections.Sections.{Sections}
 use Rattle.dwz_meanings.specs.declared.exprs.Operand.{Operand}
 use Rattle.dwz_meanings.specs.Files.{debug_aranges, sets_said}
 use Rattle.dwz_meanings.specs.PatchedLists.{with_number, with_operands}
-use Rattle.dwz_meanings.specs.Patching.{with_units}
+use Rattle.dwz_meanings.specs.Patching.{with_units, written_at}
 use Rattle.dwz_meanings.specs.Ranges.{RangeSet}
 use Rattle.dwz_meanings.specs.Shared.{ListOperand, operands_in_lists}
 use Rattle.dwz_alike.specs.Spots.{same_numbers}
 use Rattle.dwz_writing.specs.Meant.{number_after}
 use Rattle.dwz_writing.specs.Placing.{lines_bytes, texts_bytes}
-use Rattle.dwz_back.specs.Files.{Run, common_sections, lists_named, name_after, paths, places, sections_of, sources, texts}
+use Rattle.dwz_writing.specs.Pruned.{known_slots, number_in_slot, slot_after}
+use Rattle.dwz_back.specs.Files.{Run, common_sections, lists_named, name_after, paths, places, sections_of, sources, strs_if, texts, uses}
 
 -- ---- numbers that are changed in place
 
@@ -46,6 +48,29 @@ new_offset r file s = (places r).place (name_after r file s.unit)
 unfoldable pub ranges_after : Run → ℕ → List ℕ
 ranges_after r file = with_units (sets_of r file) (map (new_offset r file) (sets_of r file)) (debug_aranges (r.input.bytes file))
 
+-- ---- texts that are used, and their slots
+
+-- `.debug_str`: in a file that is prunable just the texts that are used
+unfoldable pub strs_after : Run → ℕ → List ℕ
+strs_after r file = strs_if (r.input.prunes file) r file
+
+-- a number for each place, in four bytes there
+unfoldable pub with_slots : (ℕ → ℕ) → List ℕ → List ℕ → List ℕ
+with_slots number [] bytes = bytes
+with_slots number (place ∷ places) bytes = with_slots number places (written_at place (le_bytes 4 (number place)) bytes)
+
+-- the new number of the slot at a place
+abbrev pub new_slot : Run → ℕ → ℕ → ℕ
+new_slot r file place = slot_after (sources r file).strs (uses r file) (number_in_slot (sources r file).offsets place)
+
+abbrev pub offsets_if : Bool → Run → ℕ → List ℕ
+offsets_if true r file = with_slots (new_slot r file) (known_slots (sources r file).offsets) (sources r file).offsets
+offsets_if false r file = (sources r file).offsets
+
+-- `.debug_str_offsets` with these numbers, where the file is prunable (DWARF 5, 7.26)
+unfoldable pub offsets_after : Run → ℕ → List ℕ
+offsets_after r file = offsets_if (r.input.prunes file) r file
+
 -- ---- all sections
 
 -- the new bytes of a section, where they aren't the old ones
@@ -57,8 +82,8 @@ unfoldable pub sections_after : Run → ℕ → Sections
 sections_after r file = record {
   info = (sections_of r file).info;
   «abbrev» = (sections_of r file).abbrevs;
-  strs = None;
-  offsets = None;
+  strs = if_other (sources r file).strs (strs_after r file);
+  offsets = if_other (sources r file).offsets (offsets_after r file);
   line = None;
   loclists = if_other (sources r file).lists (lists_after r file);
   aranges = if_other (debug_aranges (r.input.bytes file)) (ranges_after r file);

@@ -1,11 +1,10 @@
 -- Laws on what a run puts.
-use Rattle.std.specs.Prelude.{◌≡◌, ℕ, List}
+use Rattle.std.specs.Prelude.{◌≡◌, ℕ, Bool, List}
 use Rattle.dwz_model.specs.declared.fault.Refusal.{Refusal}
 use Rattle.dwz_docs.specs.ElfLayout.{IsOrder}
 use Rattle.dwz_docs.specs.ElfReading.{ElfView}
 use Rattle.dwz_docs.specs.Values.{AreBytes}
 use Rattle.dwz_meanings.specs.Documents.{Doc}
-use Rattle.dwz_meanings.specs.Files.{ReadAll, no_files_before}
 use Rattle.dwz_seen.specs.Lists.{Each}
 use Rattle.dwz_writing.specs.Meant.{AreRenumbered}
 use Rattle.dwz_back.specs.AllFiles.{AreMade, IsRead}
@@ -32,17 +31,17 @@ OneOutcomeLaw = (o : Options) (contents : List (List ℕ)) (a b : Outcome) → O
 -- in the location lists of a file that reads stand the numbers of where things stand, and in no other bytes do
 abbrev pub ListsLaw : Type 0
 ListsLaw =
-    (r : Run) (file : ℕ) (doc : Doc ℕ) → IsRead (r.input.bytes file) (r.input.raw file) doc
+    (r : Run) (file : ℕ) (doc : Doc ℕ) → IsRead (r.input.bytes file) (r.input.raw file) (r.input.prunes file) doc
     → AreRenumbered (places r) (tells r file) (lists_after r file) × ((new : List ℕ) → AreRenumbered (places r) (tells r file) new → new ≡ lists_after r file)
 
 -- so it is with its address ranges
 abbrev pub RangesLaw : Type 0
 RangesLaw =
-    (r : Run) (file : ℕ) (doc : Doc ℕ) → IsRead (r.input.bytes file) (r.input.raw file) doc
+    (r : Run) (file : ℕ) (doc : Doc ℕ) → IsRead (r.input.bytes file) (r.input.raw file) (r.input.prunes file) doc
     → AreRanged r file (ranges_after r file) × ((new : List ℕ) → AreRanged r file new → new ≡ ranges_after r file)
 
 -- Where the files are written, what is written of them is made as is asked, so that it reads back.
 abbrev pub MadeLaw : Type 0
 MadeLaw =
-    (o : Options) (contents : List (List ℕ)) (docs : List (Doc ℕ)) → Each AreBytes contents → ReadAll no_files_before contents docs → IsWritten o docs contents
-    → AreMade (run_for o docs contents) (file_after (sup_name o) (run_for o docs contents)) (common_bytes (run_for o docs contents))
+    (o : Options) (contents : List (List ℕ)) (docs : List (Doc ℕ)) (prunes : List Bool) → Each AreBytes contents → IsWritten o contents docs prunes
+    → let r = run_for o contents docs prunes in AreMade r (file_after (sup_name o) r) (common_bytes r)

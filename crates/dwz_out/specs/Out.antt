@@ -1,5 +1,5 @@
 -- What a run puts, by its options and the contents of its files; or the refusal of these.
-use Rattle.std.specs.Prelude.{◌≡◌, ◌⊎◌, ℕ, suc, Bool, true, false, List, [], ◌∷◌, ◌++◌, length, get_or, Option, Some, None, unwrap_or, Ok, Err, if◌then◌else◌}
+use Rattle.std.specs.Prelude.{◌≡◌, ◌↔◌, ◌⊎◌, ℕ, suc, Bool, true, false, List, [], ◌∷◌, ◌++◌, length, get_or, Option, Some, None, unwrap_or, Ok, Err, if◌then◌else◌}
 use Rattle.dwz_model.specs.declared.fault.Refusal.{Refusal}
 use Rattle.dwz_docs.specs.Units.{RawUnit}
 use Rattle.dwz_meanings.specs.Documents.{Doc}
@@ -12,6 +12,7 @@ use Rattle.dwz_moving.specs.Homes.{Rule}
 use Rattle.dwz_same.specs.Units.{changes}
 use Rattle.dwz_back.specs.Back.{run_of}
 use Rattle.dwz_back.specs.Files.{Run, Stored}
+use Rattle.dwz_back.specs.Prunable.{IsPrunable}
 use Rattle.dwz_outside.specs.declared.puts.Put.{Put}
 use Rattle.dwz_report.specs.declared.summary.Summary.{Summary}
 use Rattle.dwz_words.specs.declared.options.Options.{Options}
@@ -27,11 +28,23 @@ unfoldable pub raws : Limits → List (List ℕ) → List (List RawUnit)
 raws l [] = []
 raws l (bytes ∷ files) = elim (file_meaning l bytes) as (λ _. List (List RawUnit)) [ Ok x ↦ x.0 ∷ raws (limits_after l bytes x.0) files | Err f ↦ [] ]
 
-abbrev pub stored_of : List (List ℕ) → Stored
-stored_of contents = record {
+-- contents as they are stored, with a flag for each file: whether it is prunable
+abbrev pub stored_of : List (List ℕ) → List Bool → Stored
+stored_of contents prunes = record {
   bytes = λ file. get_or contents file [];
   raw = λ file. get_or (raws no_files_before contents) file [];
+  prunes = λ file. get_or prunes file false;
 }
+
+abbrev pub ArePrunable : List (List ℕ) → List (Doc ℕ) → List Bool → Type 0
+ArePrunable [] [] [] = Unit {0}
+ArePrunable (bytes ∷ contents) (doc ∷ docs) (flag ∷ flags) = ((flag ≡ true) ↔ IsPrunable bytes doc.units) × ArePrunable contents docs flags
+ArePrunable _ _ _ = ⊥
+
+-- the contents read as these documents, and the flags say which of the files are prunable
+pub record ReadAs (contents : List (List ℕ)) (docs : List (Doc ℕ)) (prunes : List Bool) : Type 0 where
+  pub reads : ReadAll no_files_before contents docs
+  pub prunable : ArePrunable contents docs prunes
 
 -- with a common file all files are one scope, and else each file is one
 abbrev pub scope_by : Option (List ℕ) → Scope
@@ -46,8 +59,8 @@ abbrev pub rule_of : Options → List (Doc ℕ) → Rule
 rule_of o docs = gain_rule (alike_test (scope_of o) (units_of docs)) (units_of docs)
 
 -- the run of files that say these documents
-abbrev pub run_for : Options → List (Doc ℕ) → List (List ℕ) → Run
-run_for o docs contents = run_of (rule_of o docs) docs (stored_of contents)
+abbrev pub run_for : Options → List (List ℕ) → List (Doc ℕ) → List Bool → Run
+run_for o contents docs prunes = run_of (rule_of o docs) docs (stored_of contents prunes)
 
 -- ---- names
 
@@ -111,15 +124,25 @@ summary_of o r = record {
 abbrev pub output_of : Options → Run → Output
 output_of o r = record { puts = all_puts o r; summary = summary_of o r; partials = length r.move.parts }
 
--- nothing refuses the files with these documents
-abbrev pub IsWritten : Options → List (Doc ℕ) → List (List ℕ) → Type 0
-IsWritten o docs contents = (q : Refusal) → ¬ OutFault (sup_name o) (run_for o docs contents) q
+-- nothing refuses its output
+abbrev pub IsFree : Options → Run → Type 0
+IsFree o r = (q : Refusal) → ¬ OutFault (sup_name o) r q
+
+-- the contents read so, and nothing refuses what comes of them
+pub record IsWritten (o : Options) (contents : List (List ℕ)) (docs : List (Doc ℕ)) (prunes : List Bool) : Type 0 where
+  pub read : ReadAs contents docs prunes
+  pub free : IsFree o (run_for o contents docs prunes)
+
+-- the contents read so, and this is the first refusal of what comes of them
+pub record IsRefused (o : Options) (contents : List (List ℕ)) (docs : List (Doc ℕ)) (prunes : List Bool) (q : Refusal) : Type 0 where
+  pub read : ReadAs contents docs prunes
+  pub fault : OutFault (sup_name o) (run_for o contents docs prunes) q
 
 -- The contents read as documents, and their output is written, unless it is refused; or they don't read, and the first fault of reading
 -- refuses them.
 abbrev pub Out : Options → List (List ℕ) → Outcome → Type 0
 Out o contents (writes out) =
-    (docs : List (Doc ℕ)) × ReadAll no_files_before contents docs × IsWritten o docs contents × (out ≡ output_of o (run_for o docs contents))
+    (docs : List (Doc ℕ)) × (prunes : List Bool) × IsWritten o contents docs prunes × (out ≡ output_of o (run_for o contents docs prunes))
 Out o contents (refuses q) =
     First no_files_before 0 contents q
-    ⊎ ((docs : List (Doc ℕ)) × ReadAll no_files_before contents docs × OutFault (sup_name o) (run_for o docs contents) q)
+    ⊎ ((docs : List (Doc ℕ)) × (prunes : List Bool) × IsRefused o contents docs prunes q)

@@ -1,5 +1,6 @@
 -- Where nothing refuses them, all files are made as is asked.
-use Rattle.std.proofs.Common.{◌≡◌, ◌&&◌, ◌==◌, ℕ, suc, ◌+◌, Bool, true, List, [], ◌∷◌, length, map, refl, sym, ap, subst, ◌∙◌, inl, inr, eqb-true}
+use Rattle.std.proofs.Common.{◌≡◌, ◌&&◌, ◌==◌, ℕ, suc, ◌+◌, Bool, true, List, [], ◌∷◌, length, map, refl, sym, ap, subst, ◌∙◌, inl, inr, eqb-true, ◌^◌, ◌<◌, ◌++◌, Some, None, unwrap_or, arith, false}
+use Rattle.std.specs.Prelude.{if◌then◌else◌}
 use Rattle.std.proofs.lemmas.Bool.{and_parts}
 use Rattle.std.specs.List.{list_any}
 use Rattle.dwz_model.specs.declared.fault.Refusal.{Refusal}
@@ -15,13 +16,33 @@ use Rattle.dwz_alike.specs.Spots.{FileUnit, Spot, Top, in_file, named, named_fil
 use Rattle.dwz_alike.proofs.Tops.{unit_of}
 use Rattle.dwz_same.specs.Units.{changes}
 use Rattle.dwz_words.specs.declared.options.Options.{Options}
-use Rattle.dwz_back.specs.AllFiles.{AreMade, AreRead, IsRead}
-use Rattle.dwz_back.specs.Files.{Run, Stored}
-use Rattle.dwz_out.specs.FilesAfter.{common_bytes, file_after, has_common}
-use Rattle.dwz_out.specs.Out.{IsWritten, run_for, stored_of, sup_name}
-use Rattle.dwz_out.specs.Refusals.{CommonFault, CommonRefusal, FileFault, InFile, OfFirst, OrElse, SectionsFault}
-use Rattle.dwz_out.proofs.CommonMade.{has_it, is_small}
-use Rattle.dwz_out.proofs.FilesMade.{has_sections, sections_fit}
+use Rattle.dwz_back.specs.AllFiles.{AreMade, AreOver, AreRead, IsRead, ReadBack}
+use Rattle.dwz_back.specs.Files.{Run, Stored, common_sections, imports_common, texts}
+use Rattle.dwz_out.specs.FilesAfter.{common_bytes, file_after, has_common, sup_of}
+use Rattle.dwz_out.specs.Out.{IsWritten, rule_of, run_for, scope_of, stored_of, sup_name}
+use Rattle.dwz_out.specs.Refusals.{CommonFault, CommonRefusal, FileFault, FirstNarrow, InFile, IsLargeSection, OfFirst, OrElse, SectionsFault, spoken}
+use Rattle.dwz_out.specs.Tied.{SaysSup, common_sup, file_sup, sum_of}
+use Rattle.dwz_out.proofs.CommonMade.{has_it, is_small, says_itself}
+use Rattle.dwz_out.proofs.NoneNarrow.{all_fit}
+use Rattle.dwz_out.proofs.RoomAfter.{over}
+use Rattle.dwz_alike.specs.Alike.{IsAlike}
+use Rattle.dwz_alike.specs.Deciding.{alike_test}
+use Rattle.dwz_alike.proofs.AlikeLaws.{alike_decides}
+use Rattle.dwz_moving.specs.Homes.{IsChoice}
+use Rattle.dwz_moving.proofs.GainLemmas.{gain_choice}
+use Rattle.dwz_back.proofs.AllLemmas.{all_back}
+use Rattle.dwz_rebuilt.specs.Changed.{changes_by}
+use Rattle.dwz_docs.specs.Supplementary.{SpellsSup, sup_bytes}
+use Rattle.dwz_docs.specs.Texts.{NoZero}
+use Rattle.dwz_docs.proofs.SupLemmas.{sup_written}
+use Rattle.dwz_sup.specs.Common.{common_sum}
+use Rattle.dwz_sup.proofs.LengthLemmas.{sum_len}
+use Rattle.sha2.specs.Sha256.{sha256}
+use Rattle.dwz_meanings.specs.Files.{debug_info, section_of}
+use Rattle.dwz_meanings.specs.Meanings.{Sources}
+use Rattle.dwz_writing.specs.Placing.{texts_bytes}
+use Rattle.dwz_out.specs.Contents.{common_after, if_some, listed, sections_after}
+use Rattle.dwz_out.proofs.FilesMade.{has_sections, has_sup, sections_fit}
 use Rattle.dwz_out.proofs.FilesRead.{are_read, content_bytes}
 use Rattle.dwz_out.proofs.FreeLemmas.{Nothing, not_any, not_first, not_then}
 
@@ -54,6 +75,11 @@ means_some : (bytes : List ℕ) (raw : List RawUnit) (all : List RawUnit) (units
 means_some bytes [] all [] means filled none = filled refl
 means_some bytes [] all (v ∷ units) means filled none = absurd means
 means_some bytes (u ∷ raw) all units means filled none = cc
+
+some_texts : (ts : List (List ℕ)) → unwrap_or (if_some ts (texts_bytes ts)) [] ≡ texts_bytes ts
+unfolding texts_bytes
+some_texts [] = refl
+some_texts (t ∷ ts) = refl
 
 module _ (docs : List (Doc ℕ)) (input : Stored) (are : AreRead input docs) (gone : ℕ → Bool) where
   -- what is known of such a file
@@ -114,3 +140,56 @@ module _ (o : Options) (contents : List (List ℕ)) (docs : List (Doc ℕ)) (pru
         file_fits = λ file there moves.
             (let c = changed file moves in sections_fit name r file c.doc c.read (content_bytes contents bytes file) c.some moves (sections_free file there) (file_free file there));
       }
+
+  -- ---- so they read back
+
+  pub are_over : AreOver r
+  are_over file there moves =
+      let free : Nothing (OrElse (FirstNarrow r file 1 (spoken r file)) (OrElse (FirstNarrow r file 7 (listed r file)) (OfFirst IsLargeSection (changes_by (sections_after r file) None).new))) = λ f is.
+      sections_free file there f (moves, is) in
+      let first = not_first (FirstNarrow r file 1 (spoken r file)) _ free in
+      let second = not_first (FirstNarrow r file 7 (listed r file)) _ (not_then (FirstNarrow r file 1 (spoken r file)) _ free) in
+      over (scope_of o) docs (stored_of contents prunes) are (rule_of o docs) alike choice file (all_fit r file 1 (spoken r file) first) (all_fit r file 7 (listed r file) second) where
+        alike : IsAlike (scope_of o) (units_of docs) (rule_of o docs).alike
+        alike = alike_decides (scope_of o) (units_of docs)
+
+        choice : IsChoice (units_of docs) (rule_of o docs)
+        choice = gain_choice (scope_of o) (units_of docs) (alike_test (scope_of o) (units_of docs)) (alike_decides (scope_of o) (units_of docs))
+
+  pub read_back : ReadBack (scope_of o) docs (rule_of o docs) (stored_of contents prunes) (file_after name r) (common_bytes r)
+  read_back =
+      let alike = alike_decides (scope_of o) (units_of docs) in
+      let choice = gain_choice (scope_of o) (units_of docs) (alike_test (scope_of o) (units_of docs)) alike in
+      all_back (scope_of o) docs (stored_of contents prunes) are (rule_of o docs) alike choice are_over (file_after name r) (common_bytes r) are_made
+
+  -- ---- `.debug_sup`
+
+  -- the checksum is that of the common file as it reads
+  sum_is : common_sum (common_after r) ≡ sum_of (common_bytes r)
+  unfolding common_after
+  sum_is =
+      let h = are_made.common in
+      let texts_are : unwrap_or (if_some (texts r) (texts_bytes (texts r))) [] ≡ section_of (common_bytes r) 3 = some_texts (texts r) ∙ sym (ap (λ (x : Sources). x.strs) h.sources) in
+      ap (λ (w : List ℕ). sha256 (w ++ unwrap_or (if_some (texts r) (texts_bytes (texts r))) [] ++ (common_sections r).abbrevs)) (sym h.info)
+      ∙ ap (λ (w : List ℕ). sha256 (debug_info (common_bytes r) ++ w ++ (common_sections r).abbrevs)) texts_are
+      ∙ ap (λ (w : List ℕ). sha256 (debug_info (common_bytes r) ++ section_of (common_bytes r) 3 ++ w)) (sym h.abbrevs)
+
+  sum_small : length (common_sum (common_after r)) < 2 ^ 64
+  sum_small = let len = sum_len ((common_after r).info ++ unwrap_or (common_after r).strs [] ++ (common_after r).abbrev) in omega (arith, len)
+
+  pub common_tied : SaysSup (common_bytes r) (common_sup r)
+  common_tied =
+      let small = is_small r common_free in
+      let says = says_itself r (content_bytes contents bytes 0) small.file small.lines in
+      subst (λ (sum : List ℕ). SpellsSup (section_of (common_bytes r) 9) (record { supplementary = true; name = []; sum = sum })) sum_is
+      (subst (λ (w : List ℕ). SpellsSup w (record { supplementary = true; name = []; sum = common_sum (common_after r) })) (sym says) (sup_written (record { supplementary = true; name = []; sum = common_sum (common_after r) }) tt sum_small))
+
+  pub file_tied : (file : ℕ) → In file r.files → changes r.move r.units file ≡ true → imports_common r.move r.units file ≡ true → NoZero name
+      → SaysSup (file_after name r file) (file_sup name r)
+  file_tied file there moves imports no_zero =
+      let c = changed file moves in
+      let has = has_sup name r file c.doc c.read (content_bytes contents bytes file) c.some moves (sections_free file there) (file_free file there) in
+      let is : section_of (file_after name r file) 9 ≡ sup_bytes (sup_of name r) =
+      has ∙ ap (λ (b : Bool). unwrap_or (if b then Some (sup_bytes (sup_of name r)) else None) (section_of (r.input.bytes file) 9)) imports in
+      subst (λ (sum : List ℕ). SpellsSup (section_of (file_after name r file) 9) (record { supplementary = false; name = name; sum = sum })) sum_is
+      (subst (λ (w : List ℕ). SpellsSup w (sup_of name r)) (sym is) (sup_written (sup_of name r) no_zero sum_small))

@@ -11,4 +11,8 @@ pub mod SectionsMade
 pub mod SlotsMade
 pub mod FilesMade
 pub mod CommonMade
+pub mod NoneNarrow
 pub mod AllMade
+pub mod RoomRead
+pub mod RoomFormed
+pub mod RoomAfter

@@ -1,19 +1,23 @@
 -- Laws on what a run puts.
-use Rattle.std.specs.Prelude.{◌≡◌, ℕ, Bool, List}
+use Rattle.std.specs.Prelude.{◌≡◌, ℕ, Bool, true, List}
 use Rattle.dwz_model.specs.declared.fault.Refusal.{Refusal}
 use Rattle.dwz_docs.specs.ElfLayout.{IsOrder}
 use Rattle.dwz_docs.specs.ElfReading.{ElfView}
+use Rattle.dwz_docs.specs.Lists.{In}
+use Rattle.dwz_docs.specs.Texts.{NoZero}
 use Rattle.dwz_docs.specs.Values.{AreBytes}
 use Rattle.dwz_meanings.specs.Documents.{Doc}
 use Rattle.dwz_seen.specs.Lists.{Each}
 use Rattle.dwz_writing.specs.Meant.{AreRenumbered}
-use Rattle.dwz_back.specs.AllFiles.{AreMade, IsRead}
-use Rattle.dwz_back.specs.Files.{AreRanged, Run, places, tells}
+use Rattle.dwz_same.specs.Units.{changes}
+use Rattle.dwz_back.specs.AllFiles.{AreMade, IsRead, ReadBack}
+use Rattle.dwz_back.specs.Files.{AreRanged, Run, imports_common, places, tells}
 use Rattle.dwz_words.specs.declared.options.Options.{Options}
 use Rattle.dwz_course.specs.Outcome.{Outcome}
 use Rattle.dwz_out.specs.Contents.{lists_after, ranges_after}
 use Rattle.dwz_out.specs.FilesAfter.{common_bytes, file_after, order_of}
-use Rattle.dwz_out.specs.Out.{IsWritten, Out, run_for, sup_name}
+use Rattle.dwz_out.specs.Out.{IsWritten, Out, rule_of, run_for, scope_of, stored_of, sup_name}
+use Rattle.dwz_out.specs.Tied.{SaysSup, common_sup, file_sup}
 use Rattle.dwz_out.specs.Refusals.{OutFault}
 
 -- there is one order of the sections that are written again
@@ -45,3 +49,22 @@ abbrev pub MadeLaw : Type 0
 MadeLaw =
     (o : Options) (contents : List (List ℕ)) (docs : List (Doc ℕ)) (prunes : List Bool) → Each AreBytes contents → IsWritten o contents docs prunes
     → let r = run_for o contents docs prunes in AreMade r (file_after (sup_name o) r) (common_bytes r)
+
+-- And so it reads back: it says the same as what was read, along images, and entries share an image exactly where they move and nothing
+-- tells them apart.
+abbrev pub ReadBackLaw : Type 0
+ReadBackLaw =
+    (o : Options) (contents : List (List ℕ)) (docs : List (Doc ℕ)) (prunes : List Bool) → Each AreBytes contents → IsWritten o contents docs prunes
+    → let r = run_for o contents docs prunes in
+    ReadBack (scope_of o) docs (rule_of o docs) (stored_of contents prunes) (file_after (sup_name o) r) (common_bytes r)
+
+-- `.debug_sup` of the common file has its checksum; that of each file that imports from it has that checksum, and its name.
+pub record AreTied (name : List ℕ) (r : Run) : Type 0 where
+  pub common : SaysSup (common_bytes r) (common_sup r)
+  pub file : (file : ℕ) → In file r.files → changes r.move r.units file ≡ true → imports_common r.move r.units file ≡ true
+      → SaysSup (file_after name r file) (file_sup name r)
+
+abbrev pub TiedLaw : Type 0
+TiedLaw =
+    (o : Options) (contents : List (List ℕ)) (docs : List (Doc ℕ)) (prunes : List Bool) → Each AreBytes contents → IsWritten o contents docs prunes
+    → NoZero (sup_name o) → AreTied (sup_name o) (run_for o contents docs prunes)

@@ -1,5 +1,6 @@
 pub mod Contents
 pub mod FilesAfter
 pub mod Refusals
+pub mod Tied
 pub mod Out
 pub mod Laws

@@ -13,6 +13,8 @@ pub mod FilesMade
 pub mod CommonMade
 pub mod NoneNarrow
 pub mod AllMade
+pub mod Gotten
+pub mod Stopping
 pub mod RoomRead
 pub mod RoomFormed
 pub mod RoomAfter

@@ -1,5 +1,5 @@
 -- Laws on what a run puts.
-use Rattle.std.specs.Prelude.{◌≡◌, ℕ, Bool, true, List}
+use Rattle.std.specs.Prelude.{◌≡◌, ℕ, Bool, true, List, Some}
 use Rattle.dwz_model.specs.declared.fault.Refusal.{Refusal}
 use Rattle.dwz_docs.specs.ElfLayout.{IsOrder}
 use Rattle.dwz_docs.specs.ElfReading.{ElfView}
@@ -12,11 +12,16 @@ use Rattle.dwz_writing.specs.Meant.{AreRenumbered}
 use Rattle.dwz_same.specs.Units.{changes}
 use Rattle.dwz_back.specs.AllFiles.{AreMade, IsRead, ReadBack}
 use Rattle.dwz_back.specs.Files.{AreRanged, Run, imports_common, places, tells}
+use Rattle.dwz_outside.specs.Store.{Store}
+use Rattle.dwz_words.specs.Conditions.{FitTogether}
 use Rattle.dwz_words.specs.declared.options.Options.{Options}
+use Rattle.dwz_course.specs.Gets.{gets}
 use Rattle.dwz_course.specs.Outcome.{Outcome}
+use Rattle.dwz_course.specs.Puts.{Prefixes}
 use Rattle.dwz_out.specs.Contents.{lists_after, ranges_after}
 use Rattle.dwz_out.specs.FilesAfter.{common_bytes, file_after, order_of}
-use Rattle.dwz_out.specs.Out.{IsWritten, Out, rule_of, run_for, scope_of, stored_of, sup_name}
+use Rattle.dwz_out.specs.Out.{IsWritten, Out, all_puts, rule_of, run_for, scope_of, stored_of, sup_name}
+use Rattle.dwz_out.specs.Stops.{AreOldOrMade}
 use Rattle.dwz_out.specs.Tied.{SaysSup, common_sup, file_sup}
 use Rattle.dwz_out.specs.Refusals.{OutFault}
 
@@ -68,3 +73,10 @@ abbrev pub TiedLaw : Type 0
 TiedLaw =
     (o : Options) (contents : List (List ℕ)) (docs : List (Doc ℕ)) (prunes : List Bool) → Each AreBytes contents → IsWritten o contents docs prunes
     → NoZero (sup_name o) → AreTied (sup_name o) (run_for o contents docs prunes)
+
+-- Where the FILEs were got and read, and after the first puts of the output however many, each FILE is as it was, or as it is made.
+abbrev pub StopLaw : Type 0
+StopLaw =
+    (o : Options) → FitTogether o → (store : Store) (contents : List (List ℕ)) (docs : List (Doc ℕ)) (prunes : List Bool)
+    → gets store 0 o.files ≡ Some contents → IsWritten o contents docs prunes
+    → let r = run_for o contents docs prunes in Prefixes (all_puts o r) store (AreOldOrMade o r)

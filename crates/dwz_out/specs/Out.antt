@@ -62,24 +62,19 @@ rule_of o docs = gain_rule (alike_test (scope_of o) (units_of docs)) (units_of d
 abbrev pub run_for : Options → List (List ℕ) → List (Doc ℕ) → List Bool → Run
 run_for o contents docs prunes = run_of (rule_of o docs) docs (stored_of contents prunes)
 
--- ---- names
-
--- the name of the common file
-abbrev pub common_name : Options → List ℕ
-common_name o = unwrap_or o.common []
-
--- the name by which files refer to it
+-- the name by which files refer to the common file: its own, where no other is given
 abbrev pub sup_name : Options → List ℕ
-sup_name o = unwrap_or o.name (common_name o)
+sup_name o = unwrap_or o.name (unwrap_or o.common [])
 
 -- ---- the puts
 
 abbrev pub put_of : List ℕ → List ℕ → Put
 put_of name bytes = record { name = name; bytes = bytes }
 
--- the common file, where there is one
-abbrev pub common_puts : Options → Run → List Put
-common_puts o r = if has_common r then put_of (common_name o) (common_bytes r) ∷ [] else []
+-- the common file, where one is asked for and there is one
+abbrev pub common_puts : Option (List ℕ) → Run → List Put
+common_puts None r = []
+common_puts (Some name) r = if has_common r then put_of name (common_bytes r) ∷ [] else []
 
 -- a file of which something moves goes where its name says, or where the output is to go; that gets the bytes of the file also where
 -- nothing moves
@@ -98,7 +93,7 @@ files_puts o r file (name ∷ names) = file_puts o r file name ++ files_puts o r
 
 -- the common file comes first
 abbrev pub all_puts : Options → Run → List Put
-all_puts o r = common_puts o r ++ files_puts o r 0 o.files
+all_puts o r = common_puts o.common r ++ files_puts o r 0 o.files
 
 -- ---- the summary
 
@@ -112,9 +107,13 @@ summary_lines o r file [] = []
 summary_lines o r file (name ∷ names) =
     (name, length (r.input.bytes file), new_length (changes r.move r.units file) (bytes_after (sup_name o) r file)) ∷ summary_lines o r (suc file) names
 
+abbrev pub common_length : Option (List ℕ) → Run → Option (List ℕ × ℕ)
+common_length None r = None
+common_length (Some name) r = if has_common r then Some (name, length (common_bytes r)) else None
+
 abbrev pub summary_of : Options → Run → Summary
 summary_of o r = record {
-  common = if has_common r then Some (common_name o, length (common_bytes r)) else None;
+  common = common_length o.common r;
   files = summary_lines o r 0 o.files;
 }
 

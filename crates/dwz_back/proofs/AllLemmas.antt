@@ -23,7 +23,7 @@ use Rattle.dwz_writing.specs.Bases.{Bases, bases_in}
 use Rattle.dwz_writing.specs.Carried.{BasesStand, CarriedAttr, CarriedEntries, CarriedNode, CarriedUnit, From, OfAny, OfFile, OperandsStand}
 use Rattle.dwz_writing.specs.Fitting.{UnitHasRoom}
 use Rattle.dwz_writing.specs.Meant.{all_entry_keys}
-use Rattle.dwz_writing.specs.Placing.{fit_units}
+use Rattle.dwz_writing.specs.Placing.{FitsSections, fit_units}
 use Rattle.dwz_writing.specs.Pruned.{StaysIn, UnitStays, known_slots, slots_or_none}
 use Rattle.dwz_writing.proofs.Renumbered.{room_renumbered}
 use Rattle.dwz_writing.proofs.Staying.{units_stay, units_too}
@@ -32,10 +32,10 @@ use Rattle.dwz_docs.proofs.OffsetLemmas.{slots_again}
 use Rattle.dwz_back.specs.Prunable.{IsPrunable}
 use Rattle.dwz_back.proofs.FewTexts.{read_few}
 use Rattle.dwz_writing.proofs.CarriedMaps.{unit_carried}
-use Rattle.dwz_back.specs.AllFiles.{AreMade, AreOver, AreRead, ReadBack, SaysStill}
+use Rattle.dwz_back.specs.AllFiles.{AllBack, AreMade, AreOver, AreRead, CommonMade, CommonSays, ReadBack, SaysStill, given_if}
 use Rattle.dwz_back.proofs.CarriedRoots.{RootsCarried}
-use Rattle.dwz_back.specs.Back.{CanWrite, IsReady, WasReadFrom, given_by, run_of}
-use Rattle.dwz_back.specs.Files.{Run, Stored, common_forms, file_forms, fitted, fitted_if, formed, lists_named, origin_in, paths, places, sources, tells, tells_common, texts, uses}
+use Rattle.dwz_back.specs.Back.{AreAtOld, CanWrite, IsPlacing, IsReady, SaysPlaced, WasReadFrom, run_of}
+use Rattle.dwz_back.specs.Files.{HasSections, Run, Stored, common_forms, file_forms, fitted, fitted_if, formed, lists_named, origin_in, paths, places, sections_of, sources, tells, tells_common, texts, uses}
 use Rattle.dwz_back.proofs.BasesLemmas.{out_bases}
 use Rattle.dwz_back.proofs.CommonLemmas.{common_within}
 use Rattle.dwz_back.proofs.FreeOperands.{UnitAsksNone, asks_operands, asks_room, home_asks}
@@ -51,7 +51,7 @@ use Rattle.dwz_back.proofs.ReadOperands.{file_read, lists_in, reading}
 use Rattle.dwz_meanings.specs.Shared.{NoneShared, operands_in_lists}
 use Rattle.dwz_back.proofs.ReadPlaces.{read_from}
 use Rattle.dwz_back.proofs.SameLemmas.{same_back}
-use Rattle.dwz_back.proofs.SaysLemmas.{common_back, file_back, ranges_back}
+use Rattle.dwz_back.proofs.SaysLemmas.{alone_back, common_back, file_back, ranges_back}
 use Rattle.dwz_back.proofs.RangeLemmas.{named_at, stand_after}
 use Rattle.dwz_back.proofs.StillLists.{still_none}
 use Rattle.dwz_back.proofs.StillMeans.{units_there}
@@ -315,24 +315,32 @@ module _ (scope : Scope) (docs : List (Doc ℕ)) (input : Stored) (are : AreRead
         };
       }
 
-  pub all_back : (output : ℕ → List ℕ) (common : List ℕ) → AreMade r output common → ReadBack scope docs rule input output common
+  module _ (g : Spot → Place) (ok : IsPlacing r g) (old : AreAtOld r g docs) (output : ℕ → List ℕ) where
+    common_says : (common : Option (List ℕ)) → CommonMade r common → CommonSays r g common
+    common_says None made = made
+    common_says (Some bytes) made = common_back r can_write g ok bytes made.0 made.1
+
+    file_says : (common : Option (List ℕ)) → CommonMade r common → (says : CommonSays r g common) (file : ℕ) → In file r.files → changes r.move r.units file ≡ true → HasSections r file (output file)
+        → FitsSections (sections_of r file) → SaysPlaced r g (given_if r g common says) file (output file) (fitted r file)
+    file_says None made says file there changed has small = alone_back r can_write g ok (output file) made file there changed has small
+    file_says (Some bytes) made says file there changed has small = file_back r can_write g ok (output file) bytes made.0 made.1 says file there changed has small
+
+    back_all : (common : Option (List ℕ)) → AreMade r output common → AllBack scope docs rule input output common g
+    back_all common made =
+        let given = given_if r g common (common_says common made.common) in
+        let says = λ (file : ℕ) (there : In file r.files) (changed : changes r.move r.units file ≡ true). file_says common made.common (common_says common made.common) file there changed (made.file file there changed)
+        (made.file_fits file there changed) in
+        record {
+          common = common_says common made.common;
+          file = says;
+          ranges = λ file there changed. ranges_back r can_write g ok given (output file) file there changed (made.file file there changed) (made.file_fits file there changed) (says file there changed);
+          still = λ file doc nth. still_says given file doc nth;
+          same = same_back scope docs rule placed is choice input g ok old;
+        }
+
+  pub all_back : (output : ℕ → List ℕ) (common : Option (List ℕ)) → AreMade r output common → ReadBack scope docs rule input output common
   all_back output common made =
       let g = back_place scope docs rule placed is choice input in
       let ok = back_placing scope docs rule placed is choice input in
       let old = back_old scope docs rule placed is choice input in
-      let says = common_back r can_write g ok common made.common made.common_fits in
-      let file_says = λ (file : ℕ) (there : In file r.files) (changed : changes r.move r.units file ≡ true). file_back r can_write g ok (output file) common made.common made.common_fits says file there changed
-      (made.file file there changed) (made.file_fits file there changed) in
-      record {
-        place = g;
-        placing = ok;
-        old = old;
-        back = record {
-          common = says;
-          file = file_says;
-          ranges = λ file there changed. ranges_back r can_write g ok (Some (given_by r.common common says.raw)) (output file) file there changed (made.file file there changed)
-              (made.file_fits file there changed) (file_says file there changed);
-          still = λ file doc nth. still_says (Some (given_by r.common common says.raw)) file doc nth;
-          same = same_back scope docs rule placed is choice input g ok old;
-        };
-      }
+      record { place = g; placing = ok; old = old; back = back_all g ok old output common made }

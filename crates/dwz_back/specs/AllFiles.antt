@@ -1,5 +1,5 @@
 -- What all files say together, from the bytes that were read to those that are read back.
-use Rattle.std.specs.Prelude.{◌≡◌, ◌↔◌, ℕ, Bool, true, List, map, Option, Some, None}
+use Rattle.std.specs.Prelude.{◌≡◌, ◌↔◌, ℕ, Bool, true, List, [], map, Option, Some, None}
 use Rattle.dwz_docs.specs.Lists.{In}
 use Rattle.dwz_docs.specs.Units.{RawUnit}
 use Rattle.dwz_docs.specs.Values.{AreBytes}
@@ -11,7 +11,7 @@ use Rattle.dwz_alike.specs.Alike.{IsAlike, Scope}
 use Rattle.dwz_alike.specs.Spots.{Spot, units_of}
 use Rattle.dwz_moving.specs.Homes.{IsChoice, Rule}
 use Rattle.dwz_same.specs.After.{Place, at_file}
-use Rattle.dwz_same.specs.Units.{changes}
+use Rattle.dwz_same.specs.Units.{changes, common_units}
 use Rattle.dwz_writing.specs.Placing.{FitsSections}
 use Rattle.dwz_back.specs.Back.{AreAtOld, CanWrite, FileOver, IsPlacing, RangesBack, SameBack, SaysPlaced, SaysUnits, given_by, run_of}
 use Rattle.dwz_back.specs.Prunable.{IsPrunable}
@@ -32,10 +32,14 @@ AreRead input docs = (file : ℕ) (doc : Doc ℕ) → Nth 0 docs file doc → Is
 abbrev pub AreOver : Run → Type 0
 AreOver r = (file : ℕ) → In file r.files → changes r.move r.units file ≡ true → FileOver r file
 
--- the common file, and each file of which something moves, were made so
-pub record AreMade (r : Run) (output : ℕ → List ℕ) (common_bytes : List ℕ) : Type 0 where
-  pub common : HasCommon common_bytes (common_sections r) (texts r) (paths r)
-  pub common_fits : FitsSections (common_sections r)
+-- the common file was made so; or there is none, and nothing is to stand in it
+abbrev pub CommonMade : Run → Option (List ℕ) → Type 0
+CommonMade r None = common_units r.move ≡ []
+CommonMade r (Some bytes) = HasCommon bytes (common_sections r) (texts r) (paths r) × FitsSections (common_sections r)
+
+-- the common file, if there is one, and each file of which something moves, were made so
+pub record AreMade (r : Run) (output : ℕ → List ℕ) (common_bytes : Option (List ℕ)) : Type 0 where
+  pub common : CommonMade r common_bytes
   pub file : (file : ℕ) → In file r.files → changes r.move r.units file ≡ true → HasSections r file (output file)
   pub file_fits : (file : ℕ) → In file r.files → changes r.move r.units file ≡ true → FitsSections (sections_of r file)
 
@@ -44,23 +48,33 @@ pub record SaysStill (common : Option (Common Place)) (file : ℕ) (bytes : List
   pub raw : List RawUnit
   pub says : SaysUnits common file bytes raw (map (unit_map (at_file file)) doc.units)
 
--- The common file says its units, at these places; with it each file of which something moves says its own, and has its address ranges,
--- and a file that stays as it was read says what it said. All files together say the same as what was read.
-pub record AllBack (scope : Scope) (docs : List (Doc ℕ)) (rule : Rule) (input : Stored) (output : ℕ → List ℕ) (common_bytes : List ℕ)
+-- the common file, if there is one, says its units, at these places; and then it gives its entries and texts to the others
+abbrev pub CommonSays : Run → (Spot → Place) → Option (List ℕ) → Type 0
+CommonSays r g None = common_units r.move ≡ []
+CommonSays r g (Some bytes) = SaysPlaced r g None r.common bytes (common_fitted r)
+
+abbrev pub given_if : (r : Run) (g : Spot → Place) (bytes : Option (List ℕ)) → CommonSays r g bytes → Option (Common Place)
+given_if r g None says = None
+given_if r g (Some bytes) says = Some (given_by r.common bytes says.raw)
+
+-- The common file says its units, at these places; with it, or without one, each file of which something moves says its own, and has its
+-- address ranges, and a file that stays as it was read says what it said. All files together say the same as what was read.
+pub record AllBack (scope : Scope) (docs : List (Doc ℕ)) (rule : Rule) (input : Stored) (output : ℕ → List ℕ) (common_bytes : Option (List ℕ))
     (g : Spot → Place) : Type 0 where
-  pub common : SaysPlaced (run_of rule docs input) g None (run_of rule docs input).common common_bytes (common_fitted (run_of rule docs input))
+  pub common : CommonSays (run_of rule docs input) g common_bytes
   pub file : (file : ℕ) → In file (run_of rule docs input).files → changes (run_of rule docs input).move (units_of docs) file ≡ true
-      → SaysPlaced (run_of rule docs input) g (Some (given_by (run_of rule docs input).common common_bytes common.raw)) file (output file) (fitted (run_of rule docs input) file)
+      → SaysPlaced (run_of rule docs input) g (given_if (run_of rule docs input) g common_bytes common) file (output file)
+      (fitted (run_of rule docs input) file)
   pub ranges : (number : ℕ) → (there : In number (run_of rule docs input).files)
       → (changed : changes (run_of rule docs input).move (units_of docs) number ≡ true)
       → RangesBack (run_of rule docs input) number (output number) (file number there changed).raw
   pub still : (file : ℕ) (doc : Doc ℕ) → Nth 0 docs file doc
-      → SaysStill (Some (given_by (run_of rule docs input).common common_bytes common.raw)) file (input.bytes file) doc
+      → SaysStill (given_if (run_of rule docs input) g common_bytes common) file (input.bytes file) doc
   pub same : SameBack scope docs rule input g
 
 -- so it is at some places for names: those where they are written, and in files of which nothing moves the old ones
 pub record ReadBack (scope : Scope) (docs : List (Doc ℕ)) (rule : Rule) (input : Stored) (output : ℕ → List ℕ)
-    (common_bytes : List ℕ) : Type 0 where
+    (common_bytes : Option (List ℕ)) : Type 0 where
   pub place : Spot → Place
   pub placing : IsPlacing (run_of rule docs input) place
   pub old : AreAtOld (run_of rule docs input) place docs
@@ -78,4 +92,5 @@ abbrev pub AllBackLaw : Type 0
 AllBackLaw =
     (scope : Scope) (docs : List (Doc ℕ)) (input : Stored) → AreRead input docs → (rule : Rule) → IsAlike scope (units_of docs) rule.alike
     → IsChoice (units_of docs) rule
-    → AreOver (run_of rule docs input) → (output : ℕ → List ℕ) (common : List ℕ) → AreMade (run_of rule docs input) output common → ReadBack scope docs rule input output common
+    → AreOver (run_of rule docs input) → (output : ℕ → List ℕ) (common : Option (List ℕ)) → AreMade (run_of rule docs input) output common
+    → ReadBack scope docs rule input output common

@@ -88,13 +88,14 @@ pub record StandsAfter (r : Run) (file place : ℕ) : Type 0 where
 abbrev pub AllStandAfter : Run → ℕ → Type 0
 AllStandAfter r file = (place : ℕ) → is_place_of (r.input.raw file) place ≡ true → StandsAfter r file place
 
--- no name stands twice, and the units of each file of which something moves, and of the common file, are ready; texts of a file are few, and
--- values of one that is prunable stay where they move
+-- no name stands twice, and the units of each file of which something moves, and of the common file, are ready; its texts are few, and
+-- values of one that is prunable say the same where texts move
 pub record CanWrite (r : Run) : Type 0 where
   pub apart : NoneTwice (units_keys (all_units r.move r.units r.files))
   pub file : (file : ℕ) → In file r.files → changes r.move r.units file ≡ true → IsReady (OfFile (sources r file)) (file_forms r file) (tells r file) (places r) (out_units r.move r.units file)
   pub few : (file : ℕ) → In file r.files → length (sources r file).strs < 2 ^ 32
-  pub stay : (file : ℕ) → In file r.files → changes r.move r.units file ≡ true → r.input.prunes file ≡ true → Each (UnitStays (texts_of (sources r file)) (sources r file).line (known_slots (sources r file).offsets)) (formed r file)
+  pub stay : (file : ℕ) → In file r.files → changes r.move r.units file ≡ true → r.input.prunes file ≡ true
+      → Each (UnitStays (texts_of (sources r file)) (sources r file).line (known_slots (sources r file).offsets)) (formed r file)
   pub units : (file : ℕ) → In file r.files → AllStandAfter r file
   pub common : IsReady OfAny (common_forms r) (tells_common r) (places r) (common_units r.move)
 
@@ -239,8 +240,10 @@ pub record OneBack (doc : Doc ℕ) (rule : Rule) (input : List ℕ) (raw : List 
 abbrev pub OneBackLaw : Type 0
 OneBackLaw =
     (l : Limits) (input : List ℕ) (raw : List RawUnit) (doc : Doc ℕ) → Reads l input raw doc → AreBytes (debug_info input)
-    → (prunes : Bool) → ((prunes ≡ true) ↔ IsPrunable input doc.units) → (rule : Rule) → IsAlike Apart (units_of (doc ∷ [])) rule.alike → IsChoice (units_of (doc ∷ [])) rule
+    → (prunes : Bool) → ((prunes ≡ true) ↔ IsPrunable input doc.units)
+    → (rule : Rule) → IsAlike Apart (units_of (doc ∷ [])) rule.alike → IsChoice (units_of (doc ∷ [])) rule
     → FileOver (one_run rule doc input raw prunes) 0
     → changes (one_run rule doc input raw prunes).move (units_of (doc ∷ [])) 0 ≡ true
-    → (out : List ℕ) → HasSections (one_run rule doc input raw prunes) 0 out → FitsSections (sections_of (one_run rule doc input raw prunes) 0)
+    → (out : List ℕ) → HasSections (one_run rule doc input raw prunes) 0 out
+    → FitsSections (sections_of (one_run rule doc input raw prunes) 0)
     → OneBack doc rule input raw prunes out

@@ -205,7 +205,8 @@ strs_if false r file = (sources r file).strs
 
 -- `.debug_str_offsets`: then its slots that name a text have the new numbers
 abbrev pub OffsetsIf : Bool → Run → ℕ → List ℕ → Type 0
-OffsetsIf true r file new = AreNewSlots (slot_after (sources r file).strs (uses r file)) (known_slots (sources r file).offsets) (sources r file).offsets new
+OffsetsIf true r file new =
+    AreNewSlots (slot_after (sources r file).strs (uses r file)) (known_slots (sources r file).offsets) (sources r file).offsets new
 OffsetsIf false r file new = new ≡ (sources r file).offsets
 
 -- A file without a fault of one that is read back has these two sections; texts, and slots of texts, as they are pruned; in its location
@@ -225,8 +226,8 @@ pub record HasSections (r : Run) (file : ℕ) (out : List ℕ) : Type 0 where
 abbrev pub common_sources : (texts paths : List (List ℕ)) → Sources
 common_sources texts paths = record { strs = texts_bytes texts; line_strs = []; offsets = []; line = lines_bytes paths; lists = [] }
 
--- a common file without such a fault, that has these two sections, texts and paths; it has no address ranges; none of its sections is
--- too long
+-- a common file without such a fault, that has these two sections, texts and paths, and no address ranges; its texts and its line table
+-- are not too long
 pub record HasCommon (out : List ℕ) (s : UnitSections) (texts paths : List (List ℕ)) : Type 0 where
   pub elf : (f : _) → IsBackFault out f → ⊥
   pub info : debug_info out ≡ s.info

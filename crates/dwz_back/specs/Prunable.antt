@@ -1,4 +1,5 @@
--- Which files are pruned: those of whose texts nothing speaks but their units and the slots of `.debug_str_offsets` (DWARF 5, 7.26, 6.2.4, 6.3).
+-- Which files are pruned: those of whose texts nothing speaks but their units and the slots of `.debug_str_offsets` (DWARF 5, 6.2.4, 6.3,
+-- 7.26).
 use Rattle.std.specs.Prelude.{◌≡◌, ℕ, List, true, false, Some, codes}
 use Rattle.dwz_docs.specs.declared.elf.Header.{Header}
 use Rattle.dwz_docs.specs.ElfHeaders.{headers_in, is_there}
@@ -19,9 +20,9 @@ pub record HasSection (bytes name : List ℕ) : Type 0 where
   pub named : name_at (name_table bytes) header.name ≡ Some name
   pub content : is_there header ≡ true
 
--- The file, with these units, has no `.debug_macro`. Its `.debug_str_offsets` is a row of contributions without gaps, and its `.debug_line` one of
--- line tables none of whose formats has the form strp; either may be missing. Each value by a slot that its units have reads one of those
--- slots, and no line table that they read has a format with the form strp.
+-- The file, with these units, has no `.debug_macro`. Its `.debug_str_offsets` is a row of contributions without gaps, and its `.debug_line`
+-- one of line tables none of whose formats has the form strp; either may be missing. Each value by a slot that its units have reads one of
+-- those slots, and no line table that they read has a format with the form strp.
 pub record IsPrunable {P : Type 0} (bytes : List ℕ) (some : List (DwUnit P)) : Type 0 where
   pub no_macro : HasSection bytes (codes ".debug_macro") → ⊥
   pub places : List ℕ

@@ -1,6 +1,6 @@
 //! What holds of the bytes of units: their lengths, where things stand, and what they say.
 
-ghost use Rattle.std.specs.Prelude.{◌≡◌, ◌<◌, ◌^◌, ℕ, Bool, false, true, List, length, map};
+ghost use Rattle.std.specs.Prelude.{◌≡◌, ◌↔◌, ◌+◌, ◌<◌, ◌≤◌, ◌^◌, ℕ, Bool, false, true, List, length, map};
 ghost use Rattle.dwz_meanings.specs.Documents.{Attr, DwUnit, Entries, Kind, Node, entries_map, node_map, unit_map};
 ghost use Rattle.dwz_docs.specs.Entries.{Mode, own_forms};
 ghost use Rattle.dwz_docs.specs.Lists.{In};
@@ -8,7 +8,7 @@ ghost use Rattle.dwz_docs.specs.Pruning.{new_number, pruned};
 ghost use Rattle.dwz_meanings.specs.Meanings.{Around, MeanUnits, Sources, texts_of};
 ghost use Rattle.dwz_docs.specs.Units.{RawUnit, SpellsUnits};
 ghost use Rattle.dwz_docs.specs.Values.{AreBytes};
-ghost use Rattle.dwz_seen.specs.Lists.{Each};
+ghost use Rattle.dwz_seen.specs.Lists.{Each, EachPair};
 ghost use Rattle.dwz_writing.specs.Bases.{Bases, bases_in};
 ghost use Rattle.dwz_writing.specs.Carried.{ApartIn, BasesStand, BuiltUnit, CarriedEntries, CarriedNode, CarriedUnit, ClosedIn, OfAny, OfFile, OperandsStand, SectionsStand};
 ghost use Rattle.dwz_writing.specs.Fitting.{AreWritable, IsRoomy, UnitFits, mode_for};
@@ -83,6 +83,7 @@ pub fn carried_laws()
 /// Texts that move. What was read in a file whose slots and line tables let it stay does so in the unit in which it is written, once the
 /// forms of values are chosen. Then units are sound, and say the same, where just the texts stay that are used: their values of
 /// DW_FORM_strp have the new numbers of their uses, and so have the slots of `.debug_str_offsets` that name a text. No name is changed.
+/// What stays doesn't depend on the order of the uses; and slots stand in the section, none in another.
 pub fn pruned_laws()
     ensures stays { (f : Forms Spot) (sources : Sources) (places : List ℕ) (units : List (DwUnit Spot)) → f.is_common ≡ false
         → Each (λ u. CarriedUnit (StaysIn sources places) (f.origin u.at) u) units → Each (BasesStand f) units
@@ -93,4 +94,8 @@ pub fn pruned_laws()
         → Each SoundUnit (renumbered_units (new_number t.strs uses) units)
         × UnitsSay (with_texts t (pruned t.strs uses) offsets) (renumbered_units (new_number t.strs uses) units) }
     ensures keys { (number : ℕ → ℕ) (units : List (DwUnit Spot)) → units_keys (renumbered_units number units) ≡ units_keys units }
+    ensures uses { (strs uses others : List ℕ) → ((n : ℕ) → In n uses ↔ In n others)
+        → (pruned strs uses ≡ pruned strs others) × ((used : ℕ) → new_number strs uses used ≡ new_number strs others used) }
+    ensures slots { (offsets : List ℕ) → Each (λ place. place + 4 ≤ length offsets) (known_slots offsets)
+        × EachPair (λ place other. place + 4 ≤ other) (known_slots offsets) }
 {}

@@ -1,6 +1,8 @@
 use Rattle.dwz_writing.proofs.PrunedUnits.{units_pruned}
 use Rattle.dwz_writing.proofs.Renumbered.{renumbered_keys}
+use Rattle.dwz_writing.proofs.SlotsLemmas.{slots_stand}
 use Rattle.dwz_writing.proofs.Staying.{units_stay}
+use Rattle.dwz_writing.proofs.UsesLemmas.{uses_same}
 use Rattle.dwz_writing.proofs.writing.pruned_laws.Goals as goal
 
 pub returns-clause-stays : goal.returns-clause-stays
@@ -11,3 +13,9 @@ returns-clause-said c = units_pruned
 
 pub returns-clause-keys : goal.returns-clause-keys
 returns-clause-keys c = renumbered_keys
+
+pub returns-clause-uses : goal.returns-clause-uses
+returns-clause-uses c = uses_same
+
+pub returns-clause-slots : goal.returns-clause-slots
+returns-clause-slots c = slots_stand

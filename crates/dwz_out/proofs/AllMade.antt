@@ -1,5 +1,5 @@
 -- Where nothing refuses them, all files are made as is asked.
-use Rattle.std.proofs.Common.{◌≡◌, ◌&&◌, ◌==◌, ℕ, suc, ◌+◌, Bool, true, List, [], ◌∷◌, length, map, refl, sym, ap, subst, ◌∙◌, inl, inr, eqb-true, ◌^◌, ◌<◌, ◌++◌, Some, None, unwrap_or, arith, false}
+use Rattle.std.proofs.Common.{◌≡◌, ◌&&◌, ◌==◌, ℕ, suc, ◌+◌, Bool, true, List, [], ◌∷◌, length, map, refl, sym, ap, subst, ◌∙◌, inl, inr, eqb-true, ◌^◌, ◌<◌, ◌++◌, Some, None, unwrap_or, arith, false, Option}
 use Rattle.std.specs.Prelude.{if◌then◌else◌}
 use Rattle.std.proofs.lemmas.Bool.{and_parts}
 use Rattle.std.specs.List.{list_any}
@@ -12,20 +12,22 @@ use Rattle.dwz_meanings.specs.Files.{around_of}
 use Rattle.dwz_meanings.specs.Meanings.{MeanUnits}
 use Rattle.dwz_seen.specs.Lists.{Each, Nth}
 use Rattle.dwz_seen.proofs.Members.{any_from, in_cases, nth_in}
-use Rattle.dwz_alike.specs.Spots.{FileUnit, Spot, Top, in_file, named, named_files, tops_among, tops_of, units_of}
+use Rattle.dwz_alike.specs.Spots.{FileUnit, Spot, Top, file_numbers, in_file, named, named_files, tops_among, tops_of, units_of}
 use Rattle.dwz_alike.proofs.Tops.{unit_of}
-use Rattle.dwz_same.specs.Units.{changes}
+use Rattle.dwz_same.specs.Units.{changes, common_units}
 use Rattle.dwz_words.specs.declared.options.Options.{Options}
-use Rattle.dwz_back.specs.AllFiles.{AreMade, AreOver, AreRead, IsRead, ReadBack}
-use Rattle.dwz_back.specs.Files.{Run, Stored, common_sections, imports_common, texts}
+use Rattle.dwz_back.specs.AllFiles.{AreMade, AreOver, AreRead, CommonMade, IsRead, ReadBack}
+use Rattle.dwz_back.specs.Back.{run_of}
+use Rattle.dwz_back.proofs.HomeLemmas.{no_common}
+use Rattle.dwz_back.specs.Files.{HasCommon, Run, Stored, common_sections, imports_common, paths, texts}
 use Rattle.dwz_out.specs.FilesAfter.{common_bytes, file_after, has_common, sup_of}
-use Rattle.dwz_out.specs.Out.{IsWritten, rule_of, run_for, scope_of, stored_of, sup_name}
+use Rattle.dwz_out.specs.Out.{IsWritten, common_of, rule_of, run_for, scope_by, scope_of, stored_of, sup_name}
 use Rattle.dwz_out.specs.Refusals.{CommonFault, CommonRefusal, FileFault, FirstNarrow, InFile, IsLargeSection, OfFirst, OrElse, SectionsFault, spoken}
 use Rattle.dwz_out.specs.Tied.{SaysSup, common_sup, file_sup, sum_of}
-use Rattle.dwz_out.proofs.CommonMade.{has_it, is_small, says_itself}
+use Rattle.dwz_out.proofs.CommonMade.{has_it, is_small, no_units, says_itself}
 use Rattle.dwz_out.proofs.NoneNarrow.{all_fit}
 use Rattle.dwz_out.proofs.RoomAfter.{over}
-use Rattle.dwz_alike.specs.Alike.{IsAlike}
+use Rattle.dwz_alike.specs.Alike.{Apart, IsAlike}
 use Rattle.dwz_alike.specs.Deciding.{alike_test}
 use Rattle.dwz_alike.proofs.AlikeLaws.{alike_decides}
 use Rattle.dwz_moving.specs.Homes.{IsChoice}
@@ -99,6 +101,14 @@ module _ (docs : List (Doc ℕ)) (input : Stored) (are : AreRead input docs) (go
       let read = are file d.doc nth in
       record { doc = d.doc; read = read; some = means_some (input.bytes file) (input.raw file) (input.raw file) d.doc.units read.reads.means d.filled }
 
+-- ---- where no common file is asked for, nothing is to stand in one
+
+nothing_common : (o : Options) (docs : List (Doc ℕ)) → o.common ≡ None → (input : Stored) → common_units (run_of (rule_of o docs) docs input).move ≡ []
+unfolding common_units
+nothing_common o docs e input =
+    let is : IsAlike Apart (units_of docs) (rule_of o docs).alike = subst (λ (c : Option (List ℕ)). IsAlike (scope_by c) (units_of docs) (rule_of o docs).alike) e (alike_decides (scope_of o) (units_of docs)) in
+    no_common (units_of docs) (rule_of o docs) is (file_numbers 0 docs) (run_of (rule_of o docs) docs input).move refl
+
 -- ---- all of them
 
 module _ (o : Options) (contents : List (List ℕ)) (docs : List (Doc ℕ)) (prunes : List Bool) (bytes : Each AreBytes contents) (written : IsWritten o contents docs prunes) where
@@ -129,12 +139,24 @@ module _ (o : Options) (contents : List (List ℕ)) (docs : List (Doc ℕ)) (pru
   unfolding changes
   changed file moves = changed_file docs (stored_of contents prunes) are r.move.gone file moves
 
-  pub are_made : AreMade r (file_after name r) (common_bytes r)
+  -- the common file, where there is one
+  common_has : HasCommon (common_bytes r) (common_sections r) (texts r) (paths r)
+  common_has = let small = is_small r common_free in has_it r (content_bytes contents bytes 0) small.file small.lines
+
+  common_made : CommonMade r (common_of o.common r)
+  common_made = by o.common refl where
+    some : (b : Bool) → has_common r ≡ b → CommonMade r (if b then Some (common_bytes r) else None)
+    some true e = (common_has, (is_small r common_free).sections)
+    some false e = no_units r e
+
+    by : (c : Option (List ℕ)) → o.common ≡ c → CommonMade r (common_of c r)
+    by None e = nothing_common o docs e (stored_of contents prunes)
+    by (Some common) e = some (has_common r) refl
+
+  pub are_made : AreMade r (file_after name r) (common_of o.common r)
   are_made =
-      let small = is_small r common_free in
       record {
-        common = has_it r (content_bytes contents bytes 0) small.file small.lines;
-        common_fits = small.sections;
+        common = common_made;
         file = λ file there moves.
             (let c = changed file moves in has_sections name r file c.doc c.read (content_bytes contents bytes file) c.some moves (sections_free file there) (file_free file there));
         file_fits = λ file there moves.
@@ -156,11 +178,11 @@ module _ (o : Options) (contents : List (List ℕ)) (docs : List (Doc ℕ)) (pru
         choice : IsChoice (units_of docs) (rule_of o docs)
         choice = gain_choice (scope_of o) (units_of docs) (alike_test (scope_of o) (units_of docs)) (alike_decides (scope_of o) (units_of docs))
 
-  pub read_back : ReadBack (scope_of o) docs (rule_of o docs) (stored_of contents prunes) (file_after name r) (common_bytes r)
+  pub read_back : ReadBack (scope_of o) docs (rule_of o docs) (stored_of contents prunes) (file_after name r) (common_of o.common r)
   read_back =
       let alike = alike_decides (scope_of o) (units_of docs) in
       let choice = gain_choice (scope_of o) (units_of docs) (alike_test (scope_of o) (units_of docs)) alike in
-      all_back (scope_of o) docs (stored_of contents prunes) are (rule_of o docs) alike choice are_over (file_after name r) (common_bytes r) are_made
+      all_back (scope_of o) docs (stored_of contents prunes) are (rule_of o docs) alike choice are_over (file_after name r) (common_of o.common r) are_made
 
   -- ---- `.debug_sup`
 
@@ -168,7 +190,7 @@ module _ (o : Options) (contents : List (List ℕ)) (docs : List (Doc ℕ)) (pru
   sum_is : common_sum (common_after r) ≡ sum_of (common_bytes r)
   unfolding common_after
   sum_is =
-      let h = are_made.common in
+      let h = common_has in
       let texts_are : unwrap_or (if_some (texts r) (texts_bytes (texts r))) [] ≡ section_of (common_bytes r) 3 = some_texts (texts r) ∙ sym (ap (λ (x : Sources). x.strs) h.sources) in
       ap (λ (w : List ℕ). sha256 (w ++ unwrap_or (if_some (texts r) (texts_bytes (texts r))) [] ++ (common_sections r).abbrevs)) (sym h.info)
       ∙ ap (λ (w : List ℕ). sha256 (debug_info (common_bytes r) ++ w ++ (common_sections r).abbrevs)) texts_are

@@ -20,7 +20,7 @@ use Rattle.dwz_course.specs.Outcome.{Outcome}
 use Rattle.dwz_course.specs.Puts.{Prefixes}
 use Rattle.dwz_out.specs.Contents.{lists_after, ranges_after}
 use Rattle.dwz_out.specs.FilesAfter.{common_bytes, file_after, order_of}
-use Rattle.dwz_out.specs.Out.{IsWritten, Out, all_puts, rule_of, run_for, scope_of, stored_of, sup_name}
+use Rattle.dwz_out.specs.Out.{IsWritten, Out, all_puts, common_of, rule_of, run_for, scope_of, stored_of, sup_name}
 use Rattle.dwz_out.specs.Stops.{AreOldOrMade}
 use Rattle.dwz_out.specs.Tied.{SaysSup, common_sup, file_sup}
 use Rattle.dwz_out.specs.Refusals.{OutFault}
@@ -53,7 +53,7 @@ RangesLaw =
 abbrev pub MadeLaw : Type 0
 MadeLaw =
     (o : Options) (contents : List (List ℕ)) (docs : List (Doc ℕ)) (prunes : List Bool) → Each AreBytes contents → IsWritten o contents docs prunes
-    → let r = run_for o contents docs prunes in AreMade r (file_after (sup_name o) r) (common_bytes r)
+    → let r = run_for o contents docs prunes in AreMade r (file_after (sup_name o) r) (common_of o.common r)
 
 -- And so it reads back: it says the same as what was read, along images, and entries share an image exactly where they move and nothing
 -- tells them apart.
@@ -61,7 +61,7 @@ abbrev pub ReadBackLaw : Type 0
 ReadBackLaw =
     (o : Options) (contents : List (List ℕ)) (docs : List (Doc ℕ)) (prunes : List Bool) → Each AreBytes contents → IsWritten o contents docs prunes
     → let r = run_for o contents docs prunes in
-    ReadBack (scope_of o) docs (rule_of o docs) (stored_of contents prunes) (file_after (sup_name o) r) (common_bytes r)
+    ReadBack (scope_of o) docs (rule_of o docs) (stored_of contents prunes) (file_after (sup_name o) r) (common_of o.common r)
 
 -- `.debug_sup` of the common file has its checksum; that of each file that imports from it has that checksum, and its name.
 pub record AreTied (name : List ℕ) (r : Run) : Type 0 where

@@ -72,6 +72,10 @@ abbrev pub put_of : List ℕ → List ℕ → Put
 put_of name bytes = record { name = name; bytes = bytes }
 
 -- the common file, where one is asked for and there is one
+abbrev pub common_of : Option (List ℕ) → Run → Option (List ℕ)
+common_of None r = None
+common_of (Some name) r = if has_common r then Some (common_bytes r) else None
+
 abbrev pub common_puts : Option (List ℕ) → Run → List Put
 common_puts None r = []
 common_puts (Some name) r = if has_common r then put_of name (common_bytes r) ∷ [] else []

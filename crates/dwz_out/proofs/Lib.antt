@@ -4,14 +4,15 @@ pub mod ListsWritten
 pub mod ListsStand
 pub mod GivenSections
 pub mod FreeLemmas
+pub mod NoneNarrow
 pub mod OneRefusal
+pub mod EitherOne
 pub mod OneOutcome
 pub mod FilesRead
 pub mod SectionsMade
 pub mod SlotsMade
 pub mod FilesMade
 pub mod CommonMade
-pub mod NoneNarrow
 pub mod AllMade
 pub mod Gotten
 pub mod Stopping

@@ -22,16 +22,16 @@ module _ (r : Run) (file : ℕ) where
   Fits o = FitsWidth o.operand.uleb o.operand.width (new_number r file o)
 
   -- the narrow one with the least place
-  record Least (os : List ListOperand) : Type 0 where
-    operand : ListOperand
-    there : In operand os
-    narrow : IsNarrow r file operand
-    least : (o : ListOperand) → In o os → IsNarrow r file o → operand.operand.at ≤ o.operand.at
+  pub record Least (os : List ListOperand) : Type 0 where
+    pub operand : ListOperand
+    pub there : In operand os
+    pub narrow : IsNarrow r file operand
+    pub least : (o : ListOperand) → In o os → IsNarrow r file o → operand.operand.at ≤ o.operand.at
 
-  not_narrow : (o : ListOperand) → Fits o → IsNarrow r file o → ⊥
+  pub not_narrow : (o : ListOperand) → Fits o → IsNarrow r file o → ⊥
   not_narrow o fits over = not_both o.operand.uleb o.operand.width (new_number r file o) fits over
 
-  least_of : (os : List ListOperand) → ((o : ListOperand) → In o os → Fits o) ⊎ Least os
+  pub least_of : (os : List ListOperand) → ((o : ListOperand) → In o os → Fits o) ⊎ Least os
   least_of [] = inl (λ o there. absurd there)
   least_of (o ∷ os) = by (fits_or_not o.operand.uleb o.operand.width (new_number r file o)) (least_of os) where
     by : Fits o ⊎ IsNarrow r file o → ((p : ListOperand) → In p os → Fits p) ⊎ Least os → ((p : ListOperand) → In p (o ∷ os) → Fits p) ⊎ Least (o ∷ os)

@@ -1,5 +1,5 @@
 -- Laws on what a run puts.
-use Rattle.std.specs.Prelude.{◌≡◌, ℕ, Bool, true, List, Some}
+use Rattle.std.specs.Prelude.{◌≡◌, ◌⊎◌, ℕ, Bool, true, List, Some}
 use Rattle.dwz_model.specs.declared.fault.Refusal.{Refusal}
 use Rattle.dwz_docs.specs.ElfLayout.{IsOrder}
 use Rattle.dwz_docs.specs.ElfReading.{ElfView}
@@ -32,6 +32,10 @@ OrderLaw = (e : ElfView) → IsOrder e (order_of e) × ((order : List (ℕ × �
 -- at most one refusal is the first
 abbrev pub OneRefusalLaw : Type 0
 OneRefusalLaw = (name : List ℕ) (r : Run) (p q : Refusal) → OutFault name r p → OutFault name r q → p ≡ q
+
+-- and either one is, or nothing refuses the files
+abbrev pub EitherLaw : Type 0
+EitherLaw = (name : List ℕ) (r : Run) → ((q : Refusal) × OutFault name r q) ⊎ ((q : Refusal) → ¬ OutFault name r q)
 
 -- at most one thing comes of options and contents
 abbrev pub OneOutcomeLaw : Type 0

@@ -87,6 +87,7 @@ module _ (docs : List (Doc ℕ)) (input : Stored) (are : AreRead input docs) (go
   -- what is known of such a file
   pub record IsChanged (file : ℕ) : Type 0 where
     pub doc : Doc ℕ
+    pub nth : Nth 0 docs file doc
     pub read : IsRead (input.bytes file) (input.raw file) (input.prunes file) doc
     pub some : (input.raw file ≡ []) → ⊥
 
@@ -99,7 +100,7 @@ module _ (docs : List (Doc ℕ)) (input : Stored) (are : AreRead input docs) (go
       let same : u.unit.file ≡ file = sym u.file_is ∙ of_file in
       let nth : Nth 0 docs file d.doc = subst (λ (n : ℕ). Nth 0 docs n d.doc) same d.nth in
       let read = are file d.doc nth in
-      record { doc = d.doc; read = read; some = means_some (input.bytes file) (input.raw file) (input.raw file) d.doc.units read.reads.means d.filled }
+      record { doc = d.doc; nth = nth; read = read; some = means_some (input.bytes file) (input.raw file) (input.raw file) d.doc.units read.reads.means d.filled }
 
 -- ---- where no common file is asked for, nothing is to stand in one
 
@@ -124,18 +125,18 @@ module _ (o : Options) (contents : List (List ℕ)) (docs : List (Doc ℕ)) (pru
   abbrev Files : Refusal → Type 0
   Files = OrElse (OfFirst (InFile (SectionsFault r)) r.files) (OfFirst (InFile (FileFault name r)) r.files)
 
-  common_free : has_common r ≡ true → Nothing (CommonFault r)
+  pub common_free : has_common r ≡ true → Nothing (CommonFault r)
   common_free there f is = not_first (CommonRefusal r) Files written.free _ (there, (f, is, refl))
 
-  sections_free : (file : ℕ) → In file r.files → Nothing (SectionsFault r file)
+  pub sections_free : (file : ℕ) → In file r.files → Nothing (SectionsFault r file)
   sections_free file there f is =
       not_any (InFile (SectionsFault r)) r.files (not_first (OfFirst (InFile (SectionsFault r)) r.files) _ (not_then (CommonRefusal r) Files written.free)) file there _ (f, is, refl)
 
-  file_free : (file : ℕ) → In file r.files → Nothing (FileFault name r file)
+  pub file_free : (file : ℕ) → In file r.files → Nothing (FileFault name r file)
   file_free file there f is =
       not_any (InFile (FileFault name r)) r.files (not_then (OfFirst (InFile (SectionsFault r)) r.files) (OfFirst (InFile (FileFault name r)) r.files) (not_then (CommonRefusal r) Files written.free)) file there _ (f, is, refl)
 
-  changed : (file : ℕ) → changes r.move r.units file ≡ true → IsChanged docs (stored_of contents prunes) are r.move.gone file
+  pub changed : (file : ℕ) → changes r.move r.units file ≡ true → IsChanged docs (stored_of contents prunes) are r.move.gone file
   unfolding changes
   changed file moves = changed_file docs (stored_of contents prunes) are r.move.gone file moves
 

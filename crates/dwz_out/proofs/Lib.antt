@@ -7,6 +7,7 @@ pub mod FreeLemmas
 pub mod NoneNarrow
 pub mod OneRefusal
 pub mod EitherOne
+pub mod OfSections
 pub mod OneOutcome
 pub mod FilesRead
 pub mod SectionsMade
@@ -14,6 +15,7 @@ pub mod SlotsMade
 pub mod FilesMade
 pub mod CommonMade
 pub mod AllMade
+pub mod Lengths
 pub mod Gotten
 pub mod Stopping
 pub mod RoomRead

@@ -1,5 +1,5 @@
 -- Laws on what a run puts.
-use Rattle.std.specs.Prelude.{◌≡◌, ◌⊎◌, ℕ, Bool, true, List, Some}
+use Rattle.std.specs.Prelude.{◌≡◌, ◌⊎◌, ℕ, ◌≤◌, Bool, true, List, length, Some}
 use Rattle.dwz_model.specs.declared.fault.Refusal.{Refusal}
 use Rattle.dwz_docs.specs.ElfLayout.{IsOrder}
 use Rattle.dwz_docs.specs.ElfReading.{ElfView}
@@ -15,12 +15,13 @@ use Rattle.dwz_back.specs.Files.{AreRanged, Run, imports_common, places, tells}
 use Rattle.dwz_outside.specs.Store.{Store}
 use Rattle.dwz_words.specs.Conditions.{FitTogether}
 use Rattle.dwz_words.specs.declared.options.Options.{Options}
+use Rattle.dwz_course.specs.Demo.{HasLengths}
 use Rattle.dwz_course.specs.Gets.{gets}
 use Rattle.dwz_course.specs.Outcome.{Outcome}
 use Rattle.dwz_course.specs.Puts.{Prefixes}
 use Rattle.dwz_out.specs.Contents.{lists_after, ranges_after}
 use Rattle.dwz_out.specs.FilesAfter.{common_bytes, file_after, order_of}
-use Rattle.dwz_out.specs.Out.{IsWritten, Out, all_puts, common_of, rule_of, run_for, scope_of, stored_of, sup_name}
+use Rattle.dwz_out.specs.Out.{IsWritten, Out, all_puts, common_of, rule_of, run_for, scope_of, stored_of, summary_of, sup_name}
 use Rattle.dwz_out.specs.Stops.{AreOldOrMade}
 use Rattle.dwz_out.specs.Tied.{SaysSup, common_sup, file_sup}
 use Rattle.dwz_out.specs.Refusals.{OutFault}
@@ -36,6 +37,10 @@ OneRefusalLaw = (name : List ℕ) (r : Run) (p q : Refusal) → OutFault name r 
 -- and either one is, or nothing refuses the files
 abbrev pub EitherLaw : Type 0
 EitherLaw = (name : List ℕ) (r : Run) → ((q : Refusal) × OutFault name r q) ⊎ ((q : Refusal) → ¬ OutFault name r q)
+
+-- it is of a section
+abbrev pub SectionLaw : Type 0
+SectionLaw = (name : List ℕ) (r : Run) (q : Refusal) → OutFault name r q → q.section ≤ 9
 
 -- at most one thing comes of options and contents
 abbrev pub OneOutcomeLaw : Type 0
@@ -66,6 +71,12 @@ ReadBackLaw =
     (o : Options) (contents : List (List ℕ)) (docs : List (Doc ℕ)) (prunes : List Bool) → Each AreBytes contents → IsWritten o contents docs prunes
     → let r = run_for o contents docs prunes in
     ReadBack (scope_of o) docs (rule_of o docs) (stored_of contents prunes) (file_after (sup_name o) r) (common_of o.common r)
+
+-- and the lengths of all of them together are numbers of 64 bits
+abbrev pub LengthsLaw : Type 0
+LengthsLaw =
+    (o : Options) (contents : List (List ℕ)) (docs : List (Doc ℕ)) (prunes : List Bool) → Each AreBytes contents → IsWritten o contents docs prunes
+    → length o.files ≤ 256 → HasLengths (summary_of o (run_for o contents docs prunes))
 
 -- `.debug_sup` of the common file has its checksum; that of each file that imports from it has that checksum, and its name.
 pub record AreTied (name : List ℕ) (r : Run) : Type 0 where

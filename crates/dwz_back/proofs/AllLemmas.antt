@@ -85,7 +85,8 @@ module _ {K : Type 0} (from : From) (origin : Bases) where
 abbrev WasRead : (ℕ → From) → FileUnit Spot → Type 0
 WasRead from u = CarriedUnit (from u.file) (bases_in u.unit) u.unit
 
-file_carried : (from : ℕ → From) (file : ℕ) (f : ℕ → Spot) (some : List (DwUnit ℕ)) → Each (λ v. CarriedUnit (from file) (bases_in v) v) some → (u : FileUnit Spot) → In u (map (in_file file) (map (unit_map f) some)) → WasRead from u
+file_carried : (from : ℕ → From) (file : ℕ) (f : ℕ → Spot) (some : List (DwUnit ℕ)) → Each (λ v. CarriedUnit (from file) (bases_in v) v) some → (u : FileUnit Spot)
+    → In u (map (in_file file) (map (unit_map f) some)) → WasRead from u
 file_carried from file f [] are u there = absurd there
 file_carried from file f (v ∷ some) are u (inl e) =
     subst (WasRead from) e (subst (λ (b : Bases). CarriedUnit (from file) b (unit_map f v)) (sym (bases_mapped f v)) (unit_carried (from file) (bases_in v) f v are.0))

@@ -1,5 +1,5 @@
 -- Sections of a file that is read are short.
-use Rattle.std.proofs.Common.{◌≡◌, ℕ, ◌<◌, ◌≤◌, ◌^◌, List, length, take, drop, Option, Some, None, arith}
+use Rattle.std.proofs.Common.{ℕ, ◌<◌, ◌≤◌, ◌^◌, List, length, drop, Option, Some, None, arith}
 use Rattle.std.proofs.lemmas.List.{length-drop, length-take}
 use Rattle.dwz_docs.specs.ElfNames.{sections_in}
 use Rattle.dwz_docs.specs.ElfReading.{bytes_in, section_range}

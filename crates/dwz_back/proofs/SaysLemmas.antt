@@ -118,7 +118,8 @@ module _ (r : Run) (can : CanWrite r) (g : Spot → Place) (ok : IsPlacing r g) 
     own : (k : Spot) → In k (units_keys units) → at_file number (n.place k) ≡ g k
     given : (k : Spot) → In k t.common → (c : Common Place) × (common ≡ Some c) × In (n.place k) c.entries × (c.place (n.place k) ≡ g k)
 
-  said_placed : (t : Tells Spot) (common : Option (Common Place)) (number : ℕ) (bytes : List ℕ) (units : List (DwUnit Spot)) → Said t common number bytes units → SaysPlaced r g common number bytes units
+  said_placed : (t : Tells Spot) (common : Option (Common Place)) (number : ℕ) (bytes : List ℕ) (units : List (DwUnit Spot)) → Said t common number bytes units
+      → SaysPlaced r g common number bytes units
   said_placed t common number bytes units s =
       let w : AreWritable n t.common units = record { sound = s.good.0; stands = s.stands; room = s.room; fits = s.small; common_fits = s.common_few } in
       let fit : Each (UnitFits n) units = fits n t.common units t s.all refl w s.good.1 in
@@ -206,7 +207,8 @@ module _ (r : Run) (can : CanWrite r) (g : Spot → Place) (ok : IsPlacing r g) 
 
   -- ---- a file
 
-  formed_good : (file : ℕ) → In file r.files → changes r.move r.units file ≡ true → length (texts_bytes (shared r file)) < 2 ^ 32 → Each SoundUnit (formed r file) × UnitsSay (tells r file) (formed r file)
+  formed_good : (file : ℕ) → In file r.files → changes r.move r.units file ≡ true → length (texts_bytes (shared r file)) < 2 ^ 32
+      → Each SoundUnit (formed r file) × UnitsSay (tells r file) (formed r file)
   unfolding formed
   formed_good file there changed few =
       let names = fitted_names r file in
@@ -223,7 +225,8 @@ module _ (r : Run) (can : CanWrite r) (g : Spot → Place) (ok : IsPlacing r g) 
     good : Each SoundUnit (formed r file) × UnitsSay (tells r file) (formed r file)
     good = formed_good file there changed few
 
-    by : (b : Bool) → r.input.prunes file ≡ b → OffsetsIf b r file offsets → Each SoundUnit (fitted_if b r file) × UnitsSay (with_texts (tells r file) (strs_if b r file) offsets) (fitted_if b r file)
+    by : (b : Bool) → r.input.prunes file ≡ b → OffsetsIf b r file offsets
+        → Each SoundUnit (fitted_if b r file) × UnitsSay (with_texts (tells r file) (strs_if b r file) offsets) (fitted_if b r file)
     by true e new = units_pruned (tells r file) (formed r file) offsets (can.few file there) new (can.stay file there changed e) good.0 good.1
     by false e new = (good.0, subst (λ (w : List ℕ). UnitsSay (with_texts (tells r file) (sources r file).strs w) (formed r file)) (sym new) good.1)
 
@@ -244,7 +247,8 @@ module _ (r : Run) (can : CanWrite r) (g : Spot → Place) (ok : IsPlacing r g) 
       subst (λ (k : Spot). (n.place k < 2 ^ 32) × (others (n.place k) ≡ true)) w.2 o))
 
   with_common : (common : Option (Common Place)) (out : List ℕ) (file : ℕ) → In file r.files → changes r.move r.units file ≡ true → HasSections r file out → FitsSections (sections_of r file)
-      → ((k : Spot) → In k (all_entry_keys (common_fitted r)) → n.place k < 2 ^ 32) → ((k : Spot) → In k (all_entry_keys (common_fitted r)) → (c : Common Place) × (common ≡ Some c) × In (n.place k) c.entries × (c.place (n.place k) ≡ g k))
+      → ((k : Spot) → In k (all_entry_keys (common_fitted r)) → n.place k < 2 ^ 32)
+      → ((k : Spot) → In k (all_entry_keys (common_fitted r)) → (c : Common Place) × (common ≡ Some c) × In (n.place k) c.entries × (c.place (n.place k) ≡ g k))
       → length (texts_bytes (shared r file)) < 2 ^ 32 → ((at : ℕ) (text : List ℕ) → IsTextAt (texts_bytes (shared r file)) at text → (c : Common Place) × (common ≡ Some c) × IsTextAt c.strs at text)
       → SaysPlaced r g common file out (fitted r file)
   with_common common out file there changed has small few given few_texts texts_given = said_placed (with_texts (tells r file) (strs_if (r.input.prunes file) r file) (sources_of out).offsets) common file out (fitted r file) (record {
@@ -281,7 +285,8 @@ module _ (r : Run) (can : CanWrite r) (g : Spot → Place) (ok : IsPlacing r g) 
   shared_there common has true at text stands = subst (λ (w : Sources). IsTextAt w.strs at text) (sym has.sources) stands
   shared_there common has false at text stands = absurd (no_text at text stands)
 
-  pub file_back : (out common : List ℕ) → HasCommon common (common_sections r) (texts r) (paths r) → FitsSections (common_sections r) → (c : SaysPlaced r g None r.common common (common_fitted r)) → (file : ℕ) → In file r.files → changes r.move r.units file ≡ true
+  pub file_back : (out common : List ℕ) → HasCommon common (common_sections r) (texts r) (paths r) → FitsSections (common_sections r)
+      → (c : SaysPlaced r g None r.common common (common_fitted r)) → (file : ℕ) → In file r.files → changes r.move r.units file ≡ true
       → HasSections r file out → FitsSections (sections_of r file) → SaysPlaced r g (Some (given_by r.common common c.raw)) file out (fitted r file)
   file_back out common made common_fits c file there changed has small = with_common (Some (given_by r.common common c.raw)) out file there changed has small (common_small common_fits) (λ k is. (
     given_by r.common common c.raw,

@@ -1,8 +1,6 @@
 -- A text in the middle of another, which a common file has or not, and a slot that names it, by the definitions.
-use Rattle.std.proofs.Common.{◌≡◌, ℕ, pos, Bool, false, List, [], ◌∷◌, ◌++◌, None, eqb, refl}
-use Rattle.std.specs.Prelude.{◌==◌}
+use Rattle.std.proofs.Common.{◌≡◌, ℕ, pos, false, List, [], ◌∷◌, ◌++◌, eqb, refl}
 use Rattle.dwz_bytes.specs.Spelling.{le_bytes}
-use Rattle.dwz_docs.specs.Lists.{has}
 use Rattle.dwz_docs.specs.OffsetTables.{count_at, counts_in, is_contribution}
 use Rattle.dwz_docs.specs.Pruning.{bytes_kept, is_kept, new_number, pruned, range_end}
 use Rattle.dwz_docs.specs.Texts.{text_in}
@@ -13,7 +11,7 @@ use Rattle.dwz_meanings.specs.Meanings.{class_in, class_rows}
 use Rattle.dwz_seen.specs.Shown.{keys, unit_keys, units_keys}
 use Rattle.dwz_alike.specs.Spots.{same_numbers}
 use Rattle.dwz_writing.specs.Bases.{no_bases}
-use Rattle.dwz_writing.specs.Placing.{Forms, fit, fit_units, has_key, has_text, text_place, zeros}
+use Rattle.dwz_writing.specs.Placing.{Forms, fit, fit_units, has_text, text_place, zeros}
 use Rattle.dwz_writing.specs.Pruned.{all_uses, attrs_uses, entries_uses, known_slots, renumbered, renumbered_units, slot_after, slot_uses, units_uses}
 use Rattle.dwz_writing.specs.Writing.{attrs_bytes}
 

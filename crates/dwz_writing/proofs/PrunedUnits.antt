@@ -1,13 +1,11 @@
 -- Units of a file of whose texts only those stay that are used are sound, and say the same.
-use Rattle.std.proofs.Common.{◌≡◌, ◌⊎◌, ℕ, ℤ, pos, suc, ◌+◌, ◌*◌, ◌<◌, ◌≤◌, ◌^◌, Bool, true, false, List, [], ◌∷◌, ◌++◌, length, map, take, Option, Some, None, refl, sym, ap, subst, ◌∙◌, arith, cond, eqb, eqb-true, is_some, IsSome, Contains, inl, inr, slice_index}
-use Rattle.std.proofs.lemmas.List.{length-append}
-use Rattle.std.specs.List.{filter}
+use Rattle.std.proofs.Common.{◌≡◌, ℕ, pos, suc, ◌<◌, ◌^◌, Bool, true, false, List, [], ◌∷◌, ◌++◌, length, map, Option, Some, None, refl, sym, ap, subst, ◌∙◌, arith, cond, eqb, eqb-true, is_some, Contains, inl, inr}
 use Rattle.dwz_model.specs.declared.place.Base.{Base}
 use Rattle.dwz_model.specs.declared.place.Base.TheVariants.{Unit as FromUnit, Info as FromInfo}
 use Rattle.dwz_bytes.specs.Spelling.{SpellsFixed, reach}
 use Rattle.dwz_docs.specs.Lists.{In}
 use Rattle.dwz_docs.specs.Parts.{StandsAt}
-use Rattle.dwz_docs.specs.Pruning.{bytes_kept, is_kept, new_number, pruned}
+use Rattle.dwz_docs.specs.Pruning.{is_kept, new_number, pruned}
 use Rattle.dwz_docs.specs.Texts.{IsSlot, IsTextAt, slot, slot_place, text_at}
 use Rattle.dwz_docs.proofs.PruneLemmas.{length_kept, text_stays}
 use Rattle.dwz_docs.proofs.TextLemmas.{here_slot, here_text, text_here}
@@ -16,12 +14,11 @@ use Rattle.dwz_meanings.specs.Documents.{Attr, DwUnit, Entries, Kind, Node, Part
 use Rattle.dwz_meanings.specs.Documents as document
 use Rattle.dwz_meanings.specs.Exprs.{parts_of}
 use Rattle.dwz_alike.specs.Alike.{joined_parts}
-use Rattle.dwz_meanings.specs.Meanings.{Class, IfSo, OfCommonEntry, OfCommonText, OfConstant, OfExpression, OfInfoEntry, OfListIndex, OfOffset, OfTextBySlot, OfTextInLineStr, OfTextInStr, OfUnitEntry, class_of, names_file, names_list}
+use Rattle.dwz_meanings.specs.Meanings.{Class, IfSo, OfConstant, OfExpression, OfListIndex, OfOffset, OfTextBySlot, OfTextInStr, class_of, names_file, names_list}
 use Rattle.dwz_seen.specs.Lists.{Each}
 use Rattle.dwz_seen.proofs.Members.{in_cases, in_filter, in_left, in_map, in_right}
-use Rattle.dwz_writing.specs.Bases.{Bases, bases_in}
 use Rattle.dwz_writing.specs.Fitting.{EachAttr}
-use Rattle.dwz_writing.specs.Meant.{AttrSays, EntriesSay, ExprSays, FileSays, KindSays, ListSays, NodeSays, OperandIn, OperandsIn, Own, SaysAs, SlotSays, Tells, TextSays, UnitSays, UnitsSay, WasRead, own_of, told_texts}
+use Rattle.dwz_writing.specs.Meant.{AttrSays, EntriesSay, ExprSays, FileSays, KindSays, ListSays, NodeSays, OperandIn, OperandsIn, Own, SaysAs, SlotSays, Tells, UnitSays, UnitsSay, WasRead, own_of, told_texts}
 use Rattle.dwz_writing.specs.Pruned.{AreNewSlots, AttrStays, HasNoStrp, StaysAs, UnitStays, all_uses, attr_uses, attrs_uses, entries_uses, number_in_slot, renumbered, renumbered_attr, renumbered_node, renumbered_unit, renumbered_units, slot_after, known_slots, slot_uses, units_uses, with_texts}
 use Rattle.dwz_writing.specs.Sound.{SoundAttr, SoundEntries, SoundUnit}
 use Rattle.dwz_writing.specs.Placing.{with_form}
@@ -167,7 +164,8 @@ module _ {K : Type 0} (t : Tells K) (uses offsets places : List ℕ) (small : le
     says_moved OfConstant a other stays h = constant_moved (names_file a.name) a refl stays h
     says_moved _ a other stays h = h
 
-    attr_moved : (a : Attr K) → (a.form ≡ 0x0e → In (reach a.raw) uses) → AttrStays (told_texts t) t.line places own.bases a → SoundAttr a → AttrSays t own a → Good moved own (renumbered_attr number a)
+    attr_moved : (a : Attr K) → (a.form ≡ 0x0e → In (reach a.raw) uses) → AttrStays (told_texts t) t.line places own.bases a → SoundAttr a → AttrSays t own a
+        → Good moved own (renumbered_attr number a)
     attr_moved a used stays sound says = by (eqb a.form 0x0e) refl where
       by : (b : Bool) → eqb a.form 0x0e ≡ b → Good moved own (cond b (with_form a (record { form = 0x0e; raw = pos (number (reach a.raw)) })) a)
       by true e =
@@ -184,7 +182,8 @@ module _ {K : Type 0} (t : Tells K) (uses offsets places : List ℕ) (small : le
       sound : Each SoundAttr attrs
       says : Each (AttrSays moved own) attrs
 
-    attrs_moved : (attrs : List (Attr K)) → ((n : ℕ) → In n (attrs_uses attrs) → In n uses) → Each (AttrStays (told_texts t) t.line places own.bases) attrs → Each SoundAttr attrs → Each (AttrSays t own) attrs
+    attrs_moved : (attrs : List (Attr K)) → ((n : ℕ) → In n (attrs_uses attrs) → In n uses) → Each (AttrStays (told_texts t) t.line places own.bases) attrs → Each SoundAttr attrs
+        → Each (AttrSays t own) attrs
         → GoodAttrs (map (renumbered_attr number) attrs)
     unfolding attrs_uses
     attrs_moved [] used stays sound says = record { sound = tt; says = tt }
@@ -197,7 +196,8 @@ module _ {K : Type 0} (t : Tells K) (uses offsets places : List ℕ) (small : le
       sound : SoundEntries g
       says : EntriesSay moved own g
 
-    entries_moved : (g : Entries K) → ((n : ℕ) → In n (entries_uses g) → In n uses) → EachAttr (AttrStays (told_texts t) t.line places own.bases) g → SoundEntries g → EntriesSay t own g → GoodEntries (renumbered number g)
+    entries_moved : (g : Entries K) → ((n : ℕ) → In n (entries_uses g) → In n uses) → EachAttr (AttrStays (told_texts t) t.line places own.bases) g → SoundEntries g
+        → EntriesSay t own g → GoodEntries (renumbered number g)
     unfolding entries_uses renumbered
     entries_moved End used stays sound says = record { sound = tt; says = tt }
     entries_moved (Entry e children next) used stays sound says =

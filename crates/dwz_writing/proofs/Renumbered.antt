@@ -1,14 +1,14 @@
 -- New numbers of texts change no name, no length, and no room that operands need.
-use Rattle.std.proofs.Common.{◌≡◌, ℕ, pos, Bool, true, false, List, [], ◌∷◌, ◌++◌, map, Option, Some, None, refl, sym, ap, subst, ◌∙◌, cond, eqb, eqb-true}
+use Rattle.std.proofs.Common.{◌≡◌, ℕ, pos, Bool, true, false, List, [], ◌∷◌, ◌++◌, map, Some, None, refl, sym, ap, subst, ◌∙◌, cond, eqb, eqb-true}
 use Rattle.dwz_bytes.specs.Spelling.{reach}
 use Rattle.dwz_docs.specs.Trees.{End, Entry}
-use Rattle.dwz_meanings.specs.Documents.{Attr, DwUnit, Entries, Node, first_named}
-use Rattle.dwz_meanings.specs.Meanings.{Class, class_in, class_of, class_rows}
+use Rattle.dwz_meanings.specs.Documents.{Attr, DwUnit, Entries, first_named}
+use Rattle.dwz_meanings.specs.Meanings.{class_in, class_rows}
 use Rattle.dwz_seen.specs.Lists.{Each}
 use Rattle.dwz_seen.specs.Shown.{keys, unit_keys, units_keys}
 use Rattle.dwz_writing.specs.Bases.{Bases, bases_in, offset_in}
 use Rattle.dwz_writing.specs.Fitting.{EachAttr, HasRoom, UnitHasRoom}
-use Rattle.dwz_writing.specs.Meant.{Own, all_entry_keys, entry_keys, own_of}
+use Rattle.dwz_writing.specs.Meant.{all_entry_keys, entry_keys, own_of}
 use Rattle.dwz_writing.specs.Placing.{with_form}
 use Rattle.dwz_writing.specs.Pruned.{renumbered, renumbered_attr, renumbered_unit, renumbered_units}
 use Rattle.dwz_writing.specs.Writing.{Numbering}

@@ -2,7 +2,7 @@
 use Rattle.std.proofs.Common.{◌≡◌, ℕ, zero, suc, ◌+◌, ◌*◌, ◌≤◌, List, [], ◌∷◌, ◌++◌, length, Option, Some, None, refl, sym, ap, subst, ◌∙◌, arith, inl, inr}
 use Rattle.std.proofs.lemmas.List.{length-append}
 use Rattle.dwz_docs.specs.Lists.{In}
-use Rattle.dwz_docs.specs.OffsetTables.{AreSlots, SpellContributions, SpellsContribution, places_from, slot_places, slots_in}
+use Rattle.dwz_docs.specs.OffsetTables.{SpellContributions, SpellsContribution, places_from, slot_places, slots_in}
 use Rattle.dwz_docs.proofs.OffsetLemmas.{slots_found}
 use Rattle.dwz_seen.specs.Lists.{Each, EachPair}
 use Rattle.dwz_seen.proofs.Members.{each_of, in_cases, pair_append}

@@ -1,17 +1,17 @@
 -- What was read and stays where texts move stays so in the unit in which it is written.
-use Rattle.std.proofs.Common.{◌≡◌, ℕ, ℤ, Bool, true, false, List, [], ◌∷◌, Option, Some, map, refl, sym, ap, subst, ◌∙◌, inl, inr}
+use Rattle.std.proofs.Common.{◌≡◌, ℕ, ℤ, Bool, true, false, List, [], ◌∷◌, map, refl, sym, ap, subst, ◌∙◌, inl, inr}
 use Rattle.dwz_bytes.specs.Spelling.{reach}
 use Rattle.dwz_docs.specs.Trees.{End, Entry}
 use Rattle.dwz_meanings.specs.Documents.{Attr, Compile, DwUnit, Entries, Kind, Node, OfType, Partial}
-use Rattle.dwz_meanings.specs.Meanings.{Class, OfCommonEntry, OfConstant, OfInfoEntry, OfOffset, OfTextBySlot, OfTextInLineStr, OfTextInStr, OfUnitEntry, Sources, class_in, class_of, class_rows, names_file, number_of, texts_of}
+use Rattle.dwz_meanings.specs.Meanings.{Class, OfCommonEntry, OfConstant, OfInfoEntry, OfTextBySlot, OfTextInLineStr, OfTextInStr, OfUnitEntry, Sources, class_in, class_of, class_rows, names_file, number_of, texts_of}
 use Rattle.dwz_meanings.specs.LineTables.{TextSections}
 use Rattle.dwz_seen.specs.Lists.{Each}
 use Rattle.dwz_seen.specs.Shown.{units_keys}
-use Rattle.dwz_writing.specs.Bases.{Bases, bases_in, bases_of}
+use Rattle.dwz_writing.specs.Bases.{Bases, bases_in}
 use Rattle.dwz_writing.specs.Carried.{BasesStand, CarriedAttr, CarriedEntries, CarriedNode, CarriedUnit, ComesFromItself, FileStands, OfFile}
 use Rattle.dwz_writing.specs.Fitting.{EachAttr}
-use Rattle.dwz_writing.specs.Placing.{Chosen, CommonUnit, FileFit, Fit, Forms, Holder, InCommon, InFile, InUnit, NewUnit, OldUnit, Reach, as_constant, as_file, as_line_text, as_read, as_slot, as_strp_if, as_text, fit, fit_as, fit_attr, fit_unit, fit_units, has_text, holder_of, reach_of, ref_form, slot_number, unit_fit, with_keys}
-use Rattle.dwz_writing.specs.Pruned.{AttrStays, HasNoStrp, StaysAs, StaysIn, UnitStays}
+use Rattle.dwz_writing.specs.Placing.{Chosen, CommonUnit, FileFit, Fit, Forms, Holder, InCommon, InFile, InUnit, NewUnit, OldUnit, Reach, as_constant, as_file, as_line_text, as_slot, as_strp_if, as_text, fit, fit_as, fit_attr, fit_unit, fit_units, has_text, holder_of, reach_of, ref_form, slot_number, unit_fit, with_keys}
+use Rattle.dwz_writing.specs.Pruned.{AttrStays, StaysAs, StaysIn, UnitStays}
 use Rattle.dwz_writing.specs.Writing.{text_in}
 use Rattle.dwz_writing.proofs.Carrying.{import_class}
 use Rattle.dwz_writing.proofs.Chosen.{bases_fit}
@@ -68,7 +68,8 @@ module _ {K : Type 0} (sources : Sources) (places : List ℕ) (origin : Bases) w
   unit_too : (u : DwUnit K) → CarriedUnit (OfFile sources) origin u → Each Here u.root.attrs × EachAttr Here u.below → CarriedUnit (StaysIn sources places) origin u
   unit_too u carried stays = record { kind = carried.kind; main = carried.main; root = node_too u.root carried.root stays.0; below = entries_too u.below carried.below stays.1 }
 
-pub units_too : {K : Type 0} (sources : Sources) (places : List ℕ) (units : List (DwUnit K)) → Each (λ u. CarriedUnit (OfFile sources) (bases_in u) u) units → Each (UnitStays (texts_of sources) sources.line places) units
+pub units_too : {K : Type 0} (sources : Sources) (places : List ℕ) (units : List (DwUnit K)) → Each (λ u. CarriedUnit (OfFile sources) (bases_in u) u) units
+    → Each (UnitStays (texts_of sources) sources.line places) units
     → Each (λ u. CarriedUnit (StaysIn sources places) (bases_in u) u) units
 units_too sources places [] carried stays = tt
 units_too sources places (u ∷ units) carried stays = (unit_too sources places (bases_in u) u carried.0 stays.0, units_too sources places units carried.1 stays.1)
@@ -108,20 +109,23 @@ module _ {K : Type 0} (texts : TextSections) (line places : List ℕ) (x : Fit K
   slot_stays OldUnit itself stays = subst (λ (b : Bases). AttrStays texts line places b a) (sym itself) stays
   slot_stays NewUnit itself stays = strp_stays (has_text x.shared (text_in a.value.plain)) (slot_number x.offsets x.origin.slots (reach a.raw))
 
-  file_stays : (h : Holder) → (h ≡ CommonUnit → ⊥) → ComesFromItself h own origin → FileStands h own.line origin.line a → AttrStays texts line places origin a → class_of a.form ≡ OfConstant → Goal (as_file h x a)
+  file_stays : (h : Holder) → (h ≡ CommonUnit → ⊥) → ComesFromItself h own origin → FileStands h own.line origin.line a → AttrStays texts line places origin a
+      → class_of a.form ≡ OfConstant → Goal (as_file h x a)
   file_stays CommonUnit never itself file stays e = absurd (never refl)
   file_stays OldUnit never itself file stays e = subst (λ (b : Bases). AttrStays texts line places b a) (sym itself) stays
   file_stays NewUnit never itself file stays e =
       let there = subst (λ (c : Class). StaysAs c texts line places origin a.name (reach a.raw)) e stays in
       subst (λ (c : Class). StaysAs c texts line places own a.name (reach a.raw)) (sym e) (λ names place is. there names place (sym (file (e, names)) ∙ is))
 
-  constant_stays : (b : Bool) → names_file a.name ≡ b → (h : Holder) → (h ≡ CommonUnit → ⊥) → ComesFromItself h own origin → FileStands h own.line origin.line a → AttrStays texts line places origin a → class_of a.form ≡ OfConstant
+  constant_stays : (b : Bool) → names_file a.name ≡ b → (h : Holder) → (h ≡ CommonUnit → ⊥) → ComesFromItself h own origin → FileStands h own.line origin.line a
+      → AttrStays texts line places origin a → class_of a.form ≡ OfConstant
       → x.holder ≡ h → Goal (as_constant b x a)
   constant_stays true named h never itself file stays e same = subst (λ (w : Holder). Goal (as_file w x a)) (sym same) (file_stays h never itself file stays e)
   constant_stays false named h never itself file stays e same =
       subst (λ (c : Class). StaysAs c texts line places own a.name (reach a.raw)) (sym e) (λ names place is. absurd (let z : true ≡ false = sym names ∙ named in cc))
 
-  fit_stays : (h : Holder) → (h ≡ CommonUnit → ⊥) → ComesFromItself h own origin → FileStands h own.line origin.line a → AttrStays texts line places origin a → x.holder ≡ h → AttrStays texts line places own (fit_attr x a)
+  fit_stays : (h : Holder) → (h ≡ CommonUnit → ⊥) → ComesFromItself h own origin → FileStands h own.line origin.line a → AttrStays texts line places origin a → x.holder ≡ h
+      → AttrStays texts line places own (fit_attr x a)
   fit_stays h never itself file stays same = by (class_of a.form) refl where
     by : (c : Class) → class_of a.form ≡ c → Goal (fit_as c x a)
     by OfConstant e = constant_stays (names_file a.name) refl h never itself file stays e same
@@ -141,7 +145,8 @@ no_common false Compile e is = absurd cc
 no_common false (OfType signature main) e is = absurd cc
 no_common false Partial e is = absurd cc
 
-module _ {K : Type 0} (f : FileFit K) (sources : Sources) (places : List ℕ) (own_file : f.is_common ≡ false) (u : DwUnit K) (bases : ComesFromItself (holder_of f.is_common u.kind) (bases_in u) (f.origin u.at)) where
+module _ {K : Type 0} (f : FileFit K) (sources : Sources) (places : List ℕ) (own_file : f.is_common ≡ false) (u : DwUnit K)
+    (bases : ComesFromItself (holder_of f.is_common u.kind) (bases_in u) (f.origin u.at)) where
   abbrev At : Attr K → Type 0
   At a = AttrStays (texts_of sources) sources.line places (bases_in u) a
 
@@ -164,17 +169,20 @@ module _ {K : Type 0} (f : FileFit K) (sources : Sources) (places : List ℕ) (o
 
   unit_stays : CarriedUnit (StaysIn sources places) (f.origin u.at) u → Each Files u.root.attrs → EachAttr Files u.below → UnitStays (texts_of sources) sources.line places (fit_unit f u)
   unit_stays carried root below =
-      subst (λ (b : Bases). Each (AttrStays (texts_of sources) sources.line places b) (map (fit_attr (unit_fit f u)) u.root.attrs) × EachAttr (AttrStays (texts_of sources) sources.line places b) (fit (unit_fit f u) u.below)) (sym (bases_fit f u))
+      subst (λ (b : Bases). Each (AttrStays (texts_of sources) sources.line places b) (map (fit_attr (unit_fit f u)) u.root.attrs)
+      × EachAttr (AttrStays (texts_of sources) sources.line places b) (fit (unit_fit f u) u.below)) (sym (bases_fit f u))
       (attrs_stay u.root.attrs carried.root.attrs root, entries_stay u.below carried.below below)
 
-each_stays : {K : Type 0} (f : Forms K) (keys : List K) (sources : Sources) (places : List ℕ) → f.is_common ≡ false → (units : List (DwUnit K)) → Each (λ u. CarriedUnit (StaysIn sources places) (f.origin u.at) u) units → Each (BasesStand f) units
+each_stays : {K : Type 0} (f : Forms K) (keys : List K) (sources : Sources) (places : List ℕ) → f.is_common ≡ false → (units : List (DwUnit K))
+    → Each (λ u. CarriedUnit (StaysIn sources places) (f.origin u.at) u) units → Each (BasesStand f) units
     → Each (UnitStays (texts_of sources) sources.line places) (map (fit_unit (with_keys f keys)) units)
 each_stays f keys sources places own_file [] carried bases = tt
 each_stays f keys sources places own_file (u ∷ units) carried bases =
     (unit_stays (with_keys f keys) sources places own_file u bases.0.own carried.0 bases.0.root bases.0.below, each_stays f keys sources places own_file units carried.1 bases.1)
 
 -- so all units of a file do
-pub units_stay : {K : Type 0} (f : Forms K) (sources : Sources) (places : List ℕ) → f.is_common ≡ false → (units : List (DwUnit K)) → Each (λ u. CarriedUnit (StaysIn sources places) (f.origin u.at) u) units → Each (BasesStand f) units
+pub units_stay : {K : Type 0} (f : Forms K) (sources : Sources) (places : List ℕ) → f.is_common ≡ false → (units : List (DwUnit K))
+    → Each (λ u. CarriedUnit (StaysIn sources places) (f.origin u.at) u) units → Each (BasesStand f) units
     → Each (UnitStays (texts_of sources) sources.line places) (fit_units f units)
 unfolding fit_units
 units_stay f sources places own_file units carried bases = each_stays f (units_keys units) sources places own_file units carried bases

@@ -1,5 +1,5 @@
 -- Which texts stay depends on which numbers are uses, and not on their order.
-use Rattle.std.proofs.Common.{◌≡◌, ◌↔◌, ℕ, ◌+◌, Bool, true, false, List, [], ◌∷◌, length, take, refl, sym, ap, ◌∙◌, cond}
+use Rattle.std.proofs.Common.{◌≡◌, ◌↔◌, ℕ, ◌+◌, Bool, true, false, List, [], ◌∷◌, length, take, refl, ap, ◌∙◌, cond}
 use Rattle.std.specs.List.{list_any}
 use Rattle.dwz_docs.specs.Lists.{In}
 use Rattle.dwz_docs.specs.Pruning.{bytes_kept, is_in_range, is_kept, new_number, pruned}

@@ -1,5 +1,5 @@
 -- Tables by first use: each is spelled, and stands where it is looked for.
-use Rattle.std.proofs.Common.{◌≡◌, ◌≢◌, ℕ, ℤ, pos, suc, ◌+◌, ◌<◌, ◌≤◌, ◌^◌, ◌⊎◌, Bool, true, false, List, [], ◌∷◌, ◌++◌, length, map, Option, Some, None, refl, sym, ap, subst, ◌∙◌, append_assoc, arith, cond, eqb, eqb-true, ltb, ne_eqb}
+use Rattle.std.proofs.Common.{◌≡◌, ◌≢◌, ℕ, ℤ, pos, suc, ◌+◌, ◌<◌, ◌≤◌, ◌^◌, ◌⊎◌, Bool, true, false, List, [], ◌∷◌, ◌++◌, length, map, Option, Some, None, refl, sym, ap, ◌∙◌, append_assoc, arith, cond, eqb, eqb-true, ltb, ne_eqb}
 use Rattle.std.specs.Prelude.{MatchBool}
 use Rattle.std.proofs.Math.Logic.{inl, inr}
 use Rattle.std.proofs.lemmas.Bool.{ltb-true}
@@ -11,7 +11,7 @@ use Rattle.dwz_bytes.proofs.SignedLemmas.{sleb_spells}
 use Rattle.dwz_docs.specs.Abbrevs.{Declaration, EndsPairs, EndsTable, IsDeclared, IsPair, SpellsDeclaration, SpellsPair, SpellsTable, constant_bytes, declaration_bytes, find_decl, pair_bytes, pairs_bytes, table_bytes}
 use Rattle.dwz_meanings.specs.Documents.{Attr, DwUnit, Entries, Node}
 use Rattle.dwz_docs.specs.Lists.{SpellsItems}
-use Rattle.dwz_meanings.specs.Meanings.{Class, ClassRow, Unread, class_in, class_of, class_rows}
+use Rattle.dwz_meanings.specs.Meanings.{ClassRow, Unread, class_in, class_of, class_rows}
 use Rattle.dwz_docs.specs.Parts.{StandsAt}
 use Rattle.dwz_docs.specs.Trees.{End, Entry, size}
 use Rattle.dwz_seen.specs.Lists.{Each}

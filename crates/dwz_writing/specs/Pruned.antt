@@ -1,11 +1,11 @@
 -- A file of whose texts only those stay that are used: the uses, the new numbers, and the section of slots.
-use Rattle.std.specs.Prelude.{◌≡◌, ◌⊎◌, ℕ, pos, ◌+◌, ◌<◌, ◌≤◌, Bool, true, false, List, [], ◌∷◌, ◌++◌, length, take, drop, map, Option, Some, None, is_some, slice_index, ◌==◌, if◌then◌else◌}
+use Rattle.std.specs.Prelude.{◌≡◌, ◌⊎◌, ℕ, pos, ◌+◌, ◌<◌, ◌≤◌, true, false, List, [], ◌∷◌, ◌++◌, length, take, drop, map, Option, Some, None, is_some, slice_index, ◌==◌, if◌then◌else◌}
 use Rattle.std.specs.List.{filter}
 use Rattle.dwz_bytes.specs.Spelling.{SpellsFixed, le_value, reach}
 use Rattle.dwz_docs.specs.Lists.{In}
 use Rattle.dwz_docs.specs.OffsetTables.{slots_in}
 use Rattle.dwz_docs.specs.Parts.{StandsAt}
-use Rattle.dwz_docs.specs.Pruning.{new_number, pruned}
+use Rattle.dwz_docs.specs.Pruning.{new_number}
 use Rattle.dwz_docs.specs.Texts.{slot_place, text_at}
 use Rattle.dwz_docs.specs.Trees.{End, Entry}
 use Rattle.dwz_meanings.specs.Documents.{Attr, DwUnit, Entries, Node}

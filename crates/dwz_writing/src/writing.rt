@@ -56,10 +56,10 @@ pub fn bytes_laws()
 
 /// The forms of values. Units with what was read in a file are sound once these are chosen, and each value says what its form says: where
 /// each reference names an entry of the file or of the common file, and no name stands twice; where the sections of the file are those that
-/// were read, or all texts are in `.debug_str` of the common file, and all paths in its line table; and where the root of an old unit says
-/// of slots, of a line table and of lists what it said, and the root of a partial unit names the line table by which its files are numbered;
-/// and where operands of expressions and of location lists name entries of the unit, or of the file, as their numbers are counted. Whatever
-/// is written has a fixed length. No name is changed.
+/// were read, and the texts that it shares are those of the common file, or all texts are in `.debug_str` of the common file, and all paths
+/// in its line table; and where the root of an old unit says of slots, of a line table and of lists what it said, and the root of a partial
+/// unit names the line table by which its files are numbered; and where operands of expressions and of location lists name entries of the
+/// unit, or of the file, as their numbers are counted. Whatever is written has a fixed length. No name is changed.
 pub fn form_laws()
     ensures file { (sources : Sources) (f : Forms Spot) (t : Tells Spot) (units : List (DwUnit Spot)) → f.same ≡ same_spot → f.is_common ≡ false → t.all ≡ all_entry_keys units → NoneTwice (units_keys units)
         → Each (λ u. CarriedUnit (OfFile sources) (f.origin u.at) u) units → ClosedIn t units → ApartIn t units → SectionsStand false (OfFile sources) f t units → Each (BasesStand f) units → Each (OperandsStand t) units

@@ -21,3 +21,4 @@ pub mod Stopping
 pub mod RoomRead
 pub mod RoomFormed
 pub mod RoomAfter
+pub mod OutRows

@@ -107,7 +107,8 @@ module _ (docs : List (Doc ℕ)) (input : Stored) (are : AreRead input docs) (go
 nothing_common : (o : Options) (docs : List (Doc ℕ)) → o.common ≡ None → (input : Stored) → common_units (run_of (rule_of o docs) docs input).move ≡ []
 unfolding common_units
 nothing_common o docs e input =
-    let is : IsAlike Apart (units_of docs) (rule_of o docs).alike = subst (λ (c : Option (List ℕ)). IsAlike (scope_by c) (units_of docs) (rule_of o docs).alike) e (alike_decides (scope_of o) (units_of docs)) in
+    let is : IsAlike Apart (units_of docs) (rule_of o docs).alike = subst (λ (c : Option (List ℕ)). IsAlike (scope_by c) (units_of docs) (rule_of o docs).alike) e (alike_decides (scope_of o)
+    (units_of docs)) in
     no_common (units_of docs) (rule_of o docs) is (file_numbers 0 docs) (run_of (rule_of o docs) docs input).move refl
 
 -- ---- all of them
@@ -134,7 +135,8 @@ module _ (o : Options) (contents : List (List ℕ)) (docs : List (Doc ℕ)) (pru
 
   pub file_free : (file : ℕ) → In file r.files → Nothing (FileFault name r file)
   file_free file there f is =
-      not_any (InFile (FileFault name r)) r.files (not_then (OfFirst (InFile (SectionsFault r)) r.files) (OfFirst (InFile (FileFault name r)) r.files) (not_then (CommonRefusal r) Files written.free)) file there _ (f, is, refl)
+      not_any (InFile (FileFault name r)) r.files (not_then (OfFirst (InFile (SectionsFault r)) r.files) (OfFirst (InFile (FileFault name r)) r.files) (not_then
+      (CommonRefusal r) Files written.free)) file there _ (f, is, refl)
 
   pub changed : (file : ℕ) → changes r.move r.units file ≡ true → IsChanged docs (stored_of contents prunes) are r.move.gone file
   unfolding changes
@@ -168,7 +170,8 @@ module _ (o : Options) (contents : List (List ℕ)) (docs : List (Doc ℕ)) (pru
 
   pub are_over : AreOver r
   are_over file there moves =
-      let free : Nothing (OrElse (FirstNarrow r file 1 (spoken r file)) (OrElse (FirstNarrow r file 7 (listed r file)) (OfFirst IsLargeSection (changes_by (sections_after r file) None).new))) = λ f is.
+      let free : Nothing (OrElse (FirstNarrow r file 1 (spoken r file)) (OrElse (FirstNarrow r file 7 (listed r file)) (OfFirst IsLargeSection (changes_by
+      (sections_after r file) None).new))) = λ f is.
       sections_free file there f (moves, is) in
       let first = not_first (FirstNarrow r file 1 (spoken r file)) _ free in
       let second = not_first (FirstNarrow r file 7 (listed r file)) _ (not_then (FirstNarrow r file 1 (spoken r file)) _ free) in
@@ -205,7 +208,8 @@ module _ (o : Options) (contents : List (List ℕ)) (docs : List (Doc ℕ)) (pru
       let small = is_small r common_free in
       let says = says_itself r (content_bytes contents bytes 0) small.file small.lines in
       subst (λ (sum : List ℕ). SpellsSup (section_of (common_bytes r) 9) (record { supplementary = true; name = []; sum = sum })) sum_is
-      (subst (λ (w : List ℕ). SpellsSup w (record { supplementary = true; name = []; sum = common_sum (common_after r) })) (sym says) (sup_written (record { supplementary = true; name = []; sum = common_sum (common_after r) }) tt sum_small))
+      (subst (λ (w : List ℕ). SpellsSup w (record { supplementary = true; name = []; sum = common_sum (common_after r) })) (sym says) (sup_written
+      (record { supplementary = true; name = []; sum = common_sum (common_after r) }) tt sum_small))
 
   pub file_tied : (file : ℕ) → In file r.files → changes r.move r.units file ≡ true → imports_common r.move r.units file ≡ true → NoZero name
       → SaysSup (file_after name r file) (file_sup name r)

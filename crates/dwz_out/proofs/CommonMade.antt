@@ -44,7 +44,8 @@ no_parts : (m : Move) (n : ℕ) (parts : List PartialUnit) → list_any is_commo
 unfolding partial_units
 no_parts m n [] none = refl
 no_parts m n (part ∷ parts) none = by (no_parts m (suc n) parts) (is_common part) none where
-  by : (list_any is_common parts ≡ false → partial_units m Common (suc n) parts ≡ []) → (b : Bool) → (b || list_any is_common parts) ≡ false → elim b as (λ _. List (DwUnit Spot)) [ true ↦ partial_unit m n ∷ partial_units m Common (suc n) parts | false ↦ partial_units m Common (suc n) parts ] ≡ []
+  by : (list_any is_common parts ≡ false → partial_units m Common (suc n) parts ≡ []) → (b : Bool) → (b || list_any is_common parts) ≡ false
+      → elim b as (λ _. List (DwUnit Spot)) [ true ↦ partial_unit m n ∷ partial_units m Common (suc n) parts | false ↦ partial_units m Common (suc n) parts ] ≡ []
   by rest true e = absurd cc
   by rest false e = rest e
 
@@ -140,8 +141,26 @@ module _ (r : Run) (none : common_units r.move ≡ []) where
   pub empty_sections : common_after r ≡ empty
   unfolding common_after units_with
   empty_sections =
-      ap (λ (u : UnitSections). record { info = u.info; «abbrev» = u.abbrevs; strs = if_some (texts r) (texts_bytes (texts r)); offsets = None; line = if_some (paths r) (lines_bytes (paths r)); loclists = None; aranges = None }) empty_units
-      ∙ ap (λ (units : List (DwUnit Spot)). record { info = []; «abbrev» = []; strs = if_some (texts_of [] units) (texts_bytes (texts_of [] units)); offsets = None; line = if_some (paths_of [] units) (lines_bytes (paths_of [] units)); loclists = None; aranges = None }) none
+      ap (λ (u : UnitSections). record {
+        info = u.info;
+        «abbrev» = u.abbrevs;
+        strs = if_some (texts r) (texts_bytes (texts r));
+        offsets = None;
+        line = if_some (paths r) (lines_bytes
+            (paths r));
+        loclists = None;
+        aranges = None;
+      }) empty_units
+      ∙ ap (λ (units : List (DwUnit Spot)). record {
+        info = [];
+        «abbrev» = [];
+        strs = if_some (texts_of [] units) (texts_bytes (texts_of [] units));
+        offsets = None;
+        line = if_some (paths_of [] units)
+            (lines_bytes (paths_of [] units));
+        loclists = None;
+        aranges = None;
+      }) none
 
 module _ (r : Run) (free : has_common r ≡ true → Nothing (CommonFault r)) where
   abbrev first : FileHeader

@@ -42,7 +42,8 @@ module _ (name : List ℕ) (r : Run) (file : ℕ) (doc : Doc ℕ) (read : IsRead
 
   have_bytes : (0 < length (debug_info input)) × (0 < length (debug_abbrev input))
   have_bytes = by (r.input.raw file) some read.reads.spelled where
-    by : (raw : List RawUnit) → (raw ≡ [] → ⊥) → SpellsUnits (debug_abbrev input) (given read.limits.entries) 0 raw 0 (debug_info input) → (0 < length (debug_info input)) × (0 < length (debug_abbrev input))
+    by : (raw : List RawUnit) → (raw ≡ [] → ⊥) → SpellsUnits (debug_abbrev input) (given read.limits.entries) 0 raw 0 (debug_info input)
+        → (0 < length (debug_info input)) × (0 < length (debug_abbrev input))
     by [] filled spelled = absurd (filled refl)
     by (u ∷ raw) filled spelled = some_bytes (debug_abbrev input) (given read.limits.entries) u raw (debug_info input) spelled
 
@@ -109,7 +110,8 @@ module _ (name : List ℕ) (r : Run) (file : ℕ) (doc : Doc ℕ) (read : IsRead
           line = ap (λ (x : Sources). x.line) all;
           lists = subst (AreRenumbered (places r) (tells r file)) (sym (ap (λ (x : Sources). x.lists) all ∙ other_is (sources r file).lists (lists_after r file))) (lists_made r file doc read);
           ranges = subst (AreRanged r file)
-              (sym (after_changes.ranges_after input s (sup_after name r file) (order_of (elf_of input)) can_be_made ∙ other_is (debug_aranges input) (ranges_after r file))) (ranges_made r file read.reads.ranges);
+              (sym (after_changes.ranges_after input s (sup_after name r file) (order_of (elf_of input)) can_be_made
+              ∙ other_is (debug_aranges input) (ranges_after r file))) (ranges_made r file read.reads.ranges);
         }
 
     -- and what `.debug_sup` says

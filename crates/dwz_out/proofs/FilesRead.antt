@@ -28,10 +28,12 @@ content_bytes [] are n = tt
 content_bytes (bytes ∷ contents) are zero = are.0
 content_bytes (bytes ∷ contents) are (suc n) = content_bytes contents are.1 n
 
-raws_by : (l : Limits) (bytes : List ℕ) (files : List (List ℕ)) (units : List RawUnit) (doc : Doc ℕ) → Reads l bytes units doc → raws l (bytes ∷ files) ≡ units ∷ raws (limits_after l bytes units) files
+raws_by : (l : Limits) (bytes : List ℕ) (files : List (List ℕ)) (units : List RawUnit) (doc : Doc ℕ) → Reads l bytes units doc
+    → raws l (bytes ∷ files) ≡ units ∷ raws (limits_after l bytes units) files
 unfolding raws
 raws_by l bytes files units doc reads =
-    ap (λ (m : Result (List RawUnit × Doc ℕ) Fault). elim m as (λ _. List (List RawUnit)) [ Ok x ↦ x.0 ∷ raws (limits_after l bytes x.0) files | Err f ↦ [] ]) (((file_agrees l bytes).ok (units, doc)).1 reads)
+    ap (λ (m : Result (List RawUnit × Doc ℕ) Fault). elim m as (λ _. List (List RawUnit)) [ Ok x ↦ x.0 ∷ raws (limits_after l bytes x.0) files | Err f ↦ [] ]) (((file_agrees l bytes).ok
+    (units, doc)).1 reads)
 
 -- the document with a number is what the file with that number says
 record ReadAt (s n : ℕ) (contents : List (List ℕ)) (stored : List (List RawUnit)) (prunes : List Bool) (doc : Doc ℕ) : Type 0 where

@@ -85,13 +85,15 @@ next_by store before name names contents (Some c) e is = by (is_too_long before 
     later = λ short. more;
   }
 
-held_at : (store : Store) (names : List (List ℕ)) (before : ℕ) (contents : List (List ℕ)) (l : Limits) (docs : List (Doc ℕ)) → gets store before names ≡ Some contents → Left l before → ReadAll l contents docs
+held_at : (store : Store) (names : List (List ℕ)) (before : ℕ) (contents : List (List ℕ)) (l : Limits) (docs : List (Doc ℕ)) → gets store before names ≡ Some contents → Left l before
+    → ReadAll l contents docs
     → (s n : ℕ) (name : List ℕ) → Nth s names n name → HeldAt store s n contents name
 held_at store [] before contents l docs is left read s n name nth = absurd nth
 held_at store (x ∷ names) before contents l docs is left read s n name nth =
     let next = next_by store before x names contents (got store x) refl is in
     subst (λ (cs : List (List ℕ)). HeldAt store s n cs name) (sym next.contents_are)
-    (by next.first next.rest next.got_is next.later (λ more m d gs lf ra. held_at store names more next.rest m d gs lf ra (suc s) n name) docs (subst (λ (cs : List (List ℕ)). ReadAll l cs docs) next.contents_are read) nth) where
+    (by next.first next.rest next.got_is next.later (λ more m d gs lf ra. held_at store names more next.rest m d gs lf ra (suc s) n name) docs (subst (λ (cs : List
+    (List ℕ)). ReadAll l cs docs) next.contents_are read) nth) where
       by : (first : List ℕ) (rest : List (List ℕ)) → got store x ≡ Some first → (is_too_long before first ≡ false → gets store (before + length first) names ≡ Some rest)
           → ((more : ℕ) (m : Limits) (d : List (Doc ℕ)) → gets store more names ≡ Some rest → Left m more → ReadAll m rest d → Nth (suc s) names n name → HeldAt store (suc s) n rest name)
           → (docs : List (Doc ℕ)) → ReadAll l (first ∷ rest) docs → Nth s (x ∷ names) n name → HeldAt store s n (first ∷ rest) name

@@ -52,7 +52,8 @@ module _ (o : Options) (contents : List (List ℕ)) (docs : List (Doc ℕ)) (pru
   made_small file moves =
       let c = changed o contents docs prunes bytes written file moves in
       let there = nth_number 0 docs file c.doc c.nth in
-      let can = can_be_made name r file c.doc c.read (content_bytes contents bytes file) c.some moves (sections_free o contents docs prunes bytes written file there) (file_free o contents docs prunes bytes written file there) in
+      let can = can_be_made name r file c.doc c.read (content_bytes contents bytes file) c.some moves (sections_free o contents docs prunes bytes written file there)
+      (file_free o contents docs prunes bytes written file there) in
       let is = same_length (r.input.bytes file) (changes_after name r file) (order_of (elf_of (r.input.bytes file))) can in
       let small = can.small in
       omega (arith, is, small)

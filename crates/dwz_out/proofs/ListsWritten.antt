@@ -198,7 +198,8 @@ module _ (lists : List NamedList) (section : List ℕ) (none : NoneShared lists)
     unfolding number_for
     number_own [] are o there = absurd there
     number_own (p ∷ some) are o there = by (λ later. number_own some (λ q q_in. are q (inr q_in)) o later) (eqb p.operand.at o.operand.at) refl where
-      by : (In o some → number_for new some o.operand.at ≡ new o) → (t : Bool) → eqb p.operand.at o.operand.at ≡ t → elim t as (λ _. ℕ) [ true ↦ new p | false ↦ number_for new some o.operand.at ] ≡ new o
+      by : (In o some → number_for new some o.operand.at ≡ new o) → (t : Bool) → eqb p.operand.at o.operand.at ≡ t
+          → elim t as (λ _. ℕ) [ true ↦ new p | false ↦ number_for new some o.operand.at ] ≡ new o
       by rest true e =
           let at = eqb-true p.operand.at o.operand.at e in
           let first : HasByte p.operand o.operand.at = subst (HasByte p.operand) at (has_first p (are p (inl refl))) in
@@ -214,7 +215,8 @@ module _ (lists : List NamedList) (section : List ℕ) (none : NoneShared lists)
     ends : (q : Operand) → In q (map (renewed new) all) → q.at + q.width ≤ length section
     ends q there = (let o = in_map (renewed new) q all there in subst (λ (x : Operand). x.at + x.width ≤ length section) o.2 (within o.0 o.1).1)
 
-    own_byte : (o : ListOperand) → In o all → (b : ℕ) → HasByte o.operand b → get_or out b 0 ≡ get_or (number_bytes o.operand.uleb o.operand.width (number_for new all o.operand.at)) (b - o.operand.at) 0
+    own_byte : (o : ListOperand) → In o all → (b : ℕ) → HasByte o.operand b
+        → get_or out b 0 ≡ get_or (number_bytes o.operand.uleb o.operand.width (number_for new all o.operand.at)) (b - o.operand.at) 0
     own_byte o there b has = elim (over_byte (map (renewed new) all) section ends b) [
       | inl is ↦
           let m = in_map (renewed new) is.operand all is.there in
@@ -239,7 +241,8 @@ module _ (lists : List NamedList) (section : List ℕ) (none : NoneShared lists)
           (let w = within o there in
           let len = over_len (map (renewed new) all) section in
           let size = number_len o.operand.uleb o.operand.width (number_for new all o.operand.at) in
-          let taken : length (take o.operand.width (drop o.operand.at out)) ≡ o.operand.width = length-take-le o.operand.width (drop o.operand.at out) (omega (arith, length-drop o.operand.at out, len, w.1)) in
+          let taken : length (take o.operand.width (drop o.operand.at out)) ≡ o.operand.width = length-take-le o.operand.width (drop o.operand.at out) (omega
+          (arith, length-drop o.operand.at out, len, w.1)) in
           ext_get_or 0 (take o.operand.width (drop o.operand.at out)) (number_bytes o.operand.uleb o.operand.width (number_for new all o.operand.at)) (taken ∙ sym size)
           (λ i lt.
           (let less : i < o.operand.width = omega (arith, lt, taken) in

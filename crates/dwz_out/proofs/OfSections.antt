@@ -66,7 +66,8 @@ unplaced : (e : ElfView) (changes : Changes) (before sections : List Section) (f
 unfolding first_in inside_fault
 unplaced e changes before [] f is = absurd cc
 unplaced e changes before (s ∷ sections) f is = by (unplaced e changes (before ++ s ∷ []) sections f) (is_inside e changes (length before) s) is where
-  by : (first_in (inside_fault e changes) (before ++ s ∷ []) sections ≡ Some f → OfSection f) → (b : Bool) → (fault_if b Layout s.header.at or first_in (inside_fault e changes) (before ++ s ∷ []) sections) ≡ Some f → OfSection f
+  by : (first_in (inside_fault e changes) (before ++ s ∷ []) sections ≡ Some f → OfSection f) → (b : Bool)
+      → (fault_if b Layout s.header.at or first_in (inside_fault e changes) (before ++ s ∷ []) sections) ≡ Some f → OfSection f
   by later true e = subst OfSection (let same : file_fault Layout s.header.at ≡ f = cc in same) (lit≤ tt)
   by later false e = later e
 

@@ -32,7 +32,8 @@ large_one : (n : NewContent) → AtMostOne (IsLargeSection n)
 large_one n f g a b = a.0 ∙ sym b.0
 
 common_one : (r : Run) → AtMostOne (CommonFault r)
-common_one r = or_else_one (OfFirst IsLargeSection (changes_by (common_after r) None).new) (IsLargeCommon r) (of_first_one IsLargeSection large_one (changes_by (common_after r) None).new) (λ f g a b. a.0 ∙ sym b.0)
+common_one r = or_else_one (OfFirst IsLargeSection (changes_by (common_after r) None).new) (IsLargeCommon r) (of_first_one IsLargeSection large_one (changes_by (common_after r) None).new)
+    (λ f g a b. a.0 ∙ sym b.0)
 
 sections_one : (r : Run) (file : ℕ) → AtMostOne (SectionsFault r file)
 sections_one r file f g a b =

@@ -34,7 +34,14 @@ read_left start end a b (o ∷ os) le h r =
     let last = lie_le (o.at + o.width) (start + length a) os h.2 in
     let within : o.at - start ≤ length a = omega (arith, last, h.0, le) in
     let dropped : drop (o.at - start) (a ++ b) ≡ drop (o.at - start) a ++ b = drop-append-le (o.at - start) a b within in
-    let taken : take o.width (drop (o.at - start) a ++ b) ≡ take o.width (drop (o.at - start) a) = take-append-le o.width (drop (o.at - start) a) b (omega (arith, length-drop (o.at - start) a, last, h.0, le)) in
+    let taken : take o.width (drop (o.at - start) a ++ b) ≡ take o.width (drop (o.at - start) a) = take-append-le o.width (drop (o.at - start) a) b (omega (
+      arith,
+      length-drop
+          (o.at - start) a,
+      last,
+      h.0,
+      le,
+    )) in
     (r.0 ∙ ap (value_of o.uleb) (sym (ap (take o.width) dropped ∙ taken)), read_left start (o.at + o.width) a b os (omega (arith, h.0, le)) h.2 r.1)
 
 -- more bytes before
@@ -49,7 +56,8 @@ join_read : (start : ℕ) (bytes : List ℕ) (os ps : List Operand) → AreRead 
 join_read start bytes [] ps r q = q
 join_read start bytes (o ∷ os) ps r q = (r.0, join_read start bytes os ps r.1 q)
 
-read_both : (start : ℕ) (bytes a b : List ℕ) (os ps : List Operand) → bytes ≡ a ++ b → Stand start a os → AreRead start a os → Stand (start + length a) b ps → AreRead (start + length a) b ps → AreRead start bytes (os ++ ps)
+read_both : (start : ℕ) (bytes a b : List ℕ) (os ps : List Operand) → bytes ≡ a ++ b → Stand start a os → AreRead start a os → Stand (start + length a) b ps → AreRead (start + length a) b ps
+    → AreRead start bytes (os ++ ps)
 read_both start bytes a b os ps parts h r k q =
     subst (λ (w : List ℕ). AreRead start w (os ++ ps)) (sym parts)
     (join_read start (a ++ b) os ps (read_left start start a b os (omega arith) h.lie r) (read_right start (start + length a) a b ps (start + length a + length b) (omega arith) k.lie q))
@@ -57,7 +65,8 @@ read_both start bytes a b os ps parts h r k q =
 abbrev pub FoundRead : ℕ → List ℕ → List Found → Type 0
 FoundRead start bytes founds = AreRead start bytes (operands_in founds)
 
-found_both : (start : ℕ) (bytes a b : List ℕ) (x y : List Found) → bytes ≡ a ++ b → FoundStand start a x → FoundRead start a x → FoundStand (start + length a) b y → FoundRead (start + length a) b y → FoundRead start bytes (x ++ y)
+found_both : (start : ℕ) (bytes a b : List ℕ) (x y : List Found) → bytes ≡ a ++ b → FoundStand start a x → FoundRead start a x → FoundStand (start + length a) b y → FoundRead (start + length a) b y
+    → FoundRead start bytes (x ++ y)
 found_both start bytes a b x y parts h r k q = subst (λ (w : List Operand). AreRead start bytes w) (sym (operands_both x y)) (read_both start bytes a b (operands_in x) (operands_in y) parts h r k q)
 
 no_found : (start : ℕ) (bytes : List ℕ) → FoundRead start bytes []
@@ -82,7 +91,8 @@ generic_found start n bytes s = by (eqb n 0) where
   by true = no_found start bytes
   by false = operand_found true FromUnit start n bytes s.value
 
-lie_from_here : (start : ℕ) (bytes front content : List ℕ) (e : Expression) → bytes ≡ front ++ content → Stand (start + length front) content e.operands → AreRead (start + length front) content e.operands → FoundRead start bytes (Holds e ∷ [])
+lie_from_here : (start : ℕ) (bytes front content : List ℕ) (e : Expression) → bytes ≡ front ++ content → Stand (start + length front) content e.operands
+    → AreRead (start + length front) content e.operands → FoundRead start bytes (Holds e ∷ [])
 unfolding operands_in
 lie_from_here start bytes front content e parts h r =
     subst (λ (w : List Operand). AreRead start bytes w) (sym (append-nil e.operands))
@@ -131,12 +141,14 @@ module _ (c : ExprContext) (IsExpr : Spelling Expression) (inside : (e : Express
       let more = start + length s.first_bytes in
       found_both start bytes s.first_bytes s.second_bytes op (joined ops) s.parts
       (op_stands c IsExpr inside op start s.first_bytes s.first)
-      (behind_code start o.code s.first_bytes o.rest op o.parts (fields_stand IsExpr inside o.fields op (start + 1) o.rest o.spelled) (fields_read IsExpr inside reads o.fields op (start + 1) o.rest o.spelled))
+      (behind_code start o.code s.first_bytes o.rest op o.parts (fields_stand IsExpr inside o.fields op (start + 1) o.rest o.spelled) (fields_read IsExpr inside reads o.fields op
+      (start + 1) o.rest o.spelled))
       (ops_stand c IsExpr inside ops more s.second_bytes s.second) (ops_read ops more s.second_bytes s.second)
 
 pub within_reads : (c : ExprContext) (k : ℕ) (e : Expression) (start : ℕ) (bytes : List ℕ) → SpellsWithin c k e start bytes → AreRead start bytes e.operands
 within_reads c zero e start bytes s = absurd s
-within_reads c (suc k) e start bytes s = subst (λ (w : Expression). AreRead start bytes w.operands) (sym s.made) (ops_read c (SpellsWithin c k) (within_stands c k) (within_reads c k) s.ops start bytes s.spelled)
+within_reads c (suc k) e start bytes s = subst (λ (w : Expression). AreRead start bytes w.operands) (sym s.made) (ops_read c (SpellsWithin c k) (within_stands c k)
+    (within_reads c k) s.ops start bytes s.spelled)
 
 entry_reads : (c : ExprContext) (founds : List Found) (start : ℕ) (bytes : List ℕ) → SpellsListEntry c founds start bytes → FoundRead start bytes founds
 entry_reads c founds start bytes s =

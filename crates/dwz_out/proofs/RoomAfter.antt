@@ -63,10 +63,11 @@ in_block file names (v ∷ units) u (inr r) = (let b = in_block file names units
 later_file : (own unit top : ℕ) (docs : List (Doc ℕ)) (u : FileUnit Spot) → In u (named_files own unit top docs) → own ≤ u.file
 unfolding named_files
 later_file own unit top [] u there = absurd there
-later_file own unit top (doc ∷ docs) u there = elim (in_cases u (map (in_file own) (named unit top doc.units)) (named_files (suc own) (unit + length doc.units) (top + tops_among doc.units) docs) there) [
-  | inl a ↦ (let e = (in_block own (spot_in (spots_from unit top doc.units)) doc.units u a).file_is in omega (arith, e))
-  | inr b ↦ (let le = later_file (suc own) (unit + length doc.units) (top + tops_among doc.units) docs u b in omega (arith, le))
-]
+later_file own unit top (doc ∷ docs) u there = elim (in_cases u (map (in_file own) (named unit top doc.units)) (named_files (suc own) (unit + length doc.units)
+    (top + tops_among doc.units) docs) there) [
+      | inl a ↦ (let e = (in_block own (spot_in (spots_from unit top doc.units)) doc.units u a).file_is in omega (arith, e))
+      | inr b ↦ (let le = later_file (suc own) (unit + length doc.units) (top + tops_among doc.units) docs u b in omega (arith, le))
+    ]
 
 named_from : (own unit top : ℕ) (docs : List (Doc ℕ)) (u : FileUnit Spot) → In u (named_files own unit top docs) → NamedFrom own unit top docs u
 unfolding named_files name_from

@@ -75,7 +75,8 @@ module _ (n : Numbering ℕ) (s : Scope ℕ) (place : s.around.place ≡ (λ p. 
         let room : AllRoom n s.unit m.expression.operands = subst (AllRoom n s.unit) read spoken in
         subst (λ (x : Value ℕ). PlainHasRoom n (n.place s.unit) x.plain x.refs) (sym m.value) (parts_room m.expression.operands m.expression.at m.expression.bytes room)
 
-    list_room : (l : NamedList) → l.unit ≡ s.unit → NamesList s r l → (p : ℕ) → (m : IsLocList s p b.value) → own_operands l ≡ operands_of m.list.exprs → PlainHasRoom n (n.place s.unit) b.value.plain b.value.refs
+    list_room : (l : NamedList) → l.unit ≡ s.unit → NamesList s r l → (p : ℕ) → (m : IsLocList s p b.value) → own_operands l ≡ operands_of m.list.exprs
+        → PlainHasRoom n (n.place s.unit) b.value.plain b.value.refs
     list_room l unit names p m same =
         let room : AllRoom n s.unit (operands_of m.list.exprs) = subst (AllRoom n s.unit) same (subst (λ (u : ℕ). AllRoom n u (own_operands l)) unit (listed l names)) in
         subst (λ (x : Value ℕ). PlainHasRoom n (n.place s.unit) x.plain x.refs) (sym m.value) (exprs_room m.list.exprs room)

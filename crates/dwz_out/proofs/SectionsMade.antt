@@ -43,7 +43,8 @@ module _ (r : Run) (file : ℕ) (doc : Doc ℕ) (read : IsRead (r.input.bytes fi
       record {
         number = number_for (new_number r file) (listed r file);
         are = λ l there o own.
-            number_own (lists_named r file) (sources r file).lists none stand (new_number r file) (gives_one r file) (listed r file) (λ p p_in. p_in) (of_unit l.unit o) (own_in l o (lists_named r file) there own);
+            number_own (lists_named r file) (sources r file).lists none stand (new_number r file) (gives_one r file) (listed r file) (λ p p_in. p_in) (of_unit l.unit o) (own_in l o
+            (lists_named r file) there own);
         patched = patched (lists_named r file) (sources r file).lists none stand (new_number r file) (gives_one r file);
       }
 

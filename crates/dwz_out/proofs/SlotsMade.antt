@@ -55,7 +55,18 @@ slots_lie new at [] bytes e = omega arith
 slots_lie new at (count ∷ counts) bytes s =
     let c = s.first in
     let size : length s.front ≡ 8 + 4 * count =
-    omega (arith, ap length c.parts, c.len_is.len, c.version_is_5.len, c.padding_is, c.slots_are, length-append c.len (c.version ++ (c.padding ++ c.slots)), length-append c.version (c.padding ++ c.slots), length-append c.padding c.slots) in
+    omega (
+      arith,
+      ap length c.parts,
+      c.len_is.len,
+      c.version_is_5.len,
+      c.padding_is,
+      c.slots_are,
+      length-append c.len (c.version ++ (c.padding ++ c.slots)),
+      length-append c.version
+          (c.padding ++ c.slots),
+      length-append c.padding c.slots,
+    ) in
     let whole : at + length bytes ≡ at + (8 + 4 * count) + length s.back = omega (arith, ap length s.parts, length-append s.front s.back, size) in
     let rest = map (slot_op new) (slot_places (at + (8 + 4 * count)) counts) in
     let later : Lie (at + (8 + 4 * count)) (at + length bytes) rest = subst (λ (n : ℕ). Lie (at + (8 + 4 * count)) n rest) (sym whole) (slots_lie new (at + (8 + 4 * count)) counts s.back s.second) in
@@ -90,7 +101,8 @@ module _ (new : ℕ → ℕ) (places old : List ℕ) (are : AreSlots old places)
   out = with_operands ops old
 
   lie : Lie 0 (length old) ops
-  lie = subst (λ (ps : List ℕ). Lie 0 (length old) (map (slot_op new) ps)) (sym are.2) (subst (λ (n : ℕ). Lie 0 n (map (slot_op new) (slot_places 0 are.0))) (let e : 0 + length old ≡ length old = omega arith in e) (slots_lie new 0 are.0 old are.1))
+  lie = subst (λ (ps : List ℕ). Lie 0 (length old) (map (slot_op new) ps)) (sym are.2) (subst (λ (n : ℕ). Lie 0 n (map (slot_op new) (slot_places 0 are.0)))
+      (let e : 0 + length old ≡ length old = omega arith in e) (slots_lie new 0 are.0 old are.1))
 
   ends : (o : Operand) → In o ops → o.at + o.width ≤ length old
   ends o there = (lies_within 0 (length old) ops lie o there).to

@@ -86,7 +86,8 @@ module _ (o : Options) (r : Run) (in_place : o.out ≡ None) where
   others x s [] e = tt
   others x s (n ∷ names) e =
       let both = neither (bytes_eq n x) (is_among names x) e in
-      others_append x (file_puts o r s n) (files_puts o r (suc s) names) (subst (AreOthers x) (sym (one_put s n)) (by (changes r.move r.units s) (other_way n x both.0))) (others x (suc s) names both.1) where
+      others_append x (file_puts o r s n) (files_puts o r (suc s) names) (subst (AreOthers x) (sym (one_put s n)) (by (changes r.move r.units s) (other_way n x both.0))) (others x
+      (suc s) names both.1) where
         by : (b : Bool) → bytes_eq x n ≡ false → AreOthers x (puts_by b None n (new s))
         by true d = (d, tt)
         by false d = tt
@@ -151,7 +152,8 @@ module _ (o : Options) (r : Run) (in_place : o.out ≡ None) where
     ]
 
     -- it is put first
-    behind : (c : List ℕ) → o.common ≡ Some c → is_among o.files c ≡ false → (k file : ℕ) (name : List ℕ) → Nth 0 o.files file name → Is (done (take k (put_of c (common_bytes r) ∷ puts)) store) file name
+    behind : (c : List ℕ) → o.common ≡ Some c → is_among o.files c ≡ false → (k file : ℕ) (name : List ℕ) → Nth 0 o.files file name
+        → Is (done (take k (put_of c (common_bytes r) ∷ puts)) store) file name
     behind c is free zero file name nth = inl (held file name nth)
     behind c is free (suc k) file name nth =
         let st = put_in c (common_bytes r) store in
@@ -178,7 +180,8 @@ module _ (o : Options) (r : Run) (in_place : o.out ≡ None) where
       by : (w : Option (List ℕ)) → o.common ≡ w → (b : Bool) → has_common r ≡ b → Goal (common_puts w r ++ puts)
       by None e b h = without (λ c is has. absurd (let z : None ≡ Some c = sym e ∙ is in cc)) k file name nth
       by (Some c) e true h =
-          let free : is_among o.files c ≡ false = not_false (is_among o.files c) (sym (ap (λ (w : Option (List ℕ)). option_map_or (λ common. not (is_among o.files common)) w true) e) ∙ fit.common_apart) in
+          let free : is_among o.files c ≡ false = not_false (is_among o.files c) (sym (ap (λ (w : Option (List ℕ)). option_map_or (λ common. not (is_among o.files common)) w true) e)
+          ∙ fit.common_apart) in
           subst (λ (t : Bool). Goal ((if t then put_of c (common_bytes r) ∷ [] else []) ++ puts)) (sym h) (behind c e free k file name nth)
       by (Some c) e false h =
           subst (λ (t : Bool). Goal ((if t then put_of c (common_bytes r) ∷ [] else []) ++ puts)) (sym h)

@@ -50,7 +50,8 @@ OneOutcomeLaw = (o : Options) (contents : List (List ℕ)) (a b : Outcome) → O
 abbrev pub ListsLaw : Type 0
 ListsLaw =
     (r : Run) (file : ℕ) (doc : Doc ℕ) → IsRead (r.input.bytes file) (r.input.raw file) (r.input.prunes file) doc
-    → AreRenumbered (places r) (tells r file) (lists_after r file) × ((new : List ℕ) → AreRenumbered (places r) (tells r file) new → new ≡ lists_after r file)
+    → AreRenumbered (places r) (tells r file) (lists_after r file) × ((new : List ℕ) → AreRenumbered (places r) (tells r file) new
+    → new ≡ lists_after r file)
 
 -- so it is with its address ranges
 abbrev pub RangesLaw : Type 0
@@ -61,21 +62,24 @@ RangesLaw =
 -- Where the files are written, what is written of them is made as is asked, so that it reads back.
 abbrev pub MadeLaw : Type 0
 MadeLaw =
-    (o : Options) (contents : List (List ℕ)) (docs : List (Doc ℕ)) (prunes : List Bool) → Each AreBytes contents → IsWritten o contents docs prunes
+    (o : Options) (contents : List (List ℕ)) (docs : List (Doc ℕ)) (prunes : List Bool) → Each AreBytes contents
+    → IsWritten o contents docs prunes
     → let r = run_for o contents docs prunes in AreMade r (file_after (sup_name o) r) (common_of o.common r)
 
 -- And so it reads back: it says the same as what was read, along images, and entries share an image exactly where they move and nothing
 -- tells them apart.
 abbrev pub ReadBackLaw : Type 0
 ReadBackLaw =
-    (o : Options) (contents : List (List ℕ)) (docs : List (Doc ℕ)) (prunes : List Bool) → Each AreBytes contents → IsWritten o contents docs prunes
+    (o : Options) (contents : List (List ℕ)) (docs : List (Doc ℕ)) (prunes : List Bool) → Each AreBytes contents
+    → IsWritten o contents docs prunes
     → let r = run_for o contents docs prunes in
     ReadBack (scope_of o) docs (rule_of o docs) (stored_of contents prunes) (file_after (sup_name o) r) (common_of o.common r)
 
 -- and the lengths of all of them together are numbers of 64 bits
 abbrev pub LengthsLaw : Type 0
 LengthsLaw =
-    (o : Options) (contents : List (List ℕ)) (docs : List (Doc ℕ)) (prunes : List Bool) → Each AreBytes contents → IsWritten o contents docs prunes
+    (o : Options) (contents : List (List ℕ)) (docs : List (Doc ℕ)) (prunes : List Bool) → Each AreBytes contents
+    → IsWritten o contents docs prunes
     → length o.files ≤ 256 → HasLengths (summary_of o (run_for o contents docs prunes))
 
 -- `.debug_sup` of the common file has its checksum; that of each file that imports from it has that checksum, and its name.
@@ -86,7 +90,8 @@ pub record AreTied (name : List ℕ) (r : Run) : Type 0 where
 
 abbrev pub TiedLaw : Type 0
 TiedLaw =
-    (o : Options) (contents : List (List ℕ)) (docs : List (Doc ℕ)) (prunes : List Bool) → Each AreBytes contents → IsWritten o contents docs prunes
+    (o : Options) (contents : List (List ℕ)) (docs : List (Doc ℕ)) (prunes : List Bool) → Each AreBytes contents
+    → IsWritten o contents docs prunes
     → NoZero (sup_name o) → AreTied (sup_name o) (run_for o contents docs prunes)
 
 -- Where the FILEs were got and read, and after the first puts of the output however many, each FILE is as it was, or as it is made.

@@ -26,7 +26,11 @@ use Rattle.dwz_out.specs.Refusals.{OutFault}
 -- the units of files as they are stored, as far as the files read
 unfoldable pub raws : Limits → List (List ℕ) → List (List RawUnit)
 raws l [] = []
-raws l (bytes ∷ files) = elim (file_meaning l bytes) as (λ _. List (List RawUnit)) [ Ok x ↦ x.0 ∷ raws (limits_after l bytes x.0) files | Err f ↦ [] ]
+raws l (bytes ∷ files) = elim (file_meaning l bytes) as (λ _. List (List RawUnit)) [
+  | Ok x ↦ x.0 ∷ raws
+      (limits_after l bytes x.0) files
+  | Err f ↦ []
+]
 
 -- contents as they are stored, with a flag for each file: whether it is prunable
 abbrev pub stored_of : List (List ℕ) → List Bool → Stored
@@ -109,7 +113,8 @@ new_length false bytes = None
 unfoldable pub summary_lines : Options → Run → ℕ → List (List ℕ) → List (List ℕ × ℕ × Option ℕ)
 summary_lines o r file [] = []
 summary_lines o r file (name ∷ names) =
-    (name, length (r.input.bytes file), new_length (changes r.move r.units file) (bytes_after (sup_name o) r file)) ∷ summary_lines o r (suc file) names
+    (name, length (r.input.bytes file), new_length (changes r.move r.units file) (bytes_after (sup_name o) r file)) ∷ summary_lines o r
+    (suc file) names
 
 abbrev pub common_length : Option (List ℕ) → Run → Option (List ℕ × ℕ)
 common_length None r = None

@@ -46,7 +46,8 @@ operands_of_entries s (Entry e children next) =
     operands_of_attrs s (without_siblings e.attrs) ++ (operands_of_entries s children ++ operands_of_entries s next)
 
 abbrev pub operands_of_unit : {P : Type 0} → Around P → RawUnit → List Operand
-operands_of_unit around u = operands_of_attrs (scope_of around u) (without_siblings u.root.attrs) ++ operands_of_entries (scope_of around u) u.below
+operands_of_unit around u = operands_of_attrs (scope_of around u) (without_siblings u.root.attrs) ++ operands_of_entries
+    (scope_of around u) u.below
 
 abbrev pub all_of_unit : ℕ → List Operand → List ListOperand
 all_of_unit unit [] = []
@@ -142,4 +143,5 @@ CommonRefusal r q = (has_common r ≡ true) × InFile (λ file. CommonFault r) r
 -- The first refusal of files that read: of the common file; or else of the sections of the files, in order; or else of the files
 -- themselves, in order. Of a file of which nothing moves there is none. The name is that of the common file.
 abbrev pub OutFault : List ℕ → Run → Refusal → Type 0
-OutFault name r = OrElse (CommonRefusal r) (OrElse (OfFirst (InFile (SectionsFault r)) r.files) (OfFirst (InFile (FileFault name r)) r.files))
+OutFault name r = OrElse (CommonRefusal r) (OrElse (OfFirst (InFile (SectionsFault r)) r.files) (OfFirst (InFile
+    (FileFault name r)) r.files))

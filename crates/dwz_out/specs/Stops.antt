@@ -16,4 +16,5 @@ pub record IsMade (o : Options) (r : Run) (now : Store) (file : ℕ) (name : Lis
 
 -- each FILE holds the bytes that were read, or it is made so
 abbrev pub AreOldOrMade : Options → Run → Store → Type 0
-AreOldOrMade o r now = (file : ℕ) (name : List ℕ) → Nth 0 o.files file name → (now name ≡ Some (r.input.bytes file)) ⊎ IsMade o r now file name
+AreOldOrMade o r now = (file : ℕ) (name : List ℕ) → Nth 0 o.files file name → (now name ≡ Some (r.input.bytes file))
+    ⊎ IsMade o r now file name

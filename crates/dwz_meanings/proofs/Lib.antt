@@ -31,4 +31,3 @@ mod ExprRows
 mod MeaningRows
 mod FileRows
 mod PatchRows
-mod SharedRows

@@ -24,3 +24,4 @@ pub mod ListGoes
 pub mod PartSteps
 pub mod LineSteps
 pub mod FewRefs
+mod SharedRows

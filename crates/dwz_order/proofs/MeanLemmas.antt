@@ -71,14 +71,19 @@ module _ {A B : Type 0} (p : A → Bool) (q : B → Bool) where
           | true ↦ closed (space_opened m n.space) (length (inner i)) (any i) ∷ (inner i ++ others i)
         ])
 
+-- names in place of places make no difference
+pub same_agree : (name : ℕ → Spot) (f : Entries ℕ) → Agree is_space is_space f (entries_map name f)
+unfolding entries_map
+same_agree name End = tt
+same_agree name (Entry d c x) = (ap (λ (o : _). is_some {T = List ℕ} o) (sym (text_map name d)), same_agree name c, same_agree name x)
+
 pub means_agree : (s : Scope ℕ) (name : ℕ → Spot) (f : Forest RawEntry) (g : Entries ℕ) → MeanEntries s f g → Agree stored_space is_space f (entries_map name g)
 unfolding entries_map
 means_agree s name End End h = tt
 means_agree s name End (Entry d c x) h = absurd h
 means_agree s name (Entry e c x) End h = absurd h
-means_agree s name (Entry e c x) (Entry d c' x') h =
-    (
-      space_means s e d h.0 ∙ ap (λ (o : _). is_some {T = List ℕ} o) (sym (text_map name d)),
-      means_agree s name c c' h.1,
-      means_agree s name x x' h.2,
-    )
+means_agree s name (Entry e c x) (Entry d c' x') h = (
+  space_means s e d h.0 ∙ ap (λ (o : _). is_some {T = List ℕ} o) (sym (text_map name d)),
+  means_agree s name c c' h.1,
+  means_agree s name x x' h.2,
+)

@@ -1,5 +1,5 @@
 -- The entries of a list, one after the other: what was appended, and what is left.
-use Rattle.std.proofs.Common.{◌≡◌, ℕ, suc, ◌+◌, ◌<◌, ◌≤◌, ◌^◌, Bool, true, false, List, [], ◌∷◌, ◌++◌, ◌||◌, ◌&&◌, length, Some, slice_get, refl, sym, ap, subst, ◌∙◌, arith}
+use Rattle.std.proofs.Common.{◌≡◌, ℕ, suc, ◌+◌, ◌-◌, ◌<◌, ◌≤◌, ◌^◌, Bool, true, false, List, [], ◌∷◌, ◌++◌, ◌||◌, ◌&&◌, length, Some, slice_get, refl, sym, ap, subst, ◌∙◌, arith}
 use Rattle.std.proofs.lemmas.List.{append-nil, append_assoc, length-append}
 use Rattle.dwz_docs.specs.Entries.{RawEntry}
 use Rattle.dwz_docs.specs.Trees.{End, Entry, Forest, size}
@@ -28,11 +28,12 @@ pub record Left (raw : List RawUnit) (end : ℕ) (m : Marks) (old new : List Out
 
 pub record Goes (raw : List RawUnit) (first end : ℕ) (m : Marks) (old new : List Outer) (from next : Next) (pinned : Bool) (entry : ℕ) : Type 0 where
   pub list : HasList raw entry end
+  pub low : first ≤ entry
   pub room : HasRoom next entry end
   pub rest : (list : Forest RawEntry) → IsList raw first end list → Left raw end m old new from next pinned entry list
 
 pub begins : (raw : List RawUnit) (first end : ℕ) (m : Marks) (old : List Outer) (from : Next) → HasList raw first end → HasRoom from first end → Goes raw first end m old old from from false first
-begins raw first end m old from has room = record { list = has; room = room; rest = λ list is. record { left = list; is = is; outers = refl; behind = refl; any = refl } }
+begins raw first end m old from has room = record { list = has; low = omega arith; room = room; rest = λ list is. record { left = list; is = is; outers = refl; behind = refl; any = refl } }
 
 module _ (raw : List RawUnit) (first end : ℕ) (m : Marks) (old new : List Outer) (from next : Next) (pinned : Bool) (entry : ℕ) (g : Goes raw first end m old new from next pinned entry) where
   pub nothing_left : end ≤ entry → (list : Forest RawEntry) → IsList raw first end list
@@ -45,12 +46,11 @@ module _ (raw : List RawUnit) (first end : ℕ) (m : Marks) (old new : List Oute
     by : (left : Forest RawEntry) → IsList raw entry end left → new ++ outers_in stored_space m next left ≡ old ++ outers_in stored_space m from list
         → behind_list stored_space left next ≡ behind_list stored_space list from → (pinned || pinned_in stored_space m next left) ≡ pinned_in stored_space m from list
         → (new ≡ old ++ outers_in stored_space m from list) × (next ≡ behind_list stored_space list from) × (pinned ≡ pinned_in stored_space m from list)
-    by End is e b a =
-        (
-          sym (append-nil new) ∙ e,
-          (let same : next ≡ behind_list stored_space End next = (λ i. record { top = none next.top i; space = none next.space i }) in same ∙ b),
-          sym (or_none pinned) ∙ a,
-        )
+    by End is e b a = (
+      sym (append-nil new) ∙ e,
+      (let same : next ≡ behind_list stored_space End next = (λ i. record { top = none next.top i; space = none next.space i }) in same ∙ b),
+      sym (or_none pinned) ∙ a,
+    )
     by (Entry d c n) is e b a = absurd (let z = is.ends in omega arith)
 
   -- an entry is no space just where the test says so
@@ -63,10 +63,12 @@ module _ (raw : List RawUnit) (first end : ℕ) (m : Marks) (old new : List Oute
     with_top put after found any is put_is after_is found_is any_is =
         let h = next_list raw entry end x g.list lt shown in
         let less = h.2 in
+        let low = g.low in
         let tops = g.room.tops in
         let spaces = g.room.spaces in
         record {
           list = h.1;
+          low = omega arith;
           room = subst (λ (w : Next). HasRoom w x.end end) (sym after_is) (record { tops = omega arith; spaces = omega arith });
           rest = λ list are. (let l = g.rest list are in by list l.left l.is l.outers l.behind l.any);
         } where
@@ -130,12 +132,15 @@ module _ (raw : List RawUnit) (first end : ℕ) (m : Marks) (old new : List Oute
         let s = some_entry raw entry end g.list lt in
         let n = list_next raw entry end x s.entry s.children s.next s.is shown in
         let to = n.ends in
+        let on = h.2 in
+        let low = g.low in
         let less = few stored_space s.children in
         let tops = g.room.tops in
         let spaces = g.room.spaces in
         let same : after ≡ behind_list stored_space s.children (behind_space next) = w.after_is s.children n.children_are ∙ ap (behind_list stored_space s.children) w.inside_is in
         record {
           list = h.1;
+          low = omega arith;
           room = subst (λ (v : Next). HasRoom v x.end end) (sym same) (record { tops = omega arith; spaces = omega arith });
           rest = λ list are. (let l = g.rest list are in by list l.left l.is l.outers l.behind l.any);
         } where
@@ -169,3 +174,13 @@ module _ (raw : List RawUnit) (first end : ℕ) (m : Marks) (old new : List Oute
                     ∙ ap (λ (v : Bool). pinned || v) (sym (pinned_space stored_space m d c n next space))
                     ∙ a;
               }
+
+-- no more were appended than there are entries
+pub long_enough : (raw : List RawUnit) (first end : ℕ) (m : Marks) (old new : List Outer) (from : Next) → HasList raw first end → ((list : Forest RawEntry) → IsList raw first end list → new ≡ old ++ outers_in stored_space m from list) → length new + first ≤ length old + end
+long_enough raw first end m old new from has put =
+    let to = has.is.ends in
+    let same = ap (λ (w : List Outer). length w) (put has.list has.is) in
+    let long = length-append old (outers_in stored_space m from has.list) in
+    let count = many stored_space m from has.list in
+    let less = few stored_space has.list in
+    omega arith

@@ -155,8 +155,7 @@ module _ (file unit : ℕ) (tongue : Option ℤ) where
           let long = length-append in_it behind in
           let within : length in_it ≤ length (in_it ++ behind) = omega arith in
           let marked : (flag_at m.spaces.now n.space || any) ≡ (v.pinned.space e.at || row_pinned v.pinned (row_staying v.gone inner)) = (λ i. own.marks i || a.pinned i) in
-          let one : ShowsRow v (ASpace e inner next) (first ∷ (in_it ++ behind)) =
-          (
+          let one : ShowsRow v (ASpace e inner next) (first ∷ (in_it ++ behind)) = (
             record { number = n.space; what = refl; node = own.names; stays = refl; pinned = marked },
             within,
             subst (ShowsRow v inner) (sym (take_at in_it behind (length in_it) refl)) a.row,

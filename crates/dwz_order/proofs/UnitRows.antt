@@ -11,7 +11,7 @@ use Rattle.dwz_order.specs.Spaces.{Numbered, spaces_below, spaces_of}
 use Rattle.dwz_order.proofs.RowLemmas.{numbered_split}
 
 -- how many tops units have
-pub tops_in : List (FileUnit Spot) → ℕ
+unfoldable pub tops_in : List (FileUnit Spot) → ℕ
 tops_in [] = 0
 tops_in (f ∷ units) = top_count f.unit.kind f.unit.below + tops_in units
 

@@ -55,7 +55,7 @@ abbrev pub Numbers : Type 0
 Numbers = BTreeMap ℕ ℕ
 
 pub record IsNumberUnder (old new : Numbers) (key fresh number : ℕ) : Type 0 where
-  pub number : IsNumberBy (get nat_cmp old key) fresh number
+  pub is : IsNumberBy (get nat_cmp old key) fresh number
   pub under : get nat_cmp new key ≡ Some number
   pub others : (k : ℕ) → (k ≡ key → ⊥) → get nat_cmp new k ≡ get nat_cmp old k
 

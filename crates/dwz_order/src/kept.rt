@@ -16,7 +16,7 @@ use dwz_model::{DwzList, NoMemory};
 use dwz_places::UnitItems;
 use dwz_plan::Plan;
 use dwz_resolve::Sections;
-use dwz_unit::{RawUnit, Units};
+use dwz_unit::{RawUnit as RawUnitOfCode, Units};
 use std::alloc::Global;
 
 /// A file of which something moves: its number, its sections and its units, and the numbers of its first unit and of its first entry
@@ -38,7 +38,7 @@ fn put_unit(
     units: &Units,
     marks: &Marks,
     n: u32,
-    unit: &RawUnit,
+    unit: &RawUnitOfCode,
     imports: &[u32],
 ) -> Result<(), NoMemory>
     requires shown { slice_get (shown_units (units_of units.now)) n ≡ Some unit.now }
@@ -110,6 +110,7 @@ pub(crate) fn put_units(
 ) -> Result<(), NoMemory>
     requires few { source.now.start + entries_in (units_of source.now.units.now) < 2 ^ 31 }
     requires room { HasRoom from.now 0 (entries_in (units_of source.now.units.now)) }
+    requires few_units { source.now.unit + length (units_of source.now.units.now) < 2 ^ 32 }
     requires imports { source.now.unit + length (units_of source.now.units.now) ≤ length plan.now.imports }
     ensures { OnOk result (PutsKept (units_of source.now.units.now) marks.now (imports_at plan.now) (from_source source.now) from.now order.old.items order.new.items) }
 {

@@ -7,8 +7,6 @@ mod outline;
 mod parts;
 mod sorts;
 mod spaces;
-#[cfg(test)]
-mod tests;
 
 pub use marks::{Marks, TopMark, marks_of};
 pub use outline::Next;

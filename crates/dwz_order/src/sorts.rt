@@ -9,13 +9,13 @@ use dwz_expr::Operand;
 use dwz_model::Base;
 use dwz_places::{Row, Sort};
 use dwz_resolve::{Sections, entry_of, here_of};
-use dwz_unit::{RawUnit, Units};
+use dwz_unit::{RawUnit as RawUnitOfCode, Units};
 
 // `DW_UT_compile` (DWARF 5, 7.5.1).
 pub(crate) const COMPILE_UNIT: u8 = 1;
 
 // The number of the entry that describes the type of a type unit; that of its root, where there is no such entry.
-fn main_of(units: &Units, sections: &Sections, n: u32, unit: &RawUnit) -> u32
+fn main_of(units: &Units, sections: &Sections, n: u32, unit: &RawUnitOfCode) -> u32
     requires shown { slice_get (shown_units (units_of units.now)) n ≡ Some unit.now }
     requires there { unit.now.first < entries_in (units_of units.now) }
     ensures within { result < entries_in (units_of units.now) }
@@ -42,7 +42,7 @@ pub(crate) fn sort_of(
     file: u32,
     start: u32,
     n: u32,
-    unit: &RawUnit,
+    unit: &RawUnitOfCode,
 ) -> Sort
     requires shown { slice_get (shown_units (units_of units.now)) n ≡ Some unit.now }
     requires there { unit.now.first < entries_in (units_of units.now) }

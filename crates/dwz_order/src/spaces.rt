@@ -85,11 +85,7 @@ pub(crate) fn number_lists(
 }
 
 // Appends what spaces the tops of a file stand in.
-fn push_tops(
-    of_tops: &mut Vec<TopSpaces>,
-    lists: &[u32],
-    tops: &[TopEntry],
-) -> Result<(), NoMemory>
+fn push_tops(of_tops: &mut Vec<TopSpaces>, lists: &[u32], tops: &[TopEntry]) -> Result<(), NoMemory>
     ensures { OnOk result (of_tops.new.items ≡ of_tops.old.items ++ map (spaces_at lists.now) tops.now) }
 {
     for top in tops {

@@ -1,9 +1,0 @@
-//! Orders of small files.
-
-use std::test::Fail;
-
-#[test]
-fn nothing(rt: HostRuntime) -> Result<(), Fail> {
-    assert_eq!(rt; 1, 1);
-    Ok(())
-}

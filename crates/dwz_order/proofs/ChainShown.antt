@@ -1,12 +1,12 @@
 -- Rows of spaces lead from each top out to the spaces that it stands in.
-use Rattle.std.proofs.Common.{◌≡◌, ℕ, ℤ, zero, suc, ◌+◌, Bool, true, false, List, [], ◌∷◌, ◌++◌, length, map, drop, Option, Some, None, slice_get, refl, sym, ap, subst, ◌∙◌, arith}
+use Rattle.std.proofs.Common.{◌≡◌, ℕ, ℤ, zero, suc, ◌+◌, true, false, List, [], ◌∷◌, ◌++◌, length, map, drop, Option, Some, None, slice_get, refl, sym, ap, subst, ◌∙◌, arith}
 use Rattle.std.specs.Option.{is_some}
-use Rattle.std.proofs.lemmas.List.{append_assoc, drop_all, drop_at, length-append}
+use Rattle.std.proofs.lemmas.List.{append_assoc, drop_all, drop_at}
 use Rattle.dwz_docs.specs.Trees.{End, Entry, size}
-use Rattle.dwz_meanings.specs.Documents.{Compile, DwUnit, Entries, Kind, Node, OfType, Partial, entries_map, kind_map, language, node_map, unit_map}
+use Rattle.dwz_meanings.specs.Documents.{Entries, Node, entries_map, node_map}
 use Rattle.dwz_seen.specs.Spaces.{space_text, tops_under}
 use Rattle.dwz_seen.proofs.SpaceLemmas.{text_map}
-use Rattle.dwz_alike.specs.Spots.{ASpace, ATop, FileUnit, Row, SpaceName, Spot, Top, in_file, name_of, row_below, row_in, row_tops, top_count, tops_from}
+use Rattle.dwz_alike.specs.Spots.{Row, SpaceName, Spot, name_of, row_in, row_tops}
 use Rattle.dwz_index.specs.declared.index.SpaceEntry.{SpaceEntry}
 use Rattle.dwz_index.specs.declared.index.TopEntry.{TopEntry}
 use Rattle.dwz_index.specs.Steps.{is_space, space_entry, spaces_among, spaces_by, top_entry, tops_among}
@@ -14,16 +14,12 @@ use Rattle.dwz_index.proofs.AmongLemmas.{spaces_many, spaces_space, spaces_top, 
 use Rattle.dwz_layout.specs.declared.partial.SpaceRow.{SpaceRow}
 use Rattle.dwz_layout.specs.Chains.{Up, down}
 use Rattle.dwz_order.specs.Lists.{row_from, rows_from}
-use Rattle.dwz_order.specs.Spaces.{Numbered, name_by, name_in, spaces_under}
+use Rattle.dwz_order.specs.Shown.{LeadsUp, Pairs, RowsFrom, SaidIs}
+use Rattle.dwz_order.specs.Spaces.{Numbered, name_by, spaces_under}
 use Rattle.dwz_order.proofs.MeanLemmas.{same_agree, spaces_agree}
 use Rattle.dwz_order.proofs.RowLemmas.{numbered_split, row_space, row_top, spaces_counted, under_space, under_top}
 
 -- ---- lists in step
-
-abbrev pub Pairs : {X Y : Type 0} → (X → Y → Type 0) → List X → List Y → Type 0
-Pairs R [] [] = Unit {0}
-Pairs R (x ∷ xs) (y ∷ ys) = R x y × Pairs R xs ys
-Pairs R _ _ = ⊥
 
 pub pairs_append : {X Y : Type 0} (R : X → Y → Type 0) (xs us : List X) (ys vs : List Y) → Pairs R xs ys → Pairs R us vs → Pairs R (xs ++ us) (ys ++ vs)
 pairs_append R [] us [] vs h k = k
@@ -74,21 +70,6 @@ from_more [] (suc i) j = drop_all (suc i + j) [] (omega arith) ∙ sym (drop_all
 from_more (x ∷ xs) (suc i) j = (let e : suc i + j ≡ suc (i + j) = omega arith in ap (λ (n : ℕ). drop n (x ∷ xs)) e ∙ from_more xs i j)
 
 -- ---- what leads to spaces
-
--- each space has that name
-abbrev pub SaidIs : (ℕ → SpaceName) → ℕ → Node Spot → Type 0
-SaidIs said k e = said k ≡ name_in (Some e)
-
--- what is kept of a top leads out to the spaces that it stands in
-pub record LeadsUp (rows : List SpaceRow) (said : ℕ → SpaceName) (x : TopEntry) (t : Top) : Type 0 where
-  pub ups : List ℕ
-  pub up : Up rows x.inner ups
-  pub spaces : t.spaces ≡ map said (down ups)
-
--- from that number on the rows are those of these spaces
-pub record RowsFrom (rows : List SpaceRow) (k : ℕ) (spaces : List SpaceEntry) : Type 0 where
-  pub after : List SpaceRow
-  pub rest : drop k rows ≡ rows_from k spaces ++ after
 
 pub rows_parted : (rows : List SpaceRow) (k n : ℕ) (xs ys : List SpaceEntry) → length xs ≡ n → RowsFrom rows k (xs ++ ys) → RowsFrom rows k xs × RowsFrom rows (k + n) ys
 rows_parted rows k n xs ys long h =

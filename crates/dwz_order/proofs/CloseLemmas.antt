@@ -1,5 +1,5 @@
 -- A space that is closed.
-use Rattle.std.proofs.Common.{◌≡◌, ℕ, ◌+◌, ◌-◌, Bool, List, ◌∷◌, ◌++◌, ◌||◌, length, get_or, slice_set, refl, sym, ap, subst, ◌∙◌, arith}
+use Rattle.std.proofs.Common.{◌≡◌, ℕ, ◌-◌, Bool, List, ◌∷◌, ◌++◌, ◌||◌, length, get_or, slice_set, sym, ap, ◌∙◌, arith}
 use Rattle.std.proofs.lemmas.List.{get_or_at, length-append, set_at}
 use Rattle.dwz_layout.specs.declared.order.Outer.{Outer}
 use Rattle.dwz_order.specs.Outline.{closed}

@@ -1,20 +1,17 @@
 -- The tops of a file, and of several, in step with what is kept of them.
-use Rattle.std.proofs.Common.{◌≡◌, ℕ, suc, ◌+◌, Bool, true, false, List, [], ◌∷◌, ◌++◌, length, map, drop, refl, sym, ap, subst, ◌∙◌, arith}
-use Rattle.std.proofs.lemmas.List.{length-append}
-use Rattle.std.specs.List.{flat_map}
-use Rattle.dwz_docs.specs.Trees.{End, size}
-use Rattle.dwz_meanings.specs.Documents.{Compile, Doc, DwUnit, Entries, Kind, Node, OfType, Partial, entries_map, kind_map, language, node_map, unit_map}
-use Rattle.dwz_alike.specs.Spots.{FileUnit, SpaceName, Spot, Top, in_file, row_below, row_tops, top_count, tops_from}
+use Rattle.std.proofs.Common.{◌≡◌, ℕ, suc, ◌+◌, Bool, true, false, List, [], ◌∷◌, length, map, refl, sym, ap, subst, ◌∙◌, arith}
+use Rattle.dwz_docs.specs.Trees.{size}
+use Rattle.dwz_meanings.specs.Documents.{Compile, DwUnit, Kind, Node, OfType, Partial, entries_map, kind_map, language, unit_map}
+use Rattle.dwz_alike.specs.Spots.{SpaceName, Spot, Top, in_file, row_below, row_tops, top_count, tops_from}
 use Rattle.dwz_alike.proofs.NameLists.{count_map}
-use Rattle.dwz_index.specs.declared.index.SpaceEntry.{SpaceEntry}
 use Rattle.dwz_index.specs.declared.index.Starts.{Starts}
-use Rattle.dwz_index.specs.declared.index.TopEntry.{TopEntry}
-use Rattle.dwz_index.specs.Steps.{Below, all_spaces, all_tops, below_root, is_compile, is_space, space_entries, spaces_by, spaces_of_list, starts_behind, top_entries, tops_by, tops_of_list}
+use Rattle.dwz_index.specs.Steps.{Below, all_spaces, all_tops, below_root, is_compile, is_space, space_entries, spaces_of_list, starts_behind, top_entries, tops_of_list}
 use Rattle.dwz_index.proofs.AmongLemmas.{spaces_many}
 use Rattle.dwz_layout.specs.declared.partial.SpaceRow.{SpaceRow}
-use Rattle.dwz_layout.specs.Chains.{Up, down}
-use Rattle.dwz_order.specs.Spaces.{Numbered, spaces_below, spaces_of, spaces_under}
-use Rattle.dwz_order.proofs.ChainShown.{LeadsUp, Pairs, RowsFrom, SaidIs, chain, pairs_append, rows_parted, under_many}
+use Rattle.dwz_layout.specs.Chains.{down}
+use Rattle.dwz_order.specs.Shown.{LeadsUp, Pairs, RowsFrom, SaidIs}
+use Rattle.dwz_order.specs.Spaces.{Numbered, spaces_below, spaces_of}
+use Rattle.dwz_order.proofs.ChainShown.{chain, pairs_append, rows_parted, under_many}
 use Rattle.dwz_order.proofs.RowLemmas.{numbered_split, tops_counted}
 
 -- how many tops and spaces a unit has

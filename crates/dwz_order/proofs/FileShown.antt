@@ -1,31 +1,25 @@
 -- What is written of the old units of a file, one by one, shows the units after.
-use Rattle.std.proofs.Common.{◌≡◌, ℕ, suc, ◌+◌, ◌<◌, Bool, true, false, List, [], ◌∷◌, ◌++◌, length, map, drop, Some, slice_get, refl, sym, ap, subst, ◌∙◌, arith}
+use Rattle.std.proofs.Common.{◌≡◌, ℕ, suc, ◌+◌, ◌<◌, true, List, [], ◌∷◌, ◌++◌, length, drop, Some, slice_get, refl, sym, ap, subst, ◌∙◌, arith}
 use Rattle.std.proofs.lemmas.List.{append_assoc, drop_at, length-append}
-use Rattle.dwz_docs.specs.Entries.{RawEntry}
-use Rattle.dwz_docs.specs.Lists.{has}
-use Rattle.dwz_docs.specs.Trees.{size}
 use Rattle.dwz_docs.specs.Units.{CompileUnit, PartialUnit, RawKind, RawUnit, TypeUnit, entries_in, entry_count}
 use Rattle.dwz_meanings.specs.Documents.{Compile, DwUnit, Entries, Kind, Node, OfType, Partial, entries_map, kind_map, unit_map}
-use Rattle.dwz_meanings.specs.Meanings.{Around, In, MeanEntries, MeanUnits, MeansKind, MeansUnit, places_of, scope_of}
+use Rattle.dwz_meanings.specs.Meanings.{Around, MeanUnits, MeansKind, MeansUnit, places_of, scope_of}
 use Rattle.dwz_seen.specs.Lists.{Each}
 use Rattle.dwz_seen.proofs.Members.{in_has}
 use Rattle.dwz_seen.specs.Seen.{IsPartial}
-use Rattle.dwz_seen.specs.Spaces.{tops_under}
 use Rattle.dwz_alike.specs.Spots.{FileUnit, RootOf, Spot, in_file, top_count}
-use Rattle.dwz_alike.proofs.NameLists.{count_map}
 use Rattle.dwz_index.specs.Names.{names_from}
 use Rattle.dwz_index.specs.Spaces.{stored_space}
-use Rattle.dwz_index.specs.Steps.{is_space, spaces_by, tops_by}
+use Rattle.dwz_index.specs.Steps.{is_space}
 use Rattle.dwz_index.proofs.ListLemmas.{drop_first, drop_more}
 use Rattle.dwz_index.proofs.ListMeans.{means_size}
 use Rattle.dwz_index.proofs.ShowLemmas.{unit_many, unit_names}
 use Rattle.dwz_layout.specs.Order.{Names, ShowsUnit}
 use Rattle.dwz_layout.specs.Shows.{NamesKept}
-use Rattle.dwz_layout.specs.declared.order.Item.{Item}
 use Rattle.dwz_moving.specs.Moves.{Move, image_in}
 use Rattle.dwz_moving.specs.Plan.{imports}
 use Rattle.dwz_places.specs.declared.order.Sort.{Sort}
-use Rattle.dwz_places.specs.declared.order.Sort.TheVariants.{Compile as CompileSort, OfType as TypeSort}
+use Rattle.dwz_places.specs.declared.order.Sort.TheVariants.{OfType as TypeSort}
 use Rattle.dwz_places.specs.declared.order.UnitItems.{UnitItems}
 use Rattle.dwz_plan.specs.Shows.{import_row}
 use Rattle.dwz_resolve.specs.Resolved.{place_at}
@@ -35,24 +29,19 @@ use Rattle.dwz_order.specs.declared.outline.Next.{Next}
 use Rattle.dwz_order.specs.Kept.{AreKept, From, IsKept, IsWhole, UnitKept, behind_from, behind_kind, behind_unit}
 use Rattle.dwz_order.specs.Named.{MarksAll, NamesAll}
 use Rattle.dwz_order.specs.Orders.{Entered, IsNamed, ShowsKept, ShowsSort}
-use Rattle.dwz_order.specs.Sorts.{IsMainOf, SortBy, SortOf, row_of}
-use Rattle.dwz_order.specs.Spaces.{spaces_below, spaces_of, spaces_under}
+use Rattle.dwz_order.specs.Shown.{IsNext, IsWholeUnit, NamesFile, named_units, tops_in}
+use Rattle.dwz_order.specs.Sorts.{SortBy, SortOf, row_of}
+use Rattle.dwz_order.specs.Spaces.{spaces_of, spaces_under}
 use Rattle.dwz_order.proofs.MeanLemmas.{Agree, means_agree, spaces_agree, tops_agree}
 use Rattle.dwz_order.proofs.RowLemmas.{spaces_counted, tops_counted}
-use Rattle.dwz_order.proofs.UnitRows.{spaces_append, tops_append, tops_in}
-use Rattle.dwz_order.proofs.UnitShown.{IsNext, compile_shown, whole_shown}
+use Rattle.dwz_order.proofs.UnitRows.{spaces_append, tops_append}
+use Rattle.dwz_order.proofs.UnitShown.{compile_shown, whole_shown}
 
 -- each unit, the first of which has that number, is written so
 abbrev pub EachKept : Entered → Move → List (FileUnit Spot) → ℕ → List (FileUnit Spot) → List UnitItems → Type 0
 EachKept e m all i [] [] = Unit {0}
 EachKept e m all i (f ∷ units) (o ∷ order) = ShowsKept e m all i f o × EachKept e m all (suc i) units order
 EachKept e m all i _ _ = ⊥
-
-abbrev pub IsWholeUnit : DwUnit ℕ → Type 0
-IsWholeUnit v = IsPartial v.kind → ⊥
-
-abbrev pub named_units : (file : ℕ) → (ℕ → Spot) → List (DwUnit ℕ) → List (FileUnit Spot)
-named_units file name said = map (in_file file) (map (unit_map name) said)
 
 -- ---- the next top and the next space
 
@@ -103,12 +92,6 @@ next_behind around name before file u v next means is = by u.kind v.kind means.k
       subst (λ (w : Kind ℕ). IsNext (before ++ added (kind_map name w)) next) (sym e) here
 
 -- ---- sorts
-
--- the names of the entries of a file: those of its units from one on are left behind so many entries, and each entry has the name of its place
-pub record NamesFile (e : Entered) (file start : ℕ) (name : ℕ → Spot) (raw : List RawUnit) (first unit top : ℕ) (said : List (DwUnit ℕ)) : Type 0 where
-  pub begins : e.start file ≡ start
-  pub rest : drop first (e.names file) ≡ names_from unit top said
-  pub each : (entry : ℕ) → entry < entries_in raw → IsNamed e file entry (name (place_at raw entry))
 
 names_next : (around : Around ℕ) (e : Entered) (file start : ℕ) (name : ℕ → Spot) (all : List RawUnit) (first unit top : ℕ) (u : RawUnit) (v : DwUnit ℕ) (said : List (DwUnit ℕ)) → MeansUnit around u v → IsWholeUnit v
     → NamesFile e file start name all first unit top (v ∷ said)

@@ -1,10 +1,8 @@
 -- The old units of a file, one after the other: what was appended, and what is left.
-use Rattle.std.proofs.Common.{◌≡◌, ℕ, zero, suc, ◌+◌, ◌<◌, ◌≤◌, ◌^◌, List, [], ◌∷◌, ◌++◌, length, drop, Some, slice_get, refl, sym, ap, subst, ◌∙◌, arith}
+use Rattle.std.proofs.Common.{◌≡◌, ℕ, zero, suc, ◌+◌, ◌<◌, ◌≤◌, List, [], ◌∷◌, ◌++◌, length, drop, Some, slice_get, refl, sym, ap, subst, ◌∙◌, arith}
 use Rattle.std.proofs.lemmas.List.{append-nil, append_assoc, drop_all}
-use Rattle.dwz_docs.specs.Trees.{size}
 use Rattle.dwz_docs.specs.Units.{CompileUnit, PartialUnit, RawKind, RawUnit, TypeUnit, entries_in, entry_count}
 use Rattle.dwz_index.specs.Spaces.{stored_space}
-use Rattle.dwz_index.specs.Steps.{spaces_by, tops_by}
 use Rattle.dwz_places.specs.declared.order.UnitItems.{UnitItems}
 use Rattle.dwz_resolve.proofs.RowLemmas.{drop_here}
 use Rattle.dwz_resolve.proofs.UnitThere.{unit_there}
@@ -13,7 +11,7 @@ use Rattle.dwz_unit.specs.Rows.{shown_from, shown_units, unit_shown}
 use Rattle.dwz_order.specs.declared.marks.Marks.{Marks}
 use Rattle.dwz_order.specs.declared.outline.Next.{Next}
 use Rattle.dwz_order.specs.Kept.{AreKept, From, PutsKept, UnitKept, behind_from, behind_kind, behind_unit}
-use Rattle.dwz_order.specs.Outline.{HasRoom, behind_list}
+use Rattle.dwz_order.specs.Outline.{HasRoom}
 use Rattle.dwz_order.proofs.OutlineLemmas.{few}
 
 abbrev pub from_at : From → (n first : ℕ) → From

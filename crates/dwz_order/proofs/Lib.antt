@@ -16,3 +16,4 @@ pub mod PartShown
 pub mod PairLemmas
 pub mod UnitKinds
 pub mod KeptSteps
+pub mod AllShown

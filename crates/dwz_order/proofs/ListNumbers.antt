@@ -1,12 +1,12 @@
 -- Name lists get their numbers one after the other: each new list the next one.
-use Rattle.std.proofs.Common.{◌≡◌, ◌⊎◌, ◌↔◌, ℕ, zero, suc, ◌+◌, ◌*◌, ◌^◌, ◌<◌, ◌≤◌, List, [], ◌∷◌, ◌++◌, length, map, get_or, Option, Some, None, slice_get, slice_index, inl, inr, refl, sym, ap, subst, ◌∙◌, arith}
+use Rattle.std.proofs.Common.{◌≡◌, ◌⊎◌, ℕ, zero, suc, ◌+◌, ◌*◌, ◌^◌, ◌<◌, ◌≤◌, List, [], ◌∷◌, ◌++◌, length, get_or, Option, Some, None, slice_get, slice_index, inl, inr, refl, sym, ap, subst, ◌∙◌, arith}
 use Rattle.std.proofs.lemmas.Bool.Decides.{eqb_tells}
 use Rattle.std.proofs.lemmas.List.{get_or_append_left, get_or_push, length-append}
 use Rattle.std.specs.Ordering.{nat_cmp}
 use Rattle.std.specs.BTreeMap.{get}
 use Rattle.dwz_layout.specs.declared.partial.SpaceRow.{SpaceRow}
 use Rattle.dwz_layout.specs.Chains.{IsRising}
-use Rattle.dwz_order.specs.Lists.{AreLists, IsNumberBy, IsNumberUnder, Numbers, SameList, list_above, outer_at}
+use Rattle.dwz_order.specs.Lists.{AreLists, IsNumberBy, IsNumberUnder, Numbers, list_above, outer_at}
 
 abbrev pub Fits : List ℕ → Type 0
 Fits texts = (k : ℕ) → slice_index texts k < 2 ^ 32

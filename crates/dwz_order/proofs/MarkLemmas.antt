@@ -1,12 +1,11 @@
 -- What is known of the first tops.
-use Rattle.std.proofs.Common.{◌≡◌, ℕ, zero, suc, ◌+◌, ◌<◌, List, [], ◌∷◌, ◌++◌, length, get_or, slice_index_or, inl, inr, refl, sym, ap, ◌∙◌, arith}
+use Rattle.std.proofs.Common.{◌≡◌, ℕ, zero, suc, ◌+◌, ◌<◌, List, [], ◌∷◌, ◌++◌, length, get_or, inl, inr, sym, ap, ◌∙◌, arith}
 use Rattle.std.proofs.lemmas.Bool.Decides.{eqb_tells}
 use Rattle.std.proofs.lemmas.List.{get_or_append_left, get_or_push, length-append}
 use Rattle.dwz_groups.specs.declared.tops.TopRow.{TopRow}
 use Rattle.dwz_plan.specs.declared.plan.Home.{Home}
-use Rattle.dwz_plan.specs.declared.plan.Home.TheVariants.{Stay}
 use Rattle.dwz_order.specs.declared.marks.TopMark.{TopMark}
-use Rattle.dwz_order.specs.Marks.{mark_at, mark_of, no_mark, pinned_row, stays_in}
+use Rattle.dwz_order.specs.Marks.{mark_at, mark_of, no_mark, pinned_row}
 
 -- of the first n
 pub record AreMarks (rows : List TopRow) (homes : List Home) (n : ℕ) (marks : List TopMark) : Type 0 where

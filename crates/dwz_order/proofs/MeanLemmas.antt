@@ -1,9 +1,9 @@
 -- What is written down of a list that was read is what is of the entries that it means, with names in place of places.
-use Rattle.std.proofs.Common.{◌≡◌, ℕ, suc, ◌+◌, Bool, true, false, List, [], ◌∷◌, ◌++◌, ◌||◌, ◌&&◌, length, refl, sym, ap, ◌∙◌}
+use Rattle.std.proofs.Common.{◌≡◌, ℕ, suc, ◌+◌, Bool, true, false, List, ◌∷◌, ◌++◌, ◌||◌, ◌&&◌, length, refl, sym, ap, ◌∙◌}
 use Rattle.std.specs.Option.{is_some}
 use Rattle.dwz_docs.specs.Entries.{RawEntry}
 use Rattle.dwz_docs.specs.Trees.{End, Entry, Forest}
-use Rattle.dwz_meanings.specs.Documents.{Entries, entries_map, node_map}
+use Rattle.dwz_meanings.specs.Documents.{Entries, entries_map}
 use Rattle.dwz_meanings.specs.Meanings.{MeanEntries, Scope}
 use Rattle.dwz_seen.proofs.SpaceLemmas.{text_map}
 use Rattle.dwz_alike.specs.Spots.{Spot}

@@ -1,5 +1,5 @@
 -- The numbers of name lists are equal just where the lists are.
-use Rattle.std.proofs.Common.{◌≡◌, ◌↔◌, ℕ, zero, suc, ◌+◌, ◌<◌, Bool, true, false, List, [], ◌∷◌, ◌++◌, length, map, Some, slice_get, slice_index, ◌==◌, refl, sym, ap, subst, ◌∙◌, arith}
+use Rattle.std.proofs.Common.{◌≡◌, ◌↔◌, ℕ, zero, suc, ◌+◌, ◌<◌, Bool, true, false, List, [], ◌∷◌, ◌++◌, length, map, Some, slice_get, slice_index, ◌==◌, refl, sym, ap, ◌∙◌, arith}
 use Rattle.std.proofs.lemmas.Bool.{eq-eqb, eqb-true}
 use Rattle.std.proofs.lemmas.List.{length-append}
 use Rattle.dwz_alike.specs.Spots.{SpaceName, Top, name_list}
@@ -8,11 +8,9 @@ use Rattle.dwz_moving.proofs.RowParts.{names_same, names_true}
 use Rattle.dwz_layout.specs.declared.partial.SpaceRow.{SpaceRow}
 use Rattle.dwz_layout.specs.Chains.{Up, down}
 use Rattle.dwz_order.specs.Lists.{AreLists, SameList, list_above, outer_at}
+use Rattle.dwz_order.specs.Shown.{AreOwn, NumbersTexts, text_of}
 
 -- ---- names from a root down
-
-abbrev pub text_of : SpaceName → List ℕ
-text_of s = s.text
 
 abbrev pub texts_down : (ℕ → SpaceName) → List ℕ → List (List ℕ)
 texts_down said ups = map text_of (map said (down ups))
@@ -38,14 +36,6 @@ last_same {X} (a ∷ xs) (b ∷ ys) x y e =
     ((λ i. head i ∷ rest.0 i), rest.1)
 
 -- ---- numbers
-
--- equal texts alone have one number
-pub record NumbersTexts (rows : List SpaceRow) (said : ℕ → SpaceName) (texts : List ℕ) : Type 0 where
-  pub same : (j k : ℕ) → j < length rows → k < length rows → (slice_index texts j ≡ slice_index texts k) ↔ (text_of (said j) ≡ text_of (said k))
-
--- each row is of the space with its number
-abbrev pub AreOwn : List SpaceRow → Type 0
-AreOwn rows = (k : ℕ) (row : SpaceRow) → slice_get rows k ≡ Some row → row.space ≡ k
 
 outer_found : (rows : List SpaceRow) (k : ℕ) (row : SpaceRow) → slice_get rows k ≡ Some row → (outer_at rows k ≡ row.outer) × (k < length rows)
 outer_found [] k row e = absurd cc

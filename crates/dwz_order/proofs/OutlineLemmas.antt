@@ -1,5 +1,5 @@
 -- Lists with a top first, and with a space first; how many tops and spaces there are.
-use Rattle.std.proofs.Common.{◌≡◌, ℕ, suc, ◌+◌, ◌≤◌, Bool, true, false, List, [], ◌∷◌, ◌++◌, ◌||◌, ◌&&◌, length, refl, sym, ap, ◌∙◌, arith}
+use Rattle.std.proofs.Common.{◌≡◌, ℕ, suc, ◌+◌, ◌≤◌, Bool, true, false, List, ◌∷◌, ◌++◌, ◌||◌, ◌&&◌, length, refl, arith}
 use Rattle.std.proofs.lemmas.List.{length-append}
 use Rattle.dwz_docs.specs.Trees.{End, Entry, Forest, size}
 use Rattle.dwz_index.specs.Steps.{spaces_by, tops_by}

@@ -1,5 +1,5 @@
 -- What is written of a partial unit shows the unit after.
-use Rattle.std.proofs.Common.{◌≡◌, ℕ, zero, suc, ◌+◌, ◌<◌, Bool, true, false, List, [], ◌∷◌, length, map, ◌==◌, Some, slice_get, slice_index_or, inl, inr, refl, sym, ap, subst, ◌∙◌, arith}
+use Rattle.std.proofs.Common.{◌≡◌, ℕ, zero, suc, ◌+◌, ◌<◌, Bool, true, false, List, [], ◌∷◌, map, ◌==◌, Some, slice_get, slice_index_or, inl, inr, refl, sym, ap, subst, ◌∙◌, arith}
 use Rattle.std.proofs.lemmas.Bool.{eq-eqb, eqb-true}
 use Rattle.dwz_docs.specs.Lists.{In}
 use Rattle.dwz_seen.specs.Lists.{Each}
@@ -18,9 +18,9 @@ use Rattle.dwz_same.specs.Units.{partial_unit}
 use Rattle.dwz_order.specs.Lists.{AreLists, list_above, spaces_at}
 use Rattle.dwz_order.specs.Named.{NamesAll, NamesTop}
 use Rattle.dwz_order.specs.Parts.{IsPart}
+use Rattle.dwz_order.specs.Shown.{AreOwn, LeadsUp, NumbersTexts, Pairs}
 use Rattle.dwz_order.specs.Spaces.{said_of}
-use Rattle.dwz_order.proofs.ChainShown.{LeadsUp, Pairs}
-use Rattle.dwz_order.proofs.NameLists.{AreOwn, NumbersTexts, names_numbered, root_numbered}
+use Rattle.dwz_order.proofs.NameLists.{names_numbered, root_numbered}
 
 each_at : {X : Type 0} (P : X → Type 0) (xs : List X) (x : X) → Each P xs → In x xs → P x
 each_at P [] x h i = absurd i

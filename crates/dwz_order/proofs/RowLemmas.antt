@@ -1,5 +1,5 @@
 -- The tops and spaces of a list that are written down show its row.
-use Rattle.std.proofs.Common.{◌≡◌, ℕ, ℤ, suc, ◌+◌, ◌≤◌, Bool, true, false, List, [], ◌∷◌, ◌++◌, ◌||◌, ◌&&◌, length, take, drop, not, Option, Some, None, refl, sym, ap, subst, ◌∙◌, arith}
+use Rattle.std.proofs.Common.{◌≡◌, ℕ, ℤ, suc, ◌+◌, ◌≤◌, Bool, true, false, List, [], ◌∷◌, ◌++◌, ◌||◌, ◌&&◌, length, not, Option, Some, None, refl, sym, ap, subst, ◌∙◌, arith}
 use Rattle.std.specs.Option.{is_some}
 use Rattle.std.proofs.lemmas.List.{drop_at, length-append, take_at}
 use Rattle.dwz_docs.specs.Trees.{End, Entry}
@@ -7,9 +7,8 @@ use Rattle.dwz_meanings.specs.Documents.{Entries, Node}
 use Rattle.dwz_seen.specs.Lists.{Each}
 use Rattle.dwz_seen.specs.Spaces.{space_text, tops_under}
 use Rattle.dwz_seen.proofs.Members.{each_split}
-use Rattle.dwz_alike.specs.Spots.{ASpace, ATop, Nothing, Row, SpaceName, Spot, Top, name_of, row_in, row_tops}
+use Rattle.dwz_alike.specs.Spots.{ASpace, ATop, Row, SpaceName, Spot, Top, name_of, row_in, row_tops}
 use Rattle.dwz_index.specs.Steps.{is_space, spaces_by, tops_by}
-use Rattle.dwz_layout.specs.declared.order.Outer.{Outer}
 use Rattle.dwz_layout.specs.Outline.{ShowsRow, View}
 use Rattle.dwz_moving.specs.Plan.{row_pinned, row_staying}
 use Rattle.dwz_order.specs.declared.marks.Marks.{Marks}

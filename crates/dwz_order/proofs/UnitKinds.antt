@@ -1,11 +1,10 @@
 -- The kind of a unit by what is shown of it, where its entries end, and what is written of it by its kind.
-use Rattle.std.proofs.Common.{◌≡◌, ℕ, suc, ◌+◌, ◌<◌, ◌≤◌, List, [], Some, Result, Ok, Err, OnOk, slice_get, refl, sym, ap, subst, ◌∙◌, arith}
+use Rattle.std.proofs.Common.{◌≡◌, ℕ, ◌+◌, ◌<◌, ◌≤◌, List, Some, Result, Ok, Err, OnOk, slice_get, refl, sym, ap, subst, ◌∙◌, arith}
 use Rattle.dwz_docs.specs.Entries.{RawEntry}
 use Rattle.dwz_docs.specs.Trees.{End, Entry, Forest}
 use Rattle.dwz_docs.specs.Units.{CompileUnit, PartialUnit, RawKind, RawUnit, TypeUnit, entries_in}
 use Rattle.dwz_alike.specs.Spots.{Row, Spot}
 use Rattle.dwz_index.specs.Building.{IsList}
-use Rattle.dwz_index.specs.Spaces.{stored_space}
 use Rattle.dwz_index.proofs.ListLemmas.{within}
 use Rattle.dwz_index.proofs.UnitBuilding.{root_within, some_list}
 use Rattle.dwz_layout.specs.declared.order.Item.{Item}
@@ -19,7 +18,6 @@ use Rattle.dwz_unit.specs.Rows.{kind_number, shown_entries, shown_units, unit_sh
 use Rattle.dwz_order.specs.declared.marks.Marks.{Marks}
 use Rattle.dwz_order.specs.declared.outline.Next.{Next}
 use Rattle.dwz_order.specs.Kept.{IsKept, IsWhole, behind_kind, behind_unit}
-use Rattle.dwz_order.specs.Outline.{behind_list}
 use Rattle.dwz_order.specs.Sorts.{IsMainOf, SortBy, SortOf, row_of}
 
 pub shown_is : (raw : List RawUnit) (n : ℕ) (x : UnitOfCode) (u : RawUnit) → slice_get (shown_units raw) n ≡ Some x → slice_get raw n ≡ Some u → unit_shown x.first u ≡ x

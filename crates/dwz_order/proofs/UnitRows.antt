@@ -1,19 +1,14 @@
 -- The row, the tops and the spaces of one of several units, by how many units, tops and spaces there are before it.
-use Rattle.std.proofs.Common.{◌≡◌, ℕ, zero, suc, ◌+◌, Bool, true, false, List, [], ◌∷◌, ◌++◌, length, ◌==◌, refl, sym, ap, subst, ◌∙◌, arith}
+use Rattle.std.proofs.Common.{◌≡◌, ℕ, suc, ◌+◌, Bool, true, false, List, [], ◌∷◌, ◌++◌, length, ◌==◌, refl, sym, ap, subst, ◌∙◌, arith}
 use Rattle.std.proofs.lemmas.Bool.{eq-eqb, eqb-true}
-use Rattle.std.proofs.lemmas.List.{append_assoc, length-append}
-use Rattle.dwz_docs.specs.Trees.{End, Entry}
-use Rattle.dwz_meanings.specs.Documents.{Compile, DwUnit, Entries, Kind, Node, OfType, Partial}
+use Rattle.std.proofs.lemmas.List.{append_assoc}
+use Rattle.dwz_meanings.specs.Documents.{Node}
 use Rattle.dwz_seen.specs.Lists.{Each}
-use Rattle.dwz_seen.proofs.Members.{each_append, each_split}
-use Rattle.dwz_alike.specs.Spots.{FileUnit, Nothing, Row, Spot, Top, row_below, row_from, row_of, row_tops, top_count, tops_from, tops_of}
+use Rattle.dwz_seen.proofs.Members.{each_split}
+use Rattle.dwz_alike.specs.Spots.{FileUnit, Row, Spot, Top, row_below, row_from, row_of, row_tops, top_count, tops_from, tops_of}
+use Rattle.dwz_order.specs.Shown.{tops_in}
 use Rattle.dwz_order.specs.Spaces.{Numbered, spaces_below, spaces_of}
 use Rattle.dwz_order.proofs.RowLemmas.{numbered_split}
-
--- how many tops units have
-unfoldable pub tops_in : List (FileUnit Spot) → ℕ
-tops_in [] = 0
-tops_in (f ∷ units) = top_count f.unit.kind f.unit.below + tops_in units
 
 same_number : (n : ℕ) → (n == n) ≡ true
 same_number n = eq-eqb n n refl

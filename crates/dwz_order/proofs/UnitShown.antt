@@ -1,17 +1,16 @@
 -- What is written of an old unit shows the unit after.
-use Rattle.std.proofs.Common.{◌≡◌, ℕ, suc, ◌+◌, Bool, true, false, List, [], ◌∷◌, ◌++◌, length, refl, sym, ap, subst, ◌∙◌}
+use Rattle.std.proofs.Common.{◌≡◌, ℕ, suc, true, false, List, [], ◌∷◌, ◌++◌, length, sym, ap, subst, ◌∙◌}
 use Rattle.dwz_docs.specs.Entries.{RawEntry}
 use Rattle.dwz_docs.specs.Trees.{Forest}
 use Rattle.dwz_docs.specs.Units.{CompileUnit}
-use Rattle.dwz_meanings.specs.Documents.{Compile, DwUnit, Kind, Node, OfType, Partial, language}
+use Rattle.dwz_meanings.specs.Documents.{Compile, Kind, language}
 use Rattle.dwz_seen.specs.Lists.{Each}
-use Rattle.dwz_alike.specs.Spots.{FileUnit, Row, Spot, Top, row_below, row_in, row_of, row_tops, tops_of}
+use Rattle.dwz_alike.specs.Spots.{FileUnit, Row, Spot, row_below, row_in, row_of, row_tops, tops_of}
 use Rattle.dwz_index.specs.Spaces.{stored_space}
 use Rattle.dwz_index.specs.Steps.{is_space}
 use Rattle.dwz_layout.specs.declared.order.Item.{Item}
-use Rattle.dwz_layout.specs.declared.order.Outer.{Outer}
-use Rattle.dwz_layout.specs.Lines.{Line, line, lines, row_lines, unit_lines}
-use Rattle.dwz_layout.specs.Order.{Names, ShowsUnit, import_lines, order_lines}
+use Rattle.dwz_layout.specs.Lines.{Line}
+use Rattle.dwz_layout.specs.Order.{Names, ShowsUnit, order_lines}
 use Rattle.dwz_layout.specs.Outline.{ShowsRow, View}
 use Rattle.dwz_layout.specs.Shows.{NamesKept, view_of}
 use Rattle.dwz_layout.proofs.KeptLemmas.{kept_lines, whole_lines}
@@ -24,10 +23,11 @@ use Rattle.dwz_order.specs.declared.outline.Next.{Next}
 use Rattle.dwz_order.specs.Kept.{IsKept, IsWhole}
 use Rattle.dwz_order.specs.Named.{IsSpace, IsTop, MarksAll, MarksSpace, MarksTop, NamesAll, NamesSpace, NamesTop}
 use Rattle.dwz_order.specs.Outline.{outers_in}
+use Rattle.dwz_order.specs.Shown.{IsNext, tops_in}
 use Rattle.dwz_order.specs.Spaces.{Numbered, spaces_below, spaces_of, spaces_under}
 use Rattle.dwz_order.proofs.MeanLemmas.{Agree, outers_agree}
 use Rattle.dwz_order.proofs.RowLemmas.{IsShown, row_shown}
-use Rattle.dwz_order.proofs.UnitRows.{row_at, spaces_there, tops_in, tops_there}
+use Rattle.dwz_order.proofs.UnitRows.{row_at, spaces_there, tops_there}
 
 -- ---- two facts of each element
 
@@ -40,11 +40,6 @@ both_numbered P Q R f n [] h k = tt
 both_numbered P Q R f n (x ∷ xs) h k = (f n x h.0 k.0, both_numbered P Q R f (suc n) xs h.1 k.1)
 
 -- ---- a unit, with those before it and behind it
-
--- the next top and the next space are those behind the units before
-pub record IsNext (before : List (FileUnit Spot)) (next : Next) : Type 0 where
-  pub top : next.top ≡ tops_in before
-  pub space : next.space ≡ length (spaces_of before)
 
 module _ (m : Move) (before : List (FileUnit Spot)) (f : FileUnit Spot) (after : List (FileUnit Spot)) (marks : Marks) (n : Names Spot) where
   abbrev units : List (FileUnit Spot)

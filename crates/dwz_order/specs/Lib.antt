@@ -5,5 +5,6 @@ pub mod Named
 pub mod Orders
 pub mod Outline
 pub mod Parts
+pub mod Shown
 pub mod Sorts
 pub mod Spaces

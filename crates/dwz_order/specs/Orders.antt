@@ -1,6 +1,6 @@
 -- The order of all that is written shows the units after.
-use Rattle.std.specs.Prelude.{◌≡◌, ℕ, suc, pos, ◌+◌, ◌==◌, Bool, true, false, List, [], ◌∷◌, Option, Some, None, slice_get}
-use Rattle.dwz_meanings.specs.Documents.{Attr, Compile, DwUnit, Kind, OfType, Partial, Sec}
+use Rattle.std.specs.Prelude.{◌≡◌, ℕ, suc, pos, ◌+◌, ◌==◌, List, [], ◌∷◌, Some, None, slice_get}
+use Rattle.dwz_meanings.specs.Documents.{Attr, Compile, Kind, OfType}
 use Rattle.dwz_meanings.specs.Meanings.{IfSo}
 use Rattle.dwz_alike.specs.Spots.{FileUnit, RootOf, Spot}
 use Rattle.dwz_layout.specs.Chains.{NamesPartial}
@@ -9,7 +9,6 @@ use Rattle.dwz_layout.specs.Shows.{NamesKept}
 use Rattle.dwz_moving.specs.Homes.{Home, same_home}
 use Rattle.dwz_moving.specs.Moves.{Move, image_in}
 use Rattle.dwz_moving.specs.Plan.{PartialUnit}
-use Rattle.dwz_places.specs.declared.known.Row.{Row}
 use Rattle.dwz_places.specs.declared.order.Sort.{Sort}
 use Rattle.dwz_places.specs.declared.order.Sort.TheVariants.{Compile as CompileSort, OfType as TypeSort, Partial as PartialSort}
 use Rattle.dwz_places.specs.declared.order.UnitItems.{UnitItems}

@@ -22,12 +22,12 @@ use std::alloc::Global;
 /// A file of which something moves: its number, its sections and its units, and the numbers of its first unit and of its first entry
 /// among those of all files.
 #[derive(Clone, Copy)]
-pub(crate) struct Source<'f, 'a> {
-    pub(crate) file: u32,
-    pub(crate) units: &'f Units<'a>,
-    pub(crate) sections: &'f Sections<'a>,
-    pub(crate) unit: u32,
-    pub(crate) start: u32,
+pub struct Source<'f, 'a> {
+    pub file: u32,
+    pub units: &'f Units<'a>,
+    pub sections: &'f Sections<'a>,
+    pub unit: u32,
+    pub start: u32,
 }
 
 // Appends what is written of a unit. `outers` is a row that is used again.
@@ -100,7 +100,7 @@ fn unit_items(
 }
 
 /// Appends what is written of the old units of a file, in order. The next top and the next space are the file's first.
-pub(crate) fn put_units(
+pub fn put_units(
     alloc: Global,
     order: &mut Vec<UnitItems>,
     source: &Source,

@@ -28,11 +28,7 @@ fn pairs_of(alloc: Global, partials: &[Partial]) -> Result<Vec<Pair>, NoMemory>
 }
 
 /// For each file, and behind all for the common one, the numbers of its partial units in order.
-pub(crate) fn parts_of_files(
-    alloc: Global,
-    files: u32,
-    partials: &[Partial],
-) -> Result<Groups, NoMemory>
+pub fn parts_of_files(alloc: Global, files: u32, partials: &[Partial]) -> Result<Groups, NoMemory>
     requires few { length partials.now < 2 ^ 32 }
     requires files { All (λ part. part.file ≤ files) partials.now }
     ensures { IfOk result (λ groups. groups ≡ grouped (files + 1) (file_pairs 0 partials.now)) }
@@ -42,7 +38,7 @@ pub(crate) fn parts_of_files(
 }
 
 /// What is written of a partial unit, whose root has a line table at that offset, if it has one.
-pub(crate) fn part_items(
+pub fn part_items(
     alloc: Global,
     rows: &[SpaceRow],
     of_tops: &[TopSpaces],

@@ -26,7 +26,7 @@ fn push_rows(rows: &mut Vec<SpaceRow>, spaces: &[SpaceEntry]) -> Result<(), NoMe
 }
 
 /// For each space of all files, by its number, the one that it stands in.
-pub(crate) fn space_rows(alloc: Global, indexes: &[Index]) -> Result<Vec<SpaceRow>, NoMemory>
+pub fn space_rows(alloc: Global, indexes: &[Index]) -> Result<Vec<SpaceRow>, NoMemory>
     requires { length (all_spaces indexes.now) < 2 ^ 32 }
     ensures { IfOk result (λ rows. rows.items ≡ rows_from 0 (all_spaces indexes.now)) }
 {
@@ -63,11 +63,7 @@ fn list_of(lists: &[u32], outer: u32) -> u32
 
 /// For each space the number of its name list: that of the space that it stands in, and its own name behind it. Equal texts have equal
 /// numbers.
-pub(crate) fn number_lists(
-    alloc: Global,
-    rows: &[SpaceRow],
-    texts: &[u32],
-) -> Result<Vec<u32>, NoMemory>
+pub fn number_lists(alloc: Global, rows: &[SpaceRow], texts: &[u32]) -> Result<Vec<u32>, NoMemory>
     requires many { length texts.now ≡ length rows.now }
     requires few { length rows.now + 1 < 2 ^ 32 }
     requires rising { IsRising rows.now }
@@ -98,7 +94,7 @@ fn push_tops(of_tops: &mut Vec<TopSpaces>, lists: &[u32], tops: &[TopEntry]) -> 
 }
 
 /// For each top of all files, by its number, the spaces that it stands in.
-pub(crate) fn top_spaces(
+pub fn top_spaces(
     alloc: Global,
     indexes: &[Index],
     lists: &[u32],

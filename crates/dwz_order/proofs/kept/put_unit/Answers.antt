@@ -1,17 +1,15 @@
-use Rattle.std.proofs.Common.{◌≡◌, ◌++◌, List, [], ◌∷◌, length, sym, ap, subst, ◌∙◌, arith}
-use Rattle.dwz_alike.specs.Spots.{Row, Spot}
+use Rattle.std.proofs.Common.{◌≡◌, ◌++◌, List, ◌∷◌, length, sym, ap, subst, ◌∙◌, arith}
 use Rattle.dwz_docs.specs.Units.{CompileUnit, RawKind}
 use Rattle.dwz_index.specs.Spaces.{stored_space}
 use Rattle.dwz_index.proofs.UnitBuilding.{root_within, some_list, unit_list}
 use Rattle.dwz_layout.specs.declared.order.Outer.{Outer}
 use Rattle.dwz_layout.specs.Lines.{line, lines, row_lines}
-use Rattle.dwz_layout.specs.Order.{Names, import_lines, order_lines}
-use Rattle.dwz_layout.specs.Outline.{ShowsRow, View}
+use Rattle.dwz_layout.specs.Order.{import_lines, order_lines}
+use Rattle.dwz_layout.specs.Outline.{ShowsRow}
 use Rattle.dwz_moving.specs.Plan.{pinned_first, row_staying}
 use Rattle.dwz_unit.specs.Rows.{units_of}
-use Rattle.dwz_order.specs.declared.outline.Next.{Next}
 use Rattle.dwz_order.specs.Kept.{IsKept, IsWhole, behind_kind, behind_unit}
-use Rattle.dwz_order.specs.Outline.{behind_list, outers_in}
+use Rattle.dwz_order.specs.Outline.{outers_in}
 use Rattle.dwz_order.proofs.UnitKinds.{end_within, is_compile, next_stays, not_compile, on_named, on_ok, on_shown, on_true, whole_kept}
 use Rattle.dwz_order.proofs.kept.put_unit.Goals as goal
 

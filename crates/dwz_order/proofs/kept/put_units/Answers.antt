@@ -1,5 +1,4 @@
-use Rattle.std.proofs.Common.{ℕ, List, [], ◌++◌, length, sym, ap, subst, ◌∙◌, refl, arith}
-use Rattle.dwz_layout.specs.declared.order.Item.{Item}
+use Rattle.std.proofs.Common.{ℕ, List, [], subst, refl, arith}
 use Rattle.dwz_unit.specs.Rows.{units_of}
 use Rattle.dwz_order.specs.Kept.{IsKept, from_source, imports_at}
 use Rattle.dwz_order.proofs.KeptSteps.{going_begins, going_ends, going_on, room_there, shown_there}

@@ -1,8 +1,8 @@
-use Rattle.std.proofs.Common.{◌+◌, sym, ap, subst, ◌∙◌, arith}
+use Rattle.std.proofs.Common.{◌∙◌, arith}
 use Rattle.dwz_index.proofs.BelowLemmas.{next_list}
 use Rattle.dwz_index.proofs.ListLemmas.{within}
 use Rattle.dwz_unit.specs.Rows.{units_of}
-use Rattle.dwz_order.proofs.OutlineSteps.{Spaced, long_enough, nothing_left, put_long, room_inside, with_space, with_top}
+use Rattle.dwz_order.proofs.OutlineSteps.{long_enough, nothing_left, put_long, room_inside, with_space, with_top}
 use Rattle.dwz_order.proofs.outline.+put_list.Goals as goal
 
 pub entry-behind-requires : goal.entry-behind-requires

@@ -1,5 +1,4 @@
-use Rattle.std.proofs.Common.{◌≡◌, ◌++◌, List, [], ap, ◌∙◌}
-use Rattle.dwz_alike.specs.Spots.{Spot}
+use Rattle.std.proofs.Common.{◌++◌, List, ap, ◌∙◌}
 use Rattle.dwz_layout.specs.declared.order.Item.{Item}
 use Rattle.dwz_layout.specs.Chains.{down, names_at, partial_lines}
 use Rattle.dwz_layout.specs.Order.{order_lines}

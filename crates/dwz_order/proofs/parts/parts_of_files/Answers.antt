@@ -1,5 +1,4 @@
-use Rattle.std.proofs.Common.{◌≡◌, List, sym, ap, subst, ◌∙◌, arith}
-use Rattle.dwz_groups.specs.declared.groups.Pair.{Pair}
+use Rattle.std.proofs.Common.{sym, subst, ◌∙◌}
 use Rattle.dwz_order.proofs.PairLemmas.{Low, pairs_low}
 use Rattle.dwz_order.proofs.parts.parts_of_files.Goals as goal
 

@@ -1,6 +1,6 @@
 use Rattle.std.proofs.Common.{◌≡◌, ℕ, ◌+◌, ◌<◌, List, length, slice_index, sym, ap, subst, ◌∙◌, arith}
 use Rattle.dwz_order.specs.Lists.{list_above, outer_at}
-use Rattle.dwz_order.proofs.ListNumbers.{Numbering, all_numbered, key_of, numbered, outer_there}
+use Rattle.dwz_order.proofs.ListNumbers.{Numbering, key_of, numbered, outer_there}
 use Rattle.dwz_order.proofs.spaces.number_lists.Goals as goal
 
 pub loop-k-preserved : goal.loop-k-preserved

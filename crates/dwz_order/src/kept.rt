@@ -31,7 +31,7 @@ pub struct Source<'f, 'a> {
 }
 
 // Appends what is written of a unit. `outers` is a row that is used again.
-fn put_unit(
+pub(crate) fn put_unit(
     items: &mut Vec<Item>,
     outers: &mut Vec<Outer>,
     next: &mut Next,

@@ -1,0 +1,6 @@
+pub mod Paths
+pub mod Runs
+pub mod FileRuns
+pub mod ImageLemmas
+pub mod CountLemmas
+pub mod ImageSteps

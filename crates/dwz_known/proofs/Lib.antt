@@ -4,3 +4,8 @@ pub mod FileRuns
 pub mod ImageLemmas
 pub mod CountLemmas
 pub mod ImageSteps
+pub mod UnitNames
+pub mod OwnerKeys
+pub mod OwnerSteps
+pub mod NumberingLemmas
+pub mod MakeLemmas

@@ -4,7 +4,11 @@
 mod counted;
 mod images;
 mod laws;
+mod numbers;
+mod owners;
 
 pub use counted::{starts, tops};
-pub use images::references;
+pub use images::{image, references};
 pub use laws::image_laws;
+pub use numbers::UnitNumbers;
+pub use owners::{owner, put_owners};

@@ -50,7 +50,7 @@ no_top rule units (PartialRoot i) e = refl
 no_top rule units (InChain p i d) e = refl
 no_top rule units (Import i p) e = refl
 
-in_a_top : (top : ℕ) (s : Spot) → top_in s ≡ Some top → (path : List ℕ) × (s ≡ Within top path)
+pub in_a_top : (top : ℕ) (s : Spot) → top_in s ≡ Some top → (path : List ℕ) × (s ≡ Within top path)
 in_a_top top (Within n path) e = (path, (let same : n ≡ top = cc in ap (λ (w : ℕ). Within w path) same))
 in_a_top top (UnitOf i) e = absurd cc
 in_a_top top (RootOf i) e = absurd cc

@@ -9,3 +9,8 @@ pub mod OwnerKeys
 pub mod OwnerSteps
 pub mod NumberingLemmas
 pub mod MakeLemmas
+pub mod WholeLemmas
+pub mod ReferenceLemmas
+pub mod OwnerLemmas
+pub mod OnceNames
+pub mod ReachLemmas

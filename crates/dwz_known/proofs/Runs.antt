@@ -92,11 +92,11 @@ space_names unit path i n e f g text h =
     let b = top_spots unit path (suc i) (n + tops_under f) g in
     ap (map spot_of) (spots_space unit path i n e f g text h) ∙ ap (λ (w : List Spot). SpaceAt unit (i ∷ path) ∷ w) (map-append spot_of a b)
 
-under_top : (e : _) (f g : Entries ℕ) → space_text e ≡ None → tops_under (Entry e f g) ≡ suc (tops_under g)
+pub under_top : (e : _) (f g : Entries ℕ) → space_text e ≡ None → tops_under (Entry e f g) ≡ suc (tops_under g)
 unfolding tops_under
 under_top e f g h = rw (h, tops_under) refl
 
-under_space : (e : _) (f g : Entries ℕ) (text : List ℕ) → space_text e ≡ Some text → tops_under (Entry e f g) ≡ tops_under f + tops_under g
+pub under_space : (e : _) (f g : Entries ℕ) (text : List ℕ) → space_text e ≡ Some text → tops_under (Entry e f g) ≡ tops_under f + tops_under g
 unfolding tops_under
 under_space e f g text h = rw (h, tops_under) refl
 

@@ -65,10 +65,13 @@ owner_by plan parts kept None = kept
 owner_by plan parts kept (Some top) = owner_at parts kept (slice_index_or plan.homes top InUnit)
 
 -- the name stands in the unit with that number
-pub record IsOwner (m : Move) (units : List (FileUnit Spot)) (written : List Bool) (s : Spot) (owner : ℕ) : Type 0 where
+pub record StandsIn (all : List (DwUnit Spot)) (s : Spot) (n : ℕ) : Type 0 where
   pub unit : DwUnit Spot
-  pub is : slice_get (all_written m units written) owner ≡ Some unit
+  pub is : slice_get all n ≡ Some unit
   pub has : In s (unit_keys unit)
+
+abbrev pub IsOwner : Move → List (FileUnit Spot) → List Bool → Spot → ℕ → Type 0
+IsOwner m units written s owner = StandsIn (all_written m units written) s owner
 
 -- the owners of the entries of a file, by their rows and their names; the first unit of the file has that number
 abbrev pub AreOwners : Planned → List ℕ → List ℕ → ℕ → List EntryRow → List Spot → List ℕ → Type 0

@@ -9,6 +9,9 @@ mod owners;
 
 pub use counted::{starts, tops};
 pub use images::{image, references};
-pub use laws::image_laws;
+pub use laws::{count_laws, image_laws, owner_laws, reach_laws};
 pub use numbers::UnitNumbers;
 pub use owners::{owner, put_owners};
+
+#[cfg(test)]
+mod tests;

@@ -1,5 +1,5 @@
-use Rattle.dwz_alike.specs.Spots.{tops_of, units_of}
 use Rattle.dwz_known.proofs.ImageLemmas.{image_there, stand_inside, top_inside}
+use Rattle.dwz_known.proofs.ReferenceLemmas.{reference_named}
 use Rattle.dwz_known.proofs.laws.image_laws.Goals as goal
 
 pub returns-clause-image : goal.returns-clause-image
@@ -7,3 +7,6 @@ returns-clause-image c = image_there
 
 pub returns-clause-inside : goal.returns-clause-inside
 returns-clause-inside c = λ docs rule top path n e. (let lt = top_inside docs top path n e in (lt, stand_inside docs rule top lt))
+
+pub returns-clause-references : goal.returns-clause-references
+returns-clause-references c = reference_named

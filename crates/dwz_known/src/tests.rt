@@ -45,7 +45,5 @@ fn nothing_has_no_numbers(rt: HostRuntime) -> Result<(), Fail> {
     assert_eq!(rt; numbers.commons, 0);
     assert_eq!(rt; numbers.parts.len(), 0);
     assert_eq!(rt; numbers.olds.len(), 0);
-    assert_eq!(rt; crate::starts(rt.alloc(), &[])?.len(), 0);
-    assert_eq!(rt; crate::tops(rt.alloc(), &[])?.len(), 0);
     Ok(())
 }

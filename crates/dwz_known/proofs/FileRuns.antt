@@ -1,11 +1,11 @@
 -- The runs of tops among the names of the entries of files, and how many tops files have.
-use Rattle.std.proofs.Common.{◌≡◌, ℕ, suc, ◌+◌, ◌<◌, ◌≤◌, List, [], ◌∷◌, ◌++◌, length, map, refl, sym, ap, subst, ◌∙◌, inl, inr, arith}
+use Rattle.std.proofs.Common.{◌≡◌, ℕ, suc, ◌+◌, ◌≤◌, List, [], ◌∷◌, ◌++◌, length, map, refl, sym, ap, subst, ◌∙◌, inl, inr, arith}
 use Rattle.std.proofs.lemmas.List.{append_assoc, length-append}
 use Rattle.dwz_docs.specs.Lists.{In}
-use Rattle.dwz_meanings.specs.Documents.{Compile, Doc, DwUnit, Entries, Kind, OfType, Partial, entries_map, kind_map, language, unit_map}
+use Rattle.dwz_meanings.specs.Documents.{Compile, Doc, DwUnit, Entries, Kind, OfType, Partial, kind_map, language, unit_map}
 use Rattle.dwz_seen.specs.Lists.{Each}
 use Rattle.dwz_seen.proofs.Members.{each_append, in_cases}
-use Rattle.dwz_alike.specs.Spots.{FileUnit, InType, RootOf, Spot, Top, Within, below_spots, in_file, named, named_files, row_below, row_in, row_tops, spot_in, spots_from, top_count, tops_among, tops_from, tops_of, units_of}
+use Rattle.dwz_alike.specs.Spots.{FileUnit, InType, RootOf, Spot, Top, below_spots, in_file, named_files, row_below, row_in, row_tops, spot_in, spots_from, top_count, tops_among, tops_from, tops_of, units_of}
 use Rattle.dwz_alike.proofs.NameLists.{count_map}
 use Rattle.dwz_alike.proofs.RowLemmas.{row_is}
 use Rattle.dwz_alike.proofs.TopNumbers.{below_length}

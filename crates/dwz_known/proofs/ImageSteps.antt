@@ -1,11 +1,10 @@
 -- The number that is computed of an image is that of its name.
-use Rattle.std.proofs.Common.{◌≡◌, ℕ, suc, ◌+◌, ◌-◌, ◌<◌, ◌≤◌, ◌^◌, List, [], ◌∷◌, ◌++◌, length, get_or, take, Option, Some, None, slice_get, refl, sym, ap, subst, ◌∙◌, inl, inr, arith}
+use Rattle.std.proofs.Common.{◌≡◌, ℕ, ◌+◌, ◌-◌, ◌<◌, ◌≤◌, ◌^◌, List, [], ◌∷◌, ◌++◌, length, get_or, take, Some, None, slice_get, refl, sym, ap, subst, ◌∙◌, arith}
 use Rattle.std.proofs.lemmas.List.{take_all, take_more}
 use Rattle.std.proofs.lemmas.Option.{slice_get-get_or}
 use Rattle.std.specs.Prelude.{slice_index}
-use Rattle.dwz_docs.specs.Lists.{In}
 use Rattle.dwz_meanings.specs.Documents.{Doc}
-use Rattle.dwz_alike.specs.Spots.{FileUnit, Import, InChain, InType, PartialOf, PartialRoot, RootOf, SpaceAt, Spot, Top, UnitOf, Within, tops_of, units_of}
+use Rattle.dwz_alike.specs.Spots.{FileUnit, Import, InChain, InType, PartialOf, PartialRoot, RootOf, SpaceAt, Spot, UnitOf, Within, tops_of, units_of}
 use Rattle.dwz_alike.proofs.TopNumbers.{top_at, tops_numbers}
 use Rattle.dwz_moving.specs.Homes.{Rule}
 use Rattle.dwz_moving.specs.Plan.{image, stand_in}

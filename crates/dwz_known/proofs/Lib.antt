@@ -14,3 +14,4 @@ pub mod ReferenceLemmas
 pub mod OwnerLemmas
 pub mod OnceNames
 pub mod ReachLemmas
+pub mod BeforeLemmas

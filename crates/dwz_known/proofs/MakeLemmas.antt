@@ -1,14 +1,14 @@
 -- File by file the numbers of the units that are written: what was numbered, and what is left.
-use Rattle.std.proofs.Common.{◌≡◌, ℕ, zero, suc, ◌+◌, ◌-◌, ◌<◌, ◌≤◌, ◌==◌, ◌^◌, Bool, true, false, List, [], ◌∷◌, ◌++◌, drop, get_or, length, map, Some, slice_get, cond, refl, sym, ap, subst, ◌∙◌, inl, inr, arith, drop-cons, eq-eqb, if◌then◌else◌}
+use Rattle.std.proofs.Common.{◌≡◌, ℕ, zero, suc, ◌+◌, ◌-◌, ◌<◌, ◌≤◌, ◌==◌, ◌^◌, Bool, true, false, List, [], ◌∷◌, ◌++◌, drop, get_or, length, map, Some, slice_get, cond, refl, sym, ap, subst, ◌∙◌, inl, inr, arith, drop-cons, if◌then◌else◌}
 use Rattle.std.specs.Prelude.{replicate, slice_index_or, sum}
 use Rattle.std.specs.List.{filter, range_with_len}
 use Rattle.std.proofs.lemmas.List.{append-nil, append_assoc, drop_all, drop_at, length-append, length-drop, length-map, map-append}
 use Rattle.std.proofs.lemmas.List.FromFn.{length-range_with_len}
 use Rattle.std.proofs.lemmas.List.Sums.{sum_by-drop_more}
-use Rattle.dwz_meanings.specs.Documents.{Doc, DwUnit, unit_map}
+use Rattle.dwz_meanings.specs.Documents.{Doc, DwUnit}
 use Rattle.dwz_seen.specs.Lists.{Each, Nth}
-use Rattle.dwz_seen.proofs.Members.{each_append, each_in, each_more, each_of, in_map_from}
-use Rattle.dwz_alike.specs.Spots.{FileUnit, Spot, file_numbers, in_file, named_files, spot_in, spots_from, tops_among, units_of}
+use Rattle.dwz_seen.proofs.Members.{each_append, each_in, each_more}
+use Rattle.dwz_alike.specs.Spots.{FileUnit, Spot, file_numbers, named_files, spot_in, spots_from, tops_among, units_of}
 use Rattle.dwz_index.proofs.TopLemmas.{get_cases, get_first, get_later}
 use Rattle.dwz_moving.specs.Homes.{Common, Home, Local, Rule}
 use Rattle.dwz_moving.specs.Moves.{Move}

@@ -1,25 +1,21 @@
 -- Units that are written are numbered home by home.
-use Rattle.std.proofs.Common.{◌≡◌, ℕ, zero, suc, ◌+◌, ◌-◌, ◌<◌, ◌≤◌, ◌==◌, Bool, true, false, List, [], ◌∷◌, ◌++◌, drop, get_or, length, map, Some, slice_get, refl, sym, ap, subst, ◌∙◌, inl, inr, arith, eq-eqb, if◌then◌else◌}
-use Rattle.std.specs.Prelude.{replicate, slice_index_or}
-use Rattle.std.specs.List.{filter, range_with_len}
+use Rattle.std.proofs.Common.{◌≡◌, ℕ, zero, suc, ◌+◌, ◌-◌, ◌<◌, ◌≤◌, ◌==◌, Bool, true, false, List, [], ◌∷◌, ◌++◌, drop, get_or, length, map, Some, slice_get, refl, sym, ap, ◌∙◌, inl, inr, arith, eq-eqb, if◌then◌else◌}
+use Rattle.std.specs.Prelude.{replicate}
+use Rattle.std.specs.List.{range_with_len}
 use Rattle.std.proofs.lemmas.Bool.{ne_eqb}
-use Rattle.std.proofs.lemmas.List.{append-nil, append_assoc, drop_all, drop_at, length-append, length-map, map-append}
-use Rattle.std.proofs.lemmas.List.FromFn.{length-range_with_len}
-use Rattle.dwz_docs.specs.Lists.{In}
-use Rattle.dwz_meanings.specs.Documents.{Doc, DwUnit}
+use Rattle.std.proofs.lemmas.List.{append-nil, append_assoc, drop_all}
+use Rattle.dwz_meanings.specs.Documents.{DwUnit}
 use Rattle.dwz_seen.specs.Lists.{Each, Nth}
-use Rattle.dwz_seen.proofs.Members.{each_append, each_in, each_more, each_of, in_map_from}
-use Rattle.dwz_alike.specs.Spots.{FileUnit, Spot, in_file, named, named_files, spot_in, spots_from, tops_among, units_of}
-use Rattle.dwz_index.proofs.TopLemmas.{get_cases, get_first, get_later}
+use Rattle.dwz_seen.proofs.Members.{each_append, each_more, each_of, in_map_from}
+use Rattle.dwz_alike.specs.Spots.{FileUnit, Spot}
 use Rattle.dwz_moving.specs.Homes.{Common, Home, Local, Rule, Stay, same_home}
-use Rattle.dwz_moving.specs.Moves.{Move, plan}
-use Rattle.dwz_moving.specs.Plan.{PartialUnit, distinct, local_partials, partial_with, partials, partials_at, representatives, users_of}
+use Rattle.dwz_moving.specs.Moves.{Move}
+use Rattle.dwz_moving.specs.Plan.{PartialUnit, distinct, local_partials, partial_with, partials_at, representatives, users_of}
 use Rattle.dwz_moving.proofs.PlanLemmas.{home_true}
 use Rattle.dwz_plan.specs.declared.plan.Partial.{Partial}
 use Rattle.dwz_plan.specs.Shows.{shown_part}
-use Rattle.dwz_same.specs.Units.{common_units, kept_unit, kept_units, out_units, partial_unit, partial_units}
-use Rattle.dwz_known.specs.Numbering.{leading, numbers_of}
-use Rattle.dwz_known.specs.Owners.{IsFileWritten, IsNumber}
+use Rattle.dwz_same.specs.Units.{kept_unit, kept_units, partial_unit, partial_units}
+use Rattle.dwz_known.specs.Numbering.{leading}
 use Rattle.dwz_known.proofs.CountLemmas.{next_of}
 
 -- ---- partial units of a home

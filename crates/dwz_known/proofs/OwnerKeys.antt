@@ -1,5 +1,5 @@
 -- Names that stand in kept units and in partial units.
-use Rattle.std.proofs.Common.{◌≡◌, ◌⊎◌, ℕ, ℤ, suc, ◌+◌, ◌<◌, ◌≤◌, Bool, true, false, List, [], ◌∷◌, ◌++◌, length, map, Option, Some, None, slice_get, refl, sym, ap, subst, ◌∙◌, inl, inr, arith}
+use Rattle.std.proofs.Common.{◌≡◌, ◌⊎◌, ℕ, ℤ, suc, ◌+◌, ◌<◌, ◌≤◌, Bool, true, false, List, [], ◌∷◌, ◌++◌, length, map, Option, refl, sym, ap, subst, ◌∙◌, inl, inr, arith}
 use Rattle.std.proofs.lemmas.List.{append-nil, map-append}
 use Rattle.dwz_docs.specs.Lists.{In}
 use Rattle.dwz_docs.specs.Trees.{End, Entry}
@@ -10,11 +10,11 @@ use Rattle.dwz_seen.specs.Spaces.{space_text, tops_under}
 use Rattle.dwz_seen.proofs.MainLemmas.{keys_map}
 use Rattle.dwz_seen.proofs.Members.{each_in, in_cases, in_left, in_map, in_map_from, in_right}
 use Rattle.dwz_seen.proofs.SpaceLemmas.{text_map}
-use Rattle.dwz_alike.specs.Spots.{ASpace, ATop, FileUnit, InType, Labelled, LabelledSpaces, LabelledTop, Nothing, RootOf, Row, SpaceAt, SpaceName, Spot, Top, Within, entry_spots, in_file, name_list, name_of, row_below, row_of, row_tops, top_count, top_spots, tops_from, tops_of}
-use Rattle.dwz_alike.proofs.NameLists.{count_map, spots_space, spots_top}
+use Rattle.dwz_alike.specs.Spots.{ASpace, ATop, FileUnit, InType, Labelled, LabelledSpaces, LabelledTop, Nothing, RootOf, Row, SpaceName, Spot, Top, Within, in_file, name_of, row_below, row_of, row_tops, top_count, top_spots, tops_from, tops_of}
+use Rattle.dwz_alike.proofs.NameLists.{count_map}
 use Rattle.dwz_alike.proofs.RowLemmas.{RowIs, below_unit, unit_row}
 use Rattle.dwz_alike.proofs.TopNumbers.{below_length, from_numbered, top_at}
-use Rattle.dwz_alike.proofs.Tops.{one_top, unit_of}
+use Rattle.dwz_alike.proofs.Tops.{unit_of}
 use Rattle.dwz_moving.specs.IsPlan.{Has, Item, OfSpace, OfTop, Remains}
 use Rattle.dwz_moving.specs.Moves.{Move, image_in}
 use Rattle.dwz_moving.specs.Plan.{imports, kept_row}

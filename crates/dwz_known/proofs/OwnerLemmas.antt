@@ -1,10 +1,10 @@
 -- The owner of an entry is the unit in which its name stands.
-use Rattle.std.proofs.Common.{◌≡◌, ℕ, zero, suc, ◌+◌, ◌<◌, ◌≤◌, Bool, true, false, List, [], ◌∷◌, ◌++◌, length, map, Option, Some, None, Ok, slice_get, get_or, refl, sym, ap, subst, ◌∙◌, inl, inr, arith}
+use Rattle.std.proofs.Common.{◌≡◌, ℕ, zero, suc, ◌+◌, Bool, true, false, List, [], ◌∷◌, ◌++◌, map, Option, Some, None, Ok, slice_get, refl, sym, ap, subst, ◌∙◌, inr, arith}
 use Rattle.std.specs.Prelude.{slice_index_or}
 use Rattle.dwz_docs.specs.Lists.{In}
 use Rattle.dwz_docs.specs.Trees.{End}
 use Rattle.dwz_docs.specs.Units.{RawUnit}
-use Rattle.dwz_meanings.specs.Documents.{Doc, DwUnit, Entries, unit_map}
+use Rattle.dwz_meanings.specs.Documents.{Doc, DwUnit, unit_map}
 use Rattle.dwz_meanings.specs.Meanings.{Around, units_meaning}
 use Rattle.dwz_meanings.proofs.MeaningLemmas.{units_agree}
 use Rattle.dwz_seen.specs.Lists.{Each, Nth}
@@ -12,16 +12,16 @@ use Rattle.dwz_seen.specs.Seen.{IsPartial}
 use Rattle.dwz_seen.specs.Shown.{keys, unit_keys}
 use Rattle.dwz_seen.proofs.Members.{each_in, each_of, in_map, in_map_from, nth_in}
 use Rattle.dwz_unit.specs.Rows.{EntryRow, rows_of}
-use Rattle.dwz_alike.specs.Spots.{FileUnit, Spot, Top, Within, file_numbers, in_file, name_list, row_below, row_tops, spot_in, spots_from, tops_of, units_of}
+use Rattle.dwz_alike.specs.Spots.{FileUnit, Spot, Top, Within, file_numbers, in_file, name_list, spot_in, spots_from, tops_of, units_of}
 use Rattle.dwz_alike.proofs.TopNumbers.{top_at, tops_numbers}
 use Rattle.dwz_alike.proofs.Tops.{one_top}
 use Rattle.dwz_index.specs.Index.{Index}
 use Rattle.dwz_index.specs.Names.{names_from, top_in}
 use Rattle.dwz_index.proofs.TopLemmas.{get_first, get_later}
-use Rattle.dwz_moving.specs.Homes.{Common, Home, Local, Rule, Stay, home, is_home, moves, rep}
+use Rattle.dwz_moving.specs.Homes.{Common, Home, Local, Rule, is_home, moves, rep}
 use Rattle.dwz_moving.specs.IsPlan.{BelongsTo, IsPart}
-use Rattle.dwz_moving.specs.Moves.{Move, image_in, plan}
-use Rattle.dwz_moving.specs.Plan.{PartialUnit, image, part_row, partials, stand_in}
+use Rattle.dwz_moving.specs.Moves.{Move, image_in}
+use Rattle.dwz_moving.specs.Plan.{image, part_row, partials, stand_in}
 use Rattle.dwz_moving.proofs.PlanLemmas.{are_parts}
 use Rattle.dwz_moving.proofs.RowParts.{part_is}
 use Rattle.dwz_moving.proofs.UserLemmas.{move_stand}
@@ -36,7 +36,7 @@ use Rattle.dwz_same.proofs.HeldLemmas.{row_found}
 use Rattle.dwz_same.proofs.OldFiles.{files_old}
 use Rattle.dwz_known.specs.Names.{all_names}
 use Rattle.dwz_known.specs.OwnerLaws.{AreMoved}
-use Rattle.dwz_known.specs.Owners.{IsFileWritten, IsNumber, IsOwner, all_written, move_of, owner_at, owner_by}
+use Rattle.dwz_known.specs.Owners.{IsFileWritten, IsOwner, all_written, move_of, owner_at, owner_by}
 use Rattle.dwz_known.specs.Whole.{IsFileAt}
 use Rattle.dwz_known.proofs.FileRuns.{files_run, tops_in_all}
 use Rattle.dwz_known.proofs.ImageLemmas.{get_in, located, top_inside}
@@ -44,7 +44,7 @@ use Rattle.dwz_known.proofs.ImageSteps.{in_a_top}
 use Rattle.dwz_known.proofs.OwnerKeys.{own_keys, top_labelled, tree_top, unit_kept}
 use Rattle.dwz_known.proofs.OwnerSteps.{got_or}
 use Rattle.dwz_known.proofs.Paths.{paths_of}
-use Rattle.dwz_known.proofs.UnitNames.{IsOfUnit, of_unit}
+use Rattle.dwz_known.proofs.UnitNames.{of_unit}
 use Rattle.dwz_known.proofs.WholeLemmas.{nth_got}
 
 get_map : {X Y : Type 0} (f : X → Y) (xs : List X) (k : ℕ) (x : X) → slice_get xs k ≡ Some x → slice_get (map f xs) k ≡ Some (f x)

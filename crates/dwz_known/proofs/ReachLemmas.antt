@@ -1,27 +1,27 @@
 -- A name stands in one unit, so its number tells in which unit and in which file.
-use Rattle.std.proofs.Common.{◌≡◌, ◌⊎◌, ℕ, zero, suc, ◌+◌, ◌<◌, ◌≤◌, ◌==◌, Bool, true, false, List, [], ◌∷◌, ◌++◌, length, Some, slice_get, not, refl, sym, ap, subst, ◌∙◌, inl, inr, arith, eq-eqb, eqb-true}
+use Rattle.std.proofs.Common.{◌≡◌, ◌⊎◌, ℕ, zero, suc, ◌<◌, ◌≤◌, ◌==◌, Bool, true, false, List, [], ◌∷◌, ◌++◌, length, Some, slice_get, not, refl, sym, ap, subst, ◌∙◌, inl, inr, arith, eq-eqb, eqb-true}
 use Rattle.std.specs.Prelude.{nat_lt}
-use Rattle.std.proofs.lemmas.Bool.{le-ltb, lt-ltb, ltb-false, ltb-true}
-use Rattle.std.proofs.lemmas.List.{append-nil, append_assoc, length-append}
+use Rattle.std.proofs.lemmas.Bool.{ltb-false, ltb-true}
+use Rattle.std.proofs.lemmas.List.{append-nil, append_assoc}
 use Rattle.dwz_docs.specs.Lists.{In}
 use Rattle.dwz_meanings.specs.Documents.{Doc, DwUnit}
 use Rattle.dwz_seen.specs.Lists.{Each, NoneTwice, Rising}
 use Rattle.dwz_seen.specs.Shown.{unit_keys, units_keys}
-use Rattle.dwz_seen.proofs.Members.{in_cases, in_left, in_right}
+use Rattle.dwz_seen.proofs.Members.{in_left, in_right}
 use Rattle.dwz_seen.proofs.OnceLemmas.{none_append, none_both, none_left, none_right}
 use Rattle.dwz_alike.specs.Spots.{FileUnit, Spot, file_numbers, same_spot, units_of}
-use Rattle.dwz_index.proofs.TopLemmas.{get_cases, get_first, get_later}
+use Rattle.dwz_index.proofs.TopLemmas.{get_cases}
 use Rattle.dwz_moving.specs.Homes.{Rule}
-use Rattle.dwz_moving.specs.Moves.{Move, plan}
+use Rattle.dwz_moving.specs.Moves.{Move}
 use Rattle.dwz_same.specs.After.{ArePlaced}
-use Rattle.dwz_same.specs.Units.{all_units, common_units, file_units, out_units}
+use Rattle.dwz_same.specs.Units.{common_units, file_units, out_units}
 use Rattle.dwz_same.proofs.ApartUnits.{all_apart, keys_joined}
 use Rattle.dwz_same.proofs.OldFiles.{files_old}
 use Rattle.dwz_writing.specs.Placing.{has_key}
 use Rattle.dwz_writing.proofs.Chosen.{none_has}
 use Rattle.dwz_writing.proofs.ChosenNames.{has_in}
 use Rattle.dwz_writing.proofs.SameLemmas.{spots_same}
-use Rattle.dwz_known.specs.Owners.{StandsIn, all_written, file_written, files_written, move_of}
+use Rattle.dwz_known.specs.Owners.{StandsIn, all_written, files_written, move_of}
 use Rattle.dwz_known.proofs.ImageLemmas.{below_length_of}
 
 -- ---- where a name stands

@@ -10,7 +10,7 @@ use Rattle.dwz_seen.proofs.Members.{each_append, each_more, in_cases}
 use Rattle.dwz_seen.proofs.SpaceLemmas.{text_map, under_count}
 use Rattle.dwz_alike.specs.Spots.{ASpace, ATop, Nothing, Row, SpaceAt, SpaceName, Spot, Top, Within, entry_spots, name_of, row_tops, top_spots}
 use Rattle.dwz_alike.proofs.NameLists.{spots_space, spots_top}
-use Rattle.dwz_alike.proofs.RowLemmas.{RowIs, count_space, count_top}
+use Rattle.dwz_alike.proofs.RowLemmas.{RowIs}
 use Rattle.dwz_known.proofs.Paths.{names_paths, paths_in, paths_map, paths_of, spot_of}
 
 -- an entry of a top has one whose number is in this range

@@ -1,5 +1,5 @@
 -- Numbers of images: of the entries of a file that of the entry that stands for each after.
-use Rattle.std.specs.Prelude.{◌≡◌, ℕ, suc, ◌+◌, ◌<◌, ◌^◌, List, [], ◌∷◌, ◌++◌, length, map, Some, slice_get}
+use Rattle.std.specs.Prelude.{◌≡◌, ℕ, ◌+◌, ◌<◌, ◌^◌, List, [], ◌∷◌, ◌++◌, length, map, Some, slice_get}
 use Rattle.dwz_meanings.specs.Documents.{Doc}
 use Rattle.dwz_alike.specs.Alike.{IsAlike, Scope}
 use Rattle.dwz_alike.specs.Spots.{Spot, units_of}

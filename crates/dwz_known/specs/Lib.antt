@@ -6,3 +6,4 @@ pub mod Whole
 pub mod Laws
 pub mod OwnerLaws
 pub mod Reach
+pub mod Befores

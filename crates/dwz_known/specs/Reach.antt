@@ -1,5 +1,5 @@
 -- In which unit, and in which file, a name stands, by the numbers of units.
-use Rattle.std.specs.Prelude.{◌≡◌, ◌⊎◌, ℕ, ◌==◌, ◌<◌, ◌≤◌, Bool, List, ◌++◌, length, nat_lt, not, Some, slice_get}
+use Rattle.std.specs.Prelude.{◌≡◌, ◌⊎◌, ℕ, ◌==◌, ◌≤◌, Bool, List, ◌++◌, length, nat_lt, not, Some, slice_get}
 use Rattle.dwz_docs.specs.Lists.{In}
 use Rattle.dwz_meanings.specs.Documents.{Doc, DwUnit}
 use Rattle.dwz_seen.specs.Lists.{Each, NoneTwice}

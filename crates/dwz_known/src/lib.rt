@@ -2,12 +2,14 @@
 #![tactic(auto)]
 
 mod counted;
+mod firsts;
 mod images;
 mod laws;
 mod numbers;
 mod owners;
 
 pub use counted::{starts, tops};
+pub use firsts::{Before, befores};
 pub use images::{image, references};
 pub use laws::{count_laws, image_laws, owner_laws, reach_laws};
 pub use numbers::UnitNumbers;

@@ -1,5 +1,4 @@
-use Rattle.std.proofs.Common.{◌+◌, ℕ, length, sym, subst, arith}
-use Rattle.dwz_known.specs.Numbering.{leading}
+use Rattle.std.proofs.Common.{ℕ, length, sym, subst}
 use Rattle.dwz_known.proofs.MakeLemmas.{Small, begins, ends, goes_on, small_first, small_fits, small_next, small_olds, small_parts}
 use Rattle.dwz_known.proofs.numbers.UnitNumbers.make.Goals as goal
 

@@ -35,7 +35,8 @@ read_pairs entry (pair ∷ pairs) at end attrs e =
 
 count_map : {X Y : Type 0} (p : Y → Bool) (f : X → Y) (xs : List X) → count_by p (map f xs) ≡ count_by (λ x. p (f x)) xs
 count_map p f [] = refl
-count_map {X} {Y} p f (x ∷ xs) = sum_by-cons (λ (y : Y). cond (p y) 1 0) (f x) (map f xs) ∙ ap (λ (n : ℕ). cond (p (f x)) 1 0 + n) (count_map p f xs) ∙ sym (sum_by-cons (λ (y : X). cond (p (f y)) 1 0) x xs)
+count_map {X} {Y} p f (x ∷ xs) = sum_by-cons (λ (y : Y). cond (p y) 1 0) (f x) (map f xs) ∙ ap (λ (n : ℕ). cond (p (f x)) 1 0 + n) (count_map p f xs)
+    ∙ sym (sum_by-cons (λ (y : X). cond (p (f y)) 1 0) x xs)
 
 -- how many of them pass a test
 pub counted : (p : Pair → Bool) (pairs : List Pair) (at : Input) (row : EntryRow) → Reads row.entry.at pairs at row.entry.attrs → count_by p pairs ≡ count_by (λ a. p a.pair) row.entry.attrs
@@ -70,7 +71,8 @@ pub record Next (raw : List RawUnit) (i : ℕ) (pairs : List Pair) : Type 0 wher
   pub reads : Reads row.entry.at pairs at row.entry.attrs
   pub few : length row.entry.attrs < 4294967296
 
-pub next : (raw : List RawUnit) (i count : ℕ) (pairs : List Pair) (at : Input) → i < entries_in raw → attr_count raw i ≡ count → count < 4294967296 → ((row : EntryRow) → slice_get (rows_of raw) i ≡ Some row → Reads row.entry.at pairs at row.entry.attrs) → Next raw i pairs
+pub next : (raw : List RawUnit) (i count : ℕ) (pairs : List Pair) (at : Input) → i < entries_in raw → attr_count raw i ≡ count → count < 4294967296
+    → ((row : EntryRow) → slice_get (rows_of raw) i ≡ Some row → Reads row.entry.at pairs at row.entry.attrs) → Next raw i pairs
 next raw i count pairs at lt many few reads =
     let r = row_there raw i lt in
     let len : attr_count raw i ≡ length r.0.entry.attrs = ap (λ o. option_map_or (λ (row : EntryRow). length row.entry.attrs) o 0) r.1 in
@@ -83,7 +85,8 @@ count_few raw i pairs p n =
     let few = n.few in
     omega (arith, e, le, few)
 
-pub counted_next : (raw : List RawUnit) (i : ℕ) (b after : Before) (old new : List Before) (pairs : List Pair) → i < entries_in raw → Counted raw i b old → (n : Next raw i pairs) → after ≡ behind b n.row → new ≡ old ++ b ∷ [] → Counted raw (i + 1) after new
+pub counted_next : (raw : List RawUnit) (i : ℕ) (b after : Before) (old new : List Before) (pairs : List Pair) → i < entries_in raw → Counted raw i b old → (n : Next raw i pairs)
+    → after ≡ behind b n.row → new ≡ old ++ b ∷ [] → Counted raw (i + 1) after new
 unfolding befores_from
 counted_next raw i b after old new pairs lt c n is new_is =
     let rows = rows_of raw in
@@ -98,12 +101,14 @@ counted_next raw i b after old new pairs lt c n is new_is =
     let at : after.texts ≡ b.texts + text_count n.row.entry.attrs = ap (λ (w : Before). w.texts) is in
     let af : after.files ≡ b.files + file_count n.row.entry.attrs = ap (λ (w : Before). w.files) is in
     record {
-      found = c.found ∙ ap (λ (w : List EntryRow). old ++ befores_from b w) left ∙ sym (append_assoc old (b ∷ []) (befores_from (behind b n.row) (drop (i + 1) rows))) ∙ (λ j. sym new_is j ++ befores_from (sym is j) (drop (i + 1) rows));
+      found = c.found ∙ ap (λ (w : List EntryRow). old ++ befores_from b w) left ∙ sym (append_assoc old (b ∷ []) (befores_from (behind b n.row) (drop (i + 1) rows)))
+          ∙ (λ j. sym new_is j ++ befores_from (sym is j) (drop (i + 1) rows));
       texts = omega (arith, at, texts, few, t);
       files = omega (arith, af, files, few, f);
     }
 
-pub counted_end : (raw : List RawUnit) (i : ℕ) (b : Before) (befores : List Before) → Counted raw i b befores → entries_in raw ≤ i → befores ≡ befores_from (record { texts = 0; files = 0 }) (rows_of raw)
+pub counted_end : (raw : List RawUnit) (i : ℕ) (b : Before) (befores : List Before) → Counted raw i b befores → entries_in raw ≤ i
+    → befores ≡ befores_from (record { texts = 0; files = 0 }) (rows_of raw)
 unfolding befores_from
 counted_end raw i b befores c le =
     let long = rows-length raw in

@@ -35,7 +35,8 @@ pub record Starts (all : List Index) (i start : ℕ) (starts : List ℕ) : Type 
 pub starts_first : (all : List Index) → Starts all 0 0 []
 starts_first all = record { left = left_first all; found = refl }
 
-pub starts_next : (all : List Index) (i start : ℕ) (starts more : List ℕ) (x : Index) → Starts all i start starts → i < length all → x ≡ get_or all i x → more ≡ starts ++ start ∷ [] → Starts all (i + 1) (start + length x.steps) more
+pub starts_next : (all : List Index) (i start : ℕ) (starts more : List ℕ) (x : Index) → Starts all i start starts → i < length all → x ≡ get_or all i x → more ≡ starts ++ start ∷ []
+    → Starts all (i + 1) (start + length x.steps) more
 unfolding starts_from
 starts_next all i start starts more x h lt e is = record {
   left = left_next all i start x h.left lt e;
@@ -54,11 +55,13 @@ starts_end all i start starts h le = sym (h.found ∙ ap (λ (w : List Index). s
 pub tops_fit : (start : ℕ) (x : Index) → start + length x.steps < 2 ^ 32 → All (λ t. t.entry < length x.steps) x.tops → All (λ t. start + t.entry < 2 ^ 32) x.tops
 tops_fit start x few inside = λ k d lt. (let h = inside k d lt in omega (arith, h, few))
 
-pub tops_more : (tops old new : List ℕ) (start : ℕ) (entries : List TopEntry) (i : ℕ) (t : TopEntry) → i < length entries → t ≡ get_or entries i t → old ≡ tops ++ tops_in start (take i entries) → new ≡ old ++ (start + t.entry) ∷ [] → new ≡ tops ++ tops_in start (take (i + 1) entries)
+pub tops_more : (tops old new : List ℕ) (start : ℕ) (entries : List TopEntry) (i : ℕ) (t : TopEntry) → i < length entries → t ≡ get_or entries i t
+    → old ≡ tops ++ tops_in start (take i entries) → new ≡ old ++ (start + t.entry) ∷ [] → new ≡ tops ++ tops_in start (take (i + 1) entries)
 tops_more tops old new start entries i t lt e was is =
     let f = λ (w : TopEntry). start + w.entry in
     is ∙ ap (λ (w : List ℕ). w ++ (start + t.entry) ∷ []) was ∙ append_assoc tops (map f (take i entries)) ((start + t.entry) ∷ [])
-    ∙ ap (λ (w : List ℕ). tops ++ w) ((λ j. map f (take i entries) ++ (start + (e j).entry) ∷ []) ∙ sym (map-append f (take i entries) (get_or entries i t ∷ [])) ∙ ap (map f) (sym (take_more entries i t lt)))
+    ∙ ap (λ (w : List ℕ). tops ++ w) ((λ j. map f (take i entries) ++ (start + (e j).entry) ∷ []) ∙ sym (map-append f (take i entries) (get_or entries i t ∷ []))
+    ∙ ap (map f) (sym (take_more entries i t lt)))
 
 pub tops_all : (tops new : List ℕ) (start : ℕ) (entries : List TopEntry) (i : ℕ) → length entries ≤ i → new ≡ tops ++ tops_in start (take i entries) → new ≡ tops ++ tops_in start entries
 tops_all tops new start entries i le e = e ∙ ap (λ (w : List TopEntry). tops ++ tops_in start w) (take_all i entries le)
@@ -70,7 +73,8 @@ pub record Tops (all : List Index) (i start : ℕ) (tops : List ℕ) : Type 0 wh
 pub tops_first : (all : List Index) → Tops all 0 0 []
 tops_first all = record { left = left_first all; found = refl }
 
-pub tops_next : (all : List Index) (i start : ℕ) (tops more : List ℕ) (x : Index) → Tops all i start tops → i < length all → x ≡ get_or all i x → more ≡ tops ++ tops_in start x.tops → Tops all (i + 1) (start + length x.steps) more
+pub tops_next : (all : List Index) (i start : ℕ) (tops more : List ℕ) (x : Index) → Tops all i start tops → i < length all → x ≡ get_or all i x → more ≡ tops ++ tops_in start x.tops
+    → Tops all (i + 1) (start + length x.steps) more
 unfolding tops_from
 tops_next all i start tops more x h lt e is = record {
   left = left_next all i start x h.left lt e;

@@ -29,7 +29,8 @@ below_between unit top high (OfType signature main) f le = subst (Each (Between 
 below_between unit top high Partial f le = tt
 
 module _ (file : ℕ) (name : ℕ → Spot) where
-  below_run : (unit top high : ℕ) (v : DwUnit ℕ) (kind : Kind ℕ) → top + top_count kind v.below ≤ high → (t : Top) → In t (row_tops (row_below file unit top (unit_map name v) (kind_map name kind))) → Run top high (below_names unit top kind v.below) t.number (paths_of t.below)
+  below_run : (unit top high : ℕ) (v : DwUnit ℕ) (kind : Kind ℕ) → top + top_count kind v.below ≤ high → (t : Top)
+      → In t (row_tops (row_below file unit top (unit_map name v) (kind_map name kind))) → Run top high (below_names unit top kind v.below) t.number (paths_of t.below)
   unfolding row_tops
   below_run unit top high v Compile le t is =
       let u = unit_map name v in
@@ -53,7 +54,8 @@ units_between unit top high (v ∷ units) le =
 abbrev pub filed : ℕ → (ℕ → Spot) → List (DwUnit ℕ) → List (FileUnit Spot)
 filed file name units = map (in_file file) (map (unit_map name) units)
 
-pub units_run : (file : ℕ) (name : ℕ → Spot) (unit top high : ℕ) (units : List (DwUnit ℕ)) → top + tops_among units ≤ high → (t : Top) → In t (tops_from unit top (filed file name units)) → Run top high (names_from unit top units) t.number (paths_of t.below)
+pub units_run : (file : ℕ) (name : ℕ → Spot) (unit top high : ℕ) (units : List (DwUnit ℕ)) → top + tops_among units ≤ high → (t : Top) → In t (tops_from unit top (filed file name units))
+    → Run top high (names_from unit top units) t.number (paths_of t.below)
 unfolding names_from tops_among tops_from
 units_run file name unit top high [] le t is = absurd is
 units_run file name unit top high (v ∷ units) le t is =
@@ -65,7 +67,8 @@ units_run file name unit top high (v ∷ units) le t is =
     let root : Each (Between top top) (RootOf unit ∷ []) = (tt, tt) in
     run_right top top high t.number (paths_of t.below) (RootOf unit ∷ []) (own ++ rest) (omega arith) root
     (elim (in_cases t (row_tops (row_below file unit top w w.kind)) (tops_from (suc unit) (top + top_count w.kind w.below) (filed file name units)) is) [
-      | inl a ↦ run_left top mid high t.number (paths_of t.below) own rest (omega (arith, le)) (below_run file name unit top mid v v.kind (omega arith) t a) (units_between (suc unit) mid high units (omega (arith, le)))
+      | inl a ↦ run_left top mid high t.number (paths_of t.below) own rest (omega (arith, le)) (below_run file name unit top mid v v.kind (omega arith) t a)
+          (units_between (suc unit) mid high units (omega (arith, le)))
       | inr b ↦ run_right top mid high t.number (paths_of t.below) own rest (omega arith) (below_between unit top mid v.kind v.below (omega arith))
           (units_run file name (suc unit) mid high units (omega (arith, le)) t (subst (λ (n : ℕ). In t (tops_from (suc unit) (top + n) (filed file name units))) same b))
     ])
@@ -135,7 +138,8 @@ files_between unit top high (doc ∷ docs) le =
     each_append (Between top high) (names_from unit top doc.units) rest (units_between unit top high doc.units (omega (arith, le)))
     (wider mid high top high (omega arith) (omega arith) rest (files_between (unit + length doc.units) mid high docs (omega (arith, le))))
 
-pub files_run : (file unit top high : ℕ) (docs : List (Doc ℕ)) → top + tops_in_all docs ≤ high → (t : Top) → In t (tops_from unit top (named_files file unit top docs)) → Run top high (names_of_files unit top docs) t.number (paths_of t.below)
+pub files_run : (file unit top high : ℕ) (docs : List (Doc ℕ)) → top + tops_in_all docs ≤ high → (t : Top) → In t (tops_from unit top (named_files file unit top docs))
+    → Run top high (names_of_files unit top docs) t.number (paths_of t.below)
 unfolding names_of_files tops_in_all named_files tops_from
 files_run file unit top high [] le t is = absurd is
 files_run file unit top high (doc ∷ docs) le t is =
@@ -146,7 +150,8 @@ files_run file unit top high (doc ∷ docs) le t is =
     let names = names_from unit top doc.units in
     let rest = names_of_files (unit + length doc.units) mid docs in
     elim (in_cases t (tops_from unit top own) (tops_from (unit + length own) (top + counted own) others) (subst (In t) (tops_append unit top own others) is)) [
-      | inl a ↦ run_left top mid high t.number (paths_of t.below) names rest (omega (arith, le)) (units_run file name unit top mid doc.units (omega arith) t a) (files_between (unit + length doc.units) mid high docs (omega (arith, le)))
+      | inl a ↦ run_left top mid high t.number (paths_of t.below) names rest (omega (arith, le)) (units_run file name unit top mid doc.units (omega arith) t a)
+          (files_between (unit + length doc.units) mid high docs (omega (arith, le)))
       | inr b ↦ run_right top mid high t.number (paths_of t.below) names rest (omega arith) (units_between unit top mid doc.units (omega arith))
           (files_run (suc file) (unit + length doc.units) mid high docs (omega (arith, le)) t
           (subst (λ (w : ℕ). In t (tops_from (unit + length doc.units) (top + w) others)) (filed_counted file name doc.units)

@@ -67,8 +67,10 @@ first_only f zero e = refl
 first_only f (suc k) e = absurd (none_empty [] 0 f k e)
 
 -- the same place behind another top whose entries have the same paths
-pub moved : (low high m n : ℕ) (names : List Spot) (f g : Entries Spot) → Run low high names m (paths_of f) → Run low high names n (paths_of g) → paths_in [] 0 f ≡ paths_in [] 0 g → (path : List ℕ) (i from to : ℕ)
-    → slice_get names i ≡ Some (Within m path) → slice_get names from ≡ Some (Within m []) → slice_get names to ≡ Some (Within n []) → (from ≤ i) × (slice_get names (to + (i - from)) ≡ Some (Within n path))
+pub moved : (low high m n : ℕ) (names : List Spot) (f g : Entries Spot) → Run low high names m (paths_of f) → Run low high names n (paths_of g) → paths_in [] 0 f ≡ paths_in [] 0 g
+    → (path : List ℕ) (i from to : ℕ)
+    → slice_get names i ≡ Some (Within m path) → slice_get names from ≡ Some (Within m []) → slice_get names to ≡ Some (Within n [])
+    → (from ≤ i) × (slice_get names (to + (i - from)) ≡ Some (Within n path))
 moved low high m n names f g a b same path i from to e e' e'' =
     let x = located low high m names (paths_of f) a i path e in
     let y = located low high m names (paths_of f) a from [] e' in
@@ -110,7 +112,8 @@ first_cases alike n (t ∷ tops) = go (first_cases alike n tops) (alike n t.numb
 pub stand_cases : (rule : Rule) (units : List (FileUnit Spot)) (n : ℕ) → (stand_in rule units n ≡ n) ⊎ AlikeTo rule.alike (tops_of units) n (stand_in rule units n)
 unfolding stand_in
 stand_cases rule units n = go (moves rule units n) where
-  go : (b : Bool) → (elim b as (λ _. ℕ) [ true ↦ first_alike rule.alike n (tops_of units) | false ↦ n ] ≡ n) ⊎ AlikeTo rule.alike (tops_of units) n (elim b as (λ _. ℕ) [ true ↦ first_alike rule.alike n (tops_of units) | false ↦ n ])
+  go : (b : Bool) → (elim b as (λ _. ℕ) [ true ↦ first_alike rule.alike n (tops_of units) | false ↦ n ] ≡ n) ⊎ AlikeTo rule.alike (tops_of units) n
+      (elim b as (λ _. ℕ) [ true ↦ first_alike rule.alike n (tops_of units) | false ↦ n ])
   go true = first_cases rule.alike n (tops_of units)
   go false = inl refl
 
@@ -122,7 +125,8 @@ stand_inside docs rule top lt = elim (stand_cases rule (units_of docs) top) [
 ]
 
 -- alike tops have the same paths
-same_paths : (scope : Scope) (units : List (FileUnit Spot)) (alike : Test) → IsAlike scope units alike → (a b : Top) → In a (tops_of units) → In b (tops_of units) → alike a.number b.number ≡ true → paths_in [] 0 a.below ≡ paths_in [] 0 b.below
+same_paths : (scope : Scope) (units : List (FileUnit Spot)) (alike : Test) → IsAlike scope units alike → (a b : Top) → In a (tops_of units) → In b (tops_of units)
+    → alike a.number b.number ≡ true → paths_in [] 0 a.below ≡ paths_in [] 0 b.below
 unfolding Look
 same_paths scope units alike d a b is js e =
     let h = (d.decides a.number b.number e).equal 1 in

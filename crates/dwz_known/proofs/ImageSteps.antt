@@ -60,7 +60,8 @@ in_a_top top (PartialRoot i) e = absurd cc
 in_a_top top (InChain p i d) e = absurd cc
 in_a_top top (Import i p) e = absurd cc
 
-pub image_none : (docs : List (Doc ℕ)) (rule : Rule) (names : List Spot) (x : Index) (start entry : ℕ) → IsFile docs names x start → entry < length x.steps → ((s : Spot) → slice_get names entry ≡ Some s → None ≡ top_in s) → IsImage docs rule names entry (start + entry)
+pub image_none : (docs : List (Doc ℕ)) (rule : Rule) (names : List Spot) (x : Index) (start entry : ℕ) → IsFile docs names x start → entry < length x.steps
+    → ((s : Spot) → slice_get names entry ≡ Some s → None ≡ top_in s) → IsImage docs rule names entry (start + entry)
 image_none docs rule names x start entry h lt none =
     let o = stands docs names x start entry h lt in
     record { name = o.name; is = o.is; there = o.among ∙ ap (λ (w : Spot). Some w) (sym (no_top rule (units_of docs) o.name (sym (none o.name o.is)))) }
@@ -71,7 +72,8 @@ abbrev pub Counts : Planned → List ℕ → (top n r : ℕ) → Type 0
 Counts plan tops top n r =
     (from to : ℕ) → slice_get tops top ≡ Some from → slice_get tops (slice_index plan.stand_ins top) ≡ Some to → from ≤ n → to + (n - from) < 2 ^ 32 → r ≡ to + (n - from)
 
-pub image_in_top : (docs : List (Doc ℕ)) (rule : Rule) (plan : Planned) (tops : List ℕ) → IsPlanned docs rule plan tops → (n r top : ℕ) (path : List ℕ) → slice_get (all_names docs) n ≡ Some (Within top path) → Counts plan tops top n r
+pub image_in_top : (docs : List (Doc ℕ)) (rule : Rule) (plan : Planned) (tops : List ℕ) → IsPlanned docs rule plan tops → (n r top : ℕ) (path : List ℕ)
+    → slice_get (all_names docs) n ≡ Some (Within top path) → Counts plan tops top n r
     → slice_get (all_names docs) r ≡ Some (image rule (units_of docs) (Within top path))
 image_in_top docs rule plan tops p n r top path e counts =
     let units = units_of docs in
@@ -91,7 +93,8 @@ image_in_top docs rule plan tops p n r top path e counts =
     let is : r ≡ to + (n - from) = counts from to at_from (ap (slice_get tops) is_stand ∙ at_to) x.0 (omega (arith, few, fits)) in
     ap (slice_get (all_names docs)) is ∙ x.1
 
-pub image_some : (docs : List (Doc ℕ)) (rule : Rule) (plan : Planned) (tops : List ℕ) (names : List Spot) (x : Index) (start entry top r : ℕ) → IsPlanned docs rule plan tops → IsFile docs names x start → entry < length x.steps
+pub image_some : (docs : List (Doc ℕ)) (rule : Rule) (plan : Planned) (tops : List ℕ) (names : List Spot) (x : Index) (start entry top r : ℕ) → IsPlanned docs rule plan tops
+    → IsFile docs names x start → entry < length x.steps
     → ((s : Spot) → slice_get names entry ≡ Some s → Some top ≡ top_in s) → Counts plan tops top (start + entry) r → IsImage docs rule names entry r
 image_some docs rule plan tops names x start entry top r p h lt some counts =
     let o = stands docs names x start entry h lt in
@@ -104,17 +107,20 @@ image_some docs rule plan tops names x start entry top r p h lt some counts =
 
 -- ---- one after the other
 
-images_append : (docs : List (Doc ℕ)) (rule : Rule) (names : List Spot) (entries numbers : List ℕ) (entry number : ℕ) → AreImages docs rule names entries numbers → IsImage docs rule names entry number → AreImages docs rule names (entries ++ entry ∷ []) (numbers ++ number ∷ [])
+images_append : (docs : List (Doc ℕ)) (rule : Rule) (names : List Spot) (entries numbers : List ℕ) (entry number : ℕ) → AreImages docs rule names entries numbers
+    → IsImage docs rule names entry number → AreImages docs rule names (entries ++ entry ∷ []) (numbers ++ number ∷ [])
 images_append docs rule names [] [] entry number h k = (k, tt)
 images_append docs rule names [] (n ∷ numbers) entry number h k = absurd h
 images_append docs rule names (e ∷ entries) [] entry number h k = absurd h
 images_append docs rule names (e ∷ entries) (n ∷ numbers) entry number h k = (h.0, images_append docs rule names entries numbers entry number h.1 k)
 
-pub images_more : (docs : List (Doc ℕ)) (rule : Rule) (names : List Spot) (refs old new : List ℕ) (i number : ℕ) → i < length refs → AreImages docs rule names (take i refs) old → IsImage docs rule names (get_or refs i 0) number → new ≡ old ++ number ∷ []
+pub images_more : (docs : List (Doc ℕ)) (rule : Rule) (names : List Spot) (refs old new : List ℕ) (i number : ℕ) → i < length refs → AreImages docs rule names (take i refs) old
+    → IsImage docs rule names (get_or refs i 0) number → new ≡ old ++ number ∷ []
     → AreImages docs rule names (take (i + 1) refs) new
 images_more docs rule names refs old new i number lt h k is =
     subst (λ (w : List ℕ). AreImages docs rule names w new) (sym (take_more refs i 0 lt))
     (subst (λ (w : List ℕ). AreImages docs rule names (take i refs ++ get_or refs i 0 ∷ []) w) (sym is) (images_append docs rule names (take i refs) old (get_or refs i 0) number h k))
 
-pub images_all : (docs : List (Doc ℕ)) (rule : Rule) (names : List Spot) (refs numbers : List ℕ) (i : ℕ) → length refs ≤ i → AreImages docs rule names (take i refs) numbers → AreImages docs rule names refs numbers
+pub images_all : (docs : List (Doc ℕ)) (rule : Rule) (names : List Spot) (refs numbers : List ℕ) (i : ℕ) → length refs ≤ i → AreImages docs rule names (take i refs) numbers
+    → AreImages docs rule names refs numbers
 images_all docs rule names refs numbers i le h = subst (λ (w : List ℕ). AreImages docs rule names w numbers) (take_all i refs le) h

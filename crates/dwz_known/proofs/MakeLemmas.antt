@@ -41,7 +41,8 @@ pub record Small (partials : List Partial) (counts : List ℕ) (i next : ℕ) (p
 pub small_first : (partials : List Partial) (counts parts : List ℕ) → parts ≡ [] → Small partials counts 0 0 parts
 small_first partials counts parts none = let e : length parts ≡ 0 = ap (λ (w : List ℕ). length w) none in record { within = omega (arith, e); room = omega (arith, e) }
 
-pub small_parts : (partials : List Partial) (counts parts new : List ℕ) (i next file : ℕ) → Small partials counts i next parts → new ≡ parts ++ range_with_len next (leading file (drop (length parts) partials)) → Small partials counts i (next + leading file (drop (length parts) partials)) new
+pub small_parts : (partials : List Partial) (counts parts new : List ℕ) (i next file : ℕ) → Small partials counts i next parts
+    → new ≡ parts ++ range_with_len next (leading file (drop (length parts) partials)) → Small partials counts i (next + leading file (drop (length parts) partials)) new
 small_parts partials counts parts new i next file h is =
     let k = leading file (drop (length parts) partials) in
     let le = leading_le file (drop (length parts) partials) in
@@ -51,7 +52,8 @@ small_parts partials counts parts new i next file h is =
     let room = h.room in
     record { within = omega (arith, le, left, long, within); room = omega (arith, le, left, long, within, room) }
 
-pub small_fits : (partials : List Partial) (counts parts : List ℕ) (i next file : ℕ) → Small partials counts i next parts → length partials + sum counts < 2 ^ 32 → next + leading file (drop (length parts) partials) < 2 ^ 32
+pub small_fits : (partials : List Partial) (counts parts : List ℕ) (i next file : ℕ) → Small partials counts i next parts → length partials + sum counts < 2 ^ 32
+    → next + leading file (drop (length parts) partials) < 2 ^ 32
 small_fits partials counts parts i next file h few =
     let le = leading_le file (drop (length parts) partials) in
     let left = length-drop (length parts) partials in
@@ -62,10 +64,12 @@ small_fits partials counts parts i next file h few =
 sum_next : (counts : List ℕ) (i : ℕ) → i < length counts → sum (drop i counts) ≡ get_or counts i 0 + sum (drop (i + 1) counts)
 sum_next counts i lt = sum_by-drop_more (λ (x : ℕ). x) counts i 0 lt
 
-pub small_olds : (partials : List Partial) (counts parts : List ℕ) (i next : ℕ) → Small partials counts i next parts → i < length counts → length partials + sum counts < 2 ^ 32 → next + get_or counts i 0 < 2 ^ 32
+pub small_olds : (partials : List Partial) (counts parts : List ℕ) (i next : ℕ) → Small partials counts i next parts → i < length counts → length partials + sum counts < 2 ^ 32
+    → next + get_or counts i 0 < 2 ^ 32
 small_olds partials counts parts i next h lt few = let s = sum_next counts i lt in let room = h.room in omega (arith, s, room, few)
 
-pub small_next : (partials : List Partial) (counts parts : List ℕ) (i next after : ℕ) (b : Bool) → Small partials counts i next parts → i < length counts → after ≡ next + (if b then get_or counts i 0 else 0) → Small partials counts (i + 1) after parts
+pub small_next : (partials : List Partial) (counts parts : List ℕ) (i next after : ℕ) (b : Bool) → Small partials counts i next parts → i < length counts
+    → after ≡ next + (if b then get_or counts i 0 else 0) → Small partials counts (i + 1) after parts
 small_next partials counts parts i next after true h lt e = let s = sum_next counts i lt in let room = h.room in record { within = h.within; room = omega (arith, s, room, e) }
 small_next partials counts parts i next after false h lt e = let s = sum_next counts i lt in let room = h.room in record { within = h.within; room = omega (arith, s, room, e) }
 
@@ -93,8 +97,10 @@ named_later file unit top [] = tt
 named_later file unit top (doc ∷ docs) =
     let name = spot_in (spots_from unit top doc.units) in
     let rest = named_files (suc file) (unit + length doc.units) (top + tops_among doc.units) docs in
-    each_append (λ (u : FileUnit Spot). file ≤ u.file) (filed file name doc.units) rest (each_more (λ (u : FileUnit Spot). u.file ≡ file) (λ (u : FileUnit Spot). file ≤ u.file) (filed file name doc.units) (λ u e. omega (arith, e)) (filed_files file name doc.units))
-    (each_more (λ (u : FileUnit Spot). suc file ≤ u.file) (λ (u : FileUnit Spot). file ≤ u.file) rest (λ u le. omega (arith, le)) (named_later (suc file) (unit + length doc.units) (top + tops_among doc.units) docs))
+    each_append (λ (u : FileUnit Spot). file ≤ u.file) (filed file name doc.units) rest
+    (each_more (λ (u : FileUnit Spot). u.file ≡ file) (λ (u : FileUnit Spot). file ≤ u.file) (filed file name doc.units) (λ u e. omega (arith, e)) (filed_files file name doc.units))
+    (each_more (λ (u : FileUnit Spot). suc file ≤ u.file) (λ (u : FileUnit Spot). file ≤ u.file) rest (λ u le. omega (arith, le))
+    (named_later (suc file) (unit + length doc.units) (top + tops_among doc.units) docs))
 
 files_not : (file low : ℕ) (units : List (FileUnit Spot)) → file < low → Each (λ u. low ≤ u.file) units → Each (λ u. u.file ≡ file → ⊥) units
 files_not file low units lt all = each_more (λ (u : FileUnit Spot). low ≤ u.file) (λ (u : FileUnit Spot). u.file ≡ file → ⊥) units (λ u le e. omega (arith, le, lt, e)) all
@@ -106,7 +112,8 @@ numbers_long first count false = zeros count where
   zeros zero = refl
   zeros (suc n) = ap suc (zeros n)
 
-built_sum : (next k : ℕ) (w : Bool) (own : List (FileUnit Spot)) (units : List (DwUnit ℕ)) → length own ≡ length units → (after : ℕ) → after ≡ next + k + (if w then length units else 0) → next + (k + (if w then length own else 0)) ≡ after
+built_sum : (next k : ℕ) (w : Bool) (own : List (FileUnit Spot)) (units : List (DwUnit ℕ)) → length own ≡ length units → (after : ℕ) → after ≡ next + k + (if w then length units else 0)
+    → next + (k + (if w then length own else 0)) ≡ after
 built_sum next k true own units e after is = omega (arith, e, is)
 built_sum next k false own units e after is = omega (arith, is)
 
@@ -146,11 +153,13 @@ module _ (docs : List (Doc ℕ)) (rule : Rule) (shown : List Partial) (counts : 
     pub all_are : all_written (move_of rule docs) (units_of docs) written ≡ built ++ files_written (move_of rule docs) (units_of docs) file flags
     pub built_many : length built ≡ next
     pub parts_ok : (n : ℕ) (part : PartialUnit) → Nth 0 done n part → IsNumber (all_written (move_of rule docs) (units_of docs) written) parts n (partial_unit (move_of rule docs) n)
-    pub olds_ok : (i : ℕ) (u : FileUnit Spot) → Nth 0 old i u → IsFileWritten written u.file → IsNumber (all_written (move_of rule docs) (units_of docs) written) olds i (kept_unit (move_of rule docs) (units_of docs) i u)
+    pub olds_ok : (i : ℕ) (u : FileUnit Spot) → Nth 0 old i u → IsFileWritten written u.file
+        → IsNumber (all_written (move_of rule docs) (units_of docs) written) olds i (kept_unit (move_of rule docs) (units_of docs) i u)
 
   -- the numbers of partial units that stand one behind the other
   parts_more : (done mid : List PartialUnit) (parts : List ℕ) (first : ℕ) → length done ≡ length parts → ((n : ℕ) (part : PartialUnit) → Nth 0 done n part → IsNumber all parts n (partial_unit m n))
-      → ((j : ℕ) → j < length mid → slice_get all (first + j) ≡ Some (partial_unit m (length done + j))) → (n : ℕ) (part : PartialUnit) → Nth 0 (done ++ mid) n part → IsNumber all (parts ++ range_with_len first (length mid)) n (partial_unit m n)
+      → ((j : ℕ) → j < length mid → slice_get all (first + j) ≡ Some (partial_unit m (length done + j))) → (n : ℕ) (part : PartialUnit) → Nth 0 (done ++ mid) n part
+      → IsNumber all (parts ++ range_with_len first (length mid)) n (partial_unit m n)
   parts_more done mid parts first many ok at n part nth =
       let g = nth_get 0 (done ++ mid) n part nth in
       let same : n ≡ g.0 = (let q = g.1 in omega arith) in
@@ -161,13 +170,19 @@ module _ (docs : List (Doc ℕ)) (rule : Rule) (shown : List Partial) (counts : 
         | inr b ↦
             let lt = below_length_of mid b.0 part b.2 in
             let here : n ≡ length parts + b.0 = (let q = b.1 in omega arith) in
-            let far : length done + b.0 ≡ n = omega arith in
-            (first + b.0, ap (slice_get (parts ++ range_with_len first (length mid))) here ∙ get_later parts (range_with_len first (length mid)) b.0 (first + b.0) (range_at first (length mid) b.0 lt), at b.0 lt ∙ ap (λ (w : ℕ). Some (partial_unit m w)) far)
+            let far : length done + b.0 ≡ n = omega arith in (
+              first + b.0,
+              ap (slice_get (parts ++ range_with_len first (length mid))) here
+                  ∙ get_later parts (range_with_len first (length mid)) b.0 (first + b.0) (range_at first (length mid) b.0 lt),
+              at b.0 lt ∙ ap (λ (w : ℕ). Some (partial_unit m w)) far,
+            )
       ]
 
-  olds_more : (file : ℕ) (done own : List (FileUnit Spot)) (olds : List ℕ) (first : ℕ) (w : Bool) → length done ≡ length olds → ((i : ℕ) (u : FileUnit Spot) → Nth 0 done i u → IsFileWritten written u.file → IsNumber all olds i (kept_unit m units i u))
+  olds_more : (file : ℕ) (done own : List (FileUnit Spot)) (olds : List ℕ) (first : ℕ) (w : Bool) → length done ≡ length olds
+      → ((i : ℕ) (u : FileUnit Spot) → Nth 0 done i u → IsFileWritten written u.file → IsNumber all olds i (kept_unit m units i u))
       → Each (λ u. u.file ≡ file) own → slice_index_or written file false ≡ w
-      → (w ≡ true → (j : ℕ) (u : FileUnit Spot) → slice_get own j ≡ Some u → slice_get all (first + j) ≡ Some (kept_unit m units (length done + j) u)) → (i : ℕ) (u : FileUnit Spot) → Nth 0 (done ++ own) i u → IsFileWritten written u.file
+      → (w ≡ true → (j : ℕ) (u : FileUnit Spot) → slice_get own j ≡ Some u → slice_get all (first + j) ≡ Some (kept_unit m units (length done + j) u)) → (i : ℕ) (u : FileUnit Spot)
+      → Nth 0 (done ++ own) i u → IsFileWritten written u.file
       → IsNumber all (olds ++ numbers_of first (length own) w) i (kept_unit m units i u)
   olds_more file done own olds first w many ok files flag at i u nth is =
       let g = nth_get 0 (done ++ own) i u nth in
@@ -187,14 +202,19 @@ module _ (docs : List (Doc ℕ)) (rule : Rule) (shown : List Partial) (counts : 
           let lt = below_length_of own j u got in
           let here : i ≡ length olds + j = omega arith in
           let far : length done + j ≡ i = omega arith in
-          let added : slice_get (numbers_of first (length own) w) j ≡ Some (first + j) = ap (λ (v : Bool). slice_get (numbers_of first (length own) v) j) t ∙ range_at first (length own) j lt in
-          (first + j, ap (slice_get (olds ++ numbers_of first (length own) w)) here ∙ get_later olds (numbers_of first (length own) w) j (first + j) added, at t j u got ∙ ap (λ (n : ℕ). Some (kept_unit m units n u)) far)
+          let added : slice_get (numbers_of first (length own) w) j ≡ Some (first + j) = ap (λ (v : Bool). slice_get (numbers_of first (length own) v) j) t ∙ range_at first (length own) j lt in (
+            first + j,
+            ap (slice_get (olds ++ numbers_of first (length own) w)) here ∙ get_later olds (numbers_of first (length own) w) j (first + j) added,
+            at t j u got
+                ∙ ap (λ (n : ℕ). Some (kept_unit m units n u)) far,
+          )
 
   -- the partial units as the code sees them
   shown_are : map (shown_part (length docs)) m.parts ≡ shown
   shown_are = ap (λ (fs : List ℕ). map (shown_part (length docs)) (partials rule units fs)) (file_numbers_are 0 docs) ∙ h.parts_are
 
-  lead : (file : ℕ) (done mid rest : List PartialUnit) (parts : List ℕ) → m.parts ≡ done ++ (mid ++ rest) → length done ≡ length parts → Each (λ p. (shown_part (length docs) p).file ≡ file) mid → Each (λ p. (shown_part (length docs) p).file ≡ file → ⊥) rest
+  lead : (file : ℕ) (done mid rest : List PartialUnit) (parts : List ℕ) → m.parts ≡ done ++ (mid ++ rest) → length done ≡ length parts
+      → Each (λ p. (shown_part (length docs) p).file ≡ file) mid → Each (λ p. (shown_part (length docs) p).file ≡ file → ⊥) rest
       → leading file (drop (length parts) shown) ≡ length mid
   lead file done mid rest parts are many is not =
       let sh = shown_part (length docs) in
@@ -210,12 +230,15 @@ module _ (docs : List (Doc ℕ)) (rule : Rule) (shown : List Partial) (counts : 
   none_local : (file : ℕ) → changes m units file ≡ false → length (partial_units m (Local file) 0 m.parts) ≡ 0
   unfolding out_units
   none_local file c =
-      let e : length (partial_units m (Local file) 0 m.parts) + length (kept_units m units file 0 units) ≡ length (units_at file units) = sym (length-append (partial_units m (Local file) 0 m.parts) (kept_units m units file 0 units)) ∙ ap (λ (w : List (DwUnit Spot)). length w) (still h.scope docs rule h.alike h.choice (file_numbers 0 docs) file c) in
+      let e : length (partial_units m (Local file) 0 m.parts) + length (kept_units m units file 0 units) ≡ length (units_at file units) = sym
+      (length-append (partial_units m (Local file) 0 m.parts) (kept_units m units file 0 units))
+      ∙ ap (λ (w : List (DwUnit Spot)). length w) (still h.scope docs rule h.alike h.choice (file_numbers 0 docs) file c) in
       let k = kept_count m units file 0 units in
       omega (arith, e, k)
 
   -- what is written of a file, of whose partial units and old units so many are known
-  file_units : (file k d o : ℕ) (own : List (FileUnit Spot)) (w : Bool) → slice_index_or written file false ≡ w → partial_units m (Local file) 0 m.parts ≡ numbered m d k → kept_units m units file 0 units ≡ kept_list m units o own
+  file_units : (file k d o : ℕ) (own : List (FileUnit Spot)) (w : Bool) → slice_index_or written file false ≡ w → partial_units m (Local file) 0 m.parts ≡ numbered m d k
+      → kept_units m units file 0 units ≡ kept_list m units o own
       → (length (file_written m units file w) ≡ k + (if w then length own else 0)) × ((j : ℕ) → j < k → slice_get (file_written m units file w) j ≡ Some (partial_unit m (d + j)))
       × (w ≡ true → (j : ℕ) (u : FileUnit Spot) → slice_get own j ≡ Some u → slice_get (file_written m units file w) (k + j) ≡ Some (kept_unit m units (o + j) u))
   unfolding out_units
@@ -236,8 +259,10 @@ module _ (docs : List (Doc ℕ)) (rule : Rule) (shown : List Partial) (counts : 
       still_file false e = refl
 
   -- the next file
-  pub going_next : (file next k after : ℕ) (doc : Doc ℕ) (rest : List (Doc ℕ)) (w : Bool) (flags : List Bool) (parts more olds others : List ℕ) → Going file next (doc ∷ rest) (w ∷ flags) parts olds → slice_index_or written file false ≡ w
-      → k ≡ leading file (drop (length parts) shown) → more ≡ parts ++ range_with_len next k → others ≡ olds ++ numbers_of (next + k) (length doc.units) w → after ≡ next + k + (if w then length doc.units else 0) → Going (file + 1) after rest flags more others
+  pub going_next : (file next k after : ℕ) (doc : Doc ℕ) (rest : List (Doc ℕ)) (w : Bool) (flags : List Bool) (parts more olds others : List ℕ)
+      → Going file next (doc ∷ rest) (w ∷ flags) parts olds → slice_index_or written file false ≡ w
+      → k ≡ leading file (drop (length parts) shown) → more ≡ parts ++ range_with_len next k → others ≡ olds ++ numbers_of (next + k) (length doc.units) w
+      → after ≡ next + k + (if w then length doc.units else 0) → Going (file + 1) after rest flags more others
   unfolding local_partials named_files files_written
   going_next file next k after doc rest w flags parts more olds others g flag count more_is others_is after_is =
       let mid = partials_at rule units (Local file) in
@@ -245,7 +270,8 @@ module _ (docs : List (Doc ℕ)) (rule : Rule) (shown : List Partial) (counts : 
       let at_mid = at_home rule units (Local file) in
       let last = g.last in
       let laters : Each (IsLater (file + 1) (length docs)) left = local_later rule units (file + 1) (length rest) (length docs) (omega arith) in
-      let shown_mid = each_more (λ (p : PartialUnit). p.home ≡ Local file) (λ (p : PartialUnit). (shown_part (length docs) p).file ≡ file) mid (λ p e. ap (λ (hm : Home). file_of_home (length docs) hm) e) at_mid in
+      let shown_mid = each_more (λ (p : PartialUnit). p.home ≡ Local file) (λ (p : PartialUnit). (shown_part (length docs) p).file ≡ file) mid
+      (λ p e. ap (λ (hm : Home). file_of_home (length docs) hm) e) at_mid in
       let lead_is : k ≡ length mid = count ∙ lead file g.done mid left parts g.parts_are g.parts_many shown_mid (later_shown (file + 1) (length docs) file left (omega arith) laters) in
       let name = spot_in (spots_from g.unit g.top doc.units) in
       let own = filed file name doc.units in
@@ -253,37 +279,50 @@ module _ (docs : List (Doc ℕ)) (rule : Rule) (shown : List Partial) (counts : 
       let own_long = filed_length file name doc.units in
       let own_files : Each (λ u. u.file ≡ file) own = filed_files file name doc.units in
       let left_files = named_later (suc file) (g.unit + length doc.units) (g.top + tops_among doc.units) rest in
-      let parts_here : partial_units m (Local file) 0 m.parts ≡ numbered m (length g.done) k = ap (partial_units m (Local file) 0) g.parts_are ∙ parts_mid m (Local file) g.done mid left (g.parts_before file (omega arith)) at_mid (later_not (file + 1) (length docs) file left (omega arith) laters)
+      let parts_here : partial_units m (Local file) 0 m.parts ≡ numbered m (length g.done) k = ap (partial_units m (Local file) 0) g.parts_are
+      ∙ parts_mid m (Local file) g.done mid left (g.parts_before file (omega arith)) at_mid (later_not (file + 1) (length docs) file left (omega arith) laters)
       ∙ ap (numbered m (length g.done)) (sym lead_is) in
-      let olds_here : kept_units m units file 0 units ≡ kept_list m units (length g.old) own = ap (kept_units m units file 0) g.units_are ∙ kept_mid m units file g.old own others_left (g.olds_before file (omega arith)) own_files (files_not file (suc file) others_left (omega arith) left_files) in
+      let olds_here : kept_units m units file 0 units ≡ kept_list m units (length g.old) own = ap (kept_units m units file 0) g.units_are
+      ∙ kept_mid m units file g.old own others_left (g.olds_before file (omega arith)) own_files (files_not file (suc file) others_left (omega arith) left_files) in
       let f = file_units file k (length g.done) (length g.old) own w flag parts_here olds_here in
       let here = file_written m units file w in
       let tail = files_written m units (suc file) flags in
-      let stands : (j : ℕ) (u : DwUnit Spot) → slice_get here j ≡ Some u → slice_get all (next + j) ≡ Some u = λ j u e. ((λ i. slice_get (g.all_are i) (sym g.built_many i + j)) ∙ get_later g.built (here ++ tail) j u (get_first here tail j u e)) in
+      let stands : (j : ℕ) (u : DwUnit Spot) → slice_get here j ≡ Some u
+      → slice_get all (next + j) ≡ Some u = λ j u e. ((λ i. slice_get (g.all_are i) (sym g.built_many i + j)) ∙ get_later g.built (here ++ tail) j u (get_first here tail j u e)) in
       let add : next + k + 0 ≡ next + k = omega arith in
       record {
         last = omega arith;
         done = g.done ++ mid;
         parts_are = g.parts_are ∙ sym (append_assoc g.done mid left);
-        parts_many = length-append g.done mid ∙ (λ j. g.parts_many j + sym lead_is j) ∙ sym (ap (λ (x : List ℕ). length x) more_is ∙ length-append parts (range_with_len next k) ∙ ap (λ (n : ℕ). length parts + n) (length-range_with_len next k));
-        parts_before = λ q le. each_append (λ (p : PartialUnit). p.home ≡ Local q → ⊥) g.done mid (g.parts_before q (omega (arith, le))) (each_more (λ (p : PartialUnit). p.home ≡ Local file) (λ (p : PartialUnit). p.home ≡ Local q → ⊥) mid (λ p e e'. (let z : Local file ≡ Local q = sym e ∙ e' in let n : file ≡ q = cc in omega (arith, le, n))) at_mid);
+        parts_many = length-append g.done mid ∙ (λ j. g.parts_many j + sym lead_is j)
+            ∙ sym (ap (λ (x : List ℕ). length x) more_is ∙ length-append parts (range_with_len next k) ∙ ap (λ (n : ℕ). length parts + n) (length-range_with_len next k));
+        parts_before = λ q le. each_append (λ (p : PartialUnit). p.home ≡ Local q
+            → ⊥) g.done mid (g.parts_before q (omega (arith, le))) (each_more (λ (p : PartialUnit). p.home ≡ Local file) (λ (p : PartialUnit). p.home ≡ Local q
+            → ⊥) mid (λ p e e'. (let z : Local file ≡ Local q = sym e ∙ e' in let n : file ≡ q = cc in omega (arith, le, n))) at_mid);
         old = g.old ++ own;
         unit = g.unit + length doc.units;
         top = g.top + tops_among doc.units;
-        units_are = g.units_are ∙ sym (append_assoc g.old own others_left) ∙ ap (λ (n : ℕ). (g.old ++ own) ++ named_files n (g.unit + length doc.units) (g.top + tops_among doc.units) rest) (let one : suc file ≡ file + 1 = omega arith in one);
-        olds_many = length-append g.old own ∙ (λ j. g.olds_many j + own_long j) ∙ sym (ap (λ (x : List ℕ). length x) others_is ∙ length-append olds (numbers_of (next + k) (length doc.units) w) ∙ ap (λ (n : ℕ). length olds + n) (numbers_long (next + k) (length doc.units) w));
-        olds_before = λ q le. each_append (λ (u : FileUnit Spot). u.file ≡ q → ⊥) g.old own (g.olds_before q (omega (arith, le))) (each_more (λ (u : FileUnit Spot). u.file ≡ file) (λ (u : FileUnit Spot). u.file ≡ q → ⊥) own (λ u e e'. omega (arith, le, e, e')) own_files);
+        units_are = g.units_are ∙ sym (append_assoc g.old own others_left)
+            ∙ ap (λ (n : ℕ). (g.old ++ own) ++ named_files n (g.unit + length doc.units) (g.top + tops_among doc.units) rest) (let one : suc file ≡ file + 1 = omega arith in one);
+        olds_many = length-append g.old own ∙ (λ j. g.olds_many j + own_long j)
+            ∙ sym (ap (λ (x : List ℕ). length x) others_is ∙ length-append olds (numbers_of (next + k) (length doc.units) w)
+            ∙ ap (λ (n : ℕ). length olds + n) (numbers_long (next + k) (length doc.units) w));
+        olds_before = λ q le. each_append (λ (u : FileUnit Spot). u.file ≡ q
+            → ⊥) g.old own (g.olds_before q (omega (arith, le))) (each_more (λ (u : FileUnit Spot). u.file ≡ file) (λ (u : FileUnit Spot). u.file ≡ q
+            → ⊥) own (λ u e e'. omega (arith, le, e, e')) own_files);
         built = g.built ++ here;
         all_are = g.all_are ∙ sym (append_assoc g.built here tail) ∙ ap (λ (n : ℕ). (g.built ++ here) ++ files_written m units n flags) (let one : suc file ≡ file + 1 = omega arith in one);
         built_many = length-append g.built here ∙ (λ j. g.built_many j + f.0 j) ∙ built_sum next k w own doc.units own_long after after_is;
         parts_ok = λ n part nth. subst (λ (x : List ℕ). IsNumber all x n (partial_unit m n)) (ap (λ (c : ℕ). parts ++ range_with_len next c) (sym lead_is) ∙ sym more_is)
             (parts_more g.done mid parts next g.parts_many g.parts_ok (λ j lt. stands j (partial_unit m (length g.done + j)) (f.1 j (omega (arith, lt, lead_is)))) n part nth);
         olds_ok = λ i u nth is. subst (λ (x : List ℕ). IsNumber all x i (kept_unit m units i u)) (ap (λ (c : ℕ). olds ++ numbers_of (next + k) c w) own_long ∙ sym others_is)
-            (olds_more file g.old own olds (next + k) w g.olds_many g.olds_ok own_files flag (λ t j v e. (let far : next + k + j ≡ next + (k + j) = omega arith in ap (slice_get all) far ∙ stands (k + j) (kept_unit m units (length g.old + j) v) (f.2 t j v e))) i u nth is);
+            (olds_more file g.old own olds (next + k) w g.olds_many g.olds_ok own_files flag
+            (λ t j v e. (let far : next + k + j ≡ next + (k + j) = omega arith in ap (slice_get all) far ∙ stands (k + j) (kept_unit m units (length g.old + j) v) (f.2 t j v e))) i u nth is);
       }
 
   -- the common file comes first
-  pub going_first : (k : ℕ) (parts : List ℕ) → k ≡ leading (length docs) (drop 0 shown) → parts ≡ range_with_len 0 k → (length written ≡ length docs) → Going 0 k docs written parts [] × (k ≡ length (common_units m))
+  pub going_first : (k : ℕ) (parts : List ℕ) → k ≡ leading (length docs) (drop 0 shown) → parts ≡ range_with_len 0 k → (length written ≡ length docs)
+      → Going 0 k docs written parts [] × (k ≡ length (common_units m))
   unfolding partials common_units
   going_first k parts count parts_is flags =
       let mid = partials_at rule units Common in
@@ -291,11 +330,13 @@ module _ (docs : List (Doc ℕ)) (rule : Rule) (shown : List Partial) (counts : 
       let at_mid = at_home rule units Common in
       let laters : Each (IsLater 0 (length docs)) left = local_later rule units 0 (length docs) (length docs) (omega arith) in
       let are : m.parts ≡ mid ++ left = ap (partials rule units) (file_numbers_are 0 docs) in
-      let shown_mid = each_more (λ (p : PartialUnit). p.home ≡ Common) (λ (p : PartialUnit). (shown_part (length docs) p).file ≡ length docs) mid (λ p e. ap (λ (hm : Home). file_of_home (length docs) hm) e) at_mid in
+      let shown_mid = each_more (λ (p : PartialUnit). p.home ≡ Common) (λ (p : PartialUnit). (shown_part (length docs) p).file ≡ length docs) mid
+      (λ p e. ap (λ (hm : Home). file_of_home (length docs) hm) e) at_mid in
       let not_left = each_more (IsLater 0 (length docs)) (λ (p : PartialUnit). (shown_part (length docs) p).file ≡ length docs → ⊥) left
       (λ p q e. (let lt = q.3 in let is : (shown_part (length docs) p).file ≡ q.0 = ap (λ (hm : Home). file_of_home (length docs) hm) q.1 in omega (arith, lt, is, e))) laters in
       let lead_is : k ≡ length mid = count ∙ lead (length docs) [] mid left [] are refl shown_mid not_left in
-      let commons : common_units m ≡ numbered m 0 k = ap (partial_units m Common 0) are ∙ parts_mid m Common [] mid left tt at_mid (later_common 0 (length docs) left laters) ∙ ap (numbered m 0) (sym lead_is) in
+      let commons : common_units m ≡ numbered m 0 k = ap (partial_units m Common 0) are ∙ parts_mid m Common [] mid left tt at_mid (later_common 0 (length docs) left laters)
+      ∙ ap (numbered m 0) (sym lead_is) in
       let long : length (common_units m) ≡ k = ap (λ (w : List (DwUnit Spot)). length w) commons ∙ numbered_length m 0 k in
       let stands : (j : ℕ) → j < length mid → slice_get all (0 + j) ≡ Some (partial_unit m (0 + j)) = λ j lt. (
       let e : slice_get (common_units m) j ≡ Some (partial_unit m (0 + j)) = ap (λ (w : List (DwUnit Spot)). slice_get w j) commons ∙ numbered_at m 0 k j (omega (arith, lt, lead_is)) in
@@ -316,14 +357,16 @@ module _ (docs : List (Doc ℕ)) (rule : Rule) (shown : List Partial) (counts : 
           built = common_units m;
           all_are = refl;
           built_many = long;
-          parts_ok = λ n part nth. subst (λ (x : List ℕ). IsNumber all x n (partial_unit m n)) (ap (range_with_len 0) (sym lead_is) ∙ sym parts_is) (parts_more [] mid [] 0 refl (λ i p none. absurd none) stands n part nth);
+          parts_ok = λ n part nth. subst (λ (x : List ℕ). IsNumber all x n (partial_unit m n)) (ap (range_with_len 0) (sym lead_is)
+              ∙ sym parts_is) (parts_more [] mid [] 0 refl (λ i p none. absurd none) stands n part nth);
           olds_ok = λ i u nth is. absurd nth;
         },
         sym long,
       )
 
   -- all are numbered
-  pub going_end : (file next commons : ℕ) (flags : List Bool) (parts olds : List ℕ) → Going file next [] flags parts olds → commons ≡ length (common_units m) → AreUnitNumbers m units written commons parts olds
+  pub going_end : (file next commons : ℕ) (flags : List Bool) (parts olds : List ℕ) → Going file next [] flags parts olds → commons ≡ length (common_units m)
+      → AreUnitNumbers m units written commons parts olds
   unfolding local_partials named_files
   going_end file next commons flags parts olds g is =
       let done : m.parts ≡ g.done = g.parts_are ∙ append-nil g.done in
@@ -340,7 +383,8 @@ module _ (docs : List (Doc ℕ)) (rule : Rule) (shown : List Partial) (counts : 
   counts_many : length counts ≡ length docs
   counts_many = ap (λ (w : List ℕ). length w) h.counts_are ∙ length-map docs (λ (doc : Doc ℕ). length doc.units)
 
-  pub begins : (k : ℕ) (before parts olds : List ℕ) → before ≡ [] → olds ≡ [] → k ≡ 0 + leading (length counts) (drop (length before) shown) → parts ≡ before ++ range_with_len 0 (leading (length counts) (drop (length before) shown)) → length written ≡ length counts
+  pub begins : (k : ℕ) (before parts olds : List ℕ) → before ≡ [] → olds ≡ [] → k ≡ 0 + leading (length counts) (drop (length before) shown)
+      → parts ≡ before ++ range_with_len 0 (leading (length counts) (drop (length before) shown)) → length written ≡ length counts
       → Going 0 k docs written parts olds × (k ≡ length (common_units m))
   begins k before parts olds none no_olds count is flags =
       let same : leading (length counts) (drop (length before) shown) ≡ leading (length docs) (drop 0 shown) = (λ j. leading (counts_many j) (drop (length (none j)) shown)) in
@@ -355,7 +399,8 @@ module _ (docs : List (Doc ℕ)) (rule : Rule) (shown : List Partial) (counts : 
   count_at (d ∷ xs) (suc i) doc e = count_at xs i doc e
 
   pub goes_on : (file next first after : ℕ) (parts more olds others : List ℕ) → file < length counts → length written ≡ length counts → Going file next (drop file docs) (drop file written) parts olds
-      → first ≡ next + leading file (drop (length parts) shown) → more ≡ parts ++ range_with_len next (leading file (drop (length parts) shown)) → others ≡ olds ++ numbers_of first (get_or counts file 0) (get_or written file false)
+      → first ≡ next + leading file (drop (length parts) shown) → more ≡ parts ++ range_with_len next (leading file (drop (length parts) shown))
+      → others ≡ olds ++ numbers_of first (get_or counts file 0) (get_or written file false)
       → after ≡ first + (if get_or written file false then get_or counts file 0 else 0) → Going (file + 1) after (drop (file + 1) docs) (drop (file + 1) written) more others
   goes_on file next first after parts more olds others lt flags g first_is more_is others_is after_is =
       let k = leading file (drop (length parts) shown) in
@@ -367,11 +412,13 @@ module _ (docs : List (Doc ℕ)) (rule : Rule) (shown : List Partial) (counts : 
       let one : suc file ≡ file + 1 = omega arith in
       let flags_are : drop file written ≡ w ∷ drop (file + 1) written = drop-cons written file false (omega (arith, lt, flags)) ∙ ap (λ (n : ℕ). w ∷ drop n written) one in
       let count : get_or counts file 0 ≡ length doc.units = ap (λ (x : List ℕ). get_or x file 0) h.counts_are ∙ count_at docs file doc d.1 in
-      let g' : Going file next (doc ∷ drop (file + 1) docs) (w ∷ drop (file + 1) written) parts olds = subst (λ (x : List (Doc ℕ)). Going file next x (w ∷ drop (file + 1) written) parts olds) docs_are (subst (λ (x : List Bool). Going file next (drop file docs) x parts olds) flags_are g) in
+      let g' : Going file next (doc ∷ drop (file + 1) docs) (w ∷ drop (file + 1) written) parts olds = subst
+      (λ (x : List (Doc ℕ)). Going file next x (w ∷ drop (file + 1) written) parts olds) docs_are (subst (λ (x : List Bool). Going file next (drop file docs) x parts olds) flags_are g) in
       going_next file next k after doc (drop (file + 1) docs) w (drop (file + 1) written) parts more olds others g' refl refl more_is
       (others_is ∙ (λ j. olds ++ numbers_of (first_is j) (count j) w)) (after_is ∙ (λ j. first_is j + (if w then count j else 0)))
 
-  pub ends : (file next commons : ℕ) (parts olds : List ℕ) → length counts ≤ file → Going file next (drop file docs) (drop file written) parts olds → commons ≡ length (common_units m) → AreUnitNumbers m units written commons parts olds
+  pub ends : (file next commons : ℕ) (parts olds : List ℕ) → length counts ≤ file → Going file next (drop file docs) (drop file written) parts olds → commons ≡ length (common_units m)
+      → AreUnitNumbers m units written commons parts olds
   ends file next commons parts olds le g is =
       let none : drop file docs ≡ [] = drop_all file docs (let e = counts_many in omega (arith, le, e)) in
       going_end file next commons (drop file written) parts olds (subst (λ (x : List (Doc ℕ)). Going file next x (drop file written) parts olds) none g) is

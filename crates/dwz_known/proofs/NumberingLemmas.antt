@@ -44,21 +44,24 @@ pub parts_all : (m : Move) (h : Home) (s : ℕ) (xs : List PartialUnit) → Each
 unfolding partial_units numbered
 parts_all m h s [] all = refl
 parts_all m h s (p ∷ xs) all =
-    ap (λ (b : Bool). elim b as (λ _. List (DwUnit Spot)) [ true ↦ partial_unit m s ∷ partial_units m h (suc s) xs | false ↦ partial_units m h (suc s) xs ]) (ap (λ (g : Home). same_home g h) all.0 ∙ own_home h)
+    ap (λ (b : Bool). elim b as (λ _. List (DwUnit Spot)) [ true ↦ partial_unit m s ∷ partial_units m h (suc s) xs | false ↦ partial_units m h (suc s) xs ])
+    (ap (λ (g : Home). same_home g h) all.0 ∙ own_home h)
     ∙ ap (λ (w : List (DwUnit Spot)). partial_unit m s ∷ w) (parts_all m h (suc s) xs all.1)
 
 pub parts_append : (m : Move) (h : Home) (s : ℕ) (xs ys : List PartialUnit) → partial_units m h s (xs ++ ys) ≡ partial_units m h s xs ++ partial_units m h (s + length xs) ys
 unfolding partial_units
 parts_append m h s [] ys = let e : s ≡ s + 0 = omega arith in ap (λ (n : ℕ). partial_units m h n ys) e
-parts_append m h s (p ∷ xs) ys = go (parts_append m h (suc s) xs ys ∙ (let e : suc s + length xs ≡ s + suc (length xs) = omega arith in ap (λ (n : ℕ). partial_units m h (suc s) xs ++ partial_units m h n ys) e)) (same_home p.home h) where
-  go : partial_units m h (suc s) (xs ++ ys) ≡ partial_units m h (suc s) xs ++ partial_units m h (s + suc (length xs)) ys → (b : Bool)
-      → (elim b as (λ _. List (DwUnit Spot)) [ true ↦ partial_unit m s ∷ partial_units m h (suc s) (xs ++ ys) | false ↦ partial_units m h (suc s) (xs ++ ys) ])
-      ≡ (elim b as (λ _. List (DwUnit Spot)) [ true ↦ partial_unit m s ∷ partial_units m h (suc s) xs | false ↦ partial_units m h (suc s) xs ]) ++ partial_units m h (s + suc (length xs)) ys
-  go e true = ap (λ (w : List (DwUnit Spot)). partial_unit m s ∷ w) e
-  go e false = e
+parts_append m h s (p ∷ xs) ys = go (parts_append m h (suc s) xs ys
+    ∙ (let e : suc s + length xs ≡ s + suc (length xs) = omega arith in ap (λ (n : ℕ). partial_units m h (suc s) xs ++ partial_units m h n ys) e)) (same_home p.home h) where
+      go : partial_units m h (suc s) (xs ++ ys) ≡ partial_units m h (suc s) xs ++ partial_units m h (s + suc (length xs)) ys → (b : Bool)
+          → (elim b as (λ _. List (DwUnit Spot)) [ true ↦ partial_unit m s ∷ partial_units m h (suc s) (xs ++ ys) | false ↦ partial_units m h (suc s) (xs ++ ys) ])
+          ≡ (elim b as (λ _. List (DwUnit Spot)) [ true ↦ partial_unit m s ∷ partial_units m h (suc s) xs | false ↦ partial_units m h (suc s) xs ]) ++ partial_units m h (s + suc (length xs)) ys
+      go e true = ap (λ (w : List (DwUnit Spot)). partial_unit m s ∷ w) e
+      go e false = e
 
 -- those of one home among others
-pub parts_mid : (m : Move) (h : Home) (xs ys zs : List PartialUnit) → Each (λ p. p.home ≡ h → ⊥) xs → Each (λ p. p.home ≡ h) ys → Each (λ p. p.home ≡ h → ⊥) zs → partial_units m h 0 (xs ++ (ys ++ zs)) ≡ numbered m (length xs) (length ys)
+pub parts_mid : (m : Move) (h : Home) (xs ys zs : List PartialUnit) → Each (λ p. p.home ≡ h → ⊥) xs → Each (λ p. p.home ≡ h) ys → Each (λ p. p.home ≡ h → ⊥) zs
+    → partial_units m h 0 (xs ++ (ys ++ zs)) ≡ numbered m (length xs) (length ys)
 parts_mid m h xs ys zs none all others =
     parts_append m h 0 xs (ys ++ zs) ∙ (λ j. parts_none m h 0 xs none j ++ partial_units m h (0 + length xs) (ys ++ zs))
     ∙ (let e : 0 + length xs ≡ length xs = omega arith in ap (λ (n : ℕ). partial_units m h n (ys ++ zs)) e)
@@ -93,29 +96,34 @@ kept_all m all file s (u ∷ xs) is =
     ap (λ (b : Bool). elim b as (λ _. List (DwUnit Spot)) [ true ↦ kept_unit m all s u ∷ kept_units m all file (suc s) xs | false ↦ kept_units m all file (suc s) xs ]) (eq-eqb u.file file is.0)
     ∙ ap (λ (w : List (DwUnit Spot)). kept_unit m all s u ∷ w) (kept_all m all file (suc s) xs is.1)
 
-pub kept_append : (m : Move) (all : List (FileUnit Spot)) (file s : ℕ) (xs ys : List (FileUnit Spot)) → kept_units m all file s (xs ++ ys) ≡ kept_units m all file s xs ++ kept_units m all file (s + length xs) ys
+pub kept_append : (m : Move) (all : List (FileUnit Spot)) (file s : ℕ) (xs ys : List (FileUnit Spot))
+    → kept_units m all file s (xs ++ ys) ≡ kept_units m all file s xs ++ kept_units m all file (s + length xs) ys
 unfolding kept_units
 kept_append m all file s [] ys = let e : s ≡ s + 0 = omega arith in ap (λ (n : ℕ). kept_units m all file n ys) e
-kept_append m all file s (u ∷ xs) ys = go (kept_append m all file (suc s) xs ys ∙ (let e : suc s + length xs ≡ s + suc (length xs) = omega arith in ap (λ (n : ℕ). kept_units m all file (suc s) xs ++ kept_units m all file n ys) e)) (u.file == file) where
-  go : kept_units m all file (suc s) (xs ++ ys) ≡ kept_units m all file (suc s) xs ++ kept_units m all file (s + suc (length xs)) ys → (b : Bool)
-      → (elim b as (λ _. List (DwUnit Spot)) [ true ↦ kept_unit m all s u ∷ kept_units m all file (suc s) (xs ++ ys) | false ↦ kept_units m all file (suc s) (xs ++ ys) ])
-      ≡ (elim b as (λ _. List (DwUnit Spot)) [ true ↦ kept_unit m all s u ∷ kept_units m all file (suc s) xs | false ↦ kept_units m all file (suc s) xs ]) ++ kept_units m all file (s + suc (length xs)) ys
-  go e true = ap (λ (w : List (DwUnit Spot)). kept_unit m all s u ∷ w) e
-  go e false = e
+kept_append m all file s (u ∷ xs) ys = go (kept_append m all file (suc s) xs ys
+    ∙ (let e : suc s + length xs ≡ s + suc (length xs) = omega arith in ap (λ (n : ℕ). kept_units m all file (suc s) xs ++ kept_units m all file n ys) e)) (u.file == file) where
+      go : kept_units m all file (suc s) (xs ++ ys) ≡ kept_units m all file (suc s) xs ++ kept_units m all file (s + suc (length xs)) ys → (b : Bool)
+          → (elim b as (λ _. List (DwUnit Spot)) [ true ↦ kept_unit m all s u ∷ kept_units m all file (suc s) (xs ++ ys) | false ↦ kept_units m all file (suc s) (xs ++ ys) ])
+          ≡ (elim b as (λ _. List (DwUnit Spot)) [ true ↦ kept_unit m all s u ∷ kept_units m all file (suc s) xs | false ↦ kept_units m all file (suc s) xs ]) ++ kept_units m all file
+          (s + suc (length xs)) ys
+      go e true = ap (λ (w : List (DwUnit Spot)). kept_unit m all s u ∷ w) e
+      go e false = e
 
 pub kept_mid : (m : Move) (all : List (FileUnit Spot)) (file : ℕ) (xs ys zs : List (FileUnit Spot)) → Each (λ u. u.file ≡ file → ⊥) xs → Each (λ u. u.file ≡ file) ys → Each (λ u. u.file ≡ file → ⊥) zs
     → kept_units m all file 0 (xs ++ (ys ++ zs)) ≡ kept_list m all (length xs) ys
 kept_mid m all file xs ys zs none is others =
     kept_append m all file 0 xs (ys ++ zs) ∙ (λ j. kept_none m all file 0 xs none j ++ kept_units m all file (0 + length xs) (ys ++ zs))
     ∙ (let e : 0 + length xs ≡ length xs = omega arith in ap (λ (n : ℕ). kept_units m all file n (ys ++ zs)) e)
-    ∙ kept_append m all file (length xs) ys zs ∙ (λ j. kept_all m all file (length xs) ys is j ++ kept_none m all file (length xs + length ys) zs others j) ∙ append-nil (kept_list m all (length xs) ys)
+    ∙ kept_append m all file (length xs) ys zs ∙ (λ j. kept_all m all file (length xs) ys is j ++ kept_none m all file (length xs + length ys) zs others j)
+    ∙ append-nil (kept_list m all (length xs) ys)
 
 pub kept_length : (m : Move) (all : List (FileUnit Spot)) (s : ℕ) (xs : List (FileUnit Spot)) → length (kept_list m all s xs) ≡ length xs
 unfolding kept_list
 kept_length m all s [] = refl
 kept_length m all s (u ∷ xs) = ap suc (kept_length m all (suc s) xs)
 
-pub kept_at : (m : Move) (all : List (FileUnit Spot)) (s : ℕ) (xs : List (FileUnit Spot)) (j : ℕ) (u : FileUnit Spot) → slice_get xs j ≡ Some u → slice_get (kept_list m all s xs) j ≡ Some (kept_unit m all (s + j) u)
+pub kept_at : (m : Move) (all : List (FileUnit Spot)) (s : ℕ) (xs : List (FileUnit Spot)) (j : ℕ) (u : FileUnit Spot) → slice_get xs j ≡ Some u
+    → slice_get (kept_list m all s xs) j ≡ Some (kept_unit m all (s + j) u)
 unfolding kept_list
 kept_at m all s [] j u e = absurd cc
 kept_at m all s (v ∷ xs) zero u e = let same : v ≡ u = cc in let n : s ≡ s + 0 = omega arith in (λ i. Some (kept_unit m all (n i) (same i)))
@@ -138,17 +146,20 @@ local_later rule units low zero high le = tt
 local_later rule units low (suc n) high le =
     each_append (IsLater low high) (partials_at rule units (Local low)) (local_partials rule units (range_with_len (low + 1) n))
     (each_more (λ (p : PartialUnit). p.home ≡ Local low) (IsLater low high) (partials_at rule units (Local low)) (λ p e. (low, e, omega arith, omega arith)) (at_home rule units (Local low)))
-    (each_more (IsLater (low + 1) high) (IsLater low high) (local_partials rule units (range_with_len (low + 1) n)) (λ p h. (let l = h.2 in (h.0, h.1, omega arith, h.3))) (local_later rule units (low + 1) n high (omega arith)))
+    (each_more (IsLater (low + 1) high) (IsLater low high) (local_partials rule units (range_with_len (low + 1) n)) (λ p h. (let l = h.2 in (h.0, h.1, omega arith, h.3)))
+    (local_later rule units (low + 1) n high (omega arith)))
 
 pub later_not : (low high file : ℕ) (xs : List PartialUnit) → file < low → Each (IsLater low high) xs → Each (λ p. p.home ≡ Local file → ⊥) xs
-later_not low high file xs lt h = each_more (IsLater low high) (λ (p : PartialUnit). p.home ≡ Local file → ⊥) xs (λ p l e. (let le = l.2 in let same : Local l.0 ≡ Local file = sym l.1 ∙ e in let number : l.0 ≡ file = cc in omega (arith, le, lt, number))) h
+later_not low high file xs lt h = each_more (IsLater low high) (λ (p : PartialUnit). p.home ≡ Local file
+    → ⊥) xs (λ p l e. (let le = l.2 in let same : Local l.0 ≡ Local file = sym l.1 ∙ e in let number : l.0 ≡ file = cc in omega (arith, le, lt, number))) h
 
 pub later_common : (low high : ℕ) (xs : List PartialUnit) → Each (IsLater low high) xs → Each (λ p. p.home ≡ Common → ⊥) xs
 later_common low high xs h = each_more (IsLater low high) (λ (p : PartialUnit). p.home ≡ Common → ⊥) xs (λ p l e. (let same : Local l.0 ≡ Common = sym l.1 ∙ e in cc)) h
 
 -- ---- what is counted at the front
 
-pub leading_at : (files file : ℕ) (xs ys : List PartialUnit) → Each (λ p. (shown_part files p).file ≡ file) xs → Each (λ p. (shown_part files p).file ≡ file → ⊥) ys → leading file (map (shown_part files) (xs ++ ys)) ≡ length xs
+pub leading_at : (files file : ℕ) (xs ys : List PartialUnit) → Each (λ p. (shown_part files p).file ≡ file) xs → Each (λ p. (shown_part files p).file ≡ file → ⊥) ys
+    → leading file (map (shown_part files) (xs ++ ys)) ≡ length xs
 unfolding leading
 leading_at files file [] [] is not = refl
 leading_at files file [] (p ∷ ys) is not = rw (ne_eqb (shown_part files p).file file not.0) refl

@@ -34,7 +34,13 @@ unfolding paths_in
 under path i End p is = absurd is
 under path i (Entry e f g) p (inl x) = record { first = []; index = i; from = omega arith; is = ap path_name (sym x) }
 under path i (Entry e f g) p (inr r) = elim (in_cases p (paths_in (i ∷ path) 0 f) (paths_in path (suc i) g) r) [
-  | inl a ↦ (let b = under (i ∷ path) 0 f p a in record { first = b.first ++ (b.index ∷ []); index = i; from = omega arith; is = b.is ∙ ap path_name (sym (append_assoc b.first (b.index ∷ []) (i ∷ path))) })
+  | inl a ↦ (let b = under (i ∷ path) 0 f p a in record {
+    first = b.first ++ (b.index ∷ []);
+    index = i;
+    from = omega arith;
+    is = b.is ∙ ap path_name
+        (sym (append_assoc b.first (b.index ∷ []) (i ∷ path)));
+  })
   | inr b ↦ (let c = under path (suc i) g p b in record { first = c.first; index = c.index; from = omega (arith, c.from); is = c.is })
 ]
 
@@ -46,7 +52,8 @@ once_in path i (Entry e f g) = (
     | inl a ↦ here_inner path_name one_path path i (under (i ∷ path) 0 f (i ∷ path) a)
     | inr b ↦ here_rest path_name one_path path i (under path (suc i) g (i ∷ path) b)
   ]),
-  none_append (paths_in (i ∷ path) 0 f) (paths_in path (suc i) g) (once_in (i ∷ path) 0 f) (once_in path (suc i) g) (λ p a b. inner_rest path_name one_path path i (SpaceAt 0 p) (under (i ∷ path) 0 f p a) (under path (suc i) g p b)),
+  none_append (paths_in (i ∷ path) 0 f) (paths_in path (suc i) g) (once_in (i ∷ path) 0 f) (once_in path (suc i) g)
+      (λ p a b. inner_rest path_name one_path path i (SpaceAt 0 p) (under (i ∷ path) 0 f p a) (under path (suc i) g p b)),
 )
 
 once_of : {P : Type 0} (f : Entries P) → NoneTwice (paths_of f)
@@ -67,7 +74,8 @@ mixed : (unit : ℕ) (path : List ℕ) (i n : ℕ) (f : Entries ℕ) → MixedIn
 unfolding top_spots
 mixed unit path i n End s is = absurd is
 mixed unit path i n (Entry e f g) s is = by (λ low h. mixed unit path (suc i) low g s h) (λ h. mixed unit (i ∷ path) 0 n f s h) (space_text e) refl where
-  later : (low : ℕ) → n ≤ low → low + tops_under g ≤ n + tops_under (Entry e f g) → (t : Spot) → Mixed unit path (suc i) low (low + tops_under g) t → Mixed unit path i n (n + tops_under (Entry e f g)) t
+  later : (low : ℕ) → n ≤ low → low + tops_under g ≤ n + tops_under (Entry e f g) → (t : Spot) → Mixed unit path (suc i) low (low + tops_under g) t
+      → Mixed unit path i n (n + tops_under (Entry e f g)) t
   later low le ge (Within m p) h = (let a = h.0 in let b = h.1 in (omega arith, omega arith))
   later low le ge (SpaceAt u p) h = (h.0, record { first = h.1.first; index = h.1.index; from = (let x = h.1.from in omega arith); is = h.1.is })
   later low le ge (UnitOf m) h = h
@@ -80,7 +88,16 @@ mixed unit path i n (Entry e f g) s is = by (λ low h. mixed unit path (suc i) l
 
   inside : n + tops_under f ≤ n + tops_under (Entry e f g) → (t : Spot) → Mixed unit (i ∷ path) 0 n (n + tops_under f) t → Mixed unit path i n (n + tops_under (Entry e f g)) t
   inside ge (Within m p) h = (let a = h.0 in let b = h.1 in (omega arith, omega arith))
-  inside ge (SpaceAt u p) h = (h.0, record { first = h.1.first ++ (h.1.index ∷ []); index = i; from = omega arith; is = h.1.is ∙ ap path_name (sym (append_assoc h.1.first (h.1.index ∷ []) (i ∷ path))) })
+  inside ge (SpaceAt u p) h = (
+    h.0,
+    record {
+      first = h.1.first ++ (h.1.index ∷ []);
+      index = i;
+      from = omega arith;
+      is = h.1.is ∙ ap path_name
+          (sym (append_assoc h.1.first (h.1.index ∷ []) (i ∷ path)));
+    },
+  )
   inside ge (UnitOf m) h = h
   inside ge (RootOf m) h = h
   inside ge (InType m p) h = h
@@ -89,7 +106,8 @@ mixed unit path i n (Entry e f g) s is = by (λ low h. mixed unit path (suc i) l
   inside ge (InChain m c d) h = h
   inside ge (Import m c) h = h
 
-  by : ((low : ℕ) → In s (map spot_of (top_spots unit path (suc i) low g)) → Mixed unit path (suc i) low (low + tops_under g) s) → (In s (map spot_of (top_spots unit (i ∷ path) 0 n f)) → Mixed unit (i ∷ path) 0 n (n + tops_under f) s)
+  by : ((low : ℕ) → In s (map spot_of (top_spots unit path (suc i) low g)) → Mixed unit path (suc i) low (low + tops_under g) s)
+      → (In s (map spot_of (top_spots unit (i ∷ path) 0 n f)) → Mixed unit (i ∷ path) 0 n (n + tops_under f) s)
       → (o : Option (List ℕ)) → space_text e ≡ o → Mixed unit path i n (n + tops_under (Entry e f g)) s
   by behind below None h =
       let many = under_top e f g h in
@@ -130,13 +148,15 @@ tops_once : (unit : ℕ) (path : List ℕ) (i n : ℕ) (f : Entries ℕ) → Non
 unfolding top_spots
 tops_once unit path i n End = tt
 tops_once unit path i n (Entry e f g) = by (λ low. tops_once unit path (suc i) low g) (tops_once unit (i ∷ path) 0 n f) (space_text e) refl where
-  by : ((low : ℕ) → NoneTwice (map spot_of (top_spots unit path (suc i) low g))) → NoneTwice (map spot_of (top_spots unit (i ∷ path) 0 n f)) → (o : Option (List ℕ)) → space_text e ≡ o → NoneTwice (map spot_of (top_spots unit path i n (Entry e f g)))
+  by : ((low : ℕ) → NoneTwice (map spot_of (top_spots unit path (suc i) low g))) → NoneTwice (map spot_of (top_spots unit (i ∷ path) 0 n f)) → (o : Option (List ℕ)) → space_text e ≡ o
+      → NoneTwice (map spot_of (top_spots unit path i n (Entry e f g)))
   by later inside None h =
       let own = map (Within n) (paths_of f) in
       let rest = map spot_of (top_spots unit path (suc i) (suc n) g) in
       subst NoneTwice (sym (top_names unit path i n e f g h))
       (none_append own rest (none_map (Within n) (within_one n) (paths_of f) (once_of f)) (later (suc n))
-      (λ s a b. (let o = in_map_from (Within n) s (paths_of f) a in let m = subst (Mixed unit path (suc i) (suc n) (suc n + tops_under g)) (sym o.is) (mixed unit path (suc i) (suc n) g s b) in let le = m.0 in omega (arith, le))))
+      (λ s a b. (let o = in_map_from (Within n) s (paths_of f) a in let m = subst (Mixed unit path (suc i) (suc n) (suc n + tops_under g)) (sym o.is)
+      (mixed unit path (suc i) (suc n) g s b) in let le = m.0 in omega (arith, le))))
   by later inside (Some text) h =
       let a = map spot_of (top_spots unit (i ∷ path) 0 n f) in
       let b = map spot_of (top_spots unit path (suc i) (n + tops_under f) g) in
@@ -212,7 +232,8 @@ below_once unit top Partial f = tt
 
 no_root : (unit top : ℕ) (kind : Kind ℕ) (f : Entries ℕ) → In (RootOf unit) (below_names unit top kind f) → ⊥
 no_root unit top Compile f is = mixed unit [] 0 top f (RootOf unit) is
-no_root unit top (OfType signature main) f is = (let o = in_map_from (InType unit) (RootOf unit) (paths_in [] 0 f) (subst (In (RootOf unit)) (names_paths (InType unit) [] 0 f) is) in let e = o.is in cc)
+no_root unit top (OfType signature main) f is =
+    (let o = in_map_from (InType unit) (RootOf unit) (paths_in [] 0 f) (subst (In (RootOf unit)) (names_paths (InType unit) [] 0 f) is) in let e = o.is in cc)
 no_root unit top Partial f is = is
 
 units_ranged : (unit top : ℕ) (units : List (DwUnit ℕ)) → AllRanged unit (unit + length units) top (top + tops_among units) (names_from unit top units)
@@ -220,8 +241,10 @@ unfolding names_from tops_among
 units_ranged unit top [] s is = absurd is
 units_ranged unit top (v ∷ units) s (inl x) = subst (Ranged unit (unit + suc (length units)) top (top + (top_count v.kind v.below + tops_among units))) x (omega arith, omega arith)
 units_ranged unit top (v ∷ units) s (inr r) = elim (in_cases s (below_names unit top v.kind v.below) (names_from (suc unit) (top + top_count v.kind v.below) units) r) [
-  | inl a ↦ widen unit (suc unit) top (top + top_count v.kind v.below) unit (unit + suc (length units)) top (top + (top_count v.kind v.below + tops_among units)) (omega arith) (omega arith) (omega arith) (omega arith) s (below_ranged unit top v.kind v.below s a)
-  | inr b ↦ widen (suc unit) (suc unit + length units) (top + top_count v.kind v.below) (top + top_count v.kind v.below + tops_among units) unit (unit + suc (length units)) top (top + (top_count v.kind v.below + tops_among units)) (omega arith) (omega arith) (omega arith) (omega arith) s
+  | inl a ↦ widen unit (suc unit) top (top + top_count v.kind v.below) unit (unit + suc (length units)) top (top + (top_count v.kind v.below + tops_among units)) (omega arith) (omega arith)
+      (omega arith) (omega arith) s (below_ranged unit top v.kind v.below s a)
+  | inr b ↦ widen (suc unit) (suc unit + length units) (top + top_count v.kind v.below) (top + top_count v.kind v.below + tops_among units) unit (unit + suc (length units)) top
+      (top + (top_count v.kind v.below + tops_among units)) (omega arith) (omega arith) (omega arith) (omega arith) s
       (units_ranged (suc unit) (top + top_count v.kind v.below) units s b)
 ]
 
@@ -237,7 +260,8 @@ units_once unit top (v ∷ units) =
         | inr b ↦ (let h = ranged (RootOf unit) b in let le = h.0 in omega (arith, le))
       ]),
       none_append own rest (below_once unit top v.kind v.below) (units_once (suc unit) (top + top_count v.kind v.below) units)
-          (λ s a b. disjoint unit (suc unit) (suc unit + length units) top (top + top_count v.kind v.below) (top + top_count v.kind v.below + tops_among units) s (below_ranged unit top v.kind v.below s a) (ranged s b)),
+          (λ s a b. disjoint unit (suc unit) (suc unit + length units) top (top + top_count v.kind v.below) (top + top_count v.kind v.below + tops_among units) s
+          (below_ranged unit top v.kind v.below s a) (ranged s b)),
     )
 
 -- ---- file by file
@@ -250,8 +274,10 @@ files_ranged : (unit top : ℕ) (docs : List (Doc ℕ)) → AllRanged unit (unit
 unfolding names_of_files tops_in_all unit_count
 files_ranged unit top [] s is = absurd is
 files_ranged unit top (doc ∷ docs) s is = elim (in_cases s (names_from unit top doc.units) (names_of_files (unit + length doc.units) (top + tops_among doc.units) docs) is) [
-  | inl a ↦ widen unit (unit + length doc.units) top (top + tops_among doc.units) unit (unit + (length doc.units + unit_count docs)) top (top + (tops_among doc.units + tops_in_all docs)) (omega arith) (omega arith) (omega arith) (omega arith) s (units_ranged unit top doc.units s a)
-  | inr b ↦ widen (unit + length doc.units) (unit + length doc.units + unit_count docs) (top + tops_among doc.units) (top + tops_among doc.units + tops_in_all docs) unit (unit + (length doc.units + unit_count docs)) top (top + (tops_among doc.units + tops_in_all docs)) (omega arith) (omega arith) (omega arith) (omega arith) s
+  | inl a ↦ widen unit (unit + length doc.units) top (top + tops_among doc.units) unit (unit + (length doc.units + unit_count docs)) top (top + (tops_among doc.units + tops_in_all docs))
+      (omega arith) (omega arith) (omega arith) (omega arith) s (units_ranged unit top doc.units s a)
+  | inr b ↦ widen (unit + length doc.units) (unit + length doc.units + unit_count docs) (top + tops_among doc.units) (top + tops_among doc.units + tops_in_all docs) unit
+      (unit + (length doc.units + unit_count docs)) top (top + (tops_among doc.units + tops_in_all docs)) (omega arith) (omega arith) (omega arith) (omega arith) s
       (files_ranged (unit + length doc.units) (top + tops_among doc.units) docs s b)
 ]
 
@@ -262,7 +288,8 @@ files_once unit top (doc ∷ docs) =
     let own = names_from unit top doc.units in
     let rest = names_of_files (unit + length doc.units) (top + tops_among doc.units) docs in
     none_append own rest (units_once unit top doc.units) (files_once (unit + length doc.units) (top + tops_among doc.units) docs)
-    (λ s a b. disjoint unit (unit + length doc.units) (unit + length doc.units + unit_count docs) top (top + tops_among doc.units) (top + tops_among doc.units + tops_in_all docs) s (units_ranged unit top doc.units s a) (files_ranged (unit + length doc.units) (top + tops_among doc.units) docs s b))
+    (λ s a b. disjoint unit (unit + length doc.units) (unit + length doc.units + unit_count docs) top (top + tops_among doc.units) (top + tops_among doc.units + tops_in_all docs) s
+    (units_ranged unit top doc.units s a) (files_ranged (unit + length doc.units) (top + tops_among doc.units) docs s b))
 
 one_at : {X : Type 0} (xs : List X) → NoneTwice xs → (m n : ℕ) (x : X) → slice_get xs m ≡ Some x → slice_get xs n ≡ Some x → m ≡ n
 one_at [] once m n x e f = absurd cc

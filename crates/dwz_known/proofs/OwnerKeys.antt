@@ -55,7 +55,8 @@ pub tree_top : (f : Spot → Spot) (row : Row) (last : Entries Spot) (names : Li
 unfolding keys tree
 tree_top f Nothing last names t h s is = absurd h
 tree_top f (ATop u next) last names t (inl y) s is =
-    let own : In s (f u.node.at ∷ keys (entries_map f u.below)) = subst (λ (w : Top). In s (f w.node.at ∷ keys (entries_map f w.below))) (sym (same_item u t y.1)) (subst (λ (w : List Spot). In s (f t.node.at ∷ w)) (sym (keys_map f t.below)) is) in
+    let own : In s (f u.node.at ∷ keys (entries_map f u.below)) = subst (λ (w : Top). In s (f w.node.at ∷ keys (entries_map f w.below))) (sym (same_item u t y.1))
+    (subst (λ (w : List Spot). In s (f t.node.at ∷ w)) (sym (keys_map f t.below)) is) in
     in_left s (f u.node.at ∷ keys (entries_map f u.below)) (keys (tree f next last)) own
 tree_top f (ATop u next) last names t (inr y) s is = in_right s (f u.node.at ∷ keys (entries_map f u.below)) (keys (tree f next last)) (tree_top f next last names t y s is)
 tree_top f (ASpace e inner next) last names t (inl y) s is = absurd (let z = y.1 in cc)
@@ -83,7 +84,8 @@ abbrev TopOrSpace : Row → Spot → Type 0
 TopOrSpace row s = ((n : ℕ) × (path : List ℕ) × (s ≡ Within n path)) ⊎ SpaceThere row s
 
 module _ (file unit : ℕ) (tongue : Option ℤ) (name : ℕ → Spot) where
-  pub below_there : (spaces : List SpaceName) (n : ℕ) (row : Row) (f : Entries ℕ) → RowIs file unit tongue spaces n row (entries_map name f) → (path : List ℕ) (i : ℕ) → LabelledSpaces unit path i row → (k : ℕ) (s : Spot) → In s (map spot_of (top_spots unit path i k f)) → TopOrSpace row s
+  pub below_there : (spaces : List SpaceName) (n : ℕ) (row : Row) (f : Entries ℕ) → RowIs file unit tongue spaces n row (entries_map name f) → (path : List ℕ) (i : ℕ)
+      → LabelledSpaces unit path i row → (k : ℕ) (s : Spot) → In s (map spot_of (top_spots unit path i k f)) → TopOrSpace row s
   unfolding entries_map top_spots
   below_there spaces n Nothing End h path i labels k s is = absurd is
   below_there spaces n Nothing (Entry e f g) h path i labels k s is = absurd h
@@ -128,11 +130,13 @@ module _ (units : List (FileUnit Spot)) (m : Move) (old : AreOld units) (i : ℕ
   f = image_in m
 
   -- what remains of the row of a compile unit
-  item_kept : u.unit.kind ≡ Compile → (s : Spot) → ((row : Row) (last : Entries Spot) → ((names : List (List ℕ)) (x : Item) → Has names x (row_of units i) → Remains m.gone x → Has names x row) → In s (keys (tree f row last)))
+  item_kept : u.unit.kind ≡ Compile → (s : Spot)
+      → ((row : Row) (last : Entries Spot) → ((names : List (List ℕ)) (x : Item) → Has names x (row_of units i) → Remains m.gone x → Has names x row) → In s (keys (tree f row last)))
       → In s (keys (kept_unit m units i u).below)
   item_kept kind s there = by (changes m units u.file) refl where
     by : (b : Bool) → changes m units u.file ≡ b → In s (keys (kept_unit m units i u).below)
-    by true c = subst (λ (w : Entries Spot). In s (keys w)) (sym (kept_compile m units i u kind c)) (there (kept_row m.gone units i) (imports i 0 m.parts) (λ names x has stays. (kept_is m.gone units i names x).1 (has, stays)))
+    by true c = subst (λ (w : Entries Spot). In s (keys w)) (sym (kept_compile m units i u kind c))
+        (there (kept_row m.gone units i) (imports i 0 m.parts) (λ names x has stays. (kept_is m.gone units i names x).1 (has, stays)))
     by false c =
         let r = unit_row units i u nth kind in
         subst (λ (w : Entries Spot). In s (keys w)) (sym (kept_still m units i u c))
@@ -142,13 +146,16 @@ module _ (units : List (FileUnit Spot)) (m : Move) (old : AreOld units) (i : ℕ
   top_kept kind t is at stays s there =
       let r = unit_row units i u nth kind in
       let o = unit_of units t is in
-      let w = tops_somewhere (row_of units i) (row_kinded u.file i (language u.unit) [] r.first (row_of units i) u.unit.below r.is) t (subst (λ (n : ℕ). In t (row_tops (row_of units n))) at o.in_row) in
+      let w = tops_somewhere (row_of units i) (row_kinded u.file i (language u.unit) [] r.first (row_of units i) u.unit.below r.is) t
+      (subst (λ (n : ℕ). In t (row_tops (row_of units n))) at o.in_row) in
       item_kept kind s (λ row last has. tree_top f row last w.names t (has w.names (OfTop t) w.has stays) s there)
 
   pub space_kept : u.unit.kind ≡ Compile → (s : Spot) → f s ≡ s → SpaceThere (row_of units i) s → In s (keys (kept_unit m units i u).below)
-  space_kept kind s fixed x = item_kept kind s (λ row last has. subst (λ (w : Spot). In w (keys (tree f row last))) (ap f (sym x.is) ∙ fixed) (tree_space f row last x.names x.e (has x.names (OfSpace x.e) x.has tt)))
+  space_kept kind s fixed x = item_kept kind s
+      (λ row last has. subst (λ (w : Spot). In w (keys (tree f row last))) (ap f (sym x.is) ∙ fixed) (tree_space f row last x.names x.e (has x.names (OfSpace x.e) x.has tt)))
 
-  pub type_kept : (signature : ℕ) (main : Spot) → u.unit.kind ≡ OfType signature main → (s : Spot) → f s ≡ s → In s (map (InType i) (paths_in [] 0 u.unit.below)) → In s (keys (kept_unit m units i u).below)
+  pub type_kept : (signature : ℕ) (main : Spot) → u.unit.kind ≡ OfType signature main → (s : Spot) → f s ≡ s → In s (map (InType i) (paths_in [] 0 u.unit.below))
+      → In s (keys (kept_unit m units i u).below)
   type_kept signature main kind s fixed is =
       let labels : Labelled (InType i) [] 0 u.unit.below = subst (λ (w : Kind Spot). IsNamedBelow i w (row_of units i) u.unit.below) kind (old.units_named i u nth).below in
       let there : In s (keys u.unit.below) = subst (In s) (sym (labelled_keys (InType i) [] 0 u.unit.below labels)) is in
@@ -183,25 +190,30 @@ module _ (units : List (FileUnit Spot)) (m : Move) (old : AreOld units) (file : 
       let there = subst (In t.0) all t.1 in
       (t.0, among t.0 there, t.2, (below_unit u i first w.kind t.0 there).1)
 
-  pub unit_kept : Nth 0 units i (in_file file (unit_map name v)) → Among → (s : Spot) → image_in m s ≡ s → Stays s → (s ≡ RootOf i) ⊎ In s (below_names i first v.kind v.below) → In s (unit_keys (kept_unit m units i (in_file file (unit_map name v))))
+  pub unit_kept : Nth 0 units i (in_file file (unit_map name v)) → Among → (s : Spot) → image_in m s ≡ s → Stays s → (s ≡ RootOf i) ⊎ In s (below_names i first v.kind v.below)
+      → In s (unit_keys (kept_unit m units i (in_file file (unit_map name v))))
   unfolding unit_keys
   unit_kept nth among s fixed stays (inl e) = inr (inl (ap (image_in m) ((old.units_named i u nth).root ∙ sym e) ∙ fixed))
   unit_kept nth among s fixed stays (inr h) = inr (inr (by v.kind refl h)) where
-    in_compile : v.kind ≡ Compile → TopOrSpace (row_of units i) s → Each (Between first (first + tops_under v.below)) (map spot_of (top_spots i [] 0 first v.below)) → In s (map spot_of (top_spots i [] 0 first v.below)) → In s (keys (kept_unit m units i u).below)
+    in_compile : v.kind ≡ Compile → TopOrSpace (row_of units i) s → Each (Between first (first + tops_under v.below)) (map spot_of (top_spots i [] 0 first v.below))
+        → In s (map spot_of (top_spots i [] 0 first v.below)) → In s (keys (kept_unit m units i u).below)
     in_compile kind (inr x) all is = space_kept units m old i u nth (ap (kind_map name) kind) s fixed x
     in_compile kind (inl o) all is =
-        let b : Between first (first + tops_under v.below) (Within o.0 o.1) = subst (Between first (first + tops_under v.below)) o.2 (each_in (Between first (first + tops_under v.below)) s (map spot_of (top_spots i [] 0 first v.below)) all is) in
+        let b : Between first (first + tops_under v.below) (Within o.0 o.1) = subst (Between first (first + tops_under v.below)) o.2
+        (each_in (Between first (first + tops_under v.below)) s (map spot_of (top_spots i [] 0 first v.below)) all is) in
         let t = top_there kind among o.0 b.0 b.1 in
         let is_s : s ≡ Within t.0.number o.1 = o.2 ∙ ap (λ (n : ℕ). Within n o.1) (sym t.2) in
         let st = stays t.0 o.1 t.1 is_s in
-        let own : In s (own_keys t.0) = subst (In s) (sym (top_labelled t.0 (old.tops_named t.0 t.1))) (subst (λ (x : Spot). In x (map (Within t.0.number) (paths_of t.0.below))) (sym is_s) (in_map (Within t.0.number) o.1 (paths_of t.0.below) st.0)) in
+        let own : In s (own_keys t.0) = subst (In s) (sym (top_labelled t.0 (old.tops_named t.0 t.1)))
+        (subst (λ (x : Spot). In x (map (Within t.0.number) (paths_of t.0.below))) (sym is_s) (in_map (Within t.0.number) o.1 (paths_of t.0.below) st.0)) in
         top_kept units m old i u nth (ap (kind_map name) kind) t.0 t.1 t.3 st.1 s (subst (λ (x : Spot). In x (map (image_in m) (own_keys t.0))) fixed (in_map (image_in m) s (own_keys t.0) own))
 
     by : (k : Kind ℕ) → v.kind ≡ k → In s (below_names i first k v.below) → In s (keys (kept_unit m units i u).below)
     by Compile kind is =
         let r = unit_row units i u nth (ap (kind_map name) kind) in
         let labels : LabelledSpaces i [] 0 (row_of units i) = subst (λ (x : Kind Spot). IsNamedBelow i x (row_of units i) w.below) (ap (kind_map name) kind) (old.units_named i u nth).below in
-        in_compile kind (below_there file i (language w) name [] r.first (row_of units i) v.below r.is [] 0 labels first s is) (tops_between i [] 0 first (first + tops_under v.below) v.below (omega arith)) is
+        in_compile kind (below_there file i (language w) name [] r.first (row_of units i) v.below r.is [] 0 labels first s is)
+        (tops_between i [] 0 first (first + tops_under v.below) v.below (omega arith)) is
     by (OfType signature main) kind is =
         type_kept units m old i u nth signature (name main) (ap (kind_map name) kind) s fixed
         (subst (λ (x : List (List ℕ)). In s (map (InType i) x)) (sym (paths_map name [] 0 v.below)) (subst (In s) (names_paths (InType i) [] 0 v.below) is))

@@ -59,7 +59,8 @@ same_number : (m n : ℕ) (p q : List ℕ) → Within m p ≡ Within n q → m �
 same_number m n p q e = cc
 
 -- the names of a top's entries, where they stand among all
-pub own_name : (docs : List (Doc ℕ)) (n top : ℕ) (path : List ℕ) → slice_get (all_names docs) n ≡ Some (Within top path) → (t : Top) × In t (tops_of (units_of docs)) × (t.number ≡ top) × In path (paths_of t.below)
+pub own_name : (docs : List (Doc ℕ)) (n top : ℕ) (path : List ℕ) → slice_get (all_names docs) n ≡ Some (Within top path)
+    → (t : Top) × In t (tops_of (units_of docs)) × (t.number ≡ top) × In path (paths_of t.below)
 own_name docs n top path e =
     let units = units_of docs in
     let lt = top_inside docs top path n e in
@@ -87,7 +88,8 @@ module _ (docs : List (Doc ℕ)) (rule : Rule) (planned : Planned) (written : Li
 
   -- ---- in a partial unit
 
-  part_owned : (top p : ℕ) (hm : Home) (us : List ℕ) (path : List ℕ) → PartAt (partials rule (units_of docs) (file_numbers 0 docs)) p hm us (rep rule.alike (units_of docs) top) → moves rule (units_of docs) top ≡ true → image rule (units_of docs) (Within top path) ≡ Within top path
+  part_owned : (top p : ℕ) (hm : Home) (us : List ℕ) (path : List ℕ) → PartAt (partials rule (units_of docs) (file_numbers 0 docs)) p hm us (rep rule.alike (units_of docs) top)
+      → moves rule (units_of docs) top ≡ true → image rule (units_of docs) (Within top path) ≡ Within top path
       → (t : Top) → In t (tops_of (units_of docs)) → t.number ≡ top → In path (paths_of t.below) → (kept : ℕ) → Owned (Within top path) (slice_index_or parts p kept)
   unfolding unit_keys
   part_owned top p hm us path at gone fixed t is number there kept =
@@ -102,7 +104,8 @@ module _ (docs : List (Doc ℕ)) (rule : Rule) (planned : Planned) (written : Li
       let inside : In t at.part.tops = subst (λ (w : Top). In w at.part.tops) same o.there in
       let has = ((part_is p at.part).tops_are (name_list t) t).1 (inside, refl) in
       let s = Within top path in
-      let own : In s (own_keys t) = subst (In s) (sym (top_labelled t (old.tops_named t is))) (subst (λ (w : ℕ). In (Within w path) (map (Within t.number) (paths_of t.below))) number (in_map (Within t.number) path (paths_of t.below) there)) in
+      let own : In s (own_keys t) = subst (In s) (sym (top_labelled t (old.tops_named t is)))
+      (subst (λ (w : ℕ). In (Within w path) (map (Within t.number) (paths_of t.below))) number (in_map (Within t.number) path (paths_of t.below) there)) in
       let mapped : In s (map (image_in m) (own_keys t)) = subst (λ (w : Spot). In w (map (image_in m) (own_keys t))) fixed (in_map (image_in m) s (own_keys t) own) in
       let stands : In s (keys (tree (image_in m) (part_row p at.part) End)) = tree_top (image_in m) (part_row p at.part) End (name_list t) t has s mapped in
       let below : In s (keys (partial_unit m p).below) = subst (λ (w : _). In s (keys (tree (image_in m) w End))) (sym (row_found rule units files p at.part nth)) stands in
@@ -115,14 +118,16 @@ module _ (docs : List (Doc ℕ)) (rule : Rule) (planned : Planned) (written : Li
 
   -- ---- in the entry's own unit
 
-  module _ (file : ℕ) (x : Index) (start : ℕ) (f : IsFileAt docs file x start) (is_written : IsFileWritten written file) (around : Around ℕ) (raw : List RawUnit) (means : units_meaning around raw ≡ Ok f.doc.units) where
+  module _ (file : ℕ) (x : Index) (start : ℕ) (f : IsFileAt docs file x start) (is_written : IsFileWritten written file) (around : Around ℕ) (raw : List RawUnit)
+      (means : units_meaning around raw ≡ Ok f.doc.units) where
     abbrev name : ℕ → Spot
     name = spot_in (spots_from f.starts.unit f.starts.top f.doc.units)
 
     whole : Each (λ v. IsPartial v.kind → ⊥) f.doc.units
     whole = each_of (λ (v : DwUnit ℕ). IsPartial v.kind → ⊥) f.doc.units (each_in (λ (doc : Doc ℕ). ArePlaced doc.units) f.doc docs h.placed (get_in docs file f.doc f.is_doc)).kinds
 
-    kept_owned : (entry : ℕ) (row : EntryRow) (s : Spot) → slice_get (rows_of raw) entry ≡ Some row → slice_get (names_from f.starts.unit f.starts.top f.doc.units) entry ≡ Some s → image rule (units_of docs) s ≡ s
+    kept_owned : (entry : ℕ) (row : EntryRow) (s : Spot) → slice_get (rows_of raw) entry ≡ Some row → slice_get (names_from f.starts.unit f.starts.top f.doc.units) entry ≡ Some s
+        → image rule (units_of docs) s ≡ s
         → ((t : Top) (path : List ℕ) → In t (tops_of (units_of docs)) → s ≡ Within t.number path → In path (paths_of t.below) × (moves rule (units_of docs) t.number ≡ false))
         → (kept : ℕ) → slice_get olds (f.starts.unit + row.unit) ≡ Some kept → Owned s kept
     kept_owned entry row s got_row got_name fixed stays kept got_kept =
@@ -141,7 +146,8 @@ module _ (docs : List (Doc ℕ)) (rule : Rule) (planned : Planned) (written : Li
         let here : n.0 ≡ kept = one_number olds i n.0 kept n.1 (ap (slice_get olds) (sym same) ∙ got_kept) in
         record { unit = kept_unit m units i u; is = ap (slice_get (all_written m units written)) (sym here) ∙ n.2; has = there }
 
-    pub owned : (entry : ℕ) (row : EntryRow) (s : Spot) → slice_get (rows_of raw) entry ≡ Some row → slice_get (names_from f.starts.unit f.starts.top f.doc.units) entry ≡ Some s → image rule (units_of docs) s ≡ s
+    pub owned : (entry : ℕ) (row : EntryRow) (s : Spot) → slice_get (rows_of raw) entry ≡ Some row → slice_get (names_from f.starts.unit f.starts.top f.doc.units) entry ≡ Some s
+        → image rule (units_of docs) s ≡ s
         → (kept : ℕ) → slice_get olds (f.starts.unit + row.unit) ≡ Some kept → Owned s (owner_by planned parts kept (top_in s))
     owned entry row s got_row got_name fixed kept got_kept = by (top_in s) refl where
       names : List Spot
@@ -150,11 +156,15 @@ module _ (docs : List (Doc ℕ)) (rule : Rule) (planned : Planned) (written : Li
       among : slice_get (all_names docs) (start + entry) ≡ Some s
       among =
           (λ j. slice_get (f.stand.parts j) (sym f.stand.start_is j + entry))
-          ∙ get_later f.stand.before (names_from f.starts.unit f.starts.top f.doc.units ++ f.stand.after) entry s (get_first (names_from f.starts.unit f.starts.top f.doc.units) f.stand.after entry s got_name)
+          ∙ get_later f.stand.before (names_from f.starts.unit f.starts.top f.doc.units ++ f.stand.after) entry s
+          (get_first (names_from f.starts.unit f.starts.top f.doc.units) f.stand.after entry s got_name)
 
-      placed : (top : ℕ) (path : List ℕ) → s ≡ Within top path → (t : Top) → In t (tops_of (units_of docs)) → t.number ≡ top → In path (paths_of t.below) → (p : Place) → IsPlace rule (units_of docs) (partials rule (units_of docs) (file_numbers 0 docs)) top p → Owned s (owner_at parts kept p)
-      placed top path e t is number there (InCommon p) q = subst (λ (w : Spot). Owned w (slice_index_or parts p kept)) (sym e) (part_owned top p Common _ path q.1 (ap is_home q.0) (subst (λ (w : Spot). image rule (units_of docs) w ≡ w) e fixed) t is number there kept)
-      placed top path e t is number there (InFile p) q = subst (λ (w : Spot). Owned w (slice_index_or parts p kept)) (sym e) (part_owned top p (Local q.0) _ path q.2 (ap is_home q.1) (subst (λ (w : Spot). image rule (units_of docs) w ≡ w) e fixed) t is number there kept)
+      placed : (top : ℕ) (path : List ℕ) → s ≡ Within top path → (t : Top) → In t (tops_of (units_of docs)) → t.number ≡ top → In path (paths_of t.below) → (p : Place)
+          → IsPlace rule (units_of docs) (partials rule (units_of docs) (file_numbers 0 docs)) top p → Owned s (owner_at parts kept p)
+      placed top path e t is number there (InCommon p) q = subst (λ (w : Spot). Owned w (slice_index_or parts p kept)) (sym e)
+          (part_owned top p Common _ path q.1 (ap is_home q.0) (subst (λ (w : Spot). image rule (units_of docs) w ≡ w) e fixed) t is number there kept)
+      placed top path e t is number there (InFile p) q = subst (λ (w : Spot). Owned w (slice_index_or parts p kept)) (sym e)
+          (part_owned top p (Local q.0) _ path q.2 (ap is_home q.1) (subst (λ (w : Spot). image rule (units_of docs) w ≡ w) e fixed) t is number there kept)
       placed top path e t is number there InUnit q = kept_owned entry row s got_row got_name fixed stays kept got_kept where
         stays : (v : Top) (r : List ℕ) → In v (tops_of (units_of docs)) → s ≡ Within v.number r → In r (paths_of v.below) × (moves rule (units_of docs) v.number ≡ false)
         stays v r is_v e' =

@@ -20,7 +20,8 @@ got_or (x ∷ xs) (suc i) n d e = got_or xs i n d e
 
 -- ---- one entry
 
-pub kept_is : (raw : List RawUnit) (olds : List ℕ) (unit i : ℕ) (x : EntryOfCode) (row : EntryRow) (kept v : ℕ) → slice_get (shown_entries raw) i ≡ Some x → slice_get (rows_of raw) i ≡ Some row → slice_get olds (unit + row.unit) ≡ Some kept → v ≡ slice_index_or olds (unit + x.unit) 0
+pub kept_is : (raw : List RawUnit) (olds : List ℕ) (unit i : ℕ) (x : EntryOfCode) (row : EntryRow) (kept v : ℕ) → slice_get (shown_entries raw) i ≡ Some x
+    → slice_get (rows_of raw) i ≡ Some row → slice_get olds (unit + row.unit) ≡ Some kept → v ≡ slice_index_or olds (unit + x.unit) 0
     → v ≡ kept
 kept_is raw olds unit i x row kept v shown got old is =
     let same : row.unit ≡ x.unit = ap (λ (w : EntryOfCode). w.unit) (row_is raw i x row shown got) in
@@ -29,7 +30,8 @@ kept_is raw olds unit i x row kept v shown got old is =
 pub owner_none : (plan : Planned) (parts : List ℕ) (s : Spot) (v kept : ℕ) → None ≡ top_in s → v ≡ kept → v ≡ owner_by plan parts kept (top_in s)
 owner_none plan parts s v kept e is = is ∙ ap (owner_by plan parts kept) e
 
-pub owner_some : (plan : Planned) (parts : List ℕ) (s : Spot) (top r v kept : ℕ) → Some top ≡ top_in s → r ≡ owner_at parts v (slice_index_or plan.homes top Stay) → v ≡ kept → r ≡ owner_by plan parts kept (top_in s)
+pub owner_some : (plan : Planned) (parts : List ℕ) (s : Spot) (top r v kept : ℕ) → Some top ≡ top_in s → r ≡ owner_at parts v (slice_index_or plan.homes top Stay) → v ≡ kept
+    → r ≡ owner_by plan parts kept (top_in s)
 owner_some plan parts s top r v kept e is same = is ∙ ap (λ (n : ℕ). owner_at parts n (slice_index_or plan.homes top Stay)) same ∙ ap (owner_by plan parts kept) e
 
 -- ---- one after the other
@@ -51,7 +53,8 @@ abbrev Owns : Planned → List ℕ → List ℕ → ℕ → EntryRow → Spot �
 Owns plan parts olds unit row s owner = (kept : ℕ) → slice_get olds (unit + row.unit) ≡ Some kept → owner ≡ owner_by plan parts kept (top_in s)
 
 module _ (plan : Planned) (parts olds : List ℕ) (unit : ℕ) where
-  append : (rows : List EntryRow) (names : List Spot) (owners : List ℕ) (row : EntryRow) (s : Spot) (owner : ℕ) → AreOwners plan parts olds unit rows names owners → Owns plan parts olds unit row s owner
+  append : (rows : List EntryRow) (names : List Spot) (owners : List ℕ) (row : EntryRow) (s : Spot) (owner : ℕ) → AreOwners plan parts olds unit rows names owners
+      → Owns plan parts olds unit row s owner
       → AreOwners plan parts olds unit (rows ++ row ∷ []) (names ++ s ∷ []) (owners ++ owner ∷ [])
   append [] [] [] row s owner h k = (k, tt)
   append [] [] (o ∷ owners) row s owner h k = absurd h
@@ -63,8 +66,10 @@ module _ (plan : Planned) (parts olds : List ℕ) (unit : ℕ) where
   pub adds_none : (rows : List EntryRow) (names : List Spot) (old : List ℕ) → AddsOwners plan parts olds unit (take 0 rows) (take 0 names) old old
   adds_none rows names old = record { more = []; is = sym (append-nil old); are = tt }
 
-  pub adds_more : (raw : List RawUnit) (names : List Spot) (x : Index) (old mid new : List ℕ) (i owner : ℕ) → IsIndex names x → length x.steps ≡ entries_in raw → i < entries_in raw → AddsOwners plan parts olds unit (take i (rows_of raw)) (take i names) old mid
-      → ((s : Spot) (row : EntryRow) (kept : ℕ) → slice_get names i ≡ Some s → slice_get (rows_of raw) i ≡ Some row → slice_get olds (unit + row.unit) ≡ Some kept → owner ≡ owner_by plan parts kept (top_in s)) → new ≡ mid ++ owner ∷ []
+  pub adds_more : (raw : List RawUnit) (names : List Spot) (x : Index) (old mid new : List ℕ) (i owner : ℕ) → IsIndex names x → length x.steps ≡ entries_in raw → i < entries_in raw
+      → AddsOwners plan parts olds unit (take i (rows_of raw)) (take i names) old mid
+      → ((s : Spot) (row : EntryRow) (kept : ℕ) → slice_get names i ≡ Some s → slice_get (rows_of raw) i ≡ Some row → slice_get olds (unit + row.unit) ≡ Some kept
+      → owner ≡ owner_by plan parts kept (top_in s)) → new ≡ mid ++ owner ∷ []
       → AddsOwners plan parts olds unit (take (i + 1) (rows_of raw)) (take (i + 1) names) old new
   adds_more raw names x old mid new i owner index many lt h one is =
       let rows = rows_of raw in
@@ -82,7 +87,8 @@ module _ (plan : Planned) (parts olds : List ℕ) (unit : ℕ) where
         are = append (take i rows) (take i names) h.more r.0 s.0 owner h.are (λ kept. one s.0 r.0 kept s.1 r.1);
       }))
 
-  pub adds_all : (raw : List RawUnit) (names : List Spot) (x : Index) (old new : List ℕ) (i : ℕ) → IsIndex names x → length x.steps ≡ entries_in raw → entries_in raw ≤ i → AddsOwners plan parts olds unit (take i (rows_of raw)) (take i names) old new
+  pub adds_all : (raw : List RawUnit) (names : List Spot) (x : Index) (old new : List ℕ) (i : ℕ) → IsIndex names x → length x.steps ≡ entries_in raw → entries_in raw ≤ i
+      → AddsOwners plan parts olds unit (take i (rows_of raw)) (take i names) old new
       → AddsOwners plan parts olds unit (rows_of raw) names old new
   adds_all raw names x old new i index many le h =
       let rows = rows_of raw in

@@ -32,12 +32,15 @@ in_all [] n u s e h = absurd cc
 in_all (v ∷ all) zero u s e h = (let same : v ≡ u = cc in in_left s (unit_keys v) (units_keys all) (subst (λ (w : DwUnit Spot). In s (unit_keys w)) (sym same) h))
 in_all (v ∷ all) (suc n) u s e h = in_right s (unit_keys v) (units_keys all) (in_all all n u s e h)
 
-one_place : (all : List (DwUnit Spot)) → NoneTwice (units_keys all) → (m n : ℕ) (u v : DwUnit Spot) (s : Spot) → slice_get all m ≡ Some u → In s (unit_keys u) → slice_get all n ≡ Some v → In s (unit_keys v) → m ≡ n
+one_place : (all : List (DwUnit Spot)) → NoneTwice (units_keys all) → (m n : ℕ) (u v : DwUnit Spot) (s : Spot) → slice_get all m ≡ Some u → In s (unit_keys u) → slice_get all n ≡ Some v
+    → In s (unit_keys v) → m ≡ n
 unfolding units_keys
 one_place [] once m n u v s e h f k = absurd cc
 one_place (w ∷ all) once zero zero u v s e h f k = refl
-one_place (w ∷ all) once zero (suc n) u v s e h f k = (let same : w ≡ u = cc in absurd (none_both (unit_keys w) (units_keys all) once s (subst (λ (x : DwUnit Spot). In s (unit_keys x)) (sym same) h) (in_all all n v s f k)))
-one_place (w ∷ all) once (suc m) zero u v s e h f k = (let same : w ≡ v = cc in absurd (none_both (unit_keys w) (units_keys all) once s (subst (λ (x : DwUnit Spot). In s (unit_keys x)) (sym same) k) (in_all all m u s e h)))
+one_place (w ∷ all) once zero (suc n) u v s e h f k =
+    (let same : w ≡ u = cc in absurd (none_both (unit_keys w) (units_keys all) once s (subst (λ (x : DwUnit Spot). In s (unit_keys x)) (sym same) h) (in_all all n v s f k)))
+one_place (w ∷ all) once (suc m) zero u v s e h f k =
+    (let same : w ≡ v = cc in absurd (none_both (unit_keys w) (units_keys all) once s (subst (λ (x : DwUnit Spot). In s (unit_keys x)) (sym same) k) (in_all all m u s e h)))
 one_place (w ∷ all) once (suc m) (suc n) u v s e h f k = ap suc (one_place all (none_right (unit_keys w) (units_keys all) once) m n u v s e h f k)
 
 tells : (s : Spot) (keys : List Spot) (b : Bool) → (b ≡ true → In s keys) → (b ≡ false → In s keys → ⊥) → has_key same_spot s keys ≡ b
@@ -48,7 +51,8 @@ tells s keys b there none = by (has_key same_spot s keys) b refl refl where
   by true false e f = absurd (none f (has_in same_spot spots_same s keys e))
   by false true e f = absurd (none_has same_spot spots_same s keys (there f) e)
 
-pub own_tells : (all : List (DwUnit Spot)) → NoneTwice (units_keys all) → (s : Spot) (owner : ℕ) → StandsIn all s owner → (here : ℕ) (u : DwUnit Spot) → slice_get all here ≡ Some u → has_key same_spot s (unit_keys u) ≡ (owner == here)
+pub own_tells : (all : List (DwUnit Spot)) → NoneTwice (units_keys all) → (s : Spot) (owner : ℕ) → StandsIn all s owner → (here : ℕ) (u : DwUnit Spot) → slice_get all here ≡ Some u
+    → has_key same_spot s (unit_keys u) ≡ (owner == here)
 own_tells all once s owner h here u e =
     tells s (unit_keys u) (owner == here)
     (λ t. (
@@ -63,7 +67,8 @@ own_tells all once s owner h here u e =
 no_both : (xs ys : List (DwUnit Spot)) → NoneTwice (units_keys (xs ++ ys)) → (s : Spot) → In s (units_keys xs) → In s (units_keys ys) → ⊥
 no_both xs ys once s = none_both (units_keys xs) (units_keys ys) (subst NoneTwice (keys_joined xs ys) once) s
 
-pub common_tells : (common others : List (DwUnit Spot)) → NoneTwice (units_keys (common ++ others)) → (s : Spot) (owner : ℕ) → StandsIn (common ++ others) s owner → has_key same_spot s (units_keys common) ≡ nat_lt owner (length common)
+pub common_tells : (common others : List (DwUnit Spot)) → NoneTwice (units_keys (common ++ others)) → (s : Spot) (owner : ℕ) → StandsIn (common ++ others) s owner
+    → has_key same_spot s (units_keys common) ≡ nat_lt owner (length common)
 common_tells common others once s owner h =
     tells s (units_keys common) (nat_lt owner (length common))
     (λ t. (elim (get_cases common others owner h.unit h.is) [
@@ -75,7 +80,8 @@ common_tells common others once s owner h =
       | inr b ↦ no_both common others once s is (in_all others b.0 h.unit s b.2 h.has)
     ]))
 
-pub file_tells : (common before own after : List (DwUnit Spot)) → NoneTwice (units_keys (common ++ (before ++ (own ++ after)))) → (s : Spot) (owner : ℕ) → StandsIn (common ++ (before ++ (own ++ after))) s owner → In s (units_keys common) ⊎ In s (units_keys own)
+pub file_tells : (common before own after : List (DwUnit Spot)) → NoneTwice (units_keys (common ++ (before ++ (own ++ after)))) → (s : Spot) (owner : ℕ)
+    → StandsIn (common ++ (before ++ (own ++ after))) s owner → In s (units_keys common) ⊎ In s (units_keys own)
     → has_key same_spot s (units_keys own) ≡ not (nat_lt owner (length common))
 file_tells common before own after once s owner h there =
     let others = before ++ (own ++ after) in
@@ -83,9 +89,11 @@ file_tells common before own after once s owner h there =
     go is_common (nat_lt owner (length common)) refl there
   where
     inside : In s (units_keys own) → In s (units_keys (before ++ (own ++ after)))
-    inside is = subst (In s) (sym (keys_joined before (own ++ after))) (in_right s (units_keys before) (units_keys (own ++ after)) (subst (In s) (sym (keys_joined own after)) (in_left s (units_keys own) (units_keys after) is)))
+    inside is = subst (In s) (sym (keys_joined before (own ++ after)))
+        (in_right s (units_keys before) (units_keys (own ++ after)) (subst (In s) (sym (keys_joined own after)) (in_left s (units_keys own) (units_keys after) is)))
 
-    go : has_key same_spot s (units_keys common) ≡ nat_lt owner (length common) → (b : Bool) → nat_lt owner (length common) ≡ b → In s (units_keys common) ⊎ In s (units_keys own) → has_key same_spot s (units_keys own) ≡ not (nat_lt owner (length common))
+    go : has_key same_spot s (units_keys common) ≡ nat_lt owner (length common) → (b : Bool) → nat_lt owner (length common) ≡ b → In s (units_keys common) ⊎ In s (units_keys own)
+        → has_key same_spot s (units_keys own) ≡ not (nat_lt owner (length common))
     go e true t w =
         let here : In s (units_keys common) = has_in same_spot spots_same s (units_keys common) (e ∙ t) in
         tells s (units_keys own) false (λ x. absurd cc) (λ f is. no_both common (before ++ (own ++ after)) once s here (inside is)) ∙ sym (ap not t)
@@ -98,9 +106,11 @@ skipped : (a b c : List Spot) → NoneTwice (a ++ (b ++ c)) → NoneTwice (a ++ 
 skipped a b c h = none_append a c (none_left a (b ++ c) h) (none_right b c (none_right a (b ++ c) h)) (λ x p q. none_both a (b ++ c) h x p (in_right x b c q))
 
 module _ (m : Move) (units : List (FileUnit Spot)) where
-  some_once : (before : List (DwUnit Spot)) (file : ℕ) (docs : List (Doc ℕ)) (written : List Bool) → length written ≤ length docs → NoneTwice (units_keys (before ++ file_units m units (file_numbers file docs))) → NoneTwice (units_keys (before ++ files_written m units file written))
+  some_once : (before : List (DwUnit Spot)) (file : ℕ) (docs : List (Doc ℕ)) (written : List Bool) → length written ≤ length docs
+      → NoneTwice (units_keys (before ++ file_units m units (file_numbers file docs))) → NoneTwice (units_keys (before ++ files_written m units file written))
   unfolding file_units file_numbers files_written
-  some_once before file docs [] le h = subst (λ (w : List (DwUnit Spot)). NoneTwice (units_keys w)) (sym (append-nil before)) (none_left (units_keys before) (units_keys (file_units m units (file_numbers file docs))) (subst NoneTwice (keys_joined before (file_units m units (file_numbers file docs))) h))
+  some_once before file docs [] le h = subst (λ (w : List (DwUnit Spot)). NoneTwice (units_keys w)) (sym (append-nil before))
+      (none_left (units_keys before) (units_keys (file_units m units (file_numbers file docs))) (subst NoneTwice (keys_joined before (file_units m units (file_numbers file docs))) h))
   some_once before file [] (w ∷ written) le h = absurd (omega (arith, le))
   some_once before file (doc ∷ docs) (true ∷ written) le h =
       let own = out_units m units file in
@@ -110,7 +120,8 @@ module _ (m : Move) (units : List (FileUnit Spot)) where
   some_once before file (doc ∷ docs) (false ∷ written) le h =
       let own = out_units m units file in
       let rest = file_units m units (file_numbers (suc file) docs) in
-      let keys : NoneTwice (units_keys before ++ (units_keys own ++ units_keys rest)) = subst NoneTwice (keys_joined before (own ++ rest) ∙ ap (λ (w : List Spot). units_keys before ++ w) (keys_joined own rest)) h in
+      let keys : NoneTwice (units_keys before ++ (units_keys own ++ units_keys rest)) = subst NoneTwice (keys_joined before (own ++ rest)
+      ∙ ap (λ (w : List Spot). units_keys before ++ w) (keys_joined own rest)) h in
       some_once before (suc file) docs written (omega (arith, le)) (subst NoneTwice (sym (keys_joined before rest)) (skipped (units_keys before) (units_keys own) (units_keys rest) keys))
 
 above : (file n : ℕ) (docs : List (Doc ℕ)) → n < file → Each (λ m. n < m) (file_numbers file docs)
@@ -123,6 +134,8 @@ unfolding file_numbers
 numbers_rise file [] = tt
 numbers_rise file (doc ∷ docs) = (above (suc file) file docs (omega arith), numbers_rise (suc file) docs)
 
-pub written_once : (docs : List (Doc ℕ)) (rule : Rule) (written : List Bool) → Each (λ doc. ArePlaced doc.units) docs → length written ≤ length docs → NoneTwice (units_keys (all_written (move_of rule docs) (units_of docs) written))
+pub written_once : (docs : List (Doc ℕ)) (rule : Rule) (written : List Bool) → Each (λ doc. ArePlaced doc.units) docs → length written ≤ length docs
+    → NoneTwice (units_keys (all_written (move_of rule docs) (units_of docs) written))
 written_once docs rule written placed le =
-    some_once (move_of rule docs) (units_of docs) (common_units (move_of rule docs)) 0 docs written le (all_apart (units_of docs) rule (files_old docs placed) (file_numbers 0 docs) (numbers_rise 0 docs))
+    some_once (move_of rule docs) (units_of docs) (common_units (move_of rule docs)) 0 docs written le
+    (all_apart (units_of docs) rule (files_old docs placed) (file_numbers 0 docs) (numbers_rise 0 docs))

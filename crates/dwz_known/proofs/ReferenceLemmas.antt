@@ -12,7 +12,8 @@ use Rattle.dwz_known.specs.Images.{AreImages, IsImage}
 use Rattle.dwz_known.specs.Names.{all_names}
 use Rattle.dwz_known.proofs.OwnerSteps.{got_or}
 
-target_at : (raw : List RawUnit) (refs places : List ℕ) → AreTargets raw refs places → (j p : ℕ) → slice_get places j ≡ Some p → (e : ℕ) × (slice_get refs j ≡ Some e) × (e < entries_in raw) × (place_at raw e ≡ p)
+target_at : (raw : List RawUnit) (refs places : List ℕ) → AreTargets raw refs places → (j p : ℕ) → slice_get places j ≡ Some p
+    → (e : ℕ) × (slice_get refs j ≡ Some e) × (e < entries_in raw) × (place_at raw e ≡ p)
 target_at raw refs [] h j p e = absurd cc
 target_at raw [] (q ∷ places) h j p e = absurd h
 target_at raw (i ∷ refs) (q ∷ places) h zero p e = (i, refl, h.0, (let same : q ≡ p = cc in h.1 ∙ same))
@@ -23,7 +24,8 @@ got_drop xs zero j x e = let z : 0 + j ≡ j = omega arith in ap (slice_get xs) 
 got_drop [] (suc n) j x e = absurd cc
 got_drop (y ∷ xs) (suc n) j x e = let z : suc n + j ≡ suc (n + j) = omega arith in ap (slice_get (y ∷ xs)) z ∙ got_drop xs n j x e
 
-image_at : (docs : List (Doc ℕ)) (rule : Rule) (names : List Spot) (refs numbers : List ℕ) → AreImages docs rule names refs numbers → (k e : ℕ) → slice_get refs k ≡ Some e → (n : ℕ) × (slice_get numbers k ≡ Some n) × IsImage docs rule names e n
+image_at : (docs : List (Doc ℕ)) (rule : Rule) (names : List Spot) (refs numbers : List ℕ) → AreImages docs rule names refs numbers → (k e : ℕ) → slice_get refs k ≡ Some e
+    → (n : ℕ) × (slice_get numbers k ≡ Some n) × IsImage docs rule names e n
 image_at docs rule names [] [] h k e g = absurd cc
 image_at docs rule names [] (n ∷ numbers) h k e g = absurd h
 image_at docs rule names (r ∷ refs) [] h k e g = absurd h

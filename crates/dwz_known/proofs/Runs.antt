@@ -79,7 +79,8 @@ within_between n (p ∷ paths) = ((omega arith, omega arith), within_between n p
 own_names : (n : ℕ) (f : Entries ℕ) → Within n [] ∷ map spot_of (entry_spots (Within n) [] 0 f) ≡ map (Within n) (paths_of f)
 own_names n f = ap (λ (w : List Spot). Within n [] ∷ w) (names_paths (Within n) [] 0 f)
 
-pub top_names : (unit : ℕ) (path : List ℕ) (i n : ℕ) (e : _) (f g : Entries ℕ) → space_text e ≡ None → map spot_of (top_spots unit path i n (Entry e f g)) ≡ map (Within n) (paths_of f) ++ map spot_of (top_spots unit path (suc i) (suc n) g)
+pub top_names : (unit : ℕ) (path : List ℕ) (i n : ℕ) (e : _) (f g : Entries ℕ) → space_text e ≡ None
+    → map spot_of (top_spots unit path i n (Entry e f g)) ≡ map (Within n) (paths_of f) ++ map spot_of (top_spots unit path (suc i) (suc n) g)
 top_names unit path i n e f g h =
     let a = entry_spots (Within n) [] 0 f in
     let b = top_spots unit path (suc i) (suc n) g in
@@ -155,7 +156,8 @@ module _ (file unit : ℕ) (language : _) (name : ℕ → Spot) where
       let own = map (Within n) (paths_of f) in
       let rest = map spot_of (top_spots at path (suc i) (suc n) g) in
       run_same n high t.number (paths_of t.below) (own ++ rest) (map spot_of (top_spots at path i n (Entry e f g))) (top_names at path i n e f g plain)
-      (run_right n (suc n) high t.number (paths_of t.below) own rest (omega arith) (within_between n (paths_of f)) (row_run at path (suc i) (suc n) high spaces row g h.2 (omega (arith, many, le)) t r))
+      (run_right n (suc n) high t.number (paths_of t.below) own rest (omega arith) (within_between n (paths_of f))
+      (row_run at path (suc i) (suc n) high spaces row g h.2 (omega (arith, many, le)) t r))
   row_run at path i n high spaces (ASpace d inner row) (Entry e f g) h le t is =
       let named = sym (text_map name e) ∙ h.1 in
       let many = under_space e f g h.0 named in
@@ -165,6 +167,9 @@ module _ (file unit : ℕ) (language : _) (name : ℕ → Spot) where
       let own : Each (Between n n) (SpaceAt at (i ∷ path) ∷ []) = (tt, tt) in
       run_same n high t.number (paths_of t.below) (SpaceAt at (i ∷ path) ∷ (a ++ b)) (map spot_of (top_spots at path i n (Entry e f g))) (space_names at path i n e f g h.0 named)
       (run_right n n high t.number (paths_of t.below) (SpaceAt at (i ∷ path) ∷ []) (a ++ b) (omega arith) own (elim (in_cases t (row_tops inner) (row_tops row) is) [
-        | inl x ↦ run_left n mid high t.number (paths_of t.below) a b (omega (arith, many, le)) (row_run at (i ∷ path) 0 n mid (spaces ++ name_of h.0 (node_map name e) ∷ []) inner f h.3 (omega arith) t x) (tops_between at path (suc i) mid high g (omega (arith, many, le)))
-        | inr y ↦ run_right n mid high t.number (paths_of t.below) a b (omega arith) (tops_between at (i ∷ path) 0 n mid f (omega arith)) (row_run at path (suc i) mid high spaces row g (subst (λ (w : ℕ). RowIs file unit language spaces (n + w) row (entries_map name g)) (under_count name f) h.4) (omega (arith, many, le)) t y)
+        | inl x ↦ run_left n mid high t.number (paths_of t.below) a b (omega (arith, many, le))
+            (row_run at (i ∷ path) 0 n mid (spaces ++ name_of h.0 (node_map name e) ∷ []) inner f h.3 (omega arith) t x) (tops_between at path (suc i) mid high g (omega (arith, many, le)))
+        | inr y ↦ run_right n mid high t.number (paths_of t.below) a b (omega arith) (tops_between at (i ∷ path) 0 n mid f (omega arith))
+            (row_run at path (suc i) mid high spaces row g (subst (λ (w : ℕ). RowIs file unit language spaces (n + w) row (entries_map name g)) (under_count name f) h.4)
+            (omega (arith, many, le)) t y)
       ]))

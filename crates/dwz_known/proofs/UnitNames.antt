@@ -26,7 +26,8 @@ OfUnit unit row = row.unit ≡ unit
 rows_unit : (f : Forest RawEntry) (unit : ℕ) (p : Position) → Each (OfUnit unit) (rows_below f unit p)
 unfolding rows_below
 rows_unit End unit p = tt
-rows_unit (Entry e c n) unit p = (refl, each_append (OfUnit unit) (rows_below c unit (first_below p)) (rows_below n unit (behind p c)) (rows_unit c unit (first_below p)) (rows_unit n unit (behind p c)))
+rows_unit (Entry e c n) unit p =
+    (refl, each_append (OfUnit unit) (rows_below c unit (first_below p)) (rows_below n unit (behind p c)) (rows_unit c unit (first_below p)) (rows_unit n unit (behind p c)))
 
 names_many : (at top : ℕ) (kind : Kind ℕ) (f : Entries ℕ) → (IsPartial kind → ⊥) → length (below_names at top kind f) ≡ size f
 names_many at top Compile f h = many_tops at [] 0 top f
@@ -58,7 +59,8 @@ module _ (around : Around ℕ) (file : ℕ) (name : ℕ → Spot) where
         tops = λ t is. in_left t (row_tops (row_below file unit top w w.kind)) (tops_from (suc unit) (top + top_count w.kind w.below) (filed file name said)) is;
       }
 
-  later : (unit top : ℕ) (v : DwUnit ℕ) (said : List (DwUnit ℕ)) (m : ℕ) (s : Spot) → IsOfUnit file name (suc unit) (top + top_count v.kind v.below) said m s → IsOfUnit file name unit top (v ∷ said) m s
+  later : (unit top : ℕ) (v : DwUnit ℕ) (said : List (DwUnit ℕ)) (m : ℕ) (s : Spot) → IsOfUnit file name (suc unit) (top + top_count v.kind v.below) said m s
+      → IsOfUnit file name unit top (v ∷ said) m s
   unfolding tops_from
   later unit top v said m s h =
       let w = unit_map name v in
@@ -74,7 +76,8 @@ module _ (around : Around ℕ) (file : ℕ) (name : ℕ → Spot) where
             (subst (λ (n : ℕ). In t (tops_from (suc unit) (top + n) (filed file name said))) (sym (count_map name v.kind v.below)) (h.tops t is));
       }
 
-  pub of_unit : (raw : List RawUnit) (said : List (DwUnit ℕ)) → MeanUnits around raw said → Each (λ v. IsPartial v.kind → ⊥) said → (unit top n before e : ℕ) (row : EntryRow) (s : Spot) → slice_get (rows_from raw n before) e ≡ Some row → slice_get (names_from unit top said) e ≡ Some s
+  pub of_unit : (raw : List RawUnit) (said : List (DwUnit ℕ)) → MeanUnits around raw said → Each (λ v. IsPartial v.kind → ⊥) said → (unit top n before e : ℕ) (row : EntryRow) (s : Spot)
+      → slice_get (rows_from raw n before) e ≡ Some row → slice_get (names_from unit top said) e ≡ Some s
       → (m : ℕ) × (row.unit + unit ≡ m + n) × IsOfUnit file name unit top said m s
   unfolding rows_from names_from
   of_unit [] [] h whole unit top n before e row s a b = absurd cc

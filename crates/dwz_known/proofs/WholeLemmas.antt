@@ -23,7 +23,8 @@ use Rattle.dwz_known.proofs.FileRuns.{counted, counted_append, filed, filed_coun
 
 -- ---- tops
 
-top_named : (s : Starts) (doc : Doc ℕ) (x : Index) → IsIndexOf s doc x → Each (λ u. IsPartial u.kind → ⊥) doc.units → (k : ℕ) (t : TopEntry) → slice_get x.tops k ≡ Some t → slice_get (names_from s.unit s.top doc.units) t.entry ≡ Some (Within (s.top + k) [])
+top_named : (s : Starts) (doc : Doc ℕ) (x : Index) → IsIndexOf s doc x → Each (λ u. IsPartial u.kind → ⊥) doc.units → (k : ℕ) (t : TopEntry) → slice_get x.tops k ≡ Some t
+    → slice_get (names_from s.unit s.top doc.units) t.entry ≡ Some (Within (s.top + k) [])
 top_named s doc x h whole k t e = name_at s doc.units whole k t (ap (λ (w : List TopEntry). slice_get w k) (sym h.tops.tops_are) ∙ e)
 
 top_many : (s : Starts) (doc : Doc ℕ) (x : Index) → IsIndexOf s doc x → length x.tops ≡ tops_among doc.units
@@ -141,7 +142,8 @@ file_found all units s (doc ∷ docs) (y ∷ xs) end h before c parts len done f
     file_found all units next docs xs end h.1 (before ++ names) (c + length y.steps) (parts ∙ sym (append_assoc before names (names_of_files next.unit next.top docs))) count
     (done ++ own) (suc first) (is ∙ sym (append_assoc done own rest)) units_many tops_many file number start x (omega (arith, n)) e f
 
-pub file_at : (docs : List (Doc ℕ)) (xs : List Index) → AreIndexes docs xs → (file start : ℕ) (x : Index) → slice_get xs file ≡ Some x → slice_get (starts_from 0 xs) file ≡ Some start → IsFileAt docs file x start
+pub file_at : (docs : List (Doc ℕ)) (xs : List Index) → AreIndexes docs xs → (file start : ℕ) (x : Index) → slice_get xs file ≡ Some x → slice_get (starts_from 0 xs) file ≡ Some start
+    → IsFileAt docs file x start
 unfolding counted
 file_at docs xs h file start x e f =
     let n : file ≡ 0 + file = omega arith in
@@ -150,7 +152,8 @@ file_at docs xs h file start x e f =
 
 -- ---- tops are entries
 
-each_inside : (s : Starts) (docs : List (Doc ℕ)) (xs : List Index) (end : Starts) → AreIndexed s docs xs end → AreWhole docs → (k : ℕ) (d : Index) → k < length xs → All (λ t. t.entry < length (get_or xs k d).steps) (get_or xs k d).tops
+each_inside : (s : Starts) (docs : List (Doc ℕ)) (xs : List Index) (end : Starts) → AreIndexed s docs xs end → AreWhole docs → (k : ℕ) (d : Index) → k < length xs
+    → All (λ t. t.entry < length (get_or xs k d).steps) (get_or xs k d).tops
 each_inside s [] [] end h whole k d lt = absurd (omega arith)
 each_inside s [] (x ∷ xs) end h whole k d lt = absurd h
 each_inside s (doc ∷ docs) [] end h whole k d lt = absurd h

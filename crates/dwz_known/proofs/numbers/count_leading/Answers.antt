@@ -3,7 +3,8 @@ use Rattle.dwz_known.proofs.NumberingLemmas.{leading_end, leading_next, leading_
 use Rattle.dwz_known.proofs.numbers.count_leading.Goals as goal
 
 pub returns-then-part-file : goal.returns-then-part-file
-returns-then-part-file c = omega (arith, c.loop-part.invariant.found, leading_stop c.args.file c.args.partials.now c.loop-part.part-index c.part-item.result c.loop-part-test.true c.part-item.is c.if-part-file.true)
+returns-then-part-file c = omega
+    (arith, c.loop-part.invariant.found, leading_stop c.args.file c.args.partials.now c.loop-part.part-index c.part-item.result c.loop-part-test.true c.part-item.is c.if-part-file.true)
 
 pub loop-part-preserved : goal.loop-part-preserved
 loop-part-preserved c = record {

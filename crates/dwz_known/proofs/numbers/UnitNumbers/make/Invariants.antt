@@ -10,6 +10,7 @@ use Rattle.dwz_known.proofs.numbers.UnitNumbers.make.Given as goal
 abbrev pub invariant-loop-file : goal.invariant-loop-file
 invariant-loop-file l = record {
   small : Small l.partials l.counts l.file l.next l.parts.items;
-  going : (docs : List (Doc ℕ)) (rule : Rule) → (h : HaveUnits docs rule l.partials l.counts l.written) → Going docs rule l.partials l.counts l.written h l.file l.next (drop l.file docs) (drop l.file l.written) l.parts.items l.olds.items;
+  going : (docs : List (Doc ℕ)) (rule : Rule) → (h : HaveUnits docs rule l.partials l.counts l.written)
+      → Going docs rule l.partials l.counts l.written h l.file l.next (drop l.file docs) (drop l.file l.written) l.parts.items l.olds.items;
   commons : (docs : List (Doc ℕ)) (rule : Rule) → HaveUnits docs rule l.partials l.counts l.written → l.commons ≡ length (common_units (move_of rule docs));
 }

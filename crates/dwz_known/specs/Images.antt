@@ -32,8 +32,8 @@ tops_from n (x ∷ indexes) = tops_in n x.tops ++ tops_from (n + length x.steps)
 
 -- ---- images
 
--- the entries of all files are fewer than 2 ^ 32; it is known which of their tops are alike; the plan is theirs, and these are the entries
--- of their tops
+-- the entries of all files are fewer than 2 ^ 32; it is known which of their tops are alike; the plan is theirs, and these are the
+-- entries of their tops
 pub record IsPlanned (docs : List (Doc ℕ)) (rule : Rule) (plan : Planned) (tops : List ℕ) : Type 0 where
   pub few : length (all_names docs) < 2 ^ 32
   pub scope : Scope

@@ -14,7 +14,8 @@ use Rattle.dwz_known.specs.Names.{all_names}
 -- the image of an entry stands as far behind the top that stands for its own as the entry behind its own top
 abbrev pub ImageLaw : Type 0
 ImageLaw =
-    (scope : Scope) (docs : List (Doc ℕ)) (rule : Rule) → IsAlike scope (units_of docs) rule.alike → (top : ℕ) (path : List ℕ) (n from to : ℕ)
+    (scope : Scope) (docs : List (Doc ℕ)) (rule : Rule) → IsAlike scope (units_of docs) rule.alike
+    → (top : ℕ) (path : List ℕ) (n from to : ℕ)
     → slice_get (all_names docs) n ≡ Some (Within top path) → slice_get (all_names docs) from ≡ Some (Within top [])
     → slice_get (all_names docs) to ≡ Some (Within (stand_in rule (units_of docs) top) [])
     → (from ≤ n) × (slice_get (all_names docs) (to + (n - from)) ≡ Some (image rule (units_of docs) (Within top path)))
@@ -25,12 +26,14 @@ InsideLaw =
     (docs : List (Doc ℕ)) (rule : Rule) (top : ℕ) (path : List ℕ) (n : ℕ) → slice_get (all_names docs) n ≡ Some (Within top path)
     → (top < length (tops_of (units_of docs))) × (stand_in rule (units_of docs) top < length (tops_of (units_of docs)))
 
--- Where the numbers of a file's references are those of images, those from number n on, which lead to these places, are those of the images of
--- what has the names of these places.
+-- Where the numbers of a file's references are those of images, those from number n on, which lead to these places, are those of the
+-- images of what has the names of these places.
 abbrev pub ReferencesLaw : Type 0
 ReferencesLaw =
-    (docs : List (Doc ℕ)) (rule : Rule) (names : List Spot) (name : ℕ → Spot) (raw : List RawUnit) (refs numbers places : List ℕ) (n : ℕ) → AreImages docs rule names refs numbers
-    → ((i : ℕ) → i < entries_in raw → slice_get names i ≡ Some (name (place_at raw i))) → AreTargets raw (drop n refs) places → (j p : ℕ) → slice_get places j ≡ Some p
+    (docs : List (Doc ℕ)) (rule : Rule) (names : List Spot) (name : ℕ → Spot) (raw : List RawUnit)
+    (refs numbers places : List ℕ) (n : ℕ) → AreImages docs rule names refs numbers
+    → ((i : ℕ) → i < entries_in raw → slice_get names i ≡ Some (name (place_at raw i))) → AreTargets raw (drop n refs) places
+    → (j p : ℕ) → slice_get places j ≡ Some p
     → slice_get (all_names docs) (slice_index numbers (n + j)) ≡ Some (image rule (units_of docs) (name p))
 
 -- no two entries have one name

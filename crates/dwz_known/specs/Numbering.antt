@@ -21,8 +21,8 @@ abbrev pub numbers_of : ℕ → ℕ → Bool → List ℕ
 numbers_of first count true = range_with_len first count
 numbers_of first count false = replicate count 0
 
--- It is known which tops of files are alike and are chosen; these are the partial units of their plan, and the numbers of their units; and each
--- file of which something moves is written.
+-- It is known which tops of files are alike and are chosen; these are the partial units of their plan, and the numbers of their units;
+-- and each file of which something moves is written.
 pub record HaveUnits (docs : List (Doc ℕ)) (rule : Rule) (parts : List Partial) (counts : List ℕ) (written : List Bool) : Type 0 where
   pub scope : Scope
   pub alike : IsAlike scope (units_of docs) rule.alike

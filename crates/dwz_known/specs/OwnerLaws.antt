@@ -17,8 +17,8 @@ use Rattle.dwz_same.specs.After.{ArePlaced}
 use Rattle.dwz_known.specs.Owners.{AreUnitNumbers, IsFileWritten, IsOwner, move_of, owner_by}
 use Rattle.dwz_known.specs.Whole.{IsFileAt}
 
--- what is known of files whose tops move: no two of their units and entries stand at one place; which tops are alike and are chosen, the plan,
--- and the numbers of units
+-- what is known of files whose tops move: no two of their units and entries stand at one place; which tops are alike and are chosen, the
+-- plan, and the numbers of units
 pub record AreMoved (docs : List (Doc ℕ)) (rule : Rule) (planned : Planned) (written : List Bool) (commons : ℕ) (parts olds : List ℕ) : Type 0 where
   pub placed : Each (λ doc. ArePlaced doc.units) docs
   pub scope : Scope
@@ -31,9 +31,11 @@ pub record AreMoved (docs : List (Doc ℕ)) (rule : Rule) (planned : Planned) (w
 -- the entry's own unit.
 abbrev pub OwnersLaw : Type 0
 OwnersLaw =
-    (docs : List (Doc ℕ)) (rule : Rule) (planned : Planned) (written : List Bool) (commons : ℕ) (parts olds : List ℕ) → AreMoved docs rule planned written commons parts olds
+    (docs : List (Doc ℕ)) (rule : Rule) (planned : Planned) (written : List Bool) (commons : ℕ) (parts olds : List ℕ)
+    → AreMoved docs rule planned written commons parts olds
     → (file : ℕ) (x : Index) (start : ℕ) (f : IsFileAt docs file x start) → IsFileWritten written file
     → (around : Around ℕ) (raw : List RawUnit) → units_meaning around raw ≡ Ok f.doc.units
-    → (entry : ℕ) (row : EntryRow) (s : Spot) → slice_get (rows_of raw) entry ≡ Some row → slice_get (names_from f.starts.unit f.starts.top f.doc.units) entry ≡ Some s
+    → (entry : ℕ) (row : EntryRow) (s : Spot) → slice_get (rows_of raw) entry ≡ Some row
+    → slice_get (names_from f.starts.unit f.starts.top f.doc.units) entry ≡ Some s
     → image rule (units_of docs) s ≡ s → (kept : ℕ) → slice_get olds (f.starts.unit + row.unit) ≡ Some kept
     → IsOwner (move_of rule docs) (units_of docs) written s (owner_by planned parts kept (top_in s))

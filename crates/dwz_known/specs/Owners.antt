@@ -44,13 +44,14 @@ IsFileWritten written file = slice_index_or written file false ≡ true
 abbrev pub IsNumber : List (DwUnit Spot) → List ℕ → ℕ → DwUnit Spot → Type 0
 IsNumber all numbers i u = (n : ℕ) × (slice_get numbers i ≡ Some n) × (slice_get all n ≡ Some u)
 
--- The common file has so many units. For each partial unit its number, and for each unit that was read that of the one that is kept of it,
--- where its file is written, as each is of which something moves.
+-- The common file has so many units. For each partial unit its number, and for each unit that was read that of the one that is kept of
+-- it, where its file is written, as each is of which something moves.
 pub record AreUnitNumbers (m : Move) (units : List (FileUnit Spot)) (written : List Bool) (commons : ℕ) (parts olds : List ℕ) : Type 0 where
   pub commons_are : commons ≡ length (common_units m)
   pub changed : (file : ℕ) → changes m units file ≡ true → IsFileWritten written file
   pub parts_are : (n : ℕ) (part : PartialUnit) → Nth 0 m.parts n part → IsNumber (all_written m units written) parts n (partial_unit m n)
-  pub olds_are : (i : ℕ) (u : FileUnit Spot) → Nth 0 units i u → IsFileWritten written u.file → IsNumber (all_written m units written) olds i (kept_unit m units i u)
+  pub olds_are : (i : ℕ) (u : FileUnit Spot) → Nth 0 units i u → IsFileWritten written u.file
+      → IsNumber (all_written m units written) olds i (kept_unit m units i u)
 
 -- ---- owners
 
@@ -77,7 +78,8 @@ IsOwner m units written s owner = StandsIn (all_written m units written) s owner
 abbrev pub AreOwners : Planned → List ℕ → List ℕ → ℕ → List EntryRow → List Spot → List ℕ → Type 0
 AreOwners plan parts olds unit [] [] [] = Unit {0}
 AreOwners plan parts olds unit (row ∷ rows) (s ∷ names) (owner ∷ owners) =
-    ((kept : ℕ) → slice_get olds (unit + row.unit) ≡ Some kept → owner ≡ owner_by plan parts kept (top_in s)) × AreOwners plan parts olds unit rows names owners
+    ((kept : ℕ) → slice_get olds (unit + row.unit) ≡ Some kept
+    → owner ≡ owner_by plan parts kept (top_in s)) × AreOwners plan parts olds unit rows names owners
 AreOwners plan parts olds unit _ _ _ = ⊥
 
 -- they were added

@@ -19,17 +19,20 @@ OnceLaw =
 -- so a name that stands in the unit with the number `owner` stands in another one exactly where that has this number too
 abbrev pub OwnLaw : Type 0
 OwnLaw =
-    (all : List (DwUnit Spot)) → NoneTwice (units_keys all) → (s : Spot) (owner : ℕ) → StandsIn all s owner → (here : ℕ) (u : DwUnit Spot) → slice_get all here ≡ Some u
+    (all : List (DwUnit Spot)) → NoneTwice (units_keys all) → (s : Spot) (owner : ℕ) → StandsIn all s owner
+    → (here : ℕ) (u : DwUnit Spot) → slice_get all here ≡ Some u
     → has_key same_spot s (unit_keys u) ≡ (owner == here)
 
 -- it stands in the common file, whose units come first, exactly where the number is one of theirs
 abbrev pub CommonLaw : Type 0
 CommonLaw =
-    (common others : List (DwUnit Spot)) → NoneTwice (units_keys (common ++ others)) → (s : Spot) (owner : ℕ) → StandsIn (common ++ others) s owner
+    (common others : List (DwUnit Spot)) → NoneTwice (units_keys (common ++ others)) → (s : Spot) (owner : ℕ)
+    → StandsIn (common ++ others) s owner
     → has_key same_spot s (units_keys common) ≡ nat_lt owner (length common)
 
 -- and where it stands there or in another file, in that file exactly where it is none of theirs
 abbrev pub FileLaw : Type 0
 FileLaw =
-    (common before own after : List (DwUnit Spot)) → NoneTwice (units_keys (common ++ (before ++ (own ++ after)))) → (s : Spot) (owner : ℕ) → StandsIn (common ++ (before ++ (own ++ after))) s owner
+    (common before own after : List (DwUnit Spot)) → NoneTwice (units_keys (common ++ (before ++ (own ++ after))))
+    → (s : Spot) (owner : ℕ) → StandsIn (common ++ (before ++ (own ++ after))) s owner
     → In s (units_keys common) ⊎ In s (units_keys own) → has_key same_spot s (units_keys own) ≡ not (nat_lt owner (length common))

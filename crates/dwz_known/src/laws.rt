@@ -5,8 +5,8 @@ ghost use Rattle.dwz_known.specs.OwnerLaws.{OwnersLaw};
 ghost use Rattle.dwz_known.specs.Reach.{CommonLaw, FileLaw, OnceLaw, OwnLaw};
 ghost use Rattle.dwz_known.specs.Whole.{EntriesLaw, FilesLaw, TopsLaw};
 
-/// An entry of a top stands as far behind its top as its image behind the top that stands for it; both tops are there. So the numbers of a
-/// file's references, which are those of images, lead to the images of what its entries name.
+/// An entry of a top stands as far behind its top as its image behind the top that stands for it; both tops are there. So the numbers of
+/// a file's references, which are those of images, lead to the images of what its entries name.
 pub fn image_laws()
     ensures image { ImageLaw }
     ensures inside { InsideLaw }
@@ -27,7 +27,8 @@ pub fn owner_laws()
     ensures { OwnersLaw }
 {}
 
-/// A name stands in just one of the units that are written. So the number of that unit tells whether it stands in another one, and in which file.
+/// A name stands in just one of the units that are written. So the number of that unit tells whether it stands in another one, and in
+/// which file.
 pub fn reach_laws()
     ensures once { OnceLaw }
     ensures own { OwnLaw }

@@ -12,8 +12,8 @@ use dwz_model::NoMemory;
 use dwz_plan::Partial;
 use std::alloc::Global;
 
-/// The numbers of the units that are written, counted over all files: those of the common file first, then of each file that is written its
-/// partial units and its old ones.
+/// The numbers of the units that are written, counted over all files: those of the common file first, then of each file that is written
+/// its partial units and its old ones.
 #[derive(Drop)]
 pub struct UnitNumbers {
     /// For each partial unit its number.
@@ -85,8 +85,8 @@ fn add_parts(
     Ok(first + count)
 }
 
-// Adds the numbers of the old units of a file, of which there are so many; answers the one behind them. They have none where the file isn't
-// written.
+// Adds the numbers of the old units of a file, of which there are so many; answers the one behind them. They have none where the file
+// isn't written.
 fn add_olds(olds: &mut Vec<u32>, count: u32, written: bool, first: u32) -> Result<u32, NoMemory>
     requires { first + count < 2 ^ 32 }
     ensures numbers { OnOk result (olds.new.items ≡ olds.old.items ++ numbers_of first count written) }

@@ -1,0 +1,17 @@
+pub mod Paths
+pub mod Runs
+pub mod FileRuns
+pub mod ImageLemmas
+pub mod CountLemmas
+pub mod ImageSteps
+pub mod UnitNames
+pub mod OwnerKeys
+pub mod OwnerSteps
+pub mod NumberingLemmas
+pub mod MakeLemmas
+pub mod WholeLemmas
+pub mod ReferenceLemmas
+pub mod OwnerLemmas
+pub mod OnceNames
+pub mod ReachLemmas
+pub mod BeforeLemmas

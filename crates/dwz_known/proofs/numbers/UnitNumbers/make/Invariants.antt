@@ -1,0 +1,16 @@
+use Rattle.std.proofs.Common.{◌≡◌, ℕ, List, drop, length}
+use Rattle.dwz_meanings.specs.Documents.{Doc}
+use Rattle.dwz_moving.specs.Homes.{Rule}
+use Rattle.dwz_same.specs.Units.{common_units}
+use Rattle.dwz_known.specs.Numbering.{HaveUnits}
+use Rattle.dwz_known.specs.Owners.{move_of}
+use Rattle.dwz_known.proofs.MakeLemmas.{Going, Small}
+use Rattle.dwz_known.proofs.numbers.UnitNumbers.make.Given as goal
+
+abbrev pub invariant-loop-file : goal.invariant-loop-file
+invariant-loop-file l = record {
+  small : Small l.partials l.counts l.file l.next l.parts.items;
+  going : (docs : List (Doc ℕ)) (rule : Rule) → (h : HaveUnits docs rule l.partials l.counts l.written)
+      → Going docs rule l.partials l.counts l.written h l.file l.next (drop l.file docs) (drop l.file l.written) l.parts.items l.olds.items;
+  commons : (docs : List (Doc ℕ)) (rule : Rule) → HaveUnits docs rule l.partials l.counts l.written → l.commons ≡ length (common_units (move_of rule docs));
+}

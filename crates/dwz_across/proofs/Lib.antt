@@ -1,0 +1,6 @@
+pub mod ListGets
+pub mod TopRows
+pub mod FileWalk
+pub mod FileCounts
+pub mod FileRoom
+pub mod FileEntries

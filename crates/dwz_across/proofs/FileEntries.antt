@@ -1,6 +1,8 @@
 -- Of one file: the names of its entries, and where its tops stand.
-use Rattle.std.proofs.Common.{◌≡◌, ℕ, zero, suc, ◌+◌, ◌^◌, ◌<◌, List, [], ◌∷◌, length, map, Some, slice_get, Ok, refl, sym, ap, subst, ◌∙◌, arith}
-use Rattle.std.proofs.lemmas.List.{length-map}
+use Rattle.std.proofs.Common.{◌≡◌, ℕ, zero, suc, ◌+◌, ◌^◌, ◌<◌, ◌≤◌, List, [], ◌∷◌, length, map, Some, slice_get, Ok, refl, sym, ap, subst, ◌∙◌, arith}
+use Rattle.std.specs.Prelude.{slice_index}
+use Rattle.std.proofs.lemmas.List.{length-append, length-drop, length-map}
+use Rattle.dwz_docs.specs.Trees.{End, Entry}
 use Rattle.dwz_docs.specs.Units.{RawUnit, entries_in}
 use Rattle.dwz_meanings.specs.Documents.{Doc, DwUnit, unit_map}
 use Rattle.dwz_meanings.specs.Files.{around_of}
@@ -18,18 +20,24 @@ use Rattle.dwz_index.specs.Steps.{all_tops, below_root, is_space}
 use Rattle.dwz_index.proofs.NameLemmas.{all_named, each_named, read_whole}
 use Rattle.dwz_index.proofs.TopLemmas.{many, named}
 use Rattle.dwz_index.proofs.TopUnits.{shows}
-use Rattle.dwz_resolve.specs.Resolved.{places}
+use Rattle.dwz_resolve.specs.Resolved.{place_at, places}
 use Rattle.dwz_resolve.proofs.PlaceLemmas.{places_many}
+use Rattle.dwz_resolve.proofs.RowLemmas.{below-length, rows-length}
 use Rattle.dwz_seen.proofs.Members.{in_map_from, nth_in}
 use Rattle.dwz_scan.specs.Known.{NamesEntries, StandsAt}
 use Rattle.dwz_scan.proofs.StandLemmas.{stands_there}
 use Rattle.dwz_unit.specs.declared.rows.RawEntry.{RawEntry}
-use Rattle.dwz_unit.specs.Rows.{EntryRow, rows_of, shown_entries, units_of as raw_units}
+use Rattle.dwz_unit.specs.Rows.{EntryRow, entry_shown, rows_below, rows_of, shown_entries, units_of as raw_units}
 use Rattle.dwz_across.specs.Across.{IsFileAmong, IsTopOf, file_tops, file_units, name_at}
 use Rattle.dwz_across.specs.AcrossLaws.{GivesTop, IsUnitOf}
 use Rattle.dwz_across.proofs.FileRoom.{entries_small}
 use Rattle.dwz_across.proofs.ListGets.{get_there, got_below, got_in, got_map, part_get}
 use Rattle.dwz_across.proofs.TopRows.{file_many}
+
+shown_at : (rows : List EntryRow) (i : ℕ) (r : RawEntry) → slice_get (map entry_shown rows) i ≡ Some r → r.at ≡ slice_index (map (λ row. row.entry.at) rows) i
+shown_at [] i r e = absurd cc
+shown_at (row ∷ rows) zero r e = (let same : entry_shown row ≡ r = cc in ap (λ (w : RawEntry). w.at) (sym same))
+shown_at (row ∷ rows) (suc i) r e = shown_at rows i r e
 
 module _ (contents : List (List ℕ)) (file : ℕ) (bytes : List ℕ) (f : File) (x : Index) (h : IsFileAmong contents file bytes f x) where
   abbrev raw : List RawUnit
@@ -58,6 +66,23 @@ module _ (contents : List (List ℕ)) (file : ℕ) (bytes : List ℕ) (f : File)
 
   -- ---- tops
 
+  lt_entry : (i : ℕ) (name : Spot) → slice_get (names_from x.starts.unit x.starts.top doc.units) i ≡ Some name → i < entries_in raw
+  lt_entry i name e = (let lt = got_below (names_from x.starts.unit x.starts.top doc.units) i name e in let long = all_entries in let len = h.index.names.len in omega arith)
+
+  -- an entry that is shown stands at its place
+  name_of_shown : (i : ℕ) (r : RawEntry) → slice_get (shown_entries raw) i ≡ Some r → name_at x.starts doc r.at ≡ name_at x.starts doc (place_at raw i)
+  name_of_shown i r shown = ap (name_at x.starts doc) (shown_at (rows_of raw) i r shown)
+
+  ends_within : (t : Top) (e : TopEntry) (r : RawEntry) → StandsAt around (name_at x.starts doc) raw doc.units file x.starts.unit t e.entry r.end → r.end ≤ entries_in raw
+  ends_within t e r s =
+      let p = s.stands.top.p in
+      let many = below-length (Entry s.stands.top.e s.stands.top.c End) s.stands.n p in
+      let all = rows-length raw in
+      let len = ap (λ (w : List EntryRow). length w) s.stands.top.stand in
+      let from = s.from in
+      let to = s.to in
+      omega (arith, length-drop p.before (rows_of raw), length-append (rows_below (Entry s.stands.top.e s.stands.top.c End) s.stands.n p) s.stands.top.after)
+
   pub gives_top : (k : ℕ) (e : TopEntry) → slice_get x.tops k ≡ Some e → GivesTop contents file bytes f x h k e
   gives_top k e got =
       let here : slice_get (all_tops is_space x.starts 0 (map below_root doc.units)) k ≡ Some e = ap (λ (w : List TopEntry). slice_get w k) (sym h.index.tops.tops_are) ∙ got in
@@ -77,7 +102,9 @@ module _ (contents : List (List ℕ)) (file : ℕ) (bytes : List ℕ) (f : File)
           number = s.1;
           unit = sym s.0;
           file_is = tops_file k t.0 t.1;
-          within = (let lt = got_below names e.entry (Within (x.starts.top + k) []) named_so in let long = all_entries in let len = h.index.names.len in omega arith);
+          ends = λ r shown. ends_within t.0 e r (stands r shown);
+          named = λ r shown. name_of_shown e.entry r shown ∙ (let here : Some (name_at x.starts doc (place_at raw e.entry)) ≡ Some (Within (x.starts.top + k) []) = sym (names_entries e.entry (lt_entry e.entry (Within (x.starts.top + k) []) named_so)) ∙ named_so in let same : name_at x.starts doc (place_at raw e.entry) ≡ Within (x.starts.top + k) [] = cc in same) ∙ ap (λ (n : ℕ). Within n []) (sym s.1);
+          within = lt_entry e.entry (Within (x.starts.top + k) []) named_so;
           stands = stands;
         };
       }

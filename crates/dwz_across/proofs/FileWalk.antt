@@ -1,5 +1,6 @@
 -- File by file: the one with a number, where its units and tops stand among those of all.
-use Rattle.std.proofs.Common.{◌≡◌, ℕ, zero, suc, ◌+◌, List, [], ◌∷◌, ◌++◌, length, map, Some, slice_get, Result, Ok, Err, refl, sym, ap, subst, ◌∙◌, arith}
+use Rattle.std.proofs.Common.{◌≡◌, ℕ, zero, suc, ◌+◌, ◌<◌, Bool, true, false, List, [], ◌∷◌, ◌++◌, length, map, Some, slice_get, Result, Ok, Err, refl, sym, ap, subst, ◌∙◌, arith}
+use Rattle.std.proofs.lemmas.Bool.{eq-eqb, ne_eqb}
 use Rattle.std.proofs.lemmas.List.{append_assoc, length-append}
 use Rattle.dwz_model.specs.declared.fault.Refusal.{Refusal}
 use Rattle.dwz_bytes.specs.Reading.{◌>>=◌}
@@ -13,8 +14,9 @@ use Rattle.dwz_index.specs.declared.index.Starts.{Starts}
 use Rattle.dwz_index.specs.Index.{Index}
 use Rattle.dwz_index.proofs.NameLemmas.{places_once}
 use Rattle.dwz_indexes.specs.Indexed.{AreIndexed, AreIndexes, IsIndexOf, first_starts, starts_behind}
+use Rattle.dwz_same.specs.After.{at_file, name_from}
 use Rattle.dwz_unit.specs.Rows.{units_of as raw_units}
-use Rattle.dwz_across.specs.Across.{IsFileAmong, file_tops, file_units, starts_from}
+use Rattle.dwz_across.specs.Across.{IsFileAmong, file_tops, file_units, name_at, starts_from}
 use Rattle.dwz_across.specs.AcrossLaws.{IsAmong}
 use Rattle.dwz_across.proofs.TopRows.{file_many, tops_behind, units_long}
 
@@ -49,10 +51,11 @@ pub record IsThere (l : Limits) (contents : List (List ℕ)) (n : ℕ) (s : Star
   pub tops_back : List Top
   pub tops : tops_from s.unit s.top (named_files n s.unit s.top docs) ≡ tops_front ++ (file_tops starts file read.doc ++ tops_back)
   pub tops_before : s.top + length tops_front ≡ starts.top
+  pub names : (offset : ℕ) → name_from n s.unit s.top docs (at_file file offset) ≡ name_at starts read.doc offset
 
 first_there : (l : Limits) (b : List ℕ) (contents : List (List ℕ)) (n : ℕ) (s : Starts) (d : Doc ℕ) (docs : List (Doc ℕ)) (y : File) (z : Index) (indexes : List Index) → (h : IsRead l b y) → h.doc ≡ d → IsIndexOf s d z
     → IsThere l (b ∷ contents) n s (d ∷ docs) (z ∷ indexes) 0 n y z
-unfolding named_files starts_from
+unfolding named_files starts_from name_from
 first_there l b contents n s d docs y z indexes h e is =
     let others = named_files (suc n) (s.unit + length d.units) (s.top + tops_among d.units) docs in
     record {
@@ -73,12 +76,15 @@ first_there l b contents n s d docs y z indexes h e is =
       tops_back = tops_from (s.unit + length d.units) (s.top + tops_among d.units) others;
       tops = tops_behind s n d others ∙ ap (λ (w : Doc ℕ). file_tops s n w ++ tops_from (s.unit + length d.units) (s.top + tops_among d.units) others) (sym e);
       tops_before = omega arith;
+      names = λ offset.
+          ap (λ (b : Bool). elim b as (λ _. Spot) [ true ↦ name_at s d offset | false ↦ name_from (suc n) (s.unit + length d.units) (s.top + tops_among d.units) docs (at_file n offset) ]) (eq-eqb n n refl)
+          ∙ ap (λ (w : Doc ℕ). name_at s w offset) (sym e);
     }
 
-later_there : (l : Limits) (b : List ℕ) (contents : List (List ℕ)) (n : ℕ) (s : Starts) (d : Doc ℕ) (docs : List (Doc ℕ)) (y : File) (z : Index) (indexes : List Index) (k file : ℕ) (f : File) (x : Index) → (h : IsRead l b y)
+later_there : (l : Limits) (b : List ℕ) (contents : List (List ℕ)) (n : ℕ) (s : Starts) (d : Doc ℕ) (docs : List (Doc ℕ)) (y : File) (z : Index) (indexes : List Index) (k file : ℕ) (f : File) (x : Index) → (h : IsRead l b y) → n < file
     → IsThere (limits_after l b (raw_units y.units)) contents (suc n) (starts_behind s d z) docs indexes k file f x → IsThere l (b ∷ contents) n s (d ∷ docs) (z ∷ indexes) (suc k) file f x
-unfolding named_files starts_from
-later_there l b contents n s d docs y z indexes k file f x h r =
+unfolding named_files starts_from name_from
+later_there l b contents n s d docs y z indexes k file f x h before_it r =
     let own = file_units s n d in
     let tops = file_tops s n d in
     let others = named_files (suc n) (s.unit + length d.units) (s.top + tops_among d.units) docs in
@@ -106,6 +112,9 @@ later_there l b contents n s d docs y z indexes k file f x h r =
       tops_back = r.tops_back;
       tops = tops_behind s n d others ∙ ap (λ (w : List Top). tops ++ w) r.tops ∙ sym (append_assoc tops r.tops_front (file_tops r.starts file r.read.doc ++ r.tops_back));
       tops_before = omega arith;
+      names = λ offset.
+          ap (λ (b : Bool). elim b as (λ _. Spot) [ true ↦ name_at s d offset | false ↦ name_from (suc n) (s.unit + length d.units) (s.top + tops_among d.units) docs (at_file file offset) ]) (ne_eqb n file (λ e. omega (arith, e, before_it)))
+          ∙ r.names offset;
     }
 
 pub there : (l : Limits) (contents : List (List ℕ)) (files : List File) (left : Limits) (n : ℕ) (docs : List (Doc ℕ)) (indexes : List Index) (s end : Starts) → AreRead l contents files left → files_meaning l n contents ≡ Ok docs → AreIndexed s docs indexes end
@@ -127,7 +136,7 @@ there l (b ∷ contents) (y ∷ files) left n (d ∷ docs) (z ∷ indexes) s end
 there l (b ∷ contents) (y ∷ files) left n (d ∷ docs) (z ∷ indexes) s end h m is (suc k) file f x e p q =
     let r = first_doc l n b contents y (d ∷ docs) h.0 m in
     let same : r.0 ≡ docs = (let both = r.2 in cc) in
-    later_there l b contents n s d docs y z indexes k file f x h.0
+    later_there l b contents n s d docs y z indexes k file f x h.0 (omega arith)
     (there (limits_after l b (raw_units y.units)) contents files left (suc n) docs indexes (starts_behind s d z) end h.1 (r.1 ∙ ap (λ (w : List (Doc ℕ)). Ok w) same) is.1 k file f x (omega arith) p q)
 
 -- ---- from the first file on
@@ -153,6 +162,7 @@ is_among contents files indexes k f x kept is p q =
         doc_is = r.doc_is;
         units = record { front = r.front; back = r.back; all_are = r.units ∙ ap (λ (w : Starts). r.front ++ (file_units w k r.read.doc ++ r.back)) from; many = units_before ∙ ap (λ (w : Starts). w.unit) from };
         tops = record { front = r.tops_front; back = r.tops_back; all_are = r.tops ∙ ap (λ (w : Starts). r.tops_front ++ (file_tops w k r.read.doc ++ r.tops_back)) from; many = tops_before ∙ ap (λ (w : Starts). w.top) from };
+        names = λ offset. r.names offset ∙ ap (λ (w : Starts). name_at w r.read.doc offset) from;
         once = places_once r.limits r.bytes (raw_units f.units) r.read.doc r.read.means;
       };
     }

@@ -1,17 +1,18 @@
 -- One file of several: what it says, and where its units and tops stand among those of all.
-use Rattle.std.specs.Prelude.{◌≡◌, ℕ, zero, suc, ◌+◌, ◌<◌, List, [], ◌∷◌, ◌++◌, length, map, Some, slice_get}
+use Rattle.std.specs.Prelude.{◌≡◌, ℕ, zero, suc, ◌+◌, ◌<◌, ◌≤◌, List, [], ◌∷◌, ◌++◌, length, map, Some, slice_get}
 use Rattle.dwz_docs.specs.Units.{entries_in}
 use Rattle.dwz_meanings.specs.Documents.{Doc}
 use Rattle.dwz_meanings.specs.Files.{around_of}
 use Rattle.dwz_seen.specs.Lists.{NoneTwice}
 use Rattle.dwz_seen.specs.Shown.{units_keys}
-use Rattle.dwz_alike.specs.Spots.{FileUnit, Spot, Top, in_file, named, spot_in, spots_from, tops_from, tops_of, units_of}
+use Rattle.dwz_alike.specs.Spots.{FileUnit, Spot, Top, Within, in_file, named, spot_in, spots_from, tops_from, tops_of, units_of}
 use Rattle.dwz_graph.specs.declared.file.File.{File}
 use Rattle.dwz_graph.specs.Files.{HasRead, docs_of}
 use Rattle.dwz_index.specs.declared.index.Starts.{Starts}
 use Rattle.dwz_index.specs.declared.index.TopEntry.{TopEntry}
 use Rattle.dwz_index.specs.Index.{Index}
 use Rattle.dwz_indexes.specs.Indexed.{IsIndexOf, first_starts, starts_behind}
+use Rattle.dwz_same.specs.After.{at_file, name_in}
 use Rattle.dwz_scan.specs.Known.{StandsAt}
 use Rattle.dwz_unit.specs.declared.rows.RawEntry.{RawEntry}
 use Rattle.dwz_unit.specs.Rows.{shown_entries, units_of as raw_units}
@@ -49,8 +50,8 @@ pub record IsPart {X : Type 0} (all : List X) (before : ℕ) (part : List X) : T
   pub all_are : all ≡ front ++ (part ++ back)
   pub many : length front ≡ before
 
--- The file with that number, as it is kept: its index, its document, and where its units and tops stand among those of all files. No
--- place stands twice in it.
+-- The file with that number, as it is kept: its index, its document, where its units and tops stand among those of all files, and what
+-- its places are named among all. No place stands twice in it.
 pub record IsFileAmong (contents : List (List ℕ)) (file : ℕ) (bytes : List ℕ) (f : File) (x : Index) : Type 0 where
   pub kept : HasRead contents file bytes f
   pub index : IsIndexOf x.starts kept.read.doc x
@@ -58,6 +59,7 @@ pub record IsFileAmong (contents : List (List ℕ)) (file : ℕ) (bytes : List �
   pub units : IsPart (units_of (docs_of contents)) x.starts.unit (file_units x.starts file kept.read.doc)
   pub tops : IsPart (tops_of (units_of (docs_of contents))) x.starts.top (file_tops x.starts file kept.read.doc)
   pub once : NoneTwice (units_keys kept.read.doc.units)
+  pub names : (offset : ℕ) → name_in (docs_of contents) (at_file file offset) ≡ name_at x.starts kept.read.doc offset
 
 -- What the index of a file gives a top: the top stands there, and it has the number, the unit and the file.
 pub record IsTopOf (contents : List (List ℕ)) (file : ℕ) (bytes : List ℕ) (f : File) (x : Index) (doc : Doc ℕ) (k : ℕ) (e : TopEntry) (t : Top) : Type 0 where
@@ -67,5 +69,7 @@ pub record IsTopOf (contents : List (List ℕ)) (file : ℕ) (bytes : List ℕ) 
   pub unit : t.unit ≡ e.unit
   pub file_is : t.file ≡ file
   pub within : e.entry < entries_in (raw_units f.units)
+  pub ends : (r : RawEntry) → slice_get (shown_entries (raw_units f.units)) e.entry ≡ Some r → r.end ≤ entries_in (raw_units f.units)
+  pub named : (r : RawEntry) → slice_get (shown_entries (raw_units f.units)) e.entry ≡ Some r → name_at x.starts doc r.at ≡ Within t.number []
   pub stands : (r : RawEntry) → slice_get (shown_entries (raw_units f.units)) e.entry ≡ Some r
       → StandsAt (around_of bytes (raw_units f.units)) (name_at x.starts doc) (raw_units f.units) doc.units file x.starts.unit t e.entry r.end

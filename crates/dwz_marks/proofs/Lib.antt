@@ -1,0 +1,5 @@
+pub mod OperandNumbers
+pub mod UnitAttrs
+pub mod ListNames
+pub mod RowNames
+pub mod MarkSteps

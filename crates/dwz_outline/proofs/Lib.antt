@@ -1,0 +1,7 @@
+pub mod ListParts
+pub mod TargetLemmas
+pub mod OwnNames
+pub mod PairLemmas
+pub mod RangeLemmas
+pub mod DraftSteps
+pub mod OutlineLemmas

@@ -23,7 +23,7 @@ use Rattle.dwz_across.proofs.TopRows.{file_many, tops_behind, units_long}
 
 -- ---- as many files as documents
 
-docs_many : (l : Limits) (contents : List (List ℕ)) (files : List File) (left : Limits) (n : ℕ) (docs : List (Doc ℕ)) → AreRead l contents files left → files_meaning l n contents ≡ Ok docs → length files ≡ length docs
+docs_many : (l : Limits) (contents : List (List ℕ)) (files : List File) (left : Limits) (n : ℕ) (docs : List (Doc ℕ)) → AreRead l n contents files left → files_meaning l n contents ≡ Ok docs → length files ≡ length docs
 unfolding files_meaning
 docs_many l [] [] left n docs h m = ap length (let same : [] ≡ docs = cc in same)
 docs_many l [] (y ∷ files) left n docs h m = absurd h
@@ -41,7 +41,7 @@ indexes_many s end (d ∷ docs) (x ∷ indexes) h = ap suc (indexes_many (starts
 pub are_many : (contents : List (List ℕ)) (files : List File) (indexes : List Index) → AreKept contents files → AreIndexes (docs_of contents) indexes → (length files ≡ length (docs_of contents)) × (length indexes ≡ length (docs_of contents)) × (length contents ≡ length (docs_of contents))
 are_many contents files indexes kept is =
     let a = docs_many no_files_before contents files kept.end 0 (docs_of contents) kept.are (files_read contents files kept.end kept.are) in
-    (a, indexes_many first_starts is.end (docs_of contents) indexes is.are, sym (as_many no_files_before contents files kept.end kept.are) ∙ a)
+    (a, indexes_many first_starts is.end (docs_of contents) indexes is.are, sym (as_many no_files_before 0 contents files kept.end kept.are) ∙ a)
 
 -- ---- behind a file
 

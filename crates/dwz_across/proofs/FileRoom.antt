@@ -59,7 +59,7 @@ entries_small l bytes raw doc e =
     let size = r.size.file in
     omega arith
 
-room : (most : ℕ) (l : Limits) (contents : List (List ℕ)) (files : List File) (left : Limits) (n : ℕ) (docs : List (Doc ℕ)) (indexes : List Index) (s end : Starts) → AreRead l contents files left → files_meaning l n contents ≡ Ok docs → AreIndexed s docs indexes end
+room : (most : ℕ) (l : Limits) (contents : List (List ℕ)) (files : List File) (left : Limits) (n : ℕ) (docs : List (Doc ℕ)) (indexes : List Index) (s end : Starts) → AreRead l n contents files left → files_meaning l n contents ≡ Ok docs → AreIndexed s docs indexes end
     → s.top + l.bytes ≤ most → (k : ℕ) → (starts_from s docs indexes k).top ≤ most
 unfolding starts_from
 room most l contents files left n docs indexes s end h m is le zero = omega arith

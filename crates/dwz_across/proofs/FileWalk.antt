@@ -26,7 +26,7 @@ pub later_docs : (doc : Doc ℕ) (r : Result (List (Doc ℕ)) Refusal) (docs : L
 later_docs doc (Ok rest) docs e = (rest, refl, (let same : doc ∷ rest ≡ docs = cc in same))
 later_docs doc (Err f) docs e = absurd cc
 
-pub first_doc : (l : Limits) (n : ℕ) (b : List ℕ) (contents : List (List ℕ)) (f : File) (docs : List (Doc ℕ)) (h : IsRead l b f) → files_meaning l n (b ∷ contents) ≡ Ok docs
+pub first_doc : (l : Limits) (n : ℕ) (b : List ℕ) (contents : List (List ℕ)) (f : File) (docs : List (Doc ℕ)) (h : IsRead l n b f) → files_meaning l n (b ∷ contents) ≡ Ok docs
     → (rest : List (Doc ℕ)) × (files_meaning (limits_after l b (raw_units f.units)) (suc n) contents ≡ Ok rest) × (h.doc ∷ rest ≡ docs)
 first_doc l n b contents f docs h e =
     later_docs h.doc (files_meaning (limits_after l b (raw_units f.units)) (suc n) contents) docs (sym (step l n b (raw_units f.units) h.doc contents h.means) ∙ e)
@@ -37,7 +37,7 @@ pub record IsThere (l : Limits) (contents : List (List ℕ)) (n : ℕ) (s : Star
   pub limits : Limits
   pub bytes : List ℕ
   pub starts : Starts
-  pub read : IsRead limits bytes f
+  pub read : IsRead limits file bytes f
   pub there : HasFile l contents k limits bytes (raw_units f.units) read.doc
   pub index : IsIndexOf starts read.doc x
   pub doc_is : slice_get docs k ≡ Some read.doc
@@ -53,7 +53,7 @@ pub record IsThere (l : Limits) (contents : List (List ℕ)) (n : ℕ) (s : Star
   pub tops_before : s.top + length tops_front ≡ starts.top
   pub names : (offset : ℕ) → name_from n s.unit s.top docs (at_file file offset) ≡ name_at starts read.doc offset
 
-first_there : (l : Limits) (b : List ℕ) (contents : List (List ℕ)) (n : ℕ) (s : Starts) (d : Doc ℕ) (docs : List (Doc ℕ)) (y : File) (z : Index) (indexes : List Index) → (h : IsRead l b y) → h.doc ≡ d → IsIndexOf s d z
+first_there : (l : Limits) (b : List ℕ) (contents : List (List ℕ)) (n : ℕ) (s : Starts) (d : Doc ℕ) (docs : List (Doc ℕ)) (y : File) (z : Index) (indexes : List Index) → (h : IsRead l n b y) → h.doc ≡ d → IsIndexOf s d z
     → IsThere l (b ∷ contents) n s (d ∷ docs) (z ∷ indexes) 0 n y z
 unfolding named_files starts_from name_from
 first_there l b contents n s d docs y z indexes h e is =
@@ -81,7 +81,7 @@ first_there l b contents n s d docs y z indexes h e is =
           ∙ ap (λ (w : Doc ℕ). name_at s w offset) (sym e);
     }
 
-later_there : (l : Limits) (b : List ℕ) (contents : List (List ℕ)) (n : ℕ) (s : Starts) (d : Doc ℕ) (docs : List (Doc ℕ)) (y : File) (z : Index) (indexes : List Index) (k file : ℕ) (f : File) (x : Index) → (h : IsRead l b y) → n < file
+later_there : (l : Limits) (b : List ℕ) (contents : List (List ℕ)) (n : ℕ) (s : Starts) (d : Doc ℕ) (docs : List (Doc ℕ)) (y : File) (z : Index) (indexes : List Index) (k file : ℕ) (f : File) (x : Index) → (h : IsRead l n b y) → n < file
     → IsThere (limits_after l b (raw_units y.units)) contents (suc n) (starts_behind s d z) docs indexes k file f x → IsThere l (b ∷ contents) n s (d ∷ docs) (z ∷ indexes) (suc k) file f x
 unfolding named_files starts_from name_from
 later_there l b contents n s d docs y z indexes k file f x h before_it r =
@@ -117,7 +117,7 @@ later_there l b contents n s d docs y z indexes k file f x h before_it r =
           ∙ r.names offset;
     }
 
-pub there : (l : Limits) (contents : List (List ℕ)) (files : List File) (left : Limits) (n : ℕ) (docs : List (Doc ℕ)) (indexes : List Index) (s end : Starts) → AreRead l contents files left → files_meaning l n contents ≡ Ok docs → AreIndexed s docs indexes end
+pub there : (l : Limits) (contents : List (List ℕ)) (files : List File) (left : Limits) (n : ℕ) (docs : List (Doc ℕ)) (indexes : List Index) (s end : Starts) → AreRead l n contents files left → files_meaning l n contents ≡ Ok docs → AreIndexed s docs indexes end
     → (k file : ℕ) (f : File) (x : Index) → n + k ≡ file → slice_get files k ≡ Some f → slice_get indexes k ≡ Some x → IsThere l contents n s docs indexes k file f x
 there l [] [] left n docs indexes s end h m is k file f x e p q = absurd cc
 there l [] (y ∷ files) left n docs indexes s end h m is k file f x e p q = absurd h

@@ -1,9 +1,10 @@
 -- File by file: the one with a number, where its units and tops stand among those of all.
-use Rattle.std.proofs.Common.{◌≡◌, ℕ, zero, suc, ◌+◌, ◌<◌, Bool, true, false, List, [], ◌∷◌, ◌++◌, length, map, Some, slice_get, Result, Ok, Err, refl, sym, ap, subst, ◌∙◌, arith}
+use Rattle.std.proofs.Common.{◌≡◌, ℕ, zero, suc, ◌+◌, ◌<◌, ◌≤◌, Bool, true, false, List, [], ◌∷◌, ◌++◌, length, map, Some, slice_get, Result, Ok, Err, refl, sym, ap, subst, ◌∙◌, ⊎_elim, arith}
 use Rattle.std.proofs.lemmas.Bool.{eq-eqb, ne_eqb}
 use Rattle.std.proofs.lemmas.List.{append_assoc, length-append}
 use Rattle.dwz_model.specs.declared.fault.Refusal.{Refusal}
 use Rattle.dwz_bytes.specs.Reading.{◌>>=◌}
+use Rattle.dwz_docs.specs.Lists.{In}
 use Rattle.dwz_meanings.specs.Documents.{Doc}
 use Rattle.dwz_meanings.specs.Files.{Limits, file_meaning, files_meaning, limits_after, no_files_before, with_doc}
 use Rattle.dwz_alike.specs.Spots.{FileUnit, Spot, Top, in_file, named, named_files, tops_among, tops_from, units_of}
@@ -14,11 +15,12 @@ use Rattle.dwz_index.specs.declared.index.Starts.{Starts}
 use Rattle.dwz_index.specs.Index.{Index}
 use Rattle.dwz_index.proofs.NameLemmas.{places_once}
 use Rattle.dwz_indexes.specs.Indexed.{AreIndexed, AreIndexes, IsIndexOf, first_starts, starts_behind}
+use Rattle.dwz_seen.proofs.Members.{in_cases}
 use Rattle.dwz_same.specs.After.{at_file, name_from}
 use Rattle.dwz_unit.specs.Rows.{units_of as raw_units}
 use Rattle.dwz_across.specs.Across.{IsFileAmong, file_tops, file_units, name_at, starts_from}
 use Rattle.dwz_across.specs.AcrossLaws.{IsAmong}
-use Rattle.dwz_across.proofs.TopRows.{file_many, tops_behind, units_long}
+use Rattle.dwz_across.proofs.TopRows.{file_many, tops_behind, unit_high, unit_low, units_long}
 
 -- ---- the documents behind one
 
@@ -51,6 +53,8 @@ pub record IsThere (l : Limits) (contents : List (List ℕ)) (n : ℕ) (s : Star
   pub tops_back : List Top
   pub tops : tops_from s.unit s.top (named_files n s.unit s.top docs) ≡ tops_front ++ (file_tops starts file read.doc ++ tops_back)
   pub tops_before : s.top + length tops_front ≡ starts.top
+  pub earlier : (t : Top) → In t tops_front → t.unit < starts.unit
+  pub later : (t : Top) → In t tops_back → starts.unit + length read.doc.units ≤ t.unit
   pub names : (offset : ℕ) → name_from n s.unit s.top docs (at_file file offset) ≡ name_at starts read.doc offset
 
 first_there : (l : Limits) (b : List ℕ) (contents : List (List ℕ)) (n : ℕ) (s : Starts) (d : Doc ℕ) (docs : List (Doc ℕ)) (y : File) (z : Index) (indexes : List Index) → (h : IsRead l n b y) → h.doc ≡ d → IsIndexOf s d z
@@ -76,6 +80,8 @@ first_there l b contents n s d docs y z indexes h e is =
       tops_back = tops_from (s.unit + length d.units) (s.top + tops_among d.units) others;
       tops = tops_behind s n d others ∙ ap (λ (w : Doc ℕ). file_tops s n w ++ tops_from (s.unit + length d.units) (s.top + tops_among d.units) others) (sym e);
       tops_before = omega arith;
+      earlier = λ t there. absurd there;
+      later = λ t there. subst (λ (w : Doc ℕ). s.unit + length w.units ≤ t.unit) (sym e) (unit_low (s.unit + length d.units) (s.top + tops_among d.units) others t there);
       names = λ offset.
           ap (λ (b : Bool). elim b as (λ _. Spot) [ true ↦ name_at s d offset | false ↦ name_from (suc n) (s.unit + length d.units) (s.top + tops_among d.units) docs (at_file n offset) ]) (eq-eqb n n refl)
           ∙ ap (λ (w : Doc ℕ). name_at s w offset) (sym e);
@@ -112,6 +118,11 @@ later_there l b contents n s d docs y z indexes k file f x h before_it r =
       tops_back = r.tops_back;
       tops = tops_behind s n d others ∙ ap (λ (w : List Top). tops ++ w) r.tops ∙ sym (append_assoc tops r.tops_front (file_tops r.starts file r.read.doc ++ r.tops_back));
       tops_before = omega arith;
+      earlier = λ t there. ⊎_elim
+          (λ a. (let high = unit_high s.unit s.top own t a in omega arith))
+          (λ b. r.earlier t b)
+          (in_cases t tops r.tops_front there);
+      later = r.later;
       names = λ offset.
           ap (λ (b : Bool). elim b as (λ _. Spot) [ true ↦ name_at s d offset | false ↦ name_from (suc n) (s.unit + length d.units) (s.top + tops_among d.units) docs (at_file file offset) ]) (ne_eqb n file (λ e. omega (arith, e, before_it)))
           ∙ r.names offset;
@@ -162,6 +173,8 @@ is_among contents files indexes k f x kept is p q =
         doc_is = r.doc_is;
         units = record { front = r.front; back = r.back; all_are = r.units ∙ ap (λ (w : Starts). r.front ++ (file_units w k r.read.doc ++ r.back)) from; many = units_before ∙ ap (λ (w : Starts). w.unit) from };
         tops = record { front = r.tops_front; back = r.tops_back; all_are = r.tops ∙ ap (λ (w : Starts). r.tops_front ++ (file_tops w k r.read.doc ++ r.tops_back)) from; many = tops_before ∙ ap (λ (w : Starts). w.top) from };
+        earlier = λ t there. subst (λ (w : Starts). t.unit < w.unit) from (r.earlier t there);
+        later = λ t there. subst (λ (w : Starts). w.unit + length r.read.doc.units ≤ t.unit) from (r.later t there);
         names = λ offset. r.names offset ∙ ap (λ (w : Starts). name_at w r.read.doc offset) from;
         once = places_once r.limits r.bytes (raw_units f.units) r.read.doc r.read.means;
       };

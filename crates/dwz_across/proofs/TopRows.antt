@@ -1,10 +1,14 @@
 -- The tops of units one behind the other.
-use Rattle.std.proofs.Common.{◌≡◌, ℕ, suc, ◌+◌, List, [], ◌∷◌, ◌++◌, length, map, refl, sym, ap, ◌∙◌, arith}
+use Rattle.std.proofs.Common.{◌≡◌, ℕ, suc, ◌+◌, ◌<◌, ◌≤◌, List, [], ◌∷◌, ◌++◌, length, map, refl, sym, ap, ◌∙◌, inl, inr, arith}
 use Rattle.std.proofs.lemmas.List.{append_assoc, length-append, length-map}
 use Rattle.dwz_meanings.specs.Documents.{Doc, DwUnit, unit_map}
 use Rattle.dwz_alike.specs.Spots.{FileUnit, Spot, Top, in_file, named_in, row_below, row_tops, spot_in, top_count, tops_among, tops_from}
 use Rattle.dwz_alike.proofs.NameLists.{count_map}
+use Rattle.dwz_alike.proofs.RowLemmas.{top_of}
 use Rattle.dwz_alike.proofs.TopNumbers.{below_length}
+use Rattle.dwz_docs.specs.Lists.{In}
+use Rattle.dwz_seen.specs.Lists.{Nth}
+use Rattle.dwz_seen.proofs.Members.{nth_from}
 use Rattle.dwz_index.specs.declared.index.Starts.{Starts}
 use Rattle.dwz_across.specs.Across.{file_tops, file_units}
 
@@ -54,3 +58,16 @@ module _ (s : Starts) (file : ℕ) (doc : Doc ℕ) where
   tops_behind others =
       tops_two s.unit s.top (file_units s file doc) others
       ∙ (λ i. file_tops s file doc ++ tops_from (s.unit + units_long i) (s.top + filed_count _ file doc.units i) others)
+
+-- ---- the units that they are of
+
+nth_below : {X : Type 0} (s : ℕ) (xs : List X) (n : ℕ) (x : X) → Nth s xs n x → n < s + length xs
+nth_below s [] n x h = absurd h
+nth_below s (y ∷ xs) n x (inl e) = (let q = e.0 in omega arith)
+nth_below s (y ∷ xs) n x (inr later) = (let q = nth_below (suc s) xs n x later in omega arith)
+
+pub unit_low : (s n : ℕ) (units : List (FileUnit Spot)) (t : Top) → In t (tops_from s n units) → s ≤ t.unit
+unit_low s n units t there = let o = top_of s n units t there in nth_from s units t.unit o.unit o.nth
+
+pub unit_high : (s n : ℕ) (units : List (FileUnit Spot)) (t : Top) → In t (tops_from s n units) → t.unit < s + length units
+unit_high s n units t there = let o = top_of s n units t there in nth_below s units t.unit o.unit o.nth

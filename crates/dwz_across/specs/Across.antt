@@ -1,5 +1,6 @@
 -- One file of several: what it says, and where its units and tops stand among those of all.
 use Rattle.std.specs.Prelude.{◌≡◌, ℕ, zero, suc, ◌+◌, ◌<◌, ◌≤◌, List, [], ◌∷◌, ◌++◌, length, map, Some, slice_get}
+use Rattle.dwz_docs.specs.Lists.{In}
 use Rattle.dwz_docs.specs.Units.{entries_in}
 use Rattle.dwz_meanings.specs.Documents.{Doc}
 use Rattle.dwz_meanings.specs.Files.{around_of}
@@ -51,13 +52,15 @@ pub record IsPart {X : Type 0} (all : List X) (before : ℕ) (part : List X) : T
   pub many : length front ≡ before
 
 -- The file with that number, as it is kept: its index, its document, where its units and tops stand among those of all files, and what
--- its places are named among all. No place stands twice in it.
+-- its places are named among all. Tops before and behind them are of other units, and no place stands twice in it.
 pub record IsFileAmong (contents : List (List ℕ)) (file : ℕ) (bytes : List ℕ) (f : File) (x : Index) : Type 0 where
   pub kept : HasRead contents file bytes f
   pub index : IsIndexOf x.starts kept.read.doc x
   pub doc_is : slice_get (docs_of contents) file ≡ Some kept.read.doc
   pub units : IsPart (units_of (docs_of contents)) x.starts.unit (file_units x.starts file kept.read.doc)
   pub tops : IsPart (tops_of (units_of (docs_of contents))) x.starts.top (file_tops x.starts file kept.read.doc)
+  pub earlier : (t : Top) → In t tops.front → t.unit < x.starts.unit
+  pub later : (t : Top) → In t tops.back → x.starts.unit + length kept.read.doc.units ≤ t.unit
   pub once : NoneTwice (units_keys kept.read.doc.units)
   pub names : (offset : ℕ) → name_in (docs_of contents) (at_file file offset) ≡ name_at x.starts kept.read.doc offset
 

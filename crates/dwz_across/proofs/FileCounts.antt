@@ -60,6 +60,24 @@ starts_are contents files indexes k f x kept is p q =
       (λ j. record { unit = (from j).unit + units j; top = (from j).top + count j; space = (from j).space + length x.spaces }) ∙ r.behind ∙ ap (starts_at (docs_of contents) indexes) one,
     )
 
+next : (s end : Starts) (docs : List (Doc ℕ)) (indexes : List Index) → AreIndexed s docs indexes end → (k : ℕ) (x : Index) → slice_get indexes k ≡ Some x
+    → ((starts_from s docs indexes (suc k)).top ≡ (starts_from s docs indexes k).top + length x.tops) × ((starts_from s docs indexes (suc k)).space ≡ (starts_from s docs indexes k).space + length x.spaces)
+unfolding starts_from
+next s end docs [] h k x e = absurd cc
+next s end [] (y ∷ indexes) h k x e = absurd h
+next s end (d ∷ docs) (y ∷ indexes) h zero x e =
+    let same : y ≡ x = cc in
+    (ap (λ (n : ℕ). s.top + n) (sym (tops_long s d y h.0)) ∙ ap (λ (w : Index). s.top + length w.tops) same, ap (λ (w : Index). s.space + length w.spaces) same)
+next s end (d ∷ docs) (y ∷ indexes) h (suc k) x e = next (starts_behind s d y) end docs indexes h.1 k x e
+
+-- behind a file there are its tops and spaces more
+pub next_starts_are : (docs : List (Doc ℕ)) (indexes : List Index) → AreIndexes docs indexes → (k : ℕ) (x : Index) → slice_get indexes k ≡ Some x
+    → ((starts_at docs indexes (k + 1)).top ≡ (starts_at docs indexes k).top + length x.tops) × ((starts_at docs indexes (k + 1)).space ≡ (starts_at docs indexes k).space + length x.spaces)
+next_starts_are docs indexes is k x e =
+    let one : suc k ≡ k + 1 = omega arith in
+    let r = next first_starts is.end docs indexes is.are k x e in
+    (ap (λ (n : ℕ). (starts_at docs indexes n).top) (sym one) ∙ r.0, ap (λ (n : ℕ). (starts_at docs indexes n).space) (sym one) ∙ r.1)
+
 -- ---- behind all
 
 ends : (n : ℕ) (s end : Starts) (docs : List (Doc ℕ)) (indexes : List Index) → AreIndexed s docs indexes end

@@ -39,6 +39,14 @@ shown_at [] i r e = absurd cc
 shown_at (row ∷ rows) zero r e = (let same : entry_shown row ≡ r = cc in ap (λ (w : RawEntry). w.at) (sym same))
 shown_at (row ∷ rows) (suc i) r e = shown_at rows i r e
 
+pub unit_meant : (around : Around ℕ) (us : List RawUnit) (vs : List (DwUnit ℕ)) → MeanUnits around us vs → (n : ℕ) (u : RawUnit) → slice_get us n ≡ Some u → (v : DwUnit ℕ) × (unit_meaning around u ≡ Ok v) × (slice_get vs n ≡ Some v)
+unit_meant around [] vs m n u e = absurd cc
+unit_meant around (w ∷ us) [] m n u e = absurd m
+unit_meant around (w ∷ us) (v ∷ vs) m zero u e =
+    let same : w ≡ u = cc in
+    (v, ap (unit_meaning around) (sym same) ∙ ((unit_agrees around w).ok v).1 m.0, refl)
+unit_meant around (w ∷ us) (v ∷ vs) m (suc n) u e = unit_meant around us vs m.1 n u e
+
 module _ (contents : List (List ℕ)) (file : ℕ) (bytes : List ℕ) (f : File) (x : Index) (h : IsFileAmong contents file bytes f x) where
   abbrev raw : List RawUnit
   raw = raw_units f.units
@@ -117,17 +125,9 @@ module _ (contents : List (List ℕ)) (file : ℕ) (bytes : List ℕ) (f : File)
 
   -- ---- units
 
-  unit_meant : (us : List RawUnit) (vs : List (DwUnit ℕ)) → MeanUnits around us vs → (n : ℕ) (u : RawUnit) → slice_get us n ≡ Some u → (v : DwUnit ℕ) × (unit_meaning around u ≡ Ok v) × (slice_get vs n ≡ Some v)
-  unit_meant [] vs m n u e = absurd cc
-  unit_meant (w ∷ us) [] m n u e = absurd m
-  unit_meant (w ∷ us) (v ∷ vs) m zero u e =
-      let same : w ≡ u = cc in
-      (v, ap (unit_meaning around) (sym same) ∙ ((unit_agrees around w).ok v).1 m.0, refl)
-  unit_meant (w ∷ us) (v ∷ vs) m (suc n) u e = unit_meant us vs m.1 n u e
-
   pub unit_of : (n : ℕ) (u : RawUnit) → slice_get raw n ≡ Some u → IsUnitOf contents file bytes f x h n u
   unit_of n u got =
-      let r = unit_meant raw doc.units (((file_agrees h.kept.limits bytes).ok (raw, doc)).0 h.kept.read.means).means n u got in
+      let r = unit_meant around raw doc.units (((file_agrees h.kept.limits bytes).ok (raw, doc)).0 h.kept.read.means).means n u got in
       record {
         v = r.0;
         means = r.1;

@@ -1,5 +1,6 @@
 -- What stands in a list that is part of another.
-use Rattle.std.proofs.Common.{◌≡◌, ℕ, zero, suc, ◌+◌, ◌<◌, List, [], ◌∷◌, ◌++◌, length, map, Some, slice_get, refl, sym, ap, ◌∙◌, inl, inr, arith}
+use Rattle.std.proofs.Common.{◌≡◌, ℕ, zero, suc, ◌+◌, ◌<◌, List, [], ◌∷◌, ◌++◌, length, map, take, get_or, Some, slice_get, refl, sym, ap, ◌∙◌, inl, inr, arith}
+use Rattle.std.proofs.Math.Seq.{take-append-add, take-append_seam}
 use Rattle.dwz_docs.specs.Lists.{In}
 use Rattle.dwz_index.proofs.TopLemmas.{get_first, get_later}
 use Rattle.dwz_across.specs.Across.{IsPart}
@@ -33,3 +34,23 @@ part_get {X} all part before k x h e =
     ap (λ (w : List X). slice_get w (before + k)) h.all_are
     ∙ ap (slice_get (h.front ++ (part ++ h.back))) at
     ∙ get_later h.front (part ++ h.back) k x (get_first part h.back k x e)
+
+-- an item that is read by its number
+pub item_got : {X : Type 0} (xs : List X) (k : ℕ) (x : X) → k < length xs → x ≡ get_or xs k x → slice_get xs k ≡ Some x
+item_got [] k x lt e = absurd (omega arith)
+item_got (y ∷ xs) zero x lt e = ap (λ w. Some w) (sym e)
+item_got (y ∷ xs) (suc k) x lt e = item_got xs k x (omega arith) e
+
+pub got_index : {X : Type 0} (xs : List X) (k : ℕ) (x d : X) → slice_get xs k ≡ Some x → get_or xs k d ≡ x
+got_index [] k x d e = absurd cc
+got_index (y ∷ xs) zero x d e = cc
+got_index (y ∷ xs) (suc k) x d e = got_index xs k x d e
+
+pub take_part : {X : Type 0} (all part : List X) (before : ℕ) → IsPart all before part → take (before + length part) all ≡ take before all ++ part
+take_part {X} all part before h =
+    let at : before + length part ≡ length h.front + length part = ap (λ (n : ℕ). n + length part) (sym h.many) in
+    ap (take (before + length part)) h.all_are
+    ∙ ap (λ (n : ℕ). take n (h.front ++ (part ++ h.back))) at
+    ∙ take-append-add h.front (part ++ h.back) (length part)
+    ∙ ap (λ (w : List X). h.front ++ w) (take-append_seam part h.back)
+    ∙ ap (λ (w : List X). w ++ part) (sym (ap (take before) h.all_are ∙ ap (λ (n : ℕ). take n (h.front ++ (part ++ h.back))) (sym h.many) ∙ take-append_seam h.front (part ++ h.back)))

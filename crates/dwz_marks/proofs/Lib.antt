@@ -3,3 +3,4 @@ pub mod UnitAttrs
 pub mod ListNames
 pub mod RowNames
 pub mod MarkSteps
+pub mod FileMarks

@@ -3,5 +3,6 @@ pub mod TargetLemmas
 pub mod OwnNames
 pub mod PairLemmas
 pub mod RangeLemmas
+pub mod UnitOrder
 pub mod DraftSteps
 pub mod OutlineLemmas

@@ -51,8 +51,8 @@ fn set_movable(rows: &mut [TopRow], flags: &[bool])
     requires { length flags.now ≡ length rows.old }
     ensures { rows.new ≡ with_flags rows.old flags.now }
 {
-    for (row, flag) in rows.iter_mut().zip(flags) {
-        row.movable = *flag;
+    for k in 0..rows.len() {
+        rows[k].movable = flags[k];
     }
 }
 

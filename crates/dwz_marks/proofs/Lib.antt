@@ -4,3 +4,4 @@ pub mod ListNames
 pub mod RowNames
 pub mod MarkSteps
 pub mod FileMarks
+pub mod FileSteps

@@ -194,3 +194,11 @@ files_last units test count upto marks e many h = record {
         λ x. r.1 (ap (list_any (test n)) all ∙ x),
       ));
 }
+
+-- flags for the tops of one file more
+pub put_more : {X : Type 0} (a b : ℕ) (xs : List X) (now new : List Bool) (ys : List X) → now ≡ replicate a false → ys ≡ xs → b ≡ a + length xs → new ≡ now ++ replicate (length ys) false → new ≡ replicate b false
+put_more {X} a b xs now new ys e same at f =
+    f
+    ∙ (λ i. e i ++ replicate (length (same i)) false)
+    ∙ set_both a (length xs)
+    ∙ ap (λ (n : ℕ). replicate n false) (sym at)

@@ -4,5 +4,7 @@
 mod draft;
 mod outline;
 mod ranges;
+#[cfg(test)]
+mod tests;
 
 pub use outline::{Outline, outline};

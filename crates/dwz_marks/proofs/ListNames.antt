@@ -1,5 +1,5 @@
 -- The attributes that are location lists, and the lists that attributes name.
-use Rattle.std.proofs.Common.{◌≡◌, ℕ, ◌+◌, ◌<◌, Bool, true, false, cond, List, [], ◌∷◌, ◌++◌, map, ℤ, Option, Some, None, Result, Ok, Err, refl, sym, ap, subst, ◌∙◌, inl, inr, ⊎_elim}
+use Rattle.std.proofs.Common.{◌≡◌, ◌⊎◌, ℕ, ◌+◌, ◌<◌, Bool, true, false, cond, List, [], ◌∷◌, ◌++◌, map, ℤ, Option, Some, None, Result, Ok, Err, refl, sym, ap, subst, ◌∙◌, inl, inr, ⊎_elim}
 use Rattle.std.proofs.lemmas.Bool.{false≢true}
 use Rattle.dwz_model.specs.declared.fault.Fault.{Fault}
 use Rattle.dwz_docs.specs.Entries.{RawAttr, RawEntry}
@@ -17,9 +17,9 @@ use Rattle.dwz_meanings.proofs.NamedLemmas.{attr_is, units_name}
 use Rattle.dwz_seen.proofs.Members.{in_cases, in_left, in_right}
 use Rattle.dwz_marks.proofs.UnitAttrs.{entries_attrs, in_list, unit_attrs, units_attrs}
 
-if_true : {P Q : Type 0} (b : Bool) → b ≡ true → IfSo b P Q → P
-if_true true e h = h
-if_true false e h = absurd (false≢true e)
+if_true : {P : Type 0} (Q : Type 0) (b : Bool) → b ≡ true → IfSo b P Q → P
+if_true Q true e h = h
+if_true Q false e h = absurd (false≢true e)
 
 -- ---- an attribute names one list
 
@@ -63,6 +63,10 @@ record Made (s : Scope ℕ) (r : RawAttr) (b : Attr ℕ) : Type 0 where
   list : NamedList
   names : NamesList s r list
   is : IsListOf s b list
+
+loc_plain : (s : Scope ℕ) (place : ℕ) (v : Value ℕ) → IsLocList s place v → in_list v.plain ≡ true
+unfolding in_list
+loc_plain s place v is = ap (λ (w : Value ℕ). in_list w.plain) is.value
 
 module _ (s : Scope ℕ) (r : RawAttr) (b : Attr ℕ) (means : MeansAttr s r b) where
   abbrev v : Value ℕ
@@ -126,14 +130,10 @@ module _ (s : Scope ℕ) (r : RawAttr) (b : Attr ℕ) (means : MeansAttr s r b) 
 
   -- a class whose values may be lists
   lists_so : (c : Class) → class_of r.pair.form ≡ c → (l : NamedList) → NamesAs c s r l → MeansAs c s r v → Made s r b
-  lists_so OfOffset e l n m = ⊎_elim (λ no. absurd (false≢true (sym no ∙ list_plain (if_true (names_list r.pair.name) n.0 m)))) (λ w. w) (at_offset e (names_list r.pair.name) refl m) where
-    list_plain : IsLocList s (offset_of r) v → in_list v.plain ≡ true
-    unfolding in_list
-    list_plain is = ap (λ (w : Value ℕ). in_list w.plain) is.value
-  lists_so OfListIndex e l n m = ⊎_elim (λ no. absurd (false≢true (sym no ∙ list_plain m.list))) (λ w. w) (at_index e m) where
-    list_plain : {place : ℕ} → IsLocList s place v → in_list v.plain ≡ true
-    unfolding in_list
-    list_plain is = ap (λ (w : Value ℕ). in_list w.plain) is.value
+  lists_so OfOffset e l n m =
+      let is = if_true (v ≡ only (Sec (offset_of r))) (names_list r.pair.name) n.0 m in
+      ⊎_elim (λ no. absurd (false≢true (sym no ∙ loc_plain s (offset_of r) v is))) (λ w. w) (at_offset e (names_list r.pair.name) refl m)
+  lists_so OfListIndex e l n m = ⊎_elim (λ no. absurd (false≢true (sym no ∙ loc_plain s (m.base + m.offset) v m.list))) (λ w. w) (at_index e m)
   lists_so _ e l n m = absurd n
 
   -- and it is the list that it names

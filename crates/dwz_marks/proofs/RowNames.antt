@@ -1,5 +1,5 @@
 -- What the location lists of a file name is what its rows of operands name.
-use Rattle.std.proofs.Common.{◌≡◌, ◌↔◌, ℕ, ◌+◌, ◌-◌, ◌<◌, ◌≤◌, Bool, true, false, List, [], ◌∷◌, ◌++◌, map, refl, sym, ap, subst, ◌∙◌, inl, inr, ⊎_elim, arith}
+use Rattle.std.proofs.Common.{◌≡◌, ◌↔◌, ℕ, ◌+◌, ◌-◌, ◌<◌, ◌≤◌, Bool, true, false, List, [], ◌∷◌, ◌++◌, drop, map, refl, sym, ap, subst, ◌∙◌, inl, inr, ⊎_elim, arith}
 use Rattle.std.specs.Prelude.{◌||◌, ◌&&◌}
 use Rattle.std.specs.List.{list_any}
 use Rattle.std.proofs.lemmas.Bool.{and_parts, cases_lt, false≢true}
@@ -40,16 +40,25 @@ pub ulebs_of : List Operand → List Operand
 ulebs_of [] = []
 ulebs_of (o ∷ os) = elim o.uleb as (λ _. List Operand) [ true ↦ o ∷ ulebs_of os | false ↦ ulebs_of os ]
 
+ulebs_append : (a b : List Operand) → ulebs_of (a ++ b) ≡ ulebs_of a ++ ulebs_of b
+unfolding ulebs_of
+ulebs_append [] b = refl
+ulebs_append (o ∷ a) b = by o.uleb (ulebs_append a b) where
+  by : (x : Bool) → ulebs_of (a ++ b) ≡ ulebs_of a ++ ulebs_of b
+      → (elim x as (λ _. List Operand) [ true ↦ o ∷ ulebs_of (a ++ b) | false ↦ ulebs_of (a ++ b) ]) ≡ (elim x as (λ _. List Operand) [ true ↦ o ∷ ulebs_of a | false ↦ ulebs_of a ]) ++ ulebs_of b
+  by true e = ap (λ (w : List Operand). o ∷ w) e
+  by false e = e
+
 module _ (g : Operand → Spot) where
   expr_ulebs : (at : ℕ) (bytes : List ℕ) (os : List Operand) (rest : List Part) (refs : List Spot) → uleb_targets (parts_from at bytes os ++ rest) (map g os ++ refs) ≡ map g (ulebs_of os) ++ uleb_targets rest refs
   unfolding parts_from uleb_targets ulebs_of
   expr_ulebs at bytes [] rest refs = refl
-  expr_ulebs at bytes (o ∷ os) rest refs = by o.uleb (expr_ulebs (o.at + o.width) _ os rest refs) where
-    by : (b : Bool) → {parts : List Part} → uleb_targets parts (map g os ++ refs) ≡ map g (ulebs_of os) ++ uleb_targets rest refs
+  expr_ulebs at bytes (o ∷ os) rest refs = by o.uleb (parts_from (o.at + o.width) (drop (o.at + o.width - at) bytes) os ++ rest) (expr_ulebs (o.at + o.width) (drop (o.at + o.width - at) bytes) os rest refs) where
+    by : (b : Bool) (parts : List Part) → uleb_targets parts (map g os ++ refs) ≡ map g (ulebs_of os) ++ uleb_targets rest refs
         → (elim b as (λ _. List Spot) [ true ↦ g o ∷ uleb_targets parts (map g os ++ refs) | false ↦ uleb_targets parts (map g os ++ refs) ])
         ≡ map g (elim b as (λ _. List Operand) [ true ↦ o ∷ ulebs_of os | false ↦ ulebs_of os ]) ++ uleb_targets rest refs
-    by true e = ap (λ (w : List Spot). g o ∷ w) e
-    by false e = e
+    by true parts e = ap (λ (w : List Spot). g o ∷ w) e
+    by false parts e = e
 
   list_ulebs : (exprs : List Expression) → uleb_targets (joined_parts (map parts_of exprs)) (map g (operands_of exprs)) ≡ map g (ulebs_of (operands_of exprs))
   unfolding joined_parts operands_of uleb_targets ulebs_of
@@ -60,15 +69,6 @@ module _ (g : Operand → Spot) where
       ∙ ap (λ (w : List Spot). map g (ulebs_of e.operands) ++ w) (list_ulebs exprs)
       ∙ sym (map-append g (ulebs_of e.operands) (ulebs_of (operands_of exprs)))
       ∙ ap (map g) (sym (ulebs_append e.operands (operands_of exprs)))
-    where
-      ulebs_append : (a b : List Operand) → ulebs_of (a ++ b) ≡ ulebs_of a ++ ulebs_of b
-      unfolding ulebs_of
-      ulebs_append [] b = refl
-      ulebs_append (o ∷ a) b = by o.uleb (ulebs_append a b) where
-        by : (x : Bool) → ulebs_of (a ++ b) ≡ ulebs_of a ++ ulebs_of b
-            → (elim x as (λ _. List Operand) [ true ↦ o ∷ ulebs_of (a ++ b) | false ↦ ulebs_of (a ++ b) ]) ≡ (elim x as (λ _. List Operand) [ true ↦ o ∷ ulebs_of a | false ↦ ulebs_of a ]) ++ ulebs_of b
-        by true e = ap (λ (w : List Operand). o ∷ w) e
-        by false e = e
 
 uleb_in : (os : List Operand) (o : Operand) → In o os → o.uleb ≡ true → In o (ulebs_of os)
 unfolding ulebs_of
@@ -89,19 +89,19 @@ uleb_from (p ∷ os) o there = by p.uleb refl there (uleb_from os o) where
   by true q (inr later) more = let r = more later in (inr r.0, r.1)
   by false q is more = let r = more is in (inr r.0, r.1)
 
+some_part : (at : ℕ) (bytes : List ℕ) (os : List Operand) (o : Operand) → In o os → list_any is_operand (parts_from at bytes os) ≡ true
+unfolding parts_from
+some_part at bytes [] o there = absurd there
+some_part at bytes (p ∷ os) o there = refl
+
 -- a list that has an operand names an entry
 some_operand : (exprs : List Expression) (o : Operand) → In o (operands_of exprs) → has_operand (Loc (map parts_of exprs)) ≡ true
 unfolding operands_of parts_from
 some_operand [] o there = absurd there
 some_operand (e ∷ exprs) o there = ⊎_elim
-    (λ own. or_first (list_any is_operand (parts_of e)) _ (by e.at e.bytes e.operands own))
-    (λ later. or_second (list_any is_operand (parts_of e)) _ (some_operand exprs o later))
+    (λ own. or_first (list_any is_operand (parts_of e)) (list_any (list_any is_operand) (map parts_of exprs)) (some_part e.at e.bytes e.operands o own))
+    (λ later. or_second (list_any is_operand (parts_of e)) (list_any (list_any is_operand) (map parts_of exprs)) (some_operand exprs o later))
     (in_cases o e.operands (operands_of exprs) there)
-  where
-    by : (at : ℕ) (bytes : List ℕ) (os : List Operand) → In o os → list_any is_operand (parts_from at bytes os) ≡ true
-    unfolding parts_from
-    by at bytes [] is = absurd is
-    by at bytes (p ∷ os) is = refl
 
 -- ---- operands of lists
 
@@ -164,12 +164,12 @@ module _ (sources : Sources) (raw : List RawUnit) (said : List (DwUnit ℕ)) (me
 
   -- a row leads to its entry
   row_led : (o : Row) → In o rows → led (start_of raw o.unit) o.base (number_for o.base (start_of raw o.unit) o.place.offset) ≡ place_at raw o.entry
+  unfolding led
   row_led o there = by o.base refl ∙ sym (stand o there) where
     view : ListOperand
     view = operand_view raw o
 
     by : (base : Base) → o.base ≡ base → led (start_of raw o.unit) base (number_for base (start_of raw o.unit) o.place.offset) ≡ o.place.offset
-    unfolding led
     by FromInfo e = refl
     by FromUnit e = ⊎_elim (λ lt. absurd (before lt)) (λ ge. (let z : start_of raw o.unit + (o.place.offset - start_of raw o.unit) ≡ o.place.offset = omega arith in z)) (cases_lt o.place.offset (start_of raw o.unit)) where
       before : o.place.offset < start_of raw o.unit → ⊥

@@ -14,11 +14,11 @@ use Rattle.dwz_moving.specs.Plan.{parts_of, pinned_in, pins, uleb_targets}
 use Rattle.dwz_scan.specs.Known.{in_unit}
 use Rattle.dwz_scan.specs.Marked.{expression_names, expression_pins, in_expression}
 
-pub entries_attrs : {P : Type 0} → Entries P → List (Attr P)
+unfoldable pub entries_attrs : {P : Type 0} → Entries P → List (Attr P)
 entries_attrs End = []
 entries_attrs (Entry e c n) = e.attrs ++ (entries_attrs c ++ entries_attrs n)
 
-pub unit_attrs : {P : Type 0} → DwUnit P → List (Attr P)
+unfoldable pub unit_attrs : {P : Type 0} → DwUnit P → List (Attr P)
 unit_attrs u = u.root.attrs ++ entries_attrs u.below
 
 unfoldable pub units_attrs : {P : Type 0} → List (DwUnit P) → List (Attr P)
@@ -80,7 +80,7 @@ any_filed test name file units = filed (in_unit (any_attr test)) file (map (unit
 
 -- ---- an operand is in an expression or in a location list
 
-pub in_list : Plain → Bool
+unfoldable pub in_list : Plain → Bool
 in_list (Loc exprs) = true
 in_list _ = false
 

@@ -111,6 +111,10 @@ weight_got [] k row e = absurd cc
 weight_got (r ∷ rows) zero row e = ap (λ (w : TopRow). w.weight) (let same : r ≡ row = cc in same)
 weight_got (r ∷ rows) (suc k) row e = weight_got rows k row e
 
+unbound : (units : List (FileUnit Spot)) (t : Top) → In t (tops_of units) → Movable units t.number → binds_itself units t ≡ true → ⊥
+unfolding Bound
+unbound units t there m q = m.free 0 (t, there, refl, q)
+
 -- ---- all tops are gathered
 
 module _ (docs : List (Doc ℕ)) (draft : Draft) (d : IsDraft docs (length (tops_of (units_of docs))) draft) where
@@ -222,11 +226,7 @@ module _ (docs : List (Doc ℕ)) (draft : Draft) (d : IsDraft docs (length (tops
         where
           not_bound : (b : Bool) → binds_itself units t ≡ b → Movable units t.number → binds_itself units t ≡ false
           not_bound false q m = q
-          not_bound true q m = absurd (unbound t there m q)
-
-          unbound : (t : Top) → In t tops → Movable units t.number → binds_itself units t ≡ true → ⊥
-          unfolding Bound
-          unbound t there m q = m.free 0 (t, there, refl, q)
+          not_bound true q m = absurd (unbound (units_of docs) t there m q)
 
       row_shows : (k : ℕ) (row : TopRow) (t : Top) → slice_get rows k ≡ Some row → slice_get tops k ≡ Some t → ShowsTop units row t
       row_shows k row t e there = let s = shown k row t e there in record { unit = s.same.unit ∙ s.is.row_is.unit; pinned = s.same.pinned ∙ s.is.row_is.pinned }

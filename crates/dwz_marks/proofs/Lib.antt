@@ -5,3 +5,4 @@ pub mod RowNames
 pub mod MarkSteps
 pub mod FileMarks
 pub mod FileSteps
+pub mod FilesKnown

@@ -9,20 +9,22 @@ use Rattle.dwz_alike.specs.Alike.{any_attr}
 use Rattle.dwz_alike.specs.Spots.{FileUnit, Spot, tops_of}
 use Rattle.dwz_alike.proofs.Targets.{or_first, or_second}
 use Rattle.dwz_docs.specs.Units.{RawUnit}
-use Rattle.dwz_meanings.specs.Documents.{Attr, DwUnit, unit_map}
+use Rattle.dwz_meanings.specs.Documents.{Attr, Doc, DwUnit, unit_map}
 use Rattle.dwz_meanings.specs.Meanings.{Around, MeanUnits, unit_meaning, units_meaning}
 use Rattle.dwz_meanings.proofs.MeaningLemmas.{units_agree}
-use Rattle.dwz_across.specs.Across.{IsPart}
+use Rattle.dwz_across.specs.Across.{IsPart, starts_at, starts_from}
+use Rattle.dwz_index.specs.Index.{Index}
+use Rattle.dwz_indexes.specs.Indexed.{first_starts}
 use Rattle.dwz_across.proofs.FileEntries.{unit_meant}
 use Rattle.dwz_across.proofs.ListGets.{get_there, got_below, got_index, take_part}
 use Rattle.dwz_marks.specs.Named.{AreFlags}
-use Rattle.dwz_scan.specs.Known.{in_unit}
+use Rattle.dwz_scan.specs.Known.{in_unit, tops_of_refs}
 use Rattle.dwz_docs.specs.Lists.{In}
 use Rattle.dwz_resolve.specs.declared.operands.ListOperand.{ListOperand}
 use Rattle.dwz_scan.specs.Marked.{Marks, MarksIf, if_asked}
 use Rattle.dwz_seen.proofs.Members.{in_cases, in_left, in_right}
 use Rattle.dwz_spread.specs.Spreading.{IsMarked}
-use Rattle.dwz_marks.specs.Lists.{uleb_tops}
+use Rattle.dwz_marks.specs.Lists.{entries_of, uleb_tops}
 
 -- ---- none, one after the other, and by another name
 
@@ -87,6 +89,40 @@ ulebs_more (r ∷ rows) (s ∷ tops) (suc k) row t e f = by r.uleb (ulebs_more r
   by true h = ap (λ (w : List (Option ℕ)). s ∷ w) h
   by false h = h
 
+pub first_any : (tops : List (Option ℕ)) (marks : List Bool) → Marks (take 0 tops) marks marks
+first_any tops marks = marks_none (λ n. In (Some n) (take 0 tops)) (λ n h. h) marks
+
+pub first_uleb : (rows : List ListOperand) (tops : List (Option ℕ)) (marks : List Bool) → Marks (uleb_tops (take 0 rows) (take 0 tops)) marks marks
+first_uleb rows tops marks = marks_none (λ n. In (Some n) (uleb_tops (take 0 rows) (take 0 tops))) (λ n h. h) marks
+
+pub next_any : (tops : List (Option ℕ)) (k : ℕ) (t : Option ℕ) → k < length tops → t ≡ slice_index_or tops k None → (old now new : List Bool) → Marks (take k tops) old now → Marks (if_asked true t) now new → Marks (take (k + 1) tops) old new
+next_any tops k t lt e old now new a b =
+    let more = take_more tops k None lt ∙ ap (λ (w : Option ℕ). take k tops ++ w ∷ []) (sym e) in
+    marks_then (λ n. In (Some n) (take k tops)) (λ n. In (Some n) (t ∷ [])) (λ n. In (Some n) (take (k + 1) tops)) old now new a b (λ n. in_more (Some n) (take k tops) (t ∷ []) (take (k + 1) tops) more)
+
+pub next_uleb : (rows : List ListOperand) (tops : List (Option ℕ)) (k : ℕ) (d : ListOperand) (t : Option ℕ) → k < length rows → k < length tops → t ≡ slice_index_or tops k None
+    → (old now new : List Bool) → Marks (uleb_tops (take k rows) (take k tops)) old now → Marks (if_asked (get_or rows k d).uleb t) now new → Marks (uleb_tops (take (k + 1) rows) (take (k + 1) tops)) old new
+next_uleb rows tops k d t low lt e old now new a b =
+    let here = get_there rows k low in
+    let row = get_or rows k d in
+    let is = got_index rows k here.0 d here.1 in
+    let there = get_there tops k lt in
+    let same = e ∙ got_index tops k there.0 None there.1 in
+    let one : k + 1 ≡ suc k = omega arith in
+    let more = (λ i. uleb_tops (take (one i) rows) (take (one i) tops)) ∙ ulebs_more rows tops k row t (here.1 ∙ ap (λ (o : ListOperand). Some o) (sym is)) (there.1 ∙ ap Some (sym same)) in
+    marks_then (λ n. In (Some n) (uleb_tops (take k rows) (take k tops))) (λ n. In (Some n) (if_asked row.uleb t)) (λ n. In (Some n) (uleb_tops (take (k + 1) rows) (take (k + 1) tops))) old now new a b
+        (λ n. in_more (Some n) (uleb_tops (take k rows) (take k tops)) (if_asked row.uleb t) (uleb_tops (take (k + 1) rows) (take (k + 1) tops)) more)
+
+pub last_any : (tops : List (Option ℕ)) (k : ℕ) → length tops ≤ k → (old new : List Bool) → Marks (take k tops) old new → Marks tops old new
+last_any tops k le old new h = subst (λ (w : List (Option ℕ)). Marks w old new) (take_all k tops le) h
+
+pub last_uleb : (rows : List ListOperand) (tops : List (Option ℕ)) (k : ℕ) → length rows ≤ k → length tops ≤ k → (old new : List Bool) → Marks (uleb_tops (take k rows) (take k tops)) old new → Marks (uleb_tops rows tops) old new
+last_uleb rows tops k low le old new h = subst (λ (w : List (Option ℕ)). Marks w old new) (λ i. uleb_tops (take_all k rows low i) (take_all k tops le i)) h
+
+pub tops_long : (rows : List ListOperand) (name : ℕ → Spot) (raw : List RawUnit) → length (tops_of_refs name raw (entries_of rows)) ≡ length rows
+tops_long [] name raw = refl
+tops_long (o ∷ rows) name raw = ap suc (tops_long rows name raw)
+
 -- ---- units, one after the other
 
 module _ (around : Around ℕ) (raw : List RawUnit) (said : List (DwUnit ℕ)) (means : units_meaning around raw ≡ Ok said) (name : ℕ → Spot) (test : ℕ → Attr Spot → Bool) where
@@ -149,6 +185,10 @@ set_long (suc count) = ap suc (set_long count)
 pub unset_more : (old now new : List Bool) (k : ℕ) → now ≡ old ++ replicate k false → new ≡ now ++ false ∷ [] → new ≡ old ++ replicate (k + 1) false
 unset_more old now new k e f =
     f ∙ ap (λ (w : List Bool). w ++ false ∷ []) e ∙ append_assoc old (replicate k false) (false ∷ []) ∙ ap (λ (w : List Bool). old ++ w) (replicate-append-replicate k 1 false)
+
+pub starts_zero : (docs : List (Doc ℕ)) (indexes : List Index) → starts_at docs indexes 0 ≡ first_starts
+unfolding starts_from
+starts_zero docs indexes = refl
 
 pub set_both : (m n : ℕ) → replicate m false ++ replicate n false ≡ replicate (m + n) false
 set_both m n = replicate-append-replicate m n false

@@ -1,36 +1,51 @@
-use Rattle.std.proofs.Common.{rules, ◌≡◌, ℕ, ◌<◌, ◌++◌, ◌^◌, false, true, List, Ok, length, map, replicate, IfOk, OnOk, ◌+◌, ◌-◌, ◌*◌, ◌≤◌, ◌/◌, ◌%◌, Bool, nat_eq, nat_lt, [], ◌∷◌, slice_index_or, slice_set, bit_and, bit_or, Fits, w8, w32, w64, Bor, MutBor}
-use Rattle.std.specs.List.{list_any}
-use Rattle.dwz_across.specs.Across.{IsFileAmong, file_units, starts_at}
-use Rattle.dwz_alike.specs.Alike.{any_attr, is_in, names_in_unit}
-use Rattle.dwz_alike.specs.Spots.{Spot, units_of}
+use Rattle.std.proofs.Common.{ℕ, ◌≤◌, sym, ap, subst, length, arith}
+use Rattle.dwz_across.specs.Across.{starts_at}
+use Rattle.dwz_across.proofs.FileCounts.{all_ends, are_many}
+use Rattle.dwz_alike.specs.Alike.{is_in, names_in_unit}
+use Rattle.dwz_alike.specs.Spots.{units_of}
 use Rattle.dwz_graph.specs.Files.{docs_of}
-use Rattle.dwz_index.specs.Index.{Index}
-use Rattle.dwz_indexes.specs.Indexed.{AreIndexes}
-use Rattle.dwz_meanings.specs.Documents.{Doc, DwUnit, unit_map}
-use Rattle.dwz_meanings.specs.Meanings.{Around, units_meaning}
-use Rattle.dwz_moving.specs.Plan.{pinned_in}
-use Rattle.dwz_scan.specs.Known.{KnowsRefs, in_unit}
-use Rattle.dwz_scan.specs.Marked.{MarksIf, expression_names, expression_pins}
-use Rattle.dwz_unit.specs.Rows.{units_of as raw_units}
-use Rattle.dwz_marks.specs.Named.{AreNamed}
+use Rattle.dwz_index.specs.declared.index.Starts.{Starts}
+use Rattle.dwz_moving.specs.Plan.{is_pinned, pinned_in}
+use Rattle.dwz_marks.proofs.FilesKnown.{below, few, files_all, files_begin, marked}
 use Rattle.dwz_marks.proofs.marks.named_tops.Goals as goal
 
--- src/marks.rt:102:5
 pub loop-number-init : goal.loop-number-init
-loop-number-init c = ?
+loop-number-init c = (
+    let docs = docs_of c.args.graph.now in
+    let indexes = c.args.indexes.now in
+    record {
+      any = files_begin docs indexes names_in_unit c.in_ok-unset.field-0.items (c.in_ok-unset.ensures docs c.requires);
+      uleb = files_begin docs indexes (λ n. pinned_in (is_in n)) c.in_ok-unset-2.field-0.items (c.in_ok-unset-2.ensures docs c.requires);
+    })
 
--- src/marks.rt:103:32
 pub bounds-indexes-number : goal.bounds-indexes-number
-bounds-indexes-number c = ?
+bounds-indexes-number c = below c.args.graph.now c.files-file-items.result.now c.args.indexes.now c.loop-number.number c.files-file-items.ensures c.requires c.loop-number-test.true
 
--- src/marks.rt:103:9
 pub mark_file-requires : goal.mark_file-requires
-mark_file-requires c = ?
+mark_file-requires c = few c.args.graph.now c.files-file-items.result.now c.args.indexes.now c.loop-number.number c.file-item.result c.index-indexes-number.result c.files-file-items.ensures c.requires c.loop-number-test.true c.file-item.is c.index-indexes-number.is
 
--- src/marks.rt:102:5
 pub loop-number-preserved : goal.loop-number-preserved
-loop-number-preserved c = ?
+loop-number-preserved c = (
+    let contents = c.args.graph.now in
+    let files = c.files-file-items.result.now in
+    let indexes = c.args.indexes.now in
+    let count = (starts_at (docs_of contents) indexes (length indexes)).top in
+    record {
+      any = marked contents files indexes c.loop-number.number c.file-item.result c.index-indexes-number.result c.files-file-items.ensures c.requires c.loop-number-test.true c.file-item.is c.index-indexes-number.is
+          names_in_unit count c.loop-number.named.by_any.items c.mark_file.new.named.by_any.items c.loop-number.invariant.any c.in_ok-mark_file.ensures.any;
+      uleb = marked contents files indexes c.loop-number.number c.file-item.result c.index-indexes-number.result c.files-file-items.ensures c.requires c.loop-number-test.true c.file-item.is c.index-indexes-number.is
+          (λ n. pinned_in (is_in n)) count c.loop-number.named.by_uleb.items c.mark_file.new.named.by_uleb.items c.loop-number.invariant.uleb c.in_ok-mark_file.ensures.uleb;
+    })
 
--- src/marks.rt:93:1
 pub returns : goal.returns
-returns c = ?
+unfolding is_pinned
+returns c = (
+    let contents = c.args.graph.now in
+    let files = c.files-file-items.result.now in
+    let indexes = c.args.indexes.now in
+    let k = c.loop-number.number in
+    let high : length files ≤ k = omega arith in
+    record {
+      any = files_all contents files indexes k c.files-file-items.ensures c.requires high (omega arith) names_in_unit c.loop-number.named.by_any.items c.loop-number.invariant.any;
+      uleb = files_all contents files indexes k c.files-file-items.ensures c.requires high (omega arith) (λ n. pinned_in (is_in n)) c.loop-number.named.by_uleb.items c.loop-number.invariant.uleb;
+    })

@@ -1,9 +1,14 @@
-use Rattle.std.proofs.Common.{◌+◌, arith}
+use Rattle.std.proofs.Common.{◌+◌, ◌∙◌, false, sym, ap, arith}
+use Rattle.std.specs.Prelude.{replicate}
+use Rattle.dwz_index.specs.declared.index.Starts.{Starts}
 use Rattle.dwz_across.specs.Across.{starts_at}
 use Rattle.dwz_across.proofs.FileCounts.{next_starts_are}
 use Rattle.dwz_across.proofs.ListGets.{item_got}
-use Rattle.dwz_marks.proofs.MarkSteps.{put_more}
+use Rattle.dwz_marks.proofs.MarkSteps.{put_more, starts_zero}
 use Rattle.dwz_marks.proofs.marks.unset.Goals as goal
+
+pub loop-index-init : goal.loop-index-init
+loop-index-init c = λ docs is. c.new-flags.ensures.items ∙ ap (λ (s : Starts). replicate s.top false) (sym (starts_zero docs c.args.indexes.now))
 
 pub loop-index-preserved : goal.loop-index-preserved
 loop-index-preserved c = λ docs is. (

@@ -1,16 +1,16 @@
 -- What operands of a file name: those of its expressions, and those of its rows of location lists.
-use Rattle.std.proofs.Common.{◌≡◌, ◌↔◌, ◌⊎◌, ℕ, ◌<◌, Bool, true, false, List, [], ◌∷◌, map, Option, Some, None, Ok, refl, sym, ap, subst, ◌∙◌, inl, inr, ⊎_elim, if◌then◌else◌}
+use Rattle.std.proofs.Common.{◌≡◌, ◌↔◌, ◌⊎◌, ℕ, ◌<◌, Bool, true, false, List, [], ◌∷◌, map, Option, Some, Ok, refl, sym, ap, subst, ◌∙◌, inl, inr, ⊎_elim, if◌then◌else◌}
 use Rattle.std.specs.List.{list_any}
 use Rattle.std.proofs.lemmas.Bool.{false≢true}
 use Rattle.dwz_alike.specs.Alike.{any_attr, is_in, names_in_unit, operand_names}
-use Rattle.dwz_alike.specs.Spots.{Spot, same_spot}
+use Rattle.dwz_alike.specs.Spots.{Spot}
 use Rattle.dwz_docs.specs.Lists.{In}
 use Rattle.dwz_docs.specs.Units.{RawUnit, entries_in}
 use Rattle.dwz_graph.specs.declared.file.File.{File}
 use Rattle.dwz_index.specs.Index.{Index}
 use Rattle.dwz_index.specs.Names.{top_in}
 use Rattle.dwz_index.proofs.NameLemmas.{means_units, stand_once}
-use Rattle.dwz_meanings.specs.Documents.{Doc, DwUnit, unit_map}
+use Rattle.dwz_meanings.specs.Documents.{Doc, unit_map}
 use Rattle.dwz_meanings.specs.Files.{around_of, sources_of}
 use Rattle.dwz_meanings.specs.Meanings.{MeanUnits, units_meaning}
 use Rattle.dwz_meanings.specs.Shared.{OneOf}

@@ -1,5 +1,5 @@
 -- What is marked of one file, from what its slices hold.
-use Rattle.std.proofs.Common.{◌≡◌, ◌↔◌, ◌⊎◌, ℕ, true, Bool, List, map, Option, Some, sym, ap, subst, ◌∙◌}
+use Rattle.std.proofs.Common.{◌≡◌, ℕ, true, Bool, List, map, Option, Some, sym, ap, subst, ◌∙◌}
 use Rattle.std.specs.List.{list_any}
 use Rattle.dwz_alike.specs.Alike.{any_attr, is_in, names_in_unit}
 use Rattle.dwz_alike.specs.Spots.{Spot}

@@ -69,4 +69,4 @@ module _ (contents : List (List ℕ)) (files : List File) (indexes : List Index)
       let units = units_of (docs_of contents) in
       let own = file_units x.starts k doc in
       subst (λ (n : ℕ). MarkedBy units test count n new) behind
-          (files_next units own test count x.starts.unit old new r.is.units (subst (λ (n : ℕ). MarkedBy units test count n old) (sym begins) h) (one contents k r.bytes r.is))
+      (files_next units own test count x.starts.unit old new r.is.units (subst (λ (n : ℕ). MarkedBy units test count n old) (sym begins) h) (one contents k r.bytes r.is))

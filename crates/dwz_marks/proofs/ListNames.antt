@@ -1,5 +1,5 @@
 -- The attributes that are location lists, and the lists that attributes name.
-use Rattle.std.proofs.Common.{◌≡◌, ◌⊎◌, ℕ, ◌+◌, ◌<◌, Bool, true, false, cond, List, [], ◌∷◌, ◌++◌, map, ℤ, Option, Some, None, Result, Ok, Err, refl, sym, ap, subst, ◌∙◌, inl, inr, ⊎_elim}
+use Rattle.std.proofs.Common.{◌≡◌, ◌⊎◌, ℕ, ◌+◌, Bool, true, false, cond, List, [], ◌∷◌, ◌++◌, Option, Some, None, Result, Ok, Err, refl, sym, ap, subst, ◌∙◌, inl, inr, ⊎_elim}
 use Rattle.std.proofs.lemmas.Bool.{false≢true}
 use Rattle.dwz_model.specs.declared.fault.Fault.{Fault}
 use Rattle.dwz_docs.specs.Entries.{RawAttr, RawEntry}
@@ -7,7 +7,7 @@ use Rattle.dwz_docs.specs.Lists.{In}
 use Rattle.dwz_docs.specs.Trees.{End, Entry, Forest}
 use Rattle.dwz_docs.specs.Units.{RawUnit}
 use Rattle.dwz_docs.specs.Texts.{slot, slot_place}
-use Rattle.dwz_meanings.specs.Documents.{Attr, DwUnit, Entries, Plain, Sec, Value, only, ref}
+use Rattle.dwz_meanings.specs.Documents.{Attr, DwUnit, Entries, Plain, Sec, Value, only}
 use Rattle.dwz_meanings.specs.LocLists.{LocList, SpellsList}
 use Rattle.dwz_meanings.specs.Meanings.{Around, Class, IfSo, IsFileBy, IsListBySlot, IsLocList, MeanAttrs, MeanEntries, MeanUnits, MeansAs, MeansAttr, OfAddress, OfBlock, OfCommonEntry, OfCommonText, OfConstant, OfExpression, OfFlag, OfIndex, OfInfoEntry, OfListIndex, OfOffset, OfSignature, OfText, OfTextBySlot, OfTextInLineStr, OfTextInStr, OfUnitEntry, Scope, Unread, class_of, constant_value, expr_context, list_read, loc_value, loclists_base, names_file, names_list, number_of, offset_of, scope_of, stmt_list, without_siblings}
 use Rattle.dwz_meanings.specs.NamedLists.{AnyEntryNames, AnyNames, AnyUnitNames, NamesAs, NamesList, by_base, by_offset, list_of_attr, lists_as, lists_of_units, named_by}

@@ -38,8 +38,7 @@ marks_then Is Next All old now new a b all = record {
       let p = a.each n lt in
       let same = a.len in
       let q = b.each n (omega arith) in
-      let r = all n in
-      (
+      let r = all n in (
         λ h. ⊎_elim (λ x. ⊎_elim (λ y. inl y) (λ y. inr (r.1 (inl y))) (p.0 x)) (λ x. inr (r.1 (inr x))) (q.0 h),
         λ h. ⊎_elim (λ x. q.1 (inl (p.1 (inl x)))) (λ x. ⊎_elim (λ y. q.1 (inl (p.1 (inr y)))) (λ y. q.1 (inr y)) (r.0 x)) h,
       ));
@@ -111,7 +110,7 @@ next_uleb rows tops k d t low lt e old now new a b =
     let one : k + 1 ≡ suc k = omega arith in
     let more = (λ i. uleb_tops (take (one i) rows) (take (one i) tops)) ∙ ulebs_more rows tops k row t (here.1 ∙ ap (λ (o : ListOperand). Some o) (sym is)) (there.1 ∙ ap Some (sym same)) in
     marks_then (λ n. In (Some n) (uleb_tops (take k rows) (take k tops))) (λ n. In (Some n) (if_asked row.uleb t)) (λ n. In (Some n) (uleb_tops (take (k + 1) rows) (take (k + 1) tops))) old now new a b
-        (λ n. in_more (Some n) (uleb_tops (take k rows) (take k tops)) (if_asked row.uleb t) (uleb_tops (take (k + 1) rows) (take (k + 1) tops)) more)
+    (λ n. in_more (Some n) (uleb_tops (take k rows) (take k tops)) (if_asked row.uleb t) (uleb_tops (take (k + 1) rows) (take (k + 1) tops)) more)
 
 pub last_any : (tops : List (Option ℕ)) (k : ℕ) → length tops ≤ k → (old new : List Bool) → Marks (take k tops) old new → Marks tops old new
 last_any tops k le old new h = subst (λ (w : List (Option ℕ)). Marks w old new) (take_all k tops le) h
@@ -197,8 +196,9 @@ pub files_first : (units : List (FileUnit Spot)) (test : ℕ → FileUnit Spot �
 files_first units test count marks e = record {
   len = ap (λ (w : List Bool). length w) e ∙ set_long count;
   each = λ n lt. (
-      λ h. absurd (false≢true (sym (none_set count n) ∙ ap (λ (w : List Bool). slice_index_or w n false) (sym e) ∙ h)),
-      λ h. absurd (false≢true h));
+    λ h. absurd (false≢true (sym (none_set count n) ∙ ap (λ (w : List Bool). slice_index_or w n false) (sym e) ∙ h)),
+    λ h. absurd (false≢true h),
+  );
 }
 
 pub files_next : (units own : List (FileUnit Spot)) (test : ℕ → FileUnit Spot → Bool) (count upto : ℕ) (old new : List Bool) → IsPart units upto own → MarkedBy units test count upto old → MarksIf (λ t. list_any (test t) own ≡ true) old new → MarkedBy units test count (upto + length own) new
@@ -208,8 +208,7 @@ files_next units own test count upto old new part h m = record {
       let len = h.len in
       let a = m.each n (omega arith) in
       let b = h.each n lt in
-      let c = any_more (test n) (take upto units) own (take (upto + length own) units) (take_part units own upto part) in
-      (
+      let c = any_more (test n) (take upto units) own (take (upto + length own) units) (take_part units own upto part) in (
         λ x. c.1 (⊎_elim (λ y. inl (b.0 y)) (λ y. inr y) (a.0 x)),
         λ x. a.1 (⊎_elim (λ y. inl (b.1 y)) (λ y. inr y) (c.0 x)),
       ));

@@ -1,6 +1,6 @@
 -- What the location lists of a file name is what its rows of operands name.
-use Rattle.std.proofs.Common.{◌≡◌, ◌↔◌, ℕ, ◌+◌, ◌-◌, ◌<◌, ◌≤◌, Bool, true, false, List, [], ◌∷◌, ◌++◌, drop, map, refl, sym, ap, subst, ◌∙◌, inl, inr, ⊎_elim, arith}
-use Rattle.std.specs.Prelude.{◌||◌, ◌&&◌}
+use Rattle.std.proofs.Common.{◌≡◌, ◌↔◌, ℕ, ◌+◌, ◌-◌, ◌<◌, Bool, true, false, List, [], ◌∷◌, ◌++◌, drop, map, refl, sym, ap, subst, ◌∙◌, inl, inr, ⊎_elim, arith}
+use Rattle.std.specs.Prelude.{◌&&◌}
 use Rattle.std.specs.List.{list_any}
 use Rattle.std.proofs.lemmas.Bool.{and_parts, cases_lt, false≢true}
 use Rattle.std.proofs.lemmas.List.{map-append}
@@ -16,7 +16,7 @@ use Rattle.dwz_meanings.specs.Documents.{Attr, DwUnit, Loc, Part, Value, attr_ma
 use Rattle.dwz_meanings.specs.Exprs.{Expression, parts_from, parts_of}
 use Rattle.dwz_meanings.specs.Meanings.{Around, MeanUnits, Scope, Sources, alone, entries_for, expr_context, leads_to, places_of, scope_of, target_of, targets}
 use Rattle.dwz_meanings.specs.NamedLists.{lists_of_units}
-use Rattle.dwz_meanings.specs.Shared.{AreRows, IsSame, ListOperand, NamedList, OneOf, of_unit, operands_in_lists, operands_of, own_operands}
+use Rattle.dwz_meanings.specs.Shared.{AreRows, ListOperand, NamedList, OneOf, of_unit, operands_in_lists, operands_of, own_operands}
 use Rattle.dwz_meanings.proofs.MeaningLemmas.{has_in}
 use Rattle.dwz_moving.specs.Plan.{parts_of as plan_parts, uleb_targets}
 use Rattle.dwz_resolve.specs.declared.operands.ListOperand.{ListOperand as Row}

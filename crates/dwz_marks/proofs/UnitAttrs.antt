@@ -2,17 +2,17 @@
 use Rattle.std.proofs.Common.{◌≡◌, ◌↔◌, ◌⊎◌, ℕ, Bool, true, false, List, [], ◌∷◌, ◌++◌, map, refl, sym, ap, ◌∙◌, inl, inr, ⊎_elim}
 use Rattle.std.specs.Prelude.{◌||◌, ◌&&◌}
 use Rattle.std.specs.List.{list_any}
-use Rattle.std.proofs.lemmas.Bool.{false≢true, or_cases}
+use Rattle.std.proofs.lemmas.Bool.{or_cases}
 use Rattle.std.proofs.lemmas.List.{map-append}
 use Rattle.std.proofs.lemmas.List.Folds.{list_any-append}
-use Rattle.dwz_alike.specs.Alike.{any_attr, any_entry, has_operand, is_in, names_in_unit, operand_names}
-use Rattle.dwz_alike.specs.Spots.{FileUnit, Spot, in_file}
+use Rattle.dwz_alike.specs.Alike.{any_attr, any_entry, has_operand, is_in, operand_names}
+use Rattle.dwz_alike.specs.Spots.{Spot, in_file}
 use Rattle.dwz_alike.proofs.Targets.{or_first, or_second}
 use Rattle.dwz_docs.specs.Trees.{End, Entry}
 use Rattle.dwz_meanings.specs.Documents.{Addr, Attr, Block, DwUnit, Entries, Expr, File, Flag, Index, Loc, Num, Plain, Ref, Sec, Sig, Text, attr_map, entries_map, unit_map}
-use Rattle.dwz_moving.specs.Plan.{parts_of, pinned_in, pins, uleb_targets}
+use Rattle.dwz_moving.specs.Plan.{parts_of, pins, uleb_targets}
 use Rattle.dwz_scan.specs.Known.{in_unit}
-use Rattle.dwz_scan.specs.Marked.{expression_names, expression_pins, in_expression}
+use Rattle.dwz_scan.specs.Marked.{expression_names, in_expression}
 
 unfoldable pub entries_attrs : {P : Type 0} → Entries P → List (Attr P)
 entries_attrs End = []
@@ -135,13 +135,13 @@ either t p q same (a ∷ attrs) = by (either t p q same attrs) where
   by : (list_any t attrs ≡ true) ↔ ((list_any p attrs ≡ true) ⊎ (list_any q attrs ≡ true)) → (list_any t (a ∷ attrs) ≡ true) ↔ ((list_any p (a ∷ attrs) ≡ true) ⊎ (list_any q (a ∷ attrs) ≡ true))
   by more = (
     λ e. ⊎_elim
-    (λ h. ⊎_elim (λ x. inl (or_first (p a) (list_any p attrs) x)) (λ x. inr (or_first (q a) (list_any q attrs) x)) (or_cases (p a) (q a) (sym (same a) ∙ h)))
-    (λ h. ⊎_elim (λ x. inl (or_second (p a) (list_any p attrs) x)) (λ x. inr (or_second (q a) (list_any q attrs) x)) (more.0 h))
-    (or_cases (t a) (list_any t attrs) e),
+        (λ h. ⊎_elim (λ x. inl (or_first (p a) (list_any p attrs) x)) (λ x. inr (or_first (q a) (list_any q attrs) x)) (or_cases (p a) (q a) (sym (same a) ∙ h)))
+        (λ h. ⊎_elim (λ x. inl (or_second (p a) (list_any p attrs) x)) (λ x. inr (or_second (q a) (list_any q attrs) x)) (more.0 h))
+        (or_cases (t a) (list_any t attrs) e),
     λ h. ⊎_elim
-    (λ e. ⊎_elim (λ x. or_first (t a) (list_any t attrs) (same a ∙ or_first (p a) (q a) x)) (λ x. or_second (t a) (list_any t attrs) (more.1 (inl x))) (or_cases (p a) (list_any p attrs) e))
-    (λ e. ⊎_elim (λ x. or_first (t a) (list_any t attrs) (same a ∙ or_second (p a) (q a) x)) (λ x. or_second (t a) (list_any t attrs) (more.1 (inr x))) (or_cases (q a) (list_any q attrs) e))
-    h,
+        (λ e. ⊎_elim (λ x. or_first (t a) (list_any t attrs) (same a ∙ or_first (p a) (q a) x)) (λ x. or_second (t a) (list_any t attrs) (more.1 (inl x))) (or_cases (p a) (list_any p attrs) e))
+        (λ e. ⊎_elim (λ x. or_first (t a) (list_any t attrs) (same a ∙ or_second (p a) (q a) x)) (λ x. or_second (t a) (list_any t attrs) (more.1 (inr x))) (or_cases (q a) (list_any q attrs) e))
+        h,
   )
 
 pub names_either : (n : ℕ) (attrs : List (Attr Spot)) → (list_any (operand_names n) attrs ≡ true) ↔ ((list_any (expression_names n) attrs ≡ true) ⊎ (list_any (list_names n) attrs ≡ true))

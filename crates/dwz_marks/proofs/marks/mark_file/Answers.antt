@@ -1,4 +1,4 @@
-use Rattle.std.proofs.Common.{◌≡◌, ℕ, List, Bool, Option, true, map, ◌∙◌}
+use Rattle.std.proofs.Common.{◌≡◌, true, ◌∙◌}
 use Rattle.std.specs.List.{list_any}
 use Rattle.dwz_alike.specs.Alike.{is_in, names_in_unit}
 use Rattle.dwz_index.specs.Names.{names_from}
@@ -32,9 +32,9 @@ returns-clause-any c = λ contents k bytes is. (
     let knows = knows_at contents k bytes f x is refs c.as_slice-3.result.now c.as_slice-2.result.now r c.as_slice-3.ensures.value into in
     let mid = c.in_ok-mark_units.ensures.any (around_of bytes raw) f.resolved.refs.items name doc.units knows (units_mean contents k bytes f x is) in
     on_ok c.mark_lists.result (Marks (tops_of_refs name raw (entries_of rows)) c.mark_units.new.named.by_any.items c.mark_lists.new.named.by_any.items)
-        (MarksIf (λ t. list_any (names_in_unit t) (file_units x.starts k doc) ≡ true) c.args.named.now.by_any.items c.mark_lists.new.named.by_any.items)
-        (λ b. file_any contents k bytes f x is rows c.as_slice-4.ensures.value c.args.named.now.by_any.items c.mark_units.new.named.by_any.items c.mark_lists.new.named.by_any.items mid b)
-        (c.mark_lists.ensures.any raw names name is.index.names all each (rows_low contents k bytes f x is rows c.as_slice-4.ensures.value)))
+    (MarksIf (λ t. list_any (names_in_unit t) (file_units x.starts k doc) ≡ true) c.args.named.now.by_any.items c.mark_lists.new.named.by_any.items)
+    (λ b. file_any contents k bytes f x is rows c.as_slice-4.ensures.value c.args.named.now.by_any.items c.mark_units.new.named.by_any.items c.mark_lists.new.named.by_any.items mid b)
+    (c.mark_lists.ensures.any raw names name is.index.names all each (rows_low contents k bytes f x is rows c.as_slice-4.ensures.value)))
 
 pub returns-clause-uleb : goal.returns-clause-uleb
 returns-clause-uleb c = λ contents k bytes is. (
@@ -53,6 +53,6 @@ returns-clause-uleb c = λ contents k bytes is. (
     let knows = knows_at contents k bytes f x is refs c.as_slice-3.result.now c.as_slice-2.result.now r c.as_slice-3.ensures.value into in
     let mid = c.in_ok-mark_units.ensures.uleb (around_of bytes raw) f.resolved.refs.items name doc.units knows (units_mean contents k bytes f x is) in
     on_ok c.mark_lists.result (Marks (uleb_tops rows (tops_of_refs name raw (entries_of rows))) c.mark_units.new.named.by_uleb.items c.mark_lists.new.named.by_uleb.items)
-        (MarksIf (λ t. list_any (pinned_in (is_in t)) (file_units x.starts k doc) ≡ true) c.args.named.now.by_uleb.items c.mark_lists.new.named.by_uleb.items)
-        (λ b. file_uleb contents k bytes f x is rows c.as_slice-4.ensures.value c.args.named.now.by_uleb.items c.mark_units.new.named.by_uleb.items c.mark_lists.new.named.by_uleb.items mid b)
-        (c.mark_lists.ensures.uleb raw names name is.index.names all each (rows_low contents k bytes f x is rows c.as_slice-4.ensures.value)))
+    (MarksIf (λ t. list_any (pinned_in (is_in t)) (file_units x.starts k doc) ≡ true) c.args.named.now.by_uleb.items c.mark_lists.new.named.by_uleb.items)
+    (λ b. file_uleb contents k bytes f x is rows c.as_slice-4.ensures.value c.args.named.now.by_uleb.items c.mark_units.new.named.by_uleb.items c.mark_lists.new.named.by_uleb.items mid b)
+    (c.mark_lists.ensures.uleb raw names name is.index.names all each (rows_low contents k bytes f x is rows c.as_slice-4.ensures.value)))

@@ -1,10 +1,7 @@
-use Rattle.std.proofs.Common.{ℕ, ◌≤◌, sym, ap, subst, length, arith}
+use Rattle.std.proofs.Common.{◌≤◌, length, arith}
 use Rattle.dwz_across.specs.Across.{starts_at}
-use Rattle.dwz_across.proofs.FileCounts.{all_ends, are_many}
 use Rattle.dwz_alike.specs.Alike.{is_in, names_in_unit}
-use Rattle.dwz_alike.specs.Spots.{units_of}
 use Rattle.dwz_graph.specs.Files.{docs_of}
-use Rattle.dwz_index.specs.declared.index.Starts.{Starts}
 use Rattle.dwz_moving.specs.Plan.{is_pinned, pinned_in}
 use Rattle.dwz_marks.proofs.FilesKnown.{below, few, files_all, files_begin, marked}
 use Rattle.dwz_marks.proofs.marks.named_tops.Goals as goal

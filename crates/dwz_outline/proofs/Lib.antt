@@ -1,0 +1,7 @@
+pub mod ListParts
+pub mod TargetLemmas
+pub mod PairLemmas
+pub mod RangeLemmas
+pub mod UnitOrder
+pub mod DraftSteps
+pub mod OutlineLemmas

@@ -5,8 +5,6 @@ mod laws;
 mod limits;
 mod numbers;
 mod parts;
-#[cfg(test)]
-mod tests;
 mod units;
 mod values;
 

@@ -7,4 +7,4 @@ mod ranges;
 #[cfg(test)]
 mod tests;
 
-pub use outline::{Outline, outline};
+pub use outline::{Outline, outline_files};

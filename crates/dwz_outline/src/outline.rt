@@ -56,7 +56,7 @@ fn set_movable(rows: &mut [TopRow], flags: &[bool])
 }
 
 /// The tops of all files, in order of place.
-pub fn outline(alloc: Global, graph: &Graph, indexes: &[Index]) -> Result<Outline, NoMemory>
+pub fn outline_files(alloc: Global, graph: &Graph, indexes: &[Index]) -> Result<Outline, NoMemory>
     requires few { length graph.now < 2 ^ 32 }
     requires indexes { AreIndexes (docs_of graph.now) indexes.now }
     ensures tops { IfOk result (λ o. IsOutline (docs_of graph.now) o.tops) }

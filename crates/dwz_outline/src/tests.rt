@@ -2,7 +2,7 @@
 
 ghost use Rattle.std.specs.Prelude.{◌<◌, ◌^◌, length};
 
-use crate::{Outline, outline};
+use crate::{Outline, outline_files};
 use dwz_graph::Graph;
 use dwz_groups::TopRow;
 use dwz_indexes::indexes;
@@ -63,7 +63,7 @@ fn outlined(alloc: Global, files: &[Vec<u8>]) -> Result<Outline, Fail>
 {
     let graph = Graph::read(alloc, files)?;
     let indexes = indexes(alloc, &graph)?;
-    Ok(outline(alloc, &graph, &indexes)?)
+    Ok(outline_files(alloc, &graph, &indexes)?)
 }
 
 // The outline of one file.

@@ -14,6 +14,7 @@ use Rattle.dwz_meanings.specs.Files.{Limits, file_meaning, files_meaning, in_fil
 use Rattle.dwz_docs.specs.Units.{RawUnit, entries_in}
 use Rattle.dwz_graph.specs.declared.file.File.{File}
 use Rattle.dwz_graph.specs.Files.{AreRead, FilesFail, HasFile, IsRead, docs_of, or_none, refused_file}
+use Rattle.dwz_resolve.specs.ListRows.{AreOfFile}
 use Rattle.dwz_unit.specs.Rows.{units_of}
 
 abbrev after_docs : List (Doc ℕ) → Result (List (Doc ℕ)) Refusal → Result (List (Doc ℕ)) Refusal
@@ -37,7 +38,7 @@ pub step : (l : Limits) (n : ℕ) (b : List ℕ) (raw : List RawUnit) (doc : Doc
 unfolding files_meaning
 step l n b raw doc rest e = ap (λ (r : Result (List RawUnit × Doc ℕ) Fault). in_file n r >>= λ x. files_meaning (limits_after l b x.0) (suc n) rest >>= with_doc x.1) e
 
-goes : (l : Limits) (n : ℕ) (xs : List (List ℕ)) (fs : List File) (end : Limits) → AreRead l xs fs end → Goes l n xs end
+goes : (l : Limits) (n : ℕ) (xs : List (List ℕ)) (fs : List File) (end : Limits) → AreRead l n xs fs end → Goes l n xs end
 goes l n [] [] end h = record {
   docs = [];
   on = λ ys. (let e : n ≡ n + 0 = omega arith in none_before (files_meaning l n ys) ∙ (λ i. after_docs [] (files_meaning (h i) (e i) ys)));
@@ -57,13 +58,15 @@ goes l n (b ∷ xs) (f ∷ fs) end h =
           ∙ ap (λ (k : ℕ). after_docs (r.doc ∷ rest.docs) (files_meaning end k ys)) e);
     }
 
-pub are_more : (l : Limits) (xs : List (List ℕ)) (fs : List File) (end next : Limits) (b : List ℕ) (f : File) → AreRead l xs fs end → IsRead end b f → limits_after end b (units_of f.units) ≡ next → AreRead l (xs ++ b ∷ []) (fs ++ f ∷ []) next
-are_more l [] [] end next b f h r e = (subst (λ (m : Limits). IsRead m b f) (sym h) r, ap (λ (m : Limits). limits_after m b (units_of f.units)) h ∙ e)
-are_more l [] (g ∷ fs) end next b f h r e = absurd h
-are_more l (x ∷ xs) [] end next b f h r e = absurd h
-are_more l (x ∷ xs) (g ∷ fs) end next b f h r e = (h.0, are_more (limits_after l x (units_of g.units)) xs fs end next b f h.1 r e)
+pub are_more : (l : Limits) (n : ℕ) (xs : List (List ℕ)) (fs : List File) (end next : Limits) (b : List ℕ) (f : File) → AreRead l n xs fs end → IsRead end (n + length xs) b f → limits_after end b (units_of f.units) ≡ next → AreRead l n (xs ++ b ∷ []) (fs ++ f ∷ []) next
+are_more l n [] [] end next b f h r e = (subst (λ (m : Limits). IsRead m n b f) (sym h) (subst (λ (k : ℕ). IsRead end k b f) (let none : n + 0 ≡ n = omega arith in none) r), ap (λ (m : Limits). limits_after m b (units_of f.units)) h ∙ e)
+are_more l n [] (g ∷ fs) end next b f h r e = absurd h
+are_more l n (x ∷ xs) [] end next b f h r e = absurd h
+are_more l n (x ∷ xs) (g ∷ fs) end next b f h r e =
+    let one : n + suc (length xs) ≡ suc n + length xs = omega arith in
+    (h.0, are_more (limits_after l x (units_of g.units)) (suc n) xs fs end next b f h.1 (subst (λ (k : ℕ). IsRead end k b f) one r) e)
 
-all_read : (l : Limits) (xs : List (List ℕ)) (fs : List File) (end : Limits) → AreRead l xs fs end → (docs : List (Doc ℕ)) × (files_meaning l 0 xs ≡ Ok docs)
+all_read : (l : Limits) (xs : List (List ℕ)) (fs : List File) (end : Limits) → AreRead l 0 xs fs end → (docs : List (Doc ℕ)) × (files_meaning l 0 xs ≡ Ok docs)
 unfolding files_meaning
 all_read l xs fs end h =
     let g = goes l 0 xs fs end h in
@@ -73,7 +76,7 @@ or_same : (r : Result (List (Doc ℕ)) Refusal) (docs : List (Doc ℕ)) → r �
 or_same (Ok others) docs e = refl
 or_same (Err f) docs e = absurd cc
 
-pub files_read : (xs : List (List ℕ)) (fs : List File) (end : Limits) → AreRead no_files_before xs fs end → files_meaning no_files_before 0 xs ≡ Ok (docs_of xs)
+pub files_read : (xs : List (List ℕ)) (fs : List File) (end : Limits) → AreRead no_files_before 0 xs fs end → files_meaning no_files_before 0 xs ≡ Ok (docs_of xs)
 unfolding docs_of
 files_read xs fs end h = let r = all_read no_files_before xs fs end h in or_same (files_meaning no_files_before 0 xs) r.0 r.1
 
@@ -81,7 +84,7 @@ bad_step : (l : Limits) (n : ℕ) (b : List ℕ) (f : Fault) (rest : List (List 
 unfolding files_meaning
 bad_step l n b f rest e = ap (λ (r : Result (List RawUnit × Doc ℕ) Fault). in_file n r >>= λ x. files_meaning (limits_after l b x.0) (suc n) rest >>= with_doc x.1) e
 
-pub files_fail : (e : ReadErr) (all xs : List (List ℕ)) (fs : List File) (end : Limits) (n : ℕ) (b : List ℕ) (rest : List (List ℕ)) → all ≡ xs ++ b ∷ rest → length xs ≡ n → AreRead no_files_before xs fs end → Fails e (file_meaning end b) → FilesFail (refused_file n e) (files_meaning no_files_before 0 all)
+pub files_fail : (e : ReadErr) (all xs : List (List ℕ)) (fs : List File) (end : Limits) (n : ℕ) (b : List ℕ) (rest : List (List ℕ)) → all ≡ xs ++ b ∷ rest → length xs ≡ n → AreRead no_files_before 0 xs fs end → Fails e (file_meaning end b) → FilesFail (refused_file n e) (files_meaning no_files_before 0 all)
 files_fail NoMemory all xs fs end n b rest is many h bad = tt
 files_fail (Refused f) all xs fs end n b rest is many h bad =
     let g = goes no_files_before 0 xs fs end h in
@@ -99,28 +102,48 @@ first_limits = refl
 
 -- ---- a file by its number
 
-pub as_many : (l : Limits) (xs : List (List ℕ)) (fs : List File) (end : Limits) → AreRead l xs fs end → length fs ≡ length xs
-as_many l [] [] end h = refl
-as_many l [] (f ∷ fs) end h = absurd h
-as_many l (b ∷ xs) [] end h = absurd h
-as_many l (b ∷ xs) (f ∷ fs) end h = let rest = as_many (limits_after l b (units_of f.units)) xs fs end h.1 in omega arith
+pub as_many : (l : Limits) (n : ℕ) (xs : List (List ℕ)) (fs : List File) (end : Limits) → AreRead l n xs fs end → length fs ≡ length xs
+as_many l n [] [] end h = refl
+as_many l n [] (f ∷ fs) end h = absurd h
+as_many l n (b ∷ xs) [] end h = absurd h
+as_many l n (b ∷ xs) (f ∷ fs) end h = let rest = as_many (limits_after l b (units_of f.units)) (suc n) xs fs end h.1 in omega arith
 
-pub record IsFileThere (l : Limits) (xs : List (List ℕ)) (i : ℕ) (b : List ℕ) (f : File) : Type 0 where
+pub record IsFileThere (l : Limits) (n : ℕ) (xs : List (List ℕ)) (i : ℕ) (b : List ℕ) (f : File) : Type 0 where
   pub limits : Limits
-  pub read : IsRead limits b f
+  pub read : IsRead limits (n + i) b f
   pub there : HasFile l xs i limits b (units_of f.units) read.doc
 
-pub file_there : (l : Limits) (xs : List (List ℕ)) (fs : List File) (end : Limits) (i : ℕ) (b : List ℕ) (f : File) → AreRead l xs fs end → slice_get xs i ≡ Some b → slice_get fs i ≡ Some f → IsFileThere l xs i b f
-file_there l [] fs end i b f h e g = absurd cc
-file_there l (x ∷ xs) [] end i b f h e g = absurd h
-file_there l (x ∷ xs) (y ∷ fs) end zero b f h e g =
+pub file_there : (l : Limits) (n : ℕ) (xs : List (List ℕ)) (fs : List File) (end : Limits) (i : ℕ) (b : List ℕ) (f : File) → AreRead l n xs fs end → slice_get xs i ≡ Some b → slice_get fs i ≡ Some f → IsFileThere l n xs i b f
+file_there l n [] fs end i b f h e g = absurd cc
+file_there l n (x ∷ xs) [] end i b f h e g = absurd h
+file_there l n (x ∷ xs) (y ∷ fs) end zero b f h e g =
     let same : x ≡ b = cc in
     let one : y ≡ f = cc in
-    let r : IsRead l b f = subst (λ (w : File). IsRead l b w) one (subst (λ (w : List ℕ). IsRead l w y) same h.0) in
+    let none : n ≡ n + 0 = omega arith in
+    let r : IsRead l (n + 0) b f = subst (λ (k : ℕ). IsRead l k b f) none (subst (λ (w : File). IsRead l n b w) one (subst (λ (w : List ℕ). IsRead l n w y) same h.0)) in
     record { limits = l; read = r; there = (refl, same, ap (file_meaning l) same ∙ r.means) }
-file_there l (x ∷ xs) (y ∷ fs) end (suc i) b f h e g =
-    let r = file_there (limits_after l x (units_of y.units)) xs fs end i b f h.1 e g in
-    record { limits = r.limits; read = r.read; there = (units_of y.units, h.0.doc, h.0.means, r.there) }
+file_there l n (x ∷ xs) (y ∷ fs) end (suc i) b f h e g =
+    let next : suc n + i ≡ n + suc i = omega arith in
+    let r = file_there (limits_after l x (units_of y.units)) (suc n) xs fs end i b f h.1 e g in
+    let k = r.read in
+    record {
+      limits = r.limits;
+      read = record {
+        doc = k.doc;
+        means = k.means;
+        named = k.named;
+        within = k.within;
+        parts = k.parts;
+        lines = k.lines;
+        operands = k.operands;
+        of_file = subst (λ (m : ℕ). AreOfFile (units_of f.units) m f.resolved.operands.items) next k.of_file;
+        elf = k.elf;
+        info = k.info;
+        sections = k.sections;
+        aranges = k.aranges;
+      };
+      there = (units_of y.units, h.0.doc, h.0.means, r.there);
+    }
 
 units_in : List RawUnit → Result (List RawUnit × Doc ℕ) Fault → List RawUnit
 units_in other (Ok x) = x.0

@@ -8,11 +8,11 @@ use Rattle.dwz_model.specs.declared.fault.Refusal.{Refusal}
 use Rattle.dwz_meanings.specs.Documents.{Doc}
 use Rattle.dwz_docs.specs.ElfReading.{elf_of}
 use Rattle.dwz_docs.specs.Faults.{Fails}
-use Rattle.dwz_meanings.specs.Files.{Limits, around_of, file_meaning, files_meaning, limits_after, no_files_before, sources_of}
+use Rattle.dwz_meanings.specs.Files.{Limits, around_of, debug_aranges, debug_info, file_meaning, files_meaning, limits_after, no_files_before, sources_of}
 use Rattle.dwz_docs.specs.Units.{RawUnit, entries_in}
 use Rattle.dwz_meanings.specs.NamedLists.{lists_of_units}
 use Rattle.dwz_meanings.specs.Shared.{AreRows}
-use Rattle.dwz_resolve.specs.ListRows.{AreOfUnits, operand_view}
+use Rattle.dwz_resolve.specs.ListRows.{AreOfFile, operand_view}
 use Rattle.dwz_graph.specs.declared.file.File.{File}
 use Rattle.dwz_graph.specs.declared.file.Left.{Left}
 use Rattle.dwz_resolve.specs.Named.{units_refs}
@@ -23,9 +23,9 @@ use Rattle.dwz_unit.specs.Rows.{units_of}
 abbrev pub limits_view : Left → Limits
 limits_view l = record { bytes = l.bytes; entries = l.entries; machine = l.machine }
 
--- The file says what a document does. Its units are kept, the numbers of the entries that its references name, those of each entry in a
+-- The file with that number says what a document does. Its units are kept, the numbers of the entries that its references name, those of each entry in a
 -- part of their own, and the line tables whose files are numbered.
-pub record IsRead (l : Limits) (bytes : List ℕ) (f : File) : Type 0 where
+pub record IsRead (l : Limits) (number : ℕ) (bytes : List ℕ) (f : File) : Type 0 where
   pub doc : Doc ℕ
   pub means : file_meaning l bytes ≡ Ok (units_of f.units, doc)
   pub named : units_refs doc.units ≡ map (place_at (units_of f.units)) f.resolved.refs.items
@@ -33,24 +33,26 @@ pub record IsRead (l : Limits) (bytes : List ℕ) (f : File) : Type 0 where
   pub parts : AreParted (around_of bytes (units_of f.units)) (units_of f.units) (entries_in (units_of f.units)) f.resolved.refs.items f.resolved.starts.items
   pub lines : HaveLines (around_of bytes (units_of f.units)) (units_of f.units) (length (units_of f.units)) f.resolved.tables.items f.resolved.lines.items
   pub operands : AreRows (lists_of_units (around_of bytes (units_of f.units)) (units_of f.units)) (map (operand_view (units_of f.units)) f.resolved.operands.items)
-  pub of_units : AreOfUnits (units_of f.units) f.resolved.operands.items
+  pub of_file : AreOfFile (units_of f.units) number f.resolved.operands.items
   pub elf : f.elf ≡ elf_of bytes
+  pub info : f.units.info ≡ debug_info bytes
   pub sections : sources_view f.sections ≡ sources_of bytes
+  pub aranges : f.sections.aranges.now ≡ debug_aranges bytes
 
-abbrev pub ReadsFile : Limits → List ℕ → Result File ReadErr → Type 0
-ReadsFile l bytes (Ok f) = IsRead l bytes f
-ReadsFile l bytes (Err e) = Fails e (file_meaning l bytes)
+abbrev pub ReadsFile : Limits → ℕ → List ℕ → Result File ReadErr → Type 0
+ReadsFile l number bytes (Ok f) = IsRead l number bytes f
+ReadsFile l number bytes (Err e) = Fails e (file_meaning l bytes)
 
--- each file, where the first has those limits, and those behind the last are left
-abbrev pub AreRead : Limits → List (List ℕ) → List File → Limits → Type 0
-AreRead l [] [] end = l ≡ end
-AreRead l (bytes ∷ contents) (f ∷ files) end = IsRead l bytes f × AreRead (limits_after l bytes (units_of f.units)) contents files end
-AreRead l _ _ end = ⊥
+-- each file, where the first has those limits and that number, and what is behind the last is left
+abbrev pub AreRead : Limits → ℕ → List (List ℕ) → List File → Limits → Type 0
+AreRead l number [] [] end = l ≡ end
+AreRead l number (bytes ∷ contents) (f ∷ files) end = IsRead l number bytes f × AreRead (limits_after l bytes (units_of f.units)) (suc number) contents files end
+AreRead l number _ _ end = ⊥
 
 -- the files of a run
 pub record AreKept (contents : List (List ℕ)) (files : List File) : Type 0 where
   pub end : Limits
-  pub are : AreRead no_files_before contents files end
+  pub are : AreRead no_files_before 0 contents files end
 
 -- the file with that number, what those before it leave, and what it says
 abbrev pub HasFile : Limits → List (List ℕ) → ℕ → Limits → List ℕ → List RawUnit → Doc ℕ → Type 0
@@ -62,7 +64,7 @@ HasFile l (bytes ∷ contents) (suc i) m b raw doc =
 -- the file with that number, as it is kept
 pub record HasRead (contents : List (List ℕ)) (i : ℕ) (bytes : List ℕ) (f : File) : Type 0 where
   pub limits : Limits
-  pub read : IsRead limits bytes f
+  pub read : IsRead limits i bytes f
   pub there : HasFile no_files_before contents i limits bytes (units_of f.units) read.doc
 
 abbrev pub refused_file : ℕ → ReadErr → GraphErr

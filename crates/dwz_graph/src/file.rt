@@ -108,7 +108,7 @@ pub(crate) fn read_file<'a>(
     bytes: &'a [u8],
     left: &Left,
 ) -> Result<File<'a>, ReadErr>
-    ensures { ReadsFile (limits_view left.now) bytes.now result }
+    ensures { ReadsFile (limits_view left.now) number bytes.now result }
 {
     if is_too_long(left, bytes) {
         return Err(fault(0, Reason::FileSize));

@@ -5,7 +5,7 @@ ghost use Rattle.dwz_docs.specs.Units.{RawUnit};
 ghost use Rattle.dwz_meanings.specs.Documents.{Doc};
 ghost use Rattle.dwz_meanings.specs.NamedLists.{lists_of_units};
 ghost use Rattle.dwz_meanings.specs.Shared.{AreRows};
-ghost use Rattle.dwz_resolve.specs.ListRows.{operand_view};
+ghost use Rattle.dwz_resolve.specs.ListRows.{AreOfFile, operand_view};
 ghost use Rattle.dwz_docs.specs.ElfReading.{elf_of};
 ghost use Rattle.dwz_meanings.specs.Files.{Limits, around_of, files_meaning, limits_after, no_files_before};
 ghost use Rattle.dwz_graph.specs.Files.{AreKept, FilesAnswer, HasFile, HasRead, docs_of, limits_view, refused_file};
@@ -115,7 +115,8 @@ impl<'a> Graph<'a> {
     /// The operands of the location lists that attributes of the file with a number name, each once, in order of place.
     pub fn list_operands(&self, number: u32) -> &[ListOperand]
         requires { number < length self.now }
-        ensures { (l : Limits) (bytes : List ℕ) (raw : List RawUnit) (doc : Doc ℕ) → HasFile no_files_before self.now number l bytes raw doc → AreRows (lists_of_units (around_of bytes raw) raw) (map (operand_view raw) result.now) }
+        ensures rows { (l : Limits) (bytes : List ℕ) (raw : List RawUnit) (doc : Doc ℕ) → HasFile no_files_before self.now number l bytes raw doc → AreRows (lists_of_units (around_of bytes raw) raw) (map (operand_view raw) result.now) }
+        ensures of_file { (l : Limits) (bytes : List ℕ) (raw : List RawUnit) (doc : Doc ℕ) → HasFile no_files_before self.now number l bytes raw doc → AreOfFile raw number result.now }
     {
         &self.file(number).resolved.operands
     }

@@ -104,6 +104,18 @@ read_whole l bytes raw doc e =
     let r = ((file_agrees l bytes).ok (raw, doc)).0 e in
     none_partial (around_of bytes raw) raw doc.units r.means (places_number raw (places_whole (debug_abbrev bytes) l.entries raw 0 0 (debug_info bytes) r.spelled))
 
+-- no unit and no entry stands where another does
+pub stand_once : (l : Limits) (bytes : List ℕ) (raw : List RawUnit) (doc : Doc ℕ) → file_meaning l bytes ≡ Ok (raw, doc) → NoneTwice (unit_and_entries raw)
+stand_once l bytes raw doc e =
+    let r = ((file_agrees l bytes).ok (raw, doc)).0 e in
+    ascend_once (unit_and_entries raw) 0 (0 + length (debug_info bytes)) (units_and_entries_ascend (debug_abbrev bytes) (given l.entries) raw 0 0 (debug_info bytes) r.spelled)
+
+-- no place stands twice
+pub places_once : (l : Limits) (bytes : List ℕ) (raw : List RawUnit) (doc : Doc ℕ) → file_meaning l bytes ≡ Ok (raw, doc) → NoneTwice (units_keys doc.units)
+places_once l bytes raw doc e =
+    let r = ((file_agrees l bytes).ok (raw, doc)).0 e in
+    subst NoneTwice (sym (all_keys (sources_of bytes) raw raw doc.units r.means)) (stand_once l bytes raw doc e)
+
 pub all_named : (l : Limits) (bytes : List ℕ) (raw : List RawUnit) (doc : Doc ℕ) (unit top : ℕ) → file_meaning l bytes ≡ Ok (raw, doc) → map (spot_in (spots_from unit top doc.units)) (places raw) ≡ names_from unit top doc.units
 all_named l bytes raw doc unit top e =
     let r = ((file_agrees l bytes).ok (raw, doc)).0 e in
@@ -111,9 +123,7 @@ all_named l bytes raw doc unit top e =
     let said = doc.units in
     let spots = spots_from unit top said in
     let whole = read_whole l bytes raw doc e in
-    let once_keys : NoneTwice (units_keys said) = subst NoneTwice (sym (all_keys sources raw raw said r.means))
-    (ascend_once (unit_and_entries raw) 0 (0 + length (debug_info bytes)) (units_and_entries_ascend (debug_abbrev bytes) (given l.entries) raw 0 0 (debug_info bytes) r.spelled)) in
-    let once : NoneTwice (firsts spots) = subst NoneTwice (sym (spots_firsts unit top said (λ v is. each_in (λ (w : DwUnit ℕ). IsPartial w.kind → ⊥) v said whole is))) once_keys in
+    let once : NoneTwice (firsts spots) = subst NoneTwice (sym (spots_firsts unit top said (λ v is. each_in (λ (w : DwUnit ℕ). IsPartial w.kind → ⊥) v said whole is))) (places_once l bytes raw doc e) in
     let some = pairs sources raw unit top said in
     ap (map (spot_in spots)) (places_are raw ∙ sym (pairs_places sources raw unit top raw said r.means whole))
     ∙ named_all spots once some (pairs_in sources raw unit top said)

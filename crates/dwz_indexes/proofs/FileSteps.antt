@@ -34,12 +34,12 @@ record HasDocs (l : Limits) (contents : List (List ℕ)) (files : List File) : T
   docs : List (Doc ℕ)
   are : AreDocs l contents files docs
 
-docs_there : (l : Limits) (contents : List (List ℕ)) (files : List File) (end : Limits) → AreRead l contents files end → HasDocs l contents files
-docs_there l [] [] end h = record { docs = []; are = tt }
-docs_there l [] (f ∷ files) end h = absurd h
-docs_there l (b ∷ contents) [] end h = absurd h
-docs_there l (b ∷ contents) (f ∷ files) end h =
-    let r = docs_there (limits_after l b (units_of f.units)) contents files end h.1 in
+docs_there : (l : Limits) (n : ℕ) (contents : List (List ℕ)) (files : List File) (end : Limits) → AreRead l n contents files end → HasDocs l contents files
+docs_there l n [] [] end h = record { docs = []; are = tt }
+docs_there l n [] (f ∷ files) end h = absurd h
+docs_there l n (b ∷ contents) [] end h = absurd h
+docs_there l n (b ∷ contents) (f ∷ files) end h =
+    let r = docs_there (limits_after l b (units_of f.units)) (suc n) contents files end h.1 in
     record { docs = h.0.doc ∷ r.docs; are = (h.0.means, r.are) }
 
 all_docs : (l : Limits) (n : ℕ) (contents : List (List ℕ)) (files : List File) (docs : List (Doc ℕ)) → AreDocs l contents files docs → files_meaning l n contents ≡ Ok docs
@@ -85,7 +85,7 @@ pub record Going (contents : List (List ℕ)) (files : List File) (i : ℕ) (s :
 pub begins : (contents : List (List ℕ)) (files : List File) → AreKept contents files → Going contents files 0 first_starts []
 unfolding longest_files
 begins contents files kept =
-    let d = docs_there no_files_before contents files kept.end kept.are in
+    let d = docs_there no_files_before 0 contents files kept.end kept.are in
     record {
       done = [];
       left = d.docs;

@@ -19,7 +19,7 @@ use Rattle.dwz_resolve.specs.declared.state.State.{State}
 use Rattle.dwz_resolve.specs.declared.files.Files.{Files}
 use Rattle.dwz_resolve.specs.FileRows.{KnowTables}
 use Rattle.dwz_resolve.specs.Apart.{Rows}
-use Rattle.dwz_resolve.specs.ListRows.{IsRowOf, IsWithin, Shows, operand_view, own_rows}
+use Rattle.dwz_resolve.specs.ListRows.{AreOfFile, IsRowOf, IsWithin, Shows, operand_view, own_rows}
 use Rattle.dwz_resolve.specs.ListSteps.{AreSmall, HasList, named_list}
 use Rattle.dwz_resolve.specs.State.{IsListAt, IsState, WereSeen}
 use Rattle.dwz_resolve.proofs.ApartLemmas.{in_both, in_left, in_right}
@@ -86,7 +86,7 @@ own_new old new more w e first last =
 
 -- ---- what the rows show
 
-pub record IsAdded (raw : List RawUnit) (l : NamedList) (old new : Lists) : Type 0 where
+pub record IsAdded (raw : List RawUnit) (file : ℕ) (l : NamedList) (old new : Lists) : Type 0 where
   pub more : List ListOperand
   pub w : ListRow
   pub no_slot : l.slot ≡ None
@@ -98,11 +98,11 @@ pub record IsAdded (raw : List RawUnit) (l : NamedList) (old new : Lists) : Type
   pub rows : new.rows.items ≡ old.rows.items ++ w ∷ []
   pub slots : new.slots.items ≡ old.slots.items
   pub views : map (operand_view raw) more ≡ map (of_unit l.unit) (own_operands l)
-  pub units : (o : ListOperand) → In o more → o.unit < length raw
+  pub of_file : AreOfFile raw file more
   pub stand : Rows (w.from + 1) more w.end
 
-pub shows_more : (raw : List RawUnit) (named : List NamedList) (l : NamedList) (old new : Lists) → IsAdded raw l old new → Shows raw named old → Shows raw (named ++ l ∷ []) new
-shows_more raw named l old new a k =
+pub shows_more : (raw : List RawUnit) (file : ℕ) (named : List NamedList) (l : NamedList) (old new : Lists) → IsAdded raw file l old new → Shows raw file named old → Shows raw file (named ++ l ∷ []) new
+shows_more raw file named l old new a k =
     let is_in : (w0 : ListRow) → In w0 (old.rows.items ++ a.w ∷ []) → In w0 new.rows.items = λ w0 is. subst (λ (xs : List ListRow). In w0 xs) (sym a.rows) is in
     let of : (w0 : ListRow) → In w0 new.rows.items → In w0 (old.rows.items ++ a.w ∷ []) = λ w0 is. subst (λ (xs : List ListRow). In w0 xs) a.rows is in
     let same : (w0 : ListRow) → In w0 old.rows.items → own_rows new.operands.items w0 ≡ own_rows old.operands.items w0 = λ w0 is. own_same old.operands.items new.operands.items a.more w0 a.operands (k.within w0 is) in
@@ -132,9 +132,9 @@ shows_more raw named l old new a k =
         | inl here ↦ (let r = k.operands_of o here in (r.0, is_in r.0 (in_left r.0 old.rows.items (a.w ∷ []) r.1), subst (λ (xs : List ListOperand). In o xs) (sym (same r.0 r.1)) r.2))
         | inr there ↦ (a.w, is_in a.w (at_end old.rows.items a.w), subst (λ (xs : List ListOperand). In o xs) (sym fresh) there)
       ];
-      units = λ o is. elim (in_both o old.operands.items a.more (subst (λ (xs : List ListOperand). In o xs) a.operands is)) [
-        | inl here ↦ k.units o here
-        | inr there ↦ a.units o there
+      of_file = λ o is. elim (in_both o old.operands.items a.more (subst (λ (xs : List ListOperand). In o xs) a.operands is)) [
+        | inl here ↦ k.of_file o here
+        | inr there ↦ a.of_file o there
       ];
       stand = λ w0 is. elim (in_both w0 old.rows.items (a.w ∷ []) (of w0 is)) [
         | inl here ↦ subst (λ (xs : List ListOperand). Rows (w0.from + 1) xs w0.end) (sym (same w0 here)) (k.stand w0 here)
@@ -143,8 +143,8 @@ shows_more raw named l old new a k =
     }
 
 -- a list that is kept, named again
-pub shows_again : (raw : List RawUnit) (named : List NamedList) (k l : NamedList) (lists : Lists) → In k named → k.unit ≡ l.unit → k.from ≡ l.from → k.list ≡ l.list → l.slot ≡ None → Shows raw named lists → Shows raw (named ++ l ∷ []) lists
-shows_again raw named m l lists m_in unit from list none k =
+pub shows_again : (raw : List RawUnit) (file : ℕ) (named : List NamedList) (k l : NamedList) (lists : Lists) → In k named → k.unit ≡ l.unit → k.from ≡ l.from → k.list ≡ l.list → l.slot ≡ None → Shows raw file named lists → Shows raw file (named ++ l ∷ []) lists
+shows_again raw file named m l lists m_in unit from list none k =
     record {
       within = k.within;
       rows = λ l0 is. elim (in_both l0 named (l ∷ []) is) [
@@ -163,14 +163,14 @@ shows_again raw named m l lists m_in unit from list none k =
       ];
       slots_of = λ slot is. (let r = k.slots_of slot is in (r.0, in_left r.0 named (l ∷ []) r.1, r.2));
       operands_of = k.operands_of;
-      units = k.units;
+      of_file = k.of_file;
       stand = k.stand;
     }
 
 -- the same list, by a slot
-pub shows_slot : (raw : List RawUnit) (named : List NamedList) (l m : NamedList) (p : ℕ) (old new : Lists) → l.slot ≡ None → m.slot ≡ Some p → m.unit ≡ l.unit → m.from ≡ l.from → m.list ≡ l.list → new.rows.items ≡ old.rows.items → new.operands.items ≡ old.operands.items → new.slots.items ≡ old.slots.items ++ p ∷ []
-    → Shows raw (named ++ l ∷ []) old → Shows raw (named ++ m ∷ []) new
-shows_slot raw named l m p old new none slot_is unit from list rows operands slots k =
+pub shows_slot : (raw : List RawUnit) (file : ℕ) (named : List NamedList) (l m : NamedList) (p : ℕ) (old new : Lists) → l.slot ≡ None → m.slot ≡ Some p → m.unit ≡ l.unit → m.from ≡ l.from → m.list ≡ l.list → new.rows.items ≡ old.rows.items → new.operands.items ≡ old.operands.items → new.slots.items ≡ old.slots.items ++ p ∷ []
+    → Shows raw file (named ++ l ∷ []) old → Shows raw file (named ++ m ∷ []) new
+shows_slot raw file named l m p old new none slot_is unit from list rows operands slots k =
     let row_of : (l0 : NamedList) (w : ListRow) → IsRowOf raw old.operands.items l0 w → IsRowOf raw new.operands.items l0 w = λ l0 w r. subst (λ (xs : List ListOperand). IsRowOf raw xs l0 w) (sym operands) r in
     let moved : (w : ListRow) → IsRowOf raw old.operands.items l w → IsRowOf raw new.operands.items m w = λ w r. (let q = row_of l w r in
     record { from = q.from ∙ sym from; end = q.end ∙ ap (λ (x : LocList). x.end) (sym list); own = q.own ∙ (λ i. map (of_unit (sym unit i)) (operands_of (sym list i).exprs)) }) in
@@ -199,7 +199,7 @@ shows_slot raw named l m p old new none slot_is unit from list rows operands slo
         | inr there ↦ (m, at_end named m, slot_is ∙ ap (λ (n : ℕ). Some n) (in_last slot p there))
       ];
       operands_of = λ o is. (let r = k.operands_of o (subst (λ (xs : List ListOperand). In o xs) operands is) in (r.0, now r.0 r.1, subst (λ (xs : List ListOperand). In o (own_rows xs r.0)) (sym operands) r.2));
-      units = λ o is. k.units o (subst (λ (xs : List ListOperand). In o xs) operands is);
+      of_file = λ o is. k.of_file o (subst (λ (xs : List ListOperand). In o xs) operands is);
       stand = λ w is. subst (λ (xs : List ListOperand). Rows (w.from + 1) (own_rows xs w) w.end) (sym operands) (k.stand w (was w is));
     }
 
@@ -242,27 +242,27 @@ module _ (raw : List RawUnit) (s : Scope ℕ) (n : ℕ) (named : List NamedList)
         list = l.list;
         read = at.read;
         refs = refl;
-        keeps = record { shows = shows_again raw named l m st.lists one.1 at.unit at.from refl refl k.shows; tables = k.tables; seen = seen_again s n named m (get nat_eq st.lists.seen) k.seen };
+        keeps = record { shows = shows_again raw st.file named l m st.lists one.1 at.unit at.from refl refl k.shows; tables = k.tables; seen = seen_again s n named m (get nat_eq st.lists.seen) k.seen };
       }
 
-  pub state_more : (place : ℕ) (list : LocList) (old new : State) → list_read s place ≡ Ok list → new.refs.items ≡ old.refs.items → new.files ≡ old.files → IsAdded raw (named_list s None place list) old.lists new.lists
+  pub state_more : (place : ℕ) (list : LocList) (old new : State) → list_read s place ≡ Ok list → new.file ≡ old.file → new.refs.items ≡ old.refs.items → new.files ≡ old.files → IsAdded raw old.file (named_list s None place list) old.lists new.lists
       → ((q : ℕ) → get nat_eq new.lists.seen q ≡ cond (nat_eq place q) (Some n) (get nat_eq old.lists.seen q)) → IsState raw s n named old → HasList raw s n None place named old new
-  state_more place list old new read refs files added updates k =
+  state_more place list old new read file refs files added updates k =
       let m = named_list s None place list in
       record {
         list = list;
         read = read;
         refs = refs;
         keeps = record {
-          shows = shows_more raw named m old.lists new.lists added k.shows;
+          shows = subst (λ (f : ℕ). Shows raw f (named ++ m ∷ []) new.lists) (sym file) (shows_more raw old.file named m old.lists new.lists added k.shows);
           tables = subst (λ (f : Files). KnowTables s.around.sources f) (sym files) k.tables;
           seen = seen_more s n place named m (get nat_eq old.lists.seen) (get nat_eq new.lists.seen) (record { unit = refl; from = refl; read = read }) updates k.seen;
         };
       }
 
-  pub state_slot : (place p : ℕ) (old mid new : State) → new.refs.items ≡ mid.refs.items → new.files ≡ mid.files → new.lists.rows.items ≡ mid.lists.rows.items → new.lists.operands.items ≡ mid.lists.operands.items → new.lists.seen ≡ mid.lists.seen → new.lists.slots.items ≡ mid.lists.slots.items ++ p ∷ []
+  pub state_slot : (place p : ℕ) (old mid new : State) → new.file ≡ mid.file → new.refs.items ≡ mid.refs.items → new.files ≡ mid.files → new.lists.rows.items ≡ mid.lists.rows.items → new.lists.operands.items ≡ mid.lists.operands.items → new.lists.seen ≡ mid.lists.seen → new.lists.slots.items ≡ mid.lists.slots.items ++ p ∷ []
       → HasList raw s n None place named old mid → HasList raw s n (Some p) place named old new
-  state_slot place p old mid new refs files rows operands seen slots h =
+  state_slot place p old mid new file refs files rows operands seen slots h =
       let l = named_list s None place h.list in
       let m = named_list s (Some p) place h.list in
       record {
@@ -270,7 +270,7 @@ module _ (raw : List RawUnit) (s : Scope ℕ) (n : ℕ) (named : List NamedList)
         read = h.read;
         refs = refs ∙ h.refs;
         keeps = record {
-          shows = shows_slot raw named l m p mid.lists new.lists refl refl refl refl refl rows operands slots h.keeps.shows;
+          shows = subst (λ (f : ℕ). Shows raw f (named ++ m ∷ []) new.lists) (sym file) (shows_slot raw mid.file named l m p mid.lists new.lists refl refl refl refl refl rows operands slots h.keeps.shows);
           tables = subst (λ (f : Files). KnowTables s.around.sources f) (sym files) h.keeps.tables;
           seen = subst (λ (x : _). WereSeen s n (named ++ m ∷ []) (get nat_eq x)) (sym seen) (seen_slot s n named l m (get nat_eq mid.lists.seen) refl refl refl h.keeps.seen);
         };

@@ -9,7 +9,7 @@ use Rattle.dwz_model.specs.declared.fault.ReadErr.TheVariants.{NoMemory, Refused
 use Rattle.dwz_model.specs.declared.place.Base.{Base}
 use Rattle.dwz_model.specs.declared.place.Base.TheVariants.{Unit as FromUnit, Info as FromInfo}
 use Rattle.dwz_docs.specs.Lists.{In}
-use Rattle.dwz_docs.specs.Units.{RawUnit}
+use Rattle.dwz_docs.specs.Units.{RawUnit, entries_in}
 use Rattle.dwz_meanings.specs.declared.exprs.Operand.{Operand}
 use Rattle.dwz_meanings.specs.Exprs.{bad_operand, first_unnamed}
 use Rattle.dwz_meanings.specs.Meanings.{Scope, expr_context, leads_to, list_read, target_of}
@@ -27,9 +27,10 @@ use Rattle.dwz_resolve.specs.ListSteps.{named_list}
 use Rattle.dwz_resolve.proofs.ListStates.{IsAdded, rows_stand, small_stand, stands_here}
 use Rattle.dwz_resolve.specs.declared.operands.ListOperand.{ListOperand}
 use Rattle.dwz_resolve.specs.Apart.{Rows}
-use Rattle.dwz_resolve.specs.ListRows.{number_for, operand_view, start_of}
+use Rattle.dwz_resolve.specs.ListRows.{IsOfFile, number_for, operand_view, start_of}
 use Rattle.dwz_resolve.specs.ListSteps.{AreOperands, AreSmall, NamesRows}
 use Rattle.dwz_resolve.specs.Operands.{IsUnnamed, is_named}
+use Rattle.dwz_resolve.specs.Places.{place_at}
 use Rattle.dwz_resolve.proofs.ApartLemmas.{got_at, in_both, in_left, in_right}
 use Rattle.dwz_resolve.proofs.OperandSteps.{first_of, one_named, one_unnamed}
 use Rattle.dwz_resolve.proofs.RowLemmas.{drop_here, take_here}
@@ -46,33 +47,38 @@ view_is raw s k o start at width uleb base place =
     let number : number_for k.base (start_of raw k.unit) k.place.offset ≡ o.number = (λ i. number_for (base i) (start i) (place i)) ∙ number_is s o.base o.number in
     (λ i. record { unit = start i; operand = record { at = at i; width = width i; uleb = uleb i; base = base i; number = number i } })
 
-module _ (raw : List RawUnit) (s : Scope ℕ) (n : ℕ) (operands : List Operand) where
-  pub kept_none : (old : List ListOperand) → AreOperands raw s n (take 0 operands) old old
-  unfolding first_unnamed
-  kept_none old = record { more = []; added = sym (append-nil old); views = λ small. refl; units = λ o is. absurd is; named = refl }
+-- an operand that was kept is of the file
+pub of_file_here : (raw : List RawUnit) (file n entry : ℕ) (o : ListOperand) → n < length raw → entry < entries_in raw → o.unit ≡ n → o.entry ≡ entry → o.place.offset ≡ place_at raw entry → o.place.file ≡ file → IsOfFile raw file o
+of_file_here raw file n entry o low within unit is at of =
+    record { unit = omega arith; entry = omega arith; at = ap (place_at raw) is ∙ sym at; file = of }
 
-  pub kept_more : (old mid new : List ListOperand) (k : ℕ) (d : Operand) (x : ListOperand) → k < length operands → is_named s (get_or operands k d) ≡ true → new ≡ mid ++ x ∷ [] → x.unit ≡ n
-      → ((get_or operands k d).at < 2 ^ 32 → operand_view raw x ≡ of_unit s.unit (get_or operands k d)) → AreOperands raw s n (take k operands) old mid → AreOperands raw s n (take (k + 1) operands) old new
-  kept_more old mid new k d x lt named e unit view h =
+module _ (raw : List RawUnit) (file : ℕ) (s : Scope ℕ) (operands : List Operand) where
+  pub kept_none : (old : List ListOperand) → AreOperands raw file s (take 0 operands) old old
+  unfolding first_unnamed
+  kept_none old = record { more = []; added = sym (append-nil old); views = λ small. refl; of_file = λ o is. absurd is; named = refl }
+
+  pub kept_more : (old mid new : List ListOperand) (k : ℕ) (d : Operand) (x : ListOperand) → k < length operands → is_named s (get_or operands k d) ≡ true → new ≡ mid ++ x ∷ [] → IsOfFile raw file x
+      → ((get_or operands k d).at < 2 ^ 32 → operand_view raw x ≡ of_unit s.unit (get_or operands k d)) → AreOperands raw file s (take k operands) old mid → AreOperands raw file s (take (k + 1) operands) old new
+  kept_more old mid new k d x lt named e own view h =
       let o = get_or operands k d in
-      subst (λ (w : List Operand). AreOperands raw s n w old new) (sym (take_here operands k o (got_at operands k d lt))) (record {
+      subst (λ (w : List Operand). AreOperands raw file s w old new) (sym (take_here operands k o (got_at operands k d lt))) (record {
         more = h.more ++ x ∷ [];
         added = e ∙ ap (λ (w : List ListOperand). w ++ x ∷ []) h.added ∙ append_assoc old h.more (x ∷ []);
         views = λ small.
             map-append (operand_view raw) h.more (x ∷ [])
             ∙ (λ j. h.views (λ p is. small p (in_left p (take k operands) (o ∷ []) is)) j ++ view (small o (in_right o (take k operands) (o ∷ []) (inl refl))) j ∷ [])
             ∙ sym (map-append (of_unit s.unit) (take k operands) (o ∷ []));
-        units = λ p is. elim (in_both p h.more (x ∷ []) is) [
-          | inl here ↦ h.units p here
+        of_file = λ p is. elim (in_both p h.more (x ∷ []) is) [
+          | inl here ↦ h.of_file p here
           | inr there ↦ last p there
         ];
         named = first_of (is_named s) (take k operands) (o ∷ []) h.named ∙ one_named (is_named s) o named;
       }) where
-        last : (p : ListOperand) → In p (x ∷ []) → p.unit ≡ n
-        last p (inl same) = sym (ap (λ (y : ListOperand). y.unit) same) ∙ unit
+        last : (p : ListOperand) → In p (x ∷ []) → IsOfFile raw file p
+        last p (inl same) = subst (λ (y : ListOperand). IsOfFile raw file y) same own
         last p (inr there) = absurd there
 
-  pub kept_unnamed : (old mid : List ListOperand) (k : ℕ) (d : Operand) → k < length operands → is_named s (get_or operands k d) ≡ false → AreOperands raw s n (take k operands) old mid → IsUnnamed s 7 operands (bad_operand (expr_context s 7) (get_or operands k d).at)
+  pub kept_unnamed : (old mid : List ListOperand) (k : ℕ) (d : Operand) → k < length operands → is_named s (get_or operands k d) ≡ false → AreOperands raw file s (take k operands) old mid → IsUnnamed s 7 operands (bad_operand (expr_context s 7) (get_or operands k d).at)
   kept_unnamed old mid k d lt none h =
       let o = get_or operands k d in
       record {
@@ -82,12 +88,12 @@ module _ (raw : List RawUnit) (s : Scope ℕ) (n : ℕ) (operands : List Operand
         placed = refl;
       }
 
-  pub kept_all : (old new : List ListOperand) (k : ℕ) → length operands ≤ k → AreOperands raw s n (take k operands) old new → AreOperands raw s n operands old new
-  kept_all old new k le h = subst (λ (w : List Operand). AreOperands raw s n w old new) (take_all k operands le) h
+  pub kept_all : (old new : List ListOperand) (k : ℕ) → length operands ≤ k → AreOperands raw file s (take k operands) old new → AreOperands raw file s operands old new
+  kept_all old new k le h = subst (λ (w : List Operand). AreOperands raw file s w old new) (take_all k operands le) h
 
-pub kept_fail : (raw : List RawUnit) (s : Scope ℕ) (n : ℕ) (operands : List Operand) (old new : List ListOperand) (e : ReadErr) (f : Fault) → e ≡ Refused f → IsUnnamed s 7 operands f → NamesRows {Y = Unit {0}} raw s n operands old new (Err e)
-kept_fail raw s n operands old new NoMemory f is h = tt
-kept_fail raw s n operands old new (Refused g) f is h = let same : g ≡ f = cc in subst (λ (x : Fault). IsUnnamed s 7 operands x) (sym same) h
+pub kept_fail : (raw : List RawUnit) (file : ℕ) (s : Scope ℕ) (operands : List Operand) (old new : List ListOperand) (e : ReadErr) (f : Fault) → e ≡ Refused f → IsUnnamed s 7 operands f → NamesRows {Y = Unit {0}} raw file s operands old new (Err e)
+kept_fail raw file s operands old new NoMemory f is h = tt
+kept_fail raw file s operands old new (Refused g) f is h = let same : g ≡ f = cc in subst (λ (x : Fault). IsUnnamed s 7 operands x) (sym same) h
 
 -- ---- a list that is read
 
@@ -98,7 +104,7 @@ pub record WasRead (s : Scope ℕ) (place end : ℕ) (operands : List Operand) :
   pub ends : list.end ≡ end
   pub has : operands_of list.exprs ≡ operands
 
-module _ (raw : List RawUnit) (s : Scope ℕ) (n place : ℕ) (operands : List Operand) where
+module _ (raw : List RawUnit) (file : ℕ) (s : Scope ℕ) (place : ℕ) (operands : List Operand) where
   asks_list : (r : Result ℕ ReadErr) → (r ≡ Err NoMemory → ⊥) → WalksInto s.around.sources.lists place operands r → AreAsked s.around.sources.lists place operands
   asks_list (Ok end) some w = w.1
   asks_list (Err NoMemory) some w = absurd (some refl)
@@ -107,7 +113,7 @@ module _ (raw : List RawUnit) (s : Scope ℕ) (n place : ℕ) (operands : List O
   all_asked : AreAsked s.around.sources.lists place operands → first_unnamed (is_named s) operands ≡ None → list_read s place ≡ read_from (list_at in_lists) s.around.sources.lists place
   all_asked asks none = asks (expr_context s 7) refl ∙ ap (unless_one (expr_context s 7) (read_from (list_at in_lists) s.around.sources.lists place)) none
 
-  pub list_unnamed : (e : ReadErr) (r : Result ℕ ReadErr) (old new : List ListOperand) → (r ≡ Err NoMemory → ⊥) → WalksInto s.around.sources.lists place operands r → NamesRows {Y = Unit {0}} raw s n operands old new (Err e) → Fails e (list_read s place)
+  pub list_unnamed : (e : ReadErr) (r : Result ℕ ReadErr) (old new : List ListOperand) → (r ≡ Err NoMemory → ⊥) → WalksInto s.around.sources.lists place operands r → NamesRows {Y = Unit {0}} raw file s operands old new (Err e) → Fails e (list_read s place)
   list_unnamed NoMemory r old new some w h = tt
   list_unnamed (Refused f) r old new some w h =
       asks_list r some w (expr_context s 7) refl ∙ ap (unless_one (expr_context s 7) (read_from (list_at in_lists) s.around.sources.lists place)) h.first ∙ ap (λ (x : Fault). Err x) (sym h.placed)
@@ -125,10 +131,10 @@ module _ (raw : List RawUnit) (s : Scope ℕ) (n place : ℕ) (operands : List O
   pub list_was_read : (r : Result ℕ ReadErr) (end : ℕ) → r ≡ Ok end → WalksInto s.around.sources.lists place operands r → first_unnamed (is_named s) operands ≡ None → WasRead s place end operands
   list_was_read r end is w none = read_by end (subst (λ (x : Result ℕ ReadErr). WalksInto s.around.sources.lists place operands x) is w) none
 
-  pub list_added : (end : ℕ) (w : ListRow) (old new : Lists) (h : WasRead s place end operands) → place < length s.around.sources.lists → length s.around.sources.lists < 2 ^ 32 → n < length raw
-      → AreOperands raw s n operands old.operands.items new.operands.items → w.from ≡ place → w.end ≡ end → w.first ≡ length old.operands.items → w.last ≡ length new.operands.items
-      → new.rows.items ≡ old.rows.items ++ w ∷ [] → new.slots.items ≡ old.slots.items → IsAdded raw (named_list s None place h.list) old new
-  list_added end w old new h lt short within a from ends first last rows slots =
+  pub list_added : (end : ℕ) (w : ListRow) (old new : Lists) (h : WasRead s place end operands) → place < length s.around.sources.lists → length s.around.sources.lists < 2 ^ 32
+      → AreOperands raw file s operands old.operands.items new.operands.items → w.from ≡ place → w.end ≡ end → w.first ≡ length old.operands.items → w.last ≡ length new.operands.items
+      → new.rows.items ≡ old.rows.items ++ w ∷ [] → new.slots.items ≡ old.slots.items → IsAdded raw file (named_list s None place h.list) old new
+  list_added end w old new h lt short a from ends first last rows slots =
       let here = stands_here s place h.list lt h.read in
       let low = here.within in
       let small : AreSmall operands = subst (λ (os : List Operand). AreSmall os) h.has (small_stand (operands_of h.list.exprs) (place + 1) h.list.end (omega arith) here.stand) in
@@ -145,7 +151,7 @@ module _ (raw : List RawUnit) (s : Scope ℕ) (n place : ℕ) (operands : List O
         rows = rows;
         slots = slots;
         views = views;
-        units = λ o is. (let same = a.units o is in omega arith);
+        of_file = a.of_file;
         stand = subst (λ (p : ℕ). Rows (p + 1) a.more w.end) (sym from) (subst (λ (p : ℕ). Rows (place + 1) a.more p) (h.ends ∙ sym ends) (rows_stand raw s.unit a.more (operands_of h.list.exprs) (place + 1) h.list.end views here.stand));
       }
 

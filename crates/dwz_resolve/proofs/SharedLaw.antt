@@ -14,7 +14,7 @@ use Rattle.dwz_resolve.specs.declared.lists.ListRow.{ListRow}
 use Rattle.dwz_resolve.specs.declared.lists.Lists.{Lists}
 use Rattle.dwz_resolve.specs.declared.operands.ListOperand.{ListOperand as Row}
 use Rattle.dwz_resolve.specs.Apart.{AreWide, Before, Clash, FindsApart, Foreign, HasClash, IsCause, Rise, Rows, Same, Test, Tested, places_of_rows}
-use Rattle.dwz_resolve.specs.ListRows.{AreOfUnits, AreDistinct, IsRowOf, Shows, operand_view, own_rows, row_test, slot_test, start_of, tests_of}
+use Rattle.dwz_resolve.specs.ListRows.{AreOfFile, AreDistinct, IsRowOf, Shows, operand_view, own_rows, row_test, slot_test, start_of, tests_of}
 use Rattle.dwz_resolve.proofs.ApartLemmas.{each_behind, each_wide, in_both, in_left, in_right, in_take, one_row, same_sym, same_trans}
 
 -- ---- members
@@ -100,7 +100,7 @@ greater a b = elim (cases_lt a b) [
   | inr ge ↦ (a, omega arith, omega arith, inl refl)
 ]
 
-module _ (raw : List RawUnit) (named : List NamedList) (lists : Lists) (shows : Shows raw named lists) where
+module _ (raw : List RawUnit) (file : ℕ) (named : List NamedList) (lists : Lists) (shows : Shows raw file named lists) where
   abbrev view : Row → ListOperand
   view o = operand_view raw o
 
@@ -111,7 +111,7 @@ module _ (raw : List RawUnit) (named : List NamedList) (lists : Lists) (shows : 
   same_view o p s = record { unit = ap (start_of raw) s.unit; at = s.at; width = s.width; uleb = s.uleb; base = s.base }
 
   view_same : AreDistinct raw → (o p : Row) → In o all → In p all → IsSame (view o) (view p) → Same o p
-  view_same distinct o p is there s = record { unit = distinct o.unit p.unit (shows.units o is) (shows.units p there) s.unit; at = s.at; width = s.width; uleb = s.uleb; base = s.base }
+  view_same distinct o p is there s = record { unit = distinct o.unit p.unit (shows.of_file o is).unit (shows.of_file p there).unit s.unit; at = s.at; width = s.width; uleb = s.uleb; base = s.base }
 
   pub wide : (o : Row) → In o all → 0 < o.width
   wide o is = let w = shows.operands_of o is in each_wide (own_rows all w.0) (w.0.from + 1) w.0.end (shows.stand w.0 w.1) o w.2
@@ -329,40 +329,40 @@ module _ (raw : List RawUnit) (named : List NamedList) (lists : Lists) (shows : 
 
 -- ---- what is answered
 
-abbrev pub Answered : List RawUnit → List NamedList → List Row → Option ℕ → Type 0
-Answered raw named kept None = (none_shared named ≡ Ok tt) × AreRows named (map (operand_view raw) kept) × AreOfUnits raw kept
-Answered raw named kept (Some q) = none_shared named ≡ Err (shared_list q)
+abbrev pub Answered : List RawUnit → ℕ → List NamedList → List Row → Option ℕ → Type 0
+Answered raw file named kept None = (none_shared named ≡ Ok tt) × AreRows named (map (operand_view raw) kept) × AreOfFile raw file kept
+Answered raw file named kept (Some q) = none_shared named ≡ Err (shared_list q)
 
 no_clash : (place clash : Option ℕ) → ((n : ℕ) → Before place n → Before clash n) → place ≡ None → clash ≡ None
 no_clash place None under e = refl
 no_clash place (Some c) under e = absurd (let low = under c (subst (λ (p : Option ℕ). Before p c) (sym e) tt) in omega arith)
 
-pub shared_answer : (raw : List RawUnit) (named : List NamedList) (lists : Lists) → Shows raw named lists → AreDistinct raw → (sorted kept : List Row) → IsPermutation lists.operands.items sorted → (clash : Option ℕ) → FindsApart sorted kept clash
-    → (place : Option ℕ) → Tested sorted kept clash (tests_of lists) place → Answered raw named kept place
-shared_answer raw named lists shows distinct sorted kept moved clash apart None tested =
-    let none : NoneShared named = λ q shared. none_at raw named lists shows distinct sorted kept moved clash apart None tested q tt shared in
-    (((shared_agrees named).ok tt).1 none, are_rows raw named lists shows distinct sorted kept moved clash apart None tested (no_clash None clash tested.under refl), λ o is. shows.units o (in_unsorted lists.operands.items sorted moved o (apart.from o is)))
-shared_answer raw named lists shows distinct sorted kept moved clash apart (Some q) tested =
+pub shared_answer : (raw : List RawUnit) (file : ℕ) (named : List NamedList) (lists : Lists) → Shows raw file named lists → AreDistinct raw → (sorted kept : List Row) → IsPermutation lists.operands.items sorted → (clash : Option ℕ) → FindsApart sorted kept clash
+    → (place : Option ℕ) → Tested sorted kept clash (tests_of lists) place → Answered raw file named kept place
+shared_answer raw file named lists shows distinct sorted kept moved clash apart None tested =
+    let none : NoneShared named = λ q shared. none_at raw file named lists shows distinct sorted kept moved clash apart None tested q tt shared in
+    (((shared_agrees named).ok tt).1 none, are_rows raw file named lists shows distinct sorted kept moved clash apart None tested (no_clash None clash tested.under refl), λ o is. shows.of_file o (in_unsorted lists.operands.items sorted moved o (apart.from o is)))
+shared_answer raw file named lists shows distinct sorted kept moved clash apart (Some q) tested =
     ((shared_agrees named).err (shared_list q)).1 (record {
       place = q;
-      shared = cause_shared raw named lists shows distinct sorted kept moved clash apart (Some q) tested q tested.cause;
+      shared = cause_shared raw file named lists shows distinct sorted kept moved clash apart (Some q) tested q tested.cause;
       least = λ other shared. elim (cases_lt other q) [
-        | inl lt ↦ absurd (none_at raw named lists shows distinct sorted kept moved clash apart (Some q) tested other lt shared)
+        | inl lt ↦ absurd (none_at raw file named lists shows distinct sorted kept moved clash apart (Some q) tested other lt shared)
         | inr ge ↦ ge
       ];
       placed = refl;
     })
 
 -- what the calls of the pass say, put together
-pub pass_answer : (raw : List RawUnit) (named : List NamedList) (lists : Lists) → Shows raw named lists → AreDistinct raw → (operands sorted given begun kept seen : List Row) (clash place : Option ℕ)
+pub pass_answer : (raw : List RawUnit) (file : ℕ) (named : List NamedList) (lists : Lists) → Shows raw file named lists → AreDistinct raw → (operands sorted given begun kept seen : List Row) (clash place : Option ℕ)
     → operands ≡ lists.operands.items → IsPermutation operands sorted → Rise sorted → given ≡ sorted → begun ≡ [] → seen ≡ kept
     → (begun ≡ [] → Rise given → AreWide given → FindsApart given kept clash)
     → ((xs : List Row) (top : ℕ) → Rows 0 seen top → ((w : ListRow) → In w lists.rows.items → Rows (w.from + 1) (own_rows lists.operands.items w) w.end) → HasClash xs clash → Tested xs seen clash (tests_of lists) place)
-    → Answered raw named kept place
-pass_answer raw named lists shows distinct operands sorted given begun kept seen clash place are moved rise is none shown pass tests =
+    → Answered raw file named kept place
+pass_answer raw file named lists shows distinct operands sorted given begun kept seen clash place are moved rise is none shown pass tests =
     let mine : IsPermutation lists.operands.items sorted = subst (λ (w : List Row). IsPermutation w sorted) are moved in
-    let broad : AreWide sorted = λ o there. wide raw named lists shows o (in_unsorted lists.operands.items sorted mine o there) in
+    let broad : AreWide sorted = λ o there. wide raw file named lists shows o (in_unsorted lists.operands.items sorted mine o there) in
     let apart = pass none (subst (λ (w : List Row). Rise w) (sym is) rise) (subst (λ (w : List Row). AreWide w) (sym is) broad) in
     let apart' : FindsApart sorted kept clash = subst (λ (w : List Row). FindsApart w kept clash) is apart in
     let tested = tests sorted apart'.top (subst (λ (w : List Row). Rows 0 w apart'.top) (sym shown) apart'.rows) shows.stand apart'.clash_is in
-    shared_answer raw named lists shows distinct sorted kept mine clash apart' place (subst (λ (w : List Row). Tested sorted w clash (tests_of lists) place) shown tested)
+    shared_answer raw file named lists shows distinct sorted kept mine clash apart' place (subst (λ (w : List Row). Tested sorted w clash (tests_of lists) place) shown tested)

@@ -44,7 +44,7 @@ none_behind raw around st rows operands slots seen tables =
         slots = λ l slot is. absurd is;
         slots_of = λ slot is. absurd (no_slot slot is);
         operands_of = λ o is. absurd (no_operand o is);
-        units = λ o is. absurd (no_operand o is);
+        of_file = λ o is. absurd (no_operand o is);
         stand = λ w is. absurd (no_row w is);
       };
     }

@@ -10,3 +10,4 @@ pub mod Operands
 pub mod FileRows
 pub mod ListSteps
 pub mod Parts
+pub mod Places

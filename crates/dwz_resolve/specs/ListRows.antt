@@ -3,12 +3,13 @@ use Rattle.std.specs.Prelude.{◌≡◌, ℕ, ◌+◌, ◌-◌, ◌<◌, ◌≤�
 use Rattle.dwz_model.specs.declared.place.Base.{Base}
 use Rattle.dwz_model.specs.declared.place.Base.TheVariants.{Unit as FromUnit, Info as FromInfo}
 use Rattle.dwz_docs.specs.Lists.{In}
-use Rattle.dwz_docs.specs.Units.{RawUnit}
+use Rattle.dwz_docs.specs.Units.{RawUnit, entries_in}
 use Rattle.dwz_meanings.specs.Shared.{AreRows, ListOperand, NamedList, OneOf, none_shared, of_unit, own_operands}
 use Rattle.dwz_resolve.specs.declared.lists.ListRow.{ListRow}
 use Rattle.dwz_resolve.specs.declared.lists.Lists.{Lists}
 use Rattle.dwz_resolve.specs.declared.operands.ListOperand.{ListOperand as OperandOfCode}
 use Rattle.dwz_resolve.specs.Apart.{Rows, Test}
+use Rattle.dwz_resolve.specs.Places.{place_at}
 
 -- ---- operands
 
@@ -60,21 +61,27 @@ pub record IsRowOf (raw : List RawUnit) (operands : List OperandOfCode) (l : Nam
   pub end : w.end ≡ l.list.end
   pub own : map (operand_view raw) (own_rows operands w) ≡ map (of_unit l.unit) (own_operands l)
 
--- the unit of each is one of them
-abbrev pub AreOfUnits : List RawUnit → List OperandOfCode → Type 0
-AreOfUnits raw rows = (o : OperandOfCode) → In o rows → o.unit < length raw
+-- its unit and its entry are of the file with that number, and the entry stands at its place
+pub record IsOfFile (raw : List RawUnit) (number : ℕ) (o : OperandOfCode) : Type 0 where
+  pub unit : o.unit < length raw
+  pub entry : o.entry < entries_in raw
+  pub at : place_at raw o.entry ≡ o.place.offset
+  pub file : o.place.file ≡ number
 
--- these lists are kept, and no others
-pub record Shows (raw : List RawUnit) (named : List NamedList) (lists : Lists) : Type 0 where
+abbrev pub AreOfFile : List RawUnit → ℕ → List OperandOfCode → Type 0
+AreOfFile raw file rows = (o : OperandOfCode) → In o rows → IsOfFile raw file o
+
+-- these lists of the file with that number are kept, and no others
+pub record Shows (raw : List RawUnit) (file : ℕ) (named : List NamedList) (lists : Lists) : Type 0 where
   pub within : AreWithin lists
   pub rows : (l : NamedList) → In l named → OneOf lists.rows.items (IsRowOf raw lists.operands.items l)
   pub lists_of : (w : ListRow) → In w lists.rows.items → OneOf named (λ l. IsRowOf raw lists.operands.items l w)
   pub slots : (l : NamedList) (slot : ℕ) → In l named → l.slot ≡ Some slot → In slot lists.slots.items
   pub slots_of : (slot : ℕ) → In slot lists.slots.items → OneOf named (λ l. l.slot ≡ Some slot)
   pub operands_of : (o : OperandOfCode) → In o lists.operands.items → OneOf lists.rows.items (λ w. In o (own_rows lists.operands.items w))
-  pub units : AreOfUnits raw lists.operands.items
+  pub of_file : AreOfFile raw file lists.operands.items
   pub stand : (w : ListRow) → In w lists.rows.items → Rows (w.from + 1) (own_rows lists.operands.items w) w.end
 
 -- no list is shared, and these are the operands
-abbrev pub AreUnshared : List RawUnit → List NamedList → List OperandOfCode → Type 0
-AreUnshared raw named rows = (none_shared named ≡ Ok tt) × AreRows named (map (operand_view raw) rows) × AreOfUnits raw rows
+abbrev pub AreUnshared : List RawUnit → ℕ → List NamedList → List OperandOfCode → Type 0
+AreUnshared raw file named rows = (none_shared named ≡ Ok tt) × AreRows named (map (operand_view raw) rows) × AreOfFile raw file rows

@@ -14,6 +14,7 @@ use Rattle.dwz_resolve.specs.declared.sections.Sections.{Sections}
 use Rattle.dwz_resolve.specs.declared.state.State.{State}
 use Rattle.dwz_resolve.specs.declared.here.Here.{Here}
 use Rattle.dwz_resolve.specs.Named.{Found, found, nothing_found}
+pub use Rattle.dwz_resolve.specs.Places.{place_at, places}
 use Rattle.dwz_resolve.specs.State.{IsBehind, IsState}
 use Rattle.dwz_forms.specs.declared.raw.Raw.{Raw as RawOfCode}
 use Rattle.dwz_forms.specs.RawValues.{raw_view}
@@ -35,13 +36,6 @@ around s raw = alone (sources_view s) raw
 
 abbrev pub scope_in : Sections → List RawUnit → RawUnit → Scope ℕ
 scope_in s raw u = scope_of (around s raw) u
-
--- the places of all entries, by their numbers
-abbrev pub places : List RawUnit → List ℕ
-places raw = map (λ row. row.entry.at) (rows_of raw)
-
-abbrev pub place_at : List RawUnit → ℕ → ℕ
-place_at raw i = slice_index (places raw) i
 
 -- a value of that name and form that begins and ends there
 abbrev pub stored : ℕ → ℕ → Pair → RawOfCode → RawAttr

@@ -20,12 +20,12 @@ WereSeen s n named seen = (place number : ℕ) → seen place ≡ Some number �
 
 -- behind values of the units before the n-th, and of some of that one, whose scope this is; these lists are named
 pub record IsState (raw : List RawUnit) (s : Scope ℕ) (n : ℕ) (named : List NamedList) (st : State) : Type 0 where
-  pub shows : Shows raw named st.lists
+  pub shows : Shows raw st.file named st.lists
   pub tables : KnowTables s.around.sources st.files
   pub seen : WereSeen s n named (get nat_eq st.lists.seen)
 
 -- the same, behind the units before the n-th
 pub record IsBehind (raw : List RawUnit) (around : Around ℕ) (n : ℕ) (named : List NamedList) (st : State) : Type 0 where
-  pub shows : Shows raw named st.lists
+  pub shows : Shows raw st.file named st.lists
   pub tables : KnowTables around.sources st.files
   pub seen : (place number : ℕ) → get nat_eq st.lists.seen place ≡ Some number → number < n

@@ -109,6 +109,7 @@ pub(crate) fn add_expression(
     state: &mut State,
 ) -> Result<(), ReadErr>
     requires { here.now.end ≤ entries_in (units_of units.now) }
+    ensures file { state.new.file ≡ state.old.file }
     ensures files { state.new.files ≡ state.old.files }
     ensures goes { (u : RawUnit) (before : List NamedList) → IsHere (units_of units.now) u here.now → StateIn sections.now (units_of units.now) u here.now before state.old → Goes (units_of units.now) (StateIn sections.now (units_of units.now) u here.now) before state.old state.new result (expr_named (scope_in sections.now (units_of units.now) u) (record { at = end - length (Meanings.bytes_of (raw_view raw.now)); rest = Meanings.bytes_of (raw_view raw.now) })) }
 {

@@ -59,7 +59,9 @@ fn kept(units: &Units, file: u32, unit: u32, operand: &Operand, entry: u32) -> L
     ensures uleb { result.uleb ≡ operand.now.uleb }
     ensures base { result.base ≡ operand.now.base }
     ensures unit { result.unit ≡ unit }
+    ensures entry { result.entry ≡ entry }
     ensures place { result.place.offset ≡ place_at (units_of units.now) entry }
+    ensures file { result.place.file ≡ file }
 {
     ListOperand {
         at: operand.at.min(u32::MAX as u64) as u32,
@@ -67,6 +69,7 @@ fn kept(units: &Units, file: u32, unit: u32, operand: &Operand, entry: u32) -> L
         uleb: operand.uleb,
         unit,
         base: operand.base,
+        entry,
         place: Place {
             file,
             offset: units.entry(entry).at,
@@ -84,7 +87,7 @@ fn name_operands(
     out: &mut Vec<ListOperand>,
 ) -> Result<(), ReadErr>
     requires { here.now.end ≤ entries_in (units_of units.now) }
-    ensures { (u : RawUnit) → IsHere (units_of units.now) u here.now → NamesRows (units_of units.now) (scope_in sections.now (units_of units.now) u) here.now.number operands.now out.old.items out.new.items result }
+    ensures { (u : RawUnit) → IsHere (units_of units.now) u here.now → NamesRows (units_of units.now) file (scope_in sections.now (units_of units.now) u) operands.now out.old.items out.new.items result }
 {
     for operand in operands {
         match entry_of(units, sections, here, operand) {
@@ -105,6 +108,7 @@ fn walk(
 ) -> Result<(), ReadErr>
     requires here { here.now.end ≤ entries_in (units_of units.now) }
     requires place { place < length sections.now.lists.now }
+    ensures file { state.new.file ≡ state.old.file }
     ensures files { state.new.files ≡ state.old.files }
     ensures goes { (u : RawUnit) (before : List NamedList) → IsHere (units_of units.now) u here.now → StateIn sections.now (units_of units.now) u here.now before state.old → Walks (units_of units.now) (scope_in sections.now (units_of units.now) u) here.now.number place before state.old state.new result }
 {
@@ -156,6 +160,7 @@ fn walk_once(
 ) -> Result<(), ReadErr>
     requires here { here.now.end ≤ entries_in (units_of units.now) }
     requires place { place < length sections.now.lists.now }
+    ensures file { state.new.file ≡ state.old.file }
     ensures files { state.new.files ≡ state.old.files }
     ensures goes { (u : RawUnit) (before : List NamedList) → IsHere (units_of units.now) u here.now → StateIn sections.now (units_of units.now) u here.now before state.old → Walks (units_of units.now) (scope_in sections.now (units_of units.now) u) here.now.number place before state.old state.new result }
 {
@@ -187,6 +192,7 @@ fn add_list(
     state: &mut State,
 ) -> Result<(), ReadErr>
     requires { here.now.end ≤ entries_in (units_of units.now) }
+    ensures file { state.new.file ≡ state.old.file }
     ensures files { state.new.files ≡ state.old.files }
     ensures goes { (u : RawUnit) (before : List NamedList) → IsHere (units_of units.now) u here.now → StateIn sections.now (units_of units.now) u here.now before state.old → AddsList (units_of units.now) (scope_in sections.now (units_of units.now) u) here.now.number at place before state.old state.new result }
 {
@@ -224,6 +230,7 @@ pub(crate) fn add_offset(
     state: &mut State,
 ) -> Result<(), ReadErr>
     requires { here.now.end ≤ entries_in (units_of units.now) }
+    ensures file { state.new.file ≡ state.old.file }
     ensures files { state.new.files ≡ state.old.files }
     ensures goes { (u : RawUnit) (before : List NamedList) → IsHere (units_of units.now) u here.now → StateIn sections.now (units_of units.now) u here.now before state.old → AddsOffset (units_of units.now) (scope_in sections.now (units_of units.now) u) here.now.number name at offset before state.old state.new result }
 {
@@ -265,6 +272,7 @@ pub(crate) fn add_indexed(
     state: &mut State,
 ) -> Result<(), ReadErr>
     requires { here.now.end ≤ entries_in (units_of units.now) }
+    ensures file { state.new.file ≡ state.old.file }
     ensures files { state.new.files ≡ state.old.files }
     ensures goes { (u : RawUnit) (before : List NamedList) → IsHere (units_of units.now) u here.now → StateIn sections.now (units_of units.now) u here.now before state.old → AddsIndexed (units_of units.now) (scope_in sections.now (units_of units.now) u) here.now.number here.now.lists at index before state.old state.new result }
 {

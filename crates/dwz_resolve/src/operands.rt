@@ -15,6 +15,8 @@ pub struct ListOperand {
     pub unit: u32,
     /// What its number is counted from.
     pub base: Base,
-    /// The entry that it names.
+    /// The number in the file of the entry that it names.
+    pub entry: u32,
+    /// Where that entry stands.
     pub place: Place,
 }

@@ -5,7 +5,7 @@ ghost use Rattle.dwz_docs.specs.Faults.{Answers};
 ghost use Rattle.dwz_docs.specs.Units.{entries_in};
 ghost use Rattle.dwz_meanings.specs.NamedLists.{lists_of_units};
 ghost use Rattle.dwz_meanings.specs.Shared.{AreRows};
-ghost use Rattle.dwz_resolve.specs.ListRows.{AreOfUnits, operand_view};
+ghost use Rattle.dwz_resolve.specs.ListRows.{AreOfFile, operand_view};
 ghost use Rattle.dwz_resolve.specs.Named.{map_ok, units_refs};
 ghost use Rattle.dwz_resolve.specs.Parts.{AreParted, HaveLines};
 ghost use Rattle.dwz_resolve.specs.Resolved.{AreEntries, around, place_at};
@@ -52,7 +52,7 @@ pub fn resolve(
 ) -> Result<Resolved, ReadErr>
     ensures within { IfOk result (λ r. AreEntries (units_of units.now) r.refs.items) }
     ensures operands { IfOk result (λ r. AreRows (lists_of_units (around sections.now (units_of units.now)) (units_of units.now)) (map (operand_view (units_of units.now)) r.operands.items)) }
-    ensures units { IfOk result (λ r. AreOfUnits (units_of units.now) r.operands.items) }
+    ensures of_file { IfOk result (λ r. AreOfFile (units_of units.now) file r.operands.items) }
     ensures starts { IfOk result (λ r. AreParted (around sections.now (units_of units.now)) (units_of units.now) (entries_in (units_of units.now)) r.refs.items r.starts.items) }
     ensures lines { IfOk result (λ r. HaveLines (around sections.now (units_of units.now)) (units_of units.now) (length (units_of units.now)) r.tables.items r.lines.items) }
     ensures answers { Answers (λ r. map (place_at (units_of units.now)) r.refs.items) result (map_ok units_refs (said (around sections.now (units_of units.now)) (units_of units.now) sections.now.aranges.now)) }

@@ -206,8 +206,8 @@ fn in_order(alloc: Global, operands: &[ListOperand]) -> Result<Vec<ListOperand>,
 /// whose own it isn't, or with a slot.
 pub(crate) fn unshared(alloc: Global, lists: &Lists) -> Result<Vec<ListOperand>, ReadErr>
     requires { AreWithin lists.now }
-    ensures ok { (raw : List RawUnit) (named : List NamedList) → Shows raw named lists.now → AreDistinct raw → IfOk result (λ rows. AreUnshared raw named rows.items) }
-    ensures err { (raw : List RawUnit) (named : List NamedList) → Shows raw named lists.now → AreDistinct raw → IfErr result (λ e. Fails e (none_shared named)) }
+    ensures ok { (raw : List RawUnit) (file : ℕ) (named : List NamedList) → Shows raw file named lists.now → AreDistinct raw → IfOk result (λ rows. AreUnshared raw file named rows.items) }
+    ensures err { (raw : List RawUnit) (file : ℕ) (named : List NamedList) → Shows raw file named lists.now → AreDistinct raw → IfErr result (λ e. Fails e (none_shared named)) }
 {
     let sorted = in_order(alloc, &lists.operands)?;
     let mut kept = Vec::new(alloc);

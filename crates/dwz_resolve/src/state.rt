@@ -28,6 +28,7 @@ pub(crate) struct State {
 
 impl State {
     pub(crate) fn new(alloc: Global, file: u32) -> State
+        ensures file { result.file ≡ file }
         ensures refs { result.refs.items ≡ [] }
         ensures rows { result.lists.rows.items ≡ [] }
         ensures operands { result.lists.operands.items ≡ [] }

@@ -23,7 +23,7 @@ use Rattle.dwz_scan.specs.Values.{is_entry}
 
 -- ---- names in tops
 
-is_top : (n : ℕ) (s : Spot) → (is_in n s ≡ true) ↔ (top_in s ≡ Some n)
+pub is_top : (n : ℕ) (s : Spot) → (is_in n s ≡ true) ↔ (top_in s ≡ Some n)
 is_top n (Within t path) = (λ e. ap (λ (k : ℕ). Some k) (eqb-true t n e), λ e. eq-eqb t n (let s : t ≡ n = cc in s))
 is_top n (UnitOf u) = (λ e. absurd (false≢true e), λ e. absurd cc)
 is_top n (RootOf u) = (λ e. absurd (false≢true e), λ e. absurd cc)

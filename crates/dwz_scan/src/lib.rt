@@ -15,5 +15,6 @@ mod weight;
 pub use bind::TopRange;
 pub use into::tops_of;
 pub use laws::stand_laws;
-pub use marks::Named;
+pub use marks::{Named, mark};
 pub use scan::{mark_unit, top_binds, top_weight};
+pub use tops::add_targets;

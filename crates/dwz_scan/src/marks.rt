@@ -31,9 +31,9 @@ pub struct Named {
     pub by_uleb: Vec<bool>,
 }
 
-// Marks a top, if there is one and it is asked for.
+/// Marks the top with that number, if there is one and it is asked for.
 #[inline(always)]
-fn mark(marks: &mut Vec<bool>, asked: bool, top: Option<u32>)
+pub fn mark(marks: &mut Vec<bool>, asked: bool, top: Option<u32>)
     ensures { Marks (if_asked asked top) marks.old.items marks.new.items }
 {
     if !asked {

@@ -62,7 +62,7 @@ pub(crate) fn entries_bind(
 
 /// Adds the tops that the references of a top go into, each under the top. These are the tops of its references, one for each, where it
 /// goes into one.
-pub(crate) fn add_targets(
+pub fn add_targets(
     pairs: &mut Vec<Pair>,
     top: u32,
     into: &[Option<u32>],

@@ -8,7 +8,7 @@ use Rattle.dwz_meanings.specs.Meanings.{Sources, alone}
 use Rattle.dwz_resolve.specs.Parts.{AreParted, HaveLines}
 use Rattle.dwz_resolve.specs.Resolved.{sources_view}
 use Rattle.dwz_graph.specs.Files.{limits_view}
-use Rattle.dwz_unit.specs.Rows.{units_of}
+use Rattle.dwz_unit.specs.Rows.{Source, units_of}
 use Rattle.dwz_graph.proofs.FileLemmas.{IsGood, bytes_short, content_is, content_short, elf_fails, has_doc, machine_is, named_fail, other_machine, same_rows, too_long, units_fail}
 use Rattle.dwz_graph.proofs.file.read_file.Goals as goal
 
@@ -77,9 +77,11 @@ returns c =
       parts = subst (λ (w : Sources). AreParted (alone w raw) raw (entries_in raw) c.in_ok-resolved.resolved.refs.items c.in_ok-resolved.resolved.starts.items) same c.in_ok-resolved.ensures.starts;
       lines = subst (λ (w : Sources). HaveLines (alone w raw) raw (length raw) c.in_ok-resolved.resolved.tables.items c.in_ok-resolved.resolved.lines.items) same c.in_ok-resolved.ensures.lines;
       operands = same_rows bytes sources (units_of c.in_ok-units.units) _ same c.in_ok-resolved.ensures.operands;
-      of_units = c.in_ok-resolved.ensures.units;
+      of_file = c.in_ok-resolved.ensures.of_file;
       elf = elf.1;
+      info = ap (λ (x : Source). x.info) c.in_ok-units.ensures.source ∙ info;
       sections = same;
+      aranges = ranges;
     }
 
 pub read-requires-2-clause-info : goal.read-requires-2-clause-info

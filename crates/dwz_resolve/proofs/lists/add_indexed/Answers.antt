@@ -29,4 +29,4 @@ returns-clause-goes c = λ u before here k. (
     let g = c.in_ok-add_list.ensures.goes u before here k in
     let new : State = record c.add_list.new.state { lists = record c.add_list.new.state.lists { slots = c.push.new.self } } in
     by_slot {Y = Unit {0}} raw s n c.args.at c.args.index c.in-Some.base sl.0 x.place x.at c.args.here.now.lists before c.args.state.now new (Ok tt) c.in-Some.is sl.1 sl.3 sl.2
-    (g.0, state_slot raw s n before x.place x.at c.args.state.now c.add_list.new.state new refl refl refl refl refl c.in_ok-push.ensures.items g.1))
+    (g.0, state_slot raw s n before x.place x.at c.args.state.now c.add_list.new.state new refl refl refl refl refl refl c.in_ok-push.ensures.items g.1))

@@ -43,6 +43,7 @@ loop-i-init c =
     let h = c.here_of-here.ensures c.unit-unit.ensures in
     let none : 0 ≡ c.here_of-here.result.first - c.here_of-here.result.first = omega arith in
     record {
+      file = refl;
       goes = λ u before found k. (
           let s = scope_in c.args.sections.now raw u in
           let K = StateIn c.args.sections.now raw u c.here_of-here.result in
@@ -84,6 +85,7 @@ loop-i-preserved c =
     let row = row_there raw c.loop-i.i (omega arith) in
     let next : c.loop-i.i - c.here_of-here.result.first + 1 ≡ c.loop-i.i + 1 - c.here_of-here.result.first = omega arith in
     record {
+      file = c.in_ok-add_values.ensures.file ∙ c.loop-i.invariant.file;
       goes = λ u before found k. (
           let s = scope_in c.args.sections.now raw u in
           let K = StateIn c.args.sections.now raw u c.here_of-here.result in

@@ -1,4 +1,4 @@
-use Rattle.std.proofs.Common.{◌≡◌, ℕ, ◌+◌, [], length, Ok, refl, subst, arith}
+use Rattle.std.proofs.Common.{◌≡◌, ℕ, ◌+◌, [], length, Ok, refl, subst, ◌∙◌, arith}
 use Rattle.std.proofs.lemmas.Result.{err_from_is_err_and}
 use Rattle.dwz_unit.specs.Rows.{units_of}
 use Rattle.dwz_resolve.specs.Named.{collect, unit_named}
@@ -12,6 +12,7 @@ pub loop-n-init : goal.loop-n-init
 loop-n-init c =
     let raw = units_of c.args.units.now in
     let st = c.args.state.now in record {
+      file = refl;
       goes = λ k. adds_none raw (StateAt c.args.sections.now raw 0) (unit_named (around c.args.sections.now raw)) raw [] st st refl k;
       parts = λ k parted. parted;
     }
@@ -27,6 +28,7 @@ pub loop-n-preserved : goal.loop-n-preserved
 loop-n-preserved c =
     let raw = units_of c.args.units.now in
     let u = there raw c.loop-n.n (omega arith) in record {
+      file = c.in_ok-add_unit.ensures.file ∙ c.loop-n.invariant.file;
       goes = λ k. adds_more raw (StateAt c.args.sections.now raw c.loop-n.n) (StateAt c.args.sections.now raw (c.loop-n.n + 1)) (unit_named (around c.args.sections.now raw)) raw c.loop-n.n u.0 [] c.args.state.now c.loop-n.state c.add_unit.new.state u.1 (c.loop-n.invariant.goes k) (λ lists q. c.in_ok-add_unit.ensures.goes u.0 lists u.1 q);
       parts = λ k parted. (let g = c.loop-n.invariant.goes k in c.in_ok-add_unit.ensures.parts g.lists g.keeps (c.loop-n.invariant.parts k parted));
     }

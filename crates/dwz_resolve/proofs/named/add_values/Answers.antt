@@ -1,4 +1,4 @@
-use Rattle.std.proofs.Common.{arith, get_or, refl, subst, sym}
+use Rattle.std.proofs.Common.{arith, get_or, refl, subst, sym, ◌∙◌}
 use Rattle.std.specs.Prelude.{IsOk}
 use Rattle.std.proofs.lemmas.Result.{err_from_is_err_and}
 use Rattle.dwz_docs.specs.Entries.{RawAttr}
@@ -16,6 +16,7 @@ use Rattle.dwz_resolve.proofs.named.add_values.Goals as goal
 
 pub loop-pair-init : goal.loop-pair-init
 loop-pair-init c = record {
+  file = refl;
   reads = c.values-cursor.ensures.read;
   adds = λ u row before here found k. adds_none (units_of c.args.units.now) (StateIn c.args.sections.now (units_of c.args.units.now) u c.args.here.now) (attr_named (scope_in c.args.sections.now (units_of c.args.units.now) u)) row.entry.attrs before c.args.state.now c.args.state.now refl k;
   learns = λ row found. learns_none c.args.here.now.line c.args.state.now.files;
@@ -36,6 +37,7 @@ loop-pair-preserved c =
     let value = raw_view c.known_value-raw.result in
     let a : RawAttr = record { at = c.loop-pair.cursor.at; end = c.known_value-raw.new.cursor.at; pair = get_or pairs j no_pair; raw = value } in
     record {
+      file = c.in_ok-add_attr.ensures.file ∙ c.loop-pair.invariant.file;
       reads = λ row found. (next_read row.entry.at pairs j no_pair c.loop-pair.cursor c.known_value-raw.new.cursor value row.entry.attrs c.loop-pair-test.true (c.loop-pair.invariant.reads row found) c.known_value-raw.ensures.value).rest;
       adds = λ u row before here found k. (
           let is = (next_read row.entry.at pairs j no_pair c.loop-pair.cursor c.known_value-raw.new.cursor value row.entry.attrs c.loop-pair-test.true (c.loop-pair.invariant.reads row found) c.known_value-raw.ensures.value).is in

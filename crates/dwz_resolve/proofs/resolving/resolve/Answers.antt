@@ -9,7 +9,7 @@ use Rattle.dwz_resolve.proofs.PartSteps.{none_parted}
 use Rattle.std.proofs.lemmas.Result.{err_from_is_err_and}
 use Rattle.dwz_meanings.specs.Shared.{AreRows, NamedList}
 use Rattle.dwz_unit.specs.Rows.{units_of}
-use Rattle.dwz_resolve.specs.ListRows.{operand_view}
+use Rattle.dwz_resolve.specs.ListRows.{AreOfFile, operand_view}
 use Rattle.dwz_resolve.specs.Resolved.{AreEntries, around, place_at}
 use Rattle.dwz_resolve.proofs.Answering.{all_said, lists_fail, lists_said, said_fail, sets_fail}
 use Rattle.dwz_resolve.proofs.StateLemmas.{none_behind}
@@ -48,7 +48,7 @@ returns-in_err-operands-clause-answers c =
     let a = around c.args.sections.now raw in
     let n = c.new-state.ensures in
     let added = c.in_ok-add_units.ensures.goes (none_behind raw a c.new-state.result n.rows n.operands n.slots n.seen (n.tables a.sources)) in
-    rw (p.1, p.2) (lists_fail a raw c.args.sections.now.aranges.now (map (place_at raw) added.more) added.lists c.in_err-operands.field-0.0 added.is c.in_ok-check_ranges.ensures (c.in_err-operands.ensures.err raw added.lists added.keeps.shows (starts_distinct c.args.units.now)))
+    rw (p.1, p.2) (lists_fail a raw c.args.sections.now.aranges.now (map (place_at raw) added.more) added.lists c.in_err-operands.field-0.0 added.is c.in_ok-check_ranges.ensures (c.in_err-operands.ensures.err raw c.add_units.new.state.file added.lists added.keeps.shows (starts_distinct c.args.units.now)))
 
 pub returns-clause-within : goal.returns-clause-within
 returns-clause-within c =
@@ -65,7 +65,7 @@ returns-clause-operands c =
     let a = around c.args.sections.now raw in
     let n = c.new-state.ensures in
     let added = c.in_ok-add_units.ensures.goes (none_behind raw a c.new-state.result n.rows n.operands n.slots n.seen (n.tables a.sources)) in
-    let un = c.in_ok-operands.ensures.ok raw added.lists added.keeps.shows (starts_distinct c.args.units.now) in
+    let un = c.in_ok-operands.ensures.ok raw c.add_units.new.state.file added.lists added.keeps.shows (starts_distinct c.args.units.now) in
     subst (λ (ls : List NamedList). AreRows ls (map (operand_view raw) c.in_ok-operands.operands.items)) (sym (lists_said a raw (map (place_at raw) added.more) added.lists added.is)) un.1
 
 pub returns-clause-answers : goal.returns-clause-answers
@@ -74,7 +74,7 @@ returns-clause-answers c =
     let a = around c.args.sections.now raw in
     let n = c.new-state.ensures in
     let added = c.in_ok-add_units.ensures.goes (none_behind raw a c.new-state.result n.rows n.operands n.slots n.seen (n.tables a.sources)) in
-    let un = c.in_ok-operands.ensures.ok raw added.lists added.keeps.shows (starts_distinct c.args.units.now) in
+    let un = c.in_ok-operands.ensures.ok raw c.add_units.new.state.file added.lists added.keeps.shows (starts_distinct c.args.units.now) in
     let same = added.refs ∙ ap (λ (w : List ℕ). w ++ added.more) n.refs in
     all_said a raw c.args.sections.now.aranges.now (map (place_at raw) added.more) added.lists added.is c.in_ok-check_ranges.ensures un.0 ∙ ap (λ (w : List ℕ). Ok (map (place_at raw) w)) (sym same)
 
@@ -104,10 +104,10 @@ returns-clause-lines c =
     have_lines a raw (length raw) c.add_units.new.state.files c.add_units.new.parts.lines.items added.keeps.tables
     ((c.in_ok-add_units.ensures.parts none (none_parted c.args.sections.now raw c.new-state.result c.in_ok-parts.parts n.refs c.in_ok-parts.ensures.starts c.in_ok-parts.ensures.lines)).lines)
 
-pub returns-clause-units : goal.returns-clause-units
-returns-clause-units c =
+pub returns-clause-of_file : goal.returns-clause-of_file
+returns-clause-of_file c =
     let raw = units_of c.args.units.now in
     let a = around c.args.sections.now raw in
     let n = c.new-state.ensures in
     let added = c.in_ok-add_units.ensures.goes (none_behind raw a c.new-state.result n.rows n.operands n.slots n.seen (n.tables a.sources)) in
-    (c.in_ok-operands.ensures.ok raw added.lists added.keeps.shows (starts_distinct c.args.units.now)).2
+    subst (λ (f : ℕ). AreOfFile raw f c.in_ok-operands.operands.items) (c.in_ok-add_units.ensures.file ∙ n.file) (c.in_ok-operands.ensures.ok raw c.add_units.new.state.file added.lists added.keeps.shows (starts_distinct c.args.units.now)).2

@@ -6,7 +6,7 @@ use Rattle.dwz_graph.proofs.graph.Graph.file.Goals as goal
 
 pub index-requires : goal.index-requires
 index-requires c =
-    let many = as_many no_files_before (map (λ v. v.items) c.self.inside.contents.now) c.self.inside.files.items c.self.invariant.end c.self.invariant.are in
+    let many = as_many no_files_before 0 (map (λ v. v.items) c.self.inside.contents.now) c.self.inside.files.items c.self.invariant.end c.self.invariant.are in
     let same = ap (λ (w : List (List ℕ)). length w) c.self.view_is in
     let low = c.requires in
     omega arith
@@ -15,9 +15,9 @@ pub returns : goal.returns
 returns c = λ bytes is. (
     let contents : List (List ℕ) = map (λ v. v.items) c.self.inside.contents.now in
     let files = c.self.inside.files.items in
-    let many = as_many no_files_before contents files c.self.invariant.end c.self.invariant.are in
+    let many = as_many no_files_before 0 contents files c.self.invariant.end c.self.invariant.are in
     let same = ap (λ (w : List (List ℕ)). length w) c.self.view_is in
     let low = c.requires in
     let within : c.args.number < length files = omega arith in
-    let there = file_there no_files_before contents files c.self.invariant.end c.args.number bytes c.index.result.now c.self.invariant.are (ap (λ (w : List (List ℕ)). slice_get w c.args.number) c.self.view_is ∙ is) (found_at files c.args.number c.index.result.now within c.index.ensures) in
+    let there = file_there no_files_before 0 contents files c.self.invariant.end c.args.number bytes c.index.result.now c.self.invariant.are (ap (λ (w : List (List ℕ)). slice_get w c.args.number) c.self.view_is ∙ is) (found_at files c.args.number c.index.result.now within c.index.ensures) in
     subst (λ (w : List (List ℕ)). HasRead w c.args.number bytes c.index.result.now) c.self.view_is (record { limits = there.limits; read = there.read; there = there.there }))

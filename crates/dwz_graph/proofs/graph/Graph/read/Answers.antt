@@ -28,7 +28,7 @@ parted xs i x l e =
     ∙ ap (λ (w : Content). map content (take i xs) ++ content w ∷ map content (drop (suc i) xs)) (sym e)
 
 pub loop-number-init : goal.loop-number-init
-loop-number-init c = subst (λ (fs : List File). AreRead no_files_before [] fs (record { bytes = 536870912; entries = 16777216; machine = _ })) (sym c.new-kept.ensures.items) (sym first_limits)
+loop-number-init c = subst (λ (fs : List File). AreRead no_files_before 0 [] fs (record { bytes = 536870912; entries = 16777216; machine = _ })) (sym c.new-kept.ensures.items) (sym first_limits)
 
 pub loop-number-preserved : goal.loop-number-preserved
 loop-number-preserved c =
@@ -36,12 +36,13 @@ loop-number-preserved c =
     let i = c.loop-number.number in
     let x = c.index-files-number.result in
     let l = limits_view c.loop-number.left in
-    let read : IsRead l x.items c.in-Ok.file = subst (λ (b : List ℕ). IsRead l b c.in-Ok.file) c.as_slice.ensures.value c.in-Ok.ensures in
+    let read : IsRead l i x.items c.in-Ok.file = subst (λ (b : List ℕ). IsRead l i b c.in-Ok.file) c.as_slice.ensures.value c.in-Ok.ensures in
     let next : limits_view c.behind-left.result ≡ limits_after l x.items (units_of c.in-Ok.file.units) =
     c.behind-left.ensures (read.elf ∙ ap elf_of (sym c.as_slice-in-Ok.ensures.value)) ∙ ap (λ (b : List ℕ). limits_after l b (units_of c.in-Ok.file.units)) c.as_slice-in-Ok.ensures.value in
-    subst (λ (cs : List (List ℕ)). AreRead no_files_before cs c.push.new.self.items (limits_view c.behind-left.result)) (sym (one_more files i x (omega arith) c.index-files-number.is))
-    (subst (λ (fs : List File). AreRead no_files_before (map content (take i files) ++ x.items ∷ []) fs (limits_view c.behind-left.result)) (sym c.in_ok-push-in-Ok.ensures.items)
-    (are_more no_files_before (map content (take i files)) c.loop-number.kept.items l (limits_view c.behind-left.result) x.items c.in-Ok.file c.loop-number.invariant read (sym next)))
+    let many : i ≡ 0 + length (map content (take i files)) = omega (arith, length-map (take i files) content, length-take i files) in
+    subst (λ (cs : List (List ℕ)). AreRead no_files_before 0 cs c.push.new.self.items (limits_view c.behind-left.result)) (sym (one_more files i x (omega arith) c.index-files-number.is))
+    (subst (λ (fs : List File). AreRead no_files_before 0 (map content (take i files) ++ x.items ∷ []) fs (limits_view c.behind-left.result)) (sym c.in_ok-push-in-Ok.ensures.items)
+    (are_more no_files_before 0 (map content (take i files)) c.loop-number.kept.items l (limits_view c.behind-left.result) x.items c.in-Ok.file c.loop-number.invariant (subst (λ (n : ℕ). IsRead l n x.items c.in-Ok.file) many read) (sym next)))
 
 pub returns-in-Err-clause-answers : goal.returns-in-Err-clause-answers
 returns-in-Err-clause-answers c =
@@ -59,4 +60,4 @@ returns-clause-answers c =
     let files : List Content = c.args.files.now in
     let all : take c.loop-number.number files ≡ files = take_all c.loop-number.number files (omega arith) in
     files_read (map content files) c.loop-number.kept.items (limits_view c.loop-number.left)
-    (subst (λ (w : List Content). AreRead no_files_before (map content w) c.loop-number.kept.items (limits_view c.loop-number.left)) all c.loop-number.invariant)
+    (subst (λ (w : List Content). AreRead no_files_before 0 (map content w) c.loop-number.kept.items (limits_view c.loop-number.left)) all c.loop-number.invariant)

@@ -1,0 +1,7 @@
+pub mod ListGets
+pub mod TopRows
+pub mod FileWalk
+pub mod UnitFiles
+pub mod FileCounts
+pub mod FileRoom
+pub mod FileEntries

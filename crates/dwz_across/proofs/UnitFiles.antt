@@ -1,0 +1,65 @@
+-- The numbers of the files of units: as many as each file has units.
+use Rattle.std.proofs.Common.{◌≡◌, ℕ, zero, suc, ◌+◌, List, [], ◌∷◌, ◌++◌, length, map, Some, slice_get, Ok, refl, sym, ap, ◌∙◌, arith}
+use Rattle.std.specs.Prelude.{replicate}
+use Rattle.std.proofs.lemmas.List.{append-nil, append_assoc, map-append}
+use Rattle.dwz_meanings.specs.Documents.{Doc, DwUnit}
+use Rattle.dwz_meanings.specs.Files.{Limits, files_meaning, limits_after, no_files_before}
+use Rattle.dwz_alike.specs.Spots.{FileUnit, Spot, in_file, named, named_files, tops_among, units_of}
+use Rattle.dwz_graph.specs.declared.file.File.{File}
+use Rattle.dwz_graph.specs.Files.{AreKept, AreRead, docs_of}
+use Rattle.dwz_graph.proofs.GraphLemmas.{files_read}
+use Rattle.dwz_index.specs.declared.index.Starts.{Starts}
+use Rattle.dwz_indexes.proofs.RoomLemmas.{many_units}
+use Rattle.dwz_unit.specs.Rows.{units_of as raw_units}
+use Rattle.dwz_across.proofs.FileWalk.{first_doc}
+
+-- the number of its file for each unit; the first file has that number
+unfoldable pub files_from : ℕ → List (Doc ℕ) → List ℕ
+files_from n [] = []
+files_from n (doc ∷ docs) = replicate (length doc.units) n ++ files_from (suc n) docs
+
+one_file : (n : ℕ) (units : List (DwUnit Spot)) → map (λ f. f.file) (map (in_file n) units) ≡ replicate (length units) n
+one_file n [] = refl
+one_file n (u ∷ units) = ap (λ (w : List ℕ). n ∷ w) (one_file n units)
+
+named_long : {X Y : Type 0} (f : X → Y) (xs : List X) → length (map f xs) ≡ length xs
+named_long f [] = refl
+named_long f (x ∷ xs) = ap suc (named_long f xs)
+
+files_named : (n unit top : ℕ) (docs : List (Doc ℕ)) → map (λ f. f.file) (named_files n unit top docs) ≡ files_from n docs
+unfolding files_from named_files
+files_named n unit top [] = refl
+files_named n unit top (doc ∷ docs) =
+    map-append (λ (f : FileUnit Spot). f.file) (map (in_file n) (named unit top doc.units)) (named_files (suc n) (unit + length doc.units) (top + tops_among doc.units) docs)
+    ∙ (λ i. (one_file n (named unit top doc.units) ∙ ap (λ (k : ℕ). replicate k n) (named_long _ doc.units)) i ++ files_named (suc n) (unit + length doc.units) (top + tops_among doc.units) docs i)
+
+-- those of all units
+pub all_files : (docs : List (Doc ℕ)) → map (λ f. f.file) (units_of docs) ≡ files_from 0 docs
+all_files docs = files_named 0 0 0 docs
+
+-- those of one file more
+pub files_more : (n : ℕ) (docs : List (Doc ℕ)) (doc : Doc ℕ) → files_from n (docs ++ doc ∷ []) ≡ files_from n docs ++ replicate (length doc.units) (n + length docs)
+unfolding files_from
+files_more n [] doc = let z : n ≡ n + 0 = omega arith in append-nil (replicate (length doc.units) n) ∙ ap (replicate (length doc.units)) z
+files_more n (d ∷ docs) doc =
+    let z : suc n + length docs ≡ n + suc (length docs) = omega arith in
+    ap (λ (w : List ℕ). replicate (length d.units) n ++ w) (files_more (suc n) docs doc ∙ ap (λ (k : ℕ). files_from (suc n) docs ++ replicate (length doc.units) k) z)
+    ∙ sym (append_assoc (replicate (length d.units) n) (files_from (suc n) docs) (replicate (length doc.units) (n + suc (length docs))))
+
+doc_there : (l : Limits) (n : ℕ) (contents : List (List ℕ)) (files : List File) (left : Limits) (docs : List (Doc ℕ)) → AreRead l n contents files left → files_meaning l n contents ≡ Ok docs → (k : ℕ) (f : File) → slice_get files k ≡ Some f
+    → (doc : Doc ℕ) × (slice_get docs k ≡ Some doc) × (length (raw_units f.units) ≡ length doc.units)
+doc_there l n [] [] left docs h m k f e = absurd cc
+doc_there l n [] (y ∷ files) left docs h m k f e = absurd h
+doc_there l n (b ∷ contents) [] left docs h m k f e = absurd h
+doc_there l n (b ∷ contents) (y ∷ files) left docs h m zero f e =
+    let r = first_doc l n b contents y docs h.0 m in
+    let same : y ≡ f = cc in
+    (h.0.doc, ap (λ (w : List (Doc ℕ)). slice_get w 0) (sym r.2), ap (λ (w : File). length (raw_units w.units)) (sym same) ∙ many_units l b (raw_units y.units) h.0.doc h.0.means)
+doc_there l n (b ∷ contents) (y ∷ files) left docs h m (suc k) f e =
+    let r = first_doc l n b contents y docs h.0 m in
+    let o = doc_there (limits_after l b (raw_units y.units)) (suc n) contents files left r.0 h.1 r.1 k f e in
+    (o.0, ap (λ (w : List (Doc ℕ)). slice_get w (suc k)) (sym r.2) ∙ o.1, o.2)
+
+-- the document of a file
+pub doc_of : (contents : List (List ℕ)) (files : List File) → AreKept contents files → (k : ℕ) (f : File) → slice_get files k ≡ Some f → (doc : Doc ℕ) × (slice_get (docs_of contents) k ≡ Some doc) × (length (raw_units f.units) ≡ length doc.units)
+doc_of contents files kept k f e = doc_there no_files_before 0 contents files kept.end (docs_of contents) kept.are (files_read contents files kept.end kept.are) k f e

@@ -1,0 +1,8 @@
+pub mod ListParts
+pub mod TargetLemmas
+pub mod OwnNames
+pub mod PairLemmas
+pub mod RangeLemmas
+pub mod UnitOrder
+pub mod DraftSteps
+pub mod OutlineLemmas

@@ -1,0 +1,31 @@
+-- Parts of lists, one behind the other.
+use Rattle.std.proofs.Common.{◌≡◌, ℕ, zero, suc, ◌+◌, ◌-◌, ◌≤◌, List, [], ◌∷◌, ◌++◌, length, map, take, drop, refl, sym, ap, ◌∙◌, arith}
+use Rattle.std.specs.Prelude.{slice_range}
+use Rattle.std.proofs.lemmas.List.{drop-drop, drop-map}
+
+take_map : {X Y : Type 0} (f : X → Y) (n : ℕ) (xs : List X) → take n (map f xs) ≡ map f (take n xs)
+take_map f zero xs = refl
+take_map f (suc n) [] = refl
+take_map f (suc n) (x ∷ xs) = ap (λ w. f x ∷ w) (take_map f n xs)
+
+pub range_map : {X Y : Type 0} (f : X → Y) (xs : List X) (a b : ℕ) → slice_range (map f xs) a b ≡ map f (slice_range xs a b)
+range_map f xs a b = ap (take (b - a)) (drop-map f a xs) ∙ take_map f (b - a) (drop a xs)
+
+take_more : {X : Type 0} (m n : ℕ) (xs : List X) → take (m + n) xs ≡ take m xs ++ take n (drop m xs)
+take_more zero n xs = (let e : 0 + n ≡ n = omega arith in ap (λ (k : ℕ). take k xs) e)
+take_more (suc m) n [] = refl_nil n where
+  refl_nil : {X : Type 0} (n : ℕ) → [] {A = X} ≡ take n []
+  refl_nil zero = refl
+  refl_nil (suc n) = refl
+take_more (suc m) n (x ∷ xs) = (let e : suc m + n ≡ suc (m + n) = omega arith in ap (λ (k : ℕ). take k (x ∷ xs)) e) ∙ ap (λ w. x ∷ w) (take_more m n xs)
+
+pub range_split : {X : Type 0} (xs : List X) (a b c : ℕ) → a ≤ b → b ≤ c → slice_range xs a c ≡ slice_range xs a b ++ slice_range xs b c
+range_split {X} xs a b c low high =
+    let one : c - a ≡ (b - a) + (c - b) = omega arith in
+    let two : a + (b - a) ≡ b = omega arith in
+    ap (λ (k : ℕ). take k (drop a xs)) one
+    ∙ take_more (b - a) (c - b) (drop a xs)
+    ∙ ap (λ (w : List X). take (b - a) (drop a xs) ++ take (c - b) w) (drop-drop (b - a) a xs ∙ ap (λ (k : ℕ). drop k xs) two)
+
+pub range_none : {X : Type 0} (xs : List X) (a b : ℕ) → b ≤ a → slice_range xs a b ≡ []
+range_none xs a b le = let z : b - a ≡ 0 = omega arith in ap (λ (k : ℕ). take k (drop a xs)) z

@@ -1,5 +1,5 @@
 -- How many files, units and tops there are, and in which file a top is.
-use Rattle.std.proofs.Common.{◌≡◌, ℕ, zero, suc, ◌+◌, ◌-◌, ◌<◌, ◌≤◌, List, [], ◌∷◌, ◌++◌, length, map, Some, slice_get, Ok, refl, sym, ap, ◌∙◌, ⊎_elim, arith}
+use Rattle.std.proofs.Common.{◌≡◌, ℕ, zero, suc, ◌+◌, ◌-◌, ◌<◌, ◌≤◌, ◌⊎◌, List, [], ◌∷◌, ◌++◌, length, map, Some, slice_get, Ok, refl, sym, ap, ◌∙◌, inl, inr, arith}
 use Rattle.std.proofs.lemmas.Bool.{cases_lt}
 use Rattle.std.proofs.lemmas.List.{length-append}
 use Rattle.dwz_meanings.specs.Documents.{Doc}
@@ -123,20 +123,20 @@ unfolding named_files tops_from
 holds m s end [] [] n h ge lt = absurd (omega arith)
 holds m s end [] (x ∷ indexes) n h ge lt = absurd h
 holds m s end (d ∷ docs) [] n h ge lt = absurd h
-holds m s end (d ∷ docs) (x ∷ indexes) n h ge lt = ⊎_elim here behind (cases_lt n (s.top + tops_among d.units)) where
-  here : n < s.top + tops_among d.units → Holds s (x ∷ indexes) n
-  here less =
+holds m s end (d ∷ docs) (x ∷ indexes) n h ge lt = by (cases_lt n (s.top + tops_among d.units)) (λ le less. holds (suc m) (starts_behind s d x) end docs indexes n h.1 le less) where
+  by : (n < s.top + tops_among d.units) ⊎ (s.top + tops_among d.units ≤ n)
+      → (s.top + tops_among d.units ≤ n → n < s.top + tops_among d.units + length (tops_from (s.unit + length d.units) (s.top + tops_among d.units) (named_files (suc m) (s.unit + length d.units) (s.top + tops_among d.units) docs)) → Holds (starts_behind s d x) indexes n)
+      → Holds s (x ∷ indexes) n
+  by (inl less) more =
       let from = ap (λ (w : Starts). w.top) h.0.tops.starts_are in
       let long = tops_long s d x h.0 in
       record { file = 0; x = x; got = refl; from = omega arith; to = omega arith }
-
-  behind : s.top + tops_among d.units ≤ n → Holds s (x ∷ indexes) n
-  behind more =
+  by (inr le) more =
       let next = starts_behind s d x in
       let others = named_files (suc m) next.unit next.top docs in
       let tops = ap (λ (w : List Top). length w) (tops_behind s m d others) ∙ length-append (file_tops s m d) (tops_from next.unit next.top others) in
       let own = file_many s m d in
-      later s next x indexes n (holds (suc m) next end docs indexes n h.1 more (omega arith))
+      later s next x indexes n (more le (omega arith))
 
 pub found : (contents : List (List ℕ)) (files : List File) (indexes : List Index) (n : ℕ) → AreKept contents files → AreIndexes (docs_of contents) indexes → n < length (tops_of (units_of (docs_of contents))) → IsIn files indexes n
 found contents files indexes n kept is lt =
@@ -150,3 +150,6 @@ found contents files indexes n kept is lt =
     let to = h.to in
     let e = get_there h.x.tops (n - h.x.starts.top) (omega arith) in
     record { file = h.file; f = f.0; x = h.x; k = n - h.x.starts.top; e = e.0; file_is = f.1; index_is = h.got; top_is = e.1; number = omega arith }
+
+pub files_many : (contents : List (List ℕ)) (files : List File) → AreKept contents files → length files ≡ length (docs_of contents)
+files_many contents files kept = docs_many no_files_before contents files kept.end 0 (docs_of contents) kept.are (files_read contents files kept.end kept.are)

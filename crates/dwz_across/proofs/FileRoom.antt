@@ -59,16 +59,17 @@ entries_small l bytes raw doc e =
     let size = r.size.file in
     omega arith
 
+no_doc : (l : Limits) (n : ℕ) (d : Doc ℕ) (docs : List (Doc ℕ)) → files_meaning l n [] ≡ Ok (d ∷ docs) → ⊥
+unfolding files_meaning
+no_doc l n d docs e = cc
+
 room : (most : ℕ) (l : Limits) (contents : List (List ℕ)) (files : List File) (left : Limits) (n : ℕ) (docs : List (Doc ℕ)) (indexes : List Index) (s end : Starts) → AreRead l n contents files left → files_meaning l n contents ≡ Ok docs → AreIndexed s docs indexes end
     → s.top + l.bytes ≤ most → (k : ℕ) → (starts_from s docs indexes k).top ≤ most
 unfolding starts_from
 room most l contents files left n docs indexes s end h m is le zero = omega arith
 room most l contents files left n [] indexes s end h m is le (suc k) = omega arith
 room most l contents files left n (d ∷ docs) [] s end h m is le (suc k) = absurd is
-room most l [] [] left n (d ∷ docs) (x ∷ indexes) s end h m is le (suc k) = no_doc l n d docs m where
-  no_doc : {X : Type 0} (l : Limits) (n : ℕ) (d : Doc ℕ) (docs : List (Doc ℕ)) → files_meaning l n [] ≡ Ok (d ∷ docs) → X
-  unfolding files_meaning
-  no_doc l n d docs e = absurd cc
+room most l [] [] left n (d ∷ docs) (x ∷ indexes) s end h m is le (suc k) = absurd (no_doc l n d docs m)
 room most l [] (y ∷ files) left n (d ∷ docs) (x ∷ indexes) s end h m is le (suc k) = absurd h
 room most l (b ∷ contents) [] left n (d ∷ docs) (x ∷ indexes) s end h m is le (suc k) = absurd h
 room most l (b ∷ contents) (y ∷ files) left n (d ∷ docs) (x ∷ indexes) s end h m is le (suc k) =

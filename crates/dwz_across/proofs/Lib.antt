@@ -1,6 +1,7 @@
 pub mod ListGets
 pub mod TopRows
 pub mod FileWalk
+pub mod OwnNames
 pub mod UnitFiles
 pub mod FileCounts
 pub mod FileRoom

@@ -2,7 +2,7 @@
 use Rattle.std.proofs.Common.{◌≡◌, ℕ, suc, ◌+◌, ◌<◌, ◌≤◌, List, [], ◌∷◌, ◌++◌, length, map, refl, sym, ap, ◌∙◌, inl, inr, arith}
 use Rattle.std.proofs.lemmas.List.{append_assoc, length-append, length-map}
 use Rattle.dwz_meanings.specs.Documents.{Doc, DwUnit, unit_map}
-use Rattle.dwz_alike.specs.Spots.{FileUnit, Spot, Top, in_file, named_in, row_below, row_tops, spot_in, top_count, tops_among, tops_from}
+use Rattle.dwz_alike.specs.Spots.{FileUnit, Spot, Top, in_file, named_in, row_below, row_tops, spot_in, spots_from, top_count, tops_among, tops_from}
 use Rattle.dwz_alike.proofs.NameLists.{count_map}
 use Rattle.dwz_alike.proofs.RowLemmas.{top_of}
 use Rattle.dwz_alike.proofs.TopNumbers.{below_length}
@@ -48,16 +48,16 @@ filed_long spots file units = length-map (named_in spots units) (in_file {P = Sp
 
 module _ (s : Starts) (file : ℕ) (doc : Doc ℕ) where
   pub units_long : length (file_units s file doc) ≡ length doc.units
-  units_long = filed_long _ file doc.units
+  units_long = filed_long (spots_from s.unit s.top doc.units) file doc.units
 
   pub file_many : length (file_tops s file doc) ≡ tops_among doc.units
-  file_many = tops_many s.unit s.top (file_units s file doc) ∙ filed_count _ file doc.units
+  file_many = tops_many s.unit s.top (file_units s file doc) ∙ filed_count (spots_from s.unit s.top doc.units) file doc.units
 
   -- and of the files behind it
   pub tops_behind : (others : List (FileUnit Spot)) → tops_from s.unit s.top (file_units s file doc ++ others) ≡ file_tops s file doc ++ tops_from (s.unit + length doc.units) (s.top + tops_among doc.units) others
   tops_behind others =
       tops_two s.unit s.top (file_units s file doc) others
-      ∙ (λ i. file_tops s file doc ++ tops_from (s.unit + units_long i) (s.top + filed_count _ file doc.units i) others)
+      ∙ (λ i. file_tops s file doc ++ tops_from (s.unit + units_long i) (s.top + filed_count (spots_from s.unit s.top doc.units) file doc.units i) others)
 
 -- ---- the units that they are of
 

@@ -1,7 +1,7 @@
 -- The numbers of the files of units: as many as each file has units.
-use Rattle.std.proofs.Common.{◌≡◌, ℕ, zero, suc, ◌+◌, List, [], ◌∷◌, ◌++◌, length, map, Some, slice_get, Ok, refl, sym, ap, ◌∙◌, arith}
+use Rattle.std.proofs.Common.{◌≡◌, ℕ, zero, suc, ◌+◌, ◌≤◌, List, [], ◌∷◌, ◌++◌, length, map, take, Some, slice_get, Ok, refl, sym, ap, ◌∙◌, arith}
 use Rattle.std.specs.Prelude.{replicate}
-use Rattle.std.proofs.lemmas.List.{append-nil, append_assoc, map-append}
+use Rattle.std.proofs.lemmas.List.{append-nil, append_assoc, length-take-le, map-append, take_all, take_more}
 use Rattle.dwz_meanings.specs.Documents.{Doc, DwUnit}
 use Rattle.dwz_meanings.specs.Files.{Limits, files_meaning, limits_after, no_files_before}
 use Rattle.dwz_alike.specs.Spots.{FileUnit, Spot, in_file, named, named_files, tops_among, units_of}
@@ -12,6 +12,7 @@ use Rattle.dwz_index.specs.declared.index.Starts.{Starts}
 use Rattle.dwz_indexes.proofs.RoomLemmas.{many_units}
 use Rattle.dwz_unit.specs.Rows.{units_of as raw_units}
 use Rattle.dwz_across.proofs.FileWalk.{first_doc}
+use Rattle.dwz_across.proofs.ListGets.{got_below, got_index}
 
 -- the number of its file for each unit; the first file has that number
 unfoldable pub files_from : ℕ → List (Doc ℕ) → List ℕ
@@ -46,6 +47,9 @@ files_more n (d ∷ docs) doc =
     ap (λ (w : List ℕ). replicate (length d.units) n ++ w) (files_more (suc n) docs doc ∙ ap (λ (k : ℕ). files_from (suc n) docs ++ replicate (length doc.units) k) z)
     ∙ sym (append_assoc (replicate (length d.units) n) (files_from (suc n) docs) (replicate (length doc.units) (n + suc (length docs))))
 
+files_more_at : (docs : List (Doc ℕ)) (doc : Doc ℕ) → files_from 0 (docs ++ doc ∷ []) ≡ files_from 0 docs ++ replicate (length doc.units) (length docs)
+files_more_at docs doc = files_more 0 docs doc ∙ (let z : 0 + length docs ≡ length docs = omega arith in ap (λ (n : ℕ). files_from 0 docs ++ replicate (length doc.units) n) z)
+
 doc_there : (l : Limits) (n : ℕ) (contents : List (List ℕ)) (files : List File) (left : Limits) (docs : List (Doc ℕ)) → AreRead l n contents files left → files_meaning l n contents ≡ Ok docs → (k : ℕ) (f : File) → slice_get files k ≡ Some f
     → (doc : Doc ℕ) × (slice_get docs k ≡ Some doc) × (length (raw_units f.units) ≡ length doc.units)
 doc_there l n [] [] left docs h m k f e = absurd cc
@@ -63,3 +67,25 @@ doc_there l n (b ∷ contents) (y ∷ files) left docs h m (suc k) f e =
 -- the document of a file
 pub doc_of : (contents : List (List ℕ)) (files : List File) → AreKept contents files → (k : ℕ) (f : File) → slice_get files k ≡ Some f → (doc : Doc ℕ) × (slice_get (docs_of contents) k ≡ Some doc) × (length (raw_units f.units) ≡ length doc.units)
 doc_of contents files kept k f e = doc_there no_files_before 0 contents files kept.end (docs_of contents) kept.are (files_read contents files kept.end kept.are) k f e
+
+-- ---- file by file
+
+pub files_none : [] ≡ files_from 0 []
+unfolding files_from
+files_none = refl
+
+pub files_step : (contents : List (List ℕ)) (files : List File) → AreKept contents files → (k : ℕ) (f : File) → slice_get files k ≡ Some f → (now new : List ℕ) (count : ℕ) → now ≡ files_from 0 (take k (docs_of contents)) → count ≡ length (raw_units f.units)
+    → new ≡ now ++ replicate count k → new ≡ files_from 0 (take (k + 1) (docs_of contents))
+files_step contents files kept k f got now new count is many put =
+    let d = doc_of contents files kept k f got in
+    let docs = docs_of contents in
+    let lt = got_below docs k d.0 d.1 in
+    let long : length (take k docs) ≡ k = length-take-le k docs (omega arith) in
+    let taken : take (k + 1) docs ≡ take k docs ++ d.0 ∷ [] = take_more docs k d.0 lt ∙ ap (λ (w : Doc ℕ). take k docs ++ w ∷ []) (got_index docs k d.0 d.0 d.1) in
+    put
+    ∙ (λ i. is i ++ replicate ((many ∙ d.2) i) (sym long i))
+    ∙ sym (files_more_at (take k docs) d.0)
+    ∙ ap (files_from 0) (sym taken)
+
+pub files_end : (docs : List (Doc ℕ)) (k : ℕ) (now : List ℕ) → length docs ≤ k → now ≡ files_from 0 (take k docs) → now ≡ map (λ f. f.file) (units_of docs)
+files_end docs k now le is = is ∙ ap (files_from 0) (take_all k docs le) ∙ sym (all_files docs)

@@ -14,7 +14,6 @@ use Rattle.dwz_meanings.specs.Files.{Limits, file_meaning, files_meaning, in_fil
 use Rattle.dwz_docs.specs.Units.{RawUnit, entries_in}
 use Rattle.dwz_graph.specs.declared.file.File.{File}
 use Rattle.dwz_graph.specs.Files.{AreRead, FilesFail, HasFile, IsRead, docs_of, or_none, refused_file}
-use Rattle.dwz_resolve.specs.ListRows.{AreOfFile}
 use Rattle.dwz_unit.specs.Rows.{units_of}
 
 abbrev after_docs : List (Doc ℕ) → Result (List (Doc ℕ)) Refusal → Result (List (Doc ℕ)) Refusal
@@ -108,42 +107,23 @@ as_many l n [] (f ∷ fs) end h = absurd h
 as_many l n (b ∷ xs) [] end h = absurd h
 as_many l n (b ∷ xs) (f ∷ fs) end h = let rest = as_many (limits_after l b (units_of f.units)) (suc n) xs fs end h.1 in omega arith
 
-pub record IsFileThere (l : Limits) (n : ℕ) (xs : List (List ℕ)) (i : ℕ) (b : List ℕ) (f : File) : Type 0 where
+pub record IsFileThere (l : Limits) (number : ℕ) (xs : List (List ℕ)) (i : ℕ) (b : List ℕ) (f : File) : Type 0 where
   pub limits : Limits
-  pub read : IsRead limits (n + i) b f
+  pub read : IsRead limits number b f
   pub there : HasFile l xs i limits b (units_of f.units) read.doc
 
-pub file_there : (l : Limits) (n : ℕ) (xs : List (List ℕ)) (fs : List File) (end : Limits) (i : ℕ) (b : List ℕ) (f : File) → AreRead l n xs fs end → slice_get xs i ≡ Some b → slice_get fs i ≡ Some f → IsFileThere l n xs i b f
-file_there l n [] fs end i b f h e g = absurd cc
-file_there l n (x ∷ xs) [] end i b f h e g = absurd h
-file_there l n (x ∷ xs) (y ∷ fs) end zero b f h e g =
+pub file_there : (l : Limits) (n : ℕ) (xs : List (List ℕ)) (fs : List File) (end : Limits) (i number : ℕ) (b : List ℕ) (f : File) → number ≡ n + i → AreRead l n xs fs end → slice_get xs i ≡ Some b → slice_get fs i ≡ Some f → IsFileThere l number xs i b f
+file_there l n [] fs end i number b f at h e g = absurd cc
+file_there l n (x ∷ xs) [] end i number b f at h e g = absurd h
+file_there l n (x ∷ xs) (y ∷ fs) end zero number b f at h e g =
     let same : x ≡ b = cc in
     let one : y ≡ f = cc in
-    let none : n ≡ n + 0 = omega arith in
-    let r : IsRead l (n + 0) b f = subst (λ (k : ℕ). IsRead l k b f) none (subst (λ (w : File). IsRead l n b w) one (subst (λ (w : List ℕ). IsRead l n w y) same h.0)) in
+    let here : n ≡ number = omega arith in
+    let r : IsRead l number b f = subst (λ (k : ℕ). IsRead l k b f) here (subst (λ (w : File). IsRead l n b w) one (subst (λ (w : List ℕ). IsRead l n w y) same h.0)) in
     record { limits = l; read = r; there = (refl, same, ap (file_meaning l) same ∙ r.means) }
-file_there l n (x ∷ xs) (y ∷ fs) end (suc i) b f h e g =
-    let next : suc n + i ≡ n + suc i = omega arith in
-    let r = file_there (limits_after l x (units_of y.units)) (suc n) xs fs end i b f h.1 e g in
-    let k = r.read in
-    record {
-      limits = r.limits;
-      read = record {
-        doc = k.doc;
-        means = k.means;
-        named = k.named;
-        within = k.within;
-        parts = k.parts;
-        lines = k.lines;
-        operands = k.operands;
-        of_file = subst (λ (m : ℕ). AreOfFile (units_of f.units) m f.resolved.operands.items) next k.of_file;
-        elf = k.elf;
-        info = k.info;
-        sections = k.sections;
-        aranges = k.aranges;
-      };
-      there = (units_of y.units, h.0.doc, h.0.means, r.there);
-    }
+file_there l n (x ∷ xs) (y ∷ fs) end (suc i) number b f at h e g =
+    let r = file_there (limits_after l x (units_of y.units)) (suc n) xs fs end i number b f (omega arith) h.1 e g in
+    record { limits = r.limits; read = r.read; there = (units_of y.units, h.0.doc, h.0.means, r.there) }
 
 units_in : List RawUnit → Result (List RawUnit × Doc ℕ) Fault → List RawUnit
 units_in other (Ok x) = x.0

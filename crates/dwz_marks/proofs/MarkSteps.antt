@@ -175,7 +175,7 @@ files_next units own test count upto old new part h m = record {
       ));
 }
 
-same_bool : (a b : Bool) → (a ≡ true) ↔ (b ≡ true) → a ≡ b
+pub same_bool : (a b : Bool) → (a ≡ true) ↔ (b ≡ true) → a ≡ b
 same_bool true true h = refl
 same_bool true false h = sym (h.0 refl)
 same_bool false true h = h.1 refl

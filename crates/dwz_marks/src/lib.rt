@@ -3,7 +3,5 @@
 
 mod lists;
 mod marks;
-mod spaces;
 
 pub use marks::named_tops;
-pub use spaces::pinned_spaces;

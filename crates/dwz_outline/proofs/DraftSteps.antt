@@ -1,8 +1,8 @@
 -- What is known of the tops that are gathered, after one more.
-use Rattle.std.proofs.Common.{◌≡◌, ◌≢◌, ◌⊎◌, ℕ, zero, suc, ◌+◌, ◌<◌, ◌≤◌, Bool, true, false, All, List, [], ◌∷◌, ◌++◌, length, map, min, Option, Some, None, slice_get, refl, sym, ap, subst, ◌∙◌, inl, inr, ⊎_elim, arith}
-use Rattle.std.specs.Prelude.{◌||◌, slice_index, slice_index_or, slice_range}
+use Rattle.std.proofs.Common.{◌≡◌, ◌≢◌, ◌⊎◌, ℕ, zero, suc, ◌+◌, ◌<◌, ◌≤◌, Bool, true, false, All, List, [], ◌∷◌, ◌++◌, length, map, min, Option, Some, None, Result, Ok, Err, slice_get, refl, sym, ap, subst, ◌∙◌, inl, inr, ⊎_elim, arith}
+use Rattle.std.specs.Prelude.{◌||◌, IfOk, slice_index, slice_index_or, slice_range}
 use Rattle.std.proofs.lemmas.Bool.{cases_lt}
-use Rattle.std.proofs.lemmas.List.{length-append}
+use Rattle.std.proofs.lemmas.List.{length-append, length-map}
 use Rattle.dwz_alike.specs.Alike.{any_in, binds_itself, entry_binds, is_named}
 use Rattle.dwz_alike.specs.Spots.{Spot, Top, Within, tops_among, tops_of, units_of}
 use Rattle.dwz_alike.specs.Targets.{targets_of}
@@ -23,20 +23,22 @@ use Rattle.dwz_marks.specs.Named.{AreNamed}
 use Rattle.dwz_meanings.specs.Documents.{Doc}
 use Rattle.dwz_meanings.specs.Files.{around_of}
 use Rattle.dwz_moving.specs.Gain.{top_weight}
+use Rattle.dwz_resolve.specs.Parts.{AreParted}
 use Rattle.dwz_resolve.specs.Resolved.{place_at}
+use Rattle.dwz_resolve.proofs.RowLemmas.{rows-length}
 use Rattle.dwz_same.specs.After.{at_file, name_in}
 use Rattle.dwz_scan.specs.Bound.{some_of, somes, target_of}
 use Rattle.dwz_scan.specs.Known.{KnowsRefs, StandsAt, tops_of_refs}
 use Rattle.dwz_scan.specs.Weights.{capped}
 use Rattle.dwz_unit.specs.declared.rows.RawEntry.{RawEntry}
-use Rattle.dwz_unit.specs.Rows.{shown_entries, units_of as raw_units}
+use Rattle.dwz_unit.specs.Rows.{entry_shown, rows_of, shown_entries, units_of as raw_units}
 use Rattle.dwz_across.specs.Across.{IsFileAmong, IsTopOf, file_tops, name_at}
-use Rattle.dwz_across.proofs.ListGets.{got_below}
+use Rattle.dwz_across.proofs.ListGets.{get_there, got_below}
 use Rattle.dwz_across.proofs.TopRows.{file_many}
 use Rattle.dwz_outline.specs.declared.draft.Draft.{Draft}
 use Rattle.dwz_outline.specs.Drafts.{AreInto, IsDraft, IsGathered, IsRowOf, pairs_from}
 use Rattle.dwz_outline.proofs.ListParts.{range_map}
-use Rattle.dwz_outline.proofs.OwnNames.{Own, names_own}
+use Rattle.dwz_across.proofs.OwnNames.{Own, names_own}
 use Rattle.dwz_outline.proofs.PairLemmas.{pairs_more}
 use Rattle.dwz_outline.proofs.TargetLemmas.{starts_end, starts_rise, targets_there}
 
@@ -103,6 +105,10 @@ one_more docs n old new t row b ts there is d rows binds pairs =
 
 -- ---- a top of a file
 
+pub if_ok : {X E : Type 0} (r : Result X E) (P Q : X → Type 0) → ((x : X) → P x → Q x) → IfOk r P → IfOk r Q
+if_ok (Ok x) P Q f h = f x h
+if_ok (Err e) P Q f h = h
+
 weight_is : (w exact : ℕ) → w ≡ capped exact → IsWeight w exact
 weight_is w exact e = ⊎_elim (λ lt. inl (omega arith)) (λ ge. inr (omega arith, ge)) (cases_lt exact 64)
 
@@ -125,6 +131,9 @@ module _ (contents : List (List ℕ)) (number : ℕ) (bytes : List ℕ) (f : Fil
 
   pub knows : (into : List (Option ℕ)) → AreInto contents number bytes f x is into → KnowsRefs (around_of bytes raw) raw name f.resolved.refs.items f.resolved.starts.items into
   knows into e = record { parted = is.kept.read.parts; entries = is.kept.read.within; into_are = e }
+
+  pub knows_at : (into : List (Option ℕ)) → AreInto contents number bytes f x is into → (starts : List ℕ) → starts ≡ f.resolved.starts.items → KnowsRefs (around_of bytes raw) raw name f.resolved.refs.items starts into
+  knows_at into e starts same = record { parted = subst (λ (w : List ℕ). AreParted (around_of bytes raw) raw (entries_in raw) f.resolved.refs.items w) (sym same) is.kept.read.parts; entries = is.kept.read.within; into_are = e }
 
   pub knows_own : KnowsRefs (around_of bytes raw) raw name f.resolved.refs.items f.resolved.starts.items (tops_of_refs name raw f.resolved.refs.items)
   knows_own = knows (tops_of_refs name raw f.resolved.refs.items) refl
@@ -150,6 +159,13 @@ module _ (contents : List (List ℕ)) (number : ℕ) (bytes : List ℕ) (f : Fil
 
     pub stands_so : (r : RawEntry) (end : ℕ) → slice_get (shown_entries raw) top.entry ≡ Some r → r.end ≡ end → StandsAt (around_of bytes raw) name raw doc.units number x.starts.unit t top.entry end
     stands_so r end shown e = subst (λ (n : ℕ). StandsAt (around_of bytes raw) name raw doc.units number x.starts.unit t top.entry n) e (top_is.stands r shown)
+
+    pub stands_end : (end : ℕ) → ((r : RawEntry) → slice_get (shown_entries raw) top.entry ≡ Some r → r.end ≡ end) → StandsAt (around_of bytes raw) name raw doc.units number x.starts.unit t top.entry end
+    stands_end end ends =
+        let len = length-map (rows_of raw) entry_shown ∙ rows-length raw in
+        let low = top_is.within in
+        let r = get_there (shown_entries raw) top.entry (omega arith) in
+        stands_so r.0 end r.1 (ends r.0 r.1)
 
     pub number_low : t.number < length (tops_of (units_of docs))
     number_low = (let lt = got_below (tops_of (units_of docs)) (x.starts.top + k) t top_is.there in let e = top_is.number in omega arith)

@@ -1,6 +1,5 @@
 pub mod ListParts
 pub mod TargetLemmas
-pub mod OwnNames
 pub mod PairLemmas
 pub mod RangeLemmas
 pub mod UnitOrder

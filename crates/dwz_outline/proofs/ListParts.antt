@@ -1,7 +1,7 @@
 -- Parts of lists, one behind the other.
 use Rattle.std.proofs.Common.{◌≡◌, ℕ, zero, suc, ◌+◌, ◌-◌, ◌≤◌, List, [], ◌∷◌, ◌++◌, length, map, take, drop, refl, sym, ap, ◌∙◌, arith}
-use Rattle.std.specs.Prelude.{slice_range}
-use Rattle.std.proofs.lemmas.List.{drop-drop, drop-map}
+use Rattle.std.specs.Prelude.{replicate, slice_range}
+use Rattle.std.proofs.lemmas.List.{append_assoc, drop-drop, drop-map, replicate-append-replicate}
 
 take_map : {X Y : Type 0} (f : X → Y) (n : ℕ) (xs : List X) → take n (map f xs) ≡ map f (take n xs)
 take_map f zero xs = refl
@@ -29,3 +29,8 @@ range_split {X} xs a b c low high =
 
 pub range_none : {X : Type 0} (xs : List X) (a b : ℕ) → b ≤ a → slice_range xs a b ≡ []
 range_none xs a b le = let z : b - a ≡ 0 = omega arith in ap (λ (k : ℕ). take k (drop a xs)) z
+
+-- one number more
+pub one_more_of : (n : ℕ) (old now new : List ℕ) (k : ℕ) → now ≡ old ++ replicate k n → new ≡ now ++ n ∷ [] → new ≡ old ++ replicate (k + 1) n
+one_more_of n old now new k e f =
+    f ∙ ap (λ (w : List ℕ). w ++ n ∷ []) e ∙ append_assoc old (replicate k n) (n ∷ []) ∙ ap (λ (w : List ℕ). old ++ w) (replicate-append-replicate k 1 n)

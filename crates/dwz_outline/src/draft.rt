@@ -126,10 +126,10 @@ fn put_top(
     ensures { (contents : List (List ℕ)) (bytes : List ℕ) (x : Index) (is : IsFileAmong contents number bytes file.now x) (k : ℕ) (t : Top) → IsTopOf contents number bytes file.now x is.kept.read.doc k top t → n ≡ t.number → AreInto contents number bytes file.now x is into.now → HasTops (tops_of (units_of (docs_of contents))) t.unit own.now → AreNamed (units_of (docs_of contents)) named.now → slice_get (tops_of (units_of (docs_of contents))) n ≡ Some t → IsDraft (docs_of contents) n draft.old → OnOk result (IsDraft (docs_of contents) (n + 1) draft.new) }
 {
     let end = file.units.entry(top.entry).end;
-    let binds = binds(file, own, into, n, top, end, named, operands)?;
+    let bound = binds(file, own, into, n, top, end, named, operands)?;
     draft.rows.push(row_of(file, number, n, top, end, named))?;
-    draft.binds.push(binds)?;
-    if !binds {
+    draft.binds.push(bound)?;
+    if !bound {
         let starts = file.resolved.starts.as_slice();
         add_targets(&mut draft.pairs, n, part(into, starts, top.entry, end))?;
     }

@@ -12,7 +12,7 @@ use crate::draft::gathered;
 use dwz_graph::Graph;
 use dwz_groups::{TopRow, TopRows, Tops, group};
 use dwz_index::Index;
-use dwz_marks::{named_tops, pinned_spaces};
+use dwz_marks::named_tops;
 use dwz_model::{NoMemory, Numbers};
 use dwz_move::movable_by;
 use std::alloc::Global;
@@ -21,7 +21,6 @@ use std::alloc::Global;
 #[derive(Drop)]
 pub struct Outline {
     pub tops: Tops,
-    pub pinned_spaces: Vec<bool>,
 }
 
 // Appends a number, so often.
@@ -75,9 +74,5 @@ pub fn outline(alloc: Global, graph: &Graph, indexes: &[Index]) -> Result<Outlin
         files_of_units: Numbers::new(files_of_units),
         files: graph.files().len() as u32,
     };
-    let pinned_spaces = pinned_spaces(alloc, graph, indexes)?;
-    Ok(Outline {
-        tops,
-        pinned_spaces,
-    })
+    Ok(Outline { tops })
 }

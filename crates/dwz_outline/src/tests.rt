@@ -162,7 +162,6 @@ fn operands_of_lists_bind_and_pin(rt: HostRuntime) -> Result<(), Fail> {
         (70, 1, 29, true, false),
     ];
     assert_rows(&rt, &outline, &rows, &[&[], &[], &[], &[]]);
-    assert_eq!(rt; outline.pinned_spaces.len(), 0);
     Ok(())
 }
 
@@ -187,6 +186,5 @@ fn tops_in_spaces(rt: HostRuntime) -> Result<(), Fail> {
     ];
     assert_rows(&rt, &outline, &rows, &[&[], &[], &[], &[], &[], &[]]);
     assert_eq!(rt; outline.tops.files_of_units.as_slice(), [0, 0, 1, 1].as_slice());
-    assert_eq!(rt; outline.pinned_spaces.as_slice(), [false, false, false, false].as_slice());
     Ok(())
 }

@@ -62,11 +62,7 @@ pub(crate) fn entries_bind(
 
 /// Adds the tops that the references of a top go into, each under the top. These are the tops of its references, one for each, where it
 /// goes into one.
-pub fn add_targets(
-    pairs: &mut Vec<Pair>,
-    top: u32,
-    into: &[Option<u32>],
-) -> Result<(), NoMemory>
+pub fn add_targets(pairs: &mut Vec<Pair>, top: u32, into: &[Option<u32>]) -> Result<(), NoMemory>
     ensures { OnOk result (pairs.new.items ≡ pairs.old.items ++ map (target_of top) (somes into.now)) }
 {
     for target in into {

@@ -19,5 +19,5 @@ returns c = λ bytes is. (
     let same = ap (λ (w : List (List ℕ)). length w) c.self.view_is in
     let low = c.requires in
     let within : c.args.number < length files = omega arith in
-    let there = file_there no_files_before 0 contents files c.self.invariant.end c.args.number bytes c.index.result.now c.self.invariant.are (ap (λ (w : List (List ℕ)). slice_get w c.args.number) c.self.view_is ∙ is) (found_at files c.args.number c.index.result.now within c.index.ensures) in
+    let there = file_there no_files_before 0 contents files c.self.invariant.end c.args.number c.args.number bytes c.index.result.now (omega arith) c.self.invariant.are (ap (λ (w : List (List ℕ)). slice_get w c.args.number) c.self.view_is ∙ is) (found_at files c.args.number c.index.result.now within c.index.ensures) in
     subst (λ (w : List (List ℕ)). HasRead w c.args.number bytes c.index.result.now) c.self.view_is (record { limits = there.limits; read = there.read; there = there.there }))

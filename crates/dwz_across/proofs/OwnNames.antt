@@ -39,35 +39,39 @@ in_first unit units top tops p s xs h k x (inr later) = k x later
 
 entries_own : (unit units top tops : ℕ) (name : List ℕ → Spot) → ((path : List ℕ) → Own unit units top tops (name path)) → (path : List ℕ) (i : ℕ) (f : Entries ℕ) → OwnAll unit units top tops (entry_spots name path i f)
 unfolding entry_spots
-entries_own unit units top tops name all path i End x there = absurd there
+entries_own unit units top tops name all path i End = λ x there. absurd there
 entries_own unit units top tops name all path i (Entry e c n) =
-    in_first unit units top tops e.at (name (i ∷ path)) _ (all (i ∷ path))
+    in_first unit units top tops e.at (name (i ∷ path)) (entry_spots name (i ∷ path) 0 c ++ entry_spots name path (suc i) n) (all (i ∷ path))
     (in_two unit units top tops (entry_spots name (i ∷ path) 0 c) (entry_spots name path (suc i) n) (entries_own unit units top tops name all (i ∷ path) 0 c) (entries_own unit units top tops name all path (suc i) n))
 
 tops_own : (unit top tops : ℕ) (path : List ℕ) (i n : ℕ) (f : Entries ℕ) → top ≤ n → n + tops_under f ≤ top + tops → OwnAll unit 1 top tops (top_spots unit path i n f)
 unfolding top_spots tops_under
-tops_own unit top tops path i n End low high x there = absurd there
-tops_own unit top tops path i n (Entry e c r) low high = by (space_text e) refl high where
-  by : (o : Option (List ℕ)) → space_text e ≡ o → n + elim o as (λ _. ℕ) [ None ↦ suc (tops_under r) | Some text ↦ tops_under c + tops_under r ] ≤ top + tops → OwnAll unit 1 top tops (top_spots unit path i n (Entry e c r))
-  by None h le = subst (OwnAll unit 1 top tops) (sym (spots_top unit path i n e c r h))
-      (in_first unit 1 top tops e.at (Within n []) _ (low, omega arith)
-      (in_two unit 1 top tops (entry_spots (Within n) [] 0 c) (top_spots unit path (suc i) (suc n) r)
-      (entries_own unit 1 top tops (Within n) (λ q. (low, (let z : n < top + tops = omega arith in z))) [] 0 c)
-      (tops_own unit top tops path (suc i) (suc n) r (omega arith) (omega arith))))
-  by (Some text) h le = subst (OwnAll unit 1 top tops) (sym (spots_space unit path i n e c r text h))
-      (in_first unit 1 top tops e.at (SpaceAt unit (i ∷ path)) _ (omega arith, omega arith)
-      (in_two unit 1 top tops (top_spots unit (i ∷ path) 0 n c) (top_spots unit path (suc i) (n + tops_under c) r)
-      (tops_own unit top tops (i ∷ path) 0 n c low (omega arith))
-      (tops_own unit top tops path (suc i) (n + tops_under c) r (omega arith) (omega arith))))
+tops_own unit top tops path i n End low high = λ x there. absurd there
+tops_own unit top tops path i n (Entry e c r) low high =
+    by (space_text e) refl high (λ le. tops_own unit top tops path (suc i) (suc n) r (omega arith) le) (λ le. tops_own unit top tops (i ∷ path) 0 n c low le) (λ le. tops_own unit top tops path (suc i) (n + tops_under c) r (omega arith) le)
+  where
+    by : (o : Option (List ℕ)) → space_text e ≡ o → n + elim o as (λ _. ℕ) [ None ↦ suc (tops_under r) | Some text ↦ tops_under c + tops_under r ] ≤ top + tops
+        → (suc n + tops_under r ≤ top + tops → OwnAll unit 1 top tops (top_spots unit path (suc i) (suc n) r))
+        → (n + tops_under c ≤ top + tops → OwnAll unit 1 top tops (top_spots unit (i ∷ path) 0 n c))
+        → (n + tops_under c + tops_under r ≤ top + tops → OwnAll unit 1 top tops (top_spots unit path (suc i) (n + tops_under c) r))
+        → OwnAll unit 1 top tops (top_spots unit path i n (Entry e c r))
+    by None h le next inner after = subst (OwnAll unit 1 top tops) (sym (spots_top unit path i n e c r h))
+        (in_first unit 1 top tops e.at (Within n []) (entry_spots (Within n) [] 0 c ++ top_spots unit path (suc i) (suc n) r) (low, omega arith)
+        (in_two unit 1 top tops (entry_spots (Within n) [] 0 c) (top_spots unit path (suc i) (suc n) r)
+        (entries_own unit 1 top tops (Within n) (λ q. (low, (let z : n < top + tops = omega arith in z))) [] 0 c)
+        (next (omega arith))))
+    by (Some text) h le next inner after = subst (OwnAll unit 1 top tops) (sym (spots_space unit path i n e c r text h))
+        (in_first unit 1 top tops e.at (SpaceAt unit (i ∷ path)) (top_spots unit (i ∷ path) 0 n c ++ top_spots unit path (suc i) (n + tops_under c) r) (omega arith, omega arith)
+        (in_two unit 1 top tops (top_spots unit (i ∷ path) 0 n c) (top_spots unit path (suc i) (n + tops_under c) r) (inner (omega arith)) (after (omega arith))))
 
 below_own : (unit top : ℕ) (k : Kind ℕ) (f : Entries ℕ) → OwnAll unit 1 top (top_count k f) (below_spots unit top k f)
 below_own unit top Compile f = tops_own unit top (tops_under f) [] 0 top f (omega arith) (omega arith)
 below_own unit top (OfType signature main) f = entries_own unit 1 top 0 (InType unit) (λ path. (omega arith, omega arith)) [] 0 f
-below_own unit top Partial f x there = absurd there
+below_own unit top Partial f = λ x there. absurd there
 
 spots_own : (unit top : ℕ) (units : List (DwUnit ℕ)) → OwnAll unit (length units) top (tops_among units) (spots_from unit top units)
 unfolding spots_from tops_among
-spots_own unit top [] x there = absurd there
+spots_own unit top [] = λ x there. absurd there
 spots_own unit top (u ∷ units) =
     let count = top_count u.kind u.below in
     let all = suc (length units) in
@@ -75,8 +79,8 @@ spots_own unit top (u ∷ units) =
     let rest = spots_from (suc unit) (top + count) units in
     let own : OwnAll unit all top tops (below_spots unit top u.kind u.below) = λ x there. own_more unit 1 top count unit all top tops (omega arith) (omega arith) (omega arith) (omega arith) x.1 (below_own unit top u.kind u.below x there) in
     let more : OwnAll unit all top tops rest = λ x there. own_more (suc unit) (length units) (top + count) (tops_among units) unit all top tops (omega arith) (omega arith) (omega arith) (omega arith) x.1 (spots_own (suc unit) (top + count) units x there) in
-    in_first unit all top tops u.at (UnitOf unit) _ tt
-    (in_first unit all top tops u.root.at (RootOf unit) _ (omega arith, omega arith)
+    in_first unit all top tops u.at (UnitOf unit) ((u.root.at, RootOf unit) ∷ (below_spots unit top u.kind u.below ++ rest)) tt
+    (in_first unit all top tops u.root.at (RootOf unit) (below_spots unit top u.kind u.below ++ rest) (omega arith, omega arith)
     (in_two unit all top tops (below_spots unit top u.kind u.below) rest own more))
 
 found_own : (unit units top tops : ℕ) (spots : List (ℕ × Spot)) → OwnAll unit units top tops spots → (p : ℕ) → Own unit units top tops (spot_in spots p)

@@ -1,6 +1,7 @@
 pub mod ListFacts
 pub mod ExprLemmas
 pub mod ListLemmas
+pub mod PathLemmas
 pub mod PlainLemmas
 pub mod TargetLemmas
 pub mod RefLemmas

@@ -1,8 +1,7 @@
 -- A location list that a value names is the one that is read where nothing is asked of operands.
-use Rattle.std.proofs.Common.{◌≡◌, ℕ, Bool, true, false, List, ◌∷◌, ◌++◌, length, map, Result, Ok, Err, refl, sym, ap, subst, ◌∙◌}
+use Rattle.std.proofs.Common.{◌≡◌, ℕ, ◌<◌, Bool, true, false, List, ◌++◌, length, map, Option, Some, None, Result, Ok, Err, refl, sym, ap, subst, ◌∙◌}
+use borrow.Author.Tests.{ltb-true}
 use Rattle.std.specs.Prelude.{if◌then◌else◌, nat_lt}
-use Rattle.std.specs.List.{flat_map}
-use Rattle.std.proofs.lemmas.List.{append_assoc, length-map}
 use Rattle.dwz_bytes.specs.Reading.{◌>>=◌}
 use Rattle.dwz_docs.specs.Entries.{RawAttr}
 use Rattle.dwz_docs.specs.Faults.{info_fault}
@@ -10,18 +9,21 @@ use Rattle.dwz_docs.proofs.PartLemmas.{bind_ok}
 use Rattle.dwz_bare.specs.declared.named.Named.TheVariants.{Kept}
 use Rattle.dwz_bare.specs.Plain.{TellsPlain}
 use Rattle.dwz_bare.proofs.ExprLemmas.{asked_is}
-use Rattle.dwz_label.specs.Labels.{number, parts_label}
-use Rattle.dwz_lists.specs.FirstFault.{WalksInto}
+use Rattle.dwz_expr.specs.FirstFault.{unless_one}
+use Rattle.dwz_label.specs.Labels.{plain_label}
+use Rattle.dwz_lists.specs.FirstFault.{AreAsked, WalksInto}
 use Rattle.dwz_lists.specs.Gathering.{in_lists}
 use Rattle.dwz_meanings.specs.declared.exprs.Operand.{Operand}
-use Rattle.dwz_meanings.specs.Documents.{Value}
-use Rattle.dwz_meanings.specs.Exprs.{first_unnamed, parts_of}
+use Rattle.dwz_meanings.specs.Documents.{Loc, Value}
+use Rattle.dwz_meanings.specs.Exprs.{ExprContext, first_unnamed, parts_of}
 use Rattle.dwz_meanings.specs.LocLists.{LocList, list_at}
 use Rattle.dwz_meanings.specs.Meanings.{Scope, expr_context, list_meaning, list_read, loc_said, loc_value, targets}
 use Rattle.dwz_meanings.specs.Sequences.{read_from}
 use Rattle.dwz_meanings.specs.Shared.{operands_of}
 use Rattle.dwz_model.specs.declared.fault.Fault.{Fault}
+use Rattle.dwz_model.specs.declared.fault.ReadErr.TheVariants.{Refused}
 use Rattle.dwz_model.specs.declared.fault.Reason.TheVariants.{BadList}
+use Rattle.dwz_resolve.specs.Operands.{is_named}
 
 -- the list that the value names
 within : (s : Scope ℕ) (f : Fault) (v : Value ℕ) (r : Result LocList Fault) (b : Bool) → (if b then (r >>= loc_said s) else Err f) ≡ Ok v → (l : LocList) × (r ≡ Ok l) × (loc_value s l ≡ v)
@@ -34,23 +36,46 @@ within s f v r false e = absurd cc
 pub list_named : (s : Scope ℕ) (a : RawAttr) (v : Value ℕ) (place : ℕ) → list_meaning s a place ≡ Ok v → (l : LocList) × (list_read s place ≡ Ok l) × (loc_value s l ≡ v)
 list_named s a v place e = within s (info_fault a.at BadList) v (list_read s place) (nat_lt place (length s.around.sources.lists)) e
 
-told : (s : Scope ℕ) (v : Value ℕ) (operands : List Operand) (l : LocList) (old one two : List ℕ) → loc_value s l ≡ v → operands_of l.exprs ≡ operands → one ≡ old ++ 12 ∷ number (length l.exprs) → two ≡ one ++ flat_map parts_label (map parts_of l.exprs) → TellsPlain s v operands old two Kept
-told s v operands l old one two is has is_one is_two =
-    let rest = flat_map parts_label (map parts_of l.exprs) in
-    subst (λ (w : Value ℕ). TellsPlain s w operands old two Kept) is (record {
-      bytes = is_two ∙ ap (λ (w : List ℕ). w ++ rest) (is_one ∙ ap (λ (n : ℕ). old ++ 12 ∷ number n) (sym (length-map l.exprs parts_of))) ∙ append_assoc old (12 ∷ number (length (map parts_of l.exprs))) rest;
-      names = (refl, ap (λ (w : List Operand). targets s w) has);
-    })
+-- an operand that names no entry would be the answer
+asked_none : {X : Type 0} (c : ExprContext) (answer : Result X Fault) (o : Option Operand) (x : X) → unless_one c answer o ≡ Ok x → o ≡ None
+asked_none c answer None x e = refl
+asked_none c answer (Some o) x e = absurd cc
 
-pub list_told : (s : Scope ℕ) (a : RawAttr) (v : Value ℕ) (lists : List ℕ) (place : ℕ) (operands : List Operand) (end : ℕ) (list : LocList) (old one two : List ℕ) → s.around.sources.lists ≡ lists → list_meaning s a place ≡ Ok v → WalksInto lists place operands (Ok end) → read_from (list_at in_lists) lists place ≡ Ok list
-    → one ≡ old ++ 12 ∷ number (length list.exprs) → two ≡ one ++ flat_map parts_label (map parts_of list.exprs) → TellsPlain s v operands old two Kept
-list_told s a v lists place operands end list old one two of_lists means walks read is_one is_two =
-    let n = list_named s a v place means in
+-- it was read, where its operands were asked for
+pub list_there : (s : Scope ℕ) (v : Value ℕ) (lists : List ℕ) (place : ℕ) (operands : List Operand) (l : LocList) → s.around.sources.lists ≡ lists → list_read s place ≡ Ok l → AreAsked lists place operands
+    → (read_from (list_at in_lists) lists place ≡ Ok l) × (first_unnamed (is_named s) operands ≡ None)
+list_there s v lists place operands l of_lists read are =
     let c = expr_context s 7 in
-    let there : read_from (list_at c) lists place ≡ Ok n.0 = ap (λ (w : List ℕ). read_from (list_at c) w place) (sym of_lists) ∙ n.1 in
-    let plain = asked_is c (read_from (list_at in_lists) lists place) (first_unnamed c.names operands) n.0 (sym (walks.1 c refl) ∙ there) in
-    let one_is : Ok list ≡ Ok n.0 = sym read ∙ plain in
-    let two_is : Ok walks.0.list ≡ Ok n.0 = sym walks.0.read ∙ plain in
-    let same : list ≡ n.0 = cc in
-    let other : walks.0.list ≡ n.0 = cc in
-    told s v operands list old one two (ap (loc_value s) same ∙ n.2) (ap (λ (w : LocList). operands_of w.exprs) (same ∙ sym other) ∙ walks.0.has) is_one is_two
+    let there : read_from (list_at c) lists place ≡ Ok l = ap (λ (w : List ℕ). read_from (list_at c) w place) (sym of_lists) ∙ read in
+    let o = first_unnamed c.names operands in
+    let answer = read_from (list_at in_lists) lists place in
+    let both : unless_one c answer o ≡ Ok l = sym (are c refl) ∙ there in
+    (asked_is c answer o l both, asked_none c answer o l both)
+
+-- a list that is refused means nothing
+pub list_refused : (s : Scope ℕ) (a : RawAttr) (v : Value ℕ) (lists : List ℕ) (place : ℕ) (operands : List Operand) (f : Fault) → s.around.sources.lists ≡ lists → list_meaning s a place ≡ Ok v → WalksInto lists place operands (Err (Refused f)) → ⊥
+list_refused s a v lists place operands f of_lists means walks =
+    let n = list_named s a v place means in
+    let t = list_there s v lists place operands n.0 of_lists n.1 walks.1 in
+    let no : Err f ≡ Ok n.0 = sym walks.0 ∙ t.0 in
+    cc
+
+-- nor does one that would begin behind the section
+pub list_within : (s : Scope ℕ) (a : RawAttr) (v : Value ℕ) (lists : List ℕ) (place : ℕ) → s.around.sources.lists ≡ lists → list_meaning s a place ≡ Ok v → place < length lists
+list_within s a v lists place of_lists means =
+    subst (λ (w : List ℕ). place < length w) of_lists (ltb-true place (length s.around.sources.lists) (so (nat_lt place (length s.around.sources.lists)) refl means)) where
+      so : (b : Bool) → nat_lt place (length s.around.sources.lists) ≡ b → (if b then (list_read s place >>= loc_said s) else Err (info_fault a.at BadList)) ≡ Ok v → nat_lt place (length s.around.sources.lists) ≡ true
+      so true is e = is
+      so false is e = absurd cc
+
+pub list_told : (s : Scope ℕ) (a : RawAttr) (v : Value ℕ) (lists : List ℕ) (place : ℕ) (operands : List Operand) (end : ℕ) (old new : List ℕ) → s.around.sources.lists ≡ lists → list_meaning s a place ≡ Ok v → WalksInto lists place operands (Ok end)
+    → ((l : LocList) → read_from (list_at in_lists) lists place ≡ Ok l → new ≡ old ++ plain_label (Loc (map parts_of l.exprs))) → TellsPlain s v operands old new Kept
+list_told s a v lists place operands end old new of_lists means walks written =
+    let n = list_named s a v place means in
+    let t = list_there s v lists place operands n.0 of_lists n.1 walks.1 in
+    let both : Ok walks.0.list ≡ Ok n.0 = sym walks.0.read ∙ t.0 in
+    let same : walks.0.list ≡ n.0 = cc in
+    subst (λ (w : Value ℕ). TellsPlain s w operands old new Kept) n.2 (record {
+      bytes = written n.0 t.0;
+      names = (refl, ap (λ (w : List Operand). targets s w) (ap (λ (w : LocList). operands_of w.exprs) (sym same) ∙ walks.0.has), t.1);
+    })

@@ -6,12 +6,14 @@ use Rattle.dwz_docs.specs.Entries.{RawAttr}
 use Rattle.dwz_label.specs.Labels.{plain_label}
 use Rattle.dwz_meanings.specs.declared.exprs.Operand.{Operand}
 use Rattle.dwz_meanings.specs.Documents.{Value}
+use Rattle.dwz_meanings.specs.Exprs.{first_unnamed}
 use Rattle.dwz_meanings.specs.LineTables.{FileTable}
 use Rattle.dwz_meanings.specs.Meanings.{Class, OfConstant, OfExpression, OfInfoEntry, OfListIndex, OfOffset, OfUnitEntry, Scope, loclists_base, stmt_list, str_offsets_base, targets}
 use Rattle.dwz_resolve.specs.declared.here.Here.{Here}
 use Rattle.dwz_resolve.specs.declared.sections.Sections.{Sections}
 use Rattle.dwz_resolve.specs.FileRows.{HasTable}
 use Rattle.dwz_resolve.specs.Named.{value_refs}
+use Rattle.dwz_resolve.specs.Operands.{is_named}
 use Rattle.dwz_resolve.specs.Parts.{numbers_file}
 use Rattle.dwz_resolve.specs.Resolved.{sources_view}
 
@@ -38,10 +40,10 @@ is_simple OfListIndex = false
 is_simple _ = true
 
 -- The entries that it names are so many of the references that are kept in order; or those of these operands, which aren't among
--- the references.
+-- the references, and each of which names one.
 abbrev pub NamesSo : Scope ℕ → Value ℕ → List Operand → Named → Type 0
 NamesSo s v operands (Next count) = (value_refs v ≡ v.refs) × (length v.refs ≡ count)
-NamesSo s v operands Kept = (value_refs v ≡ []) × (v.refs ≡ targets s operands)
+NamesSo s v operands Kept = (value_refs v ≡ []) × (v.refs ≡ targets s operands) × (first_unnamed (is_named s) operands ≡ None)
 
 pub record TellsPlain (s : Scope ℕ) (v : Value ℕ) (operands : List Operand) (old new : List ℕ) (named : Named) : Type 0 where
   pub bytes : new ≡ old ++ plain_label v.plain

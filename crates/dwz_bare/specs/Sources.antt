@@ -9,7 +9,7 @@ use Rattle.dwz_docs.specs.Units.{RawUnit, entries_in}
 use Rattle.dwz_flat.specs.Rows.{AreAttrsMeant, node_refs}
 use Rattle.dwz_label.specs.Labels.{attr_label, each_counted, node_label, value_label}
 use Rattle.dwz_meanings.specs.Documents.{Attr, Node, Value, attr_map, node_map, value_map}
-use Rattle.dwz_meanings.specs.Meanings.{Scope}
+use Rattle.dwz_meanings.specs.Meanings.{Around, Scope}
 use Rattle.dwz_resolve.specs.declared.here.Here.{Here}
 use Rattle.dwz_resolve.specs.Named.{attrs_refs, value_refs}
 use Rattle.dwz_resolve.specs.Parts.{HasLine}
@@ -18,6 +18,10 @@ use Rattle.dwz_unit.specs.Rows.{EntryRow, units_of}
 
 abbrev pub raw_of : Source → List RawUnit
 raw_of x = units_of x.units.now
+
+-- what surrounds its units
+abbrev pub around_at : Source → Around ℕ
+around_at x = around x.sections.now (raw_of x)
 
 -- what values of a unit stand in
 abbrev pub scope_at : Source → RawUnit → Scope ℕ
@@ -33,7 +37,7 @@ pub record IsReady (x : Source) (h : Here) : Type 0 where
 pub record KnowsUnit (x : Source) (h : Here) (table : Option ℕ) (u : RawUnit) (name : ℕ → Spot) : Type 0 where
   pub here : IsHere (raw_of x) u h
   pub names : KnowsNames (raw_of x) name x.index.now
-  pub line : HasLine (around x.sections.now (raw_of x)) u x.tables.now table
+  pub line : HasLine (around_at x) u x.tables.now table
 
 -- the value was written, and behind what it names others are named
 pub record TellsValue (name : ℕ → Spot) (v : Value ℕ) (refs others old new : List ℕ) : Type 0 where

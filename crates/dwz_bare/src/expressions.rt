@@ -13,7 +13,7 @@ ghost use Rattle.dwz_meanings.specs.Meanings;
 use crate::named::Named;
 use dwz_expr::{Operand, read_into};
 use dwz_label::{put_expression, put_number, put_operand, put_same};
-use dwz_model::NoMemory;
+use dwz_model::{NoMemory, ReadErr};
 use std::alloc::AllocError;
 
 // The first bytes, as many as there are.
@@ -100,7 +100,8 @@ pub(crate) fn put_expr(
     let at = end.saturating_sub(bytes.len() as u64);
     operands.clear();
     match read_into(operands, bytes, at, INFO) {
-        Err(_) => Err(AllocError),
+        Err(ReadErr::NoMemory) => Err(AllocError),
+        Err(ReadErr::Refused(_)) => Ok(Named::Next(0)),
         Ok(_) => {
             put_whole(out, bytes, at, operands)?;
             Ok(Named::Next(operands.as_slice().len()))

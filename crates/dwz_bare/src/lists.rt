@@ -1,21 +1,24 @@
 //! Location lists (DWARF 5, 2.6.2): the expressions in them.
 
-ghost use Rattle.std.specs.Prelude.{◌≡◌, ℕ, ◌++◌, ◌+◌, ◌<◌, List, Some, Ok, OnOk, IfOk, length, map};
+ghost use Rattle.std.specs.Prelude.{◌≡◌, ℕ, ◌++◌, ◌<◌, List, Ok, OnOk, IfOk, length, map};
 ghost use Rattle.std.specs.List.{flat_map};
 ghost use Rattle.dwz_bare.specs.Plain.{TellsPlain};
 ghost use Rattle.dwz_docs.specs.Entries.{RawAttr};
 ghost use Rattle.dwz_label.specs.Labels.{parts_label, plain_label};
+ghost use Rattle.dwz_lists.specs.Gathering.{in_lists};
 ghost use Rattle.dwz_meanings.specs.Documents.{Loc, Value};
-ghost use Rattle.dwz_meanings.specs.Exprs.{Expression, parts_of};
+ghost use Rattle.dwz_meanings.specs.Exprs.{parts_of};
+ghost use Rattle.dwz_meanings.specs.LocLists.{LocList, list_at};
 ghost use Rattle.dwz_meanings.specs.Meanings.{Scope, list_from, list_meaning, loclists_base};
 ghost use Rattle.dwz_meanings.specs.Meanings;
+ghost use Rattle.dwz_meanings.specs.Sequences.{read_from};
 
 use crate::expressions::put_parts;
 use crate::named::Named;
 use dwz_expr::{Operand, Ops};
 use dwz_label::put_list;
 use dwz_lists::{walk, walk_into};
-use dwz_model::NoMemory;
+use dwz_model::{NoMemory, ReadErr};
 use dwz_resolve::slot;
 use std::alloc::{AllocError, Global};
 
@@ -29,6 +32,22 @@ fn put_exprs(out: &mut Vec<u8>, exprs: &[Ops<'_>]) -> Result<(), NoMemory>
     Ok(())
 }
 
+// Appends that a value is the list at a place, which was read before.
+fn put_read(alloc: Global, out: &mut Vec<u8>, lists: &[u8], place: u64) -> Result<(), NoMemory>
+    requires { place < length lists.now }
+    ensures { (l : LocList) → read_from (list_at in_lists) lists.now place ≡ Ok l → OnOk result (out.new.items ≡ out.old.items ++ plain_label (Loc (map parts_of l.exprs))) }
+{
+    match walk(alloc, lists, place) {
+        Err(ReadErr::NoMemory) => Err(AllocError),
+        Err(ReadErr::Refused(_)) => Ok(()),
+        Ok(list) => {
+            put_list(out, list.exprs().len() as u128)?;
+            put_exprs(out, list.exprs())?;
+            Ok(())
+        }
+    }
+}
+
 /// Appends that a value is the location list at a place of `.debug_loclists`; and keeps the operands of its expressions.
 pub(crate) fn put_list_at(
     alloc: Global,
@@ -39,19 +58,18 @@ pub(crate) fn put_list_at(
 ) -> Result<Named, NoMemory>
     ensures { (s : Scope ℕ) (a : RawAttr) (v : Value ℕ) → s.around.sources.lists ≡ lists.now → list_meaning s a place ≡ Ok v → IfOk result (λ named. TellsPlain s v operands.new.items out.old.items out.new.items named) }
 {
-    if place >= lists.len() as u128 {
-        return Err(AllocError);
-    }
     operands.clear();
-    let Ok(_) = walk_into(operands, lists, place as u64) else {
-        return Err(AllocError);
-    };
-    let Ok(list) = walk(alloc, lists, place as u64) else {
-        return Err(AllocError);
-    };
-    put_list(out, list.exprs().len() as u128)?;
-    put_exprs(out, list.exprs())?;
-    Ok(Named::Kept)
+    if place >= lists.len() as u128 {
+        return Ok(Named::Kept);
+    }
+    match walk_into(operands, lists, place as u64) {
+        Err(ReadErr::NoMemory) => Err(AllocError),
+        Err(ReadErr::Refused(_fault)) => Ok(Named::Kept),
+        Ok(_end) => {
+            put_read(alloc, out, lists, place as u64)?;
+            Ok(Named::Kept)
+        }
+    }
 }
 
 /// The same of the list whose offset from a base stands in a slot behind the base (DWARF 5, 7.29).
@@ -66,10 +84,10 @@ pub(crate) fn put_list_by_slot(
     ensures { (s : Scope ℕ) (a : RawAttr) (v : Value ℕ) → s.around.sources.lists ≡ lists.now → base ≡ loclists_base s → index ≡ Meanings.offset_of a → list_from s a base ≡ Ok v → IfOk result (λ named. TellsPlain s v operands.new.items out.old.items out.new.items named) }
 {
     let Some(base) = base else {
-        return Err(AllocError);
+        return Ok(Named::Kept);
     };
     let Some(offset) = slot(lists, base as u128, index) else {
-        return Err(AllocError);
+        return Ok(Named::Kept);
     };
     put_list_at(alloc, out, lists, base as u128 + offset as u128, operands)
 }

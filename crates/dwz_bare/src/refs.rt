@@ -1,6 +1,6 @@
 //! The entries that a value names, one behind the other.
 
-ghost use Rattle.std.specs.Prelude.{◌≡◌, ℕ, ◌<◌, ◌≤◌, ◌++◌, List, OnOk, length, map, drop};
+ghost use Rattle.std.specs.Prelude.{◌≡◌, ℕ, ◌<◌, ◌≤◌, ◌++◌, List, None, true, OnOk, length, map, drop};
 ghost use Rattle.std.specs.List.{flat_map};
 ghost use Rattle.dwz_alike.specs.Spots.{Spot};
 ghost use Rattle.dwz_bare.specs.Plain.{NamesSo};
@@ -10,8 +10,10 @@ ghost use Rattle.dwz_flat.specs.Rows.{AreTargets};
 ghost use Rattle.dwz_label.specs.Labels.{each_counted, target_label};
 ghost use Rattle.dwz_meanings.specs.declared.exprs.Operand.{Operand as OperandOfSpecs};
 ghost use Rattle.dwz_meanings.specs.Documents.{Value};
-ghost use Rattle.dwz_meanings.specs.Meanings.{Scope, targets};
+ghost use Rattle.dwz_meanings.specs.Exprs.{first_unnamed};
+ghost use Rattle.dwz_meanings.specs.Meanings.{Scope, target_of, targets};
 ghost use Rattle.dwz_resolve.specs.Named.{value_refs};
+ghost use Rattle.dwz_resolve.specs.Operands.{is_named};
 ghost use Rattle.dwz_resolve.specs.Resolved.{AreEntries, Each, IsHere, scope_in};
 ghost use Rattle.dwz_unit.specs.Rows.{units_of};
 
@@ -23,7 +25,6 @@ use dwz_label::put_number;
 use dwz_model::NoMemory;
 use dwz_resolve::{Here, Sections, entry_of};
 use dwz_unit::Units;
-use std::alloc::AllocError;
 
 // Appends so many of the entries that are named in order, from the next one on, behind their number.
 fn put_next(
@@ -42,6 +43,26 @@ fn put_next(
     Ok(())
 }
 
+// Appends the entry that an operand names.
+fn put_named(
+    out: &mut Vec<u8>,
+    units: &Units,
+    sections: &Sections,
+    index: &Index,
+    here: &Here,
+    operand: &Operand,
+    path: &mut Vec<u32>,
+) -> Result<(), NoMemory>
+    requires here { here.now.end ≤ entries_in (units_of units.now) }
+    requires steps { length index.now.steps ≡ entries_in (units_of units.now) }
+    ensures { (u : RawUnit) (name : ℕ → Spot) → IsHere (units_of units.now) u here.now → KnowsNames (units_of units.now) name index.now → is_named (scope_in sections.now (units_of units.now) u) operand.now ≡ true → OnOk result (out.new.items ≡ out.old.items ++ target_label (name (target_of (scope_in sections.now (units_of units.now) u) operand.now))) }
+{
+    match entry_of(units, sections, here, operand) {
+        Some(entry) => put_target(out, index, entry, path),
+        None => Ok(()),
+    }
+}
+
 // Appends the entries that operands name.
 fn put_operands(
     out: &mut Vec<u8>,
@@ -54,13 +75,10 @@ fn put_operands(
 ) -> Result<(), NoMemory>
     requires here { here.now.end ≤ entries_in (units_of units.now) }
     requires steps { length index.now.steps ≡ entries_in (units_of units.now) }
-    ensures { (u : RawUnit) (name : ℕ → Spot) → IsHere (units_of units.now) u here.now → KnowsNames (units_of units.now) name index.now → OnOk result (out.new.items ≡ out.old.items ++ flat_map target_label (map name (targets (scope_in sections.now (units_of units.now) u) operands.now))) }
+    ensures { (u : RawUnit) (name : ℕ → Spot) → IsHere (units_of units.now) u here.now → KnowsNames (units_of units.now) name index.now → first_unnamed (is_named (scope_in sections.now (units_of units.now) u)) operands.now ≡ None → OnOk result (out.new.items ≡ out.old.items ++ flat_map target_label (map name (targets (scope_in sections.now (units_of units.now) u) operands.now))) }
 {
     for operand in operands {
-        match entry_of(units, sections, here, operand) {
-            Some(entry) => put_target(out, index, entry, path)?,
-            None => return Err(AllocError),
-        }
+        put_named(out, units, sections, index, here, operand, path)?;
     }
     Ok(())
 }

@@ -1,6 +1,6 @@
 //! Texts in sections, and paths of files.
 
-ghost use Rattle.std.specs.Prelude.{◌≡◌, ℕ, ◌++◌, true, List, Some, Ok, OnOk, slice_get};
+ghost use Rattle.std.specs.Prelude.{◌≡◌, ℕ, pos, ◌<◌, ◌^◌, ◌++◌, true, List, Some, Ok, OnOk, slice_get};
 ghost use Rattle.dwz_bare.specs.Plain.{KnowsLine};
 ghost use Rattle.dwz_docs.specs.Entries.{RawAttr};
 ghost use Rattle.dwz_docs.specs.Texts;
@@ -17,7 +17,6 @@ use dwz_label::{put_file, put_no_file, put_text};
 use dwz_lines::FileTable;
 use dwz_model::NoMemory;
 use dwz_resolve::{Sections, slot, text_in};
-use std::alloc::AllocError;
 
 /// Appends that a value is the text at an offset of a section, which is there.
 #[inline(always)]
@@ -48,18 +47,23 @@ pub(crate) fn put_text_by_slot(
     put_text_at(out, sections.strs.bytes, offset as u128)
 }
 
-// Appends that a value is the file with a number, which the table has. No table in memory has 2^64 files.
+// A number that may be one of a row; no table has as many rows as 2^63.
+#[inline(always)]
+fn row_of(number: i128) -> u64
+    ensures { (n : ℕ) → number ≡ pos n → n < 2 ^ 63 → result ≡ n }
+{
+    if number < 0 || number > u64::MAX as i128 {
+        return u64::MAX;
+    }
+    number as u64
+}
+
+// Appends that a value is the file with a number, which the table has.
 #[inline(always)]
 fn put_path(out: &mut Vec<u8>, table: &FileTable, number: i128) -> Result<(), NoMemory>
     ensures { (path : List ℕ) → path_by table.now number ≡ Some path → OnOk result (out.new.items ≡ out.old.items ++ plain_label (File (Some path))) }
 {
-    if number < 0 {
-        return Ok(());
-    }
-    if number > u64::MAX as i128 {
-        return Err(AllocError);
-    }
-    match table.path(number as u64) {
+    match table.path(row_of(number)) {
         None => Ok(()),
         Some(path) => put_file(out, path),
     }

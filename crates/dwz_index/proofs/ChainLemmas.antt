@@ -1,5 +1,5 @@
 -- The spaces that tops stand in, list by list.
-use Rattle.std.proofs.Common.{◌≡◌, ℕ, ℤ, zero, suc, ◌+◌, Bool, true, false, List, [], ◌∷◌, ◌++◌, length, drop, map, Option, Some, None, Ok, slice_get, ◌==◌, if◌then◌else◌, refl, sym, ap, subst, ◌∙◌, arith}
+use Rattle.std.proofs.Common.{◌≡◌, ℕ, ℤ, zero, suc, ◌+◌, ◌≤◌, Bool, true, false, List, [], ◌∷◌, ◌++◌, length, drop, map, Option, Some, None, Ok, slice_get, ◌==◌, if◌then◌else◌, refl, sym, ap, subst, ◌∙◌, arith}
 use Rattle.std.specs.Prelude.{reverse}
 use Rattle.std.specs.Option.{is_some}
 use Rattle.std.proofs.lemmas.List.{append-nil, append_assoc, drop_at, reverse-append}
@@ -73,9 +73,9 @@ module _ (file unit : ℕ) (tongue : Option ℤ) where
   unfolding row_in row_tops
   tops_inside spaces n e c m text h = rw (h, row_in, row_tops) refl
 
-module _ (raw : List RawUnit) (around : Around ℕ) (first : ℕ) (all : List SpaceEntry) (u : RawUnit) (local : ℕ) (is_unit : slice_get raw local ≡ Some u) (file unit : ℕ) (tongue : Option ℤ) (name : ℕ → Spot) where
+module _ (raw : List RawUnit) (around : Around ℕ) (origin : Starts) (all : List SpaceEntry) (u : RawUnit) (local : ℕ) (is_unit : slice_get raw local ≡ Some u) (file unit : ℕ) (counted : unit ≡ origin.unit + local) (tongue : Option ℤ) (name : ℕ → Spot) where
   abbrev Leads : TopEntry → Top → Type 0
-  Leads x t = LeadsOut raw around first all x t
+  Leads x t = LeadsOut raw around origin all x t
 
   abbrev Stands : ℕ → ℕ → Forest RawEntry → Type 0
   Stands at depth f = (after : List EntryRow) × (drop at (rows_of raw) ≡ rows_below f local (record { before = at; depth = depth }) ++ after)
@@ -83,16 +83,16 @@ module _ (raw : List RawUnit) (around : Around ℕ) (first : ℕ) (all : List Sp
   abbrev From : ℕ → List SpaceEntry → Type 0
   From j part = (after : List SpaceEntry) × (drop j all ≡ part ++ after)
 
-  chain : (f : Forest RawEntry) (g : Entries ℕ) (spaces : List SpaceName) (entries : List ℕ) (inner n j k at depth : ℕ) → MeanEntries (scope_of around u) f g → IsOut first all inner entries → AreSpacesAt raw around (reverse spaces) entries → k ≡ first + j
+  chain : (f : Forest RawEntry) (g : Entries ℕ) (spaces : List SpaceName) (entries : List ℕ) (inner n j k at depth : ℕ) → MeanEntries (scope_of around u) f g → inner ≤ k → IsOut origin.space all inner entries → AreSpacesAt raw around local (reverse spaces) entries → k ≡ origin.space + j
       → Stands at depth f → From j (spaces_among is_space inner k at g) → AllTwo Leads (tops_among is_space unit inner k at g) (row_tops (row_in file unit tongue spaces n (entries_map name g)))
   unfolding entries_map row_in row_tops tops_among rows_below
-  chain End End spaces entries inner n j k at depth h out named num stands from = tt
-  chain End (Entry d c' m') spaces entries inner n j k at depth h out named num stands from = absurd h
-  chain (Entry e c m) End spaces entries inner n j k at depth h out named num stands from = absurd h
-  chain (Entry e c m) (Entry d c' m') spaces entries inner n j k at depth h out named num stands from =
-      by (λ q r. chain m m' spaces entries inner (suc n) j k (at + 1 + size c) depth h.2 out named num q r)
-      (λ text o a q r. chain c c' (spaces ++ name_of text (node_map name d) ∷ []) (at ∷ entries) (suc k) n (j + 1) (suc k) (at + 1) (depth + 1) h.1 o a (omega (arith, num)) q r)
-      (λ q r. chain m m' spaces entries inner (n + tops_under (entries_map name c')) (j + 1 + spaces_by is_space c') (suc k + spaces_by is_space c') (at + 1 + size c) depth h.2 out named (omega (arith, num)) q r)
+  chain End End spaces entries inner n j k at depth h low out named num stands from = tt
+  chain End (Entry d c' m') spaces entries inner n j k at depth h low out named num stands from = absurd h
+  chain (Entry e c m) End spaces entries inner n j k at depth h low out named num stands from = absurd h
+  chain (Entry e c m) (Entry d c' m') spaces entries inner n j k at depth h low out named num stands from =
+      by (λ q r. chain m m' spaces entries inner (suc n) j k (at + 1 + size c) depth h.2 low out named num q r)
+      (λ text o a q r. chain c c' (spaces ++ name_of text (node_map name d) ∷ []) (at ∷ entries) (suc k) n (j + 1) (suc k) (at + 1) (depth + 1) h.1 (omega arith) o a (omega (arith, num)) q r)
+      (λ q r. chain m m' spaces entries inner (n + tops_under (entries_map name c')) (j + 1 + spaces_by is_space c') (suc k + spaces_by is_space c') (at + 1 + size c) depth h.2 (omega (arith, low)) out named (omega (arith, num)) q r)
       (space_text d) refl
     where
       p : Position
@@ -123,7 +123,7 @@ module _ (raw : List RawUnit) (around : Around ℕ) (first : ℕ) (all : List Sp
       tops w z = tops_among is_space unit inner w z m'
 
       by : (Stands (at + 1 + size c) depth m → From j (spaces_among is_space inner k (at + 1 + size c) m') → AllTwo Leads (tops k (at + 1 + size c)) (row_tops (row_in file unit tongue spaces (suc n) (entries_map name m'))))
-          → ((text : List ℕ) → IsOut first all (suc k) (at ∷ entries) → AreSpacesAt raw around (reverse (spaces ++ name_of text (node_map name d) ∷ [])) (at ∷ entries) → Stands (at + 1) (depth + 1) c → From (j + 1) (spaces_among is_space (suc k) (suc k) (at + 1) c')
+          → ((text : List ℕ) → IsOut origin.space all (suc k) (at ∷ entries) → AreSpacesAt raw around local (reverse (spaces ++ name_of text (node_map name d) ∷ [])) (at ∷ entries) → Stands (at + 1) (depth + 1) c → From (j + 1) (spaces_among is_space (suc k) (suc k) (at + 1) c')
           → AllTwo Leads (tops_among is_space unit (suc k) (suc k) (at + 1) c') (row_tops (row_in file unit tongue (spaces ++ name_of text (node_map name d) ∷ []) n (entries_map name c'))))
           → (Stands (at + 1 + size c) depth m → From (j + 1 + spaces_by is_space c') (spaces_among is_space inner (suc k + spaces_by is_space c') (at + 1 + size c) m')
           → AllTwo Leads (tops (suc k + spaces_by is_space c') (at + 1 + size c)) (row_tops (row_in file unit tongue spaces (n + tops_under (entries_map name c')) (entries_map name m'))))
@@ -131,7 +131,7 @@ module _ (raw : List RawUnit) (around : Around ℕ) (first : ℕ) (all : List Sp
       by q r s None plain =
           let rest : From j (spaces_among is_space inner k (at + 1 + size c) m') = subst (From j) (spaces_top is_space d c' m' inner k at (ap is_some plain) ∙ ap (λ (z : ℕ). spaces_among is_space inner k (at + 1 + z) m') (sym len)) from in
           let top : Top = record { file = file; unit = unit; language = tongue; spaces = spaces; number = n; node = node_map name d; below = entries_map name c' } in
-          let one : Leads (top_entry at unit inner) top = record { entries = entries; out = out; named = named } in
+          let one : Leads (top_entry at unit inner) top = record { n = local; number = counted; entries = entries; out = out; named = named } in
           subst (λ (w : List TopEntry). AllTwo Leads w (row_tops (row_in file unit tongue spaces n (Entry (node_map name d) (entries_map name c') (entries_map name m'))))) (sym (tops_top is_space d c' m' unit inner k at (ap is_some plain)))
           (subst (AllTwo Leads (top_entry at unit inner ∷ tops k (at + 1 + size c'))) (sym (tops_first file unit tongue spaces n (node_map name d) (entries_map name c') (entries_map name m') (text_map name d ∙ plain)))
           (one, subst (λ (z : ℕ). AllTwo Leads (tops k (at + 1 + z)) (row_tops (row_in file unit tongue spaces (suc n) (entries_map name m')))) len (q behind_stands rest)))
@@ -144,9 +144,9 @@ module _ (raw : List RawUnit) (around : Around ℕ) (first : ℕ) (all : List Sp
           let both : drop (j + 1) all ≡ a ++ (b ++ from.0) = parts.1 ∙ append_assoc a b from.0 in
           let from_a : From (j + 1) a = (b ++ from.0, both) in
           let from_b : From (j + 1 + spaces_by is_space c') b = (from.0, drop_more all (j + 1) (spaces_by is_space c') ∙ ap (drop (spaces_by is_space c')) both ∙ drop_at a (b ++ from.0) (spaces_by is_space c') (spaces_many is_space (suc k) (suc k) (at + 1) c')) in
-          let next_out : IsOut first all (suc k) (at ∷ entries) = (j, own, ap suc num, parts.0, refl, out) in
-          let is_at : IsSpaceAt raw around at (name_of text (node_map name d)) = record { u = u; row = row; d = d; text = text; found = here.0; is_unit = is_unit; means = h.0; is_space = named_so; is_name = named_same name d.attrs text } in
-          let next_named : AreSpacesAt raw around (reverse (spaces ++ name_of text (node_map name d) ∷ [])) (at ∷ entries) = subst (λ (w : List SpaceName). AreSpacesAt raw around w (at ∷ entries)) (sym (reverse-append spaces (name_of text (node_map name d) ∷ []))) (is_at, named) in
+          let next_out : IsOut origin.space all (suc k) (at ∷ entries) = (j, own, ap suc num, parts.0, refl, omega (arith, low), out) in
+          let is_at : IsSpaceAt raw around local at (name_of text (node_map name d)) = record { u = u; row = row; d = d; text = text; is_unit = is_unit; found = here.0; of_unit = refl; means = h.0; is_space = named_so; is_name = named_same name d.attrs text } in
+          let next_named : AreSpacesAt raw around local (reverse (spaces ++ name_of text (node_map name d) ∷ [])) (at ∷ entries) = subst (λ (w : List SpaceName). AreSpacesAt raw around local w (at ∷ entries)) (sym (reverse-append spaces (name_of text (node_map name d) ∷ []))) (is_at, named) in
           subst (λ (w : List TopEntry). AllTwo Leads w (row_tops (row_in file unit tongue spaces n (Entry (node_map name d) (entries_map name c') (entries_map name m'))))) (sym (tops_space is_space d c' m' unit inner k at (ap is_some named_so)))
           (subst (AllTwo Leads (tops_among is_space unit (suc k) (suc k) (at + 1) c' ++ tops (suc k + spaces_by is_space c') (at + 1 + size c'))) (sym (tops_inside file unit tongue spaces n (node_map name d) (entries_map name c') (entries_map name m') text (text_map name d ∙ named_so)))
           (two_append Leads (tops_among is_space unit (suc k) (suc k) (at + 1) c') (tops (suc k + spaces_by is_space c') (at + 1 + size c')) (row_tops (row_in file unit tongue (spaces ++ name_of text (node_map name d) ∷ []) n (entries_map name c'))) (row_tops (row_in file unit tongue spaces (n + tops_under (entries_map name c')) (entries_map name m')))
@@ -156,9 +156,9 @@ module _ (raw : List RawUnit) (around : Around ℕ) (first : ℕ) (all : List Sp
 
 -- ---- unit by unit
 
-module _ (raw : List RawUnit) (around : Around ℕ) (first : ℕ) (all : List SpaceEntry) (file : ℕ) (name : ℕ → Spot) where
+module _ (raw : List RawUnit) (around : Around ℕ) (origin : Starts) (all : List SpaceEntry) (file : ℕ) (name : ℕ → Spot) where
   abbrev LeadsIn : TopEntry → Top → Type 0
-  LeadsIn x t = LeadsOut raw around first all x t
+  LeadsIn x t = LeadsOut raw around origin all x t
 
   abbrev filed : List (DwUnit ℕ) → List (FileUnit Spot)
   filed units = map (in_file file) (map (unit_map name) units)
@@ -166,19 +166,19 @@ module _ (raw : List RawUnit) (around : Around ℕ) (first : ℕ) (all : List Sp
   abbrev Rest : ℕ → List SpaceEntry → Type 0
   Rest j part = (after : List SpaceEntry) × (drop j all ≡ part ++ after)
 
-  unit_chain : (u : RawUnit) (v : DwUnit ℕ) (local at unit top k j : ℕ) (after : List EntryRow) → slice_get raw local ≡ Some u → MeanEntries (scope_of around u) u.below v.below → k ≡ first + j
+  unit_chain : (u : RawUnit) (v : DwUnit ℕ) (local at unit top k j : ℕ) (after : List EntryRow) → slice_get raw local ≡ Some u → unit ≡ origin.unit + local → MeanEntries (scope_of around u) u.below v.below → k ≡ origin.space + j
       → drop at (rows_of raw) ≡ rows_in u local at ++ after → (kind : Kind ℕ) → Rest j (space_entries is_space k at (record { compile = is_compile kind; list = v.below }))
       → AllTwo LeadsIn (entries_of unit k at kind v.below) (row_tops (row_below file unit top (unit_map name v) (kind_map name kind)))
   unfolding row_tops rows_below
-  unit_chain u v local at unit top k j after is_unit means num rows Compile from =
+  unit_chain u v local at unit top k j after is_unit counted means num rows Compile from =
       let p = root_position at in
       let row : EntryRow = record { entry = u.root; unit = local; depth = 1; end = (behind p u.below).before } in
       let below = rows_below u.below local (first_below p) in
       let d = drop_first (rows_of raw) at row ((below ++ []) ++ after) rows in
-      chain raw around first all u local is_unit file unit (language (unit_map name v)) name u.below v.below [] [] 0 top j k (at + 1) 2 means refl tt num
+      chain raw around origin all u local is_unit file unit counted (language (unit_map name v)) name u.below v.below [] [] 0 top j k (at + 1) 2 means (omega arith) refl tt num
       (after, d.1 ∙ ap (λ (w : List EntryRow). w ++ after) (append-nil below)) from
-  unit_chain u v local at unit top k j after is_unit means num rows (OfType signature main) from = tt
-  unit_chain u v local at unit top k j after is_unit means num rows Partial from = tt
+  unit_chain u v local at unit top k j after is_unit counted means num rows (OfType signature main) from = tt
+  unit_chain u v local at unit top k j after is_unit counted means num rows Partial from = tt
 
   many_spaces : (k at : ℕ) (v : DwUnit ℕ) → length (space_entries is_space k at (below_root v)) ≡ spaces_of_list is_space (below_root v)
   many_spaces k at v = by v.kind where
@@ -187,13 +187,13 @@ module _ (raw : List RawUnit) (around : Around ℕ) (first : ℕ) (all : List Sp
     by (OfType signature main) = refl
     by Partial = refl
 
-  units_chain : (s : Starts) (at local j : ℕ) (us : List RawUnit) (said : List (DwUnit ℕ)) → MeanUnits around us said → drop local raw ≡ us → drop at (rows_of raw) ≡ rows_from us local at → s.space ≡ first + j
+  units_chain : (s : Starts) (at local j : ℕ) (us : List RawUnit) (said : List (DwUnit ℕ)) → MeanUnits around us said → drop local raw ≡ us → drop at (rows_of raw) ≡ rows_from us local at → s.unit ≡ origin.unit + local → s.space ≡ origin.space + j
       → Rest j (all_spaces is_space s at (map below_root said)) → AllTwo LeadsIn (all_tops is_space s at (map below_root said)) (tops_from s.unit s.top (filed said))
   unfolding all_tops all_spaces tops_from rows_from
-  units_chain s at local j [] [] h here rows num from = tt
-  units_chain s at local j [] (v ∷ said) h here rows num from = absurd h
-  units_chain s at local j (u ∷ us) [] h here rows num from = absurd h
-  units_chain s at local j (u ∷ us) (v ∷ said) h here rows num from =
+  units_chain s at local j [] [] h here rows counted num from = tt
+  units_chain s at local j [] (v ∷ said) h here rows counted num from = absurd h
+  units_chain s at local j (u ∷ us) [] h here rows counted num from = absurd h
+  units_chain s at local j (u ∷ us) (v ∷ said) h here rows counted num from =
       let next = starts_behind is_space s (below_root v) in
       let w = unit_map name v in
       let own = space_entries is_space s.space at (below_root v) in
@@ -211,16 +211,17 @@ module _ (raw : List RawUnit) (around : Around ℕ) (first : ℕ) (all : List Sp
       let long = many_spaces s.space at v in
       let rest : Rest (j + spaces_of_list is_space (below_root v)) others = (from.0, drop_more all j (spaces_of_list is_space (below_root v)) ∙ ap (drop (spaces_of_list is_space (below_root v))) parted ∙ drop_at own (others ++ from.0) (spaces_of_list is_space (below_root v)) long) in
       two_append LeadsIn (entries_of s.unit s.space at v.kind v.below) (all_tops is_space next (at + 1 + size v.below) (map below_root said)) (row_tops (row_below file s.unit s.top w w.kind)) (tops_from (suc s.unit) (s.top + top_count w.kind w.below) (filed said))
-      (unit_chain u v local at s.unit s.top s.space j (rows_from us (local + 1) (at + entry_count u)) unit_here.0 h.0.below num rows v.kind (others ++ from.0, parted))
+      (unit_chain u v local at s.unit s.top s.space j (rows_from us (local + 1) (at + entry_count u)) unit_here.0 counted h.0.below num rows v.kind (others ++ from.0, parted))
       (subst (AllTwo LeadsIn (all_tops is_space next (at + 1 + size v.below) (map below_root said))) (λ m. tops_from (one m) (sym top m) (filed said))
-      (units_chain next (at + 1 + size v.below) (local + 1) (j + spaces_of_list is_space (below_root v)) us said h.1 unit_here.1 behind_rows (omega (arith, num)) rest))
+      (units_chain next (at + 1 + size v.below) (local + 1) (j + spaces_of_list is_space (below_root v)) us said h.1 unit_here.1 behind_rows (omega (arith, counted)) (omega (arith, num)) rest))
 
 pub leads_out : (l : Limits) (bytes : List ℕ) (raw : List RawUnit) (doc : Doc ℕ) (s : Starts) (file : ℕ) (name : ℕ → Spot) (k : ℕ) (x : TopEntry) (t : Top) → file_meaning l bytes ≡ Ok (raw, doc)
     → slice_get (all_tops is_space s 0 (map below_root doc.units)) k ≡ Some x → slice_get (tops_from s.unit s.top (map (in_file file) (map (unit_map name) doc.units))) k ≡ Some t
-    → LeadsOut raw (around_of bytes raw) s.space (all_spaces is_space s 0 (map below_root doc.units)) x t
+    → LeadsOut raw (around_of bytes raw) s (all_spaces is_space s 0 (map below_root doc.units)) x t
 leads_out l bytes raw doc s file name k x t reads e f =
     let r = ((file_agrees l bytes).ok (raw, doc)).0 reads in
     let all = all_spaces is_space s 0 (map below_root doc.units) in
     let none : s.space ≡ s.space + 0 = omega arith in
-    two_at (LeadsOut raw (around_of bytes raw) s.space all) (all_tops is_space s 0 (map below_root doc.units)) (tops_from s.unit s.top (map (in_file file) (map (unit_map name) doc.units)))
-    (units_chain raw (around_of bytes raw) s.space all file name s 0 0 0 raw doc.units r.means refl refl none ([], sym (append-nil all))) k x t e f
+    let first : s.unit ≡ s.unit + 0 = omega arith in
+    two_at (LeadsOut raw (around_of bytes raw) s all) (all_tops is_space s 0 (map below_root doc.units)) (tops_from s.unit s.top (map (in_file file) (map (unit_map name) doc.units)))
+    (units_chain raw (around_of bytes raw) s all file name s 0 0 0 raw doc.units r.means refl refl first none ([], sym (append-nil all))) k x t e f

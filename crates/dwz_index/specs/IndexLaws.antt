@@ -65,4 +65,4 @@ abbrev pub SpacesLaw : Type 0
 SpacesLaw =
     (l : Limits) (bytes : List ℕ) (raw : List RawUnit) (doc : Doc ℕ) (s : Starts) (file : ℕ) (name : ℕ → Spot) (k : ℕ) (x : TopEntry) (t : Top)
     → file_meaning l bytes ≡ Ok (raw, doc) → slice_get (tops_of_units s doc.units) k ≡ Some x → slice_get (tops_in_file s file name doc.units) k ≡ Some t
-    → LeadsOut raw (around_of bytes raw) s.space (spaces_of_units s doc.units) x t
+    → LeadsOut raw (around_of bytes raw) s (spaces_of_units s doc.units) x t

@@ -8,4 +8,4 @@ mod spaces;
 
 pub use index::{Index, SpaceEntry, Starts, TopEntry};
 pub use laws::{name_laws, top_laws};
-pub use spaces::{first_name, is_space, space_text};
+pub use spaces::{is_space, space_text};

@@ -15,7 +15,7 @@ ghost use Rattle.dwz_resolve.specs.Classes.{class_view};
 ghost use Rattle.dwz_unit.specs.Rows.{EntryRow, attr_view, rows_of, units_of};
 
 use dwz_forms::Raw;
-use dwz_resolve::{Class, Sections, class_of, offset_of, slot, text_in};
+use dwz_resolve::{Class, Sections, class_of, first_attr, offset_of, slot, text_in};
 use dwz_unit::{RawAttr, Units};
 
 // `DW_TAG_namespace` and `DW_AT_name`.
@@ -37,27 +37,12 @@ fn is_text(class: Class) -> bool
     }
 }
 
-/// The first `DW_AT_name` of an entry (DWARF 5, 2.15).
-pub fn first_name<'a>(units: &Units<'a>, entry: u32) -> Option<RawAttr<'a>>
-    requires { entry < entries_in (units_of units.now) }
-    ensures { (row : EntryRow) → slice_get (rows_of (units_of units.now)) entry ≡ Some row → option_map attr_view result ≡ first_raw 0x03 row.entry.attrs }
-{
-    let count = units.entry(entry).attrs;
-    for k in 0..count {
-        let attr = units.attr(entry, k);
-        if attr.pair.name == NAME {
-            return Some(attr);
-        }
-    }
-    None
-}
-
 // Whether an entry has the name of a space.
 fn has_text_name(units: &Units, entry: u32) -> bool
     requires { entry < entries_in (units_of units.now) }
     ensures { (row : EntryRow) → slice_get (rows_of (units_of units.now)) entry ≡ Some row → result ≡ Spaces.has_text (first_raw 0x03 row.entry.attrs) }
 {
-    match first_name(units, entry) {
+    match first_attr(units, entry, NAME) {
         Some(attr) => is_text(class_of(attr.pair.form)),
         None => false,
     }
@@ -118,7 +103,7 @@ pub fn space_text<'a>(
     requires { entry < entries_in (units_of units.now) }
     ensures { (s : Scope ℕ) (row : EntryRow) (d : Node ℕ) (text : List ℕ) → IsOwn sections.now base s → slice_get (rows_of (units_of units.now)) entry ≡ Some row → node_meaning s row.entry ≡ Ok d → Seen.space_text d ≡ Some text → option_map (λ t. t.now) result ≡ Some text }
 {
-    match first_name(units, entry) {
+    match first_attr(units, entry, NAME) {
         None => None,
         Some(attr) => text_of(sections, base, &attr),
     }

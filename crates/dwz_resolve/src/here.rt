@@ -9,6 +9,7 @@ ghost use Rattle.dwz_meanings.specs.Meanings.{first_raw};
 ghost use Rattle.dwz_resolve.specs.Resolved.{IsUnitHere};
 ghost use Rattle.dwz_unit.specs.Rows.{EntryRow, attr_view, rows_of, shown_units, units_of};
 
+use crate::first::first_attr;
 use crate::sections::offset_of;
 use dwz_unit::{RawAttr, RawUnit, Units};
 
@@ -51,14 +52,10 @@ fn base_of(units: &Units, root: u32, name: u16) -> Option<u32>
     requires { root < entries_in (units_of units.now) }
     ensures { (row : EntryRow) → slice_get (rows_of (units_of units.now)) root ≡ Some row → result ≡ Meanings.base_in (first_raw name row.entry.attrs) }
 {
-    let entry = units.entry(root);
-    for k in 0..entry.attrs {
-        let attr = units.attr(root, k);
-        if attr.pair.name == name {
-            return base_in(&attr);
-        }
+    match first_attr(units, root, name) {
+        None => None,
+        Some(attr) => base_in(&attr),
     }
-    None
 }
 
 // `DW_AT_str_offsets_base`, `DW_AT_loclists_base` and `DW_AT_stmt_list` (DWARF 5, 3.1.1).

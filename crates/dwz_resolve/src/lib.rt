@@ -5,6 +5,7 @@ mod class;
 mod expressions;
 mod files;
 mod find;
+mod first;
 mod here;
 mod kinds;
 mod lists;
@@ -21,6 +22,7 @@ mod strings;
 
 pub use class::{Class, class_of};
 pub use expressions::entry_of;
+pub use first::first_attr;
 pub use here::{Here, here_of};
 pub use operands::ListOperand;
 pub use resolving::{Resolved, resolve};

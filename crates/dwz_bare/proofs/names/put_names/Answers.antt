@@ -2,18 +2,18 @@ use Rattle.std.proofs.Common.{◌+◌, ◌<◌, ◌++◌, ℕ, List, ap, drop, g
 use Rattle.std.proofs.lemmas.List.{drop_all}
 use Rattle.dwz_docs.specs.Units.{entries_in}
 use Rattle.dwz_label.specs.Labels.{counted}
-use Rattle.dwz_resolve.specs.Resolved.{scope_in}
-use Rattle.dwz_unit.specs.Rows.{rows_of, units_of}
-use Rattle.dwz_bare.proofs.NamesLemmas.{names_all, next_name, no_name, text_of_row}
+use Rattle.dwz_resolve.specs.Resolved.{around}
+use Rattle.dwz_unit.specs.Rows.{units_of}
+use Rattle.dwz_bare.proofs.NamesLemmas.{names_all, next_name, no_name, space_means, space_named}
 use Rattle.dwz_bare.proofs.ListFacts.{drop_at, each_rest}
 use Rattle.dwz_bare.proofs.names.put_names.Goals as goal
 
 pub loop-space-init : goal.loop-space-init
 loop-space-init c = record {
   within = c.requires;
-  left = λ u depth i names at h. (
+  left = λ u names at h. (
       let raw = units_of c.args.units.now in
-      names_all (scope_in c.args.sections.now raw u) (rows_of raw) depth i names c.args.spaces.now c.args.out.now.items c.put_number.new.out.items h c.in_ok-put_number.ensures);
+      names_all raw (around c.args.sections.now raw) c.args.here.now.number names c.args.spaces.now c.args.out.now.items c.put_number.new.out.items h c.in_ok-put_number.ensures);
 }
 
 pub loop-space-preserved : goal.loop-space-preserved
@@ -21,19 +21,20 @@ loop-space-preserved c =
     let raw = units_of c.args.units.now in
     let xs = c.args.spaces.now in
     let k = c.loop-space.space-index in
-    let x = get_or xs k 0 in
+    let e = get_or xs k 0 in
     let lt : k < length xs = c.loop-space-test.true in
     record {
       within = each_rest (λ n. n < entries_in raw) xs k lt c.loop-space.invariant.within;
-      left = λ u depth i names at h. (
-          let s = scope_in c.args.sections.now raw u in
-          let n = next_name s (rows_of raw) i x (drop k xs) (drop (k + 1) xs) c.loop-space.out.items _ (drop_at xs k 0 lt) (c.loop-space.invariant.left u depth i names at h) in
-          n.3 c.put_name.new.out.items (c.in_ok-put_name.ensures u n.2.row n.2.d n.2.text at n.2.found n.2.means n.2.is_space ∙ ap (λ (w : List ℕ). c.loop-space.out.items ++ counted w) (text_of_row s (rows_of raw) n.0 i n.1 x n.2)));
+      left = λ u names at h. (
+          let a = around c.args.sections.now raw in
+          let n = c.args.here.now.number in
+          let x = next_name raw a n e (drop k xs) (drop (k + 1) xs) c.loop-space.out.items _ (drop_at xs k 0 lt) (c.loop-space.invariant.left u names at h) in
+          x.2 c.put_name.new.out.items (c.in_ok-put_name.ensures u x.1.row x.1.d x.1.text at x.1.found (space_means raw a n e x.0 u x.1 at.is_unit) x.1.is_space ∙ ap (λ (w : List ℕ). c.loop-space.out.items ++ counted w) (space_named raw a n e x.0 x.1)));
     }
 
 pub returns : goal.returns
-returns c = λ u depth i names at h. (
+returns c = λ u names at h. (
     let raw = units_of c.args.units.now in
     let xs = c.args.spaces.now in
     let k = c.loop-space.space-index in
-    no_name (scope_in c.args.sections.now raw u) (rows_of raw) i (drop k xs) c.loop-space.out.items _ (drop_all k xs c.loop-space-test.false) (c.loop-space.invariant.left u depth i names at h))
+    no_name raw (around c.args.sections.now raw) c.args.here.now.number (drop k xs) c.loop-space.out.items _ (drop_all k xs c.loop-space-test.false) (c.loop-space.invariant.left u names at h))

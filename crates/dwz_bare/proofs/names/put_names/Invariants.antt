@@ -1,16 +1,16 @@
-use Rattle.std.proofs.Common.{◌<◌, ◌++◌, ℕ, List, drop, map}
+use Rattle.std.proofs.Common.{◌<◌, ◌++◌, List, drop, map}
 use Rattle.dwz_alike.specs.Spots.{SpaceName}
 use Rattle.dwz_docs.specs.Units.{RawUnit, entries_in}
-use Rattle.dwz_flat.specs.Tops.{AreSpaceRows}
+use Rattle.dwz_index.specs.Chains.{AreSpacesAt}
 use Rattle.dwz_label.specs.Labels.{counted, each_counted}
-use Rattle.dwz_resolve.specs.Resolved.{Each, IsHere, scope_in}
-use Rattle.dwz_unit.specs.Rows.{rows_of, units_of}
+use Rattle.dwz_resolve.specs.Resolved.{Each, IsHere, around}
+use Rattle.dwz_unit.specs.Rows.{units_of}
 use Rattle.dwz_bare.proofs.NamesLemmas.{NamesLeft}
 use Rattle.dwz_bare.proofs.names.put_names.Given as goal
 
 abbrev pub invariant-loop-space : goal.invariant-loop-space
 invariant-loop-space l = record {
   within : Each (λ i. i < entries_in (units_of l.units)) (drop l.space-index l.spaces);
-  left : (u : RawUnit) (depth i : ℕ) (names : List SpaceName) → IsHere (units_of l.units) u l.here → AreSpaceRows (scope_in l.sections (units_of l.units) u) (rows_of (units_of l.units)) depth i names l.spaces
-      → NamesLeft (scope_in l.sections (units_of l.units) u) (rows_of (units_of l.units)) i (drop l.space-index l.spaces) l.out.items (l.fn.out.items ++ each_counted counted (map (λ x. x.text) names));
+  left : (u : RawUnit) (names : List SpaceName) → IsHere (units_of l.units) u l.here → AreSpacesAt (units_of l.units) (around l.sections (units_of l.units)) l.here.number names l.spaces
+      → NamesLeft (units_of l.units) (around l.sections (units_of l.units)) l.here.number (drop l.space-index l.spaces) l.out.items (l.fn.out.items ++ each_counted counted (map (λ x. x.text) names));
 }

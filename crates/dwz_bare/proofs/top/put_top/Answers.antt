@@ -1,8 +1,7 @@
-use Rattle.std.proofs.Common.{◌+◌, ◌++◌, ℕ, List, ap, drop, subst, sym, ◌∙◌}
+use Rattle.std.proofs.Common.{◌+◌, ◌++◌, ℕ, List, ap, drop, sym, ◌∙◌}
 use Rattle.dwz_alike.specs.Spots.{name_list}
 use Rattle.dwz_docs.specs.Trees.{End, Entry}
 use Rattle.dwz_flat.specs.Rows.{AreRowsMeant, nodes}
-use Rattle.dwz_flat.specs.Tops.{AreSpaceRows}
 use Rattle.dwz_flat.proofs.PartLemmas.{rows_unit}
 use Rattle.dwz_flat.proofs.TreeLemmas.{tree_means}
 use Rattle.dwz_resolve.proofs.RowLemmas.{below-length}
@@ -12,7 +11,7 @@ use Rattle.dwz_bare.proofs.TopLemmas.{all_told, top_label}
 use Rattle.dwz_bare.proofs.top.put_top.Goals as goal
 
 pub returns : goal.returns
-returns c = λ u name depth t h k language above at many targets. (
+returns c = λ u name depth t h k language spaces at many targets. (
     let x = c.args.source.now in
     let raw = raw_of x in
     let s = scope_at x u in
@@ -28,6 +27,5 @@ returns c = λ u name depth t h k language above at many targets. (
       means = tree_means s (Entry h.e h.c End) (Entry h.d h.g End) n h.p h.means;
       targets = targets;
     } in
-    let spaces = subst (λ (w : List ℕ). AreSpaceRows s (rows_of raw) depth h.p.before t.spaces w) above h.spaces_are in
-    all_told c.args.language (name_list t) old c.put_language.new.out.items c.put_names.new.out.items c.put_rows.new.out.items said c.in_ok-put_language.ensures (c.in_ok-put_names.ensures u depth h.p.before t.spaces k.here spaces) (c.in_ok-put_rows.ensures u name rows h.after ds k (rows_unit (Entry h.e h.c End) n h.p) meant)
+    all_told c.args.language (name_list t) old c.put_language.new.out.items c.put_names.new.out.items c.put_rows.new.out.items said c.in_ok-put_language.ensures (c.in_ok-put_names.ensures u t.spaces k.here spaces) (c.in_ok-put_rows.ensures u name rows h.after ds k (rows_unit (Entry h.e h.c End) n h.p) meant)
     ∙ ap (λ (w : List ℕ). old ++ w) (top_label s name (rows_of raw) n depth c.args.first c.args.language t h language at))

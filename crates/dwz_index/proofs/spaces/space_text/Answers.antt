@@ -8,12 +8,12 @@ use Rattle.dwz_index.proofs.spaces.space_text.Goals as goal
 pub returns-in-None : goal.returns-in-None
 returns-in-None c = λ s row d text own found means is. (
     let h = has_name s row.entry d text means is in
-    let none : None ≡ Some h.attr = c.in-None.ensures row found ∙ h.first in
+    let none : None ≡ Some h.attr = c.in-None.ensures.first row found ∙ h.first in
     absurd cc)
 
 pub returns-in-Some : goal.returns-in-Some
 returns-in-Some c = λ s row d text own found means is. (
     let h = has_name s row.entry d text means is in
-    let both : Some (attr_view c.in-Some.attr) ≡ Some h.attr = c.in-Some.ensures row found ∙ h.first in
+    let both : Some (attr_view c.in-Some.attr) ≡ Some h.attr = c.in-Some.ensures.first row found ∙ h.first in
     let same : attr_view c.in-Some.attr ≡ h.attr = cc in
     c.text_of.ensures s h.value text own (subst (λ (a : RawAttr). MeansValue s a h.value) (sym same) h.means) h.is)

@@ -3,23 +3,23 @@ use Rattle.dwz_unit.specs.declared.rows.RawEntry.{RawEntry as EntryOfCode}
 use Rattle.dwz_unit.specs.Rows.{attr_view, units_of}
 use Rattle.dwz_resolve.proofs.RootLemmas.{first_here, first_later, first_none}
 use Rattle.dwz_resolve.proofs.RowLemmas.{attr_there, row_is}
-use Rattle.dwz_bare.proofs.language.first_language.Goals as goal
+use Rattle.dwz_resolve.proofs.first.first_attr.Goals as goal
 
 pub loop-k-init : goal.loop-k-init
 loop-k-init c = λ row found. refl
 
-pub returns-then-attr-eq-LANGUAGE : goal.returns-then-attr-eq-LANGUAGE
-returns-then-attr-eq-LANGUAGE c = λ row found. (
+pub returns-then-attr-name-clause-first : goal.returns-then-attr-name-clause-first
+returns-then-attr-name-clause-first c = λ row found. (
     let there = attr_there (units_of c.args.units.now) c.args.entry c.loop-k.k row (attr_view c.attr-attr.result) found c.attr-attr.ensures.attr in
-    sym (first_here 0x13 row.entry.attrs c.loop-k.k (attr_view c.attr-attr.result) there c.if-attr-eq-LANGUAGE.true (c.loop-k.invariant row found)))
+    sym (first_here c.args.name row.entry.attrs c.loop-k.k (attr_view c.attr-attr.result) there c.if-attr-name.true (c.loop-k.invariant row found)))
 
 pub loop-k-preserved : goal.loop-k-preserved
 loop-k-preserved c = λ row found. (
     let there = attr_there (units_of c.args.units.now) c.args.entry c.loop-k.k row (attr_view c.attr-attr.result) found c.attr-attr.ensures.attr in
-    first_later 0x13 row.entry.attrs c.loop-k.k (attr_view c.attr-attr.result) there c.if-attr-eq-LANGUAGE.false (c.loop-k.invariant row found))
+    first_later c.args.name row.entry.attrs c.loop-k.k (attr_view c.attr-attr.result) there c.if-attr-name.false (c.loop-k.invariant row found))
 
-pub returns : goal.returns
-returns c = λ row found. (
+pub returns-clause-first : goal.returns-clause-first
+returns-clause-first c = λ row found. (
     let is = row_is (units_of c.args.units.now) c.args.entry c.entry-count.result row c.entry-count.ensures.entry found in
     let count : length row.entry.attrs ≡ c.entry-count.result.attrs = ap (λ (e : EntryOfCode). e.attrs) is in
-    sym (first_none 0x13 row.entry.attrs c.loop-k.k (omega arith) (c.loop-k.invariant row found)))
+    sym (first_none c.args.name row.entry.attrs c.loop-k.k (omega arith) (c.loop-k.invariant row found)))

@@ -1,0 +1,5 @@
+pub mod RowLemmas
+pub mod SearchLemmas
+pub mod SpaceLemmas
+pub mod TopLemmas
+pub mod LabelLemmas

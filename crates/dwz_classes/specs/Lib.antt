@@ -1,0 +1,4 @@
+pub mod Unit
+pub mod Run
+pub mod Spaces
+pub mod Shown

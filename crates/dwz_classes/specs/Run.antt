@@ -1,0 +1,48 @@
+-- The labels of the tops of all files; and where these are.
+use Rattle.std.specs.Prelude.{◌≡◌, ℕ, ◌-◌, ◌<◌, ◌≤◌, List, length, map, Some, slice_get}
+use Rattle.dwz_alike.specs.Spots.{tops_of, units_of}
+use Rattle.dwz_classes.specs.declared.run.Run.{Run}
+use Rattle.dwz_classes.specs.declared.unit.UnitRow.{UnitRow}
+use Rattle.dwz_classes.specs.Unit.{HaveRows, IsUnitRow}
+use Rattle.dwz_graph.specs.declared.file.File.{File}
+use Rattle.dwz_graph.specs.Files.{AreKept, docs_of}
+use Rattle.dwz_index.specs.declared.index.TopEntry.{TopEntry}
+use Rattle.dwz_index.specs.Index.{Index}
+use Rattle.dwz_indexes.specs.Indexed.{AreIndexes}
+use Rattle.dwz_label.specs.Labels.{label_of}
+use Rattle.dwz_unit.specs.Rows.{units_of as raw_units}
+
+-- the labels of the tops of all files, in order
+abbrev pub labels_of : List (List ℕ) → List (List ℕ)
+labels_of contents = map label_of (tops_of (units_of (docs_of contents)))
+
+-- ---- inner: no public clause cites what follows
+
+-- the files are kept, and each has its index
+pub record IsRun (r : Run) : Type 0 where
+  pub kept : AreKept r.graph.now r.files.now
+  pub indexed : AreIndexes (docs_of r.graph.now) r.indexes.now
+
+-- the top with a number among those of all files is of the file with that number
+pub record IsInFile (files : List File) (indexes : List Index) (file n : ℕ) : Type 0 where
+  pub f : File
+  pub x : Index
+  pub got : slice_get files file ≡ Some f
+  pub index : slice_get indexes file ≡ Some x
+  pub from : x.starts.top ≤ n
+  pub to : n - x.starts.top < length x.tops
+
+-- the file's index gives this of a top, and that is kept of the top's unit
+pub record IsTopIn (files : List File) (indexes : List Index) (file : ℕ) (e : TopEntry) (row : UnitRow) : Type 0 where
+  pub f : File
+  pub x : Index
+  pub k : ℕ
+  pub got : slice_get files file ≡ Some f
+  pub index : slice_get indexes file ≡ Some x
+  pub entry : slice_get x.tops k ≡ Some e
+  pub unit : IsUnitRow (raw_units f.units) (e.unit - x.starts.unit) row
+
+-- rows are kept of the units of all files
+pub record AreReady (r : Run) (rows : List UnitRow) : Type 0 where
+  pub run : IsRun r
+  pub rows_are : HaveRows r.files.now r.indexes.now (length r.files.now) rows

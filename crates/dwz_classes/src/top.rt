@@ -1,0 +1,56 @@
+//! The label of a top, from the rows of its file.
+
+ghost use Rattle.std.specs.Prelude.{◌≡◌, ℕ, ◌+◌, ◌<◌, ◌++◌, List, Some, OnOk, slice_get};
+ghost use Rattle.dwz_classes.specs.Run.{IsRun, IsTopIn, labels_of};
+ghost use Rattle.dwz_index.specs.Index.{Index};
+ghost use Rattle.dwz_label.specs.Shown.{nth_label};
+
+use crate::run::{Run, file_at, index_at};
+use crate::spaces::put_spaces;
+use crate::unit::UnitRow;
+use dwz_bare::{Scratch, Source, put_top};
+use dwz_index::TopEntry;
+use dwz_model::NoMemory;
+
+/// Appends the label of a top of the file with a number, by what the file's index gives it and what is kept of its unit.
+pub(crate) fn put_top_of(
+    run: &Run,
+    file: usize,
+    entry: &TopEntry,
+    row: &UnitRow,
+    out: &mut Vec<u8>,
+    spaces: &mut Vec<u32>,
+    scratch: &mut Scratch,
+) -> Result<(), NoMemory>
+    requires run { IsRun run.now }
+    requires there { IsTopIn run.now.files.now run.now.indexes.now file entry.now row.now }
+    ensures { (x : Index) (k : ℕ) → slice_get run.now.indexes.now file ≡ Some x → slice_get x.tops k ≡ Some entry.now → OnOk result (out.new.items ≡ out.old.items ++ nth_label (labels_of run.now.graph.now) (x.starts.top + k)) }
+{
+    let read = file_at(run, file);
+    let index = index_at(run, file);
+    put_spaces(index.spaces(), index.starts().space, entry.inner, spaces)?;
+    let source = Source {
+        alloc: run.alloc,
+        units: &read.units,
+        sections: &read.sections,
+        refs: read.resolved.refs.as_slice(),
+        tables: read.resolved.tables.as_slice(),
+        index,
+    };
+    let line = read.resolved.lines[row.here.number as usize];
+    let end = read.units.entry(entry.entry).end;
+    let next = read.resolved.starts[entry.entry as usize] as usize;
+    put_top(
+        &source,
+        out,
+        &row.here,
+        line,
+        row.language,
+        spaces.as_slice(),
+        entry.entry,
+        end,
+        next,
+        scratch,
+    )?;
+    Ok(())
+}

@@ -1,0 +1,10 @@
+//! What holds of the sections that are written.
+
+ghost use Rattle.dwz_sections.specs.Numbers.{EndLaw, PatchedLaw};
+
+/// The operands of the location lists of a file end within `.debug_loclists`, so that they can be given numbers. Where its lists share
+/// nothing, the section has then at each operand of each list the number of the place, and else the bytes that it had.
+pub fn section_laws()
+    ensures end { EndLaw }
+    ensures patched { PatchedLaw }
+{}

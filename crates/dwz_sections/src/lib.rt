@@ -1,0 +1,9 @@
+//! The sections of a file of which something moves, apart from its units: numbers that are changed in place, all other bytes as they were.
+#![tactic(auto)]
+
+mod laws;
+mod location_lists;
+mod numbers;
+
+pub use laws::section_laws;
+pub use location_lists::lists;

@@ -1,5 +1,5 @@
 -- How many texts and numbers of files come before those of an entry.
-use Rattle.std.specs.Prelude.{ℕ, ◌+◌, ◌&&◌, Bool, true, false, List, [], ◌∷◌, count_by}
+use Rattle.std.specs.Prelude.{ℕ, ◌+◌, ◌&&◌, ◌==◌, not, Bool, true, false, List, [], ◌∷◌, count_by}
 use Rattle.dwz_docs.specs.Entries.{RawAttr}
 use Rattle.dwz_meanings.specs.Meanings.{Class, OfConstant, OfTextBySlot, OfTextInLineStr, OfTextInStr, class_of, names_file}
 use Rattle.dwz_model.specs.declared.place.Pair.{Pair}
@@ -17,8 +17,9 @@ abbrev pub is_constant : Class → Bool
 is_constant OfConstant = true
 is_constant _ = false
 
+-- DW_AT_sibling (1) isn't written
 abbrev pub is_pair_placed : Pair → Bool
-is_pair_placed pair = is_placed (class_of pair.form)
+is_pair_placed pair = not (pair.name == 0x01) && is_placed (class_of pair.form)
 
 -- a constant with one of the names of numbers of files
 abbrev pub is_pair_file : Pair → Bool

@@ -15,11 +15,14 @@ use std::alloc::Global;
 /// How many texts, and how many numbers of files, entries have that come before an entry.
 #[derive(Clone, Copy, Debug, PartialEq, Eq)]
 pub struct Before {
-    /// Texts that are stored by an offset or by a slot (DWARF 5, 7.5.5, class string).
+    /// Texts that are stored by an offset or by a slot (DWARF 5, 7.5.5, class string), but of `DW_AT_sibling`.
     pub texts: u64,
     /// Constants that are numbers of files (2.14, 3.3.8.2).
     pub files: u64,
 }
+
+// It is written nowhere, so nothing that it stores has a place after.
+const DW_AT_SIBLING: u16 = 0x01;
 
 // `DW_AT_decl_file` and `DW_AT_call_file`.
 fn names_file(name: u16) -> bool
@@ -48,11 +51,11 @@ fn is_constant(class: Class) -> bool
     }
 }
 
-// Whether a value of that name and form is a text with a place, or the number of a file.
+// Whether a value of that name and form is a text with a place that is written, or the number of a file.
 fn is_text(pair: &Pair) -> bool
     ensures { result ≡ is_pair_placed pair.now }
 {
-    is_placed(class_of(pair.form))
+    pair.name != DW_AT_SIBLING && is_placed(class_of(pair.form))
 }
 
 fn is_file(pair: &Pair) -> bool

@@ -1,4 +1,4 @@
-//! Which tops and spaces of all files operands of expressions and location lists name.
+//! Which tops of all files operands of expressions and location lists name.
 #![tactic(auto)]
 
 mod lists;

@@ -1,0 +1,104 @@
+-- Small documents, each of one file.
+use Rattle.std.proofs.Common.{ℕ, ◌+◌, pos, true, List, [], ◌∷◌}
+use Rattle.std.specs.Prelude.{codes, replicate}
+use Rattle.dwz_model.specs.declared.place.Base.TheVariants.{Unit as FromUnit}
+use Rattle.dwz_meanings.specs.Documents.{Attr, Doc, DwUnit, Loc, OfType, Operand, Same, ref}
+use Rattle.dwz_docs.specs.Trees.{End, Entry}
+use Rattle.dwz_alike.proofs.SmallDocs.{base_type, entry, in_language, int_type, listed, long_type, named, referring, short_type, sized, space, then, typed, unit, unspecified, data1}
+
+-- units of a file for a machine of x86-64
+abbrev pub file : List (DwUnit ℕ) → Doc ℕ
+file units = record { machine = 62; units = units }
+
+-- `int`, in two units
+abbrev pub ints : Doc ℕ
+ints = file (unit 0 [] (then (int_type 0x0d) End) ∷ unit 0x15 [] (then (int_type 0x22) End) ∷ [])
+
+-- a structure `n` with a member `next`, and a pointer that is the member's type
+abbrev cycle : ℕ → DwUnit ℕ
+cycle place = unit place []
+    (Entry (entry (place + 0x0d) 0x13 (named (codes "n") ∷ sized 8 ∷ [])) (then (entry (place + 0x11) 0x0d (named (codes "next") ∷ typed (place + 0x1d) ∷ data1 0x38 0 ∷ [])) End)
+    (then (entry (place + 0x1d) 0x0f (sized 8 ∷ typed (place + 0x0d) ∷ [])) End))
+
+abbrev pub cycle_doc : Doc ℕ
+cycle_doc = file (cycle 0 ∷ cycle 0x24 ∷ cycle 0x48 ∷ [])
+
+-- two types in two units, and the first in a third
+abbrev pub users_doc : Doc ℕ
+users_doc = file (
+    unit 0 [] (then (long_type 0x0d) (then (short_type 0x27) End))
+    ∷ unit 0x47 [] (then (long_type 0x54) (then (short_type 0x6e) End))
+    ∷ unit 0x8e [] (then (long_type 0x9b) End)
+    ∷ []
+    )
+
+-- a type, and two constant types of it; and the same with one
+abbrev pub repeats_doc : Doc ℕ
+repeats_doc = file (
+    unit 0 [] (then (long_type 0x0d) (then (entry 0x27 0x26 (typed 0x0d ∷ [])) (then (entry 0x2c 0x26 (typed 0x0d ∷ [])) End)))
+    ∷ unit 0x32 [] (then (long_type 0x3f) (then (entry 0x59 0x26 (typed 0x3f ∷ [])) End))
+    ∷ []
+    )
+
+-- a type, `int`, and a variable `x` whose location list names `int`; and the type again
+abbrev pub pinned_doc : Doc ℕ
+pinned_doc = file (
+    unit 0 [] (then (unspecified 0x0d) (then (int_type 0x2a) (then (entry 0x31 0x34 (named (codes "x") ∷ listed 0x2a ∷ [])) End)))
+    ∷ unit 0x39 [] (then (unspecified 0x46) End)
+    ∷ []
+    )
+
+-- a type in two units of one language, C11
+abbrev pub language_doc : Doc ℕ
+language_doc = file (unit 0 (in_language 0x1d ∷ []) (then (unspecified 0x0e) End) ∷ unit 0x2c (in_language 0x1d ∷ []) (then (unspecified 0x3a) End) ∷ [])
+
+-- `int` and a typedef of it, twice, and `int` alone
+abbrev pub carried_doc : Doc ℕ
+carried_doc = file (
+    unit 0 [] (then (int_type 0x0d) (then (entry 0x14 0x16 (named (codes "extended short unsigned int") ∷ typed 0x0d ∷ [])) End))
+    ∷ unit 0x36 [] (then (int_type 0x43) (then (entry 0x4a 0x16 (named (codes "extended short unsigned int") ∷ typed 0x43 ∷ [])) End))
+    ∷ unit 0x6c [] (then (int_type 0x79) End)
+    ∷ []
+    )
+
+-- a namespace `ns` with a type and `int`, and one with the type alone
+abbrev pub space_doc : Doc ℕ
+space_doc = file (
+    unit 0 [] (Entry (space 0x0d (codes "ns")) (then (unspecified 0x11) (then (int_type 0x2e) End)) End)
+    ∷ unit 0x37 [] (Entry (space 0x44 (codes "ns")) (then (unspecified 0x48) End) End)
+    ∷ []
+    )
+
+-- a type; a type unit with a structure `s`; and the type again
+abbrev type_unit : DwUnit ℕ
+type_unit = record {
+  at = 0x2b;
+  kind = OfType 0x0102030405060708 0x44;
+  root = entry 0x43 0x41 [];
+  below = then (entry 0x44 0x13 (named (codes "s") ∷ sized 4 ∷ [])) End;
+}
+
+abbrev pub type_unit_doc : Doc ℕ
+type_unit_doc = file (unit 0 [] (then (unspecified 0x0d) End) ∷ type_unit ∷ unit 0x49 [] (then (unspecified 0x56) End) ∷ [])
+
+-- a type whose name has so many letters, `int`, another type, and a variable `x` whose location list names the first two; the root names
+-- `int` too, in one byte (DW_AT_base_types, DW_FORM_ref1); and the other type again
+abbrev listing : ℕ → ℕ → Attr ℕ
+listing first second = record {
+  name = 0x02;
+  form = 0x17;
+  raw = pos 0x0c;
+  value = record {
+    plain = Loc ((Same (0x70 ∷ 0 ∷ 0xa8 ∷ []) ∷ Operand 1 true FromUnit ∷ Same (0xa8 ∷ []) ∷ Operand 1 true FromUnit ∷ Same (0x9f ∷ []) ∷ []) ∷ []);
+    refs = first ∷ second ∷ [];
+  };
+}
+
+abbrev pub far_doc : ℕ → Doc ℕ
+far_doc letters = file (
+    unit 0 (record { name = 0x35; form = 0x11; raw = pos (letters + 0x12); value = ref (letters + 0x12) } ∷ []) (
+    then (base_type 0x0e (replicate letters 0x62) 4 5) (then (int_type (letters + 0x12)) (then (unspecified (letters + 0x19))
+    (then (entry (letters + 0x36) 0x34 (named (codes "x") ∷ listing 0x0e (letters + 0x12) ∷ [])) End))))
+    ∷ unit (letters + 0x3e) [] (then (unspecified (letters + 0x4b)) End)
+    ∷ []
+    )

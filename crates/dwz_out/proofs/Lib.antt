@@ -9,6 +9,7 @@ pub mod OneRefusal
 pub mod EitherOne
 pub mod OfSections
 pub mod OneOutcome
+pub mod SomeOutcome
 pub mod FilesRead
 pub mod SectionsMade
 pub mod SlotsMade

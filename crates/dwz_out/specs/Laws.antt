@@ -1,5 +1,5 @@
 -- Laws on what a run puts.
-use Rattle.std.specs.Prelude.{◌≡◌, ◌⊎◌, ℕ, ◌≤◌, Bool, true, List, length, Some}
+use Rattle.std.specs.Prelude.{◌≡◌, ◌↔◌, ◌⊎◌, ℕ, ◌≤◌, Bool, true, List, length, Some}
 use Rattle.dwz_model.specs.declared.fault.Refusal.{Refusal}
 use Rattle.dwz_docs.specs.ElfLayout.{IsOrder}
 use Rattle.dwz_docs.specs.ElfReading.{ElfView}
@@ -11,6 +11,7 @@ use Rattle.dwz_seen.specs.Lists.{Each}
 use Rattle.dwz_writing.specs.Meant.{AreRenumbered}
 use Rattle.dwz_same.specs.Units.{changes}
 use Rattle.dwz_back.specs.AllFiles.{AreMade, IsRead, ReadBack}
+use Rattle.dwz_back.specs.Prunable.{IsPrunable}
 use Rattle.dwz_back.specs.Files.{AreRanged, Run, imports_common, places, tells}
 use Rattle.dwz_outside.specs.Store.{Store}
 use Rattle.dwz_words.specs.Conditions.{FitTogether}
@@ -45,6 +46,12 @@ SectionLaw = (name : List ℕ) (r : Run) (q : Refusal) → OutFault name r q →
 -- at most one thing comes of options and contents
 abbrev pub OneOutcomeLaw : Type 0
 OneOutcomeLaw = (o : Options) (contents : List (List ℕ)) (a b : Outcome) → Out o contents a → Out o contents b → a ≡ b
+
+-- and something does, where it can be told which files are prunable
+abbrev pub SomeOutcomeLaw : Type 0
+SomeOutcomeLaw =
+    ((bytes : List ℕ) (doc : Doc ℕ) → (flag : Bool) × ((flag ≡ true) ↔ IsPrunable bytes doc.units)) → (o : Options) (contents : List (List ℕ))
+    → (outcome : Outcome) × Out o contents outcome
 
 -- in the location lists of a file that reads stand the numbers of where things stand, and in no other bytes do
 abbrev pub ListsLaw : Type 0

@@ -4,6 +4,6 @@
 //! There is no running code here. The definitions stand in `specs/`; here are laws, which are functions without a body.
 #![tactic(auto)]
 
-mod out;
+mod outcome;
 
-pub use out::out_laws;
+pub use outcome::out_laws;

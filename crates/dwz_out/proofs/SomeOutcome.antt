@@ -1,0 +1,36 @@
+-- Of options and contents something comes, where it can be told which files are prunable.
+use Rattle.std.proofs.Common.{◌≡◌, ◌↔◌, ◌⊎◌, ℕ, Bool, true, List, [], ◌∷◌, Result, Ok, Err, refl, inl, inr}
+use Rattle.dwz_model.specs.declared.fault.Refusal.{Refusal}
+use Rattle.dwz_meanings.specs.Documents.{Doc}
+use Rattle.dwz_meanings.specs.Files.{Limits, ReadAll, files_meaning, limits_after, no_files_before}
+use Rattle.dwz_meanings.proofs.FileLemmas.{files_agree}
+use Rattle.dwz_words.specs.declared.options.Options.{Options}
+use Rattle.dwz_course.specs.Outcome.{Outcome, refuses, writes}
+use Rattle.dwz_back.specs.Prunable.{IsPrunable}
+use Rattle.dwz_out.specs.Out.{ArePrunable, IsFree, Out, output_of, run_for, sup_name}
+use Rattle.dwz_out.specs.Refusals.{OutFault}
+use Rattle.dwz_out.proofs.EitherOne.{either}
+
+module _ (tell : (bytes : List ℕ) (doc : Doc ℕ) → (flag : Bool) × ((flag ≡ true) ↔ IsPrunable bytes doc.units)) where
+  flags_of : (l : Limits) (contents : List (List ℕ)) (docs : List (Doc ℕ)) → ReadAll l contents docs → (flags : List Bool) × ArePrunable contents docs flags
+  flags_of l [] [] all = ([], tt)
+  flags_of l [] (doc ∷ docs) all = absurd all
+  flags_of l (bytes ∷ contents) [] all = absurd all
+  flags_of l (bytes ∷ contents) (doc ∷ docs) all =
+      let more = flags_of (limits_after l bytes all.0) contents docs all.2 in
+      ((tell bytes doc).0 ∷ more.0, ((tell bytes doc).1, more.1))
+
+  pub some_outcome : (o : Options) (contents : List (List ℕ)) → (outcome : Outcome) × Out o contents outcome
+  some_outcome o contents = by (files_meaning no_files_before 0 contents) refl where
+    read : (docs : List (Doc ℕ)) → ReadAll no_files_before contents docs → (flags : List Bool) → ArePrunable contents docs flags
+        → ((q : Refusal) × OutFault (sup_name o) (run_for o contents docs flags) q) ⊎ IsFree o (run_for o contents docs flags) → (outcome : Outcome) × Out o contents outcome
+    read docs all flags are (inl fault) = (refuses fault.0, inr (docs, flags, record { read = record { reads = all; prunable = are }; fault = fault.1 }))
+    read docs all flags are (inr free) =
+        (writes (output_of o (run_for o contents docs flags)), (docs, flags, record { read = record { reads = all; prunable = are }; free = free }, refl))
+
+    by : (m : Result (List (Doc ℕ)) Refusal) → files_meaning no_files_before 0 contents ≡ m → (outcome : Outcome) × Out o contents outcome
+    by (Err q) e = (refuses q, inl (((files_agree no_files_before 0 contents).err q).0 e))
+    by (Ok docs) e =
+        let all = ((files_agree no_files_before 0 contents).ok docs).0 e in
+        let flags = flags_of no_files_before contents docs all in
+        read docs all flags.0 flags.1 (either (sup_name o) (run_for o contents docs flags.0))

@@ -1,10 +1,10 @@
 -- Small documents, each of one file.
-use Rattle.std.proofs.Common.{ℕ, ◌+◌, pos, true, List, [], ◌∷◌}
+use Rattle.std.proofs.Common.{ℕ, ◌+◌, pos, true, List, [], ◌∷◌, Some}
 use Rattle.std.specs.Prelude.{codes, replicate}
 use Rattle.dwz_model.specs.declared.place.Base.TheVariants.{Unit as FromUnit}
-use Rattle.dwz_meanings.specs.Documents.{Attr, Doc, DwUnit, Loc, OfType, Operand, Same, ref}
+use Rattle.dwz_meanings.specs.Documents.{Attr, Doc, DwUnit, File, Loc, Node, OfType, Operand, Same, Sec, Text, only, ref}
 use Rattle.dwz_docs.specs.Trees.{End, Entry}
-use Rattle.dwz_alike.proofs.SmallDocs.{base_type, entry, in_language, int_type, listed, long_type, named, referring, short_type, sized, space, then, typed, unit, unspecified, data1}
+use Rattle.dwz_alike.proofs.SmallDocs.{base_type, computed, entry, in_language, int_type, listed, long_type, named, referring, short_type, sized, space, then, typed, unit, unspecified, data1}
 
 -- units of a file for a machine of x86-64
 abbrev pub file : List (DwUnit ℕ) → Doc ℕ
@@ -102,3 +102,48 @@ far_doc letters = file (
     ∷ unit (letters + 0x3e) [] (then (unspecified (letters + 0x4b)) End)
     ∷ []
     )
+
+-- ---- documents of files that are read together
+
+-- a type with DW_AT_decl_file of form data1, that number, which stands for a path; the root of its unit has a line table at 0
+abbrev declared : ℕ → Node ℕ
+declared number = entry 0x11 0x3b (named (codes "extended short unsigned int")
+    ∷ record { name = 0x3a; form = 0x0b; raw = pos number; value = only (File (Some (codes "/usr/include/stdint.h"))) } ∷ [])
+
+abbrev pub declared_doc : ℕ → Doc ℕ
+declared_doc number = file (unit 0 (record { name = 0x10; form = 0x17; raw = pos 0; value = only (Sec 0) } ∷ []) (then (declared number) End) ∷ [])
+
+-- a type, and a variable `v` of that type at an address
+abbrev pub addressed_doc : Doc ℕ
+addressed_doc = file (unit 0 [] (then (short_type 0x0d) (then (entry 0x2c 0x34
+    (named (codes "v") ∷ typed 0x0d ∷ computed (0x03 ∷ 0 ∷ 0x40 ∷ 0x40 ∷ 0 ∷ 0 ∷ 0 ∷ 0 ∷ 0 ∷ []) ∷ [])) End)) ∷ [])
+
+abbrev pub short_doc : Doc ℕ
+short_doc = file (unit 0 [] (then (short_type 0x0d) End) ∷ [])
+
+abbrev pub unspecified_doc : Doc ℕ
+unspecified_doc = file (unit 0 [] (then (unspecified 0x0d) End) ∷ [])
+
+-- a base type whose name is the text `int` of `.debug_str`, by a form and a number: its offset (strp), or a slot (strx1)
+abbrev by_text : ℕ → ℕ → ℕ → ℕ → ℕ → Node ℕ
+by_text place form number size encoding = entry place 0x24
+    (record { name = 0x03; form = form; raw = pos number; value = only (Text (codes "int")) } ∷ sized size ∷ data1 0x3e encoding ∷ [])
+
+-- with a type before it; and a further base type of that name
+abbrev pub texts_doc : Doc ℕ
+texts_doc = file (unit 0 [] (then (unspecified 0x0d) (then (by_text 0x2a 0x0e 5 4 5) End)) ∷ [])
+
+abbrev pub more_texts_doc : Doc ℕ
+more_texts_doc = file (unit 0 [] (then (unspecified 0x0d) (then (by_text 0x2a 0x0e 5 4 5) (then (by_text 0x31 0x0e 5 8 5) End))) ∷ [])
+
+-- the first two in a unit whose slots begin at 8 (DW_AT_str_offsets_base), and the name by slot 0
+abbrev slots_unit : ℕ → DwUnit ℕ
+slots_unit place = unit place (record { name = 0x72; form = 0x17; raw = pos 8; value = only (Sec 8) } ∷ [])
+    (then (unspecified (place + 0x11)) (then (by_text (place + 0x2e) 0x25 0 4 5) End))
+
+abbrev pub slots_doc : Doc ℕ
+slots_doc = file (slots_unit 0 ∷ [])
+
+-- a unit of each kind in one file
+abbrev pub both_doc : Doc ℕ
+both_doc = file (unit 0 [] (then (unspecified 0x0d) (then (by_text 0x2a 0x0e 5 4 5) End)) ∷ slots_unit 0x32 ∷ [])

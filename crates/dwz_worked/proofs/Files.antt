@@ -147,3 +147,11 @@ slots_doc = file (slots_unit 0 ∷ [])
 -- a unit of each kind in one file
 abbrev pub both_doc : Doc ℕ
 both_doc = file (unit 0 [] (then (unspecified 0x0d) (then (by_text 0x2a 0x0e 5 4 5) End)) ∷ slots_unit 0x32 ∷ [])
+
+-- a type in two units
+abbrev pub shorts_doc : Doc ℕ
+shorts_doc = file (unit 0 [] (then (short_type 0x0d) End) ∷ unit 0x2d [] (then (short_type 0x3a) End) ∷ [])
+
+-- no unit
+abbrev pub empty_doc : Doc ℕ
+empty_doc = file []

@@ -5,3 +5,6 @@ pub mod Alone
 pub mod Together
 pub mod Wholes
 pub mod Narrow
+pub mod Texts
+pub mod Loaded
+pub mod Still

@@ -1,12 +1,21 @@
 -- A whole file whose location list has just room for its new numbers, and one whose list hasn't.
-use Rattle.std.proofs.Common.{◌≡◌, ℕ, Bool, true, false, List, [], ◌∷◌, ◌++◌, map, None, Option, Some, Ok, refl}
+use Rattle.std.proofs.Common.{◌≡◌, ◌⊎◌, ◌≤◌, ◌∙◌, ℕ, Bool, true, false, List, [], ◌∷◌, ◌++◌, map, None, Option, Some, Ok, refl, subst, sym, inl, inr, arith}
 use Rattle.std.specs.Prelude.{codes}
+use Rattle.dwz_model.specs.declared.fault.Fault.{Fault}
+use Rattle.dwz_model.specs.declared.fault.Reason.TheVariants.{OperandWidth}
+use Rattle.dwz_model.specs.declared.fault.Refusal.{Refusal}
+use Rattle.dwz_model.specs.declared.place.Base.TheVariants.{Unit as FromUnit}
+use Rattle.dwz_docs.specs.Lists.{In}
 use Rattle.dwz_docs.specs.PlainFile.{plain_file, plain_section}
 use Rattle.dwz_meanings.specs.Documents.{Doc}
+use Rattle.dwz_meanings.specs.Shared.{ListOperand, of_unit}
+use Rattle.dwz_same.specs.Units.{changes}
 use Rattle.dwz_back.specs.Files.{Run}
 use Rattle.dwz_outside.specs.declared.puts.Put.{Put}
 use Rattle.dwz_words.specs.declared.options.Options.{Options}
 use Rattle.dwz_out.specs.Contents.{listed, lists_after, new_number}
+use Rattle.dwz_out.specs.FilesAfter.{has_common}
+use Rattle.dwz_out.specs.Refusals.{CommonRefusal, FirstNarrow, InFile, IsNarrow, OfFirst, OutFault, SectionsFault, narrow_at, operands_of_attr, operands_of_attrs, operands_of_entries, operands_of_units, spoken}
 use Rattle.dwz_out.specs.Out.{all_puts}
 use Rattle.dwz_worked.proofs.Files.{far_doc}
 use Rattle.dwz_worked.proofs.Comes.{come, said}
@@ -130,3 +139,86 @@ new_numbers = map {B = ℕ × ℕ × ℕ} (λ o. (o.operand.at, o.operand.width,
 needs_two_bytes : new_numbers ≡ (0x13, 1, 0x11) ∷ (0x15, 1, 0x80) ∷ []
 unfolding new_numbers
 needs_two_bytes = refl
+
+-- ---- so the run is refused
+
+abbrev far : Run
+far = come_of far_file (far_doc 107)
+
+-- the operands of the list, as they were read
+abbrev first : ListOperand
+first = of_unit 0 (record { at = 0x13; width = 1; uleb = true; base = FromUnit; number = 0x0e })
+
+abbrev second : ListOperand
+second = of_unit 0 (record { at = 0x15; width = 1; uleb = true; base = FromUnit; number = 0x7d })
+
+listed_ones : listed far 0 ≡ first ∷ second ∷ []
+unfolding come
+listed_ones = refl
+
+none_spoken : spoken far 0 ≡ []
+unfolding come operands_of_units operands_of_entries operands_of_attrs operands_of_attr
+none_spoken = refl
+
+first_number : new_number far 0 first ≡ 0x11
+unfolding come
+first_number = refl
+
+second_number : new_number far 0 second ≡ 0x80
+unfolding come
+second_number = refl
+
+no_common_file : has_common far ≡ false
+unfolding come
+no_common_file = refl
+
+something_moves : changes far.move far.units 0 ≡ true
+unfolding come
+something_moves = refl
+
+one_file : far.files ≡ 0 ∷ []
+unfolding come
+one_file = refl
+
+-- the second is the first that is too narrow
+at_least : (r : Run) → new_number r 0 first ≡ 0x11 → (o : ListOperand) → In o (first ∷ second ∷ []) → IsNarrow r 0 o → 0x15 ≤ o.operand.at
+at_least r is o (inl e) narrow =
+    let over : 128 ≤ new_number r 0 first = subst (λ x. IsNarrow r 0 x) (sym e) narrow in
+    let high : 128 ≤ 0x11 = subst (λ k. 128 ≤ k) is over in
+    absurd (omega (arith, high))
+at_least r is o (inr (inl e)) narrow =
+    let there : 0x15 ≤ 0x15 = omega arith in
+    subst (λ (x : ListOperand). 0x15 ≤ x.operand.at) e there
+at_least r is o (inr (inr none)) narrow = absurd none
+
+first_narrow : (r : Run) → listed r 0 ≡ first ∷ second ∷ [] → new_number r 0 first ≡ 0x11 → new_number r 0 second ≡ 0x80 → FirstNarrow r 0 7 (listed r 0) (narrow_at 7 0x15)
+first_narrow r list low high =
+    let over : 128 ≤ 0x80 = omega arith in
+    record {
+      operand = second;
+      there = subst (λ l. In second l) (sym list) (inr (inl refl));
+      narrow = subst (λ k. 128 ≤ k) (sym high) over;
+      least = λ o there narrow. at_least r low o (subst (λ l. In o l) list there) narrow;
+      fault = refl;
+    }
+
+-- the file is refused for it, where no operand of an expression is
+refusal : Refusal
+refusal = record { file = 0; section = 7; at = 0x15; reason = OperandWidth }
+
+refused_by : (r : Run) → has_common r ≡ false → r.files ≡ 0 ∷ [] → changes r.move r.units 0 ≡ true → spoken r 0 ≡ []
+    → FirstNarrow r 0 7 (listed r 0) (narrow_at 7 0x15) → OutFault [] r refusal
+unfolding refusal
+refused_by r none_common files changed none narrow = inr (no_common, inl section) where
+  no_common : (y : Refusal) → CommonRefusal r y → ⊥
+  no_common y c = (let e : true ≡ false = sym c.0 ∙ none_common in absurd cc)
+
+  none_there : (y : Fault) → FirstNarrow r 0 1 (spoken r 0) y → ⊥
+  none_there y n = subst (λ l. In n.operand l) none n.there
+
+  section : OfFirst (InFile (SectionsFault r)) r.files refusal
+  section = subst (λ l. OfFirst (InFile (SectionsFault r)) l refusal) (sym files) (inl (narrow_at 7 0x15, (changed, inr (none_there, inl narrow)), refl))
+
+-- `.debug_loclists` at 15
+refused : OutFault [] far refusal
+refused = refused_by far no_common_file one_file something_moves none_spoken (first_narrow far listed_ones first_number second_number)

@@ -4,11 +4,15 @@ use Rattle.std.specs.Prelude.{codes, replicate}
 use Rattle.dwz_model.specs.declared.place.Base.TheVariants.{Unit as FromUnit}
 use Rattle.dwz_meanings.specs.Documents.{Attr, Doc, DwUnit, File, Loc, Node, OfType, Operand, Same, Sec, Text, only, ref}
 use Rattle.dwz_docs.specs.Trees.{End, Entry}
-use Rattle.dwz_alike.proofs.SmallDocs.{base_type, computed, entry, in_language, int_type, listed, long_type, named, referring, short_type, sized, space, then, typed, unit, unspecified, data1}
+use Rattle.dwz_alike.proofs.SmallDocs.{base_type, computed, entry, in_language, int_type, listed, long_type, named, short_type, sized, space, then, typed, unit, unspecified, data1}
 
 -- units of a file for a machine of x86-64
 abbrev pub file : List (DwUnit ℕ) → Doc ℕ
 file units = record { machine = 62; units = units }
+
+-- DW_AT_type, ref4: a number counted from its unit, which is at a place
+abbrev typed_in : ℕ → ℕ → Attr ℕ
+typed_in unit number = record { name = 0x49; form = 0x13; raw = pos number; value = ref (unit + number) }
 
 -- `int`, in two units
 abbrev pub ints : Doc ℕ
@@ -17,8 +21,8 @@ ints = file (unit 0 [] (then (int_type 0x0d) End) ∷ unit 0x15 [] (then (int_ty
 -- a structure `n` with a member `next`, and a pointer that is the member's type
 abbrev cycle : ℕ → DwUnit ℕ
 cycle place = unit place []
-    (Entry (entry (place + 0x0d) 0x13 (named (codes "n") ∷ sized 8 ∷ [])) (then (entry (place + 0x11) 0x0d (named (codes "next") ∷ typed (place + 0x1d) ∷ data1 0x38 0 ∷ [])) End)
-    (then (entry (place + 0x1d) 0x0f (sized 8 ∷ typed (place + 0x0d) ∷ [])) End))
+    (Entry (entry (place + 0x0d) 0x13 (named (codes "n") ∷ sized 8 ∷ [])) (then (entry (place + 0x11) 0x0d (named (codes "next") ∷ typed_in place 0x1d ∷ data1 0x38 0 ∷ [])) End)
+    (then (entry (place + 0x1d) 0x0f (sized 8 ∷ typed_in place 0x0d ∷ [])) End))
 
 abbrev pub cycle_doc : Doc ℕ
 cycle_doc = file (cycle 0 ∷ cycle 0x24 ∷ cycle 0x48 ∷ [])
@@ -36,7 +40,7 @@ users_doc = file (
 abbrev pub repeats_doc : Doc ℕ
 repeats_doc = file (
     unit 0 [] (then (long_type 0x0d) (then (entry 0x27 0x26 (typed 0x0d ∷ [])) (then (entry 0x2c 0x26 (typed 0x0d ∷ [])) End)))
-    ∷ unit 0x32 [] (then (long_type 0x3f) (then (entry 0x59 0x26 (typed 0x3f ∷ [])) End))
+    ∷ unit 0x32 [] (then (long_type 0x3f) (then (entry 0x59 0x26 (typed_in 0x32 0x0d ∷ [])) End))
     ∷ []
     )
 
@@ -56,7 +60,7 @@ language_doc = file (unit 0 (in_language 0x1d ∷ []) (then (unspecified 0x0e) E
 abbrev pub carried_doc : Doc ℕ
 carried_doc = file (
     unit 0 [] (then (int_type 0x0d) (then (entry 0x14 0x16 (named (codes "extended short unsigned int") ∷ typed 0x0d ∷ [])) End))
-    ∷ unit 0x36 [] (then (int_type 0x43) (then (entry 0x4a 0x16 (named (codes "extended short unsigned int") ∷ typed 0x43 ∷ [])) End))
+    ∷ unit 0x36 [] (then (int_type 0x43) (then (entry 0x4a 0x16 (named (codes "extended short unsigned int") ∷ typed_in 0x36 0x0d ∷ [])) End))
     ∷ unit 0x6c [] (then (int_type 0x79) End)
     ∷ []
     )
@@ -155,3 +159,12 @@ shorts_doc = file (unit 0 [] (then (short_type 0x0d) End) ∷ unit 0x2d [] (then
 -- no unit
 abbrev pub empty_doc : Doc ℕ
 empty_doc = file []
+
+-- a type in two units whose roots have line tables, which give one path for two numbers
+abbrev declared_unit : ℕ → ℕ → ℕ → DwUnit ℕ
+declared_unit place line number = unit place (record { name = 0x10; form = 0x17; raw = pos line; value = only (Sec line) } ∷ [])
+    (then (entry (place + 0x11) 0x3b (named (codes "extended short unsigned int")
+    ∷ record { name = 0x3a; form = 0x0b; raw = pos number; value = only (File (Some (codes "/usr/include/stdint.h"))) } ∷ [])) End)
+
+abbrev pub lines_doc : Doc ℕ
+lines_doc = file (declared_unit 0 0 3 ∷ declared_unit 0x30 0x49 5 ∷ [])

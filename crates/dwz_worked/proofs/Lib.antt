@@ -1,6 +1,7 @@
 pub mod Files
 pub mod Runs
 pub mod Comes
+pub mod Said
 pub mod Alone
 pub mod Together
 pub mod Wholes
@@ -8,3 +9,4 @@ pub mod Narrow
 pub mod Texts
 pub mod Loaded
 pub mod Still
+pub mod Lines

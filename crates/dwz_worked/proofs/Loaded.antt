@@ -1,5 +1,5 @@
 -- Files with loaded bytes, by the definitions: these stay where they are.
-use Rattle.std.proofs.Common.{◌≡◌, ℕ, Bool, true, false, List, [], ◌∷◌, ◌++◌, None, Option, Some, Ok, refl}
+use Rattle.std.proofs.Common.{◌≡◌, ℕ, true, false, List, [], ◌∷◌, ◌++◌, None, Some, Ok, refl}
 use Rattle.std.specs.Prelude.{codes}
 use Rattle.dwz_model.specs.declared.fault.Reason.TheVariants.{Layout}
 use Rattle.dwz_docs.specs.ElfLayout.{layout_fault}

@@ -1,5 +1,5 @@
 -- A whole file whose location list has just room for its new numbers, and one whose list hasn't.
-use Rattle.std.proofs.Common.{◌≡◌, ◌⊎◌, ◌≤◌, ◌∙◌, ℕ, Bool, true, false, List, [], ◌∷◌, ◌++◌, map, None, Option, Some, Ok, refl, subst, sym, inl, inr, arith}
+use Rattle.std.proofs.Common.{◌≡◌, ◌≤◌, ◌∙◌, ℕ, true, false, List, [], ◌∷◌, map, None, Some, Ok, refl, subst, sym, inl, inr, arith}
 use Rattle.std.specs.Prelude.{codes}
 use Rattle.dwz_model.specs.declared.fault.Fault.{Fault}
 use Rattle.dwz_model.specs.declared.fault.Reason.TheVariants.{OperandWidth}

@@ -1,5 +1,5 @@
 -- What is written of files that say some documents: a run, by which all is found that comes of it.
-use Rattle.std.proofs.Common.{ℕ, true, List, [], ◌∷◌}
+use Rattle.std.proofs.Common.{ℕ, true, List}
 use Rattle.dwz_bytes.specs.Spelling.{groups_in, le_bytes, padded}
 use Rattle.dwz_codes.specs.Forms.{form_rows}
 use Rattle.dwz_docs.specs.Abbrevs.{pairs_bytes, table_bytes}

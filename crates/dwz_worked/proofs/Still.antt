@@ -1,5 +1,5 @@
 -- Whole files of which nothing moves, by the definitions.
-use Rattle.std.proofs.Common.{◌≡◌, ℕ, Bool, true, false, List, [], ◌∷◌, ◌++◌, None, Option, Some, Ok, refl}
+use Rattle.std.proofs.Common.{◌≡◌, ℕ, true, false, List, [], ◌∷◌, None, Some, Ok, refl}
 use Rattle.std.specs.Prelude.{codes}
 use Rattle.dwz_docs.specs.PlainFile.{plain_file, plain_section}
 use Rattle.dwz_meanings.specs.Documents.{Doc}

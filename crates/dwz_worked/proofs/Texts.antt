@@ -1,5 +1,5 @@
 -- Whole files whose texts are pruned, or shared with a common file, by the definitions.
-use Rattle.std.proofs.Common.{◌≡◌, ℕ, Bool, true, false, List, [], ◌∷◌, ◌++◌, length, None, Option, Some, Ok, refl}
+use Rattle.std.proofs.Common.{◌≡◌, ℕ, Bool, true, false, List, [], ◌∷◌, ◌++◌, length, None, Some, Ok, refl}
 use Rattle.std.specs.Prelude.{codes}
 use Rattle.dwz_docs.specs.PlainFile.{plain_file, plain_section}
 use Rattle.dwz_meanings.specs.Documents.{Doc}

@@ -1,5 +1,5 @@
 -- Whole files whose numbers are changed in place, from the bytes that are read to those that are put.
-use Rattle.std.proofs.Common.{◌≡◌, ℕ, Bool, true, false, List, [], ◌∷◌, ◌++◌, None, Option, Some, Ok, refl}
+use Rattle.std.proofs.Common.{◌≡◌, ℕ, true, false, List, [], ◌∷◌, None, Some, Ok, refl}
 use Rattle.std.specs.Prelude.{codes}
 use Rattle.dwz_docs.specs.PlainFile.{plain_file, plain_section}
 use Rattle.dwz_meanings.specs.Documents.{Doc}
@@ -8,7 +8,7 @@ use Rattle.dwz_outside.specs.declared.puts.Put.{Put}
 use Rattle.dwz_words.specs.declared.options.Options.{Options}
 use Rattle.dwz_out.specs.Contents.{lists_after, ranges_after}
 use Rattle.dwz_out.specs.Out.{all_puts}
-use Rattle.dwz_worked.proofs.Files.{far_doc, pinned_doc, users_doc}
+use Rattle.dwz_worked.proofs.Files.{pinned_doc, users_doc}
 use Rattle.dwz_worked.proofs.Comes.{come, said}
 
 -- the words `-o out a`

@@ -168,3 +168,24 @@ declared_unit place line number = unit place (record { name = 0x10; form = 0x17;
 
 abbrev pub lines_doc : Doc ℕ
 lines_doc = file (declared_unit 0 0 3 ∷ declared_unit 0x30 0x49 5 ∷ [])
+
+-- a class with that name and a member `v`, and a variable that names the member (DW_AT_specification), twice
+abbrev class_unit : ℕ → List ℕ → DwUnit ℕ
+class_unit place text = unit place []
+    (Entry (entry (place + 0x0d) 0x02 (named text ∷ [])) (then (entry (place + 0x10) 0x0d (named (codes "v") ∷ [])) End)
+    (then (entry (place + 0x14) 0x34 (record { name = 0x47; form = 0x13; raw = pos 0x10; value = ref (place + 0x10) } ∷ [])) End))
+
+abbrev pub classes_doc : List ℕ → List ℕ → Doc ℕ
+classes_doc text other = file (class_unit 0 text ∷ class_unit 0x1a other ∷ [])
+
+-- a type in two units of some languages
+abbrev pub languages_doc : ℕ → ℕ → Doc ℕ
+languages_doc m n = file (unit 0 (in_language m ∷ []) (then (unspecified 0x0e) End) ∷ unit 0x2c (in_language n ∷ []) (then (unspecified 0x3a) End) ∷ [])
+
+-- a namespace with a type and `int`, and one with the type, with names of one letter
+abbrev pub spaces_doc : List ℕ → List ℕ → Doc ℕ
+spaces_doc text other = file (
+    unit 0 [] (Entry (space 0x0d text) (then (unspecified 0x10) (then (int_type 0x2d) End)) End)
+    ∷ unit 0x36 [] (Entry (space 0x43 other) (then (unspecified 0x46) End) End)
+    ∷ []
+    )

@@ -10,3 +10,4 @@ pub mod Texts
 pub mod Loaded
 pub mod Still
 pub mod Lines
+pub mod Unlike

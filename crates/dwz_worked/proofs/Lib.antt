@@ -11,3 +11,4 @@ pub mod Loaded
 pub mod Still
 pub mod Lines
 pub mod Unlike
+pub mod Checksum

@@ -12,3 +12,5 @@ pub mod Still
 pub mod Lines
 pub mod Unlike
 pub mod Checksum
+pub mod CommonType
+pub mod CommonText

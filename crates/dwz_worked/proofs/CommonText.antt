@@ -1,9 +1,8 @@
 -- Two whole files and their common one, which has a text that is at an offset in the one, and in a slot of the other.
-use Rattle.std.proofs.Common.{◌≡◌, ℕ, Bool, true, false, List, [], ◌∷◌, ◌++◌, None, Option, Some, Ok, refl}
+use Rattle.std.proofs.Common.{◌≡◌, ℕ, true, false, List, [], ◌∷◌, None, Some, Ok, refl}
 use Rattle.std.specs.Prelude.{codes}
 use Rattle.std.specs.Fmt.{digits}
 use Rattle.dwz_docs.specs.PlainFile.{plain_file, plain_section}
-use Rattle.dwz_meanings.specs.Documents.{Doc}
 use Rattle.sha2.specs.Sha256.{compress, digest_bytes, first_words, hash_after, rounds, schedule, sha256}
 use Rattle.dwz_back.specs.Files.{Run}
 use Rattle.dwz_outside.specs.declared.puts.Put.{Put}

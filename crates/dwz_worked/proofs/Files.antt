@@ -1,8 +1,8 @@
 -- Small documents, each of one file.
-use Rattle.std.proofs.Common.{ℕ, ◌+◌, pos, true, List, [], ◌∷◌, Some}
+use Rattle.std.proofs.Common.{ℕ, zero, suc, ◌+◌, pos, true, List, [], ◌∷◌, Some}
 use Rattle.std.specs.Prelude.{codes, replicate}
 use Rattle.dwz_model.specs.declared.place.Base.TheVariants.{Unit as FromUnit}
-use Rattle.dwz_meanings.specs.Documents.{Attr, Doc, DwUnit, File, Loc, Node, OfType, Operand, Same, Sec, Text, only, ref}
+use Rattle.dwz_meanings.specs.Documents.{Attr, Doc, DwUnit, Entries, File, Loc, Node, OfType, Operand, Same, Sec, Text, only, ref}
 use Rattle.dwz_docs.specs.Trees.{End, Entry}
 use Rattle.dwz_alike.proofs.SmallDocs.{base_type, computed, entry, in_language, int_type, listed, long_type, named, short_type, sized, space, then, typed, unit, unspecified, data1}
 
@@ -189,3 +189,13 @@ spaces_doc text other = file (
     ∷ unit 0x36 [] (Entry (space 0x43 other) (then (unspecified 0x46) End) End)
     ∷ []
     )
+
+-- so many typedefs `t`, each of the next, the first at that place; and `int` of some size behind them
+abbrev typedefs : ℕ → ℕ → ℕ → ℕ → Entries ℕ
+typedefs place number size zero = then (base_type (place + number) (codes "int") size 5) End
+typedefs place number size (suc n) =
+    then (entry (place + number) 0x16 (named (codes "t") ∷ typed_in place (number + 7) ∷ [])) (typedefs place (number + 7) size n)
+
+-- 40 of them in two units
+abbrev pub deep_doc : ℕ → ℕ → Doc ℕ
+deep_doc size other = file (unit 0 [] (typedefs 0 0x0d size 40) ∷ unit 0x12d [] (typedefs 0x12d 0x0d other 40) ∷ [])

@@ -14,3 +14,6 @@ pub mod Unlike
 pub mod Checksum
 pub mod CommonType
 pub mod CommonText
+pub mod CommonPath
+pub mod CommonName
+pub mod Deep

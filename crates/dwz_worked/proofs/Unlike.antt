@@ -1,5 +1,5 @@
 -- Whole files whose tops aren't alike, or gain too little: each puts what was read.
-use Rattle.std.proofs.Common.{◌≡◌, ℕ, Bool, true, false, List, [], ◌∷◌, ◌++◌, None, Option, Some, Ok, refl}
+use Rattle.std.proofs.Common.{◌≡◌, ℕ, true, false, List, [], ◌∷◌, None, Some, Ok, refl}
 use Rattle.std.specs.Prelude.{codes}
 use Rattle.dwz_docs.specs.PlainFile.{plain_file, plain_section}
 use Rattle.dwz_meanings.specs.Documents.{Doc}

@@ -1,0 +1,50 @@
+-- What files of some bytes say, and the run over them, so that all is found by computing.
+use Rattle.std.proofs.Common.{ℕ, Bool, List, Result}
+use Rattle.dwz_model.specs.declared.fault.Refusal.{Refusal}
+use Rattle.dwz_bytes.specs.Reading.{groups_at, sleb_at, uleb_at}
+use Rattle.dwz_codes.specs.ListKinds.{list_kind_rows}
+use Rattle.dwz_docs.specs.Abbrevs.{declaration_at, pair_at, table_at}
+use Rattle.dwz_docs.specs.ElfHeaders.{headers_from, number_at}
+use Rattle.dwz_docs.specs.ElfLayout.{align_at, content_at, inside_fault, keep_end, layout_fault, moving, new_headers, numbers, placed_from, rebuilt, rebuilt_length, spread, sup_header}
+use Rattle.dwz_docs.specs.ElfNames.{name_in}
+use Rattle.dwz_docs.specs.ElfReading.{elf_fault, elf_of, field_fault, first_in, first_other, header_fault, identification_fault, missing_fault, names_fault, section_range, unkept_fault}
+use Rattle.dwz_docs.specs.Entries.{attrs_at, front_at}
+use Rattle.dwz_docs.specs.Lists.{items_at, items_from}
+use Rattle.dwz_docs.specs.PlainFile.{plain_file, plain_headers}
+use Rattle.dwz_docs.specs.Supplementary.{sup_bytes}
+use Rattle.dwz_docs.specs.Texts.{text_in}
+use Rattle.dwz_docs.specs.Trees.{forest_at, siblings_at}
+use Rattle.dwz_docs.specs.Units.{entries_in, header_reason, tree_at, unit_at, units_at, units_from, zero_count}
+use Rattle.dwz_docs.specs.Values.{shaped_at}
+use Rattle.dwz_docs.specs.OffsetTables.{count_at, counts_in, is_contribution}
+use Rattle.dwz_docs.specs.Pruning.{bytes_kept, is_kept, range_end}
+use Rattle.dwz_meanings.specs.Documents.{Doc}
+use Rattle.dwz_meanings.specs.Files.{file_meaning, files_meaning, longest_file, longest_files, most_entries, no_files_before, section_of, unit_places}
+use Rattle.dwz_meanings.specs.LocLists.{list_at, list_entry_at}
+use Rattle.dwz_meanings.specs.Meanings.{all_places, attrs_meaning, entries_meaning, first_raw, meaning, places_in, units_meaning, without_siblings}
+use Rattle.dwz_meanings.specs.NamedLists.{list_of_attr, lists_of_attrs, lists_of_entries, lists_of_units}
+use Rattle.dwz_meanings.specs.Exprs.{most_inside, parts_from}
+use Rattle.dwz_meanings.specs.PatchedLists.{with_operands}
+use Rattle.dwz_meanings.specs.Patching.{with_units, written_at}
+use Rattle.dwz_meanings.specs.Ranges.{set_at}
+use Rattle.dwz_meanings.specs.LineTables.{file_table_at, nth_path, rows_said, tables_at, values_at}
+use Rattle.dwz_meanings.specs.Sequences.{row_at, row_from, times_at}
+use Rattle.dwz_meanings.specs.Shared.{least_place, none_shared, operands_in_lists, operands_of, places_from}
+use Rattle.dwz_same.specs.After.{name_from}
+use Rattle.dwz_back.specs.Files.{Run}
+use Rattle.dwz_words.specs.declared.options.Options.{Options}
+use Rattle.dwz_out.specs.Contents.{lists_after, offsets_after, ranges_after, sections_after, strs_after, with_slots}
+use Rattle.dwz_out.specs.FilesAfter.{file_after, has_common, in_order, put_in_order}
+use Rattle.dwz_out.specs.Out.{files_puts, raws, run_for, summary_lines}
+use Rattle.dwz_worked.proofs.Runs.{run_in}
+
+-- what files say; whatever unfolds this unfolds all by which they are read
+unfoldable pub said : List (List ℕ) → Result (List (Doc ℕ)) Refusal
+unfolding run_in row_at row_from times_at list_kind_rows sleb_at file_table_at tables_at values_at rows_said nth_path plain_file plain_headers numbers files_meaning file_meaning section_of longest_file longest_files most_entries headers_from number_at name_in elf_fault field_fault first_in first_other header_fault identification_fault missing_fault names_fault section_range unkept_fault units_at units_from unit_at entries_in header_reason tree_at zero_count front_at attrs_at siblings_at forest_at table_at declaration_at pair_at items_at items_from uleb_at groups_at shaped_at text_in units_meaning entries_meaning attrs_meaning meaning without_siblings all_places places_in first_raw unit_places none_shared least_place operands_in_lists operands_of places_from lists_of_units lists_of_entries lists_of_attrs list_of_attr list_at list_entry_at most_inside parts_from set_at lib.Count.ones
+said contents = files_meaning no_files_before 0 contents
+
+-- what is written of files of these contents that say these documents, and of which these are prunable; whatever unfolds this unfolds all
+-- by which it is found
+unfoldable pub come : Options → List (List ℕ) → List (Doc ℕ) → List Bool → Run
+unfolding said name_from sup_bytes elf_of align_at content_at inside_fault keep_end layout_fault moving new_headers placed_from rebuilt rebuilt_length spread sup_header raws with_operands with_units written_at lists_after offsets_after ranges_after sections_after strs_after with_slots file_after has_common in_order put_in_order files_puts summary_lines count_at counts_in is_contribution bytes_kept is_kept range_end
+come o contents docs prunes = run_for o contents docs prunes

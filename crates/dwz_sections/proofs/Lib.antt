@@ -1,2 +1,3 @@
 pub mod OverLemmas
 pub mod ListLemmas
+pub mod SlotLemmas

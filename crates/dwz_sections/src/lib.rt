@@ -4,6 +4,11 @@
 mod laws;
 mod location_lists;
 mod numbers;
+mod slot_numbers;
+
+#[cfg(test)]
+mod tests;
 
 pub use laws::section_laws;
 pub use location_lists::lists;
+pub use slot_numbers::offsets;

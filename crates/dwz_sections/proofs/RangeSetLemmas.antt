@@ -46,7 +46,11 @@ found_beside starts places i n rises lt at =
 
 pub none_beside : (starts places : List ℕ) (i n : ℕ) → ((k : ℕ) → k < i → get_or starts k 0 < n) → ((k : ℕ) → i ≤ k → k < length starts → n < get_or starts k 0) → 0 ≡ beside starts places n
 none_beside starts places i n below above =
-    sym (beside_none starts places n (λ k lt same. elim (cases_lt k i) [ inl less ↦ (let low = below k less in omega (arith, low, same)) | inr more ↦ (let high = above k more lt in omega (arith, high, same)) ]))
+    sym (beside_none starts places n (λ k lt same. elim (cases_lt k i) [
+      | inl less ↦ (let low = below k less in omega (arith, low, same))
+      | inr more ↦
+          (let high = above k more lt in omega (arith, high, same))
+    ]))
 
 beside_own : (place : ℕ → ℕ) (starts : List ℕ) (n : ℕ) → In n starts → beside starts (map place starts) n ≡ place n
 unfolding beside
@@ -59,7 +63,8 @@ beside_own place (s ∷ starts) n there = by (λ later. beside_own place starts 
 
 -- ---- the numbers of sets
 
-pub numbers_more : (f : Set → ℕ) (sets : List Set) (i : ℕ) (d : Set) (numbers new : List ℕ) → i < length sets → numbers ≡ map f (take i sets) → new ≡ numbers ++ f (get_or sets i d) ∷ [] → new ≡ map f (take (i + 1) sets)
+pub numbers_more : (f : Set → ℕ) (sets : List Set) (i : ℕ) (d : Set) (numbers new : List ℕ) → i < length sets → numbers ≡ map f (take i sets) → new ≡ numbers ++ f (get_or sets i d) ∷ []
+    → new ≡ map f (take (i + 1) sets)
 numbers_more f sets i d numbers new lt so is =
     is ∙ ap (λ (w : List ℕ). w ++ f (get_or sets i d) ∷ []) so ∙ sym (map-append f (take i sets) (get_or sets i d ∷ [])) ∙ sym (ap (map f) (take_more sets i d lt))
 
@@ -70,13 +75,15 @@ map_views : (starts places : List ℕ) (sets : List Set) → map (λ (s : Set). 
 map_views starts places [] = refl
 map_views starts places (s ∷ sets) = ap (λ (w : List ℕ). beside starts places s.unit ∷ w) (map_views starts places sets)
 
-pub as_many_sets : (starts places section numbers : List ℕ) (sets : List Set) → sets_at any_unit (input section 0) ≡ Ok (set_views sets) → numbers ≡ map (λ (s : Set). beside starts places s.unit) sets
+pub as_many_sets : (starts places section numbers : List ℕ) (sets : List Set) → sets_at any_unit (input section 0) ≡ Ok (set_views sets) → numbers ≡ map
+    (λ (s : Set). beside starts places s.unit) sets
     → IsOkAnd (sets_at any_unit (input section 0)) (λ found. length found ≡ length numbers)
 as_many_sets starts places section numbers sets read are =
     subst (λ (r : Result (List RangeSet) Fault). IsOkAnd r (λ found. length found ≡ length numbers)) (sym read)
     (length-map sets set_view ∙ sym (length-map sets (λ (s : Set). beside starts places s.unit)) ∙ sym (ap length are))
 
-pub moved_sets : (starts places section numbers new : List ℕ) (sets : List Set) → sets_at any_unit (input section 0) ≡ Ok (set_views sets) → numbers ≡ map (λ (s : Set). beside starts places s.unit) sets → IsPatched section numbers new → AreMoved starts places section new
+pub moved_sets : (starts places section numbers new : List ℕ) (sets : List Set) → sets_at any_unit (input section 0) ≡ Ok (set_views sets) → numbers ≡ map
+    (λ (s : Set). beside starts places s.unit) sets → IsPatched section numbers new → AreMoved starts places section new
 moved_sets starts places section numbers new sets read are is =
     let whole = subst (λ (r : Result (List RangeSet) Fault). IfOk r (λ found. new ≡ with_units found numbers section)) read is in
     subst (λ (r : Result (List RangeSet) Fault). IfOk r (λ found. new ≡ with_units found (map (λ (s : RangeSet). beside starts places s.unit) found) section)) (sym read)
@@ -104,7 +111,8 @@ of_any is_unit (set ∷ sets) start bytes s =
       parts = s.parts;
     }
 
-own_places : (is_unit : ℕ → Bool) (place : ℕ → ℕ) (starts : List ℕ) → ((n : ℕ) → is_unit n ≡ true → In n starts) → (sets : List RangeSet) (start : ℕ) (bytes : List ℕ) → SpellsSets is_unit sets start bytes
+own_places : (is_unit : ℕ → Bool) (place : ℕ → ℕ) (starts : List ℕ) → ((n : ℕ) → is_unit n ≡ true → In n starts) → (sets : List RangeSet) (start : ℕ) (bytes : List ℕ)
+    → SpellsSets is_unit sets start bytes
     → map (λ (s : RangeSet). beside starts (map place starts) s.unit) sets ≡ map (λ (s : RangeSet). place s.unit) sets
 own_places is_unit place starts known [] start bytes s = refl
 own_places is_unit place starts known (set ∷ sets) start bytes s =

@@ -55,7 +55,8 @@ four_are place bytes four end size same =
     ext_get_or 0 (take 4 (drop place bytes)) four (taken ∙ sym size)
     (λ i lt. (let less : i < 4 = omega (arith, lt, taken) in get_or-take 4 (drop place bytes) i 0 less ∙ get_or-drop place bytes i 0 ∙ same i less))
 
-four_same : (place : ℕ) (bytes others : List ℕ) → place + 4 ≤ length bytes → length others ≡ length bytes → ((k : ℕ) → k < 4 → get_or bytes (place + k) 0 ≡ get_or others (place + k) 0) → number_in_slot bytes place ≡ number_in_slot others place
+four_same : (place : ℕ) (bytes others : List ℕ) → place + 4 ≤ length bytes → length others ≡ length bytes → ((k : ℕ) → k < 4 → get_or bytes (place + k) 0 ≡ get_or others (place + k) 0)
+    → number_in_slot bytes place ≡ number_in_slot others place
 four_same place bytes others end size same =
     let taken : length (take 4 (drop place others)) ≡ 4 = length-take-le 4 (drop place others) (omega (arith, length-drop place others, end, size)) in
     ap le_value (four_are place bytes (take 4 (drop place others)) end taken (λ k lt. same k lt ∙ sym (get_or-drop place others k 0) ∙ sym (get_or-take 4 (drop place others) k 0 lt)))
@@ -74,7 +75,8 @@ pair_get R (x ∷ xs) (suc i) d q h lt (inl same) = subst (λ y. R y (get_or xs 
 pair_get R (x ∷ xs) (suc i) d q h lt (inr later) = pair_get R xs i d q h.1 (omega (arith, lt)) later
 
 last_or_before : (xs : List ℕ) (i q : ℕ) → i < length xs → In q (take (i + 1) xs) → In q (take i xs) ⊎ (get_or xs i 0 ≡ q)
-last_or_before xs i q lt there = elim (in_cases q (take i xs) (get_or xs i 0 ∷ []) (subst (In q) (take_more xs i 0 lt) there)) [ inl a ↦ inl a | inr b ↦ elim b [ inl same ↦ inr same | inr none ↦ absurd none ] ]
+last_or_before xs i q lt there = elim (in_cases q (take i xs) (get_or xs i 0 ∷ [])
+    (subst (In q) (take_more xs i 0 lt) there)) [ inl a ↦ inl a | inr b ↦ elim b [ inl same ↦ inr same | inr none ↦ absurd none ] ]
 
 in_take : (xs : List ℕ) (i q : ℕ) → In q (take i xs) → In q xs
 in_take xs zero q there = absurd there
@@ -101,7 +103,8 @@ end_of section places i s lt = each_get (λ p. p + 4 ≤ length section) places 
 pub none_done : (number : ℕ → ℕ) (places old out : List ℕ) → out ≡ old → SlotsDone number places old out 0
 none_done number places old out same = record { len = ap length same; slots = λ place there. absurd there; others = λ b apart. ap (λ (w : List ℕ). get_or w b 0) same }
 
-pub slot_step : (number : ℕ → ℕ) (places old out new : List ℕ) (i m : ℕ) → Stand old places → i < length places → m ≡ number (number_in_slot old (get_or places i 0)) → m < 256 ^ 4 → new ≡ written_at (get_or places i 0) (le_bytes 4 m) out
+pub slot_step : (number : ℕ → ℕ) (places old out new : List ℕ) (i m : ℕ) → Stand old places → i < length places → m ≡ number (number_in_slot old (get_or places i 0)) → m < 256 ^ 4 → new ≡ written_at
+    (get_or places i 0) (le_bytes 4 m) out
     → SlotsDone number places old out i → SlotsDone number places old new (i + 1)
 slot_step number places old out new i m s lt is fits written h = record { len = len; slots = slots; others = others } where
   p : ℕ
@@ -126,7 +129,7 @@ slot_step number places old out new i m s lt is fits written h = record { len = 
   own : number_in_slot new p ≡ number (number_in_slot old p)
   own =
       ap le_value (four_are p new four (omega (arith, end, len, h.len)) size
-          (λ k less. ap (λ (w : List ℕ). get_or w (p + k) 0) written ∙ written_in p four out k (omega (arith, less, size)) (omega (arith, end, size))))
+      (λ k less. ap (λ (w : List ℕ). get_or w (p + k) 0) written ∙ written_in p four out k (omega (arith, less, size)) (omega (arith, end, size))))
       ∙ sym (fixed_written 4 m fits).value
       ∙ is
 
@@ -163,7 +166,8 @@ slots_done number places old out i s le h = record {
       (let end = each_in (λ p. p + 4 ≤ length old) place places s.0 there in
       let four : place + 4 - place ≡ 4 = omega arith in
       let taken : length (take (place + 4 - place) (drop place out)) ≡ 4 = length-take-le (place + 4 - place) (drop place out) (omega (arith, length-drop place out, end, h.len)) ∙ four in
-      let value : le_value (take (place + 4 - place) (drop place out)) ≡ number n = ap (λ (k : ℕ). le_value (take k (drop place out))) four ∙ h.slots place (all place there) ∙ ap number (stands_in old place n is) in
+      let value : le_value (take (place + 4 - place) (drop place out)) ≡ number n = ap (λ (k : ℕ). le_value (take k (drop place out))) four ∙ h.slots place (all place there) ∙ ap number
+      (stands_in old place n is) in
       record {
         before = take place out;
         front = take (place + 4 - place) (drop place out);
@@ -179,7 +183,8 @@ slots_done number places old out i s le h = record {
 
 -- ---- of texts that are pruned
 
-pub slots_law : (strs offsets uses new : List ℕ) (p : Pruning) → IsPruned strs uses p → All (λ used. IsSome (text_at strs used)) uses → ((n : ℕ) → In n (slot_uses strs offsets (known_slots offsets)) → Contains uses n)
+pub slots_law : (strs offsets uses new : List ℕ) (p : Pruning) → IsPruned strs uses p → All (λ used. IsSome (text_at strs used)) uses →
+    ((n : ℕ) → In n (slot_uses strs offsets (known_slots offsets)) → Contains uses n)
     → AreNewSlots (moved_or_same p) (known_slots offsets) offsets new → AreNewSlots (slot_after strs uses) (known_slots offsets) offsets new
 unfolding slot_uses
 slots_law strs offsets uses new p is texts used h = record {
@@ -192,7 +197,11 @@ slots_law strs offsets uses new p is texts used h = record {
     by : (o : Option ℕ) → moved_in p n ≡ o → (t : Option (List ℕ)) → text_at strs n ≡ t → unwrap_or o n ≡ cond (is_some t) (new_number strs uses n) n
     by (Some m) eo (Some t) et = (subst (λ (o : Option ℕ). SomeIff o (Contains uses n) (new_number strs uses n)) eo (is.moved n)).1
     by (Some m) eo None et =
-        (let no : false ≡ true = subst (λ (t : Option (List ℕ)). IsSome t) et (All-contains (λ used. IsSome (text_at strs used)) uses n texts (subst (λ (o : Option ℕ). SomeIff o (Contains uses n) (new_number strs uses n)) eo (is.moved n)).0) in cc)
-    by None eo (Some t) et = absurd (subst (λ (o : Option ℕ). SomeIff o (Contains uses n) (new_number strs uses n)) eo (is.moved n) (used n (in_filter (λ m. is_some (text_at strs m)) n (map (number_in_slot offsets) (known_slots offsets))
-        (subst (λ (m : ℕ). In m (map (number_in_slot offsets) (known_slots offsets))) e (in_map (number_in_slot offsets) place (known_slots offsets) there)) (ap is_some et))))
+        (let no : false ≡ true = subst (λ (t : Option (List ℕ)). IsSome t) et
+        (All-contains (λ used. IsSome (text_at strs used)) uses n texts (subst (λ (o : Option ℕ). SomeIff o (Contains uses n) (new_number strs uses n)) eo (is.moved n)).0) in cc)
+    by None eo (Some t) et =
+        let numbers = map (number_in_slot offsets) (known_slots offsets) in
+        let there_too : In n numbers = subst (λ (m : ℕ). In m numbers) e (in_map (number_in_slot offsets) place (known_slots offsets) there) in
+        let one = used n (in_filter (λ m. is_some (text_at strs m)) n numbers there_too (ap is_some et)) in
+        absurd (subst (λ (o : Option ℕ). SomeIff o (Contains uses n) (new_number strs uses n)) eo (is.moved n) one)
     by None eo None et = refl

@@ -6,7 +6,6 @@ mod location_lists;
 mod numbers;
 mod range_sets;
 mod slot_numbers;
-
 #[cfg(test)]
 mod tests;
 

@@ -6,5 +6,6 @@ use Rattle.dwz_sections.proofs.range_sets.places_of.Goals as goal
 
 pub loop-set-preserved : goal.loop-set-preserved
 loop-set-preserved c =
-    numbers_more (λ (s : Set). beside c.args.starts.now c.args.places.now s.unit) c.args.sets.now c.loop-set.set-index no_set c.loop-set.numbers.items c.push.new.self.items c.loop-set-test.true c.loop-set.invariant
+    numbers_more (λ (s : Set). beside c.args.starts.now c.args.places.now s.unit) c.args.sets.now c.loop-set.set-index no_set c.loop-set.numbers.items c.push.new.self.items c.loop-set-test.true
+    c.loop-set.invariant
     (c.in_ok-push.ensures.items ∙ ap (λ (n : ℕ). c.loop-set.numbers.items ++ n ∷ []) c.place_of.ensures)

@@ -16,5 +16,7 @@ patched-requires c =
 pub returns : goal.returns
 returns c =
     let read = subst (λ (sets : List Set). sets_at any_unit (input c.args.section.now 0) ≡ Ok (set_views sets)) (sym c.as_slice.ensures) c.in_ok-sets.ensures in
-    if_more c.patched-2.result (λ (out : Vec ℕ Global). IsPatched c.args.section.now c.new.result out.items) (λ (out : Vec ℕ Global). AreMoved c.args.starts.now c.args.places.now c.args.section.now out.items)
-    (λ (out : Vec ℕ Global) is. moved_sets c.args.starts.now c.args.places.now c.args.section.now c.new.result out.items c.as_slice.result.now read (c.new.ensures ∙ c.in_ok-numbers.ensures) is) c.patched-2.ensures
+    if_more c.patched-2.result (λ (out : Vec ℕ Global). IsPatched c.args.section.now c.new.result out.items)
+    (λ (out : Vec ℕ Global). AreMoved c.args.starts.now c.args.places.now c.args.section.now out.items)
+    (λ (out : Vec ℕ Global) is. moved_sets c.args.starts.now c.args.places.now c.args.section.now c.new.result out.items c.as_slice.result.now read
+    (c.new.ensures ∙ c.in_ok-numbers.ensures) is) c.patched-2.ensures

@@ -1,2 +1,4 @@
 pub mod OverLemmas
 pub mod ListLemmas
+pub mod SlotLemmas
+pub mod RangeSetLemmas

@@ -33,7 +33,8 @@ unfolding renumbered with_operands
 no_number ns out = refl
 
 pub list_step : (section : List ℕ) (operands : List ListOperand) (numbers out new : List ℕ) (i : ℕ) (d : ListOperand) → length numbers ≡ length operands → i < length operands
-    → new ≡ written_at (get_or operands i d).at (number_bytes (get_or operands i d).uleb (get_or operands i d).width (get_or numbers i 0)) out → IsLeft section operands numbers out i → IsLeft section operands numbers new (i + 1)
+    → new ≡ written_at (get_or operands i d).at (number_bytes (get_or operands i d).uleb (get_or operands i d).width (get_or numbers i 0)) out → IsLeft section operands numbers out i
+    → IsLeft section operands numbers new (i + 1)
 list_step section operands numbers out new i d many lt written h =
     let o = get_or operands i d in
     let n = get_or numbers i 0 in
@@ -48,7 +49,8 @@ list_step section operands numbers out new i d many lt written h =
       size = ap length written ∙ written_len o.at (number_bytes o.uleb o.width n) out ∙ h.size;
     }
 
-pub list_done : (section : List ℕ) (operands : List ListOperand) (numbers out : List ℕ) (i : ℕ) → length operands ≤ i → IsLeft section operands numbers out i → out ≡ with_numbers operands numbers section
+pub list_done : (section : List ℕ) (operands : List ListOperand) (numbers out : List ℕ) (i : ℕ) → length operands ≤ i → IsLeft section operands numbers out i
+    → out ≡ with_numbers operands numbers section
 list_done section operands numbers out i le h =
     sym (no_number (drop i numbers) out) ∙ sym (ap (λ (os : List ListOperand). with_numbers os (drop i numbers) out) (drop_all i operands le)) ∙ h.same
 
@@ -93,10 +95,12 @@ spots_patched lists raw operands numbers section h =
 
 -- ---- of a file
 
-pub all_end : (around : Around ℕ) (raw : List RawUnit) (operands : List ListOperand) → AreRows (lists_of_units around raw) (map (operand_view raw) operands) → EndIn (length around.sources.lists) operands
+pub all_end : (around : Around ℕ) (raw : List RawUnit) (operands : List ListOperand) → AreRows (lists_of_units around raw) (map (operand_view raw) operands) → EndIn
+    (length around.sources.lists) operands
 all_end around raw operands are = each_end raw (length around.sources.lists) operands (rows_end around raw (map (operand_view raw) operands) are)
 
-pub all_patched : (around : Around ℕ) (raw : List RawUnit) (operands : List ListOperand) (numbers : List ℕ) → AreRows (lists_of_units around raw) (map (operand_view raw) operands) → NoneShared (lists_of_units around raw) → length numbers ≡ length operands
+pub all_patched : (around : Around ℕ) (raw : List RawUnit) (operands : List ListOperand) (numbers : List ℕ) → AreRows (lists_of_units around raw) (map (operand_view raw) operands) → NoneShared
+    (lists_of_units around raw) → length numbers ≡ length operands
     → IsPatched (lists_of_units around raw) (number_at (spots operands) numbers) around.sources.lists (with_numbers operands numbers around.sources.lists)
 all_patched around raw operands numbers are none many =
     let lists = lists_of_units around raw in

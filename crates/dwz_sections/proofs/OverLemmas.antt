@@ -11,10 +11,12 @@ pub record LeLeft (old out : List ℕ) (at width number place left rest : ℕ) :
   pub end : place + left ≡ at + width
   pub size : length out ≡ length old
 
-pub le_step : (old out : List ℕ) (at width number place left rest : ℕ) → 0 < left → LeLeft old out at width number place left rest → LeLeft old (set out place (rest % 256)) at width number (place + 1) (left - 1) (rest / 256)
+pub le_step : (old out : List ℕ) (at width number place left rest : ℕ) → 0 < left → LeLeft old out at width number place left rest → LeLeft old (set out place (rest % 256)) at width number
+    (place + 1) (left - 1) (rest / 256)
 unfolding le_bytes written_at
 le_step old out at width number place left rest lt h = record { same = over left lt h.same; end = (let e = h.end in omega (arith, e, lt)); size = length-set out place (rest % 256) ∙ h.size } where
-  over : (n : ℕ) → 0 < n → written_at place (le_bytes n rest) out ≡ written_at at (le_bytes width number) old → written_at (place + 1) (le_bytes (n - 1) (rest / 256)) (set out place (rest % 256)) ≡ written_at at (le_bytes width number) old
+  over : (n : ℕ) → 0 < n → written_at place (le_bytes n rest) out ≡ written_at at (le_bytes width number) old → written_at (place + 1) (le_bytes (n - 1) (rest / 256))
+      (set out place (rest % 256)) ≡ written_at at (le_bytes width number) old
   over zero lt e = absurd (omega (arith, lt))
   over (suc k) lt e = (let one : suc k - 1 ≡ k = omega arith in ap (λ (n : ℕ). written_at (place + 1) (le_bytes n (rest / 256)) (set out place (rest % 256))) one ∙ e)
 
@@ -48,7 +50,8 @@ pub record GroupsLeft (old out : List ℕ) (at width number place left rest : �
   pub end : place + left ≡ at + width
   pub size : length out ≡ length old
 
-pub groups_step : (old out : List ℕ) (at width number place left rest byte : ℕ) → 0 < left → byte ≡ group_of (eqb left 1) rest → GroupsLeft old out at width number place left rest → GroupsLeft old (set out place byte) at width number (place + 1) (left - 1) (rest / 128)
+pub groups_step : (old out : List ℕ) (at width number place left rest byte : ℕ) → 0 < left → byte ≡ group_of (eqb left 1) rest → GroupsLeft old out at width number place left rest → GroupsLeft old
+    (set out place byte) at width number (place + 1) (left - 1) (rest / 128)
 groups_step old out at width number place left rest byte lt is h = record {
   same =
       ap (λ (b : ℕ). written_at (place + 1) (padded (left - 1) (rest / 128)) (set out place b)) is

@@ -29,7 +29,8 @@ EndIn end operands = Each (λ o. o.at + o.width ≤ end) operands
 -- where they are all of a file, the operands end within its section
 abbrev pub EndLaw : Type 0
 EndLaw =
-    (around : Around ℕ) (raw : List RawUnit) (operands : List ListOperand) → AreRows (lists_of_units around raw) (map (operand_view raw) operands)
+    (around : Around ℕ) (raw : List RawUnit) (operands : List ListOperand)
+    → AreRows (lists_of_units around raw) (map (operand_view raw) operands)
     → EndIn (length around.sources.lists) operands
 
 -- and where its lists share nothing, the section has at each operand of each list the number of the place, and else the old bytes
@@ -39,4 +40,5 @@ PatchedLaw =
     → AreRows (lists_of_units around raw) (map (operand_view raw) operands)
     → NoneShared (lists_of_units around raw)
     → length numbers ≡ length operands
-    → IsPatched (lists_of_units around raw) (number_at (spots operands) numbers) around.sources.lists (with_numbers operands numbers around.sources.lists)
+    → let section = around.sources.lists in
+    IsPatched (lists_of_units around raw) (number_at (spots operands) numbers) section (with_numbers operands numbers section)

@@ -4,6 +4,12 @@
 mod laws;
 mod location_lists;
 mod numbers;
+mod range_sets;
+mod slot_numbers;
+#[cfg(test)]
+mod tests;
 
 pub use laws::section_laws;
 pub use location_lists::lists;
+pub use range_sets::ranges;
+pub use slot_numbers::offsets;

@@ -10,7 +10,8 @@ put_number-requires c =
 
 pub loop-i-preserved : goal.loop-i-preserved
 loop-i-preserved c =
-    list_step c.args.section.now c.args.operands.now c.args.numbers.now c.loop-i.out.items c.put_number.new.out.items c.loop-i.i no_operand c.requires.as_many c.loop-i-test.true c.put_number.ensures c.loop-i.invariant
+    list_step c.args.section.now c.args.operands.now c.args.numbers.now c.loop-i.out.items c.put_number.new.out.items c.loop-i.i no_operand c.requires.as_many c.loop-i-test.true c.put_number.ensures
+    c.loop-i.invariant
 
 pub returns : goal.returns
 returns c = list_done c.args.section.now c.args.operands.now c.args.numbers.now c.loop-i.out.items c.loop-i.i c.loop-i-test.false c.loop-i.invariant

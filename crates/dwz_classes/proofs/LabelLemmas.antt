@@ -4,7 +4,6 @@ use Rattle.std.specs.List.{range_with_len}
 use Rattle.std.proofs.lemmas.List.{length-map}
 use Rattle.std.proofs.lemmas.List.FromFn.{fill_by_all}
 use Rattle.dwz_across.proofs.ListGets.{got_map}
-use Rattle.dwz_alike.specs.Alike.{Movable}
 use Rattle.dwz_alike.specs.Spots.{Top, tops_of, units_of}
 use Rattle.dwz_alike.proofs.TopNumbers.{Numbered, tops_numbers}
 use Rattle.dwz_classes.specs.Run.{labels_of}

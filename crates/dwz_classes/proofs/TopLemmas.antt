@@ -1,8 +1,8 @@
 -- Where a top stands in its file: what its label is written from.
-use Rattle.std.proofs.Common.{◌≡◌, ℕ, zero, suc, ◌+◌, ◌-◌, ◌<◌, ◌≤◌, List, [], ◌∷◌, ◌++◌, length, drop, map, Some, slice_get, Ok, refl, sym, ap, subst, ◌∙◌, arith}
+use Rattle.std.proofs.Common.{◌≡◌, ℕ, zero, suc, ◌+◌, ◌-◌, ◌<◌, ◌≤◌, List, [], ◌∷◌, ◌++◌, length, drop, Some, slice_get, Ok, refl, sym, ap, subst, ◌∙◌, arith}
 use Rattle.std.specs.Prelude.{reverse, slice_index, slice_index_or}
 use Rattle.std.proofs.lemmas.List.{length-map, reverse-append, reverse-reverse}
-use Rattle.dwz_across.specs.Across.{IsFileAmong, IsTopOf, name_at}
+use Rattle.dwz_across.specs.Across.{IsFileAmong, name_at}
 use Rattle.dwz_across.specs.AcrossLaws.{GivesTop}
 use Rattle.dwz_across.proofs.FileEntries.{gives_top, names_entries}
 use Rattle.dwz_across.proofs.FileWalk.{is_among}

@@ -166,7 +166,8 @@ unfolding come
 same_slots = refl
 
 -- `.debug_sup` says the common file's name, and that a checksum of 32 bytes follows
-sup_begins : (sum : List ℕ) → length sum ≡ 32 → sup_bytes (record { supplementary = false; name = codes "common"; sum = sum }) ≡ (0x05 ∷ 0x00 ∷ 0x00 ∷ codes "common") ++ (0x00 ∷ 0x20 ∷ sum)
+sup_begins : (sum : List ℕ) → length sum ≡ 32
+    → sup_bytes (record { supplementary = false; name = codes "common"; sum = sum }) ≡ (0x05 ∷ 0x00 ∷ 0x00 ∷ codes "common") ++ (0x00 ∷ 0x20 ∷ sum)
 unfolding come
 sup_begins sum is = rw is refl
 

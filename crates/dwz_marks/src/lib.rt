@@ -3,5 +3,7 @@
 
 mod lists;
 mod marks;
+#[cfg(test)]
+mod tests;
 
 pub use marks::named_tops;

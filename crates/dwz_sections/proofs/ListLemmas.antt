@@ -16,7 +16,7 @@ use Rattle.dwz_meanings.proofs.PassLemmas.{none_pass}
 use Rattle.dwz_meanings.proofs.WriteOver.{rows_patched, written_len}
 use Rattle.dwz_resolve.specs.declared.operands.ListOperand.{ListOperand}
 use Rattle.dwz_resolve.specs.ListRows.{operand_view}
-use Rattle.dwz_sections.specs.Numbers.{EndIn, spot_of, spots, with_numbers}
+use Rattle.dwz_sections.specs.Numbers.{EndIn, spots, with_numbers}
 
 -- ---- one by one
 

@@ -1,5 +1,5 @@
 -- Numbers written over bytes, byte by byte: what is left to write is written over the bytes that are there by now.
-use Rattle.std.proofs.Common.{◌≡◌, ℕ, zero, suc, ◌+◌, ◌-◌, ◌/◌, ◌%◌, ◌<◌, ◌≤◌, Bool, true, false, List, [], ◌∷◌, cond, eqb, eqb-true, length, set, refl, sym, ap, ◌∙◌, arith}
+use Rattle.std.proofs.Common.{◌≡◌, ℕ, zero, suc, ◌+◌, ◌-◌, ◌/◌, ◌%◌, ◌<◌, ◌≤◌, Bool, true, false, List, ◌∷◌, cond, eqb, eqb-true, length, set, refl, sym, ap, ◌∙◌, arith}
 use Rattle.std.proofs.Math.ListN.{length-set}
 use Rattle.dwz_bytes.specs.Spelling.{le_bytes, padded}
 use Rattle.dwz_meanings.specs.Patching.{written_at}

@@ -1,7 +1,7 @@
 use Rattle.dwz_aranges.specs.declared.sets.Set.{Set}
 use Rattle.dwz_sections.specs.Ranges.{beside}
-use Rattle.std.proofs.Common.{◌++◌, ◌∷◌, [], List, ap, get_or, sym, ◌∙◌, ℕ}
-use Rattle.dwz_sections.proofs.RangeSetLemmas.{no_set, numbers_all, numbers_more}
+use Rattle.std.proofs.Common.{◌++◌, ◌∷◌, [], ap, ◌∙◌, ℕ}
+use Rattle.dwz_sections.proofs.RangeSetLemmas.{no_set, numbers_more}
 use Rattle.dwz_sections.proofs.range_sets.places_of.Goals as goal
 
 pub loop-set-preserved : goal.loop-set-preserved

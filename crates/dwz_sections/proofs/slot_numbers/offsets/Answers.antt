@@ -1,4 +1,4 @@
-use Rattle.std.proofs.Common.{◌≡◌, ◌≤◌, ◌<◌, ◌+◌, ◌^◌, List, ap, arith, get_or, length, lit≤, subst, sym, take, ◌∙◌, ℕ}
+use Rattle.std.proofs.Common.{◌<◌, ◌^◌, List, ap, arith, get_or, subst, sym, take, ◌∙◌, ℕ}
 use Rattle.std.proofs.lemmas.List.{length-drop}
 use Rattle.dwz_bytes.specs.Spelling.{le_value}
 use Rattle.dwz_writing.specs.Pruned.{AreNewSlots}

@@ -1,7 +1,8 @@
 -- Parts of lists, one behind the other.
-use Rattle.std.proofs.Common.{◌≡◌, ℕ, zero, suc, ◌+◌, ◌-◌, ◌<◌, ◌≤◌, All, List, [], ◌∷◌, ◌++◌, length, map, get_or, take, drop, refl, sym, ap, ◌∙◌, arith}
+use Rattle.std.proofs.Common.{◌≡◌, ℕ, zero, suc, ◌+◌, ◌-◌, ◌<◌, ◌≤◌, All, List, [], ◌∷◌, ◌++◌, length, map, get_or, take, drop, Some, slice_get, refl, sym, ap, ◌∙◌, arith}
 use Rattle.std.specs.Prelude.{replicate, slice_range}
 use Rattle.std.proofs.lemmas.List.{append_assoc, drop-drop, drop-map, replicate-append-replicate, take_all}
+use Rattle.dwz_across.proofs.ListGets.{get_there, got_index}
 
 take_map : {X Y : Type 0} (f : X → Y) (n : ℕ) (xs : List X) → take n (map f xs) ≡ map f (take n xs)
 take_map f zero xs = refl
@@ -52,3 +53,8 @@ all_after {X} P x xs h k d lt = h (suc k) d (omega arith)
 pub all_both : {X : Type 0} (P : X → Type 0) (xs ys : List X) → All P xs → All P ys → All P (xs ++ ys)
 all_both {X} P [] ys h k = k
 all_both {X} P (x ∷ xs) ys h k = all_more P x (xs ++ ys) (h 0 x (omega arith)) (all_both P xs ys (all_after P x xs h) k)
+
+-- ---- an item that is there
+
+pub got_here : {X : Type 0} (xs : List X) (k : ℕ) (d : X) → k < length xs → slice_get xs k ≡ Some (get_or xs k d)
+got_here {X} xs k d lt = (let r = get_there xs k lt in r.1 ∙ ap (λ (x : X). Some x) (sym (got_index xs k r.0 d r.1)))

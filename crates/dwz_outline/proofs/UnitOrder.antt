@@ -106,7 +106,7 @@ module _ (contents : List (List ℕ)) (file : ℕ) (bytes : List ℕ) (f : File)
 
   pub have_units : HaveUnits all x.starts.top x.tops
   have_units = record {
-    numbered = λ n t e. numbered_got 0 all (tops_numbers (units_of (docs_of contents))) n t e;
+    numbered = λ n t e. (let z = numbered_got 0 all (tops_numbers (units_of (docs_of contents))) n t e in omega arith);
     rise = λ m n s t le e q. ⊎_elim
         (λ lt. pair_got all (rises 0 0 (units_of (docs_of contents))) m n s t lt e q)
         (λ ge. (let same : m ≡ n = omega arith in let one : s ≡ t = same_got all n s t (subst (λ (k : ℕ). slice_get all k ≡ Some s) same e) q in subst (λ (w : Top). s.unit ≤ w.unit) one (omega arith)))

@@ -70,10 +70,12 @@ pub fn outline_files(alloc: Global, graph: &Graph, indexes: &[Index]) -> Result<
     let mut rows = draft.rows;
     set_movable(rows.as_mut_slice(), movable.as_slice());
     let files_of_units = files_of_units(alloc, graph)?;
+    let listed = TopRows::new(rows);
+    let numbers = Numbers::new(files_of_units);
     let tops = Tops {
-        rows: TopRows::new(rows),
+        rows: listed,
         targets,
-        files_of_units: Numbers::new(files_of_units),
+        files_of_units: numbers,
         files: files.len() as u32,
     };
     Ok(Outline { tops })

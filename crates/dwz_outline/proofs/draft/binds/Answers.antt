@@ -1,6 +1,6 @@
-use Rattle.std.proofs.Common.{◌≡◌, ℕ, ◌<◌, List, length, sym, ap, subst, ◌∙◌, arith}
+use Rattle.std.proofs.Common.{◌≡◌, ℕ, ◌<◌, List, length, sym, ap, ◌∙◌, arith}
 use Rattle.std.specs.Prelude.{slice_index_or, Bool, false, true}
-use Rattle.dwz_alike.specs.Alike.{any_in, entry_binds, is_named}
+use Rattle.dwz_alike.specs.Alike.{is_named}
 use Rattle.dwz_alike.specs.Spots.{tops_of, units_of}
 use Rattle.dwz_graph.specs.Files.{docs_of}
 use Rattle.dwz_meanings.specs.Files.{around_of}

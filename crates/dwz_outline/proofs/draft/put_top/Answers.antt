@@ -1,4 +1,4 @@
-use Rattle.std.proofs.Common.{◌≡◌, ℕ, ◌+◌, ◌≤◌, List, ◌++◌, length, Option, Some, map, slice_get, sym, ap, subst, ◌∙◌}
+use Rattle.std.proofs.Common.{◌≡◌, ℕ, ◌+◌, ◌≤◌, List, ◌++◌, length, Some, map, slice_get, ap, subst}
 use Rattle.std.specs.Prelude.{slice_index, slice_range}
 use Rattle.dwz_graph.specs.Files.{docs_of}
 use Rattle.dwz_scan.specs.Bound.{somes, target_of}

@@ -1,10 +1,9 @@
-use Rattle.std.proofs.Common.{◌≡◌, ℕ, ◌<◌, List, length, sym, ap, subst, ◌∙◌, arith}
+use Rattle.std.proofs.Common.{ℕ, ◌<◌, List, length, sym, ap, ◌∙◌, arith}
 use Rattle.std.specs.Prelude.{slice_index_or, Bool, false}
 use Rattle.dwz_alike.specs.Spots.{tops_of, units_of}
 use Rattle.dwz_graph.specs.Files.{docs_of}
 use Rattle.dwz_meanings.specs.Files.{around_of}
 use Rattle.dwz_moving.specs.Plan.{is_pinned}
-use Rattle.dwz_resolve.specs.Resolved.{place_at}
 use Rattle.dwz_scan.specs.Known.{tops_of_refs}
 use Rattle.dwz_unit.specs.Rows.{units_of as raw_units}
 use Rattle.dwz_across.specs.Across.{name_at}

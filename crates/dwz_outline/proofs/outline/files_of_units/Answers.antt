@@ -1,4 +1,4 @@
-use Rattle.std.proofs.Common.{length, ap, ◌∙◌, arith}
+use Rattle.std.proofs.Common.{◌∙◌, arith}
 use Rattle.dwz_graph.specs.Files.{docs_of}
 use Rattle.dwz_across.proofs.FileCounts.{files_many}
 use Rattle.dwz_across.proofs.ListGets.{item_got}

@@ -32,7 +32,7 @@ movable_by-requires-clause-few c =
     let len_is : c.len.result ≡ length c.in_ok-draft.draft.rows.items = omega (arith, c.len.ensures, c.in_ok-draft.draft.rows.ok.0) in
     let made = c.in_ok-targets.ensures ∙ (λ i. grouped (len_is i) (c.as_slice.ensures.value i)) in
     let len = long docs draft d c.in_ok-targets.targets made in
-    let few = tops_few c.args.graph.now c.files.result.now c.args.indexes.now c.files.ensures c.requires.indexes in
+    let few = tops_few c.args.graph.now c.files-files.result.now c.args.indexes.now c.files-files.ensures c.requires.indexes in
     omega arith
 
 pub movable_by-requires-clause-len : goal.movable_by-requires-clause-len
@@ -75,9 +75,9 @@ returns c =
     let moves = c.in_ok-movable.ensures (units_of docs) (shown_targets docs draft d c.in_ok-targets.targets made) seeds in
     let flags = c.in_ok-movable.movable in
     let rows : (with_items draft.rows c.set_movable.new.rows).items ≡ with_flags draft.rows.items flags = with_items_is draft.rows c.set_movable.new.rows (omega (arith, c.in_ok-draft.draft.rows.ok.0, ap (λ (w : List TopRow). length w) c.as_mut_slice.ensures.value, c.set_movable.auto.rows)) ∙ c.set_movable.ensures ∙ (λ i. with_flags (c.as_mut_slice.ensures.value i) (c.as_slice-3.ensures i)) in
-    let many = files_many c.args.graph.now c.files.result.now c.files.ensures in
-    let low = subst (λ (w : List ℕ). All (λ n. n < length c.files.result.now) w) (sym c.in_ok-files_of_units.ensures) (files_low docs (length c.files.result.now) (omega arith)) in
-    outline_is docs draft d c.in_ok-targets.targets made flags moves c.in_ok-files_of_units.files_of_units.items (length c.files.result.now) c.in_ok-files_of_units.ensures low _ (c.new-listed.ensures ∙ rows) refl c.new-numbers.ensures refl
+    let many = files_many c.args.graph.now c.files-files.result.now c.files-files.ensures in
+    let low = subst (λ (w : List ℕ). All (λ n. n < length c.files-files.result.now) w) (sym c.in_ok-files_of_units.ensures) (files_low docs (length c.files-files.result.now) (omega arith)) in
+    record { tops = outline_is docs draft d c.in_ok-targets.targets made flags moves c.in_ok-files_of_units.files_of_units.items (length c.files-files.result.now) c.in_ok-files_of_units.ensures low _ (c.new-listed.ensures ∙ rows) refl c.new-numbers.ensures refl }
 
 pub overflow_cast-tops : goal.overflow_cast-tops
-overflow_cast-tops c = (let many = files_few c.args.graph.now c.files.result.now c.files.ensures in omega arith)
+overflow_cast-tops c = (let many = files_few c.args.graph.now c.files-files.result.now c.files-files.ensures in omega arith)

@@ -1,0 +1,10 @@
+pub mod ListParts
+pub mod TargetLemmas
+pub mod PairLemmas
+pub mod RangeLemmas
+pub mod UnitOrder
+pub mod DraftSteps
+pub mod OutlineLemmas
+pub mod FlagSteps
+pub mod FileSteps
+pub mod FilesLow

@@ -1,0 +1,16 @@
+use Rattle.std.proofs.Common.{◌≡◌, ℕ, suc, ◌+◌, List, Some, slice_get}
+use Rattle.dwz_alike.specs.Spots.{Top, units_of}
+use Rattle.dwz_graph.specs.Files.{docs_of}
+use Rattle.dwz_index.specs.declared.index.TopEntry.{TopEntry}
+use Rattle.dwz_marks.specs.Named.{AreNamed}
+use Rattle.dwz_scan.specs.Bound.{HasTops}
+use Rattle.dwz_across.specs.Across.{IsFileAmong}
+use Rattle.dwz_outline.specs.Drafts.{IsDraft}
+use Rattle.dwz_outline.specs.Ranges.{HaveUnits}
+use Rattle.dwz_outline.proofs.draft.put_file.Given as goal
+
+abbrev pub invariant-loop-i : goal.invariant-loop-i
+invariant-loop-i l = record {
+  own : (all : List Top) (j : ℕ) (y : TopEntry) → HaveUnits all l.first l.tops → suc j ≡ l.i → slice_get l.tops j ≡ Some y → HasTops all y.unit l.own;
+  draft : (contents : List (List ℕ)) (bytes : List ℕ) (is : IsFileAmong contents l.number bytes l.file l.index) → AreNamed (units_of (docs_of contents)) l.named → IsDraft (docs_of contents) l.index.starts.top l.fn.draft → IsDraft (docs_of contents) (l.index.starts.top + l.i) l.draft;
+}

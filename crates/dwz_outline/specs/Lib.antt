@@ -1,0 +1,4 @@
+pub mod Ranges
+pub mod Drafts
+pub mod Rows
+pub mod Outlines

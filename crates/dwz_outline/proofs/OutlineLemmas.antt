@@ -185,12 +185,12 @@ module _ (docs : List (Doc ℕ)) (draft : Draft) (d : IsDraft docs (length (tops
     pub inside : AreInside targets
     inside m n there = ⊎_elim
         (λ lt. (
-          let t = get_there tops m lt in
-          let o = of_number m t.0 t.1 in
-          let here : In n o.ts = subst (λ (w : List ℕ). In n w) (under m lt ∙ got_index d.targets m o.ts [] o.ts_there) there in
-          let low = all_in count o.ts o.is.inside n here in
-          let len = long in
-          omega arith))
+        let t = get_there tops m lt in
+        let o = of_number m t.0 t.1 in
+        let here : In n o.ts = subst (λ (w : List ℕ). In n w) (under m lt ∙ got_index d.targets m o.ts [] o.ts_there) there in
+        let low = all_in count o.ts o.is.inside n here in
+        let len = long in
+        omega arith))
         (λ ge. absurd (let len = long in let none : slice_index_or targets m [] ≡ [] = none_index targets m [] (omega arith) in subst (λ (w : List ℕ). In n w) none there))
         (cases_lt m count)
 

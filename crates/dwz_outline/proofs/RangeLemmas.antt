@@ -114,33 +114,33 @@ module _ (all : List Top) (first : ℕ) (tops : List TopEntry) (h : HaveUnits al
   before_it is n s lt e q = ⊎_elim
       (λ low. h.before n i s x low e got q)
       (λ high. (
-        let k = n - first in
-        let at = got_below tops i x got in
-        let y = get_there tops (i - 1) (omega arith) in
-        let one : suc (i - 1) ≡ i = omega arith in
-        let t = top_of (i - 1) y.0 y.1 in
-        let here = top_of i x got in
-        let up = h.rise n (first + (i - 1)) s t.0 (omega arith) e t.1 in
-        let over = h.rise (first + (i - 1)) (first + i) t.0 here.0 (omega arith) t.1 here.1 in
-        let a = t.2 in
-        let b = here.2 in
-        let same : y.0.unit ≡ x.unit = omega arith in
-        is (i - 1) y.0 one y.1 same))
+      let k = n - first in
+      let at = got_below tops i x got in
+      let y = get_there tops (i - 1) (omega arith) in
+      let one : suc (i - 1) ≡ i = omega arith in
+      let t = top_of (i - 1) y.0 y.1 in
+      let here = top_of i x got in
+      let up = h.rise n (first + (i - 1)) s t.0 (omega arith) e t.1 in
+      let over = h.rise (first + (i - 1)) (first + i) t.0 here.0 (omega arith) t.1 here.1 in
+      let a = t.2 in
+      let b = here.2 in
+      let same : y.0.unit ≡ x.unit = omega arith in
+      is (i - 1) y.0 one y.1 same))
       (cases_lt n first)
 
   behind_it : (run : ℕ) → IsRun run → (n : ℕ) (s : Top) → first + i + run ≤ n → slice_get all n ≡ Some s → s.unit ≢ x.unit
   behind_it run r n s le e q = ⊎_elim
       (λ low. (
-        let within = r.within in
-        let y = get_there tops (i + run) (omega arith) in
-        let t = top_of (i + run) y.0 y.1 in
-        let here = top_of i x got in
-        let up = h.rise (first + i) (first + (i + run)) here.0 t.0 (omega arith) here.1 t.1 in
-        let over = h.rise (first + (i + run)) n t.0 s (omega arith) t.1 e in
-        let a = t.2 in
-        let b = here.2 in
-        let same : y.0.unit ≡ x.unit = omega arith in
-        r.next y.0 y.1 same))
+      let within = r.within in
+      let y = get_there tops (i + run) (omega arith) in
+      let t = top_of (i + run) y.0 y.1 in
+      let here = top_of i x got in
+      let up = h.rise (first + i) (first + (i + run)) here.0 t.0 (omega arith) here.1 t.1 in
+      let over = h.rise (first + (i + run)) n t.0 s (omega arith) t.1 e in
+      let a = t.2 in
+      let b = here.2 in
+      let same : y.0.unit ≡ x.unit = omega arith in
+      r.next y.0 y.1 same))
       (λ high. h.behind n i s x high e got q)
       (cases_lt n (first + length tops))
 

@@ -183,8 +183,8 @@ module _ (around : Around ℕ) (raw : List RawUnit) (name : ℕ → Spot) (refs 
         let high = more.0 in (
           omega arith,
           ap (map (place_at raw)) (range_split refs (start i) (start (i + 1)) (start k) low high)
-          ∙ map-append (place_at raw) (slice_range refs (start i) (start (i + 1))) (slice_range refs (start (i + 1)) (start k))
-          ∙ (λ j. part j ++ more.1 j),
+              ∙ map-append (place_at raw) (slice_range refs (start i) (start (i + 1))) (slice_range refs (start (i + 1)) (start k))
+              ∙ (λ j. part j ++ more.1 j),
         )
 
   start_within : (k : ℕ) → k ≤ entries_in raw → start k ≤ length refs

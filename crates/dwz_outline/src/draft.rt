@@ -55,12 +55,7 @@ fn start_of(starts: &[u32], i: u32) -> usize
 
 // The tops of references of the entries from one number to before another.
 #[inline(always)]
-fn part<'a>(
-    into: &'a [Option<u32>],
-    starts: &[u32],
-    first: u32,
-    end: u32,
-) -> &'a [Option<u32>]
+fn part<'a>(into: &'a [Option<u32>], starts: &[u32], first: u32, end: u32) -> &'a [Option<u32>]
     ensures { slice_index starts.now first ≤ slice_index starts.now end → slice_index starts.now end ≤ length into.now → result.now ≡ slice_range into.now (slice_index starts.now first) (slice_index starts.now end) }
 {
     match into.get(start_of(starts, first)..start_of(starts, end)) {
@@ -147,7 +142,12 @@ fn put_top(
     draft.rows.push(row_of(file, number, n, top, end, named))?;
     draft.binds.push(bound)?;
     let starts = file.resolved.starts.as_slice();
-    put_targets(&mut draft.pairs, n, bound, part(into, starts, top.entry, end))
+    put_targets(
+        &mut draft.pairs,
+        n,
+        bound,
+        part(into, starts, top.entry, end),
+    )
 }
 
 // Adds the tops of a file.

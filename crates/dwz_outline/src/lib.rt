@@ -4,7 +4,5 @@
 mod draft;
 mod outline;
 mod ranges;
-#[cfg(test)]
-mod tests;
 
 pub use outline::{Outline, outline_files};

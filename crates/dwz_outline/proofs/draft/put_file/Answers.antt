@@ -66,8 +66,8 @@ loop-i-preserved c = (
           let number_is = g.top_is.number in
           let at : first + i ≡ t.number = omega arith in
           let into = c.as_slice-in-loop-i.ensures.value
-              ∙ c.in_ok-into.ensures raw names name is.index.names (all_entries contents number bytes f x is) (names_entries contents number bytes f x is) (refs_low contents number bytes f x is c.as_slice.result.now r)
-              ∙ ap (tops_of_refs name raw) r in
+          ∙ c.in_ok-into.ensures raw names name is.index.names (all_entries contents number bytes f x is) (names_entries contents number bytes f x is) (refs_low contents number bytes f x is c.as_slice.result.now r)
+          ∙ ap (tops_of_refs name raw) r in
           let units : HaveUnits all first tops = subst (λ (w : List TopEntry). HaveUnits all first w) (sym c.tops-tops.ensures) (subst (λ (m : ℕ). HaveUnits all m x.tops) (sym first_is) (have_units contents number bytes f x is)) in
           let own = subst (λ (u : ℕ). HasTops all u c.range_at-own.result) (sym g.top_is.unit) (c.range_at-own.ensures all top units got (λ k z p q. c.loop-i.invariant.own all k z units p q)) in
           let before : x.starts.top + i ≡ first + i = omega arith in

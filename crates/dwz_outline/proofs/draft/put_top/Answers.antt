@@ -23,7 +23,7 @@ returns c = λ contents bytes x is k t top_is at into own named there d. (
     let row_is = c.row_of.ensures contents bytes x is k t top_is at ends named in
     let items = c.args.into.now in
     let part_is = subst (λ (w : List ℕ). slice_index w top.entry ≤ slice_index w r.end → slice_index w r.end ≤ length items → c.part.result.now ≡ slice_range items (slice_index w top.entry) (slice_index w r.end)) c.as_slice-starts.ensures.value c.part.ensures
-        (rise contents number bytes f x is k top t top_is items into r shown) (within contents number bytes f x is k top t top_is items into r shown) in
+    (rise contents number bytes f x is k top t top_is items into r shown) (within contents number bytes f x is k top t top_is items into r shown) in
     let old = c.args.draft.now in
     let new : Draft = record { rows = c.push.new.self; binds = c.push-2.new.self; pairs = c.put_targets.new.pairs } in
     either c.put_targets.result c.in_ok-bound.bound (new.pairs.items ≡ old.pairs.items) (new.pairs.items ≡ old.pairs.items ++ map (target_of c.args.n) (somes c.part.result.now)) (IsDraft (docs_of contents) (c.args.n + 1) new)

@@ -16,8 +16,4 @@ pub use numbers::UnitNumbers;
 pub use owners::{owner, put_owners};
 
 #[cfg(test)]
-mod one_file;
-#[cfg(test)]
-mod small_files;
-#[cfg(test)]
 mod tests;

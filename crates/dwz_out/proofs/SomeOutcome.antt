@@ -2,7 +2,8 @@
 use Rattle.std.proofs.Common.{◌≡◌, ◌↔◌, ◌⊎◌, ℕ, Bool, true, List, [], ◌∷◌, Result, Ok, Err, refl, inl, inr}
 use Rattle.dwz_model.specs.declared.fault.Refusal.{Refusal}
 use Rattle.dwz_meanings.specs.Documents.{Doc}
-use Rattle.dwz_meanings.specs.Files.{Limits, ReadAll, files_meaning, limits_after, no_files_before}
+use Rattle.dwz_docs.specs.Units.{RawUnit}
+use Rattle.dwz_meanings.specs.Files.{Limits, ReadAll, Reads, files_meaning, limits_after, no_files_before}
 use Rattle.dwz_meanings.proofs.FileLemmas.{files_agree}
 use Rattle.dwz_words.specs.declared.options.Options.{Options}
 use Rattle.dwz_course.specs.Outcome.{Outcome, refuses, writes}
@@ -11,14 +12,15 @@ use Rattle.dwz_out.specs.Out.{ArePrunable, IsFree, Out, output_of, run_for, sup_
 use Rattle.dwz_out.specs.Refusals.{OutFault}
 use Rattle.dwz_out.proofs.EitherOne.{either}
 
-module _ (tell : (bytes : List ℕ) (doc : Doc ℕ) → (flag : Bool) × ((flag ≡ true) ↔ IsPrunable bytes doc.units)) where
+module _ (tell : (l : Limits) (bytes : List ℕ) (raw : List RawUnit) (doc : Doc ℕ) → Reads l bytes raw doc → (flag : Bool) × ((flag ≡ true) ↔ IsPrunable bytes doc.units)) where
   flags_of : (l : Limits) (contents : List (List ℕ)) (docs : List (Doc ℕ)) → ReadAll l contents docs → (flags : List Bool) × ArePrunable contents docs flags
   flags_of l [] [] all = ([], tt)
   flags_of l [] (doc ∷ docs) all = absurd all
   flags_of l (bytes ∷ contents) [] all = absurd all
   flags_of l (bytes ∷ contents) (doc ∷ docs) all =
       let more = flags_of (limits_after l bytes all.0) contents docs all.2 in
-      ((tell bytes doc).0 ∷ more.0, ((tell bytes doc).1, more.1))
+      let told = tell l bytes all.0 doc all.1 in
+      (told.0 ∷ more.0, (told.1, more.1))
 
   pub some_outcome : (o : Options) (contents : List (List ℕ)) → (outcome : Outcome) × Out o contents outcome
   some_outcome o contents = by (files_meaning no_files_before 0 contents) refl where

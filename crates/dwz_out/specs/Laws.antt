@@ -9,6 +9,8 @@ use Rattle.dwz_docs.specs.Values.{AreBytes}
 use Rattle.dwz_meanings.specs.Documents.{Doc}
 use Rattle.dwz_seen.specs.Lists.{Each}
 use Rattle.dwz_writing.specs.Meant.{AreRenumbered}
+use Rattle.dwz_docs.specs.Units.{RawUnit}
+use Rattle.dwz_meanings.specs.Files.{Limits, Reads}
 use Rattle.dwz_same.specs.Units.{changes}
 use Rattle.dwz_back.specs.AllFiles.{AreMade, IsRead, ReadBack}
 use Rattle.dwz_back.specs.Prunable.{IsPrunable}
@@ -47,11 +49,11 @@ SectionLaw = (name : List ℕ) (r : Run) (q : Refusal) → OutFault name r q →
 abbrev pub OneOutcomeLaw : Type 0
 OneOutcomeLaw = (o : Options) (contents : List (List ℕ)) (a b : Outcome) → Out o contents a → Out o contents b → a ≡ b
 
--- and something does, where it can be told which files are prunable
+-- and something does, where it can be told of files that read which are prunable
 abbrev pub SomeOutcomeLaw : Type 0
 SomeOutcomeLaw =
-    ((bytes : List ℕ) (doc : Doc ℕ) → (flag : Bool) × ((flag ≡ true) ↔ IsPrunable bytes doc.units)) → (o : Options) (contents : List (List ℕ))
-    → (outcome : Outcome) × Out o contents outcome
+    ((l : Limits) (bytes : List ℕ) (raw : List RawUnit) (doc : Doc ℕ) → Reads l bytes raw doc → (flag : Bool) × ((flag ≡ true) ↔ IsPrunable bytes doc.units))
+    → (o : Options) (contents : List (List ℕ)) → (outcome : Outcome) × Out o contents outcome
 
 -- in the location lists of a file that reads stand the numbers of where things stand, and in no other bytes do
 abbrev pub ListsLaw : Type 0

@@ -5,3 +5,4 @@ pub mod ReadLemmas
 pub mod LayoutLemmas
 pub mod OutputLemmas
 pub mod RebuildLemmas
+pub mod CalledLemmas

@@ -1,15 +1,16 @@
 -- Names and the zero bytes that end them.
-use Rattle.std.proofs.Common.{◌≡◌, ◌≢◌, ℕ, zero, suc, ◌+◌, ◌-◌, ◌*◌, ◌<◌, ◌≤◌, List, [], ◌∷◌, ◌++◌, length, take, drop, get_or, Option, Some, None, Bool, true, false, eqb, refl, sym, ap, subst, ◌∙◌, append_assoc, arith, lit<, lit≤, length-drop}
+use Rattle.std.proofs.Common.{◌≡◌, ◌≢◌, ℕ, zero, suc, ◌+◌, ◌-◌, ◌<◌, ◌≤◌, List, [], ◌∷◌, length, take, drop, get_or, Option, Some, None, Bool, true, false, ◌&&◌, eqb, refl, sym, ap, subst, ◌∙◌, arith, lit<, lit≤, length-drop}
 use Rattle.std.specs.Prelude.{is_some, IfSome, nat_lt, nat_eq, codes, if◌then◌else◌}
 use Rattle.std.specs.Option.{option_map}
 use Rattle.std.specs.List.{list_any, starts_with}
 use Rattle.std.specs.Str.{bytes_eq}
 use borrow.Author.Tests.{ltb-true, ltb-false}
-use Rattle.std.proofs.lemmas.Bool.{ne_eqb, eq-eqb, eqb-true, eqb-false}
+use Rattle.std.proofs.lemmas.Bool.{ne_eqb, eq-eqb}
 use Rattle.std.proofs.lemmas.Bool.Decides.{nat_tests}
 use Rattle.std.proofs.lemmas.Grind.{common_steps}
-use Rattle.dwz_docs.specs.ElfNames.{name_at, name_in, known_name, code_of, index_names}
-use Rattle.dwz_elf.specs.Names.{IsNamesEnd}
+use Rattle.dwz_docs.specs.declared.elf.Section.{Section}
+use Rattle.dwz_docs.specs.ElfNames.{name_at, name_in, known_name, code_of, index_names, section_of}
+use Rattle.dwz_elf.specs.Names.{IsNamesEnd, is_called}
 
 pub no_name : (bytes : List ℕ) → ((k : ℕ) → k < length bytes → get_or bytes k 0 ≢ 0) → name_in bytes ≡ None
 unfolding name_in
@@ -175,3 +176,25 @@ pub named : (table rest front : List ℕ) (end at code : ℕ) (debug index : Boo
 named table rest front end at code debug index is ends less first code_is debug_is index_is =
     let found : IfSome (name_at table at) (λ n. front ≡ take 24 n) = subst (λ (r : List ℕ). IfSome (name_in r) (λ n. front ≡ take 24 n)) is first in
     rw (code_is, debug_is, index_is) (known (name_at table at) front (at_name table end at ends less) found)
+
+-- ---- a given name
+
+-- behind the table no name begins
+pub no_rest : (table name : List ℕ) (at : ℕ) → drop at table ≡ [] → false ≡ is_called name (name_at table at)
+unfolding name_in
+no_rest table name at none = ap (λ (bytes : List ℕ). is_called name (name_in bytes)) (sym none)
+
+called_as : (found : Option (List ℕ)) (name front : List ℕ) (ends : Bool) → ends ≡ (known_name found).ends → IfSome found (λ n. front ≡ take 24 n) → length name < 24 → (ends && bytes_eq front name) ≡ is_called name found
+called_as None name front ends is first less = ap (λ (b : Bool). b && bytes_eq front name) is
+called_as (Some n) name front ends is first less = ap (λ (b : Bool). b && bytes_eq front name) is ∙ ap (λ (m : List ℕ). bytes_eq m name) first ∙ short_same name n 24 less
+
+not_ended_as : (found : Option (List ℕ)) (name : List ℕ) → (known_name found).ends ≡ false → false ≡ is_called name found
+not_ended_as None name none = refl
+not_ended_as (Some n) name none = absurd cc
+
+pub not_ended : (table name : List ℕ) (s : Section) → s ≡ section_of table s.header → s.name.ends ≡ false → false ≡ is_called name (name_at table s.header.name)
+not_ended table name s is none = not_ended_as (name_at table s.header.name) name (sym (ap (λ (x : Section). x.name.ends) is) ∙ none)
+
+pub called : (table rest name front : List ℕ) (s : Section) → s ≡ section_of table s.header → rest ≡ drop s.header.name table → IfSome (name_in rest) (λ n. front ≡ take 24 n) → length name < 24 → (s.name.ends && bytes_eq front name) ≡ is_called name (name_at table s.header.name)
+called table rest name front s is same first less =
+    called_as (name_at table s.header.name) name front s.name.ends (ap (λ (x : Section). x.name.ends) is) (subst (λ (r : List ℕ). IfSome (name_in r) (λ n. front ≡ take 24 n)) same first) less

@@ -1,9 +1,12 @@
 //! A file's sections.
 
-ghost use Rattle.std.specs.Prelude.{◌≡◌, ◌≤◌, ◌<◌, ◌↔◌, All, Err, IsTrue, IfNone, IfOk, Some, length, map, drop, take};
+ghost use Rattle.std.specs.Prelude.{◌≡◌, ◌≤◌, ◌<◌, ◌↔◌, All, Err, IsTrue, IfNone, IfOk, List, None, Some, length, map, drop, take};
+ghost use Rattle.std.specs.List.{list_any};
 ghost use Rattle.dwz_docs.specs.ElfHeaders;
 ghost use Rattle.dwz_docs.specs.ElfNames;
+ghost use Rattle.dwz_docs.specs.declared.elf.Header.{Header};
 ghost use Rattle.dwz_docs.specs.ElfReading.{bytes_in, elf_fault, elf_of, range_in, section_range};
+ghost use Rattle.dwz_elf.specs.Names.{is_there_called};
 ghost use Rattle.dwz_elf.specs.Plain.{IsPlain, IsPlainSection};
 ghost use Rattle.dwz_elf.specs.Reads.{Gives, IsWhole, front_fault_of, rest_fault_of};
 ghost use Rattle.dwz_model.specs.declared.fault.Fault.{Fault};
@@ -11,7 +14,7 @@ ghost use Rattle.dwz_model.specs.declared.fault.ReadErr.TheVariants.{Refused};
 
 use crate::fault;
 use crate::header::{file_header, header_at, headers_from, is_loaded, is_there};
-use crate::name::{names_end, section_of};
+use crate::name::{has_name, names_end, section_of};
 use dwz_docs::{FileHeader, Header, Section};
 use dwz_model::{Fault, NoMemory, ReadErr};
 use std::alloc::Global;
@@ -171,6 +174,18 @@ impl Elf {
         }
     }
 
+    /// Whether a section with that name has a content in the file that the sections were read from. The name is short.
+    pub fn has_section(&self, file: &[u8], name: &[u8]) -> bool
+        requires { length name.now < 24 }
+        ensures { self.now ≡ elf_of file.now → elf_fault file.now ≡ None → result ≡ list_any (is_there_called (ElfNames.name_table file.now) name.now) (ElfHeaders.headers_in file.now) }
+    {
+        let Some(names) = self.sections.get(self.file.names as usize) else {
+            return false;
+        };
+        let table = run_of(run_from(file, names.header.offset), names.header.size);
+        any_called(table, &self.sections, name)
+    }
+
     pub(crate) fn file(&self) -> FileHeader
         ensures { result ≡ self.now.file }
     {
@@ -255,4 +270,17 @@ fn first_range(sections: &[Section], code: u8) -> Option<(u64, u64)>
         }
     }
     None
+}
+
+// Whether a section has a content, and that name, which is short. The names of all stand in the table.
+fn any_called(table: &[u8], sections: &[Section], name: &[u8]) -> bool
+    requires { length name.now < 24 }
+    ensures { (headers : List Header) → sections.now ≡ map (ElfNames.section_of table.now) headers → result ≡ list_any (is_there_called table.now name.now) headers }
+{
+    for section in sections {
+        if is_there(&section.header) && has_name(table, section, name) {
+            return true;
+        }
+    }
+    false
 }

@@ -4,7 +4,7 @@ ghost use Rattle.std.specs.Prelude.{◌≡◌, ℕ, ◌+◌, ◌<◌, ◌≤◌,
 ghost use Rattle.std.specs.List.{list_any, starts_with};
 ghost use Rattle.std.specs.Str.{bytes_eq};
 ghost use Rattle.dwz_docs.specs.ElfNames;
-ghost use Rattle.dwz_elf.specs.Names.{IsNamesEnd};
+ghost use Rattle.dwz_elf.specs.Names.{IsNamesEnd, is_called};
 
 use dwz_docs::{Header, Name, Section};
 
@@ -126,4 +126,15 @@ pub(crate) fn section_of(table: &[u8], end: usize, header: &Header) -> Section
         header: *header,
         name: name_of(table, end, header.name as usize),
     }
+}
+
+/// Whether a section has that name, which is short. The table is the one that its header refers to.
+pub(crate) fn has_name(table: &[u8], section: &Section, name: &[u8]) -> bool
+    requires { length name.now < 24 }
+    ensures { section.now ≡ ElfNames.section_of table.now section.now.header → result ≡ is_called name.now (ElfNames.name_at table.now section.now.header.name) }
+{
+    let Some(rest) = table.get(section.header.name as usize..) else {
+        return false;
+    };
+    section.name.ends && front_of(rest) == name
 }

@@ -1,0 +1,94 @@
+-- The lengths of all files are numbers of 64 bits, as fewer than 2^32 files are there, however many names.
+use Rattle.std.proofs.Common.{◌≡◌, ℕ, zero, suc, ◌-◌, ◌*◌, ◌^◌, ◌<◌, ◌≤◌, Bool, true, false, List, [], ◌∷◌, length, get_or, Option, None, unwrap_or, refl, ap, inl, inr, arith}
+use Rattle.std.specs.List.{sum_by}
+use Rattle.std.proofs.lemmas.Bool.{cases_lt}
+use Rattle.std.proofs.lemmas.List.{get_or_past}
+use Rattle.std.proofs.lemmas.List.Sums.{sum_by-cons}
+use Rattle.dwz_docs.specs.ElfReading.{elf_of}
+use Rattle.dwz_docs.specs.Values.{AreBytes}
+use Rattle.dwz_meanings.specs.Documents.{Doc}
+use Rattle.dwz_meanings.specs.Files.{Limits, ReadAll, limits_after, longest_file, no_files_before}
+use Rattle.dwz_seen.specs.Lists.{Each}
+use Rattle.dwz_same.specs.Units.{changes}
+use Rattle.dwz_back.specs.Files.{Run}
+use Rattle.dwz_back.proofs.StillPlaces.{nth_number}
+use Rattle.dwz_rebuilt.proofs.MadeLemmas.{same_length}
+use Rattle.dwz_words.specs.declared.options.Options.{Options}
+use Rattle.dwz_course.specs.Demo.{HasLengths, common_length as length_of}
+use Rattle.dwz_out.specs.FilesAfter.{bytes_by, changes_after, file_after, order_of}
+use Rattle.dwz_out.specs.Out.{IsWritten, common_length, new_length, run_for, summary_lines, summary_of, sup_name}
+use Rattle.dwz_out.proofs.AllMade.{changed, file_free, sections_free}
+use Rattle.dwz_out.proofs.FilesMade.{can_be_made}
+use Rattle.dwz_out.proofs.FilesRead.{content_bytes}
+use Rattle.dwz_after.proofs.RowsAfter.{Line, line_of}
+use Rattle.dwz_after.proofs.RunReady.{stays_beyond}
+
+-- what reads is short
+read_small : (l : Limits) (contents : List (List ℕ)) (docs : List (Doc ℕ)) → ReadAll l contents docs → (n : ℕ) → length (get_or contents n []) ≤ longest_file
+read_small l [] docs all n = omega arith
+read_small l (c ∷ contents) [] all n = absurd all
+read_small l (c ∷ contents) (d ∷ docs) all zero = all.1.size.file
+read_small l (c ∷ contents) (d ∷ docs) all (suc n) = read_small (limits_after l c all.0) contents docs all.2 n
+
+-- a length that is short, and 0 where there is no file
+abbrev IsShort : ℕ → ℕ → ℕ → Type 0
+IsShort count file len = (len ≤ 2 ^ 32) × (count ≤ file → len ≡ 0)
+
+one_more : (f : Line → ℕ) (x : Line) (xs : List Line) (count file : ℕ) → IsShort count file (f x) → sum_by f xs ≤ (count - suc file) * 2 ^ 32
+    → sum_by f (x ∷ xs) ≤ (count - file) * 2 ^ 32
+one_more f x xs count file one rest = elim (cases_lt file count) [
+  | inl less ↦ (let is = sum_by-cons f x xs in let few = one.0 in omega (arith, is, few, rest, less))
+  | inr beyond ↦ (let is = sum_by-cons f x xs in let none = one.1 beyond in omega (arith, is, none, rest, beyond))
+]
+
+module _ (o : Options) (contents : List (List ℕ)) (docs : List (Doc ℕ)) (prunes : List Bool) (alone : o.common ≡ None) (bytes : Each AreBytes contents) (written : IsWritten o contents docs prunes) where
+  abbrev r : Run
+  r = run_for o contents docs prunes
+
+  abbrev name : List ℕ
+  name = sup_name o
+
+  abbrev count : ℕ
+  count = length contents
+
+  old_short : (file : ℕ) → IsShort count file (length (r.input.bytes file))
+  unfolding longest_file
+  old_short file =
+      let small = read_small no_files_before contents docs written.read.reads file in
+      (omega (arith, small), λ beyond. ap (λ (b : List ℕ). length b) (get_or_past contents file [] beyond))
+
+  made_small : (file : ℕ) → changes r.move r.units file ≡ true → length (file_after name r file) ≤ 2 ^ 32
+  unfolding file_after
+  made_small file moves =
+      let c = changed o contents docs prunes bytes written file moves in
+      let there = nth_number 0 docs file c.doc c.nth in
+      let can = can_be_made name r file c.doc c.read (content_bytes contents bytes file) c.some moves (sections_free o contents docs prunes bytes written file there)
+      (file_free o contents docs prunes bytes written file there) in
+      let is = same_length (r.input.bytes file) (changes_after name r file) (order_of (elf_of (r.input.bytes file))) can in
+      let small = can.small in
+      omega (arith, is, small)
+
+  new_short : (file : ℕ) (b : Bool) → changes r.move r.units file ≡ b
+      → IsShort count file (unwrap_or (new_length b (bytes_by b (r.input.bytes file) (file_after name r file))) (length (r.input.bytes file)))
+  new_short file true e = (made_small file e, λ beyond. (let stays = stays_beyond o contents docs prunes alone written.read bytes file beyond in absurd (cc (e, stays))))
+  new_short file false e = old_short file
+
+  olds : (file : ℕ) (names : List (List ℕ)) → sum_by (λ line. line.1) (summary_lines o r file names) ≤ (count - file) * 2 ^ 32
+  unfolding summary_lines
+  olds file [] = omega arith
+  olds file (n ∷ names) = one_more (λ line. line.1) (line_of o r file n) (summary_lines o r (suc file) names) count file (old_short file) (olds (suc file) names)
+
+  news : (file : ℕ) (names : List (List ℕ)) → sum_by (λ line. unwrap_or line.2 line.1) (summary_lines o r file names) ≤ (count - file) * 2 ^ 32
+  unfolding summary_lines
+  news file [] = omega arith
+  news file (n ∷ names) =
+      one_more (λ line. unwrap_or line.2 line.1) (line_of o r file n) (summary_lines o r (suc file) names) count file (new_short file (changes r.move r.units file) refl) (news (suc file) names)
+
+  none_of_common : length_of (common_length o.common r) ≡ 0
+  none_of_common = ap (λ (c : Option (List ℕ)). length_of (common_length c r)) alone
+
+  pub lengths_fit : count < 2 ^ 32 → HasLengths (summary_of o r)
+  lengths_fit few = record {
+    before = let old = olds 0 o.files in omega (arith, few, old);
+    after = let new = news 0 o.files in let common = none_of_common in omega (arith, few, new, common);
+  }

@@ -1,0 +1,3 @@
+pub mod NewFiles
+pub mod Giving
+pub mod Making

@@ -1,0 +1,36 @@
+-- What is new in the files of a run, before they are written.
+use Rattle.std.specs.Prelude.{◌≡◌, ℕ, true, false, List, length, Option, Some, None}
+use Rattle.std.specs.List.{range_with_len}
+use Rattle.dwz_model.specs.declared.fault.Fault.{Fault}
+use Rattle.dwz_seen.specs.Lists.{Nth}
+use Rattle.dwz_same.specs.Units.{changes}
+use Rattle.dwz_back.specs.Files.{Run}
+use Rattle.dwz_out.specs.Contents.{listed, sections_after}
+use Rattle.dwz_out.specs.Refusals.{FirstNarrow, OrElse, spoken}
+use Rattle.dwz_after.specs.declared.new_file.NewFile.{NewFile}
+
+-- this is such a thing; or there is none
+abbrev pub IsFound : {X : Type 0} → (X → Type 0) → Option X → Type 0
+IsFound Is (Some x) = Is x
+IsFound {X} Is None = (x : X) → ¬ Is x
+
+-- the first operand of a file whose new number doesn't fit: in `.debug_info`, or else in `.debug_loclists`
+abbrev pub NarrowFault : Run → ℕ → Fault → Type 0
+NarrowFault r file = OrElse (FirstNarrow r file 1 (spoken r file)) (FirstNarrow r file 7 (listed r file))
+
+-- what is new in a file of which something moves
+pub record IsNewFile (r : Run) (file : ℕ) (n : NewFile) : Type 0 where
+  pub moves : changes r.move r.units file ≡ true
+  pub sections : n.sections ≡ sections_after r file
+  pub narrow : IsFound (NarrowFault r file) n.narrow
+
+-- a file stays as it is where nothing of it moves
+abbrev pub IsNewOrOld : Run → ℕ → Option NewFile → Type 0
+IsNewOrOld r file None = changes r.move r.units file ≡ false
+IsNewOrOld r file (Some n) = IsNewFile r file n
+
+-- this is new in the files of the run, in order, which have so many partial units together
+pub record AreNew (r : Run) (made : List (Option NewFile)) (partials : ℕ) : Type 0 where
+  pub files : r.files ≡ range_with_len 0 (length made)
+  pub each : (file : ℕ) (new : Option NewFile) → Nth 0 made file new → IsNewOrOld r file new
+  pub parts : partials ≡ length r.move.parts

@@ -1,0 +1,222 @@
+//! A small ELF file, of which something moves or nothing, with `-o` and without. What is expected was counted by hand.
+
+use crate::{NewFile, outcome};
+use dwz_course::Output;
+use dwz_elf::Elf;
+use dwz_graph::Graph;
+use dwz_model::{Blob, Fault, GraphErr, Names, Reason, Refusal, Sections};
+use dwz_words::Options;
+use std::alloc::{AllocError, Global};
+use std::process::Abort;
+use std::test::Fail;
+
+// The names of `.debug_info`, `.debug_abbrev` and of the section that holds them.
+const NAMES: &[u8] = b"\0.debug_info\0.debug_abbrev\0.shstrtab\0";
+
+// A compile unit of DWARF 5 with a base type `int`.
+const INFO: &[u8] = &[
+    18, 0, 0, 0, 5, 0, 1, 8, 0, 0, 0, 0, 1, 12, 2, 105, 110, 116, 0, 4, 5, 0,
+];
+
+const ABBREV: &[u8] = &[
+    1, 17, 1, 19, 11, 0, 0, 2, 36, 0, 3, 8, 11, 11, 62, 11, 0, 0, 0,
+];
+
+// How many bytes the file has: its header, the sections up to the next multiple of 8, and four section headers.
+const OLD_LENGTH: usize = 64 + 80 + 4 * 64;
+
+// The same with 3 bytes and 1 in place of the first two sections.
+const NEW_LENGTH: usize = 64 + 48 + 4 * 64;
+
+fn put_section_header(
+    out: &mut Vec<u8>,
+    name: u32,
+    kind: u32,
+    at: u64,
+    len: u64,
+) -> Result<(), AllocError> {
+    out.extend_from_slice(&name.to_le_bytes())?;
+    out.extend_from_slice(&kind.to_le_bytes())?;
+    out.extend_from_slice(&[0; 16])?;
+    out.extend_from_slice(&at.to_le_bytes())?;
+    out.extend_from_slice(&len.to_le_bytes())?;
+    out.extend_from_slice(&[0; 8])?;
+    out.extend_from_slice(&1u64.to_le_bytes())?;
+    out.extend_from_slice(&[0; 8])
+}
+
+fn file(alloc: Global) -> Result<Vec<u8>, AllocError> {
+    let mut out = Vec::new(alloc);
+    out.extend_from_slice(&[0x7f, 0x45, 0x4c, 0x46, 2, 1, 1, 0, 0, 0, 0, 0, 0, 0, 0, 0])?;
+    out.extend_from_slice(&[3, 0, 62, 0, 1, 0, 0, 0])?;
+    out.extend_from_slice(&[0; 16])?;
+    out.extend_from_slice(&144u64.to_le_bytes())?;
+    out.extend_from_slice(&[0, 0, 0, 0, 64, 0, 0, 0, 0, 0, 64, 0, 4, 0, 3, 0])?;
+    out.extend_from_slice(INFO)?;
+    out.extend_from_slice(ABBREV)?;
+    out.extend_from_slice(NAMES)?;
+    out.extend_from_slice(&[0, 0])?;
+    out.extend_from_slice(&[0; 64])?;
+    put_section_header(&mut out, 1, 1, 64, 22)?;
+    put_section_header(&mut out, 13, 1, 86, 19)?;
+    put_section_header(&mut out, 27, 3, 105, 37)?;
+    Ok(out)
+}
+
+fn blob(alloc: Global, bytes: &[u8]) -> Result<Blob, AllocError> {
+    Ok(Blob::new(Vec::from_slice(alloc, bytes)?))
+}
+
+fn new_file(alloc: Global, narrow: Option<Fault>) -> Result<NewFile, AllocError> {
+    Ok(NewFile {
+        sections: Sections {
+            info: blob(alloc, &[1, 2, 3])?,
+            abbrev: blob(alloc, &[0])?,
+            strs: None,
+            offsets: None,
+            line: None,
+            loclists: None,
+            aranges: None,
+        },
+        narrow,
+    })
+}
+
+// What comes of files with these contents, which are all named `file`, or of the one with `-o out`.
+fn outcome_of(
+    rt: &impl Abort,
+    alloc: Global,
+    contents: &[Vec<u8>],
+    out: bool,
+    made: Vec<Option<NewFile>>,
+) -> Result<Result<Output, GraphErr>, Fail> {
+    assert!(rt; contents.len() < 9);
+    assert_eq!(rt; made.len(), contents.len());
+    let mut names = Vec::new(alloc);
+    for _ in contents {
+        names.push(blob(alloc, b"file")?)?;
+    }
+    let out = if out {
+        Some(blob(alloc, b"out")?)
+    } else {
+        None
+    };
+    let options = Options {
+        quiet: false,
+        common: None,
+        name: None,
+        out,
+        workers: 1,
+        files: Names::new(names),
+        demo: None,
+    };
+    let graph = Graph::read(alloc, contents)?;
+    Ok(outcome(alloc, &options, contents, &graph, made, 0))
+}
+
+// Whether something moves, and whether there is `-o out`; and the name and the length of what is put, if something is.
+struct Case {
+    moves: bool,
+    out: bool,
+    put: Option<(&'static [u8], usize)>,
+}
+
+const CASES: [Case; 4] = [
+    Case {
+        moves: false,
+        out: false,
+        put: None,
+    },
+    Case {
+        moves: false,
+        out: true,
+        put: Some((b"out", OLD_LENGTH)),
+    },
+    Case {
+        moves: true,
+        out: false,
+        put: Some((b"file", NEW_LENGTH)),
+    },
+    Case {
+        moves: true,
+        out: true,
+        put: Some((b"out", NEW_LENGTH)),
+    },
+];
+
+#[test]
+fn a_file_is_put_where_it_is_asked_for(rt: HostRuntime) -> Result<(), Fail> {
+    for case in &CASES {
+        let mut contents = Vec::new(rt.alloc());
+        contents.push(file(rt.alloc())?)?;
+        let mut made = Vec::new(rt.alloc());
+        if case.moves {
+            made.push(Some(new_file(rt.alloc(), None)?))?;
+        } else {
+            made.push(None)?;
+        }
+        let output = outcome_of(&rt, rt.alloc(), &contents, case.out, made)??;
+        let puts = output.puts.as_slice();
+        match case.put {
+            None => assert_eq!(rt; puts.len(), 0),
+            Some((name, len)) => {
+                assert_eq!(rt; puts.len(), 1);
+                assert_eq!(rt; puts[0].name.as_slice(), name);
+                assert_eq!(rt; puts[0].bytes.len(), len);
+            }
+        }
+        let lines = output.summary.files.as_slice();
+        assert_eq!(rt; lines.len(), 1);
+        assert_eq!(rt; lines[0].1, OLD_LENGTH as u64);
+        let new = if case.moves {
+            Some(NEW_LENGTH as u64)
+        } else {
+            None
+        };
+        assert_eq!(rt; lines[0].2, new);
+    }
+    Ok(())
+}
+
+#[test]
+fn new_sections_are_in_the_file(rt: HostRuntime) -> Result<(), Fail> {
+    let mut contents = Vec::new(rt.alloc());
+    contents.push(file(rt.alloc())?)?;
+    let mut made = Vec::new(rt.alloc());
+    made.push(Some(new_file(rt.alloc(), None)?))?;
+    let output = outcome_of(&rt, rt.alloc(), &contents, false, made)??;
+    let puts = output.puts.as_slice();
+    assert_eq!(rt; puts.len(), 1);
+    let bytes = puts[0].bytes.as_slice();
+    let elf = Elf::read(rt.alloc(), bytes)?;
+    assert_eq!(rt; elf.content(bytes, 1), [1, 2, 3].as_slice());
+    assert_eq!(rt; elf.content(bytes, 2), [0].as_slice());
+    Ok(())
+}
+
+#[test]
+fn the_first_narrow_operand_is_refused(rt: HostRuntime) -> Result<(), Fail> {
+    let mut contents = Vec::new(rt.alloc());
+    contents.push(file(rt.alloc())?)?;
+    contents.push(file(rt.alloc())?)?;
+    let narrow = Fault {
+        section: 7,
+        at: 5,
+        reason: Reason::OperandWidth,
+    };
+    let mut made = Vec::new(rt.alloc());
+    made.push(Some(new_file(rt.alloc(), None)?))?;
+    made.push(Some(new_file(rt.alloc(), Some(narrow))?))?;
+    let refusal = match outcome_of(&rt, rt.alloc(), &contents, false, made)? {
+        Err(GraphErr::Refused(refusal)) => Some(refusal),
+        _ => None,
+    };
+    let expected = Refusal {
+        file: 1,
+        section: 7,
+        at: 5,
+        reason: Reason::OperandWidth,
+    };
+    assert_eq!(rt; refusal, Some(expected));
+    Ok(())
+}

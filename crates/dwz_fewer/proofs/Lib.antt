@@ -1,0 +1,5 @@
+pub mod SomeFiles
+pub mod SameSections
+pub mod SameRoom
+pub mod SeenFitted
+pub mod SomeOfRuns

@@ -1,0 +1,89 @@
+-- What has to be known of numbers and of names, so that what references name is written.
+use Rattle.std.specs.Prelude.{◌≡◌, ℕ, suc, ◌+◌, ◌<◌, List, [], ◌∷◌, length, Some}
+use Rattle.dwz_docs.specs.Lists.{In}
+use Rattle.dwz_meanings.specs.Documents.{DwUnit}
+use Rattle.dwz_alike.specs.Spots.{Spot}
+use Rattle.dwz_seen.specs.Lists.{Each}
+use Rattle.dwz_seen.specs.Seen.{IsPartial}
+use Rattle.dwz_unit.specs.Rows.{EntryRow}
+use Rattle.dwz_writing.specs.Placing.{FileOut, files_keys}
+use Rattle.dwz_places.specs.declared.known.Known.{Known}
+use Rattle.dwz_places.specs.declared.known.Row.{Row}
+use Rattle.dwz_places.specs.declared.order.Sort.{Sort}
+use Rattle.dwz_places.specs.declared.order.Sort.TheVariants.{Compile, OfType, Partial}
+use Rattle.dwz_places.specs.declared.order.UnitItems.{UnitItems}
+use Rattle.dwz_places.specs.declared.walk.Slot.{Slot}
+use Rattle.dwz_places.specs.Attributes.{Content, Here, OfEntry, OfParts, OfRoot, Read, attrs_of, here_of}
+use Rattle.dwz_places.specs.Entries.{items_slots}
+use Rattle.dwz_places.specs.Known.{reference_at, row_at, unit_of_part}
+use Rattle.dwz_pages.specs.Shown.{FilesRefer, IsWritten, Keys, ShowFiles, unit_count}
+use Rattle.dwz_fewer.specs.Fewer.{NameOnly}
+
+-- ---- numbers
+
+abbrev pub IsEntryNumber : Known → ℕ → Type 0
+IsEntryNumber k number = number < length k.owners.items
+
+-- what an attribute names is the number of an entry of any file, or that of one of so many units
+abbrev pub ContentCounted : Known → ℕ → Content → Type 0
+ContentCounted k units (Read raw) = Unit {0}
+ContentCounted k units (OfEntry number) = IsEntryNumber k number
+ContentCounted k units (OfRoot unit) = unit < units
+ContentCounted k units (OfParts parts numbers) = Each (IsEntryNumber k) numbers
+
+abbrev pub SortCounted : Known → Sort → Type 0
+SortCounted k (Compile root) = Unit {0}
+SortCounted k (OfType root signature main) = IsEntryNumber k main
+SortCounted k (Partial line) = Unit {0}
+
+abbrev pub SlotCounted : Known → ℕ → Here → Slot → Type 0
+SlotCounted k units here s = Each (λ a. ContentCounted k units a.content) (attrs_of k here s.origin)
+
+abbrev pub UnitCounted : Known → (units unit : ℕ) → UnitItems → Type 0
+UnitCounted k units unit o = SortCounted k o.sort × Each (SlotCounted k units (here_of k unit o.sort)) (items_slots k o.sort o.items)
+
+-- so in units, the first of which has that number, and in files
+abbrev pub UnitsCounted : Known → (units unit : ℕ) → List UnitItems → Type 0
+UnitsCounted k units unit [] = Unit {0}
+UnitsCounted k units unit (o ∷ order) = UnitCounted k units unit o × UnitsCounted k units (suc unit) order
+
+abbrev pub FilesCounted : Known → (units unit : ℕ) → List (List UnitItems) → Type 0
+FilesCounted k units unit [] = Unit {0}
+FilesCounted k units unit (order ∷ files) = UnitsCounted k units unit order × FilesCounted k units (unit + length order) files
+
+-- ---- names
+
+-- An entry that was read has the name of no other that is written, and none of what wasn't read: of a unit, of the root of a partial
+-- unit, of a space of a chain, or of an import.
+pub record RowsApart {K : Type 0} (keys : Keys K) (k : Known) (order : List (List UnitItems)) (files : List (FileOut K)) : Type 0 where
+  pub rows : (m n : ℕ) → IsEntryNumber k m → IsWritten k n order → keys.row m ≡ keys.row n → m ≡ n
+  pub units : (m : ℕ) (f : FileOut K) (u : DwUnit K) → IsEntryNumber k m → In f files → In u f.units → keys.row m ≡ u.at → ⊥
+  pub roots : (m : ℕ) (f : FileOut K) (u : DwUnit K) → IsEntryNumber k m → In f files → In u f.units → IsPartial u.kind
+      → keys.row m ≡ u.root.at → ⊥
+  pub chained : (m unit chain depth : ℕ) → IsEntryNumber k m → keys.row m ≡ keys.chained unit chain depth → ⊥
+  pub imports : (m unit part : ℕ) → IsEntryNumber k m → keys.row m ≡ keys.import unit part → ⊥
+
+-- ---- laws
+
+-- The order shows files, its numbers are those of entries and of its units, what files name stands in one of them, and entries have names
+-- of their own: then what the order names is in it.
+abbrev pub ReferLaw : Type 0
+ReferLaw =
+    (keys : Keys Spot) (k : Known) (order : List (List UnitItems)) (files : List (FileOut Spot)) → ShowFiles keys k 0 order files
+    → FilesCounted k (unit_count order) 0 order → ((f : FileOut Spot) → In f files → NameOnly (files_keys files) f.units)
+    → RowsApart keys k order files → FilesRefer k order 0 order
+
+-- And the name of each entry that is written stands in the files that the order shows.
+abbrev pub NamesThereLaw : Type 0
+NamesThereLaw =
+    (keys : Keys Spot) (k : Known) (order : List (List UnitItems)) (files : List (FileOut Spot)) → ShowFiles keys k 0 order files
+    → (n : ℕ) → IsWritten k n order → In (keys.row n) (files_keys files)
+
+-- Where references of files with entries lead to entries, partial units are units of the order, which has some, and types of type units are
+-- entries, its numbers are counted.
+abbrev pub NumbersCountedLaw : Type 0
+NumbersCountedLaw =
+    (k : Known) (order : List (List UnitItems))
+    → ((r : Row) (x : EntryRow) → row_at k r ≡ Some x → (n : ℕ) → IsEntryNumber k (reference_at k r.file n))
+    → (0 < unit_count order → (part : ℕ) → unit_of_part k part < unit_count order)
+    → Each (Each (λ o. SortCounted k o.sort)) order → FilesCounted k (unit_count order) 0 order

@@ -1,0 +1,3 @@
+pub mod EntryNames
+pub mod UnitNames
+pub mod RowsAlone

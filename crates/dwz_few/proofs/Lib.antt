@@ -1,0 +1,3 @@
+pub mod UnitsFew
+pub mod SpacesFew
+pub mod FilesFew

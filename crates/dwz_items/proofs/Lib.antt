@@ -1,0 +1,10 @@
+pub mod FileSpaces
+pub mod KeptItems
+pub mod KeptRows
+pub mod OldItems
+pub mod PartItems
+pub mod PartUnits
+pub mod Places
+pub mod SpaceStands
+pub mod SpaceWays
+pub mod Telling

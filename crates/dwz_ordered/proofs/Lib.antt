@@ -1,0 +1,4 @@
+pub mod ChangedLemmas
+pub mod PartSteps
+pub mod FileSteps
+pub mod FitLemmas

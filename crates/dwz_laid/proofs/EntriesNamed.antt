@@ -1,0 +1,157 @@
+-- What the units of files that are written name are entries of these: none is a unit's name.
+use Rattle.std.proofs.Common.{◌≡◌, ℕ, Bool, true, false, List, [], ◌∷◌, ◌++◌, length, map, refl, sym, ap, subst, ◌∙◌, inl, inr}
+use Rattle.std.proofs.lemmas.List.{length-map}
+use Rattle.dwz_docs.specs.Lists.{In}
+use Rattle.dwz_docs.specs.Pruning.{new_number}
+use Rattle.dwz_meanings.specs.Documents.{DwUnit, Kind, OfType}
+use Rattle.dwz_seen.specs.Seen.{all_seen}
+use Rattle.dwz_seen.specs.Shown.{HaveMains}
+use Rattle.dwz_seen.proofs.Members.{From, in_cases, in_left, in_map, in_map_from, in_right}
+use Rattle.dwz_alike.specs.Spots.{Spot, UnitOf, file_numbers}
+use Rattle.dwz_same.specs.Units.{common_units, file_units, out_units}
+use Rattle.dwz_same.proofs.FileLemmas.{files_same}
+use Rattle.dwz_writing.specs.Meant.{all_entry_keys, entry_keys}
+use Rattle.dwz_writing.specs.Placing.{FileOut}
+use Rattle.dwz_back.specs.Files.{Run, common_fitted, common_forms, common_out, file_forms, file_out, fitted, fitted_if, formed, sources, uses}
+use Rattle.dwz_back.proofs.CommonLemmas.{common_within}
+use Rattle.dwz_back.proofs.NameLemmas.{common_entries, fitted_entries}
+use Rattle.dwz_back.proofs.WithinLemmas.{within}
+use Rattle.dwz_fewer.specs.Fewer.{NameOnly}
+use Rattle.dwz_fewer.proofs.SeenFitted.{fit_kinds, fit_seen, new_kinds, new_seen}
+use Rattle.dwz_fewer.proofs.SomeFiles.{some_in}
+use Rattle.dwz_facts.specs.Facts.{AreFacts, Facts, docs, files_written, move, rule, run, units}
+use Rattle.dwz_named.proofs.ReadFiles.{all_placed}
+use Rattle.dwz_laid.specs.Laid.{written_out}
+use Rattle.dwz_laid.proofs.FilesLaid.{some_written}
+use Rattle.dwz_laid.proofs.NoUnits.{all, among_all, entry_of, no_entry}
+
+-- ---- units as they are written, and before
+
+module _ (r : Run) where
+  fitted_seen : (file : ℕ) → all_seen (fitted r file) ≡ all_seen (out_units r.move r.units file)
+  unfolding fitted formed
+  fitted_seen file = by (r.input.prunes file) where
+    by : (b : Bool) → all_seen (fitted_if b r file) ≡ all_seen (out_units r.move r.units file)
+    by true = new_seen (new_number (sources r file).strs (uses r file)) (formed r file) ∙ fit_seen (file_forms r file) (out_units r.move r.units file)
+    by false = fit_seen (file_forms r file) (out_units r.move r.units file)
+
+  fitted_kinds : (file : ℕ) → map (λ u. u.kind) (fitted r file) ≡ map (λ u. u.kind) (out_units r.move r.units file)
+  unfolding fitted formed
+  fitted_kinds file = by (r.input.prunes file) where
+    by : (b : Bool) → map (λ u. u.kind) (fitted_if b r file) ≡ map (λ u. u.kind) (out_units r.move r.units file)
+    by true = new_kinds (new_number (sources r file).strs (uses r file)) (formed r file) ∙ fit_kinds (file_forms r file) (out_units r.move r.units file)
+    by false = fit_kinds (file_forms r file) (out_units r.move r.units file)
+
+  common_seen : all_seen (common_fitted r) ≡ all_seen (common_units r.move)
+  unfolding common_fitted
+  common_seen = fit_seen (common_forms r) (common_units r.move)
+
+  common_kinds : map (λ u. u.kind) (common_fitted r) ≡ map (λ u. u.kind) (common_units r.move)
+  unfolding common_fitted
+  common_kinds = fit_kinds (common_forms r) (common_units r.move)
+
+  pub fitted_many : (file : ℕ) → length (fitted r file) ≡ length (out_units r.move r.units file)
+  fitted_many file =
+      sym (length-map (fitted r file) (λ u. u.kind)) ∙ ap (λ (w : List (Kind Spot)). length w) (fitted_kinds file) ∙ length-map (out_units r.move r.units file) (λ u. u.kind)
+
+  pub common_many : length (common_fitted r) ≡ length (common_units r.move)
+  common_many = sym (length-map (common_fitted r) (λ u. u.kind)) ∙ ap (λ (w : List (Kind Spot)). length w) common_kinds ∙ length-map (common_units r.move) (λ u. u.kind)
+
+-- ---- the entries of files
+
+pub entries_of : List (FileOut Spot) → List Spot
+entries_of [] = []
+entries_of (x ∷ files) = all_entry_keys x.units ++ entries_of files
+
+entries_in : (files : List (FileOut Spot)) (x : FileOut Spot) (s : Spot) → In x files → In s (all_entry_keys x.units) → In s (entries_of files)
+unfolding entries_of
+entries_in [] x s there key = absurd there
+entries_in (y ∷ files) x s (inl e) key = in_left s (all_entry_keys y.units) (entries_of files) (subst (λ (w : FileOut Spot). In s (all_entry_keys w.units)) (sym e) key)
+entries_in (y ∷ files) x s (inr later) key = in_right s (all_entry_keys y.units) (entries_of files) (entries_in files x s later key)
+
+-- of a file, and of an entry of it
+entries_from : (files : List (FileOut Spot)) (s : Spot) → In s (entries_of files) → (x : FileOut Spot) × In x files × In s (all_entry_keys x.units)
+unfolding entries_of
+entries_from [] s key = absurd key
+entries_from (y ∷ files) s key = elim (in_cases s (all_entry_keys y.units) (entries_of files) key) [
+  | inl a ↦ (y, inl refl, a)
+  | inr b ↦ (let o = entries_from files s b in (o.0, inr o.1, o.2))
+]
+
+unit_entries : (us : List (DwUnit Spot)) (u : DwUnit Spot) (s : Spot) → In u us → In s (entry_keys u) → In s (all_entry_keys us)
+unfolding all_entry_keys
+unit_entries [] u s there key = absurd there
+unit_entries (v ∷ us) u s (inl e) key = in_left s (entry_keys v) (all_entry_keys us) (subst (λ (w : DwUnit Spot). In s (entry_keys w)) (sym e) key)
+unit_entries (v ∷ us) u s (inr later) key = in_right s (entry_keys v) (all_entry_keys us) (unit_entries us u s later key)
+
+-- the types of units with the kinds of others are entries of these
+mains_by : (us outs : List (DwUnit Spot)) → map (λ u. u.kind) us ≡ map (λ u. u.kind) outs → HaveMains outs
+    → (u : DwUnit Spot) (signature : ℕ) (main : Spot) → In u us → u.kind ≡ OfType signature main → In main (all_entry_keys outs)
+mains_by us outs same mains u signature main there is =
+    let k : In u.kind (map (λ v. v.kind) outs) = subst (In u.kind) same (in_map (λ (v : DwUnit Spot). v.kind) u us there) in
+    let o : From (λ (v : DwUnit Spot). v.kind) outs u.kind = in_map_from (λ (v : DwUnit Spot). v.kind) u.kind outs k in
+    unit_entries outs o.source main o.there (mains o.source o.there signature main (o.is ∙ is))
+
+module _ (f : Facts) (facts : AreFacts f) where
+  abbrev names : List Spot
+  names = entries_of (written_out f)
+
+  number_in : (n : ℕ) → In n (files_written f) → In n (file_numbers 0 (docs f))
+  number_in n there = some_in (file_numbers 0 (docs f)) (files_written f) (some_written f facts) n there
+
+  all_mains : HaveMains (all f facts)
+  all_mains = (files_same f.scope (docs f) (rule f) (all_placed f facts) facts.alike facts.choice).mains
+
+  in_common : (s : Spot) → In s (all_entry_keys (common_fitted (run f))) → In s names
+  in_common s key = entries_in (written_out f) (common_out (run f)) s (inl refl) key
+
+  common_only : NameOnly names (common_fitted (run f))
+  common_only = record {
+    refs = λ e a s there attr ref.
+        elim (common_within f.scope (docs f) (rule f) (all_placed f facts) facts.alike facts.choice f.input e a s (subst (In e) (common_seen (run f)) there) attr ref) [
+          | inl own ↦ in_common s own
+          | inr none ↦ absurd none
+        ];
+    mains = λ u signature main there kind. in_common main (subst (In main) (sym (common_entries (run f)))
+        (mains_by (common_fitted (run f)) (common_units (move f)) (common_kinds (run f))
+        (λ v v_in. all_mains v (in_left v (common_units (move f)) (file_units (move f) (units f) (file_numbers 0 (docs f))) v_in)) u signature main there kind));
+  }
+
+  file_only : (n : ℕ) → In n (files_written f) → NameOnly names (fitted (run f) n)
+  file_only n file_in =
+      let there : In (file_out (run f) n) (written_out f) = inr (in_map (file_out (run f)) n (files_written f) file_in) in
+      record {
+        refs = λ e a s seen attr ref.
+            elim (within f.scope (docs f) (rule f) (all_placed f facts) facts.alike facts.choice f.input n e a s (subst (In e) (fitted_seen (run f) n) seen) attr ref) [
+              | inl own ↦ entries_in (written_out f) (file_out (run f) n) s there own
+              | inr common ↦ in_common s common
+            ];
+        mains = λ u signature main u_in kind. entries_in (written_out f) (file_out (run f) n) main there (subst (In main) (sym (fitted_entries (run f) n))
+            (mains_by (fitted (run f) n) (out_units (move f) (units f) n) (fitted_kinds (run f) n)
+            (λ v v_in. all_mains v (among_all f facts n v (number_in n file_in) v_in)) u signature main u_in kind));
+      }
+
+  pub files_only : (x : FileOut Spot) → In x (written_out f) → NameOnly names x.units
+  files_only x (inl e) = subst (λ (y : FileOut Spot). NameOnly names y.units) e common_only
+  files_only x (inr there) =
+      let o = in_map_from (file_out (run f)) x (files_written f) there in
+      subst (λ (y : FileOut Spot). NameOnly names y.units) o.is (file_only o.source o.there)
+
+  common_no : (s : Spot) → In s (all_entry_keys (common_fitted (run f))) → s ≡ UnitOf 0 → ⊥
+  common_no s key e =
+      let o = entry_of (common_units (move f)) s (subst (In s) (common_entries (run f)) key) in
+      no_entry f facts o.0 s (in_left o.0 (common_units (move f)) (file_units (move f) (units f) (file_numbers 0 (docs f))) o.1) o.2 e
+
+  file_no : (n : ℕ) → In n (files_written f) → (s : Spot) → In s (all_entry_keys (fitted (run f) n)) → s ≡ UnitOf 0 → ⊥
+  file_no n there s key e =
+      let o = entry_of (out_units (move f) (units f) n) s (subst (In s) (fitted_entries (run f) n) key) in
+      no_entry f facts o.0 s (among_all f facts n o.0 (number_in n there) o.1) o.2 e
+
+  -- no entry that they have is a unit
+  pub entries_no : (s : Spot) → In s names → s ≡ UnitOf 0 → ⊥
+  entries_no s key e = (let o = entries_from (written_out f) s key in by o.0 o.1 o.2) where
+    by : (x : FileOut Spot) → In x (written_out f) → In s (all_entry_keys x.units) → ⊥
+    by x (inl q) has = common_no s (subst (λ (y : FileOut Spot). In s (all_entry_keys y.units)) (sym q) has) e
+    by x (inr there) has =
+        (let o = in_map_from (file_out (run f)) x (files_written f) there in
+        file_no o.source o.there s (subst (λ (y : FileOut Spot). In s (all_entry_keys y.units)) (sym o.is) has) e)

@@ -1,0 +1,250 @@
+-- What is written of all files is known, file by file; nothing is written of the common file.
+use Rattle.std.proofs.Common.{◌≡◌, ℕ, zero, suc, ◌+◌, ◌<◌, ◌==◌, Bool, true, false, List, [], ◌∷◌, ◌++◌, Ok, Some, None, Result, cond, length, map, slice_get, refl, sym, ap, subst, ◌∙◌, arith}
+use Rattle.std.proofs.Math.Logic.{inl, inr}
+use Rattle.std.specs.List.{filter}
+use Rattle.std.specs.Prelude.{slice_index_or}
+use Rattle.std.proofs.lemmas.Bool.{ne_eqb}
+use Rattle.dwz_docs.specs.Lists.{In}
+use Rattle.dwz_docs.specs.Units.{RawUnit}
+use Rattle.dwz_meanings.specs.Documents.{Doc, DwUnit}
+use Rattle.dwz_meanings.specs.Files.{Limits, file_meaning, limits_after, no_files_before}
+use Rattle.dwz_meanings.specs.Meanings.{IfSo}
+use Rattle.dwz_seen.specs.Lists.{Nth}
+use Rattle.dwz_seen.specs.Shown.{units_keys}
+use Rattle.dwz_alike.specs.Spots.{Spot, file_numbers}
+use Rattle.dwz_moving.specs.Homes.{Common, Home}
+use Rattle.dwz_moving.specs.Moves.{first_unit}
+use Rattle.dwz_moving.specs.Plan.{PartialUnit}
+use Rattle.dwz_plan.specs.declared.plan.Partial.{Partial as PlannedPart}
+use Rattle.dwz_plan.specs.Planned.{file_of_home}
+use Rattle.dwz_plan.specs.Shows.{shown_part}
+use Rattle.dwz_same.specs.Units.{changes, common_units, file_units, out_units, partial_unit}
+use Rattle.dwz_same.proofs.FileLemmas.{files_are}
+use Rattle.dwz_writing.specs.Placing.{with_keys}
+use Rattle.dwz_back.specs.Files.{common_forms}
+use Rattle.dwz_back.proofs.WithinLemmas.{parts_to}
+use Rattle.dwz_unit.specs.Rows.{units_of as raw_units}
+use Rattle.dwz_graph.specs.declared.file.File.{File}
+use Rattle.dwz_graph.specs.Files.{AreRead, IsRead}
+use Rattle.dwz_graph.proofs.GraphLemmas.{as_many}
+use Rattle.dwz_index.specs.declared.index.Starts.{Starts}
+use Rattle.dwz_index.specs.Index.{Index}
+use Rattle.dwz_index.proofs.TopLemmas.{get_first, get_later}
+use Rattle.dwz_indexes.specs.Indexed.{AreIndexed, first_starts, starts_behind}
+use Rattle.dwz_across.proofs.FileWalk.{is_among}
+use Rattle.dwz_items.proofs.PartUnits.{first_uses, of_unit, part_is, part_tops}
+use Rattle.dwz_items.proofs.Places.{used_homes}
+use Rattle.dwz_known.specs.Images.{starts_from}
+use Rattle.dwz_order.specs.Marks.{flag_at}
+use Rattle.dwz_order.specs.Orders.{First}
+use Rattle.dwz_ordered.specs.declared.orders.Settled.{Settled}
+use Rattle.dwz_ordered.specs.Ordered.{FilePut, FilesPut, FirstFile, PartPut, PartsPut, from_index, next_index}
+use Rattle.dwz_places.specs.declared.known.FileRows.{FileRows}
+use Rattle.dwz_places.specs.declared.known.Known.{Known}
+use Rattle.dwz_places.specs.declared.known.TextAt.{TextAt}
+use Rattle.dwz_places.specs.declared.order.UnitItems.{UnitItems}
+use Rattle.dwz_fitted.specs.Fitted.{KnowFiles, KnowUnits}
+use Rattle.dwz_fitted.specs.Knows.{NewNumbers}
+use Rattle.dwz_facts.specs.Facts.{AreFacts, Facts, HasFile, docs, files_written, move, rule, run, units, units_written, written}
+use Rattle.dwz_facts.specs.Listed.{AreListed, AreRows, TextsAt}
+use Rattle.dwz_facts.specs.Named.{keys}
+use Rattle.dwz_settled.specs.Settled.{IsSettled}
+use Rattle.dwz_settled.specs.Unfitted.{unfitted, unfitted_file}
+use Rattle.dwz_shown_kept.specs.ShownKept.{AreWrittenFrom, fit_of}
+use Rattle.dwz_laid.specs.Laid.{FilesTexts, RunKnownLaw, TextsKnown}
+use Rattle.dwz_laid.proofs.FileKnown.{file_known, know_count, parts_are}
+use Rattle.dwz_laid.proofs.WrittenUnits.{written_units}
+
+-- ---- files that were read have the same units
+
+ok_same : {X E : Type 0} (r : Result X E) (a b : X) → r ≡ Ok a → r ≡ Ok b → a ≡ b
+ok_same r a b p q = (let both : Ok a ≡ Ok b = sym p ∙ q in cc)
+
+same_raw : (l : Limits) (number : ℕ) (bytes : List ℕ) (x y : File) → IsRead l number bytes x → IsRead l number bytes y → raw_units x.units ≡ raw_units y.units
+same_raw l number bytes x y a b =
+    ap (λ (p : List RawUnit × Doc ℕ). p.0) (ok_same (file_meaning l bytes) (raw_units x.units, a.doc) (raw_units y.units, b.doc) a.means b.means)
+
+-- P or Q of one, from those of another
+if_so : (b : Bool) (P Q P' Q' : Type 0) → (P → P') → (Q → Q') → IfSo b P Q → IfSo b P' Q'
+if_so true P Q P' Q' first other h = first h
+if_so false P Q P' Q' first other h = other h
+
+first_file : (P P' : List UnitItems → Type 0) (Q Q' : List (List UnitItems) → Type 0) (orders : List (List UnitItems)) → ((order : List UnitItems) → P order → P' order)
+    → ((some : List (List UnitItems)) → Q some → Q' some) → FirstFile P Q orders → FirstFile P' Q' orders
+first_file P P' Q Q' [] one more h = h
+first_file P P' Q Q' (order ∷ orders) one more h = (one order h.0, more orders h.1)
+
+files_put : (s : Settled) (l : Limits) (n start : ℕ) (contents : List (List ℕ)) (xs ys : List File) (a b : Limits) → AreRead l n contents xs a → AreRead l n contents ys b
+    → (is : List Index) (orders : List (List UnitItems)) → FilesPut s n start ys is orders → FilesPut s n start xs is orders
+files_put s l n start [] [] [] a b p q is orders put = put
+files_put s l n start [] (x ∷ xs) ys a b p q is orders put = absurd p
+files_put s l n start [] [] (y ∷ ys) a b p q is orders put = absurd q
+files_put s l n start (bytes ∷ contents) [] ys a b p q is orders put = absurd p
+files_put s l n start (bytes ∷ contents) (x ∷ xs) [] a b p q is orders put = absurd q
+files_put s l n start (bytes ∷ contents) (x ∷ xs) (y ∷ ys) a b p q [] orders put = absurd put
+files_put s l n start (bytes ∷ contents) (x ∷ xs) (y ∷ ys) a b p q (index ∷ is) orders put =
+    let same = same_raw l n bytes x y p.0 q.0 in
+    let behind = subst (λ (w : List RawUnit). AreRead (limits_after l bytes w) (suc n) contents ys b) (sym same) q.1 in
+    let rest : (some : List (List UnitItems)) → FilesPut s (suc n) (start + length index.steps) ys is some → FilesPut s (suc n) (start + length index.steps) xs is some =
+    λ some h. files_put s (limits_after l bytes (raw_units x.units)) (suc n) (start + length index.steps) contents xs ys a b p.1 behind is some h in
+    if_so (flag_at s.files.now n) (FirstFile (FilePut s (raw_units y.units) (from_index n start index) (next_index index)) (FilesPut s (suc n) (start + length index.steps) ys is) orders)
+    (FilesPut s (suc n) (start + length index.steps) ys is orders)
+    (FirstFile (FilePut s (raw_units x.units) (from_index n start index) (next_index index)) (FilesPut s (suc n) (start + length index.steps) xs is) orders)
+    (FilesPut s (suc n) (start + length index.steps) xs is orders)
+    (first_file (FilePut s (raw_units y.units) (from_index n start index) (next_index index)) (FilePut s (raw_units x.units) (from_index n start index) (next_index index))
+    (FilesPut s (suc n) (start + length index.steps) ys is) (FilesPut s (suc n) (start + length index.steps) xs is) orders
+    (λ order h. subst (λ (w : List RawUnit). FilePut s w (from_index n start index) (next_index index) order) (sym same) h) rest)
+    (rest orders) put
+
+-- ---- numbers of files
+
+flag_is : (g : ℕ → Bool) (s : ℕ) (said : List (Doc ℕ)) (n : ℕ) → n < length said → slice_index_or (map g (file_numbers s said)) n false ≡ g (s + n)
+unfolding file_numbers
+flag_is g s [] n lt = absurd (omega (arith, lt))
+flag_is g s (doc ∷ said) zero lt = ap g (let z : s ≡ s + 0 = omega arith in z)
+flag_is g s (doc ∷ said) (suc n) lt = flag_is g (suc s) said n (omega (arith, lt)) ∙ ap g (let z : suc s + n ≡ s + suc n = omega arith in z)
+
+number_below : (s : ℕ) (said : List (Doc ℕ)) (n : ℕ) → In n (file_numbers s said) → n < s + length said
+unfolding file_numbers
+number_below s [] n there = absurd there
+number_below s (doc ∷ said) n (inl e) = omega (arith, e)
+number_below s (doc ∷ said) n (inr later) = (let lt = number_below (suc s) said n later in omega (arith, lt))
+
+indexed_long : (s : Starts) (said : List (Doc ℕ)) (is : List Index) (end : Starts) → AreIndexed s said is end → length said ≡ length is
+indexed_long s [] [] end are = refl
+indexed_long s [] (x ∷ is) end are = absurd are
+indexed_long s (doc ∷ said) [] end are = absurd are
+indexed_long s (doc ∷ said) (x ∷ is) end are = ap suc (indexed_long (starts_behind s doc x) said is end are.1)
+
+module _ (f : Facts) (t : TextsAt) (k : Known) (facts : AreFacts f) (listed : AreListed f t k) (s : Settled) (settled : IsSettled f s) (numbers : ℕ → NewNumbers) where
+  abbrev some_of : ℕ → List (Doc ℕ) → List ℕ
+  some_of n said = filter (changes (move f) (units f)) (file_numbers n said)
+
+  abbrev Has : ℕ → List File → List Index → Type 0
+  Has n xs is = (j : ℕ) (x : File) (index : Index) → slice_get xs j ≡ Some x → slice_get is j ≡ Some index → (bytes : List ℕ) × HasFile f (n + j) bytes x index
+
+  abbrev Start : ℕ → ℕ → List Index → Type 0
+  Start n start is = (j c : ℕ) → slice_get (starts_from start is) j ≡ Some c → slice_get (starts_from 0 f.indexes) (n + j) ≡ Some c
+
+  abbrev Flags : ℕ → List (Doc ℕ) → Type 0
+  Flags n said = (j : ℕ) → j < length said → slice_index_or (written f) (n + j) false ≡ changes (move f) (units f) (n + j)
+
+  abbrev AllKnown : ℕ → List ℕ → List (List UnitItems) → Type 0
+  AllKnown here files orders = KnowFiles (keys f) k here orders (map (unfitted_file f numbers) files)
+
+  abbrev AreThere : ℕ → List ℕ → Type 0
+  AreThere here files = AreWrittenFrom f here (file_units (move f) (units f) files)
+
+  known_from : (n start here : ℕ) (said : List (Doc ℕ)) (xs : List File) (is : List Index) (orders : List (List UnitItems)) → length said ≡ length is → Has n xs is → Start n start is → Flags n said
+      → FilesPut s n start xs is orders → AreThere here (some_of n said) → FilesTexts f k numbers (some_of n said) orders → AllKnown here (some_of n said) orders
+  unfolding file_numbers starts_from file_units
+  known_from n start here [] [] [] orders long has starts flags put there texts = subst (λ (w : List (List UnitItems)). KnowFiles (keys f) k here w []) (sym put) tt
+  known_from n start here [] (x ∷ xs) [] orders long has starts flags put there texts = absurd put
+  known_from n start here [] xs (index ∷ is) orders long has starts flags put there texts = absurd (omega (arith, long))
+  known_from n start here (doc ∷ said) xs [] orders long has starts flags put there texts = absurd (omega (arith, long))
+  known_from n start here (doc ∷ said) [] (index ∷ is) orders long has starts flags put there texts = absurd put
+  known_from n start here (doc ∷ said) (x ∷ xs) (index ∷ is) orders long has starts flags put there texts =
+      let none : n + 0 ≡ n = omega arith in
+      let flag : slice_index_or (written f) n false ≡ changes (move f) (units f) n =
+      subst (λ (q : ℕ). slice_index_or (written f) q false ≡ changes (move f) (units f) q) none (flags 0 (omega arith)) in
+      let settled_flag : flag_at s.files.now n ≡ changes (move f) (units f) n = ap (λ (w : List Bool). slice_index_or w n false) settled.files ∙ flag in
+      by (changes (move f) (units f) n) flag orders
+      (subst (λ (b : Bool). IfSo b (FirstFile (FilePut s (raw_units x.units) (from_index n start index) (next_index index)) (FilesPut s (suc n) (start + length index.steps) xs is) orders)
+      (FilesPut s (suc n) (start + length index.steps) xs is orders)) settled_flag put) there texts
+      (λ later some put there texts. known_from (suc n) (start + length index.steps) later said xs is some (omega (arith, long))
+      (λ j y i e g. (let next : n + suc j ≡ suc n + j = omega arith in let o = has (suc j) y i e g in (o.0, subst (λ (q : ℕ). HasFile f q o.0 y i) next o.1)))
+      (λ j c e. (let next : suc n + j ≡ n + suc j = omega arith in ap (slice_get (starts_from 0 f.indexes)) next ∙ starts (suc j) c e))
+      (λ j lt. (let next : n + suc j ≡ suc n + j = omega arith in
+      subst (λ (q : ℕ). slice_index_or (written f) q false ≡ changes (move f) (units f) q) next (flags (suc j) (omega (arith, lt))))) put there texts)
+    where
+      by : (b : Bool) → slice_index_or (written f) n false ≡ b → (orders : List (List UnitItems))
+          → IfSo b (FirstFile (FilePut s (raw_units x.units) (from_index n start index) (next_index index)) (FilesPut s (suc n) (start + length index.steps) xs is) orders)
+          (FilesPut s (suc n) (start + length index.steps) xs is orders)
+          → AreThere here (cond b (n ∷ some_of (suc n) said) (some_of (suc n) said)) → FilesTexts f k numbers (cond b (n ∷ some_of (suc n) said) (some_of (suc n) said)) orders
+          → ((later : ℕ) (some : List (List UnitItems)) → FilesPut s (suc n) (start + length index.steps) xs is some → AreThere later (some_of (suc n) said)
+          → FilesTexts f k numbers (some_of (suc n) said) some → AllKnown later (some_of (suc n) said) some)
+          → AllKnown here (cond b (n ∷ some_of (suc n) said) (some_of (suc n) said)) orders
+      by true w [] put there texts rest = absurd put
+      by true w (order ∷ orders) put there texts rest =
+          let none : n + 0 ≡ n = omega arith in
+          let o = has 0 x index refl refl in
+          let own = out_units (move f) (units f) n in
+          let others = file_units (move f) (units f) (some_of (suc n) said) in
+          let at = ap (slice_get (starts_from 0 f.indexes)) (sym none) ∙ starts 0 start refl in
+          let first = file_known f t k facts listed s settled n o.0 x index (subst (λ (q : ℕ). HasFile f q o.0 x index) none o.1) w start at (numbers n) here order put.0
+          (λ j u e. there j u (get_first own others j u e)) texts.0 in
+          let long = know_count (keys f) k (fit_of f n) (numbers n) here order own first in (
+            first,
+            rest (here + length order) orders put.1
+                (λ j u e. (let far : here + (length own + j) ≡ (here + length order) + j = omega (arith, long) in
+                subst (λ (q : ℕ). slice_get (units_written f) q ≡ Some u) far (there (length own + j) u (get_later own others j u e)))) texts.1,
+          )
+      by false w orders put there texts rest = rest here orders put there texts
+
+  -- ---- the common file
+
+  module _ (none : common_units (move f) ≡ []) where
+    -- a partial unit is of a file
+    is_local : (p : ℕ) (part : PartialUnit) → Nth 0 (move f).parts p part → (file_of_home (length (docs f)) part.home == length (docs f)) ≡ false
+    unfolding common_units
+    is_local p part nth =
+        let some = (part_is f.scope (units f) (rule f) facts.alike facts.choice (file_numbers 0 (docs f)) p part nth).some in
+        let own = part_tops f.scope (units f) (rule f) facts.alike facts.choice (file_numbers 0 (docs f)) p part nth some.0 some.1 in
+        let u = of_unit (units f) some.0 own.there in
+        let at = subst (λ (i : ℕ). Nth 0 (units f) i u.unit) own.unit u.nth in
+        elim (used_homes (rule f) (units f) (file_numbers 0 (docs f)) p part nth (first_unit part.tops) u.unit at
+        (first_uses f.scope (units f) (rule f) facts.alike facts.choice (file_numbers 0 (docs f)) p part nth)) [
+          | inl e ↦ absurd (subst (In (partial_unit (move f) p)) none (parts_to (move f) Common 0 (move f).parts p part nth e))
+          | inr e ↦ (let lt = number_below 0 (docs f) u.unit.file (files_are (docs f) (first_unit part.tops) u.unit at) in
+              ap (λ (h : Home). file_of_home (length (docs f)) h == length (docs f)) e ∙ ne_eqb u.unit.file (length (docs f)) (λ q. omega (arith, q, lt)))
+        ]
+
+    nothing_put : (p : ℕ) (parts : List PartialUnit) → ((q : ℕ) (part : PartialUnit) → Nth p parts q part → Nth 0 (move f).parts q part) → (order : List UnitItems)
+        → PartsPut s (length (docs f)) p (map (shown_part (length (docs f))) parts) order → order ≡ []
+    nothing_put p [] among order put = put
+    nothing_put p (part ∷ parts) among order put =
+        nothing_put (suc p) parts (λ q other i. among q other (inr i)) order
+        (subst (λ (b : Bool). IfSo b (First (PartPut s p (shown_part (length (docs f)) part)) (PartsPut s (length (docs f)) (suc p) (map (shown_part (length (docs f))) parts)) order)
+        (PartsPut s (length (docs f)) (suc p) (map (shown_part (length (docs f))) parts) order)) (is_local p part (among p part (inl (refl, refl)))) put)
+
+    common_known : (order : List UnitItems) → PartsPut s (length (docs f)) 0 s.plan.now.partials order
+        → (order ≡ []) × KnowUnits (keys f) k (with_keys (common_forms (run f)) (units_keys (common_units (move f)))) None 0 order (common_units (move f))
+    common_known order put =
+        let no = nothing_put 0 (move f).parts (λ q part i. i) order
+        (subst (λ (w : List PlannedPart). PartsPut s (length (docs f)) 0 w order) (sym (parts_are f t k facts listed s settled)) put) in (
+          no,
+          subst (λ (us : List (DwUnit Spot)). KnowUnits (keys f) k (with_keys (common_forms (run f)) (units_keys us)) None 0 order us) (sym none)
+              (subst (λ (w : List UnitItems). KnowUnits (keys f) k (with_keys (common_forms (run f)) (units_keys [])) None 0 w []) (sym no) tt),
+        )
+
+rows_long : (f : Facts) (xs : List File) (is : List Index) (starts : List ℕ) (texts : List (List TextAt)) (rows : List FileRows) → AreRows f xs is starts texts rows → length xs ≡ length is
+rows_long f [] [] starts texts rows h = refl
+rows_long f [] (index ∷ is) starts texts rows h = absurd h
+rows_long f (x ∷ xs) [] starts texts rows h = absurd h
+rows_long f (x ∷ xs) (index ∷ is) [] texts rows h = absurd h
+rows_long f (x ∷ xs) (index ∷ is) (c ∷ starts) [] rows h = absurd h
+rows_long f (x ∷ xs) (index ∷ is) (c ∷ starts) (t ∷ texts) [] h = absurd h
+rows_long f (x ∷ xs) (index ∷ is) (c ∷ starts) (t ∷ texts) (r ∷ rows) h = ap suc (rows_long f xs is starts texts rows h.1)
+
+pub run_known : RunKnownLaw
+run_known f t k s facts listed settled none orders put numbers texts =
+    let first : (n : ℕ) → 0 + n ≡ n = λ n. omega arith in
+    let many = as_many no_files_before 0 f.contents put.files put.kept.end put.kept.are in
+    let mine = as_many no_files_before 0 f.contents f.files facts.kept.end facts.kept.are in
+    let rows = rows_long f f.files f.indexes (starts_from 0 f.indexes) t.files k.files.items listed.rows in
+    let long = indexed_long first_starts (docs f) f.indexes facts.indexed.end facts.indexed.are in
+    let all : length put.files ≡ length (docs f) = omega (arith, many, mine, rows, long) in
+    let common = common_known f t k facts listed s settled numbers none put.common (subst (λ (n : ℕ). PartsPut s n 0 s.plan.now.partials put.common) all put.common_put) in
+    let units_are : units_written f ≡ file_units (move f) (units f) (files_written f) =
+    written_units f ∙ ap (λ (w : List (DwUnit Spot)). w ++ file_units (move f) (units f) (files_written f)) none in
+    let others = known_from f t k facts listed s settled numbers 0 0 0 (docs f) f.files f.indexes put.others long
+    (λ j x index e g. (let o = is_among f.contents f.files f.indexes j x index facts.kept facts.indexed e g in
+    (o.bytes, subst (λ (q : ℕ). HasFile f q o.bytes x index) (sym (first j)) (record { file = e; index_is = g; read = o.is.kept }))))
+    (λ j c e. ap (slice_get (starts_from 0 f.indexes)) (first j) ∙ e)
+    (λ j lt. ap (λ (q : ℕ). slice_index_or (written f) q false) (first j) ∙ flag_is (changes (move f) (units f)) 0 (docs f) j lt)
+    (files_put s no_files_before 0 0 f.contents f.files put.files facts.kept.end put.kept.end facts.kept.are put.kept.are f.indexes put.others put.files_put)
+    (λ j u e. ap (slice_get (units_written f)) (first j) ∙ ap (λ (w : List (DwUnit Spot)). slice_get w j) units_are ∙ e)
+    (subst (TextsKnown f k numbers) put.orders_are texts) in
+    let nothing : 0 ≡ 0 + length put.common = (let no = ap (λ (w : List UnitItems). length w) common.0 in omega (arith, no)) in
+    subst (λ (w : List (List UnitItems)). KnowFiles (keys f) k 0 w (unfitted f numbers)) (sym put.orders_are)
+    (common.1, subst (λ (n : ℕ). KnowFiles (keys f) k n put.others (map (unfitted_file f numbers) (files_written f))) nothing others)

@@ -1,0 +1,12 @@
+pub mod FilesFitted
+pub mod FilesLaid
+pub mod EntryNames
+pub mod WrittenUnits
+pub mod NoUnits
+pub mod EntriesNamed
+pub mod NamesCounted
+pub mod NamesApart
+pub mod FileKnown
+pub mod FilesKnown
+pub mod EntriesPlaced
+pub mod OrderOfRun

@@ -1,0 +1,127 @@
+-- What is laid and written of the files of a run.
+use Rattle.std.specs.Prelude.{◌≡◌, ℕ, ◌+◌, ◌<◌, Bool, true, false, List, [], ◌∷◌, length, map, None, Some, slice_index}
+use Rattle.dwz_docs.specs.Pruning.{new_number}
+use Rattle.dwz_meanings.specs.Documents.{Node}
+use Rattle.dwz_seen.specs.Lists.{Nth}
+use Rattle.dwz_alike.specs.Spots.{FileUnit, RootOf, Spot, UnitOf}
+use Rattle.dwz_same.specs.Units.{changes, common_units, out_units}
+use Rattle.dwz_writing.specs.Placing.{FileOut}
+use Rattle.dwz_writing.specs.Writing.{header_size}
+use Rattle.dwz_back.specs.AllFiles.{AreRead}
+use Rattle.dwz_back.specs.Files.{Run, places, sources, uses}
+use Rattle.dwz_fewer.specs.Runs.{some_out}
+use Rattle.dwz_sound.specs.Sound.{FewTexts}
+use Rattle.dwz_unit.specs.Rows.{EntryRow}
+use Rattle.dwz_graph.specs.declared.file.File.{File}
+use Rattle.dwz_index.specs.Index.{Index}
+use Rattle.dwz_ordered.specs.declared.orders.Settled.{Settled}
+use Rattle.dwz_ordered.specs.Ordered.{AreOrders}
+use Rattle.dwz_places.specs.declared.known.Known.{Known}
+use Rattle.dwz_places.specs.declared.order.UnitItems.{UnitItems}
+use Rattle.dwz_places.specs.Entries.{row}
+use Rattle.dwz_places.specs.Known.{number_of}
+use Rattle.dwz_places.specs.Laid.{made_of}
+use Rattle.dwz_pages.specs.Laws.{FilesAre, IsOrderOf}
+use Rattle.dwz_pages.specs.Shown.{IsWritten, ShowFiles}
+use Rattle.dwz_fitted.specs.Fitted.{KnowFiles, fitted_file}
+use Rattle.dwz_fitted.specs.Knows.{IsRead, NewNumbers}
+use Rattle.dwz_facts.specs.Facts.{AreFacts, Facts, HasFile, docs, file_read, files_written, move, run, units}
+use Rattle.dwz_facts.specs.Listed.{AreListed, TextsAt}
+use Rattle.dwz_facts.specs.Named.{keys}
+use Rattle.dwz_named.specs.NamedLaws.{IsItself, entry_name}
+use Rattle.dwz_settled.specs.Settled.{IsSettled}
+use Rattle.dwz_settled.specs.Unfitted.{KnowTexts, unfitted}
+
+-- in a file that is prunable each use of a text has its new number
+abbrev pub numbers_if : Bool → Run → ℕ → NewNumbers
+numbers_if true r n = Some (new_number (sources r n).strs (uses r n))
+numbers_if false r n = None
+
+abbrev pub run_numbers : Run → ℕ → NewNumbers
+run_numbers r n = numbers_if (r.input.prunes n) r n
+
+-- the common file and the files that are written, as they are written
+abbrev pub written_out : Facts → List (FileOut Spot)
+written_out f = some_out (run f) (files_written f)
+
+-- with the forms of their values and these numbers the files are those of the run
+abbrev pub RunFittedLaw : Type 0
+RunFittedLaw = (f : Facts) → map fitted_file (unfitted f (run_numbers (run f))) ≡ written_out f
+
+-- and what shows them before is shown by the order of the run
+abbrev pub RunShownLaw : Type 0
+RunShownLaw =
+    (f : Facts) (k : Known) (orders : List (List UnitItems)) → KnowFiles (keys f) k 0 orders (unfitted f (run_numbers (run f)))
+    → ShowFiles (keys f) k 0 orders (written_out f)
+
+-- ---- what is known of all files
+
+-- where the texts of each of these files stand
+abbrev pub FilesTexts : Facts → Known → (ℕ → NewNumbers) → List ℕ → List (List UnitItems) → Type 0
+FilesTexts f k numbers [] [] = Unit {0}
+FilesTexts f k numbers (n ∷ files) (order ∷ orders) =
+    KnowTexts f k (numbers n) n order (out_units (move f) (units f) n) × FilesTexts f k numbers files orders
+FilesTexts f k numbers _ _ = ⊥
+
+-- so of all that are written behind the common one
+abbrev pub TextsKnown : Facts → Known → (ℕ → NewNumbers) → List (List UnitItems) → Type 0
+TextsKnown f k numbers [] = ⊥
+TextsKnown f k numbers (common ∷ orders) = FilesTexts f k numbers (files_written f) orders
+
+-- Of a run of which nothing is in the common file: where what is settled is written in order, and texts stand where the definitions say,
+-- all that is written is known.
+abbrev pub RunKnownLaw : Type 0
+RunKnownLaw =
+    (f : Facts) (t : TextsAt) (k : Known) (s : Settled) → AreFacts f → AreListed f t k → IsSettled f s → common_units (move f) ≡ []
+    → (orders : List (List UnitItems)) → AreOrders f.contents f.indexes s orders
+    → (numbers : ℕ → NewNumbers) → TextsKnown f k numbers orders → KnowFiles (keys f) k 0 orders (unfitted f numbers)
+
+-- ---- orders of them
+
+-- An order that shows the files that are written, with what is in the numbered lists, is an order of these files, where they read and the
+-- texts of the common file aren't too long.
+abbrev pub RunOrderLaw : Type 0
+RunOrderLaw =
+    (f : Facts) (t : TextsAt) (k : Known) (orders : List (List UnitItems)) → AreFacts f → AreListed f t k → AreRead f.input (docs f)
+    → FewTexts (run f) → ShowFiles (keys f) k 0 orders (written_out f) → IsOrderOf (keys f) k orders (written_out f)
+
+-- they aren't where nothing is in it
+abbrev pub RunFewLaw : Type 0
+RunFewLaw = (f : Facts) → common_units (move f) ≡ [] → FewTexts (run f)
+
+-- So of a run of which nothing is in the common file what is settled is written in such an order, if texts stand where the definitions say.
+abbrev pub SettledOrderLaw : Type 0
+SettledOrderLaw =
+    (f : Facts) (t : TextsAt) (k : Known) (s : Settled) → AreFacts f → AreListed f t k → IsSettled f s → common_units (move f) ≡ []
+    → AreRead f.input (docs f) → (orders : List (List UnitItems)) → AreOrders f.contents f.indexes s orders
+    → TextsKnown f k (run_numbers (run f)) orders → IsOrderOf (keys f) k orders (written_out f)
+
+-- ---- what is laid
+
+-- where an order shows them, what is laid of each file and written by it are its sections in the run
+abbrev pub RunLaidLaw : Type 0
+RunLaidLaw =
+    (f : Facts) (k : Known) (orders : List (List UnitItems)) → AreFacts f → IsOrderOf (keys f) k orders (written_out f)
+    → let all = made_of k orders in FilesAre (places (run f)) k all.places all.roots 0 orders all.files (written_out f)
+
+-- and each entry that is written has the place of its name
+abbrev pub RunPlacesLaw : Type 0
+RunPlacesLaw =
+    (f : Facts) (k : Known) (orders : List (List UnitItems)) → AreFacts f → IsOrderOf (keys f) k orders (written_out f)
+    → (i : ℕ) → i < length k.owners.items → IsWritten k i orders
+    → slice_index (made_of k orders).places i ≡ (places (run f)).place ((keys f).row i)
+
+-- so an entry that stands for itself in a file that is written
+abbrev pub RunSelfLaw : Type 0
+RunSelfLaw =
+    (f : Facts) (t : TextsAt) (k : Known) (orders : List (List UnitItems)) → AreFacts f → AreListed f t k
+    → IsOrderOf (keys f) k orders (written_out f)
+    → (n : ℕ) (bytes : List ℕ) (x : File) (index : Index) → HasFile f n bytes x index → changes (move f) (units f) n ≡ true
+    → (i : ℕ) (r : EntryRow) (d : Node ℕ) → IsRead (file_read f n bytes x) i r d → IsItself f (entry_name f n d)
+    → slice_index (made_of k orders).places (number_of k (row n i)) ≡ (places (run f)).place (entry_name f n d)
+
+-- and a unit that was read begins so many bytes before its root as its header has (DWARF 5, 7.5.1)
+abbrev pub RunRootsLaw : Type 0
+RunRootsLaw =
+    (f : Facts) → AreFacts f → (i : ℕ) (u : FileUnit Spot) → Nth 0 (units f) i u
+    → (places (run f)).place (RootOf i) ≡ (places (run f)).place (UnitOf i) + header_size u.unit.kind

@@ -1,0 +1,5 @@
+use Rattle.dwz_listed.proofs.RowSteps.{Going}
+use Rattle.dwz_listed.proofs.rows.rows_of_files.Given as goal
+
+abbrev pub invariant-loop-texts : goal.invariant-loop-texts
+invariant-loop-texts l = Going l.files l.indexes l.plan l.tops l.starts l.fn.all.items l.texts-iterator.rest.items l.number l.rows.items

@@ -1,0 +1,3 @@
+pub mod Shown
+pub mod Needs
+pub mod ListedLaws

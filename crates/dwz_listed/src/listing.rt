@@ -1,0 +1,69 @@
+//! All lists, and the places of texts in them.
+
+ghost use Rattle.std.specs.Prelude.{◌≡◌, length, IfOk};
+ghost use Rattle.dwz_facts.specs.Facts.{Facts};
+ghost use Rattle.dwz_facts.specs.Listed.{AreListed, space_entries};
+ghost use Rattle.dwz_listed.specs.Needs.{AreMade, IsFit};
+ghost use Rattle.dwz_listed.specs.Shown.{texts_shown};
+
+use crate::owned::owners_of;
+use crate::rows::rows_of_files;
+use crate::tops::{named_spaces, rows_of_spaces, rows_of_tops};
+use dwz_graph::File;
+use dwz_index::Index;
+use dwz_known::{UnitNumbers, starts, tops};
+use dwz_model::NoMemory;
+use dwz_places::{Known, TextAt};
+use dwz_plan::Plan;
+use std::alloc::Global;
+
+/// Where texts are written.
+#[derive(Drop)]
+pub struct FileTexts {
+    /// For each file those of its entries that are stored by an offset or by a slot (DWARF 5, 7.5.5), in preorder, then in the order of
+    /// attributes.
+    pub files: Vec<Vec<TextAt>>,
+    /// For each space of all files that of its name.
+    pub spaces: Vec<TextAt>,
+}
+
+/// The lists that a layout looks into. The numbers of paths are none in them: nothing that has one is written in the common file by
+/// these lists.
+pub fn known_of<'u, 'a>(
+    alloc: Global,
+    files: &'u [File<'a>],
+    indexes: &[Index],
+    plan: &Plan,
+    numbers: UnitNumbers,
+    texts: FileTexts,
+) -> Result<Known<'u, 'a>, NoMemory>
+    requires fit { IsFit files.now indexes.now plan.now }
+    requires texts { length texts.files.items ≡ length files.now }
+    requires spaces { length texts.spaces.items ≡ length (space_entries 0 indexes.now) }
+    ensures { (f : Facts) → AreMade f files.now indexes.now plan.now numbers
+        → IfOk result (λ known. AreListed f (texts_shown texts) known) }
+{
+    let starts = starts(alloc, indexes)?;
+    let entries = tops(alloc, indexes)?;
+    let owners = owners_of(alloc, files, indexes, plan, entries.as_slice(), &numbers)?;
+    let rows = rows_of_files(
+        alloc,
+        files,
+        indexes,
+        plan,
+        entries.as_slice(),
+        starts.as_slice(),
+        texts.files,
+    )?;
+    let tops = rows_of_tops(alloc, indexes)?;
+    let spaces = rows_of_spaces(alloc, indexes)?;
+    let spaces = named_spaces(alloc, spaces.as_slice(), texts.spaces.as_slice())?;
+    Ok(Known {
+        files: rows,
+        owners,
+        tops,
+        spaces,
+        parts: numbers.parts,
+        commons: numbers.commons,
+    })
+}

@@ -1,0 +1,108 @@
+//! The entries of each file, and what they name.
+
+ghost use Rattle.std.specs.Prelude.{◌≡◌, ◌+◌, ◌<◌, ◌^◌, length, map, slice_index, IfOk};
+ghost use Rattle.dwz_facts.specs.Facts.{Facts, docs, rule};
+ghost use Rattle.dwz_facts.specs.Listed.{AreRows, HaveFirsts, IsListed, firsts_from};
+ghost use Rattle.dwz_known.specs.Images.{IsPlanned, starts_from};
+ghost use Rattle.dwz_listed.specs.Needs.{FitsFile, IsFit};
+
+use dwz_graph::File;
+use dwz_index::Index;
+use dwz_known::{Before, befores, references};
+use dwz_model::NoMemory;
+use dwz_places::{FileRows, Firsts, TextAt};
+use dwz_plan::Plan;
+use std::alloc::Global;
+
+// Where what the entry with a number names begins, before which so many texts and numbers of files come.
+#[inline(always)]
+fn firsts_at(starts: &[u32], entry: usize, before: &Before) -> Firsts
+    ensures { result ≡ firsts_from (slice_index starts.now entry) before.now }
+{
+    let reference = match starts.get(entry) {
+        Some(start) => *start,
+        None => 0,
+    };
+    Firsts {
+        reference: reference as u64,
+        text: before.texts,
+        file: before.files,
+    }
+}
+
+// For each entry of a file where what it names begins.
+fn firsts_of(alloc: Global, file: &File<'_>) -> Result<Vec<Firsts>, NoMemory>
+    ensures { IfOk result (λ firsts. HaveFirsts file.now firsts.items) }
+{
+    let befores = befores(alloc, &file.units)?;
+    let starts = file.resolved.starts.as_slice();
+    let mut firsts = Vec::with_capacity(alloc, befores.len())?;
+    for (entry, before) in befores.iter().enumerate() {
+        firsts.push(firsts_at(starts, entry, before))?;
+    }
+    Ok(firsts)
+}
+
+// The entries of a file whose first one has the number `start` among those of all files. Numbers of paths are no part of it.
+fn rows_of<'u, 'a>(
+    alloc: Global,
+    file: &'u File<'a>,
+    index: &Index,
+    plan: &Plan,
+    tops: &[u32],
+    start: u32,
+    texts: Vec<TextAt>,
+) -> Result<FileRows<'u, 'a>, NoMemory>
+    requires fits { FitsFile file.now index.now }
+    requires few { start + length index.now.steps < 2 ^ 32 }
+    requires plan { length plan.now.stand_ins ≡ length tops.now }
+    ensures { (f : Facts) → IsPlanned (docs f) (rule f) plan.now tops.now
+        → IfOk result (λ r. IsListed f file.now index.now start texts.items r) }
+{
+    let firsts = firsts_of(alloc, file)?;
+    let refs = file.resolved.refs.as_slice();
+    let references = references(alloc, index, plan, tops, start, refs)?;
+    Ok(FileRows {
+        units: &file.units,
+        start,
+        firsts,
+        references,
+        texts,
+        files: Vec::new(alloc),
+    })
+}
+
+/// The entries of each file. `tops` has for each top the number of its entry, `starts` for each file that of its first one.
+pub(crate) fn rows_of_files<'u, 'a>(
+    alloc: Global,
+    files: &'u [File<'a>],
+    indexes: &[Index],
+    plan: &Plan,
+    tops: &[u32],
+    starts: &[u32],
+    all: Vec<Vec<TextAt>>,
+) -> Result<Vec<FileRows<'u, 'a>>, NoMemory>
+    requires fit { IsFit files.now indexes.now plan.now }
+    requires plan { length plan.now.stand_ins ≡ length tops.now }
+    requires starts { starts.now ≡ starts_from 0 indexes.now }
+    requires texts { length all.items ≡ length files.now }
+    ensures { (f : Facts) → IsPlanned (docs f) (rule f) plan.now tops.now
+        → IfOk result (λ rows. AreRows f files.now indexes.now starts.now (map (λ texts. texts.items) all.items) rows.items) }
+{
+    let mut rows = Vec::with_capacity(alloc, files.len())?;
+    let mut number = 0;
+    for texts in all {
+        let row = rows_of(
+            alloc,
+            &files[number],
+            &indexes[number],
+            plan,
+            tops,
+            starts[number],
+            texts,
+        )?;
+        rows.push(row)?;
+        number += 1;
+    }
+    Ok(rows)
+}

@@ -1,0 +1,84 @@
+//! Other places of texts.
+
+ghost use Rattle.std.specs.Prelude.{◌≡◌, length, IfOk};
+ghost use Rattle.dwz_facts.specs.Facts.{Facts};
+ghost use Rattle.dwz_facts.specs.Listed.{AreListed, TextsAt};
+ghost use Rattle.dwz_listed.specs.Shown.{files_with, spaces_with, texts_shown};
+
+use crate::listing::FileTexts;
+use dwz_model::NoMemory;
+use dwz_places::{FileRows, Known, SpaceRow, TextAt};
+use std::alloc::Global;
+
+// The file with other texts.
+fn file_with<'u, 'a>(row: FileRows<'u, 'a>, texts: Vec<TextAt>) -> FileRows<'u, 'a>
+    ensures { result ≡ record row.entry { texts = texts } }
+{
+    FileRows {
+        units: row.units,
+        start: row.start,
+        firsts: row.firsts,
+        references: row.references,
+        texts,
+        files: row.files,
+    }
+}
+
+// Each file with its own.
+fn with_files<'u, 'a>(
+    alloc: Global,
+    rows: Vec<FileRows<'u, 'a>>,
+    all: Vec<Vec<TextAt>>,
+) -> Result<Vec<FileRows<'u, 'a>>, NoMemory>
+    ensures { IfOk result (λ made. made.items ≡ files_with rows.entry.items all.items) }
+{
+    let mut made = Vec::with_capacity(alloc, all.len())?;
+    let mut left = rows.into_iter();
+    for texts in all {
+        let Some(row) = left.next() else {
+            return Ok(made);
+        };
+        made.push(file_with(row, texts))?;
+    }
+    Ok(made)
+}
+
+// Gives each space that of its name.
+fn put_names(spaces: &mut [SpaceRow], texts: &[TextAt])
+    requires { length texts.now ≡ length spaces.old }
+    ensures { spaces.new ≡ spaces_with spaces.old texts.now }
+{
+    for i in 0..spaces.len() {
+        spaces[i].text = texts[i];
+    }
+}
+
+/// The lists with other places of texts, for as many files and spaces. All else stays.
+pub fn with_texts<'u, 'a>(
+    alloc: Global,
+    known: Known<'u, 'a>,
+    texts: FileTexts,
+) -> Result<Known<'u, 'a>, NoMemory>
+    requires files { length texts.files.items ≡ length known.files.items }
+    requires spaces { length texts.spaces.items ≡ length known.spaces.items }
+    ensures files { IfOk result (λ k. k.files.items ≡ files_with known.entry.files.items texts.files.items) }
+    ensures spaces { IfOk result (λ k. k.spaces.items ≡ spaces_with known.entry.spaces.items texts.spaces.items) }
+    ensures owners { IfOk result (λ k. k.owners ≡ known.entry.owners) }
+    ensures tops { IfOk result (λ k. k.tops ≡ known.entry.tops) }
+    ensures parts { IfOk result (λ k. k.parts ≡ known.entry.parts) }
+    ensures commons { IfOk result (λ k. k.commons ≡ known.entry.commons) }
+    ensures listed { (f : Facts) (before : TextsAt) → AreListed f before known.entry
+        → IfOk result (λ k. AreListed f (texts_shown texts) k) }
+{
+    let mut spaces = known.spaces;
+    put_names(spaces.as_mut_slice(), texts.spaces.as_slice());
+    let files = with_files(alloc, known.files, texts.files)?;
+    Ok(Known {
+        files,
+        owners: known.owners,
+        tops: known.tops,
+        spaces,
+        parts: known.parts,
+        commons: known.commons,
+    })
+}

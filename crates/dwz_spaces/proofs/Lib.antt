@@ -1,0 +1,11 @@
+pub mod SpaceEntries
+pub mod SpaceRises
+pub mod SpaceCounts
+pub mod SpaceLeads
+pub mod TextNumbers
+pub mod FileTexts
+pub mod PinNames
+pub mod FilePins
+pub mod SpaceNames
+pub mod NumberSteps
+pub mod AllPins

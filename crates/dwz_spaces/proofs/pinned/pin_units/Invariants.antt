@@ -1,0 +1,13 @@
+use Rattle.std.proofs.Common.{◌≡◌, ℕ, List, Ok}
+use Rattle.dwz_alike.specs.Spots.{Spot}
+use Rattle.dwz_meanings.specs.Documents.{DwUnit}
+use Rattle.dwz_meanings.specs.Meanings.{Around, units_meaning}
+use Rattle.dwz_scan.specs.Known.{KnowsRefs}
+use Rattle.dwz_scan.specs.Marked.{MarksIf, expression_pins}
+use Rattle.dwz_unit.specs.Rows.{units_of}
+use Rattle.dwz_marks.proofs.MarkSteps.{InUnits}
+use Rattle.dwz_spaces.proofs.pinned.pin_units.Given as goal
+
+abbrev pub invariant-loop-n : goal.invariant-loop-n
+invariant-loop-n l = (around : Around ℕ) (refs : List ℕ) (name : ℕ → Spot) (said : List (DwUnit ℕ)) → KnowsRefs around (units_of l.units) name refs l.starts l.into → (means : units_meaning around (units_of l.units) ≡ Ok said)
+    → MarksIf (InUnits around (units_of l.units) said means name expression_pins l.n) l.fn.named.by_uleb.items l.named.by_uleb.items

@@ -1,0 +1,11 @@
+use Rattle.std.proofs.Common.{length}
+use Rattle.dwz_alike.specs.Spots.{units_of}
+use Rattle.dwz_graph.specs.Files.{docs_of}
+use Rattle.dwz_across.specs.Across.{starts_at}
+use Rattle.dwz_marks.proofs.MarkSteps.{MarkedBy}
+use Rattle.dwz_order.specs.Lists.{all_spaces}
+use Rattle.dwz_spaces.proofs.AllPins.{pins_number}
+use Rattle.dwz_spaces.proofs.pinned.pinned_spaces.Given as goal
+
+abbrev pub invariant-loop-number : goal.invariant-loop-number
+invariant-loop-number l = MarkedBy (units_of (docs_of l.graph)) (pins_number (units_of (docs_of l.graph))) (length (all_spaces l.indexes)) (starts_at (docs_of l.graph) l.indexes l.number).unit l.named.by_uleb.items

@@ -1,0 +1,4 @@
+pub mod Known
+pub mod Names
+pub mod Pinned
+pub mod Places

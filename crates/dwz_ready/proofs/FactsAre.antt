@@ -1,0 +1,68 @@
+-- Facts are those of what was planned: where lists, scope and plan are equal, so are the facts.
+use Rattle.std.proofs.Common.{◌≡◌, ℕ, List, length, sym, subst}
+use Rattle.dwz_alike.specs.Alike.{IsAlike, Scope}
+use Rattle.dwz_alike.specs.Spots.{units_of}
+use Rattle.dwz_few.proofs.FilesFew.{names_few}
+use Rattle.dwz_graph.specs.Files.{docs_of}
+use Rattle.dwz_index.specs.Index.{Index}
+use Rattle.dwz_moving.specs.Homes.{IsChoice}
+use Rattle.dwz_plan.specs.declared.plan.Scope.{Scope as Sharing}
+use Rattle.dwz_plan.specs.Planned.{Planned}
+use Rattle.dwz_plan.specs.Shows.{ShowsPlan}
+use Rattle.dwz_planned.specs.declared.planned.PlannedFiles.{PlannedFiles}
+use Rattle.dwz_planned.specs.Rules.{alike_scope, rule_by}
+use Rattle.dwz_planned.proofs.PlanFits.{alike_is, choice_is}
+use Rattle.dwz_facts.specs.Facts.{Facts, docs, rule, units}
+use Rattle.dwz_ready.specs.Settled.{AreFactsOf, ArePlanned, FactsLaw}
+
+-- the facts with these contents and indexes, and so on
+abbrev pub facts_with : List (List ℕ) → List Index → Scope → Planned → Facts → Facts
+facts_with contents indexes scope planned f = record {
+  contents = contents;
+  files = f.files;
+  indexes = indexes;
+  scope = scope;
+  input = f.input;
+  planned = planned;
+  commons = f.commons;
+  parts = f.parts;
+  olds = f.olds;
+}
+
+module _ (contents : List (List ℕ)) (indexes : List Index) (sharing : Sharing) (p : PlannedFiles) (f : Facts) (of : AreFactsOf contents indexes sharing p f) where
+  pub facts_same : facts_with contents indexes (alike_scope sharing) p.plan f ≡ f
+  facts_same = λ i. record {
+    contents = sym of.contents_are i;
+    files = f.files;
+    indexes = sym of.indexes_are i;
+    scope = sym of.scope_is i;
+    input = f.input;
+    planned = sym of.plan_is i;
+    commons = f.commons;
+    parts = f.parts;
+    olds = f.olds;
+  }
+
+-- what the rule of facts finds
+pub record AreRuled (f : Facts) : Type 0 where
+  pub alike : IsAlike f.scope (units f) (rule f).alike
+  pub choice : IsChoice (units f) (rule f)
+  pub shows : ShowsPlan (rule f) (units f) (length (docs f)) f.planned
+
+ruled : (contents : List (List ℕ)) (indexes : List Index) (sharing : Sharing) (p : PlannedFiles) (f : Facts) → ArePlanned sharing (docs_of contents) p → AreRuled (facts_with contents indexes (alike_scope sharing) p.plan f)
+ruled contents indexes sharing p f planned = record { alike = alike_is sharing (docs_of contents); choice = choice_is sharing (docs_of contents); shows = planned.plan }
+
+pub facts_are : FactsLaw
+facts_are contents indexes sharing p f planned of stored numbers =
+    let r = subst AreRuled (facts_same contents indexes sharing p f of) (ruled contents indexes sharing p f planned) in
+    record {
+      bytes = stored.bytes;
+      kept = stored.kept;
+      indexed = stored.indexed;
+      stored = stored.stored;
+      alike = r.alike;
+      choice = r.choice;
+      shows = r.shows;
+      numbers = numbers;
+      few = names_few f.contents f.files stored.kept;
+    }

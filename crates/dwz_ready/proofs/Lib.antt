@@ -1,0 +1,2 @@
+pub mod FactsAre
+pub mod SettledParts

@@ -1,0 +1,5 @@
+pub mod NumberSteps
+pub mod RowEntries
+pub mod FilePlaces
+pub mod SectionNumbers
+pub mod LawLemmas

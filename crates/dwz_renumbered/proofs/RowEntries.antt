@@ -1,0 +1,58 @@
+-- The number of a row of operands leads to the row's entry: an entry stands behind the first byte of its unit.
+use Rattle.std.proofs.Common.{◌≡◌, ℕ, ◌+◌, ◌-◌, ◌<◌, true, List, [], ◌∷◌, map, refl, sym, ap, subst, ◌∙◌, inl, inr, ⊎_elim, arith}
+use Rattle.std.proofs.lemmas.Bool.{cases_lt}
+use Rattle.dwz_model.specs.declared.place.Base.{Base}
+use Rattle.dwz_model.specs.declared.place.Base.TheVariants.{Unit as FromUnit, Info as FromInfo}
+use Rattle.dwz_docs.specs.Lists.{In}
+use Rattle.dwz_docs.specs.Units.{RawUnit}
+use Rattle.dwz_meanings.specs.Documents.{DwUnit}
+use Rattle.dwz_meanings.specs.Meanings.{Around, MeanUnits, Sources, alone, entries_for, expr_context, leads_to, places_of, scope_of, target_of}
+use Rattle.dwz_meanings.specs.NamedLists.{lists_of_units}
+use Rattle.dwz_meanings.specs.Shared.{AreRows, own_operands}
+use Rattle.dwz_meanings.proofs.MeaningLemmas.{has_in}
+use Rattle.dwz_resolve.specs.declared.operands.ListOperand.{ListOperand as Row}
+use Rattle.dwz_resolve.specs.ListRows.{number_for, operand_view, start_of}
+use Rattle.dwz_resolve.specs.Resolved.{place_at}
+use Rattle.dwz_resolve.proofs.PlaceLemmas.{unit_and_entries}
+use Rattle.dwz_seen.specs.Lists.{NoneTwice}
+use Rattle.dwz_seen.proofs.Members.{in_map}
+use Rattle.dwz_seen.proofs.OnceLemmas.{none_left, none_right}
+use Rattle.dwz_writing.specs.Meant.{by_base, led_to}
+use Rattle.dwz_out.proofs.ListsWritten.{owner}
+use Rattle.dwz_marks.proofs.ListNames.{list_from}
+use Rattle.dwz_marks.proofs.OperandNumbers.{list_stands, one_named}
+
+unit_apart : (raw : List RawUnit) → NoneTwice (unit_and_entries raw) → (u : RawUnit) → In u raw → In u.at (places_of u) → ⊥
+unfolding unit_and_entries
+unit_apart [] once u there own = absurd there
+unit_apart (v ∷ raw) once u (inl e) own = (none_left (v.at ∷ places_of v) (unit_and_entries raw) once).0 (subst (λ (w : RawUnit). In w.at (places_of w)) (sym e) own)
+unit_apart (v ∷ raw) once u (inr later) own = unit_apart raw (none_right (v.at ∷ places_of v) (unit_and_entries raw) once) u later own
+
+module _ (sources : Sources) (raw : List RawUnit) (said : List (DwUnit ℕ)) (means : MeanUnits (alone sources raw) raw said) (once : NoneTwice (unit_and_entries raw))
+    (rows : List Row) (are : AreRows (lists_of_units (alone sources raw) raw) (map (operand_view raw) rows)) where
+  abbrev around : Around ℕ
+  around = alone sources raw
+
+  before : (o : Row) → In o rows → o.base ≡ FromUnit → o.place.offset < start_of raw o.unit → ⊥
+  before o there e lt =
+      let view = operand_view raw o in
+      let r = owner (lists_of_units around raw) view (are.from view (in_map (operand_view raw) o rows there)) in
+      let l = r.list in
+      let p = view.operand in
+      let f = list_from around raw said means l r.there in
+      let u = f.2.u in
+      let s = scope_of around u in
+      let good = list_stands sources.lists (expr_context s 7) l.list l.from f.2.is.stands in
+      let named : (expr_context s 7).names p ≡ true = one_named sources.lists _ (own_operands l) good.0 p r.own in
+      let number : p.number ≡ number_for FromUnit (start_of raw o.unit) o.place.offset = ap (λ (b : Base). number_for b (start_of raw o.unit) o.place.offset) e in
+      let none : p.number ≡ 0 = omega (arith, number, lt) in
+      let here : target_of s p ≡ u.at = (λ i. leads_to s (e i) (none i)) ∙ (let z : u.at + 0 ≡ u.at = omega arith in z) in
+      let own : In (target_of s p) (entries_for s FromUnit) = subst (λ (b : Base). In (target_of s p) (entries_for s b)) e (has_in (target_of s p) (entries_for s p.base) named) in
+      unit_apart raw once u f.2.in_raw (subst (λ (n : ℕ). In n (places_of u)) here own)
+
+  pub row_led : (o : Row) → In o rows → place_at raw o.entry ≡ o.place.offset → led_to (start_of raw o.unit) (operand_view raw o).operand ≡ place_at raw o.entry
+  row_led o there stand = by o.base refl ∙ sym stand where
+    by : (b : Base) → o.base ≡ b → by_base b (start_of raw o.unit) (number_for b (start_of raw o.unit) o.place.offset) ≡ o.place.offset
+    by FromInfo e = refl
+    by FromUnit e = ⊎_elim (λ lt. absurd (before o there e lt)) (λ ge. (let z : start_of raw o.unit + (o.place.offset - start_of raw o.unit) ≡ o.place.offset = omega (arith, ge) in z))
+        (cases_lt o.place.offset (start_of raw o.unit))

@@ -1,0 +1,11 @@
+use Rattle.std.proofs.Common.{◌≡◌, ℕ, List, length, take}
+use Rattle.dwz_meanings.specs.Documents.{Doc}
+use Rattle.dwz_alike.specs.Spots.{Spot}
+use Rattle.dwz_moving.specs.Homes.{Rule}
+use Rattle.dwz_known.specs.Images.{IsFile, IsPlanned}
+use Rattle.dwz_renumbered.specs.Operands.{AreNewNumbers}
+use Rattle.dwz_renumbered.proofs.operands.operand_numbers.Given as goal
+
+abbrev pub invariant-loop-operand : goal.invariant-loop-operand
+invariant-loop-operand l = (length l.numbers.items ≡ l.operand-index) × ((docs : List (Doc ℕ)) (rule : Rule) (names : List Spot) → IsPlanned docs rule l.plan l.tops → IsFile docs names l.index l.start
+    → AreNewNumbers docs rule names l.places l.units_at (take l.operand-index l.operands) l.numbers.items)

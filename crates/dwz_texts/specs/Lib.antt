@@ -1,0 +1,4 @@
+pub mod Texts
+pub mod Files
+pub mod Names
+pub mod TextLaws

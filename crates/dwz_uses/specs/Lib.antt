@@ -1,0 +1,5 @@
+pub mod Used
+pub mod Steps
+pub mod PrunedFiles
+pub mod MovedTexts
+pub mod UseLaws

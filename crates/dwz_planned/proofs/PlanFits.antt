@@ -76,7 +76,7 @@ module _ (sharing : Sharing) (docs : List (Doc ℕ)) (tops : Tops) (least : List
         stand_ins = whole.stand_ins ∙ rows ∙ many;
         kept = whole.kept ∙ all;
         imports = whole.imports ∙ all;
-        few_parts = omega (arith, few, made.few_rows);
+        few_parts = few;
         parts_of_files = files_low (rule_by sharing docs) (units_of docs) (length docs) plan plan_shows;
         apart = stay_apart sharing docs plan plan_shows;
         users = subst (λ (n : ℕ). All (λ part. All (λ u. u < n) part.users) plan.partials) all (users_low sharing tops least len plan is);

@@ -14,7 +14,8 @@ StayApart AllTogether files parts = Unit {0}
 StayApart Each files parts = All (λ part. part.file < files) parts
 
 -- There is a row for each top. The plan has an answer for each top and each unit. Its partial units are each of a file or of the common
--- one; their users are units, and they hold tops of the files. Of all there are few.
+-- one; their users are units, and they hold tops of the files. There are no more of them than tops, and
+-- of all there are few.
 pub record FitsFiles (sharing : Sharing) (docs : List (Doc ℕ)) (tops : Tops) (plan : Planned) : Type 0 where
   pub rows : length tops.rows ≡ length (tops_of (units_of docs))
   pub few_rows : length tops.rows < 2 ^ 32
@@ -24,7 +25,7 @@ pub record FitsFiles (sharing : Sharing) (docs : List (Doc ℕ)) (tops : Tops) (
   pub stand_ins : length plan.stand_ins ≡ length (tops_of (units_of docs))
   pub kept : length plan.kept ≡ length (units_of docs)
   pub imports : length plan.imports ≡ length (units_of docs)
-  pub few_parts : length plan.partials < 2 ^ 32
+  pub few_parts : length plan.partials ≤ length tops.rows
   pub parts_of_files : All (λ part. part.file ≤ length docs) plan.partials
   pub apart : StayApart sharing (length docs) plan.partials
   pub users : All (λ part. All (λ u. u < length (units_of docs)) part.users) plan.partials

@@ -1,5 +1,5 @@
 -- What is settled of files, part by part, is all that is asked before their units are written.
-use Rattle.std.proofs.Common.{◌≡◌, ℕ, ◌+◌, ◌<◌, ◌≤◌, ◌^◌, All, Bool, List, None, Option, length, map, slice_index_or, sym, ap, subst, ◌∙◌}
+use Rattle.std.proofs.Common.{◌≡◌, ℕ, ◌+◌, ◌<◌, ◌≤◌, ◌^◌, All, Bool, List, None, Option, length, map, slice_index_or, sym, ap, subst, ◌∙◌, arith}
 use Rattle.dwz_alike.specs.Spots.{file_numbers, tops_of, units_of}
 use Rattle.dwz_graph.specs.declared.file.File.{File}
 use Rattle.dwz_graph.specs.Files.{AreKept, docs_of}
@@ -82,7 +82,7 @@ module _ (contents : List (List ℕ)) (indexes : List Index) (sharing : Sharing)
         rising = subst IsRising (sym lends.rows) sp.rising;
         within = subst (λ (w : List SpaceRow). All (λ x. x.inner ≤ length w) s.of_tops.now) (sym lends.rows) (subst (λ (w : List TopSpaces). All (λ x. x.inner ≤ length r.spaces.rows.items) w) (sym lends.of_tops) sp.within);
         few = subst (λ (w : List SpaceRow). length w + 2 < 2 ^ 32) (sym lends.rows) sp.few;
-        few_parts = subst (λ (w : Planned). length w.partials < 2 ^ 32) (sym lends.plan) parts.planned.fits.few_parts;
+        few_parts = subst (λ (w : Planned). length w.partials < 2 ^ 32) (sym lends.plan) (omega (arith, parts.planned.fits.few_parts, parts.planned.fits.few_rows));
         few_tops = subst (λ (w : Planned). All (λ part. length part.tops < 2 ^ 32) w.partials) (sym lends.plan) fit.few_tops;
         inside = subst (λ (w : Planned). All (λ part. All (λ t. t < length s.of_tops.now) part.tops) w.partials) (sym lends.plan)
             (subst (λ (n : ℕ). All (λ part. All (λ t. t < n) part.tops) r.planned.plan.partials) (sym many) fit.inside);

@@ -1,6 +1,7 @@
 //! The course of a run.
 
 ghost use Rattle.std.specs.Prelude.{◌≡◌, ◌<◌, ◌≤◌, ℕ, List, Some, None, [], IfOk, get_or, length, map};
+ghost use Rattle.dwz_course.specs.Answers.{IsAnswer};
 ghost use Rattle.dwz_course.specs.Demo.{HasLengths};
 ghost use Rattle.dwz_course.specs.Ended.{IsSaid, status_of, text_of};
 ghost use Rattle.dwz_course.specs.Ends.{Complete, Ends, EndsFor, KeepsLastRead, LeavesFiles, Refuses, done_text};
@@ -27,25 +28,43 @@ use std::alloc::Global;
 /// Does what the words ask for: gets their FILEs in order, up to the first that fails or is too long; works on them; puts what
 /// comes of it in order, up to the first that fails; and says so, once. For a demonstration two files are made, and nothing is
 /// got or put. All memory is taken before the first put of a file: behind it want of memory is no answer.
-pub fn run_course<F: Files, C: Console, W: Work>(
+///
+/// `answer` tells what comes of options, which ask for no demonstration, and of the contents of their FILEs in order. Where one of these is
+/// too long it is the last, and those behind it weren't got.
+pub fn run_course<F: Files, C: Console, W: Work, A>(
     alloc: Global,
     words: &[Vec<u8>],
     files: &mut F,
     console: &mut C,
     work: &W,
+    answer: &A,
 ) -> Status
+where
+    A: Fn(Global, &Options, &[Vec<u8>]) -> Result<Output, GraphErr>,
+    requires callable { A.IsAlwaysCallable answer.now }
+    requires answers { (a : _) (o : _) (c : _) (r : _) → A.post answer.now a o c r → IsAnswer (W.gives o.now (map (λ v. v.items) c.now)) r }
     ensures ends { Ends W.makes W.gives (bytes_of words.now) (F.told files.old) (F.told files.new) (C.shown console.old) (C.shown console.new) result }
     ensures complete { Complete W.makes W.gives (bytes_of words.now) (F.told files.old) (F.told files.new) (C.shown console.old) (C.shown console.new) result }
     ensures refuses { Refuses W.makes W.gives (bytes_of words.now) (F.told files.old) (F.told files.new) result }
     ensures demo { LeavesFiles (bytes_of words.now) (F.told files.old) (F.told files.new) }
     ensures reads { KeepsLastRead result (F.told files.old) (F.told files.new) }
 {
-    let end = ended(alloc, words, files, work);
+    let end = ended(alloc, words, files, work, answer);
     say(console, &end)
 }
 
 // What a run does, beside the console.
-fn ended<F: Files, W: Work>(alloc: Global, words: &[Vec<u8>], files: &mut F, work: &W) -> Ended
+fn ended<F: Files, W: Work, A>(
+    alloc: Global,
+    words: &[Vec<u8>],
+    files: &mut F,
+    work: &W,
+    answer: &A,
+) -> Ended
+where
+    A: Fn(Global, &Options, &[Vec<u8>]) -> Result<Output, GraphErr>,
+    requires callable { A.IsAlwaysCallable answer.now }
+    requires answers { (a : _) (o : _) (c : _) (r : _) → A.post answer.now a o c r → IsAnswer (W.gives o.now (map (λ v. v.items) c.now)) r }
     ensures ends { EndsFor W.makes W.gives (bytes_of words.now) (F.told files.old) (F.told files.new) (status_of result) (text_of result) }
     ensures demo { LeavesFiles (bytes_of words.now) (F.told files.old) (F.told files.new) }
     ensures reads { KeepsLastRead (status_of result) (F.told files.old) (F.told files.new) }
@@ -56,14 +75,23 @@ fn ended<F: Files, W: Work>(alloc: Global, words: &[Vec<u8>], files: &mut F, wor
         Err(WordsErr::NoMemory) => return Ended::OutOfMemory,
     };
     match options.demo {
-        None => with_files(alloc, &options, files, work),
-        Some(n) => demonstrated(alloc, &options, n, work),
+        None => with_files::<F, W, A>(alloc, &options, files, answer),
+        Some(n) => demonstrated(alloc, &options, n, work, answer),
     }
 }
 
 // The run of lawful words that name FILEs.
-fn with_files<F: Files, W: Work>(alloc: Global, options: &Options, files: &mut F, work: &W) -> Ended
-    requires { options.now.demo ≡ None }
+fn with_files<F: Files, W: Work, A>(
+    alloc: Global,
+    options: &Options,
+    files: &mut F,
+    answer: &A,
+) -> Ended
+where
+    A: Fn(Global, &Options, &[Vec<u8>]) -> Result<Output, GraphErr>,
+    requires files { options.now.demo ≡ None }
+    requires callable { A.IsAlwaysCallable answer.now }
+    requires answers { (a : _) (o : _) (c : _) (r : _) → A.post answer.now a o c r → IsAnswer (W.gives o.now (map (λ v. v.items) c.now)) r }
     ensures ends { (words : List (List ℕ)) → Lawful words options.now
         → EndsFor W.makes W.gives words (F.told files.old) (F.told files.new) (status_of result) (text_of result) }
     ensures reads { KeepsLastRead (status_of result) (F.told files.old) (F.told files.new) }
@@ -73,7 +101,7 @@ fn with_files<F: Files, W: Work>(alloc: Global, options: &Options, files: &mut F
         Err(Ungot::Failed(i)) => return not_got(alloc, options, i),
         Err(Ungot::NoMemory) => return Ended::OutOfMemory,
     };
-    let output = match work.work(alloc, options, &contents) {
+    let output = match answer(alloc, options, &contents) {
         Ok(output) => output,
         Err(GraphErr::Refused(refusal)) => return was_refused(alloc, options, &refusal),
         Err(GraphErr::NoMemory) => return Ended::OutOfMemory,
@@ -91,9 +119,13 @@ fn with_files<F: Files, W: Work>(alloc: Global, options: &Options, files: &mut F
 }
 
 // The run of lawful words that ask for a demonstration.
-fn demonstrated<W: Work>(alloc: Global, options: &Options, n: u32, work: &W) -> Ended
+fn demonstrated<W: Work, A>(alloc: Global, options: &Options, n: u32, work: &W, answer: &A) -> Ended
+where
+    A: Fn(Global, &Options, &[Vec<u8>]) -> Result<Output, GraphErr>,
     requires demo { options.now.demo ≡ Some n }
     requires fits { (2 ≤ n) × (n ≤ 10000) }
+    requires callable { A.IsAlwaysCallable answer.now }
+    requires answers { (a : _) (o : _) (c : _) (r : _) → A.post answer.now a o c r → IsAnswer (W.gives o.now (map (λ v. v.items) c.now)) r }
     ensures { (words : List (List ℕ)) → Lawful words options.now → (told : Told)
         → EndsFor W.makes W.gives words told told (status_of result) (text_of result) }
 {
@@ -103,7 +135,7 @@ fn demonstrated<W: Work>(alloc: Global, options: &Options, n: u32, work: &W) -> 
     let Ok(asked) = demo_options(alloc, options) else {
         return Ended::OutOfMemory;
     };
-    let output = match work.work(alloc, &asked, &contents) {
+    let output = match answer(alloc, &asked, &contents) {
         Ok(output) => output,
         Err(GraphErr::Refused(refusal)) => return was_refused(alloc, &asked, &refusal),
         Err(GraphErr::NoMemory) => return Ended::OutOfMemory,

@@ -1,0 +1,139 @@
+-- An entry that is in the lists has a number among all entries that no other one has, since files follow one another.
+use Rattle.std.proofs.Common.{◌≡◌, ℕ, zero, suc, ◌+◌, ◌<◌, ◌≤◌, List, [], ◌∷◌, length, Option, Some, None, slice_get, refl, sym, ap, subst}
+use Rattle.std.proofs.Common.{◌∙◌, arith}
+use Rattle.std.specs.Option.{option_map_or}
+use Rattle.dwz_unit.specs.Rows.{EntryRow, Source, rows_of, units_of}
+use Rattle.dwz_resolve.proofs.RowLemmas.{rows-length}
+use Rattle.dwz_graph.specs.declared.file.File.{File}
+use Rattle.dwz_index.specs.Index.{Index}
+use Rattle.dwz_across.proofs.FileEntries.{all_entries}
+use Rattle.dwz_across.proofs.FileWalk.{is_among}
+use Rattle.dwz_across.proofs.ListGets.{got_below}
+use Rattle.dwz_known.specs.Images.{starts_from}
+use Rattle.dwz_places.specs.declared.known.FileRows.{FileRows}
+use Rattle.dwz_places.specs.declared.known.Known.{Known}
+use Rattle.dwz_places.specs.declared.known.Row.{Row}
+use Rattle.dwz_places.specs.declared.known.TextAt.{TextAt}
+use Rattle.dwz_places.specs.Known.{number_of, row_at}
+use Rattle.dwz_facts.specs.Facts.{AreFacts, Facts}
+use Rattle.dwz_facts.specs.Listed.{AreListed, AreRows, IsListed, TextsAt}
+
+-- ---- files one behind the other
+
+start_low : (c : ℕ) (xs : List Index) (k a : ℕ) → slice_get (starts_from c xs) k ≡ Some a → c ≤ a
+unfolding starts_from
+start_low c [] k a e = absurd cc
+start_low c (y ∷ xs) zero a e = (let same : c ≡ a = cc in omega (arith, same))
+start_low c (y ∷ xs) (suc k) a e = (let low = start_low (c + length y.steps) xs k a e in omega (arith, low))
+
+files_apart : (c : ℕ) (xs : List Index) (k m : ℕ) (x y : Index) (a b i j : ℕ) → slice_get xs k ≡ Some x → slice_get xs m ≡ Some y
+    → slice_get (starts_from c xs) k ≡ Some a → slice_get (starts_from c xs) m ≡ Some b → i < length x.steps → j < length y.steps
+    → a + i ≡ b + j → (k ≡ m) × (i ≡ j)
+unfolding starts_from
+files_apart c [] k m x y a b i j p q e f lt less same = absurd cc
+files_apart c (z ∷ xs) zero zero x y a b i j p q e f lt less same =
+    (let u : c ≡ a = cc in let v : c ≡ b = cc in (refl, omega (arith, u, v, same)))
+files_apart c (z ∷ xs) zero (suc m) x y a b i j p q e f lt less same =
+    let u : c ≡ a = cc in
+    let is : z ≡ x = cc in
+    let long = ap (λ (w : Index). length w.steps) is in
+    let low = start_low (c + length z.steps) xs m b f in
+    absurd (omega (arith, u, long, low, lt, same))
+files_apart c (z ∷ xs) (suc k) zero x y a b i j p q e f lt less same =
+    let u : c ≡ b = cc in
+    let is : z ≡ y = cc in
+    let long = ap (λ (w : Index). length w.steps) is in
+    let low = start_low (c + length z.steps) xs k a e in
+    absurd (omega (arith, u, long, low, less, same))
+files_apart c (z ∷ xs) (suc k) (suc m) x y a b i j p q e f lt less same =
+    (let r = files_apart (c + length z.steps) xs k m x y a b i j p q e f lt less same in (ap suc r.0, r.1))
+
+-- ---- the file that a list of rows is of
+
+record FileAt (f : Facts) (files : List File) (indexes : List Index) (starts : List ℕ) (rows : FileRows) (n : ℕ) : Type 0 where
+  x : File
+  index : Index
+  start : ℕ
+  texts : List TextAt
+  file_is : slice_get files n ≡ Some x
+  index_is : slice_get indexes n ≡ Some index
+  start_is : slice_get starts n ≡ Some start
+  listed : IsListed f x index start texts rows
+
+file_at : (f : Facts) (files : List File) (indexes : List Index) (starts : List ℕ) (texts : List (List TextAt)) (rows : List FileRows)
+    → AreRows f files indexes starts texts rows
+    → (n : ℕ) (r : FileRows) → slice_get rows n ≡ Some r → FileAt f files indexes starts r n
+file_at f files indexes starts texts [] h n r e = absurd cc
+file_at f [] [] [] [] (s ∷ rows) h n r e = absurd h
+file_at f [] [] [] (t ∷ texts) (s ∷ rows) h n r e = absurd h
+file_at f [] [] (c ∷ starts) texts (s ∷ rows) h n r e = absurd h
+file_at f [] (y ∷ indexes) starts texts (s ∷ rows) h n r e = absurd h
+file_at f (x ∷ files) [] starts texts (s ∷ rows) h n r e = absurd h
+file_at f (x ∷ files) (y ∷ indexes) [] texts (s ∷ rows) h n r e = absurd h
+file_at f (x ∷ files) (y ∷ indexes) (c ∷ starts) [] (s ∷ rows) h n r e = absurd h
+file_at f (x ∷ files) (y ∷ indexes) (c ∷ starts) (t ∷ texts) (s ∷ rows) h zero r e =
+    let same : s ≡ r = cc in
+    record {
+      x = x;
+      index = y;
+      start = c;
+      texts = t;
+      file_is = refl;
+      index_is = refl;
+      start_is = refl;
+      listed = subst (λ (w : FileRows). IsListed f x y c t w) same h.0;
+    }
+file_at f (x ∷ files) (y ∷ indexes) (c ∷ starts) (t ∷ texts) (s ∷ rows) h (suc n) r e =
+    let o = file_at f files indexes starts texts rows h.1 n r e in
+    record {
+      x = o.x;
+      index = o.index;
+      start = o.start;
+      texts = o.texts;
+      file_is = o.file_is;
+      index_is = o.index_is;
+      start_is = o.start_is;
+      listed = o.listed;
+    }
+
+-- ---- entries
+
+-- the entry is one of a file with this index, whose first entry has that number
+pub record IsEntry (f : Facts) (k : Known) (r : Row) : Type 0 where
+  pub index : Index
+  pub start : ℕ
+  pub index_is : slice_get f.indexes r.file ≡ Some index
+  pub start_is : slice_get (starts_from 0 f.indexes) r.file ≡ Some start
+  pub within : r.entry < length index.steps
+  pub number : number_of k r ≡ start + r.entry
+
+-- what stands in the lists is such an entry
+pub entry_there : (f : Facts) (t : TextsAt) (k : Known) → AreFacts f → AreListed f t k → (r : Row) (x : EntryRow) → row_at k r ≡ Some x
+    → IsEntry f k r
+entry_there f t k facts listed r x e = by (slice_get k.files.items r.file) refl e where
+  by : (o : Option FileRows) → slice_get k.files.items r.file ≡ o
+      → slice_get (option_map_or (λ (w : FileRows). rows_of (units_of w.units.now)) o []) r.entry ≡ Some x → IsEntry f k r
+  by None at e = absurd cc
+  by (Some rows) at e =
+      let o = file_at f f.files f.indexes (starts_from 0 f.indexes) t.files k.files.items listed.rows r.file rows at in
+      let a = is_among f.contents f.files f.indexes r.file o.x o.index facts.kept facts.indexed o.file_is o.index_is in
+      let many = all_entries f.contents r.file a.bytes o.x o.index a.is in
+      let low = got_below (rows_of (units_of rows.units.now)) r.entry x e in
+      let long = rows-length (units_of o.x.units) in
+      let same = ap (λ (w : Source). length (rows_of (units_of w))) o.listed.units in
+      record {
+        index = o.index;
+        start = o.start;
+        index_is = o.index_is;
+        start_is = o.start_is;
+        within = omega (arith, many, low, long, same);
+        number = ap (λ (w : Option FileRows). option_map_or (λ (u : FileRows). u.start) w 0 + r.entry) at
+            ∙ ap (λ (w : ℕ). w + r.entry) o.listed.start_is;
+      }
+
+pub one_entry : (f : Facts) (k : Known) (a b : Row) → IsEntry f k a → IsEntry f k b → number_of k a ≡ number_of k b → a ≡ b
+one_entry f k a b p q same =
+    let sums : p.start + a.entry ≡ q.start + b.entry = sym p.number ∙ same ∙ q.number in
+    let o = files_apart 0 f.indexes a.file b.file p.index q.index p.start q.start a.entry b.entry p.index_is q.index_is p.start_is
+    q.start_is p.within q.within sums in
+    (λ i. let r : Row = record { file = o.0 i; entry = o.1 i } in r)

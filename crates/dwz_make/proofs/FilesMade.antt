@@ -1,0 +1,71 @@
+-- What is new in each file is new in the files of the run, with as many partial units as the plan has.
+use Rattle.std.proofs.Common.{◌≡◌, ℕ, suc, ◌+◌, Bool, List, [], ◌∷◌, ◌++◌, length, Option, refl, sym, ap, subst, ◌∙◌, inl}
+use Rattle.std.proofs.Common.{inr, arith}
+use Rattle.std.specs.List.{range_with_len}
+use Rattle.std.proofs.lemmas.List.{length-map}
+use Rattle.dwz_meanings.specs.Documents.{Doc}
+use Rattle.dwz_seen.specs.Lists.{Nth}
+use Rattle.dwz_alike.specs.Alike.{Apart, Scope}
+use Rattle.dwz_alike.specs.Deciding.{alike_test}
+use Rattle.dwz_alike.specs.Spots.{file_numbers, units_of}
+use Rattle.dwz_moving.specs.Gain.{gain_rule}
+use Rattle.dwz_moving.specs.Plan.{partials as unit_partials}
+use Rattle.dwz_back.specs.Back.{run_of}
+use Rattle.dwz_back.specs.Files.{Run, Stored}
+use Rattle.dwz_out.specs.Out.{stored_of}
+use Rattle.dwz_plan.specs.declared.plan.Scope.TheVariants.{Each as EachAlone}
+use Rattle.dwz_plan.specs.Shows.{shown_part}
+use Rattle.dwz_plan.proofs.BridgeLemmas.{file_numbers_are}
+use Rattle.dwz_planned.specs.Rules.{rule_by}
+use Rattle.dwz_graph.specs.Files.{docs_of}
+use Rattle.dwz_facts.specs.Facts.{AreFacts, Facts, docs, move, rule, run, units}
+use Rattle.dwz_make.specs.declared.prepared.PreparedFiles.{PreparedFiles}
+use Rattle.dwz_make.specs.Ready.{AreFactsOf}
+use Rattle.dwz_after.specs.declared.new_file.NewFile.{NewFile}
+use Rattle.dwz_after.specs.NewFiles.{AreNew, IsNewOrOld}
+use Rattle.dwz_make.specs.Works.{AreNewFiles}
+
+pub numbers_long : (s : ℕ) (ds : List (Doc ℕ)) → length (file_numbers s ds) ≡ length ds
+unfolding file_numbers
+numbers_long s [] = refl
+numbers_long s (d ∷ ds) = ap suc (numbers_long (suc s) ds)
+
+pub parts_many : (f : Facts) → AreFacts f → length f.planned.partials ≡ length (move f).parts
+parts_many f facts =
+    let all = unit_partials (rule f) (units f) (range_with_len 0 (length (docs f))) in
+    ap length (sym facts.shows.partials)
+    ∙ length-map all (shown_part (length (docs f)))
+    ∙ ap (λ (numbers : List ℕ). length (unit_partials (rule f) (units f) numbers)) (sym (file_numbers_are 0 (docs f)))
+
+-- the run of files by themselves
+abbrev run_with : List (List ℕ) → Scope → Stored → Run
+run_with contents scope input =
+    run_of (gain_rule (alike_test scope (units_of (docs_of contents))) (units_of (docs_of contents))) (docs_of contents) input
+
+pub are_new : (contents : List (List ℕ)) (prunes : List Bool) (p : PreparedFiles) (f : Facts) → AreFacts f → AreFactsOf contents prunes p f
+    → (made : List (Option NewFile)) (partials : ℕ) → AreNewFiles (run f) made → partials ≡ length f.planned.partials
+    → AreNew (run_of (rule_by EachAlone (docs_of contents)) (docs_of contents) (stored_of contents prunes)) made partials
+are_new contents prunes p f facts of made partials are parts =
+    let same : run f ≡ run_with contents Apart (stored_of contents prunes) =
+    (λ i. run_with (of.contents_are i) (of.scope_is i) (of.input_is i)) in
+    let many : length (docs f) ≡ length made = sym (are.many ∙ numbers_long 0 (docs f)) in
+    subst (λ (r : Run). AreNew r made partials) same (record {
+      files = file_numbers_are 0 (docs f) ∙ ap (range_with_len 0) many;
+      each = are.each;
+      parts = parts ∙ parts_many f facts;
+    })
+
+-- ---- one file after another
+
+abbrev pub EachIs : Run → ℕ → List (Option NewFile) → Type 0
+EachIs r start made = (file : ℕ) (new : Option NewFile) → Nth start made file new → IsNewOrOld r file new
+
+pub each_push : (r : Run) (start : ℕ) (made : List (Option NewFile)) (new : Option NewFile) (n : ℕ) → EachIs r start made
+    → start + length made ≡ n → IsNewOrOld r n new → EachIs r start (made ++ new ∷ [])
+each_push r start [] new n each at is file other (inl here) =
+    let same : n ≡ file = omega (arith, at, here.0) in
+    subst (λ (o : Option NewFile). IsNewOrOld r file o) here.1 (subst (λ (k : ℕ). IsNewOrOld r k new) same is)
+each_push r start [] new n each at is file other (inr later) = absurd later
+each_push r start (y ∷ made) new n each at is file other (inl here) = each file other (inl here)
+each_push r start (y ∷ made) new n each at is file other (inr later) =
+    each_push r (suc start) made new n (λ g o nth. each g o (inr nth)) (omega arith) is file other later

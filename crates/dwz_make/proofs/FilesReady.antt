@@ -1,0 +1,84 @@
+-- Files whose texts were taken out and moved are ready to be laid.
+use Rattle.std.proofs.Common.{◌≡◌, ℕ, suc, true, Bool, List, take, Option, Some, None, refl, sym, ap, subst}
+use Rattle.dwz_same.specs.Units.{changes}
+use Rattle.dwz_writing.specs.Pruned.{units_uses}
+use Rattle.dwz_back.specs.Files.{formed, sources}
+use Rattle.dwz_graph.specs.declared.file.File.{File}
+use Rattle.dwz_graph.specs.Files.{docs_of}
+use Rattle.dwz_places.specs.declared.known.Known.{Known}
+use Rattle.dwz_places.specs.declared.order.UnitItems.{UnitItems}
+use Rattle.dwz_pages.specs.Shown.{unit_count}
+use Rattle.dwz_facts.specs.Facts.{Facts, move, run, units}
+use Rattle.dwz_facts.specs.Listed.{TextsAt}
+use Rattle.dwz_facts.specs.Named.{keys}
+use Rattle.dwz_laid.specs.Laid.{written_out}
+use Rattle.dwz_uses.specs.declared.pruning.PrunedFile.{PrunedFile}
+use Rattle.dwz_uses.specs.PrunedFiles.{IsPrunedFile}
+use Rattle.dwz_uses.specs.Used.{order_uses}
+use Rattle.dwz_uses.proofs.NamedUses.{after_uses}
+use Rattle.dwz_make.specs.Moved.{AreMoved, ArePruned, IsPrunedIf, pruned_at}
+use Rattle.dwz_plan.specs.declared.plan.Scope.TheVariants.{Each as EachAlone}
+use Rattle.dwz_planned.specs.Fits.{FitsFiles}
+use Rattle.dwz_make.specs.Prepared.{AreRanks, CanLay, firsts_from}
+use Rattle.dwz_make.specs.declared.alone.AloneFiles.{AloneFiles}
+use Rattle.dwz_make.specs.declared.ordered.OrderedFiles.{OrderedFiles}
+use Rattle.dwz_make.specs.declared.prepared.PreparedFiles.{PreparedFiles}
+use Rattle.dwz_make.specs.Ready.{AreReady, IsPruned}
+use Rattle.dwz_make.proofs.FactsJoined.{AreJoined, can_lay, facts, joined, ranks, uses}
+use Rattle.dwz_make.proofs.RanksRead.{order_there, rank_there, shown_many}
+
+module _ (contents : List (List ℕ)) (files : List File) (prunes : List Bool) (a : AloneFiles) (o : OrderedFiles) (k : Known)
+    (j : AreJoined contents files prunes a o k) where
+  abbrev f : Facts
+  f = joined contents files prunes a o k j
+
+  abbrev orders : List (List UnitItems)
+  orders = o.orders.items
+
+  -- what is taken out by these uses is taken out by those of the units of the file after
+  by_units : (n : ℕ) (counted : List ℕ) (p : Option PrunedFile) → counted ≡ units_uses (formed (run f) n) → IsPrunedIf f n counted p
+      → IsPruned (run f) n p
+  by_units n counted None same is = is
+  by_units n counted (Some p) same is = (
+    is.0,
+    after_uses (run f) n p (subst (λ (us : List ℕ). IsPrunedFile (sources (run f) n).strs (sources (run f) n).offsets us p) same is.1),
+  )
+
+  module _ (pruned : List (Option PrunedFile)) (m : Known) (are : ArePruned f k orders pruned) (moved : AreMoved pruned k m) where
+    can : (after : TextsAt) × CanLay f after m orders
+    can = can_lay contents files prunes a o k j pruned m are moved
+
+    all_pruned : (n : ℕ) → changes (move f) (units f) n ≡ true → IsPruned (run f) n (pruned_at pruned n)
+    all_pruned n moves =
+        let r = rank_there f o.ranks.items (facts contents files prunes a o k j) (ranks contents files prunes a o k j) n moves in
+        let many = shown_many (keys f) m 0 orders (written_out f) can.1.order.shows in
+        let order = order_there f orders r.rank n many r.is in
+        let first = unit_count (take (suc r.rank) orders) in
+        let used = uses contents files prunes a o k j n r.rank first order.0 order.1 in
+        by_units n (order_uses k first order.0) (pruned_at pruned n) used.0 (are n r.rank first order.0 order.1)
+
+    pub is_ready : (p : PreparedFiles) → p.files.now ≡ files → p.alone ≡ a → p.ordered ≡ o → p.known ≡ m → p.pruned.items ≡ pruned
+        → AreReady contents prunes p
+    is_ready p of_files of_alone of_ordered of_known of_pruned = record {
+      facts = f;
+      theirs = record {
+        contents_are = refl;
+        input_is = refl;
+        scope_is = refl;
+        files_are = sym of_files;
+        indexes_are = ap (λ (x : AloneFiles). x.indexes.items) (sym of_alone);
+        plan_is = ap (λ (x : AloneFiles). x.settled.planned.plan) (sym of_alone);
+      };
+      ready = record {
+        texts = can.0;
+        can = subst (λ (x : Known). CanLay f can.0 x p.ordered.orders.items) (sym of_known)
+            (subst (λ (x : OrderedFiles). CanLay f can.0 m x.orders.items) (sym of_ordered) can.1);
+        fits = subst (λ (x : AloneFiles). FitsFiles EachAlone (docs_of contents) x.settled.planned.tops x.settled.planned.plan)
+            (sym of_alone)
+            j.alone.planned.fits;
+        ranks = subst (λ (x : OrderedFiles). AreRanks f x.ranks.items) (sym of_ordered) (ranks contents files prunes a o k j);
+        firsts = subst (λ (x : OrderedFiles). x.firsts.items ≡ firsts_from 0 x.orders.items) (sym of_ordered) j.ordered.firsts;
+        pruned = λ n moves. subst (λ (x : List (Option PrunedFile)). IsPruned (run f) n (pruned_at x n)) (sym of_pruned)
+            (all_pruned n moves);
+      };
+    }

@@ -1,0 +1,92 @@
+-- The lists are still those of the files once texts have moved: just the places of texts are others.
+use Rattle.std.proofs.Common.{◌≡◌, ℕ, suc, List, [], ◌∷◌, length, map, slice_get, Option, refl, sym, ap, subst, ◌∙◌, arith}
+use Rattle.std.proofs.lemmas.List.{length-map}
+use Rattle.dwz_graph.specs.declared.file.File.{File}
+use Rattle.dwz_index.specs.Index.{Index}
+use Rattle.dwz_known.specs.Images.{AreImages, starts_from}
+use Rattle.dwz_places.specs.declared.known.FileRows.{FileRows}
+use Rattle.dwz_places.specs.declared.known.Firsts.{Firsts}
+use Rattle.dwz_places.specs.declared.known.Known.{Known}
+use Rattle.dwz_places.specs.declared.known.Row.{Row}
+use Rattle.dwz_places.specs.declared.known.SpaceRow.{SpaceRow}
+use Rattle.dwz_places.specs.declared.known.TextAt.{TextAt}
+use Rattle.dwz_facts.specs.Facts.{Facts, docs, rule}
+use Rattle.dwz_facts.specs.Listed.{AreAllOwners, AreListed, AreRows, IsListed, TextsAt, space_entries, space_rows}
+use Rattle.dwz_uses.specs.declared.pruning.PrunedFile.{PrunedFile}
+use Rattle.dwz_make.specs.Moved.{AreMoved, RowMoved, RowsMoved, moved_space, pruned_at}
+
+-- where the texts are written that lists have
+abbrev row_texts : FileRows → List TextAt
+row_texts r = r.texts.items
+
+abbrev pub texts_in : Known → TextsAt
+texts_in k = record { files = map row_texts k.files.items; spaces = map (λ (s : SpaceRow). s.text) k.spaces.items }
+
+-- ---- files
+
+row_listed : (f : Facts) (x : File) (index : Index) (start : ℕ) (texts : List TextAt) (p : Option PrunedFile) (old new : FileRows)
+    → IsListed f x index start texts old → RowMoved p old new
+    → IsListed f x index start (row_texts new) new
+row_listed f x index start texts p old new h moved = record {
+  units = (λ i. (moved.units i).now) ∙ h.units;
+  start_is = moved.start ∙ h.start_is;
+  firsts = λ i b e. ap (λ (w : List Firsts). slice_get w i) (λ j. (moved.firsts j).items) ∙ h.firsts i b e;
+  references = λ names is. subst (λ (w : List ℕ). AreImages (docs f) (rule f) names x.resolved.refs.items w)
+      (λ j. (sym moved.references j).items) (h.references names is);
+  texts_are = refl;
+}
+
+rows_listed : (f : Facts) (pruned : List (Option PrunedFile)) (c : ℕ) (files : List File) (indexes : List Index) (starts : List ℕ)
+    (texts : List (List TextAt)) (rows moved : List FileRows)
+    → AreRows f files indexes starts texts rows → RowsMoved pruned c rows moved → AreRows f files indexes starts (map row_texts moved) moved
+rows_listed f pruned c [] [] [] [] [] [] h are = tt
+rows_listed f pruned c [] [] [] [] [] (m ∷ moved) h are = absurd are
+rows_listed f pruned c [] [] [] [] (r ∷ rows) moved h are = absurd h
+rows_listed f pruned c [] [] [] (t ∷ texts) rows moved h are = absurd h
+rows_listed f pruned c [] [] (s ∷ starts) texts rows moved h are = absurd h
+rows_listed f pruned c [] (y ∷ indexes) starts texts rows moved h are = absurd h
+rows_listed f pruned c (x ∷ files) [] starts texts rows moved h are = absurd h
+rows_listed f pruned c (x ∷ files) (y ∷ indexes) [] texts rows moved h are = absurd h
+rows_listed f pruned c (x ∷ files) (y ∷ indexes) (s ∷ starts) [] rows moved h are = absurd h
+rows_listed f pruned c (x ∷ files) (y ∷ indexes) (s ∷ starts) (t ∷ texts) [] moved h are = absurd h
+rows_listed f pruned c (x ∷ files) (y ∷ indexes) (s ∷ starts) (t ∷ texts) (r ∷ rows) [] h are = absurd are
+rows_listed f pruned c (x ∷ files) (y ∷ indexes) (s ∷ starts) (t ∷ texts) (r ∷ rows) (m ∷ moved) h are =
+    (row_listed f x y s t (pruned_at pruned c) r m h.0 are.0, rows_listed f pruned (suc c) files indexes starts texts rows moved h.1 are.1)
+
+-- ---- spaces
+
+spaces_listed : (pruned : List (Option PrunedFile)) (rows : List Row) (texts : List TextAt)
+    → map (moved_space pruned) (space_rows rows texts) ≡ space_rows rows
+    (map (λ (s : SpaceRow). s.text) (map (moved_space pruned) (space_rows rows texts)))
+spaces_listed pruned [] texts = refl
+spaces_listed pruned (r ∷ rows) [] = refl
+spaces_listed pruned (r ∷ rows) (t ∷ texts) =
+    ap (λ (w : List SpaceRow). moved_space pruned (record { row = r; text = t }) ∷ w) (spaces_listed pruned rows texts)
+
+spaces_many : (rows : List Row) (texts : List TextAt) → length texts ≡ length rows → length (space_rows rows texts) ≡ length rows
+spaces_many [] texts e = refl
+spaces_many (r ∷ rows) [] e = absurd (omega (arith, e))
+spaces_many (r ∷ rows) (t ∷ texts) e = ap suc (spaces_many rows texts (omega (arith, e)))
+
+-- ---- all
+
+pub lists_moved : (f : Facts) (t : TextsAt) (k : Known) → AreListed f t k → (pruned : List (Option PrunedFile)) (m : Known)
+    → AreMoved pruned k m → AreListed f (texts_in m) m
+lists_moved f t k listed pruned m h =
+    let entries = space_entries 0 f.indexes in
+    let text : SpaceRow → TextAt = λ s. s.text in
+    let spaces : m.spaces.items ≡ map (moved_space pruned) (space_rows entries t.spaces) =
+    h.spaces ∙ ap (map (moved_space pruned)) listed.spaces in
+    record {
+      rows = rows_listed f pruned 0 f.files f.indexes (starts_from 0 f.indexes) t.files k.files.items m.files.items listed.rows h.files;
+      owners = subst (AreAllOwners f f.files f.indexes) (λ i. (sym h.owners i).items) listed.owners;
+      tops = (λ i. (h.tops i).items) ∙ listed.tops;
+      spaces = spaces ∙ spaces_listed pruned entries t.spaces ∙ ap (λ (w : List SpaceRow). space_rows entries (map text w)) (sym spaces);
+      many_spaces =
+          length-map m.spaces.items text
+          ∙ ap (λ (w : List SpaceRow). length w) spaces
+          ∙ length-map (space_rows entries t.spaces) (moved_space pruned)
+          ∙ spaces_many entries t.spaces listed.many_spaces;
+      parts = (λ i. (h.parts i).items) ∙ listed.parts;
+      commons = h.commons ∙ listed.commons;
+    }

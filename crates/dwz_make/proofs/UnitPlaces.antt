@@ -1,0 +1,114 @@
+-- A unit's root stands for itself, so it has its place of the layout, and the unit begins before it.
+use Rattle.std.proofs.Common.{◌≡◌, ℕ, ◌+◌, ◌-◌, ◌<◌, List, Some, slice_get, refl, sym, ap, subst, ◌∙◌, arith}
+use Rattle.std.specs.Prelude.{slice_index}
+use Rattle.dwz_docs.specs.Units.{CompileUnit, PartialUnit, RawKind, RawUnit, TypeUnit, entries_in}
+use Rattle.dwz_docs.specs.Units.{header_size as raw_header_size}
+use Rattle.dwz_meanings.specs.Documents.{Compile, Kind, OfType, Partial, kind_map, unit_map}
+use Rattle.dwz_meanings.specs.Files.{around_of}
+use Rattle.dwz_meanings.specs.Meanings.{MeansKind, MeansUnit, Scope, scope_of}
+use Rattle.dwz_meanings.proofs.MeaningLemmas.{unit_agrees}
+use Rattle.dwz_alike.specs.Spots.{FileUnit, RootOf, Spot, UnitOf, in_file}
+use Rattle.dwz_seen.specs.Lists.{Nth}
+use Rattle.dwz_moving.specs.Plan.{image}
+use Rattle.dwz_writing.specs.Writing.{header_size}
+use Rattle.dwz_back.specs.Files.{name_after, places}
+use Rattle.dwz_unit.specs.Rows.{EntryRow, rows_of, units_of as raw_units}
+use Rattle.dwz_resolve.specs.Resolved.{place_at}
+use Rattle.dwz_resolve.specs.Resolved.{places as entry_places_of}
+use Rattle.dwz_resolve.proofs.RowLemmas.{rows-length}
+use Rattle.dwz_graph.specs.declared.file.File.{File}
+use Rattle.dwz_index.specs.Index.{Index}
+use Rattle.dwz_index.specs.declared.index.Starts.{Starts}
+use Rattle.dwz_across.specs.Across.{file_units, name_at}
+use Rattle.dwz_across.proofs.FileEntries.{unit_of}
+use Rattle.dwz_across.proofs.ListGets.{get_there, got_below, got_index, got_map, same_got}
+use Rattle.dwz_known.specs.Images.{starts_from}
+use Rattle.dwz_known.specs.Names.{all_names}
+use Rattle.dwz_places.specs.declared.known.Known.{Known}
+use Rattle.dwz_places.specs.Laid.{made_of}
+use Rattle.dwz_facts.specs.Facts.{AreFacts, Facts, docs, rule, run, units}
+use Rattle.dwz_named.proofs.FileEntries.{IsHere, here, named, named_all}
+use Rattle.dwz_named.proofs.ImagesStand.{old}
+use Rattle.dwz_laid.proofs.EntriesPlaced.{run_roots}
+use Rattle.dwz_make.specs.Spots.{UnitPlacesLaw}
+use Rattle.dwz_make.proofs.EntryPlaces.{entry_places}
+use Rattle.dwz_make.proofs.RootRows.{HasRoot, has_root}
+
+-- ---- headers
+
+meant_size : (s : Scope ℕ) (k : RawKind) (kind : Kind ℕ) → MeansKind s k kind → header_size kind ≡ raw_header_size k
+meant_size s CompileUnit kind is = ap header_size is
+meant_size s PartialUnit kind is = ap header_size is
+meant_size s (TypeUnit signature type_offset) kind is = ap header_size is.1
+
+mapped_size : (g : ℕ → Spot) (kind : Kind ℕ) → header_size (kind_map g kind) ≡ header_size kind
+mapped_size g Compile = refl
+mapped_size g (OfType signature main) = refl
+mapped_size g Partial = refl
+
+-- ---- roots
+
+module _ (f : Facts) (k : Known) (facts : AreFacts f) (n : ℕ) (x : File) (index : Index) (o : IsHere f k n x index) where
+  abbrev raw : List RawUnit
+  raw = raw_units x.units
+
+  -- the unit with a number: what it means, and the row of its root
+  record IsUnit (j : ℕ) (u : RawUnit) : Type 0 where
+    pub unit : FileUnit Spot
+    pub nth : Nth 0 (units f) (index.starts.unit + j) unit
+    pub size : header_size unit.unit.kind ≡ raw_header_size u.kind
+    pub root : HasRoot raw 0 0 j u
+    pub low : root.entry < entries_in raw
+    pub name : named f k n x index o root.entry ≡ RootOf (index.starts.unit + j)
+
+  its_unit : (j : ℕ) (u : RawUnit) → slice_get raw j ≡ Some u → IsUnit j u
+  its_unit j u is =
+      let doc = o.among.kept.read.doc in
+      let name = name_at index.starts doc in
+      let w = unit_of f.contents n o.bytes x index o.among j u is in
+      let unit = in_file n (unit_map name w.v) in
+      let found : slice_get (file_units o.found.starts n o.found.doc) j ≡ Some unit =
+      (λ i. slice_get (file_units (o.starts_same i) n (o.doc_same i)) j) ∙ w.named_is in
+      let nth : Nth 0 (units f) (index.starts.unit + j) unit =
+      subst (λ (s : Starts). Nth 0 (units f) (s.unit + j) unit) o.starts_same (o.found.units j unit found) in
+      let means : MeansUnit (around_of o.bytes raw) u w.v = ((unit_agrees (around_of o.bytes raw) u).ok w.v).0 w.means in
+      let root = has_root raw 0 0 j u is in
+      let low = got_below (rows_of raw) root.entry root.row root.found in
+      let many = rows-length raw in
+      let at : place_at raw root.entry ≡ w.v.root.at =
+      got_index (entry_places_of raw) root.entry root.row.entry.at 0
+      (got_map (λ (r : EntryRow). r.entry.at) (rows_of raw) root.entry root.row root.found)
+      ∙ ap (λ (e : _). e.at) root.root ∙ sym means.root.place in
+      record {
+        unit = unit;
+        nth = nth;
+        size = mapped_size name w.v.kind ∙ meant_size (scope_of (around_of o.bytes raw) u) u.kind w.v.kind means.kind;
+        root = root;
+        low = omega (arith, low, many);
+        name = ap name at ∙ ((old f facts).units_named (index.starts.unit + j) unit nth).root;
+      }
+
+pub unit_begins : UnitPlacesLaw
+unit_begins f t k orders lay n bytes x index h changed start start_is j lt =
+    let raw = raw_units x.units in
+    let at = (made_of k orders).places in
+    let o = here f t k lay.facts lay.listed n x index h.file h.index_is in
+    let got = get_there raw j lt in
+    let u = got.0 in
+    let w = its_unit f k lay.facts n x index o j u got.1 in
+    let e = w.root.entry in
+    let number = index.starts.unit + j in
+    let begins : o.start ≡ start = same_got (starts_from 0 f.indexes) n o.start start o.start_is start_is in
+    let name : name_after (run f) n (place_at raw e) ≡ RootOf number =
+    ap (image (rule f) (units f)) (o.among.names (place_at raw e) ∙ w.name) in
+    let there : slice_get (all_names (docs f)) (start + e) ≡ Some (name_after (run f) n (place_at raw e)) =
+    ap (λ (m : ℕ). slice_get (all_names (docs f)) (m + e)) (sym begins)
+    ∙ named_all f k n x index o e w.low
+    ∙ ap (λ (s : Spot). Some s) (w.name ∙ sym name) in
+    let place : slice_index at (start + e) ≡ (places (run f)).place (RootOf number) =
+    entry_places f t k orders lay n bytes x index h changed e (start + e) w.low there ∙ ap (places (run f)).place name in
+    let behind = run_roots f lay.facts number w.unit w.nth in
+    let size = w.size in
+    let counted : slice_index at (start + e) - raw_header_size u.kind ≡ (places (run f)).place (UnitOf number) =
+    omega (arith, place, behind, size) in
+    w.root.place start at ∙ counted

@@ -1,0 +1,30 @@
+use Rattle.dwz_make.proofs.WorksMade.{entries_few, tops_inside, work_made}
+use Rattle.dwz_make.proofs.made.lay_files.Goals as goal
+
+pub starts-requires : goal.starts-requires
+starts-requires c = entries_few c.requires.0 c.args.prepared.now c.requires.1 c.as_slice-indexes.result.now c.as_slice-indexes.ensures.value
+
+pub tops-requires-clause-few : goal.tops-requires-clause-few
+tops-requires-clause-few c = entries_few c.requires.0 c.args.prepared.now c.requires.1 c.as_slice-indexes.result.now
+    c.as_slice-indexes.ensures.value
+
+pub tops-requires-clause-inside : goal.tops-requires-clause-inside
+tops-requires-clause-inside c =
+    tops_inside c.requires.0 c.args.prepared.now c.requires.1 c.as_slice-indexes.result.now c.as_slice-indexes.ensures.value
+
+pub new_files-requires : goal.new_files-requires
+new_files-requires c = (
+  c.requires.0,
+  work_made c.requires.0 _ c.requires.1 c.as_slice-indexes.result.now c.deref.result.now c.in_ok-starts.starts.items c.in_ok-tops.tops.items
+      c.as_slice-indexes.ensures.value c.deref.ensures.value c.in_ok-layout.ensures c.as_slice.ensures.value c.in_ok-starts.ensures
+      c.as_slice-2.ensures.value
+      c.in_ok-tops.ensures,
+)
+
+pub returns : goal.returns
+returns c f works =
+    c.new_files.ensures f
+    (work_made f _ works c.as_slice-indexes.result.now c.deref.result.now c.in_ok-starts.starts.items c.in_ok-tops.tops.items
+    c.as_slice-indexes.ensures.value c.deref.ensures.value c.in_ok-layout.ensures c.as_slice.ensures.value c.in_ok-starts.ensures
+    c.as_slice-2.ensures.value
+    c.in_ok-tops.ensures)

@@ -1,0 +1,30 @@
+use Rattle.std.proofs.Common.{ℕ, suc, ◌<◌, List, [], ◌∷◌, Vec, Global, length, get_or, map, zero, refl, sym, subst, below_more, arith}
+use Rattle.std.proofs.lemmas.List.{length-map}
+use Rattle.std.proofs.lemmas.Option.{get_or_from_slice_get}
+use Rattle.dwz_docs.specs.Values.{AreBytes}
+use Rattle.dwz_seen.specs.Lists.{Each}
+use Rattle.dwz_make.proofs.AloneSettled.{content_at}
+use Rattle.dwz_make.proofs.prepared.look_at_all.Goals as goal
+
+items_of : Vec ℕ Global → List ℕ
+items_of c = c.items
+
+each_below : (xs : List (List ℕ)) → ((k : ℕ) → k < length xs → AreBytes (get_or xs k [])) → Each AreBytes xs
+each_below [] are = tt
+each_below (x ∷ xs) are = (are zero (omega arith), each_below xs (λ k less. are (suc k) (omega arith)))
+
+pub loop-content-preserved : goal.loop-content-preserved
+loop-content-preserved c =
+    let rows : List (List ℕ) = map (λ (v : Vec ℕ Global). v.items) c.args.contents.now in
+    let i = c.loop-content.content-index in
+    let at = content_at (λ (v : Vec ℕ Global). v.items) rows c.args.contents.now i c.content-item.result c.as_slice.result.now refl
+    c.loop-content-test.true c.content-item.is c.as_slice.ensures.value in
+    let here = subst AreBytes (sym (get_or_from_slice_get rows i c.as_slice.result.now [] at)) c.look_at.ensures in
+    let Are : ℕ → Type 0 = λ k. AreBytes (get_or rows k []) in
+    below_more Are i c.loop-content.invariant here
+
+pub returns : goal.returns
+returns c =
+    let rows : List (List ℕ) = map (λ (v : Vec ℕ Global). v.items) c.args.contents.now in
+    each_below rows (λ k less. (let len = length-map c.args.contents.now (λ (v : Vec ℕ Global). v.items) in
+    c.loop-content.invariant k (omega (arith, len, less, c.loop-content-test.false))))

@@ -1,0 +1,12 @@
+pub mod Prepared
+pub mod Moved
+pub mod Stored
+pub mod Numbered
+pub mod NumberLaws
+pub mod Stood
+pub mod MovedLaws
+pub mod Pruned
+pub mod Spots
+pub mod Alone
+pub mod Ready
+pub mod Works

@@ -1,0 +1,82 @@
+-- Laws on planned files and the numbers of their units.
+use Rattle.std.specs.Prelude.{◌≡◌, ℕ, ◌+◌, ◌<◌, ◌^◌, Bool, List, [], length}
+use Rattle.dwz_alike.specs.Spots.{units_of}
+use Rattle.dwz_same.specs.Units.{common_units}
+use Rattle.dwz_groups.specs.declared.tops.Tops.{Tops}
+use Rattle.dwz_graph.specs.declared.file.File.{File}
+use Rattle.dwz_graph.specs.Files.{AreKept, docs_of}
+use Rattle.dwz_index.specs.Index.{Index}
+use Rattle.dwz_indexes.specs.Indexed.{AreIndexes}
+use Rattle.dwz_plan.specs.declared.plan.Scope.{Scope as Sharing}
+use Rattle.dwz_plan.specs.declared.plan.Scope.TheVariants.{Each as EachAlone}
+use Rattle.dwz_plan.specs.Planned.{Planned}
+use Rattle.dwz_planned.specs.declared.planned.PlannedFiles.{PlannedFiles}
+use Rattle.dwz_planned.specs.Fits.{FitsFiles}
+use Rattle.dwz_known.specs.declared.numbers.UnitNumbers.{UnitNumbers}
+use Rattle.dwz_known.specs.Images.{entry_count}
+use Rattle.dwz_facts.specs.Facts.{AreFacts, Facts, move, written}
+use Rattle.dwz_ordered.specs.declared.orders.Settled.{Settled as Lent}
+use Rattle.dwz_settled.specs.Settled.{IsSettled}
+use Rattle.dwz_ready.specs.declared.settled.SettledFiles.{SettledFiles}
+use Rattle.dwz_ready.specs.Settled.{AreFactsOf, ArePlanned, AreStored, Lends}
+use Rattle.dwz_make.specs.Numbered.{AreNumbersOf}
+
+-- ---- there are few
+
+-- the units of files that are kept, and the partial units of a plan that fits them, have numbers of 32 bits
+abbrev pub RoomLaw : Type 0
+RoomLaw =
+    (contents : List (List ℕ)) (files : List File) (sharing : Sharing) (tops : Tops) (plan : Planned) → AreKept contents files
+    → FitsFiles sharing (docs_of contents) tops plan → length plan.partials + length (units_of (docs_of contents)) < 2 ^ 32
+
+-- so have their entries
+abbrev pub EntriesLaw : Type 0
+EntriesLaw =
+    (contents : List (List ℕ)) (files : List File) (indexes : List Index) → AreKept contents files → AreIndexes (docs_of contents) indexes
+    → entry_count indexes < 2 ^ 32
+
+-- ---- flags
+
+-- Of planned files there is a flag for each. The flags are those of the facts of these files: they say which files are written.
+pub record HasFlags (contents : List (List ℕ)) (indexes : List Index) (sharing : Sharing) (p : PlannedFiles) (r : SettledFiles)
+    : Type 0 where
+  pub many : length r.written.items ≡ length contents
+  pub are : (f : Facts) → AreFactsOf contents indexes sharing p f → r.written.items ≡ written f
+
+-- what is settled of planned files, and lent, has them
+abbrev pub FlagsLaw : Type 0
+FlagsLaw =
+    (contents : List (List ℕ)) (files : List File) (indexes : List Index) (sharing : Sharing) (p : PlannedFiles) (r : SettledFiles)
+    (s : Lent)
+    → AreKept contents files → Lends r s → ((f : Facts) (t : Lent) → AreFactsOf contents indexes sharing p f → Lends r t → IsSettled f t)
+    → HasFlags contents indexes sharing p r
+
+-- ---- facts
+
+-- the facts have these numbers of units
+pub record HasNumbers (f : Facts) (n : UnitNumbers) : Type 0 where
+  pub commons : f.commons ≡ n.commons
+  pub parts : f.parts ≡ n.parts.items
+  pub olds : f.olds ≡ n.olds.items
+
+-- facts of stored files and their plan are facts, with the numbers of their units by the flags of the files that are written
+abbrev pub PlannedFactsLaw : Type 0
+PlannedFactsLaw =
+    (contents : List (List ℕ)) (indexes : List Index) (sharing : Sharing) (p : PlannedFiles) (f : Facts)
+    → ArePlanned sharing (docs_of contents) p → AreFactsOf contents indexes sharing p f → AreStored f
+    → (flags : List Bool) (n : UnitNumbers) → flags ≡ written f → AreNumbersOf (docs_of contents) p.plan flags n → HasNumbers f n
+    → AreFacts f
+
+-- so are those of what is settled, with the numbers by its plan and its flags
+abbrev pub SettledFactsLaw : Type 0
+SettledFactsLaw =
+    (contents : List (List ℕ)) (indexes : List Index) (sharing : Sharing) (p : PlannedFiles) (r : SettledFiles) (f : Facts)
+    → ArePlanned sharing (docs_of contents) p → r.planned ≡ p → HasFlags contents indexes sharing p r
+    → AreFactsOf contents indexes sharing p f → AreStored f
+    → (n : UnitNumbers) → AreNumbersOf (docs_of contents) r.planned.plan r.written.items n → HasNumbers f n → AreFacts f
+
+-- where each file is by itself, nothing is in the common file
+abbrev pub ApartLaw : Type 0
+ApartLaw =
+    (contents : List (List ℕ)) (indexes : List Index) (p : PlannedFiles) (f : Facts) → AreFactsOf contents indexes EachAlone p f
+    → common_units (move f) ≡ []

@@ -1,0 +1,44 @@
+//! What is new in files, each by itself, from files that were read to their new sections.
+//!
+//! First all is prepared: which tops move (DWARF 5, 3.1.1 and appendix E), the numbers of all units that are written, their order, and the
+//! lists that a layout looks into, with the places of the texts that stay. Then each file of which something moves is laid, and the
+//! numbers in its other sections are changed in place (6.1.2, 7.7.3 and 7.26).
+#![tactic(auto)]
+
+mod alone;
+mod bytes;
+mod counts;
+#[cfg(test)]
+mod counts_tests;
+mod laws;
+mod listed;
+mod made;
+mod moved;
+mod moving;
+mod narrow;
+mod numbers;
+mod ordered;
+mod places;
+#[cfg(test)]
+mod places_tests;
+mod prepared;
+mod pruned;
+mod ranks;
+#[cfg(test)]
+mod ranks_tests;
+mod sections;
+mod units;
+mod work;
+
+pub(crate) use alone::AloneFiles;
+pub(crate) use counts::number_units;
+pub use laws::{
+    facts_laws, moved_laws, refused_laws, room_laws, spot_laws, stood_laws, stored_laws,
+};
+pub use made::{Made, make_files};
+pub(crate) use moving::with_moved_texts;
+pub(crate) use ordered::OrderedFiles;
+pub(crate) use places::unit_places;
+pub(crate) use prepared::{PreparedFiles, prepare_files};
+pub(crate) use pruned::{Written, prune_files};
+pub(crate) use ranks::{firsts_of, ranks_of};

@@ -1,0 +1,106 @@
+//! What is new in all files.
+
+ghost use Rattle.std.specs.Prelude.{◌≡◌, ◌<◌, ◌≤◌, ◌^◌, None, length, map, slice_index_or, IfOk};
+ghost use Rattle.dwz_after.specs.NewFiles.{AreNew};
+ghost use Rattle.dwz_back.specs.Back.{run_of};
+ghost use Rattle.dwz_facts.specs.Facts.{Facts, run};
+ghost use Rattle.dwz_graph.specs.Files.{docs_of};
+ghost use Rattle.dwz_out.specs.Out.{ArePrunable, stored_of};
+ghost use Rattle.dwz_plan.specs.declared.plan.Scope.TheVariants.{Each as EachAlone};
+ghost use Rattle.dwz_planned.specs.Rules.{rule_by};
+ghost use Rattle.dwz_make.specs.Ready.{AreReady};
+ghost use Rattle.dwz_make.specs.Works.{AreNewFiles, IsWork, WorksOf};
+
+use crate::sections::new_or_old;
+use crate::work::Work;
+use crate::{PreparedFiles, prepare_files};
+use dwz_after::NewFile;
+use dwz_gate::Gate;
+use dwz_graph::Graph;
+use dwz_known::{starts, tops};
+use dwz_model::NoMemory;
+use dwz_places::Layout;
+use std::alloc::Global;
+use std::thread::Threads;
+
+/// What is new in files.
+#[derive(Debug, Drop)]
+pub struct Made {
+    /// For each file what is new in it, or None where nothing of it moves.
+    pub files: Vec<Option<NewFile>>,
+    /// How many partial units they have together.
+    pub partials: u32,
+}
+
+// The rank of the file with a number, if it is written.
+#[inline(always)]
+fn rank_at(ranks: &[Option<u32>], number: usize) -> Option<u32>
+    ensures { result ≡ slice_index_or ranks.now number None }
+{
+    match ranks.get(number) {
+        Some(rank) => *rank,
+        None => None,
+    }
+}
+
+// What is new in each file.
+fn new_files(alloc: Global, work: &Work) -> Result<Vec<Option<NewFile>>, NoMemory>
+    requires { (f : Facts) × IsWork f work.now }
+    ensures { (f : Facts) → IsWork f work.now → IfOk result (λ made. AreNewFiles (run f) made.items) }
+{
+    let ranks = work.prepared.ordered.ranks.as_slice();
+    let count = ranks.len();
+    let mut made = Vec::with_capacity(alloc, count)?;
+    for number in 0..count {
+        let rank = rank_at(ranks, number);
+        let new = new_or_old(alloc, work, number, rank)?;
+        made.push(new)?;
+    }
+    Ok(made)
+}
+
+// Lays prepared files, and makes what is new in each.
+fn lay_files(alloc: Global, prepared: &PreparedFiles) -> Result<Vec<Option<NewFile>>, NoMemory>
+    requires { (f : Facts) × WorksOf f prepared.now }
+    ensures { (f : Facts) → WorksOf f prepared.now → IfOk result (λ made. AreNewFiles (run f) made.items) }
+{
+    let indexes = prepared.alone.indexes.as_slice();
+    let layout = Layout::make(alloc, &prepared.known, &prepared.ordered.orders)?;
+    let starts = starts(alloc, indexes)?;
+    let tops = tops(alloc, indexes)?;
+    let work = Work {
+        prepared,
+        layout: &layout,
+        starts: starts.as_slice(),
+        tops: tops.as_slice(),
+    };
+    new_files(alloc, &work)
+}
+
+/// What is new in files, each by itself: tops that stand in several of its units move into partial units of the file (DWARF 5, 3.1.2
+/// and E.1), where that makes it smaller; all else stays, and what names an entry names it where it stands after. In a file whose texts
+/// nothing else speaks of just those stay that are used. `contents` is what the files were read from, and `prunes` says of each file
+/// whether it is so. It is the same for every number of workers and every gate.
+///
+/// The only error is that memory ran out, or more numbers were needed than 32 bits have.
+pub fn make_files<R: Threads + Sync, G: Gate>(
+    rt: &R,
+    alloc: Global,
+    contents: &[Vec<u8>],
+    graph: &Graph,
+    prunes: &[bool],
+    workers: u32,
+    gate: &G,
+) -> Result<Made, NoMemory>
+    requires read { graph.now ≡ map (λ v. v.items) contents.now }
+    requires few { length graph.now < 2 ^ 32 }
+    requires prunes { ArePrunable graph.now (docs_of graph.now) prunes.now }
+    requires workers { (0 < workers) × (workers ≤ 64) }
+    ensures { IfOk result (λ m. let docs = docs_of graph.now in
+        AreNew (run_of (rule_by EachAlone docs) docs (stored_of graph.now prunes.now)) m.files.items m.partials) }
+{
+    let prepared = prepare_files(rt, alloc, contents, graph, prunes, workers, gate)?;
+    let files = lay_files(alloc, &prepared)?;
+    let partials = prepared.alone.settled.planned.plan.partials().len() as u32;
+    Ok(Made { files, partials })
+}

@@ -1,0 +1,84 @@
+//! Files that are ready to be laid.
+
+ghost use Rattle.std.specs.Prelude.{◌≡◌, ◌<◌, ◌≤◌, ◌^◌, length, map, IfOk};
+ghost use Rattle.dwz_docs.specs.Values.{AreBytes};
+ghost use Rattle.dwz_seen.specs.Lists.{Each};
+ghost use Rattle.dwz_graph.specs.Files.{AreKept, docs_of};
+ghost use Rattle.dwz_out.specs.Out.{ArePrunable};
+ghost use Rattle.dwz_make.specs.Ready.{AreReady};
+
+use crate::alone::{AloneFiles, settle_alone};
+use crate::listed::list_alone;
+use crate::ordered::{OrderedFiles, order_alone};
+use crate::{prune_files, with_moved_texts};
+use dwz_gate::Gate;
+use dwz_graph::{File, Graph};
+use dwz_model::NoMemory;
+use dwz_places::Known;
+use dwz_uses::PrunedFile;
+use std::alloc::Global;
+use std::thread::Threads;
+
+/// Files that are ready to be laid.
+#[derive(Drop)]
+pub struct PreparedFiles<'u, 'a> {
+    /// The files as they were read.
+    pub files: &'u [File<'a>],
+    /// What is settled of them.
+    pub alone: AloneFiles,
+    /// What is written of them, in order.
+    pub ordered: OrderedFiles,
+    /// The lists that a layout looks into: each text is where it stands after.
+    pub known: Known<'u, 'a>,
+    /// For each file that is written and prunable what stays of its texts, and none for the others, whose texts all stay.
+    pub pruned: Vec<Option<PrunedFile>>,
+}
+
+// What is in a slice of bytes is known where it is passed.
+fn look_at(_bytes: &[u8])
+    ensures { AreBytes _bytes.now }
+{}
+
+// Looks at all contents. So they are known to be bytes.
+fn look_at_all(contents: &[Vec<u8>])
+    ensures { Each AreBytes (map (λ c. c.items) contents.now) }
+{
+    for content in contents {
+        look_at(content.as_slice());
+    }
+}
+
+/// Prepares files, each by itself: plans which of their tops move into partial units (DWARF 5, 3.1.2 and E.1), puts in order what is
+/// written of them, and takes out of `.debug_str` of each prunable file what isn't used any longer. `contents` is what the files were
+/// read from, and `prunes` has for each file whether it is prunable. It is the same for every number of workers and every gate. The only
+/// error is that memory ran out.
+pub fn prepare_files<'u, 'a, R: Threads + Sync, G: Gate>(
+    rt: &R,
+    alloc: Global,
+    contents: &[Vec<u8>],
+    graph: &'u Graph<'a>,
+    prunes: &[bool],
+    workers: u32,
+    gate: &G,
+) -> Result<PreparedFiles<'u, 'a>, NoMemory>
+    requires read { graph.now ≡ map (λ v. v.items) contents.now }
+    requires few { length graph.now < 2 ^ 32 }
+    requires prunes { ArePrunable graph.now (docs_of graph.now) prunes.now }
+    requires workers { (0 < workers) × (workers ≤ 64) }
+    ensures { IfOk result (AreReady graph.now prunes.now) }
+{
+    look_at_all(contents);
+    let files = graph.files();
+    let alone = settle_alone(rt, alloc, graph, workers, gate)?;
+    let ordered = order_alone(alloc, graph, &alone)?;
+    let known = list_alone(alloc, graph, files, &alone)?;
+    let pruned = prune_files(alloc, graph, &known, &ordered.written(), prunes)?;
+    let known = with_moved_texts(alloc, known, &pruned)?;
+    Ok(PreparedFiles {
+        files,
+        alone,
+        ordered,
+        known,
+        pruned,
+    })
+}

@@ -1,0 +1,42 @@
+//! `.debug_info` and `.debug_abbrev` of a file, and where its units begin after.
+
+ghost use Rattle.std.specs.Prelude.{◌≡◌, ℕ, length, IfOk};
+ghost use Rattle.dwz_back.specs.Files.{sections_of};
+ghost use Rattle.dwz_facts.specs.Facts.{Facts, run};
+ghost use Rattle.dwz_unit.specs.Rows.{units_of as raw_units};
+ghost use Rattle.dwz_make.specs.Works.{HaveUnitPlaces, IsMoved};
+
+use crate::moved::Moved;
+use crate::unit_places;
+use crate::work::Work;
+use dwz_model::{Blob, NoMemory};
+use dwz_pages::info_of;
+use std::alloc::Global;
+
+/// `.debug_info` of a file (DWARF 5, 7.5.1).
+pub(crate) fn info_section(alloc: Global, work: &Work, moved: &Moved) -> Result<Blob, NoMemory>
+    ensures { (f : Facts) → IsMoved f work.now moved.now → IfOk result (λ info. info ≡ (sections_of (run f) moved.now.number).info) }
+{
+    let known = &work.prepared.known;
+    let spots = work.layout.spots();
+    let info = info_of(alloc, known, spots, moved.first, moved.units, moved.laid)?;
+    Ok(Blob::new(info))
+}
+
+/// `.debug_abbrev` of a file (7.5.3).
+pub(crate) fn abbrev_section(alloc: Global, work: &Work, moved: &Moved) -> Result<Blob, NoMemory>
+    ensures { (f : Facts) → IsMoved f work.now moved.now
+        → IfOk result (λ abbrevs. abbrevs ≡ (sections_of (run f) moved.now.number).abbrevs) }
+{
+    let abbrevs = moved.laid.tables.section().to_vec(alloc)?;
+    Ok(Blob::new(abbrevs))
+}
+
+/// For each unit of a file where it begins after, in bytes from the first of `.debug_info`.
+pub(crate) fn units_at(alloc: Global, work: &Work, moved: &Moved) -> Result<Vec<u64>, NoMemory>
+    ensures many { IfOk result (λ v. length v.items ≡ length (raw_units moved.now.file.now.units)) }
+    ensures places { (f : Facts) → IsMoved f work.now moved.now → IfOk result (λ v. HaveUnitPlaces f moved.now v.items) }
+{
+    let places = work.layout.spots().places.as_slice();
+    unit_places(alloc, &moved.file.units, moved.start, places)
+}

@@ -1,3 +1,0 @@
-pub mod Encoded
-pub mod Calls
-pub mod Steps

@@ -1,6 +1,0 @@
-use Rattle.std.proofs.Common.{take}
-use Rattle.dwz_plain.proofs.ListingLemmas.{Numbers, seen}
-use Rattle.dwz_plain.proofs.parts.numbered.Given as goal
-
-abbrev pub invariant-loop-mover : goal.invariant-loop-mover
-invariant-loop-mover l = Numbers l.users (take l.mover-index l.movers) (seen l.lists.keys) l.firsts.items l.pairs.items

@@ -1,6 +1,0 @@
-use Rattle.std.proofs.Common.{◌≡◌, take}
-use Rattle.dwz_plain.specs.Steps.{ranked}
-use Rattle.dwz_plain.proofs.parts.ranked.Given as goal
-
-abbrev pub invariant-loop-top : goal.invariant-loop-top
-invariant-loop-top l = l.pairs.items ≡ ranked l.files_of_units 0 (take l.top l.users)

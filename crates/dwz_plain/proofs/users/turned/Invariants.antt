@@ -1,6 +1,0 @@
-use Rattle.std.proofs.Common.{◌≡◌, take}
-use Rattle.dwz_plain.specs.Steps.{turned}
-use Rattle.dwz_plain.proofs.users.turned.Given as goal
-
-abbrev pub invariant-loop-number : goal.invariant-loop-number
-invariant-loop-number l = l.pairs.items ≡ turned 0 (take l.number l.lists)

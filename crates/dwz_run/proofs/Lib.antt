@@ -1,9 +1,0 @@
-pub mod Orders
-pub mod Outs
-pub mod Making
-pub mod PlainFiles
-pub mod FileSteps
-pub mod Answering
-pub mod Endings
-pub mod Completeness
-pub mod ReadingBack

@@ -1,4 +1,0 @@
-pub mod Words
-pub mod Profile
-pub mod Files
-pub mod Ends

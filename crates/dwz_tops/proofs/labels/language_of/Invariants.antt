@@ -1,7 +1,0 @@
-use Rattle.std.proofs.Common.{◌≡◌, Some, slice_get}
-use Rattle.dwz_unit.specs.Rows.{EntryRow, rows_of, units_of}
-use Rattle.dwz_tops.proofs.RootLemmas.{SameFirst}
-use Rattle.dwz_tops.proofs.labels.language_of.Given as goal
-
-abbrev pub invariant-loop-k : goal.invariant-loop-k
-invariant-loop-k l = (row : EntryRow) → slice_get (rows_of (units_of l.units)) l.root ≡ Some row → SameFirst 0x13 row.entry.attrs l.k

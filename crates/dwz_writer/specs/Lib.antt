@@ -1,4 +1,0 @@
-pub mod Attributes
-pub mod Written
-pub mod Events
-pub mod Stored

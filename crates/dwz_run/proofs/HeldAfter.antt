@@ -1,0 +1,146 @@
+-- When all puts are done each FILE, or the one output, holds what it has after: FILEs differ, and held their bytes before.
+use Rattle.std.proofs.Common.{◌≡◌, ℕ, suc, Bool, true, false, List, [], ◌∷◌, ◌++◌, length, Option, Some, None, refl, sym, ap, subst, ◌∙◌, inl, inr, arith}
+use Rattle.std.specs.Prelude.{◌||◌, ◌&&◌, ◌==◌, not, is_none, if◌then◌else◌}
+use Rattle.std.specs.Str.{bytes_eq}
+use Rattle.std.proofs.lemmas.Bool.{and_parts, eqb-true}
+use Rattle.std.proofs.lemmas.Slice.Eq.{bytes_eq-Decides}
+use Rattle.dwz_seen.specs.Lists.{Nth}
+use Rattle.dwz_same.specs.Units.{changes}
+use Rattle.dwz_back.specs.Files.{Run}
+use Rattle.dwz_outside.specs.declared.puts.Put.{Put}
+use Rattle.dwz_outside.specs.Store.{Store, done, put_in}
+use Rattle.dwz_words.specs.Conditions.{FitTogether, are_distinct, is_among}
+use Rattle.dwz_words.specs.declared.options.Options.{Options}
+use Rattle.dwz_out.specs.FilesAfter.{bytes_after, bytes_by, file_after}
+use Rattle.dwz_out.specs.Out.{all_puts, common_puts, file_puts, files_puts, puts_by, sup_name}
+use Rattle.dwz_run.specs.Laws.{HoldAfter, goes_to}
+
+-- ---- names that differ
+
+own_name : (a : List ℕ) → bytes_eq a a ≡ true
+own_name a = (bytes_eq-Decides a a).1 refl
+
+other_way : (a b : List ℕ) → bytes_eq a b ≡ false → bytes_eq b a ≡ false
+other_way a b e = by (bytes_eq b a) refl where
+  by : (t : Bool) → bytes_eq b a ≡ t → t ≡ false
+  by false is = refl
+  by true is =
+      let same : b ≡ a = (bytes_eq-Decides b a).0 is in
+      let yes = subst (λ (x : List ℕ). bytes_eq a x ≡ true) (sym same) (own_name a) in
+      absurd (let z : true ≡ false = sym yes ∙ e in cc)
+
+neither : (a b : Bool) → (a || b) ≡ false → (a ≡ false) × (b ≡ false)
+neither true b e = absurd cc
+neither false b e = (refl, e)
+
+not_false : (b : Bool) → not b ≡ true → b ≡ false
+not_false true e = absurd cc
+not_false false e = refl
+
+not_named : (x : List ℕ) (names : List (List ℕ)) → is_among names x ≡ false → (s n : ℕ) (name : List ℕ) → Nth s names n name
+    → bytes_eq name x ≡ false
+not_named x [] e s n name nth = absurd nth
+not_named x (y ∷ names) e s n name (inl is) = subst (λ (w : List ℕ). bytes_eq w x ≡ false) is.1 (neither (bytes_eq y x) (is_among names x) e).0
+not_named x (y ∷ names) e s n name (inr later) = not_named x names (neither (bytes_eq y x) (is_among names x) e).1 (suc s) n name later
+
+-- ---- puts
+
+put_other : (name x bytes : List ℕ) (store : Store) → bytes_eq name x ≡ false → put_in x bytes store name ≡ store name
+put_other name x bytes store e = ap (λ (b : Bool). if b then Some bytes else store name) e
+
+put_own : (name bytes : List ℕ) (store : Store) → put_in name bytes store name ≡ Some bytes
+put_own name bytes store = ap (λ (b : Bool). if b then Some bytes else store name) (own_name name)
+
+done_append : (ps qs : List Put) (store : Store) → done (ps ++ qs) store ≡ done qs (done ps store)
+done_append [] qs store = refl
+done_append (p ∷ ps) qs store = done_append ps qs (put_in p.name p.bytes store)
+
+-- ---- FILEs in place
+
+module _ (o : Options) (r : Run) (in_place : o.out ≡ None) where
+  abbrev new : ℕ → List ℕ
+  new file = bytes_after (sup_name o) r file
+
+  one_put : (file : ℕ) (name : List ℕ) → file_puts o r file name ≡ puts_by (changes r.move r.units file) None name (new file)
+  one_put file name = ap (λ (w : Option (List ℕ)). puts_by (changes r.move r.units file) w name (new file)) in_place
+
+  -- the put of a file, if there is one, leaves its name with its bytes
+  own : (file : ℕ) (name : List ℕ) (st : Store) → st name ≡ Some (r.input.bytes file)
+      → done (file_puts o r file name) st name ≡ Some (new file)
+  own file name st held = ap (λ (ps : List Put). done ps st name) (one_put file name) ∙ by (changes r.move r.units file) refl where
+    by : (b : Bool) → changes r.move r.units file ≡ b → done (puts_by b None name (new file)) st name ≡ Some (new file)
+    by true moves = put_own name (new file) st
+    by false moves = held ∙ ap (λ (b : Bool). Some (bytes_by b (r.input.bytes file) (file_after (sup_name o) r file))) (sym moves)
+
+  -- and other names as they were
+  other : (x : List ℕ) (file : ℕ) (name : List ℕ) (st : Store) → bytes_eq x name ≡ false → done (file_puts o r file name) st x ≡ st x
+  other x file name st e = ap (λ (ps : List Put). done ps st x) (one_put file name) ∙ by (changes r.move r.units file) where
+    by : (b : Bool) → done (puts_by b None name (new file)) st x ≡ st x
+    by true = put_other x name (new file) st e
+    by false = refl
+
+  leaves : (x : List ℕ) (s : ℕ) (names : List (List ℕ)) (st : Store) → is_among names x ≡ false → done (files_puts o r s names) st x ≡ st x
+  unfolding files_puts
+  leaves x s [] st e = refl
+  leaves x s (n ∷ names) st e =
+      let both = neither (bytes_eq n x) (is_among names x) e in
+      let first = done (file_puts o r s n) st in
+      ap (λ (now : Store). now x) (done_append (file_puts o r s n) (files_puts o r (suc s) names) st)
+      ∙ (leaves x (suc s) names first both.1 ∙ other x s n st (other_way n x both.0))
+
+  all : (s : ℕ) (names : List (List ℕ)) (st : Store) → are_distinct names ≡ true
+      → ((file : ℕ) (name : List ℕ) → Nth s names file name → st name ≡ Some (r.input.bytes file))
+      → (file : ℕ) (name : List ℕ) → Nth s names file name → done (files_puts o r s names) st name ≡ Some (new file)
+  unfolding files_puts
+  all s [] st e held file name nth = absurd nth
+  all s (n ∷ names) st e held file name (inl is) =
+      let both = and_parts (not (is_among names n)) (are_distinct names) e in
+      let first = done (file_puts o r s n) st in
+      let here : done (file_puts o r s n ++ files_puts o r (suc s) names) st n ≡ Some (new s) =
+      ap (λ (now : Store). now n) (done_append (file_puts o r s n) (files_puts o r (suc s) names) st)
+      ∙ (leaves n (suc s) names first (not_false (is_among names n) both.0) ∙ own s n st (held s n (inl (refl, refl)))) in
+      subst (λ (w : List ℕ). done (file_puts o r s n ++ files_puts o r (suc s) names) st w ≡ Some (new file)) is.1
+      (subst (λ (f : ℕ). done (file_puts o r s n ++ files_puts o r (suc s) names) st n ≡ Some (new f)) is.0 here)
+  all s (n ∷ names) st e held file name (inr later) =
+      let both = and_parts (not (is_among names n)) (are_distinct names) e in
+      let first = done (file_puts o r s n) st in
+      let free = not_false (is_among names n) both.0 in
+      ap (λ (now : Store). now name) (done_append (file_puts o r s n) (files_puts o r (suc s) names) st)
+      ∙ all (suc s) names first both.1 (λ f m at. other m s n st (not_named n names free (suc s) f m at) ∙ held f m (inr at)) file name later
+
+-- ---- one file elsewhere
+
+module _ (o : Options) (r : Run) (out : List ℕ) (elsewhere : o.out ≡ Some out) where
+  abbrev bytes : ℕ → List ℕ
+  bytes file = bytes_after (sup_name o) r file
+
+  single : (st : Store) (x : List ℕ) → done (file_puts o r 0 x ++ []) st out ≡ Some (bytes 0)
+  single st x = ap (λ (w : Option (List ℕ)). done (puts_by (changes r.move r.units 0) w x (bytes 0) ++ []) st out) elsewhere ∙ by (changes r.move r.units 0) where
+    by : (b : Bool) → done (puts_by b (Some out) x (bytes 0) ++ []) st out ≡ Some (bytes 0)
+    by true = put_own out (bytes 0) st
+    by false = put_own out (bytes 0) st
+
+  one_file : (names : List (List ℕ)) → length names ≡ 1 → (st : Store) (file : ℕ) (name : List ℕ) → Nth 0 names file name
+      → done (files_puts o r 0 names) st out ≡ Some (bytes file)
+  unfolding files_puts
+  one_file [] len st file name nth = absurd nth
+  one_file (x ∷ y ∷ names) len st file name nth = absurd (omega (arith, len))
+  one_file (x ∷ []) len st file name (inr later) = absurd later
+  one_file (x ∷ []) len st file name (inl is) = subst (λ (f : ℕ). done (file_puts o r 0 x ++ []) st out ≡ Some (bytes f)) is.0 (single st x)
+
+  one_alone : FitTogether o → length o.files ≡ 1
+  one_alone fit =
+      let given = sym (ap (λ (w : Option (List ℕ)). is_none w || ((length o.files == 1) && is_none o.common)) elsewhere) ∙ fit.out_only_for_one in
+      eqb-true (length o.files) 1 (and_parts (length o.files == 1) (is_none o.common) given).0
+
+-- ---- either way
+
+pub hold_after : (o : Options) (r : Run) → FitTogether o → o.common ≡ None → (store : Store)
+    → ((file : ℕ) (name : List ℕ) → Nth 0 o.files file name → store name ≡ Some (r.input.bytes file)) → HoldAfter o r (done (all_puts o r) store)
+hold_after o r fit alone store held file name nth =
+    subst (λ (c : Option (List ℕ)). done (common_puts c r ++ files_puts o r 0 o.files) store (goes_to o.out name) ≡ Some (bytes_after (sup_name o) r file))
+    (sym alone) (by o.out refl) where
+      by : (w : Option (List ℕ)) → o.out ≡ w
+          → done (files_puts o r 0 o.files) store (goes_to w name) ≡ Some (bytes_after (sup_name o) r file)
+      by None e = all o r e 0 o.files store fit.distinct_files held file name nth
+      by (Some out) e = one_file o r out e o.files (one_alone o r out e fit) store file name nth

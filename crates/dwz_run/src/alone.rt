@@ -1,0 +1,49 @@
+//! Files by themselves, from their contents to what is put.
+
+ghost use Rattle.std.specs.Prelude.{◌≡◌, ◌<◌, ◌≤◌, None, map};
+ghost use Rattle.dwz_course.specs.Answers.{IsAnswer};
+ghost use Rattle.dwz_out.specs.Out.{Out};
+
+use dwz_after::outcome;
+use dwz_course::Output;
+use dwz_gate::Gate;
+use dwz_graph::Graph;
+use dwz_make::make_files;
+use dwz_model::GraphErr;
+use dwz_prunable::prunable_files;
+use dwz_words::Options;
+use std::alloc::Global;
+use std::thread::Threads;
+
+// No run has so many files. A file is numbered by 32 bits.
+const MANY_FILES: usize = 1 << 32;
+
+const MOST_WORKERS: u32 = 64;
+
+// The number of workers that is asked for, or the nearest that there can be.
+fn workers_of(options: &Options) -> u32
+    ensures { (0 < result) × (result ≤ 64) }
+{
+    options.workers.clamp(1, MOST_WORKERS)
+}
+
+/// What comes of files with these contents, where no common file is asked for: what is put, or the first refusal.
+pub(crate) fn files_alone<R: Threads + Sync, G: Gate>(
+    rt: &R,
+    alloc: Global,
+    options: &Options,
+    contents: &[Vec<u8>],
+    gate: &G,
+) -> Result<Output, GraphErr>
+    requires { options.now.common ≡ None }
+    ensures { IsAnswer (Out options.now (map (λ c. c.items) contents.now)) result }
+{
+    if contents.len() >= MANY_FILES {
+        return Err(GraphErr::NoMemory);
+    }
+    let graph = Graph::read(alloc, contents)?;
+    let prunes = prunable_files(alloc, contents, &graph)?;
+    let workers = workers_of(options);
+    let made = make_files(rt, alloc, contents, &graph, &prunes, workers, gate)?;
+    outcome(alloc, options, contents, &graph, made.files, made.partials)
+}

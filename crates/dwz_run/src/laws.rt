@@ -1,0 +1,38 @@
+//! What follows of how a run ends.
+
+ghost use Rattle.dwz_run.specs.Laws.{AnswerLaw, CompleteLaw, DoneLaw, NotBuiltLaw, NothingLaw, RefusedLaw, RefusesLaw, SilentLaw, StoppedLaw, UsageLaw, WorkersLaw};
+
+/// Where a run answers Done, its words are lawful and name FILEs, which were held and read as documents; what is put of these is put, in
+/// order, and nothing else; each FILE then holds what is made of it; and what is written says the same as what was read, along images,
+/// with imports expanded (DWARF 5, 3.2.5), where entries share an image exactly where they move and nothing tells them apart. Its text is
+/// written, once. Where it answers ConsoleFault so it is too, but for the text, which isn't written. What is put is the same for every
+/// number of workers.
+pub fn done_laws()
+    ensures done { DoneLaw }
+    ensures silent { SilentLaw }
+    ensures workers { WorkersLaw }
+{}
+
+/// Where a run answers Usage, Refused, ReadFault or NoMemory, nothing is put. Where it answers Refused, the FILEs have a first fault, or
+/// what is put of them has one, or words ask for what isn't built; and it is named. Words that aren't lawful get Usage, and no others.
+pub fn cause_laws()
+    ensures nothing { NothingLaw }
+    ensures refused { RefusedLaw }
+    ensures usage { UsageLaw }
+{}
+
+/// Where no get, no put and no writing of the text failed, lawful words get Done, Refused or NoMemory: Done, where the FILEs are held and
+/// read and nothing refuses what is put of them; Refused, where there is a first refusal, or they ask for what isn't built. Memory may
+/// always run out.
+pub fn answer_laws()
+    ensures answer { AnswerLaw }
+    ensures complete { CompleteLaw }
+    ensures refuses { RefusesLaw }
+    ensures not_built { NotBuiltLaw }
+{}
+
+/// Where a run answers WriteFault, the first puts are done, and the next one failed, whose name is told. Each FILE is as it was, or as it
+/// is made.
+pub fn stop_laws()
+    ensures { StoppedLaw }
+{}

@@ -1,0 +1,45 @@
+//! The whole run.
+
+ghost use Rattle.dwz_course.specs.Ends.{Complete, Ends, KeepsLastRead, LeavesFiles, Refuses};
+ghost use Rattle.dwz_run.specs.Gives.{gives_alone, no_files};
+ghost use Rattle.dwz_words.specs.Lawful.{bytes_of};
+
+use crate::work::{FileWork, answer};
+use dwz_course::{Status, run_course};
+use dwz_gate::Gate;
+use dwz_outside::{Console, Files};
+use std::alloc::Global;
+use std::thread::Threads;
+
+/// Does what the words ask for: gets their FILEs, finds the entries of each that repeat, and puts the FILEs again with these entries
+/// stored once (DWARF 5, 3.2.5 and appendix E); and says so, once. What is put is one function of options and contents: it is the same
+/// for every number of workers, every gate and every order of threads.
+///
+/// A common file, and so a demonstration, is refused as not built yet.
+///
+/// What follows of how a run ends is said by laws: where all is done, the FILEs that are put read back as what was read (`done_laws`);
+/// why each other status is answered, and what it leaves (`cause_laws`); which status comes where nothing outside fails
+/// (`answer_laws`); and what is held where the puts stop (`stop_laws`).
+pub fn run<Rt: Threads + Sync, F: Files, C: Console, G: Gate>(
+    rt: &Rt,
+    alloc: Global,
+    words: &[Vec<u8>],
+    files: &mut F,
+    console: &mut C,
+    gate: &G,
+) -> Status
+    ensures ends { Ends no_files gives_alone (bytes_of words.now) (F.told files.old) (F.told files.new) (C.shown console.old) (C.shown console.new) result }
+    ensures complete { Complete no_files gives_alone (bytes_of words.now) (F.told files.old) (F.told files.new) (C.shown console.old) (C.shown console.new) result }
+    ensures refuses { Refuses no_files gives_alone (bytes_of words.now) (F.told files.old) (F.told files.new) result }
+    ensures demo { LeavesFiles (bytes_of words.now) (F.told files.old) (F.told files.new) }
+    ensures reads { KeepsLastRead result (F.told files.old) (F.told files.new) }
+{
+    run_course(
+        alloc,
+        words,
+        files,
+        console,
+        &FileWork,
+        &|alloc, options, contents| answer(rt, alloc, options, contents, gate),
+    )
+}

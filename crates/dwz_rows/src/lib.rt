@@ -1,0 +1,43 @@
+//! Tests of whole runs over files in memory. Expected bytes and texts come from a model that was written independently.
+#![tactic(auto)]
+
+#[cfg(test)]
+mod cut;
+#[cfg(test)]
+mod elf;
+#[cfg(test)]
+mod file_faults;
+#[cfg(test)]
+mod growth;
+#[cfg(test)]
+mod loaded;
+#[cfg(test)]
+mod mixed;
+#[cfg(test)]
+mod mixed_more;
+#[cfg(test)]
+mod moves;
+#[cfg(test)]
+mod operands;
+#[cfg(test)]
+mod outside;
+#[cfg(test)]
+mod programs;
+#[cfg(test)]
+mod row;
+#[cfg(test)]
+mod several;
+#[cfg(test)]
+mod spaces;
+#[cfg(test)]
+mod spelling;
+#[cfg(test)]
+mod texts;
+#[cfg(test)]
+mod unit_faults;
+#[cfg(test)]
+mod value_faults;
+#[cfg(test)]
+mod words;
+#[cfg(test)]
+mod workers;

@@ -1,0 +1,13 @@
+-- An offset of a line table is no text.
+use Rattle.std.proofs.Common.{◌≡◌, [], pos, refl, ap}
+use Rattle.dwz_meanings.specs.Documents.{Sec}
+use Rattle.dwz_meanings.specs.Meanings.{Class, OfOffset, class_in, class_of, class_rows}
+use Rattle.dwz_moving.specs.Moves.{line_attr}
+use Rattle.dwz_common.specs.Gathered.{text_by, text_said}
+
+line_class : class_of 0x17 ≡ OfOffset
+unfolding class_rows class_in
+line_class = refl
+
+pub line_none : text_said (line_attr (pos 0) (Sec 0)) ≡ []
+line_none = ap (λ (c : Class). text_by c (line_attr (pos 0) (Sec 0))) line_class

@@ -1,0 +1,4 @@
+pub mod UnitLemmas
+pub mod LengthLemmas
+pub mod GivenLemmas
+pub mod ReadsLemmas

@@ -26,13 +26,13 @@ use Rattle.dwz_places.specs.declared.ways.Way.{Way}
 use Rattle.dwz_places.specs.declared.ways.Way.TheVariants.{AsRead, AsText, KeepsText}
 use Rattle.dwz_places.specs.Attributes.{OutAttr, name_attrs, name_by, space_attrs, text_attr}
 use Rattle.dwz_places.specs.Entries.{row}
-use Rattle.dwz_places.specs.Known.{row_at}
+use Rattle.dwz_places.specs.Known.{row_at, text_held}
 use Rattle.dwz_places.specs.Ways.{way_of}
 use Rattle.dwz_pages.specs.Shown.{HeldAttr, Keys, attr_held, held_of}
 use Rattle.dwz_fitted.specs.Knows.{FileRead, IsRead, IsText, KnowsFile, NewNumbers, given_attr, name_attr}
 use Rattle.dwz_fitted.proofs.FormWays.{is_file, is_read, line_way, slot_way, way_of_class}
 use Rattle.dwz_fitted.proofs.StoredLemmas.{raw_bytes, raw_number}
-use Rattle.dwz_fitted.proofs.ValueFits.{as_value, read_held, text_given, text_held}
+use Rattle.dwz_fitted.proofs.ValueFits.{as_value, read_held, text_given, text_in_form}
 
 -- ---- a value that is a text
 
@@ -62,7 +62,7 @@ module _ (keys : Keys Spot) (ft : Fit Spot) (rn : NewNumbers) (h : Holder) (fit_
         form = a.pair.form;
         constant = pos 0;
       })) (sym named) ∙ there in
-      ap (λ (w : Way). attr_held keys (name_by t a w)) way ∙ text_held t b ∙ text_given ft rn b t (told same)
+      ap (λ (w : Way). attr_held keys (name_by t a w)) way ∙ text_in_form t b ∙ text_given ft rn b t (told same)
 
   number_is : (c : Class) → class_of a.pair.form ≡ c → stores_bytes c ≡ false → is_read c ≡ true → as_value (Number b.raw) ≡ as_value a.raw
   number_is c e isnt some = ap as_value (sym (raw_number a stored c e isnt some))
@@ -215,19 +215,19 @@ has_name d text e = go (eqb d.tag 0x39) e where
 
 pub space_fits : (keys : Keys Spot) (k : Known) (f : FileRead) (ft : Fit Spot) (rn : NewNumbers) (h : Holder) → ft.holder ≡ h
     → (file : KnowsFile k f) (space : SpaceRow) (i : ℕ) (x : EntryRow) (d : Node ℕ) (text : List ℕ) → space.row ≡ row f.number i → IsRead f i x d → space_text d ≡ Some text
-    → IsText ft rn (name_attr (name_of text d)) space.text
+    → IsText ft rn (name_attr (name_of text d)) (text_held h space)
     → map (attr_held keys) (space_attrs k h space) ≡ held_of (given_attr ft rn (name_attr (name_of text d))) ∷ []
 space_fits keys k f ft rn h fit_is file space i x d text at read is told =
     let s = scope_of f.around read.unit in
     let n = has_name d text is in
-    let by = found_by h space.text s x.entry.attrs d.attrs n.b (node_attrs s x.entry d read.means).0 (file.stored i x read.found) n.found in
+    let by = found_by h (text_held h space) s x.entry.attrs d.attrs n.b (node_attrs s x.entry d read.means).0 (file.stored i x read.found) n.found in
     let there : row_at k space.row ≡ Some x = ap (λ (r : Row). row_at k r) at ∙ ap (λ (w : List EntryRow). slice_get w i) file.rows ∙ read.found in
     let same : name_attr (name_of text d) ≡ record { name = 0x03; form = by.a.pair.form; raw = number_of by.a.raw; value = only (Text text) } =
     ap (λ (o : Option (Attr ℕ)). name_attr (name_by_of text o)) n.found ∙ ap (λ (b : Attr ℕ). let c : Attr Spot = record { name = 0x03; form = b.form; raw = b.raw; value = only (Text text) } in c)
     (sym by.is) in
     let own : text_in by.v.plain ≡ Some text = ap (λ (b : Attr ℕ). text_in b.value.plain) by.is ∙ n.is in
-    let one = name_step keys ft rn h fit_is space.text text s by.a by.stored by.v by.named own (subst (λ (b : Attr Spot). IsText ft rn b space.text) same told)
+    let one = name_step keys ft rn h fit_is (text_held h space) text s by.a by.stored by.v by.named own (subst (λ (b : Attr Spot). IsText ft rn b (text_held h space)) same told)
     (class_of by.a.pair.form) refl (((value_agrees s by.a).ok by.v).0 by.means) file.alone in
-    ap (λ (o : Option EntryRow). map (attr_held keys) (option_map_or (λ (r : EntryRow). name_attrs h space.text r.entry.attrs) o [])) there
+    ap (λ (o : Option EntryRow). map (attr_held keys) (option_map_or (λ (r : EntryRow). name_attrs h (text_held h space) r.entry.attrs) o [])) there
     ∙ ap (map (attr_held keys)) by.out
     ∙ ap (λ (y : HeldAttr Spot). y ∷ []) (one ∙ ap (λ (b : Attr Spot). held_of (given_attr ft rn b)) (sym same))

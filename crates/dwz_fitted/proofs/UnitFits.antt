@@ -30,7 +30,7 @@ use Rattle.dwz_places.specs.declared.walk.Origin.TheVariants.{Chained, Imported,
 use Rattle.dwz_places.specs.declared.walk.Slot.{Slot}
 use Rattle.dwz_places.specs.Attributes.{Here, form_to, here_of, holder_by, import_attr, is_common, line_attrs, plain_pair, space_attrs}
 use Rattle.dwz_places.specs.Entries.{items_slots, root_of, row, slot, tree_slots, what_slots, whole_slots}
-use Rattle.dwz_places.specs.Known.{number_of, space_at, top_row, unit_of_part}
+use Rattle.dwz_places.specs.Known.{number_of, space_at, text_held, top_row, unit_of_part}
 use Rattle.dwz_pages.specs.Shown.{HasRow, HeldAttr, HeldLine, IsRow, Key, Keys, ShowsUnit, Value, SortShows, attr_held, held_of, line_held, slot_held}
 use Rattle.dwz_fitted.specs.Fitted.{given_unit}
 use Rattle.dwz_fitted.specs.Knows.{FileRead, IsRead, IsText, KnowsFile, KnowsIn, KnowsOrigin, KnowsSlots, KnowsUnit, NewNumbers, OfSome, ShowsChained, ShowsImport, ShowsLine, ShowsRoot, ShowsRow, ShowsTree, ShowsWhat, ShowsWhole, Writes, given_attr, given_line, given_node, name_attr}
@@ -175,7 +175,7 @@ module _ (keys : Keys Spot) (k : Known) (here : Here) (ft : Fit Spot) (rn : NewN
 
   -- a space of a chain
   name_of_some : (files : List FileRead) (space : SpaceRow) (d : Node ℕ) (text : List ℕ) → OfSome files (λ f. (i : ℕ) × (x : EntryRow) × (space.row ≡ row f.number i) × IsRead f i x d)
-      → FilesKnow files [] → space_text d ≡ Some text → IsText ft rn (name_attr (name_of text d)) space.text
+      → FilesKnow files [] → space_text d ≡ Some text → IsText ft rn (name_attr (name_of text d)) (text_held here.holder space)
       → map (attr_held keys) (space_attrs k here.holder space) ≡ held_of (given_attr ft rn (name_attr (name_of text d))) ∷ []
   name_of_some [] space d text there all is told = absurd there
   name_of_some (f ∷ files) space d text (inl at) all is told = space_fits keys k f ft rn here.holder fit_is all.0.0 space at.0 at.1 d text at.2 at.3 is told
@@ -186,7 +186,8 @@ module _ (keys : Keys Spot) (k : Known) (here : Here) (ft : Fit Spot) (rn : NewN
       → held (slot depth (Chained chain space) ∷ []) ≡ fitted (line depth node ∷ [])
   chained_fits files depth chain space node shows all =
       let none = files_split files [] (slot depth (Chained chain space) ∷ []) all in
-      let attrs = name_of_some files (space_at k space) shows.d shows.text shows.there none.0 shows.is_space shows.told
+      let attrs = name_of_some files (space_at k space) shows.d shows.text shows.there none.0 shows.is_space
+      (subst (λ (h : Holder). IsText ft rn (name_attr (name_of shows.text shows.d)) (text_held h (space_at k space))) fit_is shows.told)
       ∙ ap (λ (w : List (Attr Spot)). map held_of (map (given_attr ft rn) w)) (sym shows.attrs) in
       (λ i. (let l : HeldLine Spot = record { depth = depth; key = shows.at i; tag = sym shows.tag i; attrs = attrs i } in l) ∷ [])
 

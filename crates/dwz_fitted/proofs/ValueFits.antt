@@ -20,7 +20,7 @@ use Rattle.dwz_writing.proofs.StoredClasses.{expression_form, stores_bytes}
 use Rattle.dwz_places.specs.declared.known.Firsts.{Firsts}
 use Rattle.dwz_places.specs.declared.known.Known.{Known}
 use Rattle.dwz_places.specs.declared.known.TextAt.{TextAt}
-use Rattle.dwz_places.specs.declared.known.TextAt.TheVariants.{Own, Shared}
+use Rattle.dwz_places.specs.declared.known.TextAt.TheVariants.{Own, Pooled, Shared}
 use Rattle.dwz_places.specs.declared.ways.Way.{Way}
 use Rattle.dwz_places.specs.declared.ways.Way.TheVariants.{AsEntry, AsExpression, AsFile, AsRead, AsText, KeepsText}
 use Rattle.dwz_places.specs.Attributes.{Here, OutAttr, after, after_by, entry_attr, expr_attr, expr_parts, file_attr, form_to, is_common, operand_count, out_attr, out_by, parts_or, plain_pair, read_attr, references_from, text_attr}
@@ -38,10 +38,11 @@ as_value r = ValueHeld r
 
 -- ---- what is held under each form that is chosen
 
-pub text_held : (t : TextAt) (b : Attr Spot) → record { pair = plain_pair b.name (text_chosen t).form; held = ValueHeld (Number (text_chosen t).raw) } ≡ held_of (with_form b (text_chosen t))
+pub text_in_form : (t : TextAt) (b : Attr Spot) → record { pair = plain_pair b.name (text_chosen t).form; held = ValueHeld (Number (text_chosen t).raw) } ≡ held_of (with_form b (text_chosen t))
 unfolding class_rows class_in
-text_held (Own offset) b = refl
-text_held (Shared offset) b = refl
+text_in_form (Own offset) b = refl
+text_in_form (Shared offset) b = refl
+text_in_form (Pooled offset) b = refl
 
 file_held : (n : ℕ) (b : Attr Spot) → record { pair = plain_pair b.name 0x0f; held = ValueHeld (Number (pos n)) } ≡ held_of (with_form b (record { form = 0x0f; raw = pos n }))
 unfolding class_rows class_in
@@ -220,7 +221,7 @@ module _ (keys : Keys Spot) (k : Known) (f : FileRead) (here : Here) (ft : Fit S
         record {
           fitted =
               ap (map (attr_held keys)) (out_is AsText w)
-              ∙ ap (λ (x : HeldAttr Spot). x ∷ []) (text_held t b ∙ text_given ft rn b t (left.texts.0 (plain_way ∙ way)));
+              ∙ ap (λ (x : HeldAttr Spot). x ∷ []) (text_in_form t b ∙ text_given ft rn b t (left.texts.0 (plain_way ∙ way)));
           rest = rest_at AsText w refs texts files (record { references = left.references; owners = left.owners; texts = left.texts.1; files = left.files });
         }
 

@@ -34,7 +34,7 @@ use Rattle.dwz_places.specs.declared.walk.Slot.{Slot}
 use Rattle.dwz_places.specs.declared.ways.Way.TheVariants.{AsText}
 use Rattle.dwz_places.specs.Attributes.{is_common, plain_pair, text_form, text_offset}
 use Rattle.dwz_places.specs.Entries.{items_slots, row}
-use Rattle.dwz_places.specs.Known.{file_at, firsts_of, number_of, owner_of, reference_at, rows_in, space_at, text_at, top_row, unit_of_part}
+use Rattle.dwz_places.specs.Known.{file_at, firsts_of, number_of, owner_of, reference_at, rows_in, space_at, text_at, text_held, top_row, unit_of_part}
 use Rattle.dwz_places.specs.Ways.{way_of}
 use Rattle.dwz_pages.specs.Shown.{HasRow, Keys}
 
@@ -253,7 +253,7 @@ pub record ShowsChained (keys : Keys Spot) (files : List FileRead) (ft : Fit Spo
   pub text : List ℕ
   pub is_space : space_text d ≡ Some text
   pub attrs : node.attrs ≡ name_attr (name_of text d) ∷ []
-  pub told : IsText ft rn (name_attr (name_of text d)) s.text
+  pub told : IsText ft rn (name_attr (name_of text d)) (text_held ft.holder s)
   pub there : OfSome files (λ f. (i : ℕ) × (x : EntryRow) × (s.row ≡ row f.number i) × IsRead f i x d)
 
 -- an import of a partial unit, which is the unit with that number among those that are written

@@ -19,8 +19,8 @@ use Rattle.dwz_back.proofs.WithinLemmas.{within}
 use Rattle.dwz_fewer.specs.Fewer.{NameOnly}
 use Rattle.dwz_fewer.proofs.SeenFitted.{fit_kinds, fit_seen, new_kinds, new_seen}
 use Rattle.dwz_fewer.proofs.SomeFiles.{some_in}
-use Rattle.dwz_facts.specs.Facts.{AreFacts, Facts, docs, files_written, move, rule, run, units}
-use Rattle.dwz_named.proofs.ReadFiles.{all_placed}
+use Rattle.dwz_laid.specs.Facts.{AreFacts, Facts, docs, files_written, move, rule, run, units}
+use Rattle.dwz_laid.proofs.ReadFiles.{all_placed}
 use Rattle.dwz_laid.specs.Laid.{written_out}
 use Rattle.dwz_laid.proofs.FilesLaid.{some_written}
 use Rattle.dwz_laid.proofs.NoUnits.{all, among_all, entry_of, no_entry}

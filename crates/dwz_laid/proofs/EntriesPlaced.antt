@@ -23,14 +23,14 @@ use Rattle.dwz_across.proofs.ListGets.{got_below, got_in}
 use Rattle.dwz_known.specs.Names.{all_names}
 use Rattle.dwz_places.specs.Entries.{row}
 use Rattle.dwz_places.specs.Known.{number_of, owner_of}
-use Rattle.dwz_refers.proofs.HeldNames.{each_of_map}
-use Rattle.dwz_refers.proofs.RowsWritten.{row_written}
-use Rattle.dwz_facts.specs.Facts.{AreFacts, Facts, docs, files_written, move, run, units, units_written}
-use Rattle.dwz_facts.specs.Named.{keys}
-use Rattle.dwz_named.specs.NamedLaws.{entry_name}
-use Rattle.dwz_named.proofs.FileEntries.{below, here, named, named_all, number_is}
-use Rattle.dwz_named.proofs.ImagesStand.{in_units, old}
-use Rattle.dwz_named.proofs.LayoutLemmas.{names_entry, owns_entry}
+use Rattle.dwz_laid.proofs.HeldNames.{each_of_map}
+use Rattle.dwz_laid.proofs.RowsWritten.{row_written}
+use Rattle.dwz_laid.specs.Facts.{AreFacts, Facts, docs, files_written, move, run, units, units_written}
+use Rattle.dwz_laid.specs.Named.{keys}
+use Rattle.dwz_laid.specs.NamedLaws.{entry_name}
+use Rattle.dwz_laid.proofs.FileEntries.{below, here, named, named_all, number_is}
+use Rattle.dwz_laid.proofs.ImagesStand.{in_units, old}
+use Rattle.dwz_laid.proofs.LayoutLemmas.{names_entry, owns_entry}
 use Rattle.dwz_laid.specs.Laid.{RunRootsLaw, RunSelfLaw, written_out}
 use Rattle.dwz_laid.proofs.FilesLaid.{all_once, run_places}
 use Rattle.dwz_laid.proofs.NamesApart.{entries_many, rows_apart}

@@ -9,7 +9,7 @@ use Rattle.dwz_seen.proofs.Members.{each_append, each_in}
 use Rattle.dwz_alike.specs.Spots.{InType, RootOf, SpaceAt, Spot, Within, below_spots, entry_spots, top_count, top_spots, tops_among}
 use Rattle.dwz_index.specs.Names.{names_from}
 use Rattle.dwz_known.specs.Names.{all_names, names_of_files}
-use Rattle.dwz_refers.proofs.HeldNames.{each_to_map}
+use Rattle.dwz_laid.proofs.HeldNames.{each_to_map}
 
 abbrev pub IsOfEntry : Spot → Type 0
 IsOfEntry (Within top path) = Unit {0}

@@ -1,41 +1,32 @@
 -- What is written of one file is known: its partial units, and then its old ones.
-use Rattle.std.proofs.Common.{◌≡◌, ℕ, suc, ◌+◌, ◌<◌, Bool, true, false, List, [], ◌∷◌, ◌++◌, length, map, Some, slice_get, refl, sym, ap, subst, ◌∙◌, inl, inr, arith}
+use Rattle.std.proofs.Common.{◌≡◌, ℕ, suc, ◌+◌, true, false, List, [], ◌∷◌, ◌++◌, length, Some, slice_get, refl, sym, ap, subst, arith}
 use Rattle.std.specs.Prelude.{slice_index_or}
 use Rattle.dwz_meanings.specs.Documents.{DwUnit}
-use Rattle.dwz_meanings.specs.Meanings.{IfSo}
-use Rattle.dwz_seen.specs.Lists.{Nth}
 use Rattle.dwz_alike.specs.Spots.{Spot}
-use Rattle.dwz_moving.specs.Homes.{Local, same_home}
-use Rattle.dwz_moving.specs.Plan.{PartialUnit, partials}
-use Rattle.dwz_plan.specs.declared.plan.Partial.{Partial as PlannedPart}
-use Rattle.dwz_plan.specs.Planned.{Planned}
-use Rattle.dwz_plan.specs.Shows.{shown_part}
-use Rattle.dwz_plan.proofs.BridgeLemmas.{file_numbers_are}
-use Rattle.dwz_same.specs.Units.{out_units, partial_unit, partial_units}
+use Rattle.dwz_same.specs.Units.{out_units}
 use Rattle.dwz_writing.specs.Placing.{FileFit}
 use Rattle.dwz_unit.specs.Rows.{units_of as raw_units}
 use Rattle.dwz_graph.specs.declared.file.File.{File}
 use Rattle.dwz_index.specs.Index.{Index}
 use Rattle.dwz_index.proofs.TopLemmas.{get_first, get_later}
 use Rattle.dwz_known.specs.Images.{starts_from}
-use Rattle.dwz_order.specs.Orders.{First}
 use Rattle.dwz_ordered.specs.declared.orders.Settled.{Settled}
-use Rattle.dwz_ordered.specs.Ordered.{FilePut, PartPut, PartsPut, from_index, next_index}
+use Rattle.dwz_ordered.specs.Ordered.{FilePut, from_index, next_index}
 use Rattle.dwz_places.specs.declared.known.Known.{Known}
 use Rattle.dwz_places.specs.declared.order.UnitItems.{UnitItems}
 use Rattle.dwz_pages.specs.Shown.{Keys}
 use Rattle.dwz_fitted.specs.Fitted.{KnowUnits}
 use Rattle.dwz_fitted.specs.Knows.{NewNumbers}
-use Rattle.dwz_facts.specs.Facts.{AreFacts, Facts, HasFile, docs, move, rule, units, units_written, written}
-use Rattle.dwz_facts.specs.Listed.{AreListed, TextsAt}
-use Rattle.dwz_facts.specs.Named.{keys}
-use Rattle.dwz_settled.specs.Settled.{IsSettled}
-use Rattle.dwz_settled.specs.Unfitted.{KnowTexts}
-use Rattle.dwz_shown_kept.specs.ShownKept.{AreWrittenFrom, fit_of, olds_after}
-use Rattle.dwz_shown_kept.proofs.UnitsKnown.{kept_known}
-use Rattle.dwz_shown_parts.specs.ShownParts.{parts_after}
-use Rattle.dwz_shown_parts.proofs.PartHomes.{file_changed, home_moves, home_number}
-use Rattle.dwz_shown_parts.proofs.PartsKnown.{parts_known}
+use Rattle.dwz_laid.specs.Facts.{AreFacts, Facts, HasFile, move, units, units_written, written}
+use Rattle.dwz_laid.specs.Listed.{AreListed, TextsAt}
+use Rattle.dwz_laid.specs.Named.{keys}
+use Rattle.dwz_laid.specs.Settled.{IsSettled}
+use Rattle.dwz_laid.specs.Unfitted.{KnowTexts}
+use Rattle.dwz_laid.specs.ShownKept.{AreWrittenFrom, fit_of, olds_after}
+use Rattle.dwz_laid.proofs.UnitsKnown.{kept_known}
+use Rattle.dwz_laid.specs.ShownParts.{parts_after}
+use Rattle.dwz_laid.proofs.PartHomes.{file_changed}
+use Rattle.dwz_laid.proofs.PartsKnown.{local_long, parts_known}
 
 -- ---- some units and those behind them
 
@@ -65,39 +56,6 @@ texts_split f k rn n (x ∷ xs) ys [] vs long texts = absurd (omega (arith, long
 texts_split f k rn n (x ∷ xs) ys (u ∷ us) vs long texts = (let o = texts_split f k rn n xs ys us vs (omega (arith, long)) texts.1 in ((texts.0, o.0), o.1))
 
 module _ (f : Facts) (t : TextsAt) (k : Known) (facts : AreFacts f) (listed : AreListed f t k) (s : Settled) (settled : IsSettled f s) where
-  pub parts_are : map (shown_part (length (docs f))) (move f).parts ≡ s.plan.now.partials
-  parts_are =
-      ap (λ (w : List ℕ). map (shown_part (length (docs f))) (partials (rule f) (units f) w)) (file_numbers_are 0 (docs f))
-      ∙ facts.shows.partials
-      ∙ ap (λ (w : Planned). w.partials) (sym settled.plan)
-
-  -- ---- as many partial units are written as there are
-
-  module _ (n : ℕ) (below : n < length (docs f)) where
-    abbrev After : ℕ → List PartialUnit → List (DwUnit Spot)
-    After p parts = partial_units (move f) (Local n) p parts
-
-    abbrev Put : ℕ → List PartialUnit → List UnitItems → Type 0
-    Put p parts order = PartsPut s n p (map (shown_part (length (docs f))) parts) order
-
-    parts_long : (p : ℕ) (parts : List PartialUnit) → ((q : ℕ) (part : PartialUnit) → Nth p parts q part → Nth 0 (move f).parts q part) → (order : List UnitItems) → Put p parts order
-        → length order ≡ length (After p parts)
-    unfolding partial_units
-    parts_long p [] among order put = ap (λ (w : List UnitItems). length w) put
-    parts_long p (part ∷ parts) among order put =
-        let same = home_number (length (docs f)) n part.home (home_moves f facts n p part (among p part (inl (refl, refl)))) below in
-        by (λ some put. parts_long (suc p) parts (λ q other i. among q other (inr i)) some put) (same_home part.home (Local n)) order
-        (subst (λ (b : Bool). IfSo b (First (PartPut s p (shown_part (length (docs f)) part)) (Put (suc p) parts) order) (Put (suc p) parts order)) (sym same) put)
-      where
-        by : ((some : List UnitItems) → Put (suc p) parts some → length some ≡ length (After (suc p) parts)) → (b : Bool) → (order : List UnitItems)
-            → IfSo b (First (PartPut s p (shown_part (length (docs f)) part)) (Put (suc p) parts) order) (Put (suc p) parts order)
-            → length order ≡ length (elim b as (λ _. List (DwUnit Spot)) [ true ↦ partial_unit (move f) p ∷ After (suc p) parts | false ↦ After (suc p) parts ])
-        by rest true [] put = absurd put
-        by rest true (o ∷ order) put = ap suc (rest order put.1)
-        by rest false order put = rest order put
-
-  -- ---- a file
-
   pub file_known : (n : ℕ) (bytes : List ℕ) (x : File) (index : Index) → HasFile f n bytes x index → slice_index_or (written f) n false ≡ true
       → (start : ℕ) → slice_get (starts_from 0 f.indexes) n ≡ Some start → (rn : NewNumbers) (here : ℕ) (order : List UnitItems)
       → FilePut s (raw_units x.units) (from_index n start index) (next_index index) order → AreWrittenFrom f here (out_units (move f) (units f) n)
@@ -106,8 +64,7 @@ module _ (f : Facts) (t : TextsAt) (k : Known) (facts : AreFacts f) (listed : Ar
   file_known n bytes x index h w start at rn here order put there texts =
       let ps = parts_after f n in
       let os = olds_after f n in
-      let long : length put.parts ≡ length ps =
-      parts_long n (file_changed f n w).1 0 (move f).parts (λ q part i. i) put.parts (subst (λ (v : List PlannedPart). PartsPut s n 0 v put.parts) (sym parts_are) put.parts_put) in
+      let long : length put.parts ≡ length ps = local_long f t k s facts listed settled n (file_changed f n w).1 put.parts put.parts_put in
       let split = texts_split f k rn n put.parts put.olds ps os long (subst (λ (v : List UnitItems). KnowTexts f k rn n v (ps ++ os)) put.order_is texts) in
       let first = parts_known f t k s facts listed settled n w rn here put.parts put.parts_put (λ j u e. there j u (get_first ps os j u e)) split.0 in
       let later = kept_known f t k s facts listed settled n bytes x index h w start at rn (here + length put.parts) put.olds put.olds_kept

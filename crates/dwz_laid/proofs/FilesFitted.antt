@@ -8,9 +8,9 @@ use Rattle.dwz_back.specs.Files.{common_out, file_forms, file_out, fitted, fitte
 use Rattle.dwz_pages.specs.Shown.{ShowFiles}
 use Rattle.dwz_fitted.specs.Fitted.{fitted_file, given_units}
 use Rattle.dwz_fitted.proofs.FileFits.{files_fit}
-use Rattle.dwz_facts.specs.Facts.{Facts, files_written, move, run, units}
-use Rattle.dwz_facts.specs.Named.{keys}
-use Rattle.dwz_settled.specs.Unfitted.{unfitted, unfitted_common, unfitted_file}
+use Rattle.dwz_laid.specs.Facts.{Facts, files_written, move, run, units}
+use Rattle.dwz_laid.specs.Named.{keys}
+use Rattle.dwz_laid.specs.Unfitted.{unfitted, unfitted_common, unfitted_file}
 use Rattle.dwz_laid.specs.Laid.{RunFittedLaw, RunShownLaw, numbers_if, run_numbers}
 
 module _ (f : Facts) where

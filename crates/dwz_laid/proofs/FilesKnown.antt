@@ -1,28 +1,16 @@
--- What is written of all files is known, file by file; nothing is written of the common file.
-use Rattle.std.proofs.Common.{◌≡◌, ℕ, zero, suc, ◌+◌, ◌<◌, ◌==◌, Bool, true, false, List, [], ◌∷◌, ◌++◌, Ok, Some, None, Result, cond, length, map, slice_get, refl, sym, ap, subst, ◌∙◌, arith}
-use Rattle.std.proofs.Math.Logic.{inl, inr}
+-- What is written of the common file and of all files is known, file by file; and where nothing is in the common file, nothing is written of it.
+use Rattle.std.proofs.Common.{◌≡◌, ℕ, zero, suc, ◌+◌, ◌<◌, Bool, true, false, List, [], ◌∷◌, Ok, Some, None, Result, cond, length, map, slice_get, refl, sym, ap, subst, ◌∙◌, arith}
 use Rattle.std.specs.List.{filter}
 use Rattle.std.specs.Prelude.{slice_index_or}
-use Rattle.std.proofs.lemmas.Bool.{ne_eqb}
-use Rattle.dwz_docs.specs.Lists.{In}
 use Rattle.dwz_docs.specs.Units.{RawUnit}
 use Rattle.dwz_meanings.specs.Documents.{Doc, DwUnit}
 use Rattle.dwz_meanings.specs.Files.{Limits, file_meaning, limits_after, no_files_before}
 use Rattle.dwz_meanings.specs.Meanings.{IfSo}
-use Rattle.dwz_seen.specs.Lists.{Nth}
 use Rattle.dwz_seen.specs.Shown.{units_keys}
 use Rattle.dwz_alike.specs.Spots.{Spot, file_numbers}
-use Rattle.dwz_moving.specs.Homes.{Common, Home}
-use Rattle.dwz_moving.specs.Moves.{first_unit}
-use Rattle.dwz_moving.specs.Plan.{PartialUnit}
-use Rattle.dwz_plan.specs.declared.plan.Partial.{Partial as PlannedPart}
-use Rattle.dwz_plan.specs.Planned.{file_of_home}
-use Rattle.dwz_plan.specs.Shows.{shown_part}
-use Rattle.dwz_same.specs.Units.{changes, common_units, file_units, out_units, partial_unit}
-use Rattle.dwz_same.proofs.FileLemmas.{files_are}
+use Rattle.dwz_same.specs.Units.{changes, common_units, file_units, out_units}
 use Rattle.dwz_writing.specs.Placing.{with_keys}
 use Rattle.dwz_back.specs.Files.{common_forms}
-use Rattle.dwz_back.proofs.WithinLemmas.{parts_to}
 use Rattle.dwz_unit.specs.Rows.{units_of as raw_units}
 use Rattle.dwz_graph.specs.declared.file.File.{File}
 use Rattle.dwz_graph.specs.Files.{AreRead, IsRead}
@@ -32,27 +20,25 @@ use Rattle.dwz_index.specs.Index.{Index}
 use Rattle.dwz_index.proofs.TopLemmas.{get_first, get_later}
 use Rattle.dwz_indexes.specs.Indexed.{AreIndexed, first_starts, starts_behind}
 use Rattle.dwz_across.proofs.FileWalk.{is_among}
-use Rattle.dwz_items.proofs.PartUnits.{first_uses, of_unit, part_is, part_tops}
-use Rattle.dwz_items.proofs.Places.{used_homes}
 use Rattle.dwz_known.specs.Images.{starts_from}
 use Rattle.dwz_order.specs.Marks.{flag_at}
-use Rattle.dwz_order.specs.Orders.{First}
 use Rattle.dwz_ordered.specs.declared.orders.Settled.{Settled}
-use Rattle.dwz_ordered.specs.Ordered.{FilePut, FilesPut, FirstFile, PartPut, PartsPut, from_index, next_index}
+use Rattle.dwz_ordered.specs.Ordered.{AreOrders, FilePut, FilesPut, FirstFile, PartsPut, from_index, next_index}
 use Rattle.dwz_places.specs.declared.known.FileRows.{FileRows}
 use Rattle.dwz_places.specs.declared.known.Known.{Known}
 use Rattle.dwz_places.specs.declared.known.TextAt.{TextAt}
 use Rattle.dwz_places.specs.declared.order.UnitItems.{UnitItems}
-use Rattle.dwz_fitted.specs.Fitted.{KnowFiles, KnowUnits}
+use Rattle.dwz_fitted.specs.Fitted.{KnowFiles}
 use Rattle.dwz_fitted.specs.Knows.{NewNumbers}
-use Rattle.dwz_facts.specs.Facts.{AreFacts, Facts, HasFile, docs, files_written, move, rule, run, units, units_written, written}
-use Rattle.dwz_facts.specs.Listed.{AreListed, AreRows, TextsAt}
-use Rattle.dwz_facts.specs.Named.{keys}
-use Rattle.dwz_settled.specs.Settled.{IsSettled}
-use Rattle.dwz_settled.specs.Unfitted.{unfitted, unfitted_file}
-use Rattle.dwz_shown_kept.specs.ShownKept.{AreWrittenFrom, fit_of}
-use Rattle.dwz_laid.specs.Laid.{FilesTexts, RunKnownLaw, TextsKnown}
-use Rattle.dwz_laid.proofs.FileKnown.{file_known, know_count, parts_are}
+use Rattle.dwz_laid.specs.Facts.{AreFacts, Facts, HasFile, docs, files_written, move, run, units, units_written, written}
+use Rattle.dwz_laid.specs.Listed.{AreListed, AreRows, TextsAt}
+use Rattle.dwz_laid.specs.Named.{keys}
+use Rattle.dwz_laid.specs.Settled.{IsSettled}
+use Rattle.dwz_laid.specs.Unfitted.{KnowCommon, unfitted, unfitted_file}
+use Rattle.dwz_laid.specs.ShownKept.{AreWrittenFrom, fit_of}
+use Rattle.dwz_laid.specs.Laid.{FilesTexts, NoneKnownLaw, RunKnownLaw, TextsKnown}
+use Rattle.dwz_laid.proofs.FileKnown.{file_known, know_count}
+use Rattle.dwz_laid.proofs.PartsKnown.{common_known, common_long}
 use Rattle.dwz_laid.proofs.WrittenUnits.{written_units}
 
 -- ---- files that were read have the same units
@@ -103,12 +89,6 @@ unfolding file_numbers
 flag_is g s [] n lt = absurd (omega (arith, lt))
 flag_is g s (doc ∷ said) zero lt = ap g (let z : s ≡ s + 0 = omega arith in z)
 flag_is g s (doc ∷ said) (suc n) lt = flag_is g (suc s) said n (omega (arith, lt)) ∙ ap g (let z : suc s + n ≡ s + suc n = omega arith in z)
-
-number_below : (s : ℕ) (said : List (Doc ℕ)) (n : ℕ) → In n (file_numbers s said) → n < s + length said
-unfolding file_numbers
-number_below s [] n there = absurd there
-number_below s (doc ∷ said) n (inl e) = omega (arith, e)
-number_below s (doc ∷ said) n (inr later) = (let lt = number_below (suc s) said n later in omega (arith, lt))
 
 indexed_long : (s : Starts) (said : List (Doc ℕ)) (is : List Index) (end : Starts) → AreIndexed s said is end → length said ≡ length is
 indexed_long s [] [] end are = refl
@@ -181,41 +161,7 @@ module _ (f : Facts) (t : TextsAt) (k : Known) (facts : AreFacts f) (listed : Ar
           )
       by false w orders put there texts rest = rest here orders put there texts
 
-  -- ---- the common file
-
-  module _ (none : common_units (move f) ≡ []) where
-    -- a partial unit is of a file
-    is_local : (p : ℕ) (part : PartialUnit) → Nth 0 (move f).parts p part → (file_of_home (length (docs f)) part.home == length (docs f)) ≡ false
-    unfolding common_units
-    is_local p part nth =
-        let some = (part_is f.scope (units f) (rule f) facts.alike facts.choice (file_numbers 0 (docs f)) p part nth).some in
-        let own = part_tops f.scope (units f) (rule f) facts.alike facts.choice (file_numbers 0 (docs f)) p part nth some.0 some.1 in
-        let u = of_unit (units f) some.0 own.there in
-        let at = subst (λ (i : ℕ). Nth 0 (units f) i u.unit) own.unit u.nth in
-        elim (used_homes (rule f) (units f) (file_numbers 0 (docs f)) p part nth (first_unit part.tops) u.unit at
-        (first_uses f.scope (units f) (rule f) facts.alike facts.choice (file_numbers 0 (docs f)) p part nth)) [
-          | inl e ↦ absurd (subst (In (partial_unit (move f) p)) none (parts_to (move f) Common 0 (move f).parts p part nth e))
-          | inr e ↦ (let lt = number_below 0 (docs f) u.unit.file (files_are (docs f) (first_unit part.tops) u.unit at) in
-              ap (λ (h : Home). file_of_home (length (docs f)) h == length (docs f)) e ∙ ne_eqb u.unit.file (length (docs f)) (λ q. omega (arith, q, lt)))
-        ]
-
-    nothing_put : (p : ℕ) (parts : List PartialUnit) → ((q : ℕ) (part : PartialUnit) → Nth p parts q part → Nth 0 (move f).parts q part) → (order : List UnitItems)
-        → PartsPut s (length (docs f)) p (map (shown_part (length (docs f))) parts) order → order ≡ []
-    nothing_put p [] among order put = put
-    nothing_put p (part ∷ parts) among order put =
-        nothing_put (suc p) parts (λ q other i. among q other (inr i)) order
-        (subst (λ (b : Bool). IfSo b (First (PartPut s p (shown_part (length (docs f)) part)) (PartsPut s (length (docs f)) (suc p) (map (shown_part (length (docs f))) parts)) order)
-        (PartsPut s (length (docs f)) (suc p) (map (shown_part (length (docs f))) parts) order)) (is_local p part (among p part (inl (refl, refl)))) put)
-
-    common_known : (order : List UnitItems) → PartsPut s (length (docs f)) 0 s.plan.now.partials order
-        → (order ≡ []) × KnowUnits (keys f) k (with_keys (common_forms (run f)) (units_keys (common_units (move f)))) None 0 order (common_units (move f))
-    common_known order put =
-        let no = nothing_put 0 (move f).parts (λ q part i. i) order
-        (subst (λ (w : List PlannedPart). PartsPut s (length (docs f)) 0 w order) (sym (parts_are f t k facts listed s settled)) put) in (
-          no,
-          subst (λ (us : List (DwUnit Spot)). KnowUnits (keys f) k (with_keys (common_forms (run f)) (units_keys us)) None 0 order us) (sym none)
-              (subst (λ (w : List UnitItems). KnowUnits (keys f) k (with_keys (common_forms (run f)) (units_keys [])) None 0 w []) (sym no) tt),
-        )
+-- ---- as many files as were read
 
 rows_long : (f : Facts) (xs : List File) (is : List Index) (starts : List ℕ) (texts : List (List TextAt)) (rows : List FileRows) → AreRows f xs is starts texts rows → length xs ≡ length is
 rows_long f [] [] starts texts rows h = refl
@@ -226,25 +172,53 @@ rows_long f (x ∷ xs) (index ∷ is) (c ∷ starts) [] rows h = absurd h
 rows_long f (x ∷ xs) (index ∷ is) (c ∷ starts) (t ∷ texts) [] h = absurd h
 rows_long f (x ∷ xs) (index ∷ is) (c ∷ starts) (t ∷ texts) (r ∷ rows) h = ap suc (rows_long f xs is starts texts rows h.1)
 
+module _ (f : Facts) (t : TextsAt) (k : Known) (facts : AreFacts f) (listed : AreListed f t k) where
+  indexes_long : length (docs f) ≡ length f.indexes
+  indexes_long = indexed_long first_starts (docs f) f.indexes facts.indexed.end facts.indexed.are
+
+  -- the number of the common file among those that are put in order is that of the files
+  as_read : (s : Settled) (orders : List (List UnitItems)) (put : AreOrders f.contents f.indexes s orders) → length put.files ≡ length (docs f)
+  as_read s orders put =
+      let many = as_many no_files_before 0 f.contents put.files put.kept.end put.kept.are in
+      let mine = as_many no_files_before 0 f.contents f.files facts.kept.end facts.kept.are in
+      let rows = rows_long f f.files f.indexes (starts_from 0 f.indexes) t.files k.files.items listed.rows in
+      omega (arith, many, mine, rows, indexes_long)
+
+  common_put : (s : Settled) (orders : List (List UnitItems)) (put : AreOrders f.contents f.indexes s orders) → PartsPut s (length (docs f)) 0 s.plan.now.partials put.common
+  common_put s orders put = subst (λ (n : ℕ). PartsPut s n 0 s.plan.now.partials put.common) (as_read s orders put) put.common_put
+
+-- ---- all that is written
+
 pub run_known : RunKnownLaw
-run_known f t k s facts listed settled none orders put numbers texts =
+run_known f t k s facts listed settled orders put numbers texts =
     let first : (n : ℕ) → 0 + n ≡ n = λ n. omega arith in
-    let many = as_many no_files_before 0 f.contents put.files put.kept.end put.kept.are in
-    let mine = as_many no_files_before 0 f.contents f.files facts.kept.end facts.kept.are in
-    let rows = rows_long f f.files f.indexes (starts_from 0 f.indexes) t.files k.files.items listed.rows in
-    let long = indexed_long first_starts (docs f) f.indexes facts.indexed.end facts.indexed.are in
-    let all : length put.files ≡ length (docs f) = omega (arith, many, mine, rows, long) in
-    let common = common_known f t k facts listed s settled numbers none put.common (subst (λ (n : ℕ). PartsPut s n 0 s.plan.now.partials put.common) all put.common_put) in
-    let units_are : units_written f ≡ file_units (move f) (units f) (files_written f) =
-    written_units f ∙ ap (λ (w : List (DwUnit Spot)). w ++ file_units (move f) (units f) (files_written f)) none in
-    let others = known_from f t k facts listed s settled numbers 0 0 0 (docs f) f.files f.indexes put.others long
+    let told = subst (TextsKnown f k numbers) put.orders_are texts in
+    let common = common_known f t k s facts listed settled put.common (common_put f t k facts listed s orders put) told.0 in
+    let units_common = common_units (move f) in
+    let units_others = file_units (move f) (units f) (files_written f) in
+    let long = know_count (keys f) k (with_keys (common_forms (run f)) (units_keys units_common)) None 0 put.common units_common common in
+    let others = known_from f t k facts listed s settled numbers 0 0 (0 + length put.common) (docs f) f.files f.indexes put.others (indexes_long f t k facts listed)
     (λ j x index e g. (let o = is_among f.contents f.files f.indexes j x index facts.kept facts.indexed e g in
     (o.bytes, subst (λ (q : ℕ). HasFile f q o.bytes x index) (sym (first j)) (record { file = e; index_is = g; read = o.is.kept }))))
     (λ j c e. ap (slice_get (starts_from 0 f.indexes)) (first j) ∙ e)
     (λ j lt. ap (λ (q : ℕ). slice_index_or (written f) q false) (first j) ∙ flag_is (changes (move f) (units f)) 0 (docs f) j lt)
     (files_put s no_files_before 0 0 f.contents f.files put.files facts.kept.end put.kept.end facts.kept.are put.kept.are f.indexes put.others put.files_put)
-    (λ j u e. ap (slice_get (units_written f)) (first j) ∙ ap (λ (w : List (DwUnit Spot)). slice_get w j) units_are ∙ e)
-    (subst (TextsKnown f k numbers) put.orders_are texts) in
-    let nothing : 0 ≡ 0 + length put.common = (let no = ap (λ (w : List UnitItems). length w) common.0 in omega (arith, no)) in
-    subst (λ (w : List (List UnitItems)). KnowFiles (keys f) k 0 w (unfitted f numbers)) (sym put.orders_are)
-    (common.1, subst (λ (n : ℕ). KnowFiles (keys f) k n put.others (map (unfitted_file f numbers) (files_written f))) nothing others)
+    (λ j u e. (let behind : (0 + length put.common) + j ≡ length units_common + j = omega (arith, long) in
+    ap (slice_get (units_written f)) behind ∙ ap (λ (w : List (DwUnit Spot)). slice_get w (length units_common + j)) (written_units f) ∙ get_later units_common units_others j u e))
+    told.1 in
+    subst (λ (w : List (List UnitItems)). KnowFiles (keys f) k 0 w (unfitted f numbers)) (sym put.orders_are) (common, others)
+
+-- ---- nothing in the common file
+
+no_orders : (order : List UnitItems) → length order ≡ 0 → order ≡ []
+no_orders [] e = refl
+no_orders (o ∷ order) e = absurd (omega (arith, e))
+
+pub none_known : NoneKnownLaw
+none_known f t k s facts listed settled none common others put =
+    let long = common_long f t k s facts listed settled put.common (common_put f t k facts listed s (common ∷ others) put) in
+    let no = no_orders put.common (long ∙ ap (λ (w : List (DwUnit Spot)). length w) none) in
+    let both : common ∷ others ≡ put.common ∷ put.others = put.orders_are in
+    let same : common ≡ put.common = cc in
+    subst (λ (w : List UnitItems). KnowCommon f k w (common_units (move f))) (sym (same ∙ no))
+    (subst (λ (us : List (DwUnit Spot)). KnowCommon f k [] us) (sym none) tt)

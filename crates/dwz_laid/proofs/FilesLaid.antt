@@ -17,10 +17,10 @@ use Rattle.dwz_places.specs.declared.order.UnitItems.{UnitItems}
 use Rattle.dwz_places.specs.Laid.{FileMade, made_of}
 use Rattle.dwz_pages.specs.Laws.{FileIs, FilesAre}
 use Rattle.dwz_pages.proofs.LawLemmas.{places_are, sections_are}
-use Rattle.dwz_refers.proofs.NamesThere.{files_key}
-use Rattle.dwz_facts.specs.Facts.{AreFacts, Facts, docs, files_written, move, rule, run, units}
-use Rattle.dwz_facts.specs.Named.{keys}
-use Rattle.dwz_named.proofs.ReadFiles.{all_placed}
+use Rattle.dwz_laid.proofs.NamesThere.{files_key}
+use Rattle.dwz_laid.specs.Facts.{AreFacts, Facts, docs, files_written, move, rule, run, units}
+use Rattle.dwz_laid.specs.Named.{keys}
+use Rattle.dwz_laid.proofs.ReadFiles.{all_placed}
 use Rattle.dwz_laid.specs.Laid.{RunLaidLaw, RunPlacesLaw, written_out}
 
 module _ (n p : Numbering Spot) (k : Known) (at roots : List ℕ) where

@@ -31,12 +31,12 @@ use Rattle.dwz_known.specs.Owners.{AreOwners}
 use Rattle.dwz_known.proofs.OnceNames.{no_unit, one_entry}
 use Rattle.dwz_places.specs.declared.known.Known.{Known}
 use Rattle.dwz_places.specs.declared.order.UnitItems.{UnitItems}
-use Rattle.dwz_refers.specs.Refers.{RowsApart}
-use Rattle.dwz_refers.proofs.HeldNames.{each_to_map}
-use Rattle.dwz_facts.specs.Facts.{AreFacts, Facts, docs, files_written, move, run, units}
-use Rattle.dwz_facts.specs.Listed.{AreAllOwners, AreListed, TextsAt}
-use Rattle.dwz_facts.specs.Named.{keys, no_name}
-use Rattle.dwz_named.proofs.ImagesStand.{old}
+use Rattle.dwz_laid.specs.Refers.{RowsApart}
+use Rattle.dwz_laid.proofs.HeldNames.{each_to_map}
+use Rattle.dwz_laid.specs.Facts.{AreFacts, Facts, docs, files_written, move, run, units}
+use Rattle.dwz_laid.specs.Listed.{AreAllOwners, AreListed, TextsAt}
+use Rattle.dwz_laid.specs.Named.{keys, no_name}
+use Rattle.dwz_laid.proofs.ImagesStand.{old}
 use Rattle.dwz_laid.specs.Laid.{written_out}
 use Rattle.dwz_laid.proofs.EntryNames.{IsOfEntry, is_of_entry}
 use Rattle.dwz_laid.proofs.NamesCounted.{got_or}

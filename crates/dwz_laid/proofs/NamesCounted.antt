@@ -17,10 +17,10 @@ use Rattle.dwz_places.specs.Attributes.{Content, Here, OfEntry, OfParts, OfRoot,
 use Rattle.dwz_places.specs.Entries.{items_slots}
 use Rattle.dwz_pages.specs.Shown.{HeldLine, ShowFiles, ShowUnits, ShowsUnit, SortShows, attr_held, content_held, slot_held}
 use Rattle.dwz_fewer.specs.Fewer.{NameOnly}
-use Rattle.dwz_refers.specs.Refers.{ContentCounted, FilesCounted, IsEntryNumber, SlotCounted, SortCounted, UnitCounted, UnitsCounted}
-use Rattle.dwz_refers.proofs.HeldNames.{AttrIn, LineIn, held_refs, unit_in}
-use Rattle.dwz_facts.specs.Facts.{Facts, docs, units_written}
-use Rattle.dwz_facts.specs.Named.{keys, root_name}
+use Rattle.dwz_laid.specs.Refers.{ContentCounted, FilesCounted, IsEntryNumber, SlotCounted, SortCounted, UnitCounted, UnitsCounted}
+use Rattle.dwz_laid.proofs.HeldNames.{AttrIn, LineIn, held_refs, unit_in}
+use Rattle.dwz_laid.specs.Facts.{Facts, docs, units_written}
+use Rattle.dwz_laid.specs.Named.{keys, root_name}
 
 pub got_or : {X : Type 0} (xs : List X) (n : ℕ) (d : X) → (n < length xs) ⊎ (get_or xs n d ≡ d)
 got_or [] n d = inr refl

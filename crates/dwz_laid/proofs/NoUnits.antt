@@ -16,8 +16,8 @@ use Rattle.dwz_same.proofs.FileLemmas.{files_are}
 use Rattle.dwz_writing.specs.Meant.{all_entry_keys, entry_keys}
 use Rattle.dwz_back.proofs.HomeLemmas.{kept_from, parts_from}
 use Rattle.dwz_back.proofs.WithinLemmas.{kept_to}
-use Rattle.dwz_facts.specs.Facts.{AreFacts, Facts, docs, move, rule, units}
-use Rattle.dwz_named.proofs.ImagesStand.{old}
+use Rattle.dwz_laid.specs.Facts.{AreFacts, Facts, docs, move, rule, units}
+use Rattle.dwz_laid.proofs.ImagesStand.{old}
 use Rattle.dwz_laid.proofs.FilesLaid.{all_once}
 
 -- ---- names of units and of entries

@@ -12,10 +12,10 @@ use Rattle.dwz_fewer.proofs.SomeOfRuns.{files_in_run, once_in_run, some_name}
 use Rattle.dwz_places.specs.declared.known.Known.{Known}
 use Rattle.dwz_places.specs.declared.order.UnitItems.{UnitItems}
 use Rattle.dwz_pages.specs.Shown.{Keys, ShowFiles, ShowUnits, unit_count}
-use Rattle.dwz_refers.proofs.OrderRefers.{order_refers}
-use Rattle.dwz_facts.specs.Facts.{Facts, docs, files_written, move, rule, run, units, units_written}
-use Rattle.dwz_facts.specs.Named.{keys}
-use Rattle.dwz_named.proofs.ReadFiles.{all_placed}
+use Rattle.dwz_laid.proofs.OrderRefers.{order_refers}
+use Rattle.dwz_laid.specs.Facts.{Facts, docs, files_written, move, rule, run, units, units_written}
+use Rattle.dwz_laid.specs.Named.{keys}
+use Rattle.dwz_laid.proofs.ReadFiles.{all_placed}
 use Rattle.dwz_laid.specs.Laid.{RunFewLaw, RunOrderLaw, SettledOrderLaw, run_numbers, written_out}
 use Rattle.dwz_laid.proofs.EntriesNamed.{common_many, entries_no, entries_of, files_only, fitted_many}
 use Rattle.dwz_laid.proofs.FilesFitted.{run_shown}
@@ -96,5 +96,5 @@ run_few f none = record {
 }
 
 pub settled_order : SettledOrderLaw
-settled_order f t k s facts listed settled none read orders put texts =
-    run_order f t k orders facts listed read (run_few f none) (run_shown f k orders (run_known f t k s facts listed settled none orders put (run_numbers (run f)) texts))
+settled_order f t k s facts listed settled few read orders put texts =
+    run_order f t k orders facts listed read few (run_shown f k orders (run_known f t k s facts listed settled orders put (run_numbers (run f)) texts))

@@ -6,7 +6,7 @@ use Rattle.dwz_alike.specs.Spots.{FileUnit, Spot, file_numbers}
 use Rattle.dwz_moving.specs.Moves.{Move}
 use Rattle.dwz_same.specs.Units.{all_units, changes, common_units, file_units, out_units}
 use Rattle.dwz_known.specs.Owners.{file_written, files_written as written_from}
-use Rattle.dwz_facts.specs.Facts.{Facts, docs, files_written, move, units, units_written}
+use Rattle.dwz_laid.specs.Facts.{Facts, docs, files_written, move, units, units_written}
 
 module _ (m : Move) (us : List (FileUnit Spot)) where
   abbrev changed : ℕ → Bool

@@ -25,12 +25,12 @@ use Rattle.dwz_pages.specs.Laws.{FilesAre, IsOrderOf}
 use Rattle.dwz_pages.specs.Shown.{IsWritten, ShowFiles}
 use Rattle.dwz_fitted.specs.Fitted.{KnowFiles, fitted_file}
 use Rattle.dwz_fitted.specs.Knows.{IsRead, NewNumbers}
-use Rattle.dwz_facts.specs.Facts.{AreFacts, Facts, HasFile, docs, file_read, files_written, move, run, units}
-use Rattle.dwz_facts.specs.Listed.{AreListed, TextsAt}
-use Rattle.dwz_facts.specs.Named.{keys}
-use Rattle.dwz_named.specs.NamedLaws.{IsItself, entry_name}
-use Rattle.dwz_settled.specs.Settled.{IsSettled}
-use Rattle.dwz_settled.specs.Unfitted.{KnowTexts, unfitted}
+use Rattle.dwz_laid.specs.Facts.{AreFacts, Facts, HasFile, docs, file_read, files_written, move, run, units}
+use Rattle.dwz_laid.specs.Listed.{AreListed, TextsAt}
+use Rattle.dwz_laid.specs.Named.{keys}
+use Rattle.dwz_laid.specs.NamedLaws.{IsItself, entry_name}
+use Rattle.dwz_laid.specs.Settled.{IsSettled}
+use Rattle.dwz_laid.specs.Unfitted.{KnowCommon, KnowTexts, unfitted}
 
 -- in a file that is prunable each use of a text has its new number
 abbrev pub numbers_if : Bool → Run → ℕ → NewNumbers
@@ -63,16 +63,15 @@ FilesTexts f k numbers (n ∷ files) (order ∷ orders) =
     KnowTexts f k (numbers n) n order (out_units (move f) (units f) n) × FilesTexts f k numbers files orders
 FilesTexts f k numbers _ _ = ⊥
 
--- so of all that are written behind the common one
+-- so of all that are written, and those of the common file, which is the first
 abbrev pub TextsKnown : Facts → Known → (ℕ → NewNumbers) → List (List UnitItems) → Type 0
 TextsKnown f k numbers [] = ⊥
-TextsKnown f k numbers (common ∷ orders) = FilesTexts f k numbers (files_written f) orders
+TextsKnown f k numbers (common ∷ orders) = KnowCommon f k common (common_units (move f)) × FilesTexts f k numbers (files_written f) orders
 
--- Of a run of which nothing is in the common file: where what is settled is written in order, and texts stand where the definitions say,
--- all that is written is known.
+-- Where what is settled is written in order, and texts stand where the definitions say, all that is written is known.
 abbrev pub RunKnownLaw : Type 0
 RunKnownLaw =
-    (f : Facts) (t : TextsAt) (k : Known) (s : Settled) → AreFacts f → AreListed f t k → IsSettled f s → common_units (move f) ≡ []
+    (f : Facts) (t : TextsAt) (k : Known) (s : Settled) → AreFacts f → AreListed f t k → IsSettled f s
     → (orders : List (List UnitItems)) → AreOrders f.contents f.indexes s orders
     → (numbers : ℕ → NewNumbers) → TextsKnown f k numbers orders → KnowFiles (keys f) k 0 orders (unfitted f numbers)
 
@@ -89,10 +88,17 @@ RunOrderLaw =
 abbrev pub RunFewLaw : Type 0
 RunFewLaw = (f : Facts) → common_units (move f) ≡ [] → FewTexts (run f)
 
--- So of a run of which nothing is in the common file what is settled is written in such an order, if texts stand where the definitions say.
+-- then nothing is written of it, and nothing of its texts has to be known
+abbrev pub NoneKnownLaw : Type 0
+NoneKnownLaw =
+    (f : Facts) (t : TextsAt) (k : Known) (s : Settled) → AreFacts f → AreListed f t k → IsSettled f s → common_units (move f) ≡ []
+    → (common : List UnitItems) (others : List (List UnitItems)) → AreOrders f.contents f.indexes s (common ∷ others)
+    → KnowCommon f k common (common_units (move f))
+
+-- So what is settled of a run is written in such an order, if texts stand where the definitions say.
 abbrev pub SettledOrderLaw : Type 0
 SettledOrderLaw =
-    (f : Facts) (t : TextsAt) (k : Known) (s : Settled) → AreFacts f → AreListed f t k → IsSettled f s → common_units (move f) ≡ []
+    (f : Facts) (t : TextsAt) (k : Known) (s : Settled) → AreFacts f → AreListed f t k → IsSettled f s → FewTexts (run f)
     → AreRead f.input (docs f) → (orders : List (List UnitItems)) → AreOrders f.contents f.indexes s orders
     → TextsKnown f k (run_numbers (run f)) orders → IsOrderOf (keys f) k orders (written_out f)
 

@@ -1,1 +1,17 @@
+pub mod Facts
+pub mod Listed
+pub mod Named
+pub mod Settled
+pub mod Unfitted
+pub mod NamedLaws
+pub mod OwnedLaws
+pub mod Items
+pub mod New
+pub mod Old
+pub mod Trees
+pub mod Roots
+pub mod Refers
+pub mod Apart
+pub mod ShownKept
+pub mod ShownParts
 pub mod Laid

@@ -56,6 +56,7 @@ fn put_text(out: &mut Vec<u8>, text: TextAt) -> Result<(), NoMemory>
     match text {
         TextAt::Own(offset) => put_four(out, offset as u64),
         TextAt::Shared(offset) => put_four(out, offset as u64),
+        TextAt::Pooled(offset) => put_four(out, offset as u64),
     }
 }
 
@@ -195,7 +196,7 @@ fn put_name(
     for pair in pairs {
         let raw = known_value(&mut cursor, pair);
         if pair.name == NAME {
-            return put_as_name(out, holder, pair, &raw, space.text);
+            return put_as_name(out, holder, pair, &raw, space.text_in(holder));
         }
     }
     Ok(())

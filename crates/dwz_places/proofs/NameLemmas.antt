@@ -18,14 +18,14 @@ use Rattle.dwz_places.specs.declared.known.Known.{Known}
 use Rattle.dwz_places.specs.declared.known.SpaceRow.{SpaceRow}
 use Rattle.dwz_places.specs.declared.known.TextAt.{TextAt}
 use Rattle.dwz_places.specs.Attributes.{OutAttr, name_attrs, name_by, space_attrs, value_read}
-use Rattle.dwz_places.specs.Known.{HasValues, row_at}
+use Rattle.dwz_places.specs.Known.{HasValues, row_at, text_held}
 use Rattle.dwz_places.specs.Ways.{way_of}
 
 pub record NameLeft (k : Known) (h : Holder) (s : SpaceRow) (pairs : List Pair) (j : ℕ) (at : Input) : Type 0 where
   pub entry : EntryRow
   pub reads : Reads entry.entry.at (drop j pairs) at (drop j entry.entry.attrs)
   pub count : length entry.entry.attrs ≡ length pairs
-  pub all : space_attrs k h s ≡ name_attrs h s.text (drop j entry.entry.attrs)
+  pub all : space_attrs k h s ≡ name_attrs h (text_held h s) (drop j entry.entry.attrs)
 
 abbrev by_name : Holder → TextAt → RawAttr → List RawAttr → Bool → List OutAttr
 by_name h text a attrs test = cond test (name_by text a (way_of h a.pair) ∷ []) (name_attrs h text attrs)
@@ -50,7 +50,7 @@ module _ (k : Known) (h : Holder) (s : SpaceRow) (pairs : List Pair) where
     entry = has.entry;
     reads = has.reads;
     count = reads_count has.entry.entry.at pairs at has.entry.entry.attrs has.reads;
-    all = ap (λ (o : Option EntryRow). option_map_or (λ (r : EntryRow). name_attrs h s.text r.entry.attrs) o []) has.is;
+    all = ap (λ (o : Option EntryRow). option_map_or (λ (r : EntryRow). name_attrs h (text_held h s) r.entry.attrs) o []) has.is;
   }
 
   module _ (j : ℕ) (d : Pair) (at : Input) (left : NameLeft k h s pairs j at) (lt : j < length pairs) where
@@ -71,10 +71,10 @@ module _ (k : Known) (h : Holder) (s : SpaceRow) (pairs : List Pair) where
           let same_place = same_input x.raw raw x.place place (value_at form_rows pair at) x.value value in
           x.is ∙ (λ i. let b : RawAttr = record { at = at.at; end = (same_place i).at; pair = pair; raw = same_raw i } in Some b)
 
-      split : space_attrs k h s ≡ by_name h s.text a (drop (j + 1) left.entry.entry.attrs) (eqb (get_or pairs j d).name 0x03)
+      split : space_attrs k h s ≡ by_name h (text_held h s) a (drop (j + 1) left.entry.entry.attrs) (eqb (get_or pairs j d).name 0x03)
       split =
           let b : RawAttr = record { at = at.at; end = place.at; pair = get_or pairs j d; raw = raw } in
-          left.all ∙ ap (name_attrs h s.text) (drop_here left.entry.entry.attrs j b there) ∙ first_name h s.text b (drop (j + 1) left.entry.entry.attrs)
+          left.all ∙ ap (name_attrs h (text_held h s)) (drop_here left.entry.entry.attrs j b there) ∙ first_name h (text_held h s) b (drop (j + 1) left.entry.entry.attrs)
 
       pub name_next : (get_or pairs j d).name ≢ 0x03 → NameLeft k h s pairs (j + 1) place
       name_next ne =
@@ -85,16 +85,17 @@ module _ (k : Known) (h : Holder) (s : SpaceRow) (pairs : List Pair) where
             entry = left.entry;
             reads = subst (λ (i : Input). Reads left.entry.entry.at (drop (j + 1) pairs) i (drop (j + 1) left.entry.entry.attrs)) same_place x.rest;
             count = left.count;
-            all = split ∙ ap (by_name h s.text a (drop (j + 1) left.entry.entry.attrs)) (eqb_other pair.name 0x03 ne);
+            all = split ∙ ap (by_name h (text_held h s) a (drop (j + 1) left.entry.entry.attrs)) (eqb_other pair.name 0x03 ne);
           }
 
-      pub name_found : (get_or pairs j d).name ≡ 0x03 → space_attrs k h s ≡ name_by s.text a (way_of h (get_or pairs j d)) ∷ []
-      name_found e =
+      pub name_found : (t : TextAt) → t ≡ text_held h s → (get_or pairs j d).name ≡ 0x03 → space_attrs k h s ≡ name_by t a (way_of h (get_or pairs j d)) ∷ []
+      name_found t is e =
           let yes : eqb (get_or pairs j d).name 0x03 ≡ true = ap (λ (n : ℕ). eqb n 0x03) e in
-          split ∙ ap (by_name h s.text a (drop (j + 1) left.entry.entry.attrs)) yes
+          split ∙ ap (by_name h (text_held h s) a (drop (j + 1) left.entry.entry.attrs)) yes
+          ∙ ap (λ (u : TextAt). name_by u a (way_of h (get_or pairs j d)) ∷ []) (sym is)
 
   pub name_end : (j : ℕ) (at : Input) → NameLeft k h s pairs j at → length pairs ≤ j → space_attrs k h s ≡ []
-  name_end j at left le = left.all ∙ ap (name_attrs h s.text) (drop_all j left.entry.entry.attrs (omega (arith, le, left.count))) ∙ no_name h s.text
+  name_end j at left le = left.all ∙ ap (name_attrs h (text_held h s)) (drop_all j left.entry.entry.attrs (omega (arith, le, left.count))) ∙ no_name h (text_held h s)
 
   pub name_none : row_at k s.row ≡ None → space_attrs k h s ≡ []
-  name_none none = ap (λ (o : Option EntryRow). option_map_or (λ (r : EntryRow). name_attrs h s.text r.entry.attrs) o []) none
+  name_none none = ap (λ (o : Option EntryRow). option_map_or (λ (r : EntryRow). name_attrs h (text_held h s) r.entry.attrs) o []) none

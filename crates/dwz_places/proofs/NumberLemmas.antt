@@ -13,7 +13,7 @@ use Rattle.dwz_docs.specs.Values.{AreBytes, HasSpelling, Number, Raw, SpellsShap
 use Rattle.dwz_docs.proofs.WrittenLemmas.{read_writable}
 use Rattle.dwz_model.specs.declared.place.Pair.{Pair}
 use Rattle.dwz_places.specs.declared.known.TextAt.{TextAt}
-use Rattle.dwz_places.specs.declared.known.TextAt.TheVariants.{Own, Shared}
+use Rattle.dwz_places.specs.declared.known.TextAt.TheVariants.{Own, Pooled, Shared}
 use Rattle.dwz_places.specs.Attributes.{text_form, text_offset}
 use Rattle.dwz_writing.specs.Placing.{Reach, InCommon, InFile, InUnit, ref_form}
 use Rattle.dwz_writing.proofs.WriteLengths.{le_len}
@@ -75,6 +75,7 @@ pub text_bytes : (t : TextAt) → value_bytes (text_form t) (Number (pos (text_o
 unfolding value_bytes form_rows
 text_bytes (Own x) = refl
 text_bytes (Shared x) = refl
+text_bytes (Pooled x) = refl
 
 pub text_len : (t : TextAt) → 4 ≡ length (value_bytes (text_form t) (Number (pos (text_offset t))))
 text_len t = four (text_form t) (text_offset t) (text_bytes t)

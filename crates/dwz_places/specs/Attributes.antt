@@ -18,7 +18,7 @@ use Rattle.dwz_places.specs.declared.known.Firsts.{Firsts}
 use Rattle.dwz_places.specs.declared.known.Known.{Known}
 use Rattle.dwz_places.specs.declared.known.SpaceRow.{SpaceRow}
 use Rattle.dwz_places.specs.declared.known.TextAt.{TextAt}
-use Rattle.dwz_places.specs.declared.known.TextAt.TheVariants.{Own, Shared}
+use Rattle.dwz_places.specs.declared.known.TextAt.TheVariants.{Own, Pooled, Shared}
 use Rattle.dwz_places.specs.declared.order.Sort.{Sort}
 use Rattle.dwz_places.specs.declared.order.Sort.TheVariants.{Compile, OfType, Partial}
 use Rattle.dwz_places.specs.declared.walk.Entry.{Entry}
@@ -27,7 +27,7 @@ use Rattle.dwz_places.specs.declared.walk.Origin.TheVariants.{Chained, Imported,
 use Rattle.dwz_places.specs.declared.ways.Way.{Way}
 use Rattle.dwz_places.specs.declared.ways.Way.TheVariants.{AsEntry, AsExpression, AsFile, AsRead, AsText, Dropped, KeepsText}
 use Rattle.dwz_places.specs.declared.ways.Here.{Here as HereOfCode}
-use Rattle.dwz_places.specs.Known.{file_at, firsts_of, owner_of, reference_at, row_at, space_at, text_at, unit_of_part}
+use Rattle.dwz_places.specs.Known.{file_at, firsts_of, owner_of, reference_at, row_at, space_at, text_at, text_held, unit_of_part}
 use Rattle.dwz_places.specs.Stored.{StoredAttr}
 use Rattle.dwz_places.specs.Ways.{holder_view, way_of}
 
@@ -107,10 +107,12 @@ expr_attr k file name n parts = record { pair = plain_pair name 0x18; content = 
 abbrev pub text_form : TextAt → ℕ
 text_form (Own offset) = 0x0e
 text_form (Shared offset) = 0x1d
+text_form (Pooled offset) = 0x0e
 
 abbrev pub text_offset : TextAt → ℕ
 text_offset (Own offset) = offset
 text_offset (Shared offset) = offset
+text_offset (Pooled offset) = offset
 
 abbrev pub text_attr : ℕ → TextAt → OutAttr
 text_attr name t = record { pair = plain_pair name (text_form t); content = Read (Number (pos (text_offset t))) }
@@ -171,7 +173,7 @@ name_attrs h text [] = []
 name_attrs h text (a ∷ attrs) = if a.pair.name == 0x03 then name_by text a (way_of h a.pair) ∷ [] else name_attrs h text attrs
 
 abbrev pub space_attrs : Known → Holder → SpaceRow → List OutAttr
-space_attrs k h s = option_map_or (λ (r : EntryRow). name_attrs h s.text r.entry.attrs) (row_at k s.row) []
+space_attrs k h s = option_map_or (λ (r : EntryRow). name_attrs h (text_held h s) r.entry.attrs) (row_at k s.row) []
 
 -- DW_AT_stmt_list (10) of a partial unit
 abbrev pub line_attrs : Option ℕ → List OutAttr

@@ -12,6 +12,7 @@ use Rattle.dwz_places.specs.declared.known.Row.{Row}
 use Rattle.dwz_places.specs.declared.known.SpaceRow.{SpaceRow}
 use Rattle.dwz_places.specs.declared.known.TextAt.{TextAt}
 use Rattle.dwz_places.specs.declared.known.TextAt.TheVariants.{Own}
+use Rattle.dwz_writing.specs.Placing.{CommonUnit, Holder, NewUnit, OldUnit}
 
 -- the entries of the file with that number, none where there is no such file
 abbrev pub rows_in : Known → ℕ → List EntryRow
@@ -63,10 +64,16 @@ abbrev pub no_row : Row
 no_row = record { file = 0; entry = 0 }
 
 abbrev pub no_space : SpaceRow
-no_space = record { row = no_row; text = no_text }
+no_space = record { row = no_row; text = no_text; common = no_text }
 
 abbrev pub top_row : Known → ℕ → Row
 top_row k top = slice_index_or k.tops.items top no_row
 
 abbrev pub space_at : Known → ℕ → SpaceRow
 space_at k space = slice_index_or k.spaces.items space no_space
+
+-- where the name of a space is written in a partial unit of its file, and in one of the common file
+abbrev pub text_held : Holder → SpaceRow → TextAt
+text_held CommonUnit s = s.common
+text_held NewUnit s = s.text
+text_held OldUnit s = s.text

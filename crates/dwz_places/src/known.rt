@@ -4,8 +4,10 @@ ghost use Rattle.std.specs.Prelude.{◌≡◌, ◌+◌, ◌<◌, ◌^◌, All, I
 ghost use Rattle.std.specs.Option.{option_map};
 ghost use Rattle.dwz_docs.specs.Abbrevs.{IsPlainPair};
 ghost use Rattle.dwz_unit.specs.Rows.{entry_shown};
-ghost use Rattle.dwz_places.specs.Known.{HasValues, file_at, firsts_of, number_of, owner_of, reference_at, row_at, space_at, text_at, top_row, unit_of_part};
+ghost use Rattle.dwz_places.specs.Known.{HasValues, file_at, firsts_of, number_of, owner_of, reference_at, row_at, space_at, text_at, text_held, top_row, unit_of_part};
+ghost use Rattle.dwz_places.specs.Ways.{holder_view};
 
+use crate::ways::Holder;
 use dwz_unit::{RawEntry, Units, Values};
 
 /// An entry that was read: the number of its file, and its number there, in preorder over all units.
@@ -23,12 +25,15 @@ pub struct Firsts {
     pub file: u64,
 }
 
-/// Where a text is written: at an offset in `.debug_str` of the file that is written (`DW_FORM_strp`), or of the common file
-/// (`DW_FORM_strp_sup`) (DWARF 5, 7.5.5). A unit of the common file has its texts in its own file.
+/// Where a text is written: an offset in `.debug_str` of a file (DWARF 5, 7.5.5).
 #[derive(Clone, Copy)]
 pub enum TextAt {
+    /// Of the file itself, as it was read or as it is pruned (`DW_FORM_strp`).
     Own(u32),
+    /// Of the common file, in a unit of another file (`DW_FORM_strp_sup`).
     Shared(u32),
+    /// Of the common file, in a unit of that file (`DW_FORM_strp`).
+    Pooled(u32),
 }
 
 /// The entries of a file that was read, and what they name.
@@ -50,11 +55,25 @@ pub struct FileRows<'u, 'a> {
     pub files: Vec<u32>,
 }
 
-/// A space: its entry, and for a space of a partial unit where its name is written.
+/// A space: its entry, and where its name is written in a partial unit of its file, and in one of the common file.
 #[derive(Clone, Copy)]
 pub struct SpaceRow {
     pub row: Row,
     pub text: TextAt,
+    pub common: TextAt,
+}
+
+impl SpaceRow {
+    /// Where its name is written in a partial unit that this holds.
+    #[inline(always)]
+    pub fn text_in(&self, holder: Holder) -> TextAt
+        ensures { result ≡ text_held (holder_view holder) self.now }
+    {
+        match holder {
+            Holder::CommonUnit => self.common,
+            _ => self.text,
+        }
+    }
 }
 
 /// The entries that were read, what they refer to, and the units in which they are written. Units that are written are counted over all
@@ -66,7 +85,7 @@ pub struct Known<'u, 'a> {
     pub owners: Vec<u32>,
     /// For each top its entry.
     pub tops: Vec<Row>,
-    /// For each space its entry. A space may have several numbers, where its name is written in several places.
+    /// For each space its entry.
     pub spaces: Vec<SpaceRow>,
     /// For each partial unit the unit that it is among those that are written.
     pub parts: Vec<u32>,
@@ -216,6 +235,7 @@ impl<'u, 'a> Known<'u, 'a> {
             None => SpaceRow {
                 row: Row { file: 0, entry: 0 },
                 text: TextAt::Own(0),
+                common: TextAt::Own(0),
             },
         }
     }

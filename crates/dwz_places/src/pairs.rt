@@ -82,6 +82,7 @@ pub fn text_pair(name: u16, text: TextAt) -> Pair
     match text {
         TextAt::Own(_) => plain(name, STRP),
         TextAt::Shared(_) => plain(name, STRP_SUP),
+        TextAt::Pooled(_) => plain(name, STRP),
     }
 }
 

@@ -221,7 +221,7 @@ fn measure_name(
     for pair in pairs {
         let raw = known_value(&mut cursor, pair);
         if pair.name == NAME {
-            return measure_as_name(room, holder, pair, &raw, space.text);
+            return measure_as_name(room, holder, pair, &raw, space.text_in(holder));
         }
     }
     Ok(0)

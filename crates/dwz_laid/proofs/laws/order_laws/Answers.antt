@@ -8,4 +8,4 @@ pub returns-clause-few : goal.returns-clause-few
 returns-clause-few c = λ f none. run_few f none
 
 pub returns-clause-settled : goal.returns-clause-settled
-returns-clause-settled c = λ f t k s facts listed settled none read orders put texts. settled_order f t k s facts listed settled none read orders put texts
+returns-clause-settled c = λ f t k s facts listed settled few read orders put texts. settled_order f t k s facts listed settled few read orders put texts

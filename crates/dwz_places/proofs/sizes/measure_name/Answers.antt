@@ -39,13 +39,13 @@ pub returns-then-pair-eq-NAME-clause-pairs : goal.returns-then-pair-eq-NAME-clau
 returns-then-pair-eq-NAME-clause-pairs c =
     space_ok c.measure_as_name.result c.measure_as_name.new.room.pairs.items _ _
     (name_found c.args.known.now (holder_view c.args.holder) c.args.space c.in-Some.field-0.pairs.now c.loop-pair.pair-index no_pair c.loop-pair.cursor c.loop-pair.invariant.left c.loop-pair-test.true c.known_value-raw.new.cursor
-    (raw_view c.known_value-raw.result) c.known_value-raw.ensures.value c.if-pair-eq-NAME.true) (c.measure_as_name.ensures.pairs c.known_value-raw.new.cursor.at)
+    (raw_view c.known_value-raw.result) c.known_value-raw.ensures.value _ c.text_in.ensures c.if-pair-eq-NAME.true) (c.measure_as_name.ensures.pairs c.known_value-raw.new.cursor.at)
 
 pub returns-then-pair-eq-NAME-clause-size : goal.returns-then-pair-eq-NAME-clause-size
 returns-then-pair-eq-NAME-clause-size c =
     space_named c.measure_as_name.result _ _
     (name_found c.args.known.now (holder_view c.args.holder) c.args.space c.in-Some.field-0.pairs.now c.loop-pair.pair-index no_pair c.loop-pair.cursor c.loop-pair.invariant.left c.loop-pair-test.true c.known_value-raw.new.cursor
-    (raw_view c.known_value-raw.result) c.known_value-raw.ensures.value c.if-pair-eq-NAME.true) (c.measure_as_name.ensures.size c.known_value-raw.new.cursor.at)
+    (raw_view c.known_value-raw.result) c.known_value-raw.ensures.value _ c.text_in.ensures c.if-pair-eq-NAME.true) (c.measure_as_name.ensures.size c.known_value-raw.new.cursor.at)
 
 pub loop-pair-preserved : goal.loop-pair-preserved
 loop-pair-preserved c = record {

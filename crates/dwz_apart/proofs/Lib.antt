@@ -1,3 +1,0 @@
-pub mod EntryNames
-pub mod UnitNames
-pub mod RowsAlone

@@ -1,0 +1,67 @@
+-- Files that were read: no two of their units and entries stand at one place, and bytes spell each of their values.
+use Rattle.std.proofs.Common.{◌≡◌, ℕ, zero, suc, List, [], ◌∷◌, drop, Option, Some, None, Ok, slice_get, refl, subst}
+use Rattle.dwz_docs.specs.ElfNames.{sections_in}
+use Rattle.dwz_docs.specs.ElfReading.{bytes_in, section_range}
+use Rattle.dwz_docs.specs.Entries.{given}
+use Rattle.dwz_docs.specs.Units.{RawUnit}
+use Rattle.dwz_docs.specs.Values.{AreBytes}
+use Rattle.dwz_docs.proofs.WrittenLemmas.{drop_bytes}
+use Rattle.dwz_meanings.specs.Documents.{Doc}
+use Rattle.dwz_meanings.specs.Files.{Limits, Reads, debug_abbrev, debug_info, files_meaning, limits_after, no_files_before, section_of}
+use Rattle.dwz_meanings.specs.Meanings.{without_siblings}
+use Rattle.dwz_meanings.proofs.FileLemmas.{file_agrees}
+use Rattle.dwz_seen.specs.Lists.{Each}
+use Rattle.dwz_writing.specs.Carried.{IsStored}
+use Rattle.dwz_writing.proofs.ReadAgain.{take_bytes}
+use Rattle.dwz_same.specs.After.{ArePlaced}
+use Rattle.dwz_back.proofs.ReadPlaces.{read_from}
+use Rattle.dwz_unit.specs.Rows.{EntryRow, rows_of, units_of}
+use Rattle.dwz_graph.specs.declared.file.File.{File}
+use Rattle.dwz_graph.specs.Files.{AreRead, HasFile, HasRead}
+use Rattle.dwz_graph.proofs.GraphLemmas.{files_read}
+use Rattle.dwz_across.proofs.FileWalk.{first_doc}
+use Rattle.dwz_fitted.proofs.RowsStored.{rows_stored}
+use Rattle.dwz_laid.specs.Facts.{AreFacts, Facts, docs}
+
+-- ---- bytes
+
+in_bytes : (input : List ℕ) (range : Option (ℕ × ℕ)) → AreBytes input → AreBytes (bytes_in input range)
+in_bytes input None are = tt
+in_bytes input (Some range) are = take_bytes range.1 (drop range.0 input) (drop_bytes range.0 input are)
+
+section_bytes : (input : List ℕ) (code : ℕ) → AreBytes input → AreBytes (section_of input code)
+unfolding section_of
+section_bytes input code are = in_bytes input (section_range (sections_in input) code) are
+
+file_bytes : (l : Limits) (contents : List (List ℕ)) (i : ℕ) (m : Limits) (b : List ℕ) (raw : List RawUnit) (doc : Doc ℕ) → HasFile l contents i m b raw doc → Each AreBytes contents → AreBytes b
+file_bytes l [] i m b raw doc h are = absurd h
+file_bytes l (x ∷ contents) zero m b raw doc h are = subst (λ (w : List ℕ). AreBytes w) h.1 are.0
+file_bytes l (x ∷ contents) (suc i) m b raw doc h are = file_bytes (limits_after l x h.0) contents i m b raw doc h.3 are.1
+
+-- ---- places
+
+placed_from : (l : Limits) (n : ℕ) (contents : List (List ℕ)) (files : List File) (left : Limits) (said : List (Doc ℕ)) → AreRead l n contents files left
+    → files_meaning l n contents ≡ Ok said → Each AreBytes contents → Each (λ doc. ArePlaced doc.units) said
+unfolding files_meaning
+placed_from l n [] [] left said h m are = (let same : [] ≡ said = cc in subst (λ (w : List (Doc ℕ)). Each (λ doc. ArePlaced doc.units) w) same tt)
+placed_from l n [] (y ∷ files) left said h m are = absurd h
+placed_from l n (b ∷ contents) [] left said h m are = absurd h
+placed_from l n (b ∷ contents) (y ∷ files) left said h m are =
+    let r = first_doc l n b contents y said h.0 m in
+    let reads : Reads l b (units_of y.units) h.0.doc = ((file_agrees l b).ok (units_of y.units, h.0.doc)).0 h.0.means in
+    let first = read_from l b (units_of y.units) h.0.doc reads (section_bytes b 1 are.0) in
+    subst (λ (w : List (Doc ℕ)). Each (λ doc. ArePlaced doc.units) w) r.2
+    (first.placed, placed_from (limits_after l b (units_of y.units)) (suc n) contents files left r.0 h.1 r.1 are.1)
+
+pub all_placed : (f : Facts) → AreFacts f → Each (λ doc. ArePlaced doc.units) (docs f)
+all_placed f facts =
+    placed_from no_files_before 0 f.contents f.files facts.kept.end (docs f) facts.kept.are (files_read f.contents f.files facts.kept.end facts.kept.are) facts.bytes
+
+-- ---- values
+
+pub all_stored : (f : Facts) → AreFacts f → (n : ℕ) (bytes : List ℕ) (x : File) → HasRead f.contents n bytes x
+    → (i : ℕ) (r : EntryRow) → slice_get (rows_of (units_of x.units)) i ≡ Some r → Each IsStored (without_siblings r.entry.attrs)
+all_stored f facts n bytes x h i r found =
+    let reads : Reads h.limits bytes (units_of x.units) h.read.doc = ((file_agrees h.limits bytes).ok (units_of x.units, h.read.doc)).0 h.read.means in
+    rows_stored (debug_abbrev bytes) (debug_info bytes) (given h.limits.entries) (units_of x.units) refl reads.spelled
+    (section_bytes bytes 1 (file_bytes no_files_before f.contents n h.limits bytes (units_of x.units) h.read.doc h.there facts.bytes)) i r found

@@ -1,5 +1,5 @@
 -- What files that were read give.
-use Rattle.std.proofs.Common.{◌≡◌, ℕ, zero, suc, ◌+◌, ◌<◌, ◌≤◌, ◌^◌, All, List, [], ◌∷◌, length, get_or, Ok, Some, slice_get, refl, sym, ap, subst, ◌∙◌, arith}
+use Rattle.std.proofs.Common.{◌≡◌, ℕ, zero, suc, ◌<◌, ◌^◌, All, List, [], ◌∷◌, length, get_or, Ok, refl, sym, subst, ◌∙◌, arith}
 use Rattle.dwz_docs.specs.Units.{entries_in}
 use Rattle.dwz_meanings.specs.Documents.{Doc}
 use Rattle.dwz_meanings.specs.Files.{Limits, files_meaning, limits_after, no_files_before}
@@ -22,8 +22,8 @@ use Rattle.dwz_known.specs.Whole.{AreWhole}
 use Rattle.dwz_known.proofs.WholeLemmas.{all_inside, top_entries}
 use Rattle.dwz_plan.specs.Planned.{Planned}
 use Rattle.dwz_unit.specs.Rows.{units_of as raw_units}
-use Rattle.dwz_facts.specs.Facts.{AreFacts, Facts, docs}
-use Rattle.dwz_listed.specs.Needs.{AreMade, FitsFile, IsFit}
+use Rattle.dwz_laid.specs.Facts.{AreFacts, Facts, docs}
+use Rattle.dwz_listed.specs.Needs.{AreMade, IsFit}
 
 no_files : (l : Limits) (n : ℕ) (ds : List (Doc ℕ)) → files_meaning l n [] ≡ Ok ds → [] ≡ ds
 unfolding files_meaning

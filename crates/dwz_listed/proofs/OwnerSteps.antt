@@ -7,15 +7,15 @@ use Rattle.dwz_graph.specs.declared.file.File.{File}
 use Rattle.dwz_index.specs.declared.index.Starts.{Starts}
 use Rattle.dwz_index.specs.Index.{Index, IsIndex}
 use Rattle.dwz_index.specs.Names.{names_from}
-use Rattle.dwz_indexes.specs.Indexed.{AreIndexed, AreIndexes, first_starts, starts_behind}
+use Rattle.dwz_indexes.specs.Indexed.{AreIndexed, first_starts, starts_behind}
 use Rattle.dwz_across.proofs.ListGets.{item_got}
 use Rattle.dwz_known.specs.declared.numbers.UnitNumbers.{UnitNumbers}
 use Rattle.dwz_known.specs.Owners.{AddsOwners, AreOwners}
 use Rattle.dwz_known.proofs.CountLemmas.{next_of}
 use Rattle.dwz_plan.specs.Planned.{Planned}
 use Rattle.dwz_unit.specs.Rows.{rows_of, units_of}
-use Rattle.dwz_facts.specs.Facts.{Facts, docs}
-use Rattle.dwz_facts.specs.Listed.{AreAllOwners}
+use Rattle.dwz_laid.specs.Facts.{Facts, docs}
+use Rattle.dwz_laid.specs.Listed.{AreAllOwners}
 use Rattle.dwz_listed.specs.Needs.{AreMade}
 
 names_there : (s : Starts) (ds : List (Doc ℕ)) (xs : List Index) (end : Starts) → AreIndexed s ds xs end → (k : ℕ) (x : Index) → slice_get xs k ≡ Some x → (names : List Spot) × IsIndex names x

@@ -1,7 +1,7 @@
 -- Entries of files: those so far, and those that are left.
 use Rattle.std.proofs.Common.{◌≡◌, ℕ, zero, suc, ◌+◌, ◌<◌, ◌≤◌, ◌^◌, List, [], ◌∷◌, ◌++◌, Global, Vec, length, drop, get_or, map, Some, slice_get, refl, sym, ap, subst, ◌∙◌, arith, below_more}
 use Rattle.std.specs.Prelude.{slice_index}
-use Rattle.std.proofs.lemmas.List.{append-nil, append_assoc, drop_all, length_push, nil_from_length}
+use Rattle.std.proofs.lemmas.List.{append-nil, append_assoc, drop_all, length_push, map-append, nil_from_length}
 use Rattle.std.proofs.lemmas.Option.{slice_get-get_or}
 use Rattle.dwz_across.proofs.ListGets.{got_below, item_got, same_got}
 use Rattle.dwz_graph.specs.declared.file.File.{File}
@@ -16,8 +16,8 @@ use Rattle.dwz_places.specs.declared.known.Firsts.{Firsts}
 use Rattle.dwz_places.specs.declared.known.TextAt.{TextAt}
 use Rattle.dwz_plan.specs.Planned.{Planned}
 use Rattle.dwz_unit.specs.Rows.{rows_of, units_of}
-use Rattle.dwz_facts.specs.Facts.{Facts, docs, rule}
-use Rattle.dwz_facts.specs.Listed.{AreRows, HaveFirsts, IsListed, firsts_from, none_before}
+use Rattle.dwz_laid.specs.Facts.{Facts, docs, rule}
+use Rattle.dwz_laid.specs.Listed.{AreRows, HaveFirsts, IsListed, firsts_from, none_before}
 
 -- ---- where what entries name begins
 
@@ -83,6 +83,12 @@ room_at indexes starts n index e lt is few =
 abbrev pub shown : Vec TextAt Global → List TextAt
 shown v = v.items
 
+abbrev pub numbers_shown : Vec ℕ Global → List ℕ
+numbers_shown v = v.items
+
+abbrev pub row_numbers : FileRows → List ℕ
+row_numbers r = r.files.items
+
 module _ (files : List File) (indexes : List Index) (plan : Planned) (tops starts : List ℕ) (all : List (Vec TextAt Global)) where
   -- with the rows that are left, the rows so far are those of all files
   pub record Going (left : List (Vec TextAt Global)) (n : ℕ) (rows : List FileRows) : Type 0 where
@@ -129,3 +135,38 @@ module _ (files : List File) (indexes : List Index) (plan : Planned) (tops start
       (subst (λ (w : List ℕ). AreRows f [] [] w (map shown left) []) (sym (drop_all n starts (omega arith)))
       (subst (λ (w : List (Vec TextAt Global)). AreRows f [] [] [] (map shown w) []) (sym (nil_from_length left none)) tt))) in
       subst (λ (w : List FileRows). AreRows f files indexes starts (map shown all) w) (append-nil rows) (g.so f p [] back)
+
+-- ---- the numbers of files in them
+
+-- with those that are left, the numbers of the rows so far are those of all files
+pub record Numbering (all left : List (Vec ℕ Global)) (n many : ℕ) (rows : List FileRows) : Type 0 where
+  pub many_left : n + length left ≡ many
+  pub so : map row_numbers rows ++ map numbers_shown left ≡ map numbers_shown all
+
+pub numbers_first : (all left : List (Vec ℕ Global)) (many : ℕ) (rows : List FileRows) → left ≡ all → length all ≡ many → rows ≡ [] → Numbering all left 0 many rows
+numbers_first all left many rows e long none =
+    let same : length left ≡ length all = ap (λ (w : List (Vec ℕ Global)). length w) e in
+    record { many_left = omega arith; so = (λ i. map row_numbers (none i) ++ map numbers_shown (e i)) }
+
+pub numbers_next : (all left more : List (Vec ℕ Global)) (n many : ℕ) (old new : List FileRows) (row : FileRows) (x : Vec ℕ Global) → left ≡ x ∷ more
+    → new ≡ old ++ row ∷ [] → row.files.items ≡ x.items → Numbering all left n many old → Numbering all more (n + 1) many new
+numbers_next all left more n many old new row x parts push is h =
+    let long : length left ≡ suc (length more) = ap (λ (w : List (Vec ℕ Global)). length w) parts in
+    let before = h.many_left in
+    record {
+      many_left = omega arith;
+      so =
+          ap (λ (w : List FileRows). map row_numbers w ++ map numbers_shown more) push
+          ∙ ap (λ (w : List (List ℕ)). w ++ map numbers_shown more) (map-append row_numbers old (row ∷ []))
+          ∙ append_assoc (map row_numbers old) (row.files.items ∷ []) (map numbers_shown more)
+          ∙ ap (λ (w : List ℕ). map row_numbers old ++ (w ∷ map numbers_shown more)) is
+          ∙ ap (λ (w : List (Vec ℕ Global)). map row_numbers old ++ map numbers_shown w) (sym parts)
+          ∙ h.so;
+    }
+
+pub numbers_done : (all left : List (Vec ℕ Global)) (n many : ℕ) (rows : List FileRows) → many ≤ n → Numbering all left n many rows → map row_numbers rows ≡ map numbers_shown all
+numbers_done all left n many rows le h =
+    let before = h.many_left in
+    sym (append-nil (map row_numbers rows))
+    ∙ ap (λ (w : List (Vec ℕ Global)). map row_numbers rows ++ map numbers_shown w) (sym (nil_from_length left (omega arith)))
+    ∙ h.so

@@ -1,4 +1,4 @@
--- Places of texts are put in lists one after the other, and what is shown by the lists that have them.
+-- Places of texts and numbers of files are put in lists one after the other, and what is shown by the lists that have them.
 use Rattle.std.proofs.Common.{◌≡◌, ℕ, zero, suc, ◌+◌, ◌<◌, ◌≤◌, List, [], ◌∷◌, ◌++◌, Global, Vec, length, drop, get_or, map, set, take, refl, sym, ap, subst, ◌∙◌, arith}
 use Rattle.std.specs.Prelude.{◌↔◌, IsSome, Option, None, Some}
 use Rattle.std.proofs.lemmas.Bool.{false≢true}
@@ -11,115 +11,174 @@ use Rattle.dwz_places.specs.declared.known.Known.{Known}
 use Rattle.dwz_places.specs.declared.known.Row.{Row}
 use Rattle.dwz_places.specs.declared.known.SpaceRow.{SpaceRow}
 use Rattle.dwz_places.specs.declared.known.TextAt.{TextAt}
-use Rattle.dwz_facts.specs.Facts.{Facts}
-use Rattle.dwz_facts.specs.Listed.{AreAllOwners, AreListed, AreRows, TextsAt, space_entries, space_rows}
+use Rattle.dwz_laid.specs.Facts.{Facts}
+use Rattle.dwz_laid.specs.Listed.{AreAllOwners, AreListed, AreRows, TextsAt, space_entries, space_rows}
 use Rattle.dwz_listed.specs.declared.listing.FileTexts.{FileTexts}
 use Rattle.dwz_listed.specs.Shown.{texts_shown, spaces_with, files_with}
-use Rattle.dwz_listed.proofs.RowSteps.{shown}
+use Rattle.dwz_listed.proofs.RowSteps.{numbers_shown, row_numbers, shown}
 
 -- ---- spaces
 
 -- the first so many have their names
-abbrev pub named_to : List SpaceRow → List TextAt → ℕ → List SpaceRow
-named_to spaces texts k = spaces_with (take k spaces) (take k texts) ++ drop k spaces
+abbrev pub named_to : List SpaceRow → (texts commons : List TextAt) → ℕ → List SpaceRow
+named_to spaces texts commons k = spaces_with (take k spaces) (take k texts) (take k commons) ++ drop k spaces
 
-pub names_none : (spaces : List SpaceRow) (texts : List TextAt) → spaces ≡ named_to spaces texts 0
+pub names_none : (spaces : List SpaceRow) (texts commons : List TextAt) → spaces ≡ named_to spaces texts commons 0
 unfolding spaces_with
-names_none spaces texts = refl
+names_none spaces texts commons = refl
 
-one_name : (spaces : List SpaceRow) (texts : List TextAt) (k : ℕ) (d : SpaceRow) (e : TextAt) → k < length spaces → k < length texts
-    → set (named_to spaces texts k) k (record (get_or (named_to spaces texts k) k d) { text = get_or texts k e }) ≡ named_to spaces texts (suc k)
+-- the space with that number gets one place of its name, and then the other
+abbrev pub with_own : List SpaceRow → ℕ → SpaceRow → TextAt → List SpaceRow
+with_own spaces k d t = set spaces k (record (get_or spaces k d) { text = t })
+
+abbrev pub with_common : List SpaceRow → ℕ → SpaceRow → TextAt → List SpaceRow
+with_common spaces k d t = set spaces k (record (get_or spaces k d) { common = t })
+
+abbrev pub with_both : List SpaceRow → ℕ → SpaceRow → (text common : TextAt) → List SpaceRow
+with_both spaces k d t c = with_common (with_own spaces k d t) k d c
+
+one_name : (spaces : List SpaceRow) (texts commons : List TextAt) (k : ℕ) (d : SpaceRow) (e : TextAt) → k < length spaces → k < length texts → k < length commons
+    → with_both (named_to spaces texts commons k) k d (get_or texts k e) (get_or commons k e) ≡ named_to spaces texts commons (suc k)
 unfolding spaces_with
-one_name [] texts k d e lt le = absurd (omega arith)
-one_name (s ∷ spaces) [] k d e lt le = absurd (omega arith)
-one_name (s ∷ spaces) (t ∷ texts) zero d e lt le = refl
-one_name (s ∷ spaces) (t ∷ texts) (suc k) d e lt le = ap (λ (w : List SpaceRow). record s { text = t } ∷ w) (one_name spaces texts k d e (omega arith) (omega arith))
+one_name [] texts commons k d e lt le lc = absurd (omega arith)
+one_name (s ∷ spaces) [] commons k d e lt le lc = absurd (omega arith)
+one_name (s ∷ spaces) (t ∷ texts) [] k d e lt le lc = absurd (omega arith)
+one_name (s ∷ spaces) (t ∷ texts) (c ∷ commons) zero d e lt le lc = refl
+one_name (s ∷ spaces) (t ∷ texts) (c ∷ commons) (suc k) d e lt le lc =
+    ap (λ (w : List SpaceRow). record s { text = t; common = c } ∷ w) (one_name spaces texts commons k d e (omega arith) (omega arith) (omega arith))
 
-pub name_more : (spaces : List SpaceRow) (texts : List TextAt) (k : ℕ) (d : SpaceRow) (e : TextAt) (now : List SpaceRow) → k < length spaces → k < length texts → now ≡ named_to spaces texts k
-    → set now k (record (get_or now k d) { text = get_or texts k e }) ≡ named_to spaces texts (k + 1)
-name_more spaces texts k d e now lt le is =
+pub name_more : (spaces : List SpaceRow) (texts commons : List TextAt) (k : ℕ) (d : SpaceRow) (e : TextAt) (now : List SpaceRow) → k < length spaces → k < length texts → k < length commons
+    → now ≡ named_to spaces texts commons k → with_both now k d (get_or texts k e) (get_or commons k e) ≡ named_to spaces texts commons (k + 1)
+name_more spaces texts commons k d e now lt le lc is =
     let one : suc k ≡ k + 1 = omega arith in
-    (λ i. set (is i) k (record (get_or (is i) k d) { text = get_or texts k e }))
-    ∙ one_name spaces texts k d e lt le
-    ∙ ap (named_to spaces texts) one
+    ap (λ (w : List SpaceRow). with_both w k d (get_or texts k e) (get_or commons k e)) is
+    ∙ one_name spaces texts commons k d e lt le lc
+    ∙ ap (named_to spaces texts commons) one
 
-pub names_all : (spaces : List SpaceRow) (texts : List TextAt) (k : ℕ) → length spaces ≤ k → length texts ≤ k → named_to spaces texts k ≡ spaces_with spaces texts
-names_all spaces texts k le lf = (λ i. spaces_with (take_all k spaces le i) (take_all k texts lf i) ++ drop_all k spaces le i) ∙ append-nil (spaces_with spaces texts)
+pub names_all : (spaces : List SpaceRow) (texts commons : List TextAt) (k : ℕ) → length spaces ≤ k → length texts ≤ k → length commons ≤ k
+    → named_to spaces texts commons k ≡ spaces_with spaces texts commons
+names_all spaces texts commons k le lf lc =
+    (λ i. spaces_with (take_all k spaces le i) (take_all k texts lf i) (take_all k commons lc i) ++ drop_all k spaces le i)
+    ∙ append-nil (spaces_with spaces texts commons)
 
 -- ---- files
 
-pub files_next : (left less : List FileRows) (all more : List (Vec TextAt Global)) (old new whole : List FileRows) (r x : FileRows) (t : Vec TextAt Global) → old ++ files_with left all ≡ whole
-    → left ≡ r ∷ less → all ≡ t ∷ more → new ≡ old ++ x ∷ [] → x ≡ record r { texts = t } → new ++ files_with less more ≡ whole
+pub files_next : (left less : List FileRows) (all more : List (Vec TextAt Global)) (numbers fewer : List (Vec ℕ Global)) (old new whole : List FileRows)
+    (r x : FileRows) (t : Vec TextAt Global) (n : Vec ℕ Global) → old ++ files_with left all numbers ≡ whole
+    → left ≡ r ∷ less → all ≡ t ∷ more → numbers ≡ n ∷ fewer → new ≡ old ++ x ∷ [] → x ≡ record r { texts = t; files = n } → new ++ files_with less more fewer ≡ whole
 unfolding files_with
-files_next left less all more old new whole r x t h rows texts push is =
-    ap (λ (w : List FileRows). w ++ files_with less more) push
-    ∙ append_assoc old (x ∷ []) (files_with less more)
-    ∙ ap (λ (w : FileRows). old ++ (w ∷ files_with less more)) is
-    ∙ (λ i. old ++ files_with (sym rows i) (sym texts i))
+files_next left less all more numbers fewer old new whole r x t n h rows texts numbered push is =
+    ap (λ (w : List FileRows). w ++ files_with less more fewer) push
+    ∙ append_assoc old (x ∷ []) (files_with less more fewer)
+    ∙ ap (λ (w : FileRows). old ++ (w ∷ files_with less more fewer)) is
+    ∙ (λ i. old ++ files_with (sym rows i) (sym texts i) (sym numbered i))
     ∙ h
 
 -- none are left
-pub files_out : (left : List FileRows) (all : List (Vec TextAt Global)) (made whole : List FileRows) → length left ≡ 0 → made ++ files_with left all ≡ whole → made ≡ whole
-unfolding files_with
-files_out [] all made whole none h = sym (append-nil made) ∙ h
-files_out (r ∷ left) all made whole none h = absurd (omega arith)
-
-pub none_left : (o : Option FileRows) (n : ℕ) → (IsSome o ↔ (0 < n)) → ((x : FileRows) → o ≡ Some x → ⊥) → n ≡ 0
+pub none_left : {X : Type 0} (o : Option X) (n : ℕ) → (IsSome o ↔ (0 < n)) → ((x : X) → o ≡ Some x → ⊥) → n ≡ 0
 none_left None zero h out = refl
 none_left None (suc n) h out = absurd (false≢true (h.1 (omega arith)))
 none_left (Some x) n h out = absurd (out x refl)
 
-pub texts_out : (left : List FileRows) (all : List (Vec TextAt Global)) (made whole : List FileRows) → length all ≡ 0 → made ++ files_with left all ≡ whole → made ≡ whole
-unfolding files_with
-texts_out [] [] made whole none h = sym (append-nil made) ∙ h
-texts_out (r ∷ left) [] made whole none h = sym (append-nil made) ∙ h
-texts_out left (t ∷ all) made whole none h = absurd (omega arith)
+module _ (made whole : List FileRows) where
+  pub files_out : (left : List FileRows) (all : List (Vec TextAt Global)) (numbers : List (Vec ℕ Global)) → length left ≡ 0 → made ++ files_with left all numbers ≡ whole → made ≡ whole
+  unfolding files_with
+  files_out [] all numbers none h = sym (append-nil made) ∙ h
+  files_out (r ∷ left) all numbers none h = absurd (omega arith)
+
+  pub texts_out : (left : List FileRows) (all : List (Vec TextAt Global)) (numbers : List (Vec ℕ Global)) → length all ≡ 0 → made ++ files_with left all numbers ≡ whole → made ≡ whole
+  unfolding files_with
+  texts_out [] [] numbers none h = sym (append-nil made) ∙ h
+  texts_out (r ∷ left) [] numbers none h = sym (append-nil made) ∙ h
+  texts_out left (t ∷ all) numbers none h = absurd (omega arith)
+
+  pub numbers_out : (left : List FileRows) (all : List (Vec TextAt Global)) (numbers : List (Vec ℕ Global)) → length numbers ≡ 0 → made ++ files_with left all numbers ≡ whole → made ≡ whole
+  unfolding files_with
+  numbers_out [] all [] none h = sym (append-nil made) ∙ h
+  numbers_out (r ∷ left) [] [] none h = sym (append-nil made) ∙ h
+  numbers_out (r ∷ left) (t ∷ all) [] none h = sym (append-nil made) ∙ h
+  numbers_out left all (n ∷ numbers) none h = absurd (omega arith)
 
 -- ---- what they show
 
-rows_with : (f : Facts) (files : List File) (indexes : List Index) (starts : List ℕ) (old : List (List TextAt)) (rows : List FileRows) (new : List (Vec TextAt Global))
-    → AreRows f files indexes starts old rows → length new ≡ length rows → AreRows f files indexes starts (map shown new) (files_with rows new)
+module _ (f : Facts) where
+  rows_with : (files : List File) (indexes : List Index) (starts : List ℕ) (old : List (List TextAt)) (rows : List FileRows) (new : List (Vec TextAt Global)) (numbers : List (Vec ℕ Global))
+      → AreRows f files indexes starts old rows → length new ≡ length rows → length numbers ≡ length rows → AreRows f files indexes starts (map shown new) (files_with rows new numbers)
+  unfolding files_with
+  rows_with [] [] [] [] [] [] numbers h e n = tt
+  rows_with [] [] [] [] [] (t ∷ new) numbers h e n = absurd (omega arith)
+  rows_with [] [] [] [] (r ∷ rows) new numbers h e n = absurd h
+  rows_with [] [] [] (o ∷ old) rows new numbers h e n = absurd h
+  rows_with [] [] (s ∷ starts) old rows new numbers h e n = absurd h
+  rows_with [] (x ∷ indexes) starts old rows new numbers h e n = absurd h
+  rows_with (x ∷ files) [] starts old rows new numbers h e n = absurd h
+  rows_with (x ∷ files) (y ∷ indexes) [] old rows new numbers h e n = absurd h
+  rows_with (x ∷ files) (y ∷ indexes) (s ∷ starts) [] rows new numbers h e n = absurd h
+  rows_with (x ∷ files) (y ∷ indexes) (s ∷ starts) (o ∷ old) [] new numbers h e n = absurd h
+  rows_with (x ∷ files) (y ∷ indexes) (s ∷ starts) (o ∷ old) (r ∷ rows) [] numbers h e n = absurd (omega arith)
+  rows_with (x ∷ files) (y ∷ indexes) (s ∷ starts) (o ∷ old) (r ∷ rows) (t ∷ new) [] h e n = absurd (omega arith)
+  rows_with (x ∷ files) (y ∷ indexes) (s ∷ starts) (o ∷ old) (r ∷ rows) (t ∷ new) (m ∷ numbers) h e n = (
+    record { units = h.0.units; start_is = h.0.start_is; firsts = h.0.firsts; references = h.0.references; texts_are = refl },
+    rows_with files indexes starts old rows new numbers h.1 (omega arith) (omega arith),
+  )
+
+numbers_with : (rows : List FileRows) (texts : List (Vec TextAt Global)) (numbers : List (Vec ℕ Global)) → length texts ≡ length rows → length numbers ≡ length rows
+    → map row_numbers (files_with rows texts numbers) ≡ map numbers_shown numbers
 unfolding files_with
-rows_with f [] [] [] [] [] [] h e = tt
-rows_with f [] [] [] [] [] (t ∷ new) h e = absurd (omega arith)
-rows_with f [] [] [] [] (r ∷ rows) new h e = absurd h
-rows_with f [] [] [] (o ∷ old) rows new h e = absurd h
-rows_with f [] [] (s ∷ starts) old rows new h e = absurd h
-rows_with f [] (x ∷ indexes) starts old rows new h e = absurd h
-rows_with f (x ∷ files) [] starts old rows new h e = absurd h
-rows_with f (x ∷ files) (y ∷ indexes) [] old rows new h e = absurd h
-rows_with f (x ∷ files) (y ∷ indexes) (s ∷ starts) [] rows new h e = absurd h
-rows_with f (x ∷ files) (y ∷ indexes) (s ∷ starts) (o ∷ old) [] new h e = absurd h
-rows_with f (x ∷ files) (y ∷ indexes) (s ∷ starts) (o ∷ old) (r ∷ rows) [] h e = absurd (omega arith)
-rows_with f (x ∷ files) (y ∷ indexes) (s ∷ starts) (o ∷ old) (r ∷ rows) (t ∷ new) h e =
-    (record { units = h.0.units; start_is = h.0.start_is; firsts = h.0.firsts; references = h.0.references; texts_are = refl }, rows_with f files indexes starts old rows new h.1 (omega arith))
+numbers_with [] texts [] e n = refl
+numbers_with [] texts (m ∷ numbers) e n = absurd (omega arith)
+numbers_with (r ∷ rows) [] numbers e n = absurd (omega arith)
+numbers_with (r ∷ rows) (t ∷ texts) [] e n = absurd (omega arith)
+numbers_with (r ∷ rows) (t ∷ texts) (m ∷ numbers) e n = ap (λ (w : List (List ℕ)). m.items ∷ w) (numbers_with rows texts numbers (omega arith) (omega arith))
 
-names_with : (rows : List Row) (old new : List TextAt) → length old ≡ length rows → length new ≡ length rows → spaces_with (space_rows rows old) new ≡ space_rows rows new
+names_with : (rows : List Row) (old old_commons new commons : List TextAt) → length old ≡ length rows → length old_commons ≡ length rows → length new ≡ length rows → length commons ≡ length rows
+    → spaces_with (space_rows rows old old_commons) new commons ≡ space_rows rows new commons
 unfolding spaces_with
-names_with [] old new e n = refl
-names_with (r ∷ rows) [] new e n = absurd (omega arith)
-names_with (r ∷ rows) (o ∷ old) [] e n = absurd (omega arith)
-names_with (r ∷ rows) (o ∷ old) (t ∷ new) e n = ap (λ (w : List SpaceRow). record { row = r; text = t } ∷ w) (names_with rows old new (omega arith) (omega arith))
+names_with [] old old_commons new commons e f n m = refl
+names_with (r ∷ rows) [] old_commons new commons e f n m = absurd (omega arith)
+names_with (r ∷ rows) (o ∷ old) [] new commons e f n m = absurd (omega arith)
+names_with (r ∷ rows) (o ∷ old) (p ∷ old_commons) [] commons e f n m = absurd (omega arith)
+names_with (r ∷ rows) (o ∷ old) (p ∷ old_commons) (t ∷ new) [] e f n m = absurd (omega arith)
+names_with (r ∷ rows) (o ∷ old) (p ∷ old_commons) (t ∷ new) (c ∷ commons) e f n m =
+    ap (λ (w : List SpaceRow). record { row = r; text = t; common = c } ∷ w) (names_with rows old old_commons new commons (omega arith) (omega arith) (omega arith) (omega arith))
 
-names_many : (rows : List Row) (texts : List TextAt) → length texts ≡ length rows → length (space_rows rows texts) ≡ length rows
-names_many [] texts e = refl
-names_many (r ∷ rows) [] e = absurd (omega arith)
-names_many (r ∷ rows) (t ∷ texts) e = ap suc (names_many rows texts (omega arith))
+names_many : (rows : List Row) (texts commons : List TextAt) → length texts ≡ length rows → length commons ≡ length rows → length (space_rows rows texts commons) ≡ length rows
+names_many [] texts commons e f = refl
+names_many (r ∷ rows) [] commons e f = absurd (omega arith)
+names_many (r ∷ rows) (t ∷ texts) [] e f = absurd (omega arith)
+names_many (r ∷ rows) (t ∷ texts) (c ∷ commons) e f = ap suc (names_many rows texts commons (omega arith) (omega arith))
 
-pub listed_with : (f : Facts) (before : TextsAt) (old new : Known) (texts : FileTexts) → length texts.files.items ≡ length old.files.items → length texts.spaces.items ≡ length old.spaces.items
-    → new.files.items ≡ files_with old.files.items texts.files.items → new.spaces.items ≡ spaces_with old.spaces.items texts.spaces.items → new.owners ≡ old.owners → new.tops ≡ old.tops
-    → new.parts ≡ old.parts → new.commons ≡ old.commons → AreListed f before old → AreListed f (texts_shown texts) new
-listed_with f before old new texts many some files spaces owners tops parts commons h =
+-- as many as there are files and spaces
+pub record AreMany (old : Known) (texts : FileTexts) : Type 0 where
+  pub files : length texts.files.items ≡ length old.files.items
+  pub spaces : length texts.spaces.items ≡ length old.spaces.items
+  pub commons : length texts.commons.items ≡ length old.spaces.items
+  pub numbers : length texts.numbers.items ≡ length old.files.items
+
+pub listed_with : (f : Facts) (before : TextsAt) (old new : Known) (texts : FileTexts) → AreMany old texts → new.files.items ≡ files_with old.files.items texts.files.items texts.numbers.items
+    → new.spaces.items ≡ spaces_with old.spaces.items texts.spaces.items texts.commons.items → new.owners ≡ old.owners → new.tops ≡ old.tops → new.parts ≡ old.parts → new.commons ≡ old.commons
+    → AreListed f before old → AreListed f (texts_shown texts) new
+listed_with f before old new texts many files spaces owners tops parts commons h =
     let entries = space_entries 0 f.indexes in
-    let long = names_many entries before.spaces h.many_spaces in
+    let long = names_many entries before.spaces before.commons h.many_spaces h.many_commons in
     let held = ap (λ (w : List SpaceRow). length w) h.spaces in
+    let some = many.spaces in
+    let some_common = many.commons in
     let all : length texts.spaces.items ≡ length entries = omega arith in
+    let all_common : length texts.commons.items ≡ length entries = omega arith in
     record {
-      rows = subst (λ (w : List FileRows). AreRows f f.files f.indexes (starts_from 0 f.indexes) (map shown texts.files.items) w) (sym files) (rows_with f f.files f.indexes (starts_from 0 f.indexes) before.files old.files.items texts.files.items h.rows many);
+      rows =
+          subst (λ (w : List FileRows). AreRows f f.files f.indexes (starts_from 0 f.indexes) (map shown texts.files.items) w) (sym files)
+          (rows_with f f.files f.indexes (starts_from 0 f.indexes) before.files old.files.items texts.files.items texts.numbers.items h.rows many.files many.numbers);
       owners = subst (λ (w : Vec ℕ Global). AreAllOwners f f.files f.indexes w.items) (sym owners) h.owners;
       tops = ap (λ (w : Vec Row Global). w.items) tops ∙ h.tops;
-      spaces = spaces ∙ ap (λ (w : List SpaceRow). spaces_with w texts.spaces.items) h.spaces ∙ names_with entries before.spaces texts.spaces.items h.many_spaces all;
+      numbers = ap (map row_numbers) files ∙ numbers_with old.files.items texts.files.items texts.numbers.items many.files many.numbers;
+      spaces =
+          spaces
+          ∙ ap (λ (w : List SpaceRow). spaces_with w texts.spaces.items texts.commons.items) h.spaces
+          ∙ names_with entries before.spaces before.commons texts.spaces.items texts.commons.items h.many_spaces h.many_commons all all_common;
       many_spaces = all;
+      many_commons = all_common;
       parts = ap (λ (w : Vec ℕ Global). w.items) parts ∙ h.parts;
       commons = commons ∙ h.commons;
     }

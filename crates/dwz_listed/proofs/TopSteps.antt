@@ -1,5 +1,5 @@
 -- Entries of tops and of spaces, one file after the other: those so far, and those that are left.
-use Rattle.std.proofs.Common.{◌≡◌, ℕ, suc, ◌+◌, ◌<◌, ◌≤◌, List, [], ◌∷◌, ◌++◌, length, drop, get_or, map, refl, sym, ap, ◌∙◌, arith}
+use Rattle.std.proofs.Common.{◌≡◌, ℕ, suc, ◌+◌, ◌<◌, ◌≤◌, List, [], ◌∷◌, ◌++◌, length, drop, get_or, map, sym, ap, ◌∙◌, arith}
 use Rattle.std.proofs.lemmas.List.{append-nil, append_assoc, drop_all}
 use Rattle.dwz_index.specs.declared.index.SpaceEntry.{SpaceEntry}
 use Rattle.dwz_index.specs.declared.index.TopEntry.{TopEntry}
@@ -8,7 +8,7 @@ use Rattle.dwz_known.proofs.CountLemmas.{next_of}
 use Rattle.dwz_places.specs.declared.known.Row.{Row}
 use Rattle.dwz_places.specs.declared.known.SpaceRow.{SpaceRow}
 use Rattle.dwz_places.specs.declared.known.TextAt.{TextAt}
-use Rattle.dwz_facts.specs.Listed.{entry_row, space_entries, space_rows, top_rows}
+use Rattle.dwz_laid.specs.Listed.{entry_row, space_entries, space_rows, top_rows}
 
 abbrev pub own_tops : ℕ → List TopEntry → List Row
 own_tops file tops = map (λ (t : TopEntry). entry_row file t.entry) tops
@@ -57,17 +57,19 @@ module _ (all : List Index) (i : ℕ) where
 
 -- ---- with the places of their names
 
-module _ (rows : List Row) (texts : List TextAt) (i : ℕ) where
-  pub names_next : (row : Row) (text : TextAt) (old new : List SpaceRow) → i < length rows → row ≡ get_or rows i row → i < length texts → text ≡ get_or texts i text
-      → old ++ space_rows (drop i rows) (drop i texts) ≡ space_rows rows texts → new ≡ old ++ record { row = row; text = text } ∷ []
-      → new ++ space_rows (drop (i + 1) rows) (drop (i + 1) texts) ≡ space_rows rows texts
-  names_next row text old new lt e less f h is =
-      let rest = space_rows (drop (i + 1) rows) (drop (i + 1) texts) in
-      let own : SpaceRow = record { row = row; text = text } in
+module _ (rows : List Row) (texts commons : List TextAt) (i : ℕ) where
+  pub names_next : (row : Row) (text common : TextAt) (old new : List SpaceRow) → i < length rows → row ≡ get_or rows i row → i < length texts → text ≡ get_or texts i text
+      → i < length commons → common ≡ get_or commons i common → old ++ space_rows (drop i rows) (drop i texts) (drop i commons) ≡ space_rows rows texts commons
+      → new ≡ old ++ record { row = row; text = text; common = common } ∷ []
+      → new ++ space_rows (drop (i + 1) rows) (drop (i + 1) texts) (drop (i + 1) commons) ≡ space_rows rows texts commons
+  names_next row text common old new lt e less f few g h is =
+      let rest = space_rows (drop (i + 1) rows) (drop (i + 1) texts) (drop (i + 1) commons) in
+      let own : SpaceRow = record { row = row; text = text; common = common } in
       ap (λ (w : List SpaceRow). w ++ rest) is
       ∙ append_assoc old (own ∷ []) rest
-      ∙ (λ j. old ++ space_rows (sym (next_of rows i row lt e) j) (sym (next_of texts i text less f) j))
+      ∙ (λ j. old ++ space_rows (sym (next_of rows i row lt e) j) (sym (next_of texts i text less f) j) (sym (next_of commons i common few g) j))
       ∙ h
 
-  pub names_done : (spaces : List SpaceRow) → length rows ≤ i → spaces ++ space_rows (drop i rows) (drop i texts) ≡ space_rows rows texts → spaces ≡ space_rows rows texts
-  names_done spaces le h = sym (append-nil spaces) ∙ ap (λ (w : List Row). spaces ++ space_rows w (drop i texts)) (sym (drop_all i rows le)) ∙ h
+  pub names_done : (spaces : List SpaceRow) → length rows ≤ i → spaces ++ space_rows (drop i rows) (drop i texts) (drop i commons) ≡ space_rows rows texts commons
+      → spaces ≡ space_rows rows texts commons
+  names_done spaces le h = sym (append-nil spaces) ∙ ap (λ (w : List Row). spaces ++ space_rows w (drop i texts) (drop i commons)) (sym (drop_all i rows le)) ∙ h

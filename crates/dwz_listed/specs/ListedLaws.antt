@@ -7,7 +7,7 @@ use Rattle.dwz_index.specs.Index.{Index}
 use Rattle.dwz_indexes.specs.Indexed.{AreIndexes}
 use Rattle.dwz_known.specs.declared.numbers.UnitNumbers.{UnitNumbers}
 use Rattle.dwz_plan.specs.Planned.{Planned}
-use Rattle.dwz_facts.specs.Facts.{AreFacts, Facts}
+use Rattle.dwz_laid.specs.Facts.{AreFacts, Facts}
 use Rattle.dwz_listed.specs.Needs.{AreMade, IsFit}
 
 -- fewer than 2 ^ 32 files that are kept, with their indexes and a plan that has an answer for each top, fit

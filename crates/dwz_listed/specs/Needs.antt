@@ -8,7 +8,7 @@ use Rattle.dwz_known.specs.declared.numbers.UnitNumbers.{UnitNumbers}
 use Rattle.dwz_known.specs.Images.{IsPlanned, entry_count, tops_from}
 use Rattle.dwz_plan.specs.Planned.{Planned}
 use Rattle.dwz_unit.specs.Rows.{units_of}
-use Rattle.dwz_facts.specs.Facts.{Facts, docs, rule}
+use Rattle.dwz_laid.specs.Facts.{Facts, docs, rule}
 
 -- the index has all entries of the file, and its references name some of them
 pub record FitsFile (x : File) (index : Index) : Type 0 where

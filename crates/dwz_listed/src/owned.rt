@@ -1,8 +1,8 @@
 //! The units in which the entries of all files are written.
 
 ghost use Rattle.std.specs.Prelude.{◌≡◌, length, IfOk};
-ghost use Rattle.dwz_facts.specs.Facts.{Facts};
-ghost use Rattle.dwz_facts.specs.Listed.{AreAllOwners};
+ghost use Rattle.dwz_laid.specs.Facts.{Facts};
+ghost use Rattle.dwz_laid.specs.Listed.{AreAllOwners};
 ghost use Rattle.dwz_listed.specs.Needs.{AreMade, IsFit};
 
 use dwz_graph::File;

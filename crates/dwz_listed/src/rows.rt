@@ -1,8 +1,8 @@
 //! The entries of each file, and what they name.
 
 ghost use Rattle.std.specs.Prelude.{◌≡◌, ◌+◌, ◌<◌, ◌^◌, length, map, slice_index, IfOk};
-ghost use Rattle.dwz_facts.specs.Facts.{Facts, docs, rule};
-ghost use Rattle.dwz_facts.specs.Listed.{AreRows, HaveFirsts, IsListed, firsts_from};
+ghost use Rattle.dwz_laid.specs.Facts.{Facts, docs, rule};
+ghost use Rattle.dwz_laid.specs.Listed.{AreRows, HaveFirsts, IsListed, firsts_from};
 ghost use Rattle.dwz_known.specs.Images.{IsPlanned, starts_from};
 ghost use Rattle.dwz_listed.specs.Needs.{FitsFile, IsFit};
 
@@ -43,7 +43,7 @@ fn firsts_of(alloc: Global, file: &File<'_>) -> Result<Vec<Firsts>, NoMemory>
     Ok(firsts)
 }
 
-// The entries of a file whose first one has the number `start` among those of all files. Numbers of paths are no part of it.
+// The entries of a file whose first one has the number `start` among those of all files.
 fn rows_of<'u, 'a>(
     alloc: Global,
     file: &'u File<'a>,
@@ -52,12 +52,14 @@ fn rows_of<'u, 'a>(
     tops: &[u32],
     start: u32,
     texts: Vec<TextAt>,
+    numbers: Vec<u32>,
 ) -> Result<FileRows<'u, 'a>, NoMemory>
     requires fits { FitsFile file.now index.now }
     requires few { start + length index.now.steps < 2 ^ 32 }
     requires plan { length plan.now.stand_ins ≡ length tops.now }
-    ensures { (f : Facts) → IsPlanned (docs f) (rule f) plan.now tops.now
+    ensures listed { (f : Facts) → IsPlanned (docs f) (rule f) plan.now tops.now
         → IfOk result (λ r. IsListed f file.now index.now start texts.items r) }
+    ensures numbers { IfOk result (λ r. r.files.items ≡ numbers.items) }
 {
     let firsts = firsts_of(alloc, file)?;
     let refs = file.resolved.refs.as_slice();
@@ -68,7 +70,7 @@ fn rows_of<'u, 'a>(
         firsts,
         references,
         texts,
-        files: Vec::new(alloc),
+        files: numbers,
     })
 }
 
@@ -81,17 +83,24 @@ pub(crate) fn rows_of_files<'u, 'a>(
     tops: &[u32],
     starts: &[u32],
     all: Vec<Vec<TextAt>>,
+    numbers: Vec<Vec<u32>>,
 ) -> Result<Vec<FileRows<'u, 'a>>, NoMemory>
     requires fit { IsFit files.now indexes.now plan.now }
     requires plan { length plan.now.stand_ins ≡ length tops.now }
     requires starts { starts.now ≡ starts_from 0 indexes.now }
     requires texts { length all.items ≡ length files.now }
-    ensures { (f : Facts) → IsPlanned (docs f) (rule f) plan.now tops.now
+    requires numbers { length numbers.items ≡ length files.now }
+    ensures rows { (f : Facts) → IsPlanned (docs f) (rule f) plan.now tops.now
         → IfOk result (λ rows. AreRows f files.now indexes.now starts.now (map (λ texts. texts.items) all.items) rows.items) }
+    ensures numbers { IfOk result (λ rows. map (λ r. r.files.items) rows.items ≡ map (λ some. some.items) numbers.items) }
 {
     let mut rows = Vec::with_capacity(alloc, files.len())?;
+    let mut left = numbers.into_iter();
     let mut number = 0;
     for texts in all {
+        let Some(numbers) = left.next() else {
+            return Ok(rows);
+        };
         let row = rows_of(
             alloc,
             &files[number],
@@ -100,6 +109,7 @@ pub(crate) fn rows_of_files<'u, 'a>(
             tops,
             starts[number],
             texts,
+            numbers,
         )?;
         rows.push(row)?;
         number += 1;

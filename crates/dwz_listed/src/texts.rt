@@ -1,8 +1,8 @@
-//! Other places of texts.
+//! Other places of texts, and other numbers of files.
 
 ghost use Rattle.std.specs.Prelude.{◌≡◌, length, IfOk};
-ghost use Rattle.dwz_facts.specs.Facts.{Facts};
-ghost use Rattle.dwz_facts.specs.Listed.{AreListed, TextsAt};
+ghost use Rattle.dwz_laid.specs.Facts.{Facts};
+ghost use Rattle.dwz_laid.specs.Listed.{AreListed, TextsAt};
 ghost use Rattle.dwz_listed.specs.Shown.{files_with, spaces_with, texts_shown};
 
 use crate::listing::FileTexts;
@@ -10,9 +10,9 @@ use dwz_model::NoMemory;
 use dwz_places::{FileRows, Known, SpaceRow, TextAt};
 use std::alloc::Global;
 
-// The file with other texts.
-fn file_with<'u, 'a>(row: FileRows<'u, 'a>, texts: Vec<TextAt>) -> FileRows<'u, 'a>
-    ensures { result ≡ record row.entry { texts = texts } }
+// The file with other texts and numbers.
+fn file_with<'u, 'a>(row: FileRows<'u, 'a>, texts: Vec<TextAt>, files: Vec<u32>) -> FileRows<'u, 'a>
+    ensures { result ≡ record row.entry { texts = texts; files = files } }
 {
     FileRows {
         units: row.units,
@@ -20,7 +20,7 @@ fn file_with<'u, 'a>(row: FileRows<'u, 'a>, texts: Vec<TextAt>) -> FileRows<'u, 
         firsts: row.firsts,
         references: row.references,
         texts,
-        files: row.files,
+        files,
     }
 }
 
@@ -29,31 +29,38 @@ fn with_files<'u, 'a>(
     alloc: Global,
     rows: Vec<FileRows<'u, 'a>>,
     all: Vec<Vec<TextAt>>,
+    numbers: Vec<Vec<u32>>,
 ) -> Result<Vec<FileRows<'u, 'a>>, NoMemory>
-    ensures { IfOk result (λ made. made.items ≡ files_with rows.entry.items all.items) }
+    ensures { IfOk result (λ made. made.items ≡ files_with rows.entry.items all.items numbers.items) }
 {
     let mut made = Vec::with_capacity(alloc, all.len())?;
     let mut left = rows.into_iter();
+    let mut numbered = numbers.into_iter();
     for texts in all {
         let Some(row) = left.next() else {
             return Ok(made);
         };
-        made.push(file_with(row, texts))?;
+        let Some(files) = numbered.next() else {
+            return Ok(made);
+        };
+        made.push(file_with(row, texts, files))?;
     }
     Ok(made)
 }
 
-// Gives each space that of its name.
-fn put_names(spaces: &mut [SpaceRow], texts: &[TextAt])
-    requires { length texts.now ≡ length spaces.old }
-    ensures { spaces.new ≡ spaces_with spaces.old texts.now }
+// Gives each space those of its name.
+fn put_names(spaces: &mut [SpaceRow], texts: &[TextAt], commons: &[TextAt])
+    requires texts { length texts.now ≡ length spaces.old }
+    requires commons { length commons.now ≡ length spaces.old }
+    ensures { spaces.new ≡ spaces_with spaces.old texts.now commons.now }
 {
     for i in 0..spaces.len() {
         spaces[i].text = texts[i];
+        spaces[i].common = commons[i];
     }
 }
 
-/// The lists with other places of texts, for as many files and spaces. All else stays.
+/// The lists with other places of texts and other numbers of files, for as many files and spaces. All else stays.
 pub fn with_texts<'u, 'a>(
     alloc: Global,
     known: Known<'u, 'a>,
@@ -61,8 +68,10 @@ pub fn with_texts<'u, 'a>(
 ) -> Result<Known<'u, 'a>, NoMemory>
     requires files { length texts.files.items ≡ length known.files.items }
     requires spaces { length texts.spaces.items ≡ length known.spaces.items }
-    ensures files { IfOk result (λ k. k.files.items ≡ files_with known.entry.files.items texts.files.items) }
-    ensures spaces { IfOk result (λ k. k.spaces.items ≡ spaces_with known.entry.spaces.items texts.spaces.items) }
+    requires commons { length texts.commons.items ≡ length known.spaces.items }
+    requires numbers { length texts.numbers.items ≡ length known.files.items }
+    ensures files { IfOk result (λ k. k.files.items ≡ files_with known.entry.files.items texts.files.items texts.numbers.items) }
+    ensures spaces { IfOk result (λ k. k.spaces.items ≡ spaces_with known.entry.spaces.items texts.spaces.items texts.commons.items) }
     ensures owners { IfOk result (λ k. k.owners ≡ known.entry.owners) }
     ensures tops { IfOk result (λ k. k.tops ≡ known.entry.tops) }
     ensures parts { IfOk result (λ k. k.parts ≡ known.entry.parts) }
@@ -71,8 +80,12 @@ pub fn with_texts<'u, 'a>(
         → IfOk result (λ k. AreListed f (texts_shown texts) k) }
 {
     let mut spaces = known.spaces;
-    put_names(spaces.as_mut_slice(), texts.spaces.as_slice());
-    let files = with_files(alloc, known.files, texts.files)?;
+    put_names(
+        spaces.as_mut_slice(),
+        texts.spaces.as_slice(),
+        texts.commons.as_slice(),
+    );
+    let files = with_files(alloc, known.files, texts.files, texts.numbers)?;
     Ok(Known {
         files,
         owners: known.owners,

@@ -1,7 +1,7 @@
 //! The entries of tops and of spaces.
 
 ghost use Rattle.std.specs.Prelude.{◌≡◌, ◌++◌, ◌<◌, ◌^◌, length, map, IfOk, OnOk};
-ghost use Rattle.dwz_facts.specs.Listed.{entry_row, space_entries, space_rows, top_rows};
+ghost use Rattle.dwz_laid.specs.Listed.{entry_row, space_entries, space_rows, top_rows};
 
 use dwz_index::{Index, SpaceEntry, TopEntry};
 use dwz_model::NoMemory;
@@ -54,20 +54,23 @@ pub(crate) fn rows_of_spaces(alloc: Global, indexes: &[Index]) -> Result<Vec<Row
     Ok(rows)
 }
 
-/// Spaces by their entries, each with the place of its name.
+/// Spaces by their entries, each with the places of its name.
 pub(crate) fn named_spaces(
     alloc: Global,
     rows: &[Row],
     texts: &[TextAt],
+    commons: &[TextAt],
 ) -> Result<Vec<SpaceRow>, NoMemory>
-    requires { length texts.now ≡ length rows.now }
-    ensures { IfOk result (λ spaces. spaces.items ≡ space_rows rows.now texts.now) }
+    requires texts { length texts.now ≡ length rows.now }
+    requires commons { length commons.now ≡ length rows.now }
+    ensures { IfOk result (λ spaces. spaces.items ≡ space_rows rows.now texts.now commons.now) }
 {
     let mut spaces = Vec::with_capacity(alloc, rows.len())?;
     for (i, row) in rows.iter().enumerate() {
         spaces.push(SpaceRow {
             row: *row,
             text: texts[i],
+            common: commons[i],
         })?;
     }
     Ok(spaces)

@@ -40,12 +40,12 @@ pub record Flagged (rows : List TopRow) (homes : List Place) (files : List ℕ) 
   pub len : length flags ≡ count
   pub each : (file : ℕ) → file < count → IsMarked flags file ↔ Before rows homes files i file
 
-none_set : (n k : ℕ) → slice_index_or (replicate n false) k false ≡ true → ⊥
+pub none_set : (n k : ℕ) → slice_index_or (replicate n false) k false ≡ true → ⊥
 none_set zero k e = cc
 none_set (suc n) zero e = cc
 none_set (suc n) (suc k) e = none_set n k e
 
-replicate_long : (n : ℕ) → length (replicate n false) ≡ n
+pub replicate_long : (n : ℕ) → length (replicate n false) ≡ n
 replicate_long zero = refl
 replicate_long (suc n) = ap suc (replicate_long n)
 
@@ -105,7 +105,7 @@ place_gone rule units parts n (InCommon p) is = ap is_home (sym is.0)
 place_gone rule units parts n (InFile p) is = ap is_home (sym is.1)
 place_gone rule units parts n InUnit is = ap is_home (sym is)
 
-nth_get : {X : Type 0} (s : ℕ) (xs : List X) (n k : ℕ) (x : X) → Nth s xs n x → n ≡ s + k → slice_get xs k ≡ Some x
+pub nth_get : {X : Type 0} (s : ℕ) (xs : List X) (n k : ℕ) (x : X) → Nth s xs n x → n ≡ s + k → slice_get xs k ≡ Some x
 nth_get s [] n k x h e = absurd h
 nth_get s (y ∷ xs) n zero x (inl h) e = ap (λ w. Some w) h.1
 nth_get s (y ∷ xs) n (suc k) x (inl h) e = absurd (let same = h.0 in omega arith)
@@ -153,12 +153,12 @@ top_there units n (x ∷ rows) (u ∷ tops) h m (suc k) row e =
     let at = r.2 in
     (r.0, inr r.1, omega arith, r.3)
 
-same_test : (x y : Bool) → (x ≡ true → y ≡ true) → (y ≡ true → x ≡ true) → x ≡ y
+pub same_test : (x y : Bool) → (x ≡ true → y ≡ true) → (y ≡ true → x ≡ true) → x ≡ y
 same_test true y f g = sym (f refl)
 same_test false true f g = g refl
 same_test false false f g = refl
 
-flags_are : (f : ℕ → Bool) (flags : List Bool) (s : ℕ) (docs : List (Doc ℕ)) → length flags ≡ length docs → ((k : ℕ) → k < length docs → slice_index_or flags k false ≡ f (s + k)) → flags ≡ map f (file_numbers s docs)
+pub flags_are : (f : ℕ → Bool) (flags : List Bool) (s : ℕ) (docs : List (Doc ℕ)) → length flags ≡ length docs → ((k : ℕ) → k < length docs → slice_index_or flags k false ≡ f (s + k)) → flags ≡ map f (file_numbers s docs)
 unfolding file_numbers
 flags_are f [] s [] len h = refl
 flags_are f [] s (d ∷ docs) len h = absurd (omega arith)

@@ -40,7 +40,7 @@ map_long f (x ∷ xs) = ap suc (map_long f xs)
 -- ---- homes
 
 -- the common file, or one of these
-abbrev IsHomeOf : List ℕ → Home → Type 0
+abbrev pub IsHomeOf : List ℕ → Home → Type 0
 IsHomeOf files h = (h ≡ Common) ⊎ ((file : ℕ) × In file files × (h ≡ Local file))
 
 at_home : (rule : Rule) (units : List (FileUnit Spot)) (h : Home) (p : PartialUnit) → In p (partials_at rule units h) → p.home ≡ h
@@ -57,14 +57,14 @@ local_home rule units (file ∷ files) p there = elim (in_cases p (partials_at r
   | inr b ↦ (let o = local_home rule units files p b in (o.0, inr o.1, o.2))
 ]
 
-home_of : (rule : Rule) (units : List (FileUnit Spot)) (files : List ℕ) (p : PartialUnit) → In p (partials rule units files) → IsHomeOf files p.home
+pub home_of : (rule : Rule) (units : List (FileUnit Spot)) (files : List ℕ) (p : PartialUnit) → In p (partials rule units files) → IsHomeOf files p.home
 unfolding partials
 home_of rule units files p there = elim (in_cases p (partials_at rule units Common) (local_partials rule units files) there) [
   | inl a ↦ inl (at_home rule units Common p a)
   | inr b ↦ inr (local_home rule units files p b)
 ]
 
-in_range : (s n k : ℕ) → In k (range_with_len s n) → k < s + n
+pub in_range : (s n k : ℕ) → In k (range_with_len s n) → k < s + n
 in_range s zero k there = absurd there
 in_range s (suc n) k (inl e) = omega arith
 in_range s (suc n) k (inr there) = (let r = in_range (s + 1) n k there in omega arith)

@@ -27,9 +27,9 @@ fn goes(home: Home) -> bool
     }
 }
 
-// The file of a unit, if there is such a unit.
+/// The file of a unit, if there is such a unit.
 #[inline(always)]
-fn file_of(files_of_units: &[u32], unit: u32) -> Option<u32>
+pub(crate) fn file_of(files_of_units: &[u32], unit: u32) -> Option<u32>
     ensures { result ≡ slice_get files_of_units.now unit }
 {
     files_of_units.get(unit as usize).copied()

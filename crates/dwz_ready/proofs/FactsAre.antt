@@ -1,7 +1,8 @@
 -- Facts are those of what was planned: where lists, scope and plan are equal, so are the facts.
-use Rattle.std.proofs.Common.{◌≡◌, ℕ, List, length, sym, subst}
+use Rattle.std.proofs.Common.{◌≡◌, ℕ, Bool, List, length, map, sym, subst}
 use Rattle.dwz_alike.specs.Alike.{IsAlike, Scope}
-use Rattle.dwz_alike.specs.Spots.{units_of}
+use Rattle.dwz_alike.specs.Spots.{file_numbers, units_of}
+use Rattle.dwz_back.specs.Files.{imports_common}
 use Rattle.dwz_few.proofs.FilesFew.{names_few}
 use Rattle.dwz_graph.specs.Files.{docs_of}
 use Rattle.dwz_index.specs.Index.{Index}
@@ -12,7 +13,8 @@ use Rattle.dwz_plan.specs.Shows.{ShowsPlan}
 use Rattle.dwz_planned.specs.declared.planned.PlannedFiles.{PlannedFiles}
 use Rattle.dwz_planned.specs.Rules.{alike_scope, rule_by}
 use Rattle.dwz_planned.proofs.PlanFits.{alike_is, choice_is}
-use Rattle.dwz_facts.specs.Facts.{Facts, docs, rule, units}
+use Rattle.dwz_known.specs.Owners.{move_of}
+use Rattle.dwz_laid.specs.Facts.{Facts, docs, move, rule, units}
 use Rattle.dwz_ready.specs.Settled.{AreFactsOf, ArePlanned, FactsLaw}
 
 -- the facts with these contents and indexes, and so on
@@ -42,6 +44,12 @@ module _ (contents : List (List ℕ)) (indexes : List Index) (sharing : Sharing)
     parts = f.parts;
     olds = f.olds;
   }
+
+  -- flags of files that import from the common file by the plan's rule are those by the facts
+  pub imports_are : (flags : List Bool)
+      → flags ≡ map (imports_common (move_of (rule_by sharing (docs_of contents)) (docs_of contents)) (units_of (docs_of contents))) (file_numbers 0 (docs_of contents))
+      → flags ≡ map (imports_common (move f) (units f)) (file_numbers 0 (docs f))
+  imports_are flags are = subst (λ (w : Facts). flags ≡ map (imports_common (move w) (units w)) (file_numbers 0 (docs w))) facts_same are
 
 -- what the rule of facts finds
 pub record AreRuled (f : Facts) : Type 0 where

@@ -9,7 +9,6 @@ use Rattle.dwz_known.specs.Owners.{move_of}
 use Rattle.dwz_layout.specs.Chains.{IsRising}
 use Rattle.dwz_layout.specs.declared.partial.SpaceRow.{SpaceRow}
 use Rattle.dwz_layout.specs.declared.partial.TopSpaces.{TopSpaces}
-use Rattle.dwz_moving.specs.Plan.{pinned_of}
 use Rattle.dwz_order.specs.declared.marks.TopMark.{TopMark}
 use Rattle.dwz_order.specs.Lists.{all_tops}
 use Rattle.dwz_order.specs.Marks.{mark_at, mark_of}
@@ -21,18 +20,15 @@ use Rattle.dwz_ordered.specs.Ordered.{AreSettled}
 use Rattle.dwz_ordered.proofs.FitLemmas.{parts_fit}
 use Rattle.dwz_places.specs.declared.order.Sort.TheVariants.{Partial as PartialSort}
 use Rattle.dwz_plan.specs.declared.plan.Scope.{Scope as Sharing}
-use Rattle.dwz_plan.specs.declared.plan.Partial.{Partial}
 use Rattle.dwz_plan.specs.Planned.{Planned}
-use Rattle.dwz_planned.specs.declared.planned.PlannedFiles.{PlannedFiles}
 use Rattle.dwz_planned.specs.Rules.{alike_scope, rule_by}
 use Rattle.dwz_planned.proofs.TopMarks.{marks_are}
 use Rattle.dwz_roots.specs.Roots.{AreLines}
 use Rattle.dwz_same.specs.Units.{changes}
-use Rattle.dwz_settled.specs.Settled.{IsSettled}
-use Rattle.dwz_spaces.specs.declared.spaces.Spaces.{Spaces}
+use Rattle.dwz_laid.specs.Settled.{IsSettled}
 use Rattle.dwz_spaces.specs.Known.{AreSpaces}
 use Rattle.dwz_spaces.specs.Pinned.{ArePinned, FlagsSpace}
-use Rattle.dwz_facts.specs.Facts.{Facts}
+use Rattle.dwz_laid.specs.Facts.{Facts}
 use Rattle.dwz_ready.specs.declared.settled.SettledFiles.{SettledFiles}
 use Rattle.dwz_ready.specs.Settled.{AreFactsOf, ArePlanned, Lends}
 use Rattle.dwz_ready.proofs.FactsAre.{facts_same, facts_with}
@@ -65,7 +61,7 @@ module _ (contents : List (List ℕ)) (indexes : List Index) (sharing : Sharing)
         rows_are = lends.rows ∙ sp.rows_are;
         spaces = subst (λ (w : List SpaceRow). KnowsSpaces units w sp.texts sp.lists (all_tops indexes)) (sym lends.rows) sp.knows;
         of_tops = lends.of_tops ∙ sp.of_tops_are;
-        lines = λ n file part nth home. subst (λ (w : List (Option ℕ)). ShowsLine (PartialSort (slice_index_or w n None)) ((move_of rule docs).roots n)) (sym lends.lines) (parts.lines.each n part nth);
+        lines = λ n part nth. subst (λ (w : List (Option ℕ)). ShowsLine (PartialSort (slice_index_or w n None)) ((move_of rule docs).roots n)) (sym lends.lines) (parts.lines.each n part nth);
       }
 
   pub all_settled : (f : Facts) → AreFactsOf contents indexes sharing r.planned f → IsSettled f s

@@ -14,7 +14,7 @@ use Rattle.dwz_planned.specs.declared.planned.PlannedFiles.{PlannedFiles}
 use Rattle.dwz_planned.specs.Fits.{FitsFiles}
 use Rattle.dwz_planned.specs.Rules.{alike_scope, rule_by}
 use Rattle.dwz_known.specs.Owners.{AreUnitNumbers}
-use Rattle.dwz_facts.specs.Facts.{AreFacts, Facts, IsStoredSo, docs, move, units, written}
+use Rattle.dwz_laid.specs.Facts.{AreFacts, Facts, IsStoredSo, docs, move, units, written}
 use Rattle.dwz_ordered.specs.declared.orders.Settled.{Settled}
 use Rattle.dwz_ready.specs.declared.settled.SettledFiles.{SettledFiles}
 

@@ -1,19 +1,21 @@
 //! What is settled of planned files.
 
-ghost use Rattle.std.specs.Prelude.{◌≡◌, ◌<◌, ◌^◌, length, IfOk};
-ghost use Rattle.dwz_facts.specs.Facts.{Facts};
+ghost use Rattle.std.specs.Prelude.{◌≡◌, ◌<◌, ◌^◌, length, map, IfOk};
+ghost use Rattle.dwz_alike.specs.Spots.{file_numbers};
+ghost use Rattle.dwz_back.specs.Files.{imports_common};
+ghost use Rattle.dwz_laid.specs.Facts.{Facts, docs, move, units};
 ghost use Rattle.dwz_graph.specs.Files.{docs_of};
 ghost use Rattle.dwz_indexes.specs.Indexed.{AreIndexes};
 ghost use Rattle.dwz_ordered.specs.declared.orders.Settled.{Settled as Lent};
 ghost use Rattle.dwz_ordered.specs.Ordered.{AreSettled};
-ghost use Rattle.dwz_settled.specs.Settled.{IsSettled};
+ghost use Rattle.dwz_laid.specs.Settled.{IsSettled};
 ghost use Rattle.dwz_ready.specs.Settled.{AreFactsOf, ArePlanned, Lends};
 
 use dwz_graph::Graph;
 use dwz_index::Index;
 use dwz_model::NoMemory;
 use dwz_order::{Marks, TopMark, marks_of};
-use dwz_ordered::{Settled, changed_files};
+use dwz_ordered::{Settled, changed_files, importing_files};
 use dwz_plan::Scope;
 use dwz_planned::PlannedFiles;
 use dwz_roots::part_lines;
@@ -37,6 +39,8 @@ pub struct SettledFiles {
     pub lines: Vec<Option<u32>>,
     /// For each file whether something of it moves. Those files are written.
     pub written: Vec<bool>,
+    /// For each file whether it imports from the common file (3.2.5).
+    pub importing: Vec<bool>,
 }
 
 impl SettledFiles {
@@ -60,7 +64,7 @@ impl SettledFiles {
 }
 
 /// All that is settled of files that share so, by their plan: which tops and spaces stay, the spaces of all files, the line tables of
-/// partial units, and which files are written.
+/// partial units, which files are written, and which of them import from the common file.
 pub fn settle_files(
     alloc: Global,
     graph: &Graph,
@@ -74,6 +78,8 @@ pub fn settle_files(
     ensures scope { IfOk result (λ r. r.scope ≡ scope) }
     ensures planned { IfOk result (λ r. r.planned ≡ planned) }
     ensures settled { IfOk result (λ r. (f : Facts) (s : Lent) → AreFactsOf graph.now indexes.now scope planned f → Lends r s → IsSettled f s) }
+    ensures importing { IfOk result (λ r. (f : Facts) → AreFactsOf graph.now indexes.now scope planned f
+        → r.importing.items ≡ map (imports_common (move f) (units f)) (file_numbers 0 (docs f))) }
     ensures fits { IfOk result (λ r. (s : Lent) → Lends r s → AreSettled s) }
 {
     let files = graph.files().len() as u32;
@@ -84,6 +90,7 @@ pub fn settle_files(
     let spaces = spaces_of_files(alloc, graph, indexes)?;
     let lines = part_lines(alloc, graph, indexes, tops, plan)?;
     let written = changed_files(alloc, tops, plan, files)?;
+    let importing = importing_files(alloc, tops, plan, files)?;
     Ok(SettledFiles {
         scope,
         planned,
@@ -92,5 +99,6 @@ pub fn settle_files(
         spaces,
         lines,
         written,
+        importing,
     })
 }

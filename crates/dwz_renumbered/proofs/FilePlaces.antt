@@ -37,9 +37,9 @@ use Rattle.dwz_known.specs.Whole.{IsFileAt}
 use Rattle.dwz_known.proofs.OwnerLemmas.{own_name}
 use Rattle.dwz_known.proofs.Paths.{paths_of}
 use Rattle.dwz_known.proofs.WholeLemmas.{file_at}
-use Rattle.dwz_facts.specs.Facts.{AreFacts, Facts, docs, rule, run, units}
-use Rattle.dwz_named.specs.NamedLaws.{IsItself}
-use Rattle.dwz_named.proofs.ImagesStand.{old, spot_cases, stands_for}
+use Rattle.dwz_laid.specs.Facts.{AreFacts, Facts, docs, rule, run, units}
+use Rattle.dwz_laid.specs.NamedLaws.{IsItself}
+use Rattle.dwz_laid.proofs.ImagesStand.{old, spot_cases, stands_for}
 use Rattle.dwz_renumbered.specs.Operands.{AreNewNumbers, IsNewNumber}
 use Rattle.dwz_renumbered.specs.NumberLaws.{ArePlaces, AreUnitPlaces, stands_after}
 use Rattle.dwz_renumbered.proofs.RowEntries.{row_led}

@@ -14,7 +14,7 @@ use Rattle.dwz_back.specs.Files.{sources}
 use Rattle.dwz_out.specs.Contents.{lists_after, new_number, ranges_after}
 use Rattle.dwz_sections.specs.Numbers.{with_numbers}
 use Rattle.dwz_sections.specs.Ranges.{AreMoved}
-use Rattle.dwz_facts.specs.Facts.{AreFacts, Facts, HasFile, docs, rule, run}
+use Rattle.dwz_laid.specs.Facts.{AreFacts, Facts, HasFile, docs, rule, run}
 use Rattle.dwz_alike.specs.Spots.{Spot}
 use Rattle.dwz_renumbered.specs.Operands.{HasNewNumbers}
 use Rattle.dwz_renumbered.specs.NumberLaws.{ArePlaces, AreUnitPlaces, HaveNewNumbers, stands_after}

@@ -14,8 +14,8 @@ use Rattle.dwz_back.specs.Files.{name_after, places, sources}
 use Rattle.dwz_out.specs.Contents.{lists_after, new_number, ranges_after}
 use Rattle.dwz_sections.specs.Numbers.{with_numbers}
 use Rattle.dwz_sections.specs.Ranges.{AreMoved}
-use Rattle.dwz_facts.specs.Facts.{AreFacts, Facts, HasFile, docs, rule, run}
-use Rattle.dwz_named.specs.NamedLaws.{IsItself}
+use Rattle.dwz_laid.specs.Facts.{AreFacts, Facts, HasFile, docs, rule, run}
+use Rattle.dwz_laid.specs.NamedLaws.{IsItself}
 use Rattle.dwz_renumbered.specs.Operands.{AreNewNumbers, HasNewNumbers}
 
 -- ---- what is given

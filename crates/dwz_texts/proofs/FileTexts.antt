@@ -17,8 +17,8 @@ use Rattle.dwz_places.specs.declared.known.FileRows.{FileRows}
 use Rattle.dwz_places.specs.declared.known.Row.{Row}
 use Rattle.dwz_places.specs.declared.known.SpaceRow.{SpaceRow}
 use Rattle.dwz_places.specs.declared.known.TextAt.{TextAt}
-use Rattle.dwz_facts.specs.Facts.{Facts}
-use Rattle.dwz_facts.specs.Listed.{AreRows, IsListed, space_rows}
+use Rattle.dwz_laid.specs.Facts.{Facts}
+use Rattle.dwz_laid.specs.Listed.{AreRows, IsListed, space_rows}
 use Rattle.dwz_texts.specs.Texts.{own_text, row_texts, slots_base_at}
 
 -- ---- the entry with a number
@@ -104,12 +104,14 @@ has_rows f (y ∷ files) (z ∷ indexes) (start ∷ starts) (t ∷ texts) (r ∷
 
 -- ---- the space with a number
 
-pub space_row : (rows : List Row) (texts : List TextAt) (k : ℕ) (r : Row) (t : TextAt) → slice_get rows k ≡ Some r → slice_get texts k ≡ Some t
-    → slice_get (space_rows rows texts) k ≡ Some (record { row = r; text = t })
-space_row [] texts k r t p q = absurd cc
-space_row (x ∷ rows) [] k r t p q = absurd cc
-space_row (x ∷ rows) (y ∷ texts) zero r t p q =
-    let a : x ≡ r = cc in
-    let b : y ≡ t = cc in
-    (λ i. let s : SpaceRow = record { row = a i; text = b i } in Some s)
-space_row (x ∷ rows) (y ∷ texts) (suc k) r t p q = space_row rows texts k r t p q
+pub space_row : (rows : List Row) (texts commons : List TextAt) (k : ℕ) (r : Row) (t c : TextAt) → slice_get rows k ≡ Some r → slice_get texts k ≡ Some t → slice_get commons k ≡ Some c
+    → slice_get (space_rows rows texts commons) k ≡ Some (record { row = r; text = t; common = c })
+space_row [] texts commons k r t c p q o = absurd cc
+space_row (x ∷ rows) [] commons k r t c p q o = absurd cc
+space_row (x ∷ rows) (y ∷ texts) [] k r t c p q o = absurd cc
+space_row (x ∷ rows) (y ∷ texts) (z ∷ commons) zero r t c p q o =
+    let same_row : x ≡ r = cc in
+    let same_text : y ≡ t = cc in
+    let same_common : z ≡ c = cc in
+    (λ i. let s : SpaceRow = record { row = same_row i; text = same_text i; common = same_common i } in Some s)
+space_row (x ∷ rows) (y ∷ texts) (z ∷ commons) (suc k) r t c p q o = space_row rows texts commons k r t c p q o

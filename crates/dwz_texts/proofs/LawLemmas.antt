@@ -1,7 +1,7 @@
--- Texts and names of files of which nothing is in the common file stand where they were read.
-use Rattle.std.proofs.Common.{◌≡◌, ℕ, ◌+◌, List, [], map, Option, Some, None, slice_get, refl, sym, ap, subst, ◌∙◌, arith}
+-- Texts and names of files that share none with the common file stand where they were read.
+use Rattle.std.proofs.Common.{◌≡◌, ℕ, ◌+◌, List, map, Option, Some, None, slice_get, refl, sym, ap, subst, ◌∙◌, arith}
 use Rattle.std.specs.Option.{option_and_then, option_map_or}
-use Rattle.std.specs.Prelude.{slice_index, slice_index_or, Bool, true, false}
+use Rattle.std.specs.Prelude.{slice_index, slice_index_or}
 use Rattle.dwz_bytes.specs.Spelling.{reach}
 use Rattle.dwz_docs.specs.Entries.{RawAttr}
 use Rattle.dwz_docs.specs.Units.{RawUnit}
@@ -11,15 +11,14 @@ use Rattle.dwz_meanings.specs.Meanings.{Around, alone, class_of, scope_of}
 use Rattle.dwz_seen.specs.Seen.{IsPartial}
 use Rattle.dwz_seen.specs.Spaces.{space_text}
 use Rattle.dwz_alike.specs.Spots.{Spot, name_by, name_of}
-use Rattle.dwz_same.specs.Units.{common_units}
 use Rattle.dwz_flat.proofs.TreeLemmas.{node_attrs}
 use Rattle.dwz_unit.specs.Rows.{EntryRow, rows_of, units_of as raw_units}
 use Rattle.dwz_graph.specs.declared.file.File.{File}
 use Rattle.dwz_index.specs.Index.{Index}
-use Rattle.dwz_across.proofs.ListGets.{got_index, got_map, same_got}
+use Rattle.dwz_across.proofs.ListGets.{get_there, got_below, got_index, got_map, same_got}
 use Rattle.dwz_writing.specs.Bases.{Bases}
-use Rattle.dwz_writing.specs.Placing.{Fit, texts_of, units_with}
-use Rattle.dwz_back.specs.Files.{imports_common, name_after, shared_if}
+use Rattle.dwz_writing.specs.Placing.{Fit}
+use Rattle.dwz_back.specs.Files.{name_after}
 use Rattle.dwz_known.specs.Images.{starts_from}
 use Rattle.dwz_places.specs.declared.known.FileRows.{FileRows}
 use Rattle.dwz_places.specs.declared.known.Firsts.{Firsts}
@@ -30,8 +29,8 @@ use Rattle.dwz_places.specs.declared.known.TextAt.TheVariants.{Own}
 use Rattle.dwz_places.specs.Known.{no_firsts, no_space, no_text, space_at, text_at}
 use Rattle.dwz_fitted.specs.Knows.{EachFrom, IsRead, IsText, firsts_at, name_attr, texts_in}
 use Rattle.dwz_fitted.proofs.FormWays.{is_read}
-use Rattle.dwz_facts.specs.Facts.{AreFacts, Facts, HasFile, file_read, move, run, units}
-use Rattle.dwz_facts.specs.Listed.{AreListed, TextsAt, entry_row, firsts_from, none_before, space_entries}
+use Rattle.dwz_laid.specs.Facts.{AreFacts, Facts, HasFile, file_read, run}
+use Rattle.dwz_laid.specs.Listed.{AreListed, TextsAt, entry_row, firsts_from, none_before, space_entries}
 use Rattle.dwz_texts.specs.Texts.{file_texts, row_texts, slots_base, slots_base_at, str_offset}
 use Rattle.dwz_texts.specs.Files.{texts_in_file}
 use Rattle.dwz_texts.specs.Names.{HaveNames, named_text, row_name}
@@ -51,11 +50,7 @@ stand_law f t files names = record {
   spaces = names;
 }
 
-shared_none : (b : Bool) → shared_if b [] ≡ []
-shared_none true = refl
-shared_none false = refl
-
-module _ (f : Facts) (t : TextsAt) (k : Known) (facts : AreFacts f) (listed : AreListed f t k) (stand : StandAsRead f t) (alone : common_units (move f) ≡ [])
+module _ (f : Facts) (t : TextsAt) (k : Known) (facts : AreFacts f) (listed : AreListed f t k) (stand : StandAsRead f t)
     (n : ℕ) (bytes : List ℕ) (x : File) (index : Index) (has : HasFile f n bytes x index) (keys : List Spot) (u : DwUnit Spot) where
   abbrev ft : Fit Spot
   ft = file_fit f n keys u
@@ -65,11 +60,6 @@ module _ (f : Facts) (t : TextsAt) (k : Known) (facts : AreFacts f) (listed : Ar
 
   abbrev around : Around ℕ
   around = around_of bytes raw
-
-  -- what the common file has is none
-  shared : ft.shared ≡ []
-  unfolding units_with
-  shared = ap (λ (us : List (DwUnit Spot)). shared_if (imports_common (move f) (units f) n) (texts_of [] us)) alone ∙ shared_none (imports_common (move f) (units f) n)
 
   offsets_are : ft.offsets ≡ around.sources.offsets
   offsets_are = ap (λ (b : List ℕ). (sources_of b).offsets) (facts.stored n bytes x index has).0
@@ -99,22 +89,26 @@ module _ (f : Facts) (t : TextsAt) (k : Known) (facts : AreFacts f) (listed : Ar
         ∙ got_index at.row.texts.items (b.from + j) w no_text (ap (λ (l : List TextAt). slice_get l (b.from + j)) (at.listed.texts_are ∙ texts_are) ∙ b.stand j w h)) in
         let s = scope_of around read.unit in
         subst (λ (m : ℕ). EachFrom (λ j a. IsText ft None a (text_at k n j)) m (texts_in (node_map (name_after (run f) n) d).attrs)) (sym first)
-        (attrs_are around.sources.offsets base ft shared offsets_are u.kind refl slots k n (name_after (run f) n) s r.entry.attrs d.attrs b.from (node_attrs s r.entry d read.means).0 there)
+        (attrs_are around.sources.offsets base ft refl offsets_are u.kind refl slots k n (name_after (run f) n) s r.entry.attrs d.attrs b.from (node_attrs s r.entry d read.means).0 there)
 
     pub names_law : (space : ℕ) (text : List ℕ) → slice_get (space_entries 0 f.indexes) space ≡ Some (entry_row n i) → space_text d ≡ Some text
         → IsText ft None (name_attr (name_of text d)) (space_at k space).text
     names_law space text entry is =
         let name = has_stored_name (scope_of around read.unit) r.entry d text read.means is in
         let own = stand.spaces.each space n i has.read.limits bytes raw has.read.read.doc r entry has.read.there read.found in
-        let at : space_at k space ≡ record { row = entry_row n i; text = row_name around raw r } =
-        got_index k.spaces.items space (record { row = entry_row n i; text = row_name around raw r }) no_space
-        (ap (λ (l : List SpaceRow). slice_get l space) listed.spaces ∙ space_row (space_entries 0 f.indexes) t.spaces space (entry_row n i) (row_name around raw r) entry own) in
+        let low = got_below (space_entries 0 f.indexes) space (entry_row n i) entry in
+        let many = listed.many_commons in
+        let common = get_there t.commons space (omega (arith, low, many)) in
+        let at : space_at k space ≡ record { row = entry_row n i; text = row_name around raw r; common = common.0 } =
+        got_index k.spaces.items space (record { row = entry_row n i; text = row_name around raw r; common = common.0 }) no_space
+        (ap (λ (l : List SpaceRow). slice_get l space) listed.spaces
+        ∙ space_row (space_entries 0 f.indexes) t.spaces t.commons space (entry_row n i) (row_name around raw r) common.0 entry own common.1) in
         let a : Attr Spot = record { name = 0x03; form = name.b.form; raw = name.b.raw; value = only (Text text) } in
         let attr_is : name_attr (name_of text d) ≡ a = ap (λ (o : Option (Attr ℕ)). name_attr (name_by text o)) name.named in
         let text_is : (space_at k space).text ≡ Own (str_offset (class_of a.form) around.sources.offsets base (reach a.raw)) =
         ap (λ (w : SpaceRow). w.text) at
         ∙ ap (λ (o : Option RawAttr). named_text around.sources.offsets base o) name.stored.first
         ∙ (λ j. Own (str_offset (class_of (sym name.stored.form j)) around.sources.offsets base (reach (sym name.stored.number j)))) in
-        let good = text_stands ft shared around.sources.offsets offsets_are base u.kind refl slots a (ap (λ (c : ℕ). is_read (class_of c)) name.stored.form ∙ name.stored.read) (λ e. cc) in
+        let good = text_stands ft refl around.sources.offsets offsets_are base u.kind refl slots a (ap (λ (c : ℕ). is_read (class_of c)) name.stored.form ∙ name.stored.read) (λ e. cc) in
         subst (λ (w : TextAt). IsText ft None (name_attr (name_of text d)) w) (sym text_is)
         (subst (λ (b : Attr Spot). IsText ft None b (Own (str_offset (class_of a.form) around.sources.offsets base (reach a.raw)))) (sym attr_is) good)

@@ -17,7 +17,7 @@ use Rattle.dwz_index.specs.Index.{Index}
 use Rattle.dwz_index.proofs.TopLemmas.{get_cases, get_first, get_later}
 use Rattle.dwz_places.specs.declared.known.Row.{Row}
 use Rattle.dwz_places.specs.declared.known.TextAt.{TextAt}
-use Rattle.dwz_facts.specs.Listed.{entry_row, space_entries}
+use Rattle.dwz_laid.specs.Listed.{entry_row, space_entries}
 use Rattle.dwz_texts.specs.Names.{HaveNames, name_by_row, names_of_spaces, row_name}
 
 -- those of a file

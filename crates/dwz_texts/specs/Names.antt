@@ -11,7 +11,7 @@ use Rattle.dwz_index.specs.declared.index.SpaceEntry.{SpaceEntry}
 use Rattle.dwz_index.specs.Index.{Index}
 use Rattle.dwz_places.specs.declared.known.TextAt.{TextAt}
 use Rattle.dwz_places.specs.declared.known.TextAt.TheVariants.{Own}
-use Rattle.dwz_facts.specs.Listed.{entry_row, space_entries}
+use Rattle.dwz_laid.specs.Listed.{entry_row, space_entries}
 use Rattle.dwz_texts.specs.Texts.{own_text, slots_base_at}
 
 -- that of an attribute, or of none

@@ -1,4 +1,4 @@
--- What is known of texts where they stand as they were read, in files of which nothing is in the common file.
+-- What is known of texts where they stand as they were read, in files that share none with the common file.
 use Rattle.std.specs.Prelude.{◌≡◌, ℕ, List, [], None, Some, map, slice_get}
 use Rattle.dwz_meanings.specs.Documents.{DwUnit, Node, node_map}
 use Rattle.dwz_meanings.specs.Files.{around_of}
@@ -6,7 +6,6 @@ use Rattle.dwz_meanings.specs.Meanings.{Scope as ScopeOf, scope_of}
 use Rattle.dwz_seen.specs.Seen.{IsPartial}
 use Rattle.dwz_seen.specs.Spaces.{space_text}
 use Rattle.dwz_alike.specs.Spots.{Spot, name_of}
-use Rattle.dwz_same.specs.Units.{common_units}
 use Rattle.dwz_unit.specs.Rows.{EntryRow, units_of as raw_units}
 use Rattle.dwz_graph.specs.declared.file.File.{File}
 use Rattle.dwz_index.specs.Index.{Index}
@@ -17,8 +16,8 @@ use Rattle.dwz_places.specs.declared.known.Known.{Known}
 use Rattle.dwz_places.specs.declared.known.TextAt.{TextAt}
 use Rattle.dwz_places.specs.Known.{space_at, text_at}
 use Rattle.dwz_fitted.specs.Knows.{EachFrom, IsRead, IsText, firsts_at, name_attr, texts_in}
-use Rattle.dwz_facts.specs.Facts.{AreFacts, Facts, HasFile, file_read, move, run, units}
-use Rattle.dwz_facts.specs.Listed.{AreListed, TextsAt, entry_row, space_entries}
+use Rattle.dwz_laid.specs.Facts.{AreFacts, Facts, HasFile, file_read, move, run, units}
+use Rattle.dwz_laid.specs.Listed.{AreListed, TextsAt, entry_row, space_entries}
 use Rattle.dwz_texts.specs.Texts.{file_texts}
 use Rattle.dwz_texts.specs.Files.{texts_in_file}
 use Rattle.dwz_texts.specs.Names.{HaveNames}
@@ -37,15 +36,29 @@ StandLaw = (f : Facts) (t : TextsAt) → t.files ≡ map texts_in_file f.files �
 abbrev pub ComesFromScope : Facts → DwUnit Spot → ScopeOf ℕ → Type 0
 ComesFromScope f u s = IsPartial u.kind → origin_in (move f) (units f) u.at ≡ bases_of s
 
--- how the values of a unit of the file with that number are written, where the file has these keys
+-- the same choice of forms in a file that shares no text
+abbrev pub unshared : Fit Spot → Fit Spot
+unshared ft = record {
+  same = ft.same;
+  own = ft.own;
+  file = ft.file;
+  holder = ft.holder;
+  texts = ft.texts;
+  shared = [];
+  paths = ft.paths;
+  offsets = ft.offsets;
+  origin = ft.origin;
+}
+
+-- how the values of a unit of the file with that number are written, where the file has these keys, and shares no text
 abbrev pub file_fit : Facts → ℕ → List Spot → DwUnit Spot → Fit Spot
-file_fit f n keys u = unit_fit (with_keys (file_forms (run f) n) keys) u
+file_fit f n keys u = unshared (unit_fit (with_keys (file_forms (run f) n) keys) u)
 
 -- The texts of an entry of a file, written in a unit of it that has its values from the entry's own unit, stand where the definition of
 -- forms says.
 abbrev pub TextsLaw : Type 0
 TextsLaw =
-    (f : Facts) (t : TextsAt) (k : Known) → AreFacts f → AreListed f t k → StandAsRead f t → common_units (move f) ≡ []
+    (f : Facts) (t : TextsAt) (k : Known) → AreFacts f → AreListed f t k → StandAsRead f t
     → (n : ℕ) (bytes : List ℕ) (x : File) (index : Index) → HasFile f n bytes x index
     → (keys : List Spot) (u : DwUnit Spot) (i : ℕ) (r : EntryRow) (d : Node ℕ) (read : IsRead (file_read f n bytes x) i r d)
     → ComesFromScope f u (scope_of (around_of bytes (raw_units x.units)) read.unit)
@@ -55,7 +68,7 @@ TextsLaw =
 -- So does the name of a space, in a unit that has its values from the space's own unit.
 abbrev pub NamesLaw : Type 0
 NamesLaw =
-    (f : Facts) (t : TextsAt) (k : Known) → AreFacts f → AreListed f t k → StandAsRead f t → common_units (move f) ≡ []
+    (f : Facts) (t : TextsAt) (k : Known) → AreFacts f → AreListed f t k → StandAsRead f t
     → (n : ℕ) (bytes : List ℕ) (x : File) (index : Index) → HasFile f n bytes x index
     → (keys : List Spot) (u : DwUnit Spot) (space i : ℕ) (r : EntryRow) (d : Node ℕ) (text : List ℕ)
     → slice_get (space_entries 0 f.indexes) space ≡ Some (entry_row n i) → (read : IsRead (file_read f n bytes x) i r d)

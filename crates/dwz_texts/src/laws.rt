@@ -2,7 +2,7 @@
 
 ghost use Rattle.dwz_texts.specs.TextLaws.{NamesLaw, StandLaw, TextsLaw};
 
-/// Files of which nothing is in the common file: their texts, and the names of their spaces, are written where they stood, in a partial
+/// Files that share no texts with the common file: their texts, and the names of their spaces, are written where they stood, in a partial
 /// unit by the bases of the unit that its values come from.
 pub fn text_laws()
     ensures stand { StandLaw }

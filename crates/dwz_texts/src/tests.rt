@@ -15,7 +15,7 @@ fn offsets_of(alloc: Global, texts: &[TextAt]) -> Result<Vec<u32>, AllocError> {
     for text in texts {
         match text {
             TextAt::Own(offset) => offsets.push(*offset)?,
-            TextAt::Shared(_) => offsets.push(u32::MAX)?,
+            TextAt::Shared(_) | TextAt::Pooled(_) => offsets.push(u32::MAX)?,
         }
     }
     Ok(offsets)

@@ -13,7 +13,7 @@ use Rattle.dwz_places.specs.declared.known.Row.{Row}
 use Rattle.dwz_places.specs.declared.known.TextAt.{TextAt}
 use Rattle.dwz_places.specs.declared.ways.Way.{Way}
 use Rattle.dwz_places.specs.Attributes.{name_attrs, plain_pair, space_attrs}
-use Rattle.dwz_places.specs.Known.{row_at}
+use Rattle.dwz_places.specs.Known.{row_at, text_held}
 use Rattle.dwz_places.specs.Ways.{way_of}
 use Rattle.dwz_fitted.specs.Knows.{name_attr}
 use Rattle.dwz_alike.specs.Spots.{name_of}
@@ -46,19 +46,21 @@ first_is h text (b ∷ attrs) a e = go (λ f. first_is h text attrs a f) (eqb b.
   }
 
 pub name_moved : NameMovedLaw
-name_moved strs uses p is k f rows ft space i r d text at read is_space among stands =
+name_moved strs uses p is k f rows ft space i r d text at read is_space among stands own_file =
     let h = ft.holder in
+    let held = text_held h space in
     let s = scope_of f.around read.unit in
     let n = has_stored_name s r.entry d text read.means is_space in
     let a = n.stored.attr in
-    let first = first_is h space.text r.entry.attrs a n.stored.first in
+    let first = first_is h held r.entry.attrs a n.stored.first in
     let name = name_of text d in
     let form : name.form ≡ a.pair.form = ap (λ (o : Option (Attr ℕ)). (name_by text o).form) n.named ∙ n.stored.form in
     let there : row_at k space.row ≡ Some r = ap (λ (w : Row). row_at k w) at ∙ ap (λ (rs : List EntryRow). slice_get rs i) rows ∙ read.found in
-    let all : flat_map out_uses (space_attrs k h space) ≡ name_uses space.text (way_of h a.pair) =
-    ap (λ (o : Option EntryRow). flat_map out_uses (option_map_or (λ (x : EntryRow). name_attrs h space.text x.entry.attrs) o [])) there
-    ∙ names_are h space.text r.entry.attrs
+    let all : flat_map out_uses (space_attrs k h space) ≡ name_uses held (way_of h a.pair) =
+    ap (λ (o : Option EntryRow). flat_map out_uses (option_map_or (λ (x : EntryRow). name_attrs h held x.entry.attrs) o [])) there
+    ∙ names_are h held r.entry.attrs
     ∙ first.uses in
     let same : way_of h a.pair ≡ way_of h (plain_pair 0x03 name.form) = (λ j. way_of h (plain_pair (first.named j) (sym form j))) in
-    text_moved strs uses p is ft (name_attr name) space.text stands
-    (λ way m e. among m (subst (In m) (sym all) (subst (λ (w : Way). In m (name_uses space.text w)) (sym (same ∙ way)) (subst (λ (t : TextAt). In m (text_uses t)) (sym e) (inl refl)))))
+    text_moved strs uses p is ft (name_attr name) held stands
+    (λ way m e. among m (subst (In m) (sym all) (subst (λ (w : Way). In m (name_uses held w)) (sym (same ∙ way)) (subst (λ (t : TextAt). In m (text_uses t)) (sym e) (inl refl)))))
+    own_file

@@ -22,7 +22,7 @@ use Rattle.dwz_writing.specs.Placing.{Chosen, CommonUnit, Fit, Holder, NewUnit, 
 use Rattle.dwz_writing.specs.Pruned.{renumbered_attr}
 use Rattle.dwz_places.specs.declared.known.Known.{Known}
 use Rattle.dwz_places.specs.declared.known.TextAt.{TextAt}
-use Rattle.dwz_places.specs.declared.known.TextAt.TheVariants.{Own, Shared}
+use Rattle.dwz_places.specs.declared.known.TextAt.TheVariants.{Own, Pooled, Shared}
 use Rattle.dwz_places.specs.declared.walk.Origin.TheVariants.{Read as OfRow}
 use Rattle.dwz_places.specs.declared.ways.Way.{Way}
 use Rattle.dwz_places.specs.declared.ways.Way.TheVariants.{AsEntry, AsExpression, AsFile, AsRead, AsText, Dropped, KeepsText}
@@ -35,7 +35,7 @@ use Rattle.dwz_fitted.specs.Knows.{EachFrom, IsText, chosen_of, is_placed, text_
 use Rattle.dwz_fitted.proofs.FormWays.{class_way, is_read, way_is}
 use Rattle.dwz_uses.specs.Used.{origin_uses, out_uses}
 use Rattle.dwz_uses.specs.Steps.{text_behind, text_uses, way_uses}
-use Rattle.dwz_uses.specs.MovedTexts.{EntryMovedLaw, HaveMoved, IsUse, TextMovedLaw, moved_text}
+use Rattle.dwz_uses.specs.MovedTexts.{EntryMovedLaw, HaveMoved, IsPooled, IsUse, TextMovedLaw, moved_text}
 use Rattle.dwz_uses.proofs.PairUses.{attrs_are, pairs, pairs_uses}
 
 -- ---- one text
@@ -50,8 +50,8 @@ chosen_is number b = go (eqb b.form 0x0e) where
   go false = refl
 
 pub text_moved : TextMovedLaw
-text_moved strs uses p is ft a t stands used = λ way. (
-    moved t (used way)
+text_moved strs uses p is ft a t stands used own = λ way. (
+    moved t (used way) own
     ∙ ap (renumbered_chosen number) (stands way)
     ∙ sym (chosen_is number (fit_attr ft a)))
   where
@@ -64,9 +64,10 @@ text_moved strs uses p is ft a t stands used = λ way. (
       by (Some m) s = s.1
       by None s = absurd (s there)
 
-    moved : (t : TextAt) → ((offset : ℕ) → t ≡ Own offset → Contains uses offset) → text_chosen (moved_text p t) ≡ renumbered_chosen number (text_chosen t)
-    moved (Own offset) there = ap (λ (n : ℕ). let c : Chosen = record { form = 0x0e; raw = pos n } in c) (use_moved offset (there offset refl))
-    moved (Shared offset) there = refl
+    moved : (t : TextAt) → ((offset : ℕ) → t ≡ Own offset → Contains uses offset) → (IsPooled t → ⊥) → text_chosen (moved_text p t) ≡ renumbered_chosen number (text_chosen t)
+    moved (Own offset) there own = ap (λ (n : ℕ). let c : Chosen = record { form = 0x0e; raw = pos n } in c) (use_moved offset (there offset refl))
+    moved (Shared offset) there own = refl
+    moved (Pooled offset) there own = absurd (own tt)
 
 -- ---- which texts are counted
 
@@ -183,11 +184,11 @@ module _ (uses : List ℕ) (ft : Fit Spot) (k : Known) (file : ℕ) (after : ℕ
 
 module _ (strs uses : List ℕ) (p : Pruning) (is : IsPruned strs uses p) (k moved : Known) (file : ℕ) (have : HaveMoved p file k moved) (ft : Fit Spot) where
   all_moved : (m : ℕ) (attrs : List (Attr Spot)) → EachFrom (λ j a. IsText ft None a (text_at k file j)) m attrs → EachFrom (λ j a. IsUse uses ft a (text_at k file j)) m attrs
-      → EachFrom (λ j a. IsText ft (Some (new_number strs uses)) a (text_at moved file j)) m attrs
-  all_moved m [] stand among_uses = tt
-  all_moved m (a ∷ attrs) stand among_uses = (
-    subst (λ (t : TextAt). IsText ft (Some (new_number strs uses)) a t) (sym (have m)) (text_moved strs uses p is ft a (text_at k file m) stand.0 among_uses.0),
-    all_moved (m + 1) attrs stand.1 among_uses.1,
+      → EachFrom (λ j a. IsPooled (text_at k file j) → ⊥) m attrs → EachFrom (λ j a. IsText ft (Some (new_number strs uses)) a (text_at moved file j)) m attrs
+  all_moved m [] stand among_uses own = tt
+  all_moved m (a ∷ attrs) stand among_uses own = (
+    subst (λ (t : TextAt). IsText ft (Some (new_number strs uses)) a t) (sym (have m)) (text_moved strs uses p is ft a (text_at k file m) stand.0 among_uses.0 own.0),
+    all_moved (m + 1) attrs stand.1 among_uses.1 own.1,
   )
 
 attrs_same : (s : Scope ℕ) (e : RawEntry) (attrs : List (Attr ℕ)) (d : Node ℕ) → node_with s e attrs ≡ Ok d → attrs ≡ d.attrs
@@ -197,7 +198,7 @@ attrs_same s e attrs d is =
     ap (λ (w : Node ℕ). w.attrs) same
 
 pub entry_moved : EntryMovedLaw
-entry_moved strs uses p is k moved f have rows here ft holder i r d read among stand =
+entry_moved strs uses p is k moved f have rows here ft holder i r d read among stand own_file =
     let s = scope_of f.around read.unit in
     let x = bind_ok (attrs_meaning s (without_siblings r.entry.attrs)) (node_with s r.entry) d read.means in
     let same : x.0 ≡ d.attrs = (let e : node_with s r.entry x.0 ≡ Ok d = x.2 in attrs_same s r.entry x.0 d e) in
@@ -210,3 +211,4 @@ entry_moved strs uses p is k moved f have rows here ft holder i r d read among s
     let own_uses = attrs_use uses ft k f.number f.after s r.entry.attrs x.0 first x.1 (λ n there. among n (subst (In n) (sym own) there)) in
     all_moved strs uses p is k moved f.number have ft first (texts_in (node_map f.after d).attrs) stand
     (subst (λ (ds : List (Attr ℕ)). EachFrom (λ j a. IsUse uses ft a (text_at k f.number j)) first (texts_in (map (attr_map f.after) ds))) same own_uses)
+    own_file

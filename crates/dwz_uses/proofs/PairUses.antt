@@ -19,12 +19,12 @@ use Rattle.dwz_places.specs.declared.known.Known.{Known}
 use Rattle.dwz_places.specs.declared.known.Row.{Row}
 use Rattle.dwz_places.specs.declared.known.SpaceRow.{SpaceRow}
 use Rattle.dwz_places.specs.declared.known.TextAt.{TextAt}
-use Rattle.dwz_places.specs.declared.known.TextAt.TheVariants.{Own, Shared}
+use Rattle.dwz_places.specs.declared.known.TextAt.TheVariants.{Own, Pooled, Shared}
 use Rattle.dwz_places.specs.declared.walk.Origin.TheVariants.{Read as OfRow}
 use Rattle.dwz_places.specs.declared.ways.Way.{Way}
 use Rattle.dwz_places.specs.declared.ways.Way.TheVariants.{AsEntry, AsExpression, AsFile, AsRead, AsText, Dropped, KeepsText}
 use Rattle.dwz_places.specs.Attributes.{Here, after, after_by, name_attrs, name_by, out_attr, out_attrs, out_by, row_attrs, space_attrs, text_attr}
-use Rattle.dwz_places.specs.Known.{HasValues, firsts_of, row_at, text_at}
+use Rattle.dwz_places.specs.Known.{HasValues, firsts_of, row_at, text_at, text_held}
 use Rattle.dwz_places.specs.Ways.{if_file, way_in, way_of, way_rows}
 use Rattle.dwz_uses.specs.Used.{origin_uses, out_uses, raw_uses}
 use Rattle.dwz_uses.specs.Steps.{text_behind, text_uses, way_uses}
@@ -75,6 +75,7 @@ name_none h p w is named other raw = unlike p.form (λ e. other (sym is ∙ strp
 text_one : (name : ℕ) (t : TextAt) → flat_map out_uses (text_attr name t ∷ []) ≡ text_uses t
 text_one name (Own offset) = refl
 text_one name (Shared offset) = refl
+text_one name (Pooled offset) = refl
 
 one_uses : (k : Known) (file unit : ℕ) (next : Firsts) (a : RawAttr) (h : Holder) (w : Way) → way_of h a.pair ≡ w → flat_map out_uses (out_by k file unit next a w) ≡ way_uses k file next.text w
 one_uses k file unit next a h AsText is = text_one a.pair.name (text_at k file next.text)
@@ -178,11 +179,11 @@ names_are h text (a ∷ attrs) = go (names_are h text attrs) (eqb a.pair.name 0x
   go rest true e = (let named : eqb a.pair.name 0x01 ≡ false = ap (λ (n : ℕ). eqb n 0x01) (eqb-true a.pair.name 0x03 e) in name_one text a h (way_of h a.pair) refl named)
   go rest false e = rest
 
-pub space_uses : (k : Known) (h : Holder) (s : SpaceRow) (some : List Pair) (at : Input) → HasValues k s.row some at → flat_map out_uses (space_attrs k h s) ≡ names_uses h s.text some
+pub space_uses : (k : Known) (h : Holder) (s : SpaceRow) (some : List Pair) (at : Input) → HasValues k s.row some at → flat_map out_uses (space_attrs k h s) ≡ names_uses h (text_held h s) some
 space_uses k h s some at has =
-    ap (λ (o : Option EntryRow). flat_map out_uses (option_map_or (λ (r : EntryRow). name_attrs h s.text r.entry.attrs) o [])) has.is
-    ∙ names_are h s.text has.entry.entry.attrs
-    ∙ ap (names_uses h s.text) (sym (read_pairs has.entry.entry.at some at has.reads.behind has.entry.entry.attrs has.reads.read))
+    ap (λ (o : Option EntryRow). flat_map out_uses (option_map_or (λ (r : EntryRow). name_attrs h (text_held h s) r.entry.attrs) o [])) has.is
+    ∙ names_are h (text_held h s) has.entry.entry.attrs
+    ∙ ap (names_uses h (text_held h s)) (sym (read_pairs has.entry.entry.at some at has.reads.behind has.entry.entry.attrs has.reads.read))
 
 pub space_none : (k : Known) (h : Holder) (s : SpaceRow) → row_at k s.row ≡ None → flat_map out_uses (space_attrs k h s) ≡ []
-space_none k h s none = ap (λ (o : Option EntryRow). flat_map out_uses (option_map_or (λ (r : EntryRow). name_attrs h s.text r.entry.attrs) o [])) none
+space_none k h s none = ap (λ (o : Option EntryRow). flat_map out_uses (option_map_or (λ (r : EntryRow). name_attrs h (text_held h s) r.entry.attrs) o [])) none

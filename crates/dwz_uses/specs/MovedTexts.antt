@@ -13,12 +13,12 @@ use Rattle.dwz_writing.specs.Placing.{Fit}
 use Rattle.dwz_places.specs.declared.known.Known.{Known}
 use Rattle.dwz_places.specs.declared.known.SpaceRow.{SpaceRow}
 use Rattle.dwz_places.specs.declared.known.TextAt.{TextAt}
-use Rattle.dwz_places.specs.declared.known.TextAt.TheVariants.{Own, Shared}
+use Rattle.dwz_places.specs.declared.known.TextAt.TheVariants.{Own, Pooled, Shared}
 use Rattle.dwz_places.specs.declared.walk.Origin.TheVariants.{Read as OfRow}
 use Rattle.dwz_places.specs.declared.ways.Way.TheVariants.{AsText}
 use Rattle.dwz_places.specs.Attributes.{Here, plain_pair, space_attrs}
 use Rattle.dwz_places.specs.Entries.{row}
-use Rattle.dwz_places.specs.Known.{rows_in, text_at}
+use Rattle.dwz_places.specs.Known.{rows_in, text_at, text_held}
 use Rattle.dwz_places.specs.Ways.{way_of}
 use Rattle.dwz_fitted.specs.Knows.{EachFrom, FileRead, IsRead, IsText, firsts_at, name_attr, texts_in}
 use Rattle.dwz_uses.specs.Used.{origin_uses, out_uses}
@@ -27,6 +27,7 @@ use Rattle.dwz_uses.specs.Used.{origin_uses, out_uses}
 abbrev pub moved_text : Pruning → TextAt → TextAt
 moved_text p (Own offset) = Own (moved_or_same p offset)
 moved_text p (Shared offset) = Shared offset
+moved_text p (Pooled offset) = Pooled offset
 
 -- each text of the file has moved
 abbrev pub HaveMoved : Pruning → ℕ → (k moved : Known) → Type 0
@@ -36,11 +37,17 @@ HaveMoved p file k moved = (j : ℕ) → text_at moved file j ≡ moved_text p (
 abbrev pub IsUse : List ℕ → Fit Spot → Attr Spot → TextAt → Type 0
 IsUse uses ft a t = way_of ft.holder (plain_pair a.name a.form) ≡ AsText → (offset : ℕ) → t ≡ Own offset → Contains uses offset
 
--- a text that stands where it was read, and is a use, stands where its new number says once it has moved
+-- a text of a unit of the common file, whose texts get no new numbers
+abbrev pub IsPooled : TextAt → Type 0
+IsPooled (Own offset) = ⊥
+IsPooled (Shared offset) = ⊥
+IsPooled (Pooled offset) = Unit {0}
+
+-- in any other unit a text that stands where the definition of forms says, and is a use, stands where its new number says once it has moved
 abbrev pub TextMovedLaw : Type 0
 TextMovedLaw =
     (strs uses : List ℕ) (p : Pruning) → IsPruned strs uses p → (ft : Fit Spot) (a : Attr Spot) (t : TextAt)
-    → IsText ft None a t → IsUse uses ft a t → IsText ft (Some (new_number strs uses)) a (moved_text p t)
+    → IsText ft None a t → IsUse uses ft a t → (IsPooled t → ⊥) → IsText ft (Some (new_number strs uses)) a (moved_text p t)
 
 -- so do the texts of an entry, of which all that is written uses these
 abbrev pub EntryMovedLaw : Type 0
@@ -50,6 +57,7 @@ EntryMovedLaw =
     → (i : ℕ) (r : EntryRow) (d : Node ℕ) → IsRead f i r d
     → ((n : ℕ) → In n (origin_uses k here (OfRow (row f.number i))) → Contains uses n)
     → EachFrom (λ j a. IsText ft None a (text_at k f.number j)) (firsts_at k f i).text (texts_in (node_map f.after d).attrs)
+    → EachFrom (λ j a. IsPooled (text_at k f.number j) → ⊥) (firsts_at k f i).text (texts_in (node_map f.after d).attrs)
     → EachFrom (λ j a. IsText ft (Some (new_number strs uses)) a (text_at moved f.number j)) (firsts_at k f i).text
     (texts_in (node_map f.after d).attrs)
 
@@ -59,5 +67,5 @@ NameMovedLaw =
     (strs uses : List ℕ) (p : Pruning) → IsPruned strs uses p → (k : Known) (f : FileRead) → rows_in k f.number ≡ rows_of f.raw
     → (ft : Fit Spot) (space : SpaceRow) (i : ℕ) (r : EntryRow) (d : Node ℕ) (text : List ℕ) → space.row ≡ row f.number i → IsRead f i r d
     → space_text d ≡ Some text → ((n : ℕ) → In n (flat_map out_uses (space_attrs k ft.holder space)) → Contains uses n)
-    → IsText ft None (name_attr (name_of text d)) space.text
-    → IsText ft (Some (new_number strs uses)) (name_attr (name_of text d)) (moved_text p space.text)
+    → IsText ft None (name_attr (name_of text d)) (text_held ft.holder space) → (IsPooled (text_held ft.holder space) → ⊥)
+    → IsText ft (Some (new_number strs uses)) (name_attr (name_of text d)) (moved_text p (text_held ft.holder space))

@@ -2,15 +2,16 @@
 use Rattle.std.specs.Prelude.{ℕ, ◌+◌, List, [], ◌∷◌}
 use Rattle.dwz_places.specs.declared.known.Known.{Known}
 use Rattle.dwz_places.specs.declared.known.TextAt.{TextAt}
-use Rattle.dwz_places.specs.declared.known.TextAt.TheVariants.{Own, Shared}
+use Rattle.dwz_places.specs.declared.known.TextAt.TheVariants.{Own, Pooled, Shared}
 use Rattle.dwz_places.specs.declared.ways.Way.{Way}
 use Rattle.dwz_places.specs.declared.ways.Way.TheVariants.{AsEntry, AsExpression, AsFile, AsRead, AsText, Dropped, KeepsText}
 use Rattle.dwz_places.specs.Known.{text_at}
 
--- the offset of a text of the file itself
+-- the offset of a text that stands in the file of the unit itself
 abbrev pub text_uses : TextAt → List ℕ
 text_uses (Own offset) = offset ∷ []
 text_uses (Shared offset) = []
+text_uses (Pooled offset) = offset ∷ []
 
 -- of a value of that way, where the next text of the file has that number
 abbrev pub way_uses : Known → ℕ → ℕ → Way → List ℕ

@@ -14,6 +14,7 @@ fn moved_text(text: TextAt, pruned: &Pruned) -> TextAt
     match text {
         TextAt::Own(offset) => TextAt::Own(pruned.moved(offset).unwrap_or(offset)),
         TextAt::Shared(offset) => TextAt::Shared(offset),
+        TextAt::Pooled(offset) => TextAt::Pooled(offset),
     }
 }
 

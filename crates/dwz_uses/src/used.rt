@@ -20,7 +20,7 @@ use std::alloc::Global;
 // `DW_AT_name`.
 const NAME: u16 = 0x03;
 
-// Appends the offset of a text of the file itself.
+// Appends the offset of a text that stands in the file of the unit itself.
 #[inline(always)]
 fn put_text(uses: &mut Vec<u32>, text: TextAt) -> Result<(), NoMemory>
     ensures { OnOk result (uses.new.items ≡ uses.old.items ++ text_uses text) }
@@ -28,6 +28,7 @@ fn put_text(uses: &mut Vec<u32>, text: TextAt) -> Result<(), NoMemory>
     match text {
         TextAt::Own(offset) => uses.push(offset)?,
         TextAt::Shared(_) => {}
+        TextAt::Pooled(offset) => uses.push(offset)?,
     }
     Ok(())
 }
@@ -89,7 +90,7 @@ fn put_name(
     for pair in pairs {
         if pair.name == NAME {
             return match way_of(holder, pair) {
-                Way::AsText => put_text(uses, space.text),
+                Way::AsText => put_text(uses, space.text_in(holder)),
                 _ => Ok(()),
             };
         }

@@ -1,5 +1,5 @@
 use Rattle.std.proofs.Common.{◌≡◌, ◌++◌, drop}
-use Rattle.dwz_facts.specs.Listed.{space_entries}
+use Rattle.dwz_laid.specs.Listed.{space_entries}
 use Rattle.dwz_listed.proofs.tops.rows_of_spaces.Given as goal
 
 abbrev pub invariant-loop-file : goal.invariant-loop-file

@@ -1,5 +1,5 @@
 use Rattle.std.proofs.Common.{◌≡◌, ◌++◌, drop}
-use Rattle.dwz_facts.specs.Listed.{top_rows}
+use Rattle.dwz_laid.specs.Listed.{top_rows}
 use Rattle.dwz_listed.proofs.tops.rows_of_tops.Given as goal
 
 abbrev pub invariant-loop-file : goal.invariant-loop-file

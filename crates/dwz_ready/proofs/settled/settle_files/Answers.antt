@@ -1,10 +1,10 @@
-use Rattle.std.proofs.Common.{◌≡◌, length, sym, ◌∙◌, arith}
+use Rattle.std.proofs.Common.{sym, ◌∙◌, arith}
 use Rattle.dwz_across.proofs.FileCounts.{are_many}
-use Rattle.dwz_alike.specs.Spots.{units_of}
 use Rattle.dwz_graph.specs.Files.{docs_of}
 use Rattle.dwz_planned.specs.Rules.{alike_scope, rule_by}
 use Rattle.dwz_planned.proofs.PlanFits.{alike_is, choice_is}
 use Rattle.dwz_ready.specs.declared.settled.SettledFiles.{SettledFiles}
+use Rattle.dwz_ready.proofs.FactsAre.{imports_are}
 use Rattle.dwz_ready.proofs.SettledParts.{AreParts, all_fit, all_settled}
 use Rattle.dwz_ready.proofs.settled.settle_files.Goals as goal
 
@@ -39,6 +39,7 @@ returns-clause-settled c = λ f s of lends. (
       spaces = c.in_ok-spaces.spaces;
       lines = c.in_ok-lines.lines;
       written = c.in_ok-written.written;
+      importing = c.in_ok-importing.importing;
     } in
     let parts : AreParts contents indexes sharing r = record {
       planned = planned;
@@ -49,6 +50,16 @@ returns-clause-settled c = λ f s of lends. (
       written = c.in_ok-written.ensures docs rule (sym many.0) planned.outline.shows planned.plan;
     } in
     all_settled contents indexes sharing r parts s lends f of)
+
+pub returns-clause-importing : goal.returns-clause-importing
+returns-clause-importing c = λ f of. (
+    let contents = c.args.graph.now in
+    let indexes = c.args.indexes.now in
+    let sharing = c.args.scope in
+    let planned = c.requires.planned in
+    let many = are_many contents c.files.result.now indexes c.files.ensures c.requires.indexes in
+    imports_are contents indexes sharing c.args.planned f of c.in_ok-importing.importing.items
+    (c.in_ok-importing.ensures (docs_of contents) (rule_by sharing (docs_of contents)) (sym many.0) planned.outline.shows planned.plan))
 
 pub returns-clause-fits : goal.returns-clause-fits
 returns-clause-fits c = λ s lends. (
@@ -67,6 +78,7 @@ returns-clause-fits c = λ s lends. (
       spaces = c.in_ok-spaces.spaces;
       lines = c.in_ok-lines.lines;
       written = c.in_ok-written.written;
+      importing = c.in_ok-importing.importing;
     } in
     let parts : AreParts contents indexes sharing r = record {
       planned = planned;

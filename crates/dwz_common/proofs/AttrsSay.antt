@@ -11,7 +11,7 @@ use Rattle.dwz_seen.specs.Lists.{Each}
 use Rattle.dwz_alike.specs.Spots.{Spot}
 use Rattle.dwz_flat.proofs.StepLemmas.{skipped, taken}
 
-module _ (s : Scope ℕ) (give : RawAttr → List (List ℕ)) (said : Attr Spot → List (List ℕ)) (after : ℕ → Spot)
+module _ {Y : Type 0} (s : Scope ℕ) (give : RawAttr → List Y) (said : Attr Spot → List Y) (after : ℕ → Spot)
     (sibling : (a : RawAttr) → a.pair.name ≡ 0x01 → give a ≡ [])
     (Good : RawAttr → Type 0)
     (value : (a : RawAttr) (v : Value ℕ) → Good a → (a.pair.name ≡ 0x01 → ⊥) → meaning s a ≡ Ok v
@@ -41,7 +41,7 @@ module _ (s : Scope ℕ) (give : RawAttr → List (List ℕ)) (said : Attr Spot 
         → flat_map give (a ∷ attrs) ≡ flat_map said (map (attr_map after) ds)
     go rest good ds means true t =
         let is = eqb-true a.pair.name 0x01 t in
-        ap (λ (w : List (List ℕ)). w ++ flat_map give attrs) (sibling a is)
+        ap (λ (w : List Y). w ++ flat_map give attrs) (sibling a is)
         ∙ rest good.1 ds (ap (attrs_meaning s) (sym (skipped a attrs is)) ∙ means)
     go rest good ds means false t =
         let other = eqb-false a.pair.name 0x01 t in

@@ -1,8 +1,8 @@
 -- The paths of the files that what is written of the common file numbers, each once, are those of its line table.
-use Rattle.std.proofs.Common.{◌≡◌, ℕ, List, [], sym, ap, ◌∙◌}
+use Rattle.std.proofs.Common.{[], sym, ap, ◌∙◌}
 use Rattle.dwz_same.specs.Units.{common_units}
 use Rattle.dwz_writing.specs.Placing.{attr_path}
-use Rattle.dwz_facts.specs.Facts.{Facts, move}
+use Rattle.dwz_laid.specs.Facts.{move}
 use Rattle.dwz_common.specs.CommonLaws.{CommonPathsLaw}
 use Rattle.dwz_common.specs.Gathered.{path_said, with_all}
 use Rattle.dwz_common.specs.Paths.{origin_paths}

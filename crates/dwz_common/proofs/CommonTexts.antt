@@ -2,7 +2,7 @@
 use Rattle.std.proofs.Common.{[], sym, ap, ◌∙◌}
 use Rattle.dwz_same.specs.Units.{common_units}
 use Rattle.dwz_writing.specs.Placing.{attr_text}
-use Rattle.dwz_facts.specs.Facts.{move}
+use Rattle.dwz_laid.specs.Facts.{move}
 use Rattle.dwz_common.specs.CommonLaws.{CommonTextsLaw}
 use Rattle.dwz_common.specs.Gathered.{text_said, with_all}
 use Rattle.dwz_common.specs.Stored.{origin_texts}

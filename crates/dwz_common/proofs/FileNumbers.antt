@@ -1,10 +1,9 @@
 -- The number of a path that is there is that of the definition of forms.
-use Rattle.std.proofs.Common.{◌≡◌, ℕ, suc, ◌+◌, Bool, true, false, List, [], ◌∷◌, Option, None, Some, cond, refl, sym, ap, ◌∙◌, arith}
-use Rattle.std.specs.Option.{option_to_list}
+use Rattle.std.proofs.Common.{◌≡◌, ℕ, suc, ◌+◌, Bool, List, [], ◌∷◌, None, Some, cond, refl, sym, ap, ◌∙◌, arith}
 use Rattle.dwz_meanings.specs.Documents.{File, Plain}
-use Rattle.dwz_writing.specs.Placing.{file_number, has_text, path_index}
+use Rattle.dwz_writing.specs.Placing.{file_number, path_index}
 use Rattle.dwz_common.specs.Gathered.{path_by}
-use Rattle.dwz_common.specs.Numbers.{NumberLaw, number_in}
+use Rattle.dwz_common.specs.Numbers.{NumberLaw}
 
 one_path :
     (paths : List (List ℕ)) (plain : Plain) (path : List ℕ) → path ∷ [] ≡ path_by plain

@@ -38,18 +38,18 @@ use Rattle.dwz_places.specs.Entries.{items_slots, row, tree_slots, what_slots}
 use Rattle.dwz_places.specs.Known.{space_at, top_row}
 use Rattle.dwz_unit.specs.Rows.{EntryRow}
 use Rattle.dwz_fitted.specs.Knows.{IsRead, name_attr}
-use Rattle.dwz_facts.specs.Facts.{AreFacts, Facts, HasFile, docs, file_read, move, rule, units}
-use Rattle.dwz_facts.specs.Listed.{AreListed, TextsAt}
-use Rattle.dwz_settled.specs.Settled.{IsSettled}
-use Rattle.dwz_named.proofs.LayoutLemmas.{knows_file}
-use Rattle.dwz_items.specs.New.{IsOfNew, NewNames}
-use Rattle.dwz_items.proofs.FileSpaces.{new_items}
-use Rattle.dwz_items.proofs.SpaceStands.{space_stands}
-use Rattle.dwz_trees.proofs.FilesFound.{unit_files}
-use Rattle.dwz_trees.proofs.SpaceRows.{space_rows_shown}
-use Rattle.dwz_trees.proofs.TopTrees.{top_files, top_trees}
-use Rattle.dwz_shown_parts.proofs.PartHomes.{tops_there}
-use Rattle.dwz_shown_parts.proofs.PartNames.{names, names_all, names_partial, top_named}
+use Rattle.dwz_laid.specs.Facts.{AreFacts, Facts, HasFile, docs, file_read, move, rule, units}
+use Rattle.dwz_laid.specs.Listed.{AreListed, TextsAt}
+use Rattle.dwz_laid.specs.Settled.{IsSettled}
+use Rattle.dwz_laid.proofs.LayoutLemmas.{knows_file}
+use Rattle.dwz_laid.specs.New.{IsOfNew, NewNames}
+use Rattle.dwz_laid.proofs.FileSpaces.{new_items}
+use Rattle.dwz_laid.proofs.SpaceStands.{space_stands}
+use Rattle.dwz_laid.proofs.FilesFound.{unit_files}
+use Rattle.dwz_laid.proofs.SpaceRows.{space_rows_shown}
+use Rattle.dwz_laid.proofs.TopTrees.{top_files, top_trees}
+use Rattle.dwz_laid.proofs.PartHomes.{tops_there}
+use Rattle.dwz_laid.proofs.PartNames.{names, names_all, names_partial, top_named}
 use Rattle.dwz_common.specs.Gathered.{lines_said}
 use Rattle.dwz_common.specs.Stored.{items_give, slots_give}
 use Rattle.dwz_common.proofs.TreeTexts.{tree_gives}

@@ -1,14 +1,14 @@
 -- The paths of the files that an entry numbers are those that it means.
-use Rattle.std.proofs.Common.{◌≡◌, ℕ, ◌<◌, List, [], length, map, Option, None, Some, slice_get, refl, sym, ap, subst, ◌∙◌, arith}
+use Rattle.std.proofs.Common.{◌≡◌, ℕ, List, [], Option, None, Some, slice_get, refl, sym, ap, subst, ◌∙◌, arith}
 use Rattle.std.specs.List.{flat_map}
 use Rattle.std.specs.Option.{option_map_or}
 use Rattle.dwz_docs.specs.Entries.{RawAttr}
 use Rattle.dwz_docs.specs.Lists.{In}
 use Rattle.dwz_docs.specs.Units.{RawUnit}
-use Rattle.dwz_meanings.specs.Documents.{Node, Value, attr_map, node_map}
+use Rattle.dwz_meanings.specs.Documents.{Node, node_map}
 use Rattle.dwz_meanings.specs.Files.{around_of}
 use Rattle.dwz_meanings.specs.LineTables.{FileTable}
-use Rattle.dwz_meanings.specs.Meanings.{Scope, attr_with, meaning, scope_of}
+use Rattle.dwz_meanings.specs.Meanings.{Scope, scope_of}
 use Rattle.dwz_seen.proofs.Members.{each_of}
 use Rattle.dwz_flat.proofs.TreeLemmas.{node_attrs}
 use Rattle.dwz_unit.specs.Rows.{EntryRow, rows_of, units_of as raw_units}
@@ -23,7 +23,7 @@ use Rattle.dwz_places.specs.declared.known.Known.{Known}
 use Rattle.dwz_places.specs.declared.walk.Origin.TheVariants.{Read as OfRow}
 use Rattle.dwz_places.specs.Entries.{row}
 use Rattle.dwz_fitted.specs.Knows.{IsRead}
-use Rattle.dwz_facts.specs.Facts.{Facts, HasFile, file_read}
+use Rattle.dwz_laid.specs.Facts.{Facts, HasFile, file_read}
 use Rattle.dwz_common.specs.Gathered.{path_said}
 use Rattle.dwz_common.specs.Paths.{line_of, origin_paths, path_read, row_paths}
 use Rattle.dwz_common.proofs.AttrsSay.{attrs_say}
@@ -31,7 +31,7 @@ use Rattle.dwz_common.proofs.PartsSay.{Agree}
 use Rattle.dwz_common.proofs.ValuePaths.{path_given, sibling_none}
 
 -- the line table is known for each value of an entry of the unit
-line_knows : (s : Scope ℕ) (tables : List FileTable) (a : RawAttr) (line : Option ℕ) (u : RawUnit) (r : EntryRow) → s ≡ scope_of s.around u
+pub line_knows : (s : Scope ℕ) (tables : List FileTable) (a : RawAttr) (line : Option ℕ) (u : RawUnit) (r : EntryRow) → s ≡ scope_of s.around u
     → HasLine s.around u tables line → In r.entry (entries_of u) → In a r.entry.attrs → KnowsLine s a tables line
 line_knows s tables a None u r is has there inside =
     subst (λ (w : Scope ℕ). KnowsLine w a tables None) (sym is) (λ file. has r.entry a there inside file)

@@ -1,20 +1,21 @@
 -- A text is written where its form says: in the common file, where it has its place there, and else as it was read.
-use Rattle.std.proofs.Common.{◌≡◌, ℕ, Bool, true, false, List, [], None, pos, refl, sym, ap, ◌∙◌, cond}
+use Rattle.std.proofs.Common.{◌≡◌, ℕ, Bool, true, false, List, refl, sym, ap, ◌∙◌, cond, eq-eqb}
 use Rattle.dwz_bytes.specs.Spelling.{reach}
 use Rattle.dwz_meanings.specs.Documents.{Attr}
-use Rattle.dwz_meanings.specs.Meanings.{Class, OfTextBySlot, OfTextInLineStr, OfTextInStr, class_of}
+use Rattle.dwz_meanings.specs.Meanings.{Class, OfTextBySlot, OfTextInLineStr, OfTextInStr, class_of, names_file}
 use Rattle.dwz_alike.specs.Spots.{Spot}
 use Rattle.dwz_writing.specs.Placing.{CommonUnit, Fit, Holder, NewUnit, OldUnit, as_line_text, as_slot, as_strp, as_strp_if, as_text, fit_as, has_text, slot_number, text_place}
 use Rattle.dwz_writing.specs.Writing.{text_in}
 use Rattle.dwz_places.specs.declared.known.TextAt.{TextAt}
 use Rattle.dwz_places.specs.declared.known.TextAt.TheVariants.{Shared}
 use Rattle.dwz_places.specs.declared.ways.Way.{Way}
-use Rattle.dwz_places.specs.declared.ways.Way.TheVariants.{AsText, KeepsText}
+use Rattle.dwz_places.specs.declared.ways.Way.TheVariants.{AsText, Dropped, KeepsText}
 use Rattle.dwz_places.specs.Attributes.{plain_pair}
-use Rattle.dwz_places.specs.Ways.{way_of}
-use Rattle.dwz_fitted.specs.Knows.{IsText, is_placed, text_chosen}
+use Rattle.dwz_places.specs.Ways.{if_file, way_in, way_of, way_rows}
+use Rattle.dwz_fitted.specs.Knows.{is_placed, text_chosen}
 use Rattle.dwz_fitted.proofs.FormWays.{way_of_class}
-use Rattle.dwz_common.specs.Shared.{InCommonLaw, PlacedLaw, SharedLaw, in_common, shared_or, unshared}
+use Rattle.dwz_texts.specs.TextLaws.{unshared}
+use Rattle.dwz_common.specs.Shared.{InCommonLaw, PlacedLaw, SharedLaw, in_common, shared_or}
 
 -- ---- in the common file
 
@@ -65,13 +66,20 @@ module _ (ft : Fit Spot) (a : Attr Spot) (t : TextAt) where
       strp_form n (told ∙ ap (λ (h : Holder). as_slot h (unshared ft) a) is) ∙ sym (ap (λ (h : Holder). as_slot h ft a) is)
   shared_form _ is other name _ e placed way told = absurd cc
 
+-- DW_AT_sibling is written nowhere
+pub not_dropped : (h : Holder) (name form : ℕ) → way_of h (plain_pair name form) ≡ AsText → name ≡ 0x01 → ⊥
+not_dropped h name form way e =
+    let z : Dropped ≡ AsText =
+    sym (ap (λ (b : Bool). cond b Dropped (if_file (names_file name) (way_in h form way_rows))) (eq-eqb name 0x01 e)) ∙ way in
+    cc
+
 pub shared_law : SharedLaw
-shared_law ft a t other name placed told = λ way. (
-    shared_form ft a t ft.holder refl other name (class_of a.form) refl placed way (told way))
+shared_law ft a t other placed told = λ way. (
+    shared_form ft a t ft.holder refl other (not_dropped ft.holder a.name a.form way) (class_of a.form) refl placed way (told way))
 
 -- ---- in either
 
 pub placed_law : PlacedLaw
 unfolding has_text
-placed_law true texts text own = refl
-placed_law false texts text own = refl
+placed_law true texts said own = refl
+placed_law false texts said own = refl

@@ -15,18 +15,18 @@ use Rattle.dwz_plan.proofs.BridgeLemmas.{file_numbers_are}
 use Rattle.dwz_same.specs.Units.{common_units, partial_unit, partial_units}
 use Rattle.dwz_across.proofs.FileCounts.{are_many}
 use Rattle.dwz_across.proofs.ListGets.{got_below}
-use Rattle.dwz_items.proofs.PartUnits.{part_is}
+use Rattle.dwz_laid.proofs.PartUnits.{part_is}
 use Rattle.dwz_order.specs.Orders.{First}
 use Rattle.dwz_ordered.specs.declared.orders.Settled.{Settled}
 use Rattle.dwz_ordered.specs.Ordered.{PartPut, PartsPut, line_given}
 use Rattle.dwz_places.specs.declared.known.Known.{Known}
 use Rattle.dwz_places.specs.declared.order.UnitItems.{UnitItems}
 use Rattle.dwz_places.specs.declared.walk.Origin.{Origin}
-use Rattle.dwz_facts.specs.Facts.{AreFacts, Facts, docs, move, rule, units}
-use Rattle.dwz_facts.specs.Listed.{AreListed, TextsAt}
-use Rattle.dwz_settled.specs.Settled.{IsSettled}
-use Rattle.dwz_trees.proofs.TopTrees.{top_files}
-use Rattle.dwz_shown_parts.proofs.PartHomes.{home_moves, top_file, tops_there}
+use Rattle.dwz_laid.specs.Facts.{AreFacts, Facts, docs, move, rule, units}
+use Rattle.dwz_laid.specs.Listed.{AreListed, TextsAt}
+use Rattle.dwz_laid.specs.Settled.{IsSettled}
+use Rattle.dwz_laid.proofs.TopTrees.{top_files}
+use Rattle.dwz_laid.proofs.PartHomes.{home_moves, top_file, tops_there}
 use Rattle.dwz_common.specs.CommonLaws.{IsCommonOrder}
 use Rattle.dwz_common.specs.Gathered.{units_said}
 use Rattle.dwz_common.specs.Stored.{order_give}

@@ -1,7 +1,6 @@
 -- The path of a value that numbers a file is the one that it means; and no other value means a path.
-use Rattle.std.proofs.Common.{◌≡◌, ℕ, ℤ, pos, Bool, true, false, List, [], ◌∷◌, ◌&&◌, cond, Ok, Err, Result, Option, None, Some, slice_get, refl, sym, ap, subst, ◌∙◌, eqb-true}
+use Rattle.std.proofs.Common.{◌≡◌, ℕ, Bool, true, false, List, [], ◌&&◌, cond, Ok, Err, Result, Option, None, Some, refl, sym, ap, ◌∙◌}
 use Rattle.std.specs.Option.{option_and_then, option_to_list}
-use Rattle.std.proofs.lemmas.Bool.{eq-eqb}
 use Rattle.dwz_docs.specs.Entries.{RawAttr}
 use Rattle.dwz_docs.specs.Faults.{info_fault}
 use Rattle.dwz_model.specs.declared.fault.Fault.{Fault}
@@ -12,12 +11,11 @@ use Rattle.dwz_meanings.specs.Meanings.{Class, IfSo, IsLocList, MeansAs, OfAddre
 use Rattle.dwz_meanings.specs.Meanings as meanings
 use Rattle.dwz_meanings.proofs.MeaningLemmas.{value_agrees}
 use Rattle.dwz_bytes.specs.Reading.{◌>>=◌}
-use Rattle.dwz_alike.specs.Spots.{Spot}
 use Rattle.dwz_resolve.specs.Parts.{numbers_file}
 use Rattle.dwz_bare.specs.Plain.{KnowsLine}
 use Rattle.dwz_bare.proofs.PlainLemmas.{file_means, numbers}
 use Rattle.dwz_known.specs.Befores.{is_constant, is_pair_file}
-use Rattle.dwz_common.specs.Gathered.{path_by, path_said}
+use Rattle.dwz_common.specs.Gathered.{path_by}
 use Rattle.dwz_common.specs.Paths.{path_in, path_read}
 
 -- ---- values that number no file

@@ -5,9 +5,9 @@ use Rattle.dwz_ordered.specs.Ordered.{AreOrders}
 use Rattle.dwz_places.specs.declared.known.Known.{Known}
 use Rattle.dwz_places.specs.declared.order.UnitItems.{UnitItems}
 use Rattle.dwz_back.specs.Files.{paths, texts}
-use Rattle.dwz_facts.specs.Facts.{AreFacts, Facts, run}
-use Rattle.dwz_facts.specs.Listed.{AreListed, TextsAt}
-use Rattle.dwz_settled.specs.Settled.{IsSettled}
+use Rattle.dwz_laid.specs.Facts.{AreFacts, Facts, run}
+use Rattle.dwz_laid.specs.Listed.{AreListed, TextsAt}
+use Rattle.dwz_laid.specs.Settled.{IsSettled}
 use Rattle.dwz_common.specs.Gathered.{with_all}
 use Rattle.dwz_common.specs.Paths.{order_paths}
 use Rattle.dwz_common.specs.Stored.{order_texts}

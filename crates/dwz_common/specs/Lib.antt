@@ -5,3 +5,8 @@ pub mod Numbers
 pub mod Steps
 pub mod CommonLaws
 pub mod Shared
+pub mod Placed
+pub mod WithCommon
+pub mod SharedLaws
+pub mod Pooled
+pub mod Sections

@@ -1,5 +1,5 @@
 -- Where texts are written once the common file has texts: in that file, or as they were read.
-use Rattle.std.specs.Prelude.{◌≡◌, Bool, List, [], ℕ, true, false, if◌then◌else◌, None}
+use Rattle.std.specs.Prelude.{◌≡◌, Bool, List, ℕ, true, false, if◌then◌else◌, None}
 use Rattle.dwz_meanings.specs.Documents.{Attr}
 use Rattle.dwz_meanings.specs.Meanings.{class_of}
 use Rattle.dwz_alike.specs.Spots.{Spot}
@@ -7,12 +7,13 @@ use Rattle.dwz_writing.specs.Placing.{CommonUnit, Fit, has_text, text_place}
 use Rattle.dwz_writing.specs.Writing.{text_in}
 use Rattle.dwz_back.specs.Files.{shared_if}
 use Rattle.dwz_places.specs.declared.known.TextAt.{TextAt}
-use Rattle.dwz_places.specs.declared.known.TextAt.TheVariants.{Own, Shared}
+use Rattle.dwz_places.specs.declared.known.TextAt.TheVariants.{Pooled, Shared}
 use Rattle.dwz_fitted.specs.Knows.{IsText, is_placed}
+use Rattle.dwz_texts.specs.TextLaws.{unshared}
 
 -- a text of a unit of the common file: in `.debug_str` of that file, which has these texts
 abbrev pub in_common : List (List ℕ) → List ℕ → TextAt
-in_common texts text = Own (text_place texts text)
+in_common texts text = Pooled (text_place texts text)
 
 -- a text of another unit: in the common file, if it is among the texts that the unit's file shares with it, and else where it stood
 abbrev pub shared_or : List (List ℕ) → List ℕ → TextAt → TextAt
@@ -25,20 +26,6 @@ placed_text true shares texts text own = if has_text texts text then in_common t
 placed_text false true texts text own = shared_or texts text own
 placed_text false false texts text own = own
 
--- the same choice of forms in a file that shares no text
-abbrev pub unshared : Fit Spot → Fit Spot
-unshared ft = record {
-  same = ft.same;
-  own = ft.own;
-  file = ft.file;
-  holder = ft.holder;
-  texts = ft.texts;
-  shared = [];
-  paths = ft.paths;
-  offsets = ft.offsets;
-  origin = ft.origin;
-}
-
 -- in a unit of the common file each text stands there
 abbrev pub InCommonLaw : Type 0
 InCommonLaw =
@@ -49,7 +36,7 @@ InCommonLaw =
 abbrev pub SharedLaw : Type 0
 SharedLaw =
     (ft : Fit Spot) (a : Attr Spot) (t : TextAt)
-    → (ft.holder ≡ CommonUnit → ⊥) → (a.name ≡ 0x01 → ⊥) → is_placed (class_of a.form) ≡ true
+    → (ft.holder ≡ CommonUnit → ⊥) → is_placed (class_of a.form) ≡ true
     → IsText (unshared ft) None a t → IsText ft None a (shared_or ft.shared (text_in a.value.plain) t)
 
 -- In another file each text stands where it does with the texts that the file shares, or none.

@@ -11,7 +11,7 @@ use dwz_unit::Units;
 use std::alloc::Global;
 
 // For each unit of a file the base of its slots of `.debug_str_offsets`, where it has one.
-fn bases_of_units(alloc: Global, units: &Units) -> Result<Vec<Option<u32>>, NoMemory>
+pub(crate) fn bases_of_units(alloc: Global, units: &Units) -> Result<Vec<Option<u32>>, NoMemory>
     ensures { IfOk result (λ bases. bases.items ≡ map slots_base (units_of units.now)) }
 {
     let mut bases = Vec::with_capacity(alloc, units.len() as usize)?;

@@ -3,19 +3,27 @@
 #![tactic(auto)]
 
 mod bases;
+mod known;
 mod laws;
 mod numbers;
 mod paths;
+mod placed;
 mod places;
 mod pool;
+mod sections;
 mod shared;
+mod spaces;
+mod stored;
 mod texts;
 
-pub use laws::{common_laws, number_laws, shared_laws};
+pub use known::with_common;
+pub use laws::{common_laws, number_laws, pooled_laws, section_laws, shared_laws, sharing_laws};
 pub use numbers::path_numbers;
 pub use paths::common_paths;
+pub use placed::shared_texts;
 pub use pool::Pool;
 pub use shared::place_text;
+pub use spaces::shared_names;
 pub use texts::common_texts;
 
 #[cfg(test)]

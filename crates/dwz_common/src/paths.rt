@@ -4,7 +4,7 @@ ghost use Rattle.std.specs.Prelude.{◌≡◌, ◌<◌, None, Some, [], slice_ge
 ghost use Rattle.std.specs.Option.{option_map, option_to_list};
 ghost use Rattle.dwz_back.specs.Files.{paths};
 ghost use Rattle.dwz_docs.specs.Units.{entries_in};
-ghost use Rattle.dwz_facts.specs.Facts.{Facts, run};
+ghost use Rattle.dwz_laid.specs.Facts.{Facts, run};
 ghost use Rattle.dwz_forms.specs.RawValues.{raw_view};
 ghost use Rattle.dwz_known.specs.Befores;
 ghost use Rattle.dwz_known.specs.Befores.{is_pair_file};

@@ -12,20 +12,15 @@ use std::marker::Model;
 /// Texts, each once, in the order of their first use. Clauses see them in that order.
 #[derive(Drop)]
 pub struct Pool {
-    texts: Texts,
-    // A section that holds them has no more bytes.
-    most: u64,
+    pub(crate) texts: Texts,
 }
 
 impl Model for Pool {
-    ghost use Rattle.std.specs.Prelude.{◌≤◌, List, ℕ, length};
-    ghost use Rattle.dwz_docs.specs.TextRows.{text_section};
+    ghost use Rattle.std.specs.Prelude.{List, ℕ};
 
     ghost Value = { List (List ℕ) };
 
     ghost view = { λ p. p.texts };
-
-    ghost invariant = { λ p. length (text_section p.texts) ≤ p.most };
 }
 
 impl Pool {
@@ -35,7 +30,6 @@ impl Pool {
     {
         Pool {
             texts: Texts::new(alloc),
-            most: 0,
         }
     }
 
@@ -46,9 +40,8 @@ impl Pool {
         if self.texts.len() == u32::MAX {
             return Err(AllocError);
         }
-        let most = more(self.most, text.len() as u64 + 1)?;
+        more(self.texts.size(), text.len() as u64 + 1)?;
         self.texts.number(text)?;
-        self.most = most;
         Ok(())
     }
 

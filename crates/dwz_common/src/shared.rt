@@ -27,7 +27,7 @@ fn in_common(pool: &Pool, text: &[u8], own: TextAt) -> Result<TextAt, NoMemory>
     ensures { IfOk result (λ t. t ≡ Shared.placed_text true true pool.now text.now own) }
 {
     match start_of(pool, text)? {
-        Some(start) => Ok(TextAt::Own(start)),
+        Some(start) => Ok(TextAt::Pooled(start)),
         None => Ok(own),
     }
 }

@@ -1,81 +1,31 @@
 //! The texts of what is written of the common file.
 
 ghost use Rattle.std.specs.Prelude.{◌≡◌, ℕ, ◌<◌, ◌++◌, map, Some, [], slice_get, IfOk, OnOk};
-ghost use Rattle.dwz_docs.specs.Texts;
 ghost use Rattle.dwz_docs.specs.Units.{entries_in};
 ghost use Rattle.dwz_forms.specs.RawValues.{raw_view};
 ghost use Rattle.dwz_places.specs.Attributes.{value_read};
-ghost use Rattle.dwz_resolve.specs.Classes.{class_view};
 ghost use Rattle.dwz_resolve.specs.Resolved.{sources_view};
 ghost use Rattle.dwz_unit.specs.Rows.{EntryRow, rows_of, units_of};
-ghost use Rattle.dwz_writing.specs.Placing;
 ghost use Rattle.dwz_back.specs.Files.{texts};
-ghost use Rattle.dwz_facts.specs.Facts.{Facts, run};
+ghost use Rattle.dwz_laid.specs.Facts.{Facts, run};
 ghost use Rattle.dwz_common.specs.CommonLaws.{IsCommonOrder};
 ghost use Rattle.dwz_common.specs.Gathered.{with_all};
 ghost use Rattle.dwz_common.specs.Stored;
-ghost use Rattle.dwz_common.specs.Stored.{by_row, class_texts, file_bases, items_give, order_texts, origin_texts, row_name, row_texts};
-ghost use Rattle.dwz_common.specs.Stored.{slots_base, text_or_none};
+ghost use Rattle.dwz_common.specs.Stored.{by_row, file_bases, items_give, order_texts, origin_texts, row_name, row_texts, slots_base};
 
 use crate::bases::bases_of_files;
 use crate::places::{Place, place_of};
 use crate::pool::Pool;
+use crate::stored::text_of;
 use dwz_forms::Raw;
 use dwz_graph::Graph;
 use dwz_model::{NoMemory, Pair};
 use dwz_places::{Known, Origin, Row, UnitItems, Walk};
-use dwz_resolve::{Class, Sections, class_of, first_attr, offset_of, slot, text_in};
+use dwz_resolve::{Sections, first_attr};
 use dwz_unit::{Values, known_value};
 use std::alloc::Global;
 
-// It is written nowhere.
-const DW_AT_SIBLING: u16 = 0x01;
-
-const DW_AT_NAME: u16 = 0x03;
-
-// The number in the slot of an index (DWARF 5, 7.26), and 0 where there is none.
-fn slot_number(offsets: &[u8], base: Option<u32>, index: u128) -> u32
-    ensures { result ≡ Placing.slot_number offsets.now base index }
-{
-    let Some(base) = base else {
-        return 0;
-    };
-    match slot(offsets, base as u128, index) {
-        Some(number) => number,
-        None => 0,
-    }
-}
-
-// The text at an offset of a section is used. Values were checked when the file was read, so a text stands there.
-fn put_text(pool: &mut Pool, section: &[u8], offset: u128) -> Result<(), NoMemory>
-    ensures { OnOk result (pool.new ≡ Placing.with_text pool.old (text_or_none (Texts.text_at section.now offset))) }
-{
-    match text_in(section, offset) {
-        Some(text) => pool.put(text),
-        None => pool.put(b""),
-    }
-}
-
-// The text of a number that a value of that class stores is used, if it has a place in a section.
-fn put_class(
-    pool: &mut Pool,
-    sections: &Sections,
-    base: Option<u32>,
-    class: Class,
-    number: u128,
-) -> Result<(), NoMemory>
-    ensures { OnOk result (pool.new ≡ with_all pool.old (class_texts (class_view class) (sources_view sections.now) base number)) }
-{
-    match class {
-        Class::TextInStr => put_text(pool, sections.strs.bytes, number),
-        Class::TextInLineStr => put_text(pool, sections.line_strs.bytes, number),
-        Class::TextBySlot => {
-            let offset = slot_number(sections.offsets, base, number);
-            put_text(pool, sections.strs.bytes, offset as u128)
-        }
-        _ => Ok(()),
-    }
-}
+pub(crate) const DW_AT_NAME: u16 = 0x03;
 
 // The text of a value is used.
 #[inline(always)]
@@ -89,14 +39,14 @@ fn put_value(
     ensures { OnOk result
         (pool.new ≡ with_all pool.old (Stored.text_read (sources_view sections.now) base (value_read 0 pair.now (raw_view raw.now)))) }
 {
-    if pair.name == DW_AT_SIBLING {
-        return Ok(());
+    match text_of(sections, base, pair, raw) {
+        Some(text) => pool.put(text),
+        None => Ok(()),
     }
-    put_class(pool, sections, base, class_of(pair.form), offset_of(raw))
 }
 
 // The base of the slots of its unit.
-fn base_of(place: &Place) -> Option<u32>
+pub(crate) fn base_of(place: &Place) -> Option<u32>
     requires entry { place.now.entry < entries_in (units_of place.now.units.now) }
     requires bases { place.now.bases.now ≡ map slots_base (units_of place.now.units.now) }
     ensures { (row : EntryRow) → slice_get (rows_of (units_of place.now.units.now)) place.now.entry ≡ Some row

@@ -14,6 +14,7 @@ fn numbers_by_first_use(rt: HostRuntime) -> Result<(), Fail> {
     assert_eq!(rt; texts.number(b"")?, 1);
     assert_eq!(rt; texts.number(b"in")?, 3);
     assert_eq!(rt; texts.len(), 4);
+    assert_eq!(rt; texts.size(), 17);
     let rows: [(&[u8], u32, u64); 4] = [
         (b"int", 0, 0),
         (b"", 1, 4),

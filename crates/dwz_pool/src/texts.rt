@@ -51,6 +51,13 @@ impl Texts {
         self.starts.len() as u32
     }
 
+    /// How many bytes a section has that holds all texts in order, each with a zero byte after it.
+    pub fn size(&self) -> u64
+        ensures { result ≡ length (text_section self.now) }
+    {
+        self.end
+    }
+
     /// The text of a number. None exactly where the number isn't below the count.
     pub fn text(&self, i: u32) -> Option<&[u8]>
         ensures { option_map (λ t. t.now) result ≡ slice_get self.now i }

@@ -1,4 +1,4 @@
-use Rattle.std.proofs.Common.{◌≡◌, ◌∙◌, ◌++◌, ℕ, List, None, get_or, refl, slice_index_or, subst, sym, ap, append-nil, arith}
+use Rattle.std.proofs.Common.{◌≡◌, ◌∙◌, ◌++◌, None, get_or, refl, slice_index_or, subst, sym, append-nil, arith}
 use Rattle.std.specs.List.{flat_map}
 use Rattle.std.specs.Prelude.{IsOk}
 use Rattle.dwz_docs.specs.Entries.{RawAttr}

@@ -1,0 +1,115 @@
+-- The texts that an entry stores, and those that it gives by the lists, are those that it means; so is the name of a space.
+use Rattle.std.proofs.Common.{◌≡◌, ℕ, zero, suc, List, [], ◌∷◌, Option, Some, slice_get, sym, ap, ◌∙◌, arith}
+use Rattle.std.specs.List.{flat_map}
+use Rattle.std.specs.Option.{option_and_then, option_map_or}
+use Rattle.dwz_docs.specs.Units.{RawUnit}
+use Rattle.dwz_meanings.specs.Documents.{Attr, Doc, Node, Text, attr_map, node_map, only}
+use Rattle.dwz_meanings.specs.Files.{Limits, around_of, limits_after, no_files_before, sources_of}
+use Rattle.dwz_meanings.specs.Meanings.{Scope, Sources, attr_with, class_of, scope_of, str_offsets_base}
+use Rattle.dwz_seen.proofs.Members.{each_of}
+use Rattle.dwz_seen.specs.Spaces.{space_text}
+use Rattle.dwz_seen.specs.Spaces as spaces
+use Rattle.dwz_alike.specs.Spots.{Spot, name_by, name_of}
+use Rattle.dwz_flat.proofs.TreeLemmas.{node_attrs}
+use Rattle.dwz_unit.specs.Rows.{EntryRow, Source, rows_of, units_of as raw_units}
+use Rattle.dwz_graph.specs.declared.file.File.{File}
+use Rattle.dwz_graph.specs.Files.{HasFile as StandsThere}
+use Rattle.dwz_index.specs.Index.{Index}
+use Rattle.dwz_known.specs.Images.{starts_from}
+use Rattle.dwz_places.specs.declared.known.FileRows.{FileRows}
+use Rattle.dwz_places.specs.declared.known.Known.{Known}
+use Rattle.dwz_places.specs.declared.known.Row.{Row}
+use Rattle.dwz_places.specs.declared.walk.Origin.TheVariants.{Chained, Read as OfRow}
+use Rattle.dwz_places.specs.Entries.{row}
+use Rattle.dwz_places.specs.Known.{row_at, rows_in, space_at}
+use Rattle.dwz_fitted.specs.Knows.{IsRead, name_attr}
+use Rattle.dwz_laid.specs.Facts.{Facts, HasFile, file_read}
+use Rattle.dwz_laid.specs.Listed.{AreListed, TextsAt}
+use Rattle.dwz_laid.proofs.Walks.{RowsAt, rows_at}
+use Rattle.dwz_common.specs.Gathered.{text_said}
+use Rattle.dwz_common.specs.Stored.{by_row, name_read, origin_texts, row_name, row_texts, slots_base, slots_base_at, text_read, units_in}
+use Rattle.dwz_common.proofs.AttrsSay.{attrs_say}
+use Rattle.dwz_common.proofs.FirstNames.{first_found, has_name}
+use Rattle.dwz_common.proofs.ValueTexts.{plain_text, sibling_none, text_same, value_gives}
+
+module _ (f : Facts) (n : ℕ) (bytes : List ℕ) (x : File) (i : ℕ) (r : EntryRow) (d : Node ℕ)
+    (read : IsRead (file_read f n bytes x) i r d) where
+  abbrev raw : List RawUnit
+  raw = raw_units x.units
+
+  abbrev s : Scope ℕ
+  s = scope_of (around_of bytes raw) read.unit
+
+  base_is : slots_base_at raw r.unit ≡ str_offsets_base s
+  base_is = ap (option_and_then slots_base) read.is_unit
+
+  -- what its file stores
+  pub row_stored : row_texts (sources_of bytes) raw r ≡ flat_map text_said (node_map (file_read f n bytes x).after d).attrs
+  row_stored =
+      (λ j. flat_map (text_read (sources_of bytes) (base_is j)) r.entry.attrs)
+      ∙ attrs_say s (text_read (sources_of bytes) (str_offsets_base s)) text_said (file_read f n bytes x).after (sibling_none s)
+      (λ a. Unit {0}) (λ a v good. value_gives s (file_read f n bytes x).after a v) r.entry.attrs
+      (each_of (λ a. Unit {0}) r.entry.attrs (λ a is. tt)) d.attrs (node_attrs s r.entry d read.means).0
+
+  pub name_stored : (text : List ℕ) → space_text d ≡ Some text
+      → row_name (sources_of bytes) raw r ≡ text_said (name_attr (name_of text d))
+  name_stored text is =
+      let after = (file_read f n bytes x).after in
+      let name = has_name d text is in
+      let first = first_found s r.entry.attrs d.attrs name.b (node_attrs s r.entry d read.means).0 name.found in
+      let other : first.a.pair.name ≡ 0x01 → ⊥ = λ e. omega (arith, first.named, e) in
+      let plain : spaces.text_in first.v.plain ≡ Some text = ap (λ (b : Attr ℕ). spaces.text_in b.value.plain) first.is ∙ name.is in
+      let b : Attr Spot = record { name = 0x03; form = first.a.pair.form; raw = name.b.raw; value = only (Text text) } in
+      let named : name_attr (name_of text d) ≡ record { name = 0x03; form = name.b.form; raw = name.b.raw; value = only (Text text) } =
+      ap (λ (o : Option (Attr ℕ)). name_attr (name_by text o)) name.found in
+      let form : first.a.pair.form ≡ name.b.form = ap (λ (w : Attr ℕ). w.form) first.is in
+      let same : b ≡ name_attr (name_of text d) =
+      (λ j. let w : Attr Spot = record { name = 0x03; form = form j; raw = name.b.raw; value = only (Text text) } in w) ∙ sym named in
+      (λ j. name_read (sources_of bytes) (base_is j) (first.first j))
+      ∙ value_gives s after first.a first.v other first.means
+      ∙ text_same (class_of first.a.pair.form) (attr_map after (attr_with first.a first.v)) b (plain_text first.v.plain text plain)
+      ∙ ap text_said same
+
+-- ---- in the lists
+
+bytes_there : (l : Limits) (contents : List (List ℕ)) (i : ℕ) (m : Limits) (b : List ℕ) (raw : List RawUnit) (doc : Doc ℕ)
+    → StandsThere l contents i m b raw doc → slice_get contents i ≡ Some b
+bytes_there l [] i m b raw doc h = absurd h
+bytes_there l (x ∷ contents) zero m b raw doc h = ap (λ (w : List ℕ). Some w) h.1
+bytes_there l (x ∷ contents) (suc i) m b raw doc h = bytes_there (limits_after l x h.0) contents i m b raw doc h.3
+
+module _ (f : Facts) (t : TextsAt) (k : Known) (listed : AreListed f t k) (n : ℕ) (bytes : List ℕ) (x : File) (index : Index)
+    (h : HasFile f n bytes x index) where
+  abbrev own_units : List RawUnit
+  own_units = raw_units x.units
+
+  has : RowsAt f x index (starts_from 0 f.indexes) k.files.items n
+  has = rows_at f f.files f.indexes (starts_from 0 f.indexes) t.files k.files.items listed.rows n x index h.file h.index_is
+
+  units_are : units_in k n ≡ own_units
+  units_are =
+      ap (λ (o : Option FileRows). option_map_or (λ (r : FileRows). raw_units r.units.now) o []) has.rows_are
+      ∙ ap raw_units has.listed.units
+
+  rows_are : rows_in k n ≡ rows_of own_units
+  rows_are =
+      ap (λ (o : Option FileRows). option_map_or (λ (r : FileRows). rows_of (raw_units r.units.now)) o []) has.rows_are
+      ∙ ap (λ (w : Source). rows_of (raw_units w)) has.listed.units
+
+  module _ (i : ℕ) (r : EntryRow) (d : Node ℕ) (read : IsRead (file_read f n bytes x) i r d) where
+    -- what an entry gives is made of its file
+    row_gives : (give : Sources → List RawUnit → EntryRow → List (List ℕ)) → by_row f.contents k (row n i) give ≡ give (sources_of bytes) own_units r
+    row_gives give =
+        let there = bytes_there no_files_before f.contents n h.read.limits bytes own_units h.read.read.doc h.read.there in
+        let at : row_at k (row n i) ≡ Some r = ap (λ (w : List EntryRow). slice_get w i) rows_are ∙ read.found in
+        ap (λ (o : Option (List ℕ)). option_map_or
+        (λ b. option_map_or (give (sources_of b) (units_in k n)) (row_at k (row n i)) []) o []) there
+        ∙ (λ j. option_map_or (give (sources_of bytes) (units_are j)) (at j) [])
+
+    pub row_says : origin_texts f.contents k (OfRow (row n i)) ≡ flat_map text_said (node_map (file_read f n bytes x).after d).attrs
+    row_says = row_gives row_texts ∙ row_stored f n bytes x i r d read
+
+    pub name_says : (chain space : ℕ) (text : List ℕ) → (space_at k space).row ≡ row n i → space_text d ≡ Some text
+        → origin_texts f.contents k (Chained chain space) ≡ text_said (name_attr (name_of text d))
+    name_says chain space text at is =
+        ap (λ (q : Row). by_row f.contents k q row_name) at ∙ row_gives row_name ∙ name_stored f n bytes x i r d read text is

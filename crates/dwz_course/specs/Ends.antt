@@ -12,7 +12,7 @@ use Rattle.dwz_course.specs.declared.output.Output.{Output}
 use Rattle.dwz_course.specs.declared.status.Status.{Status}
 use Rattle.dwz_course.specs.declared.status.Status.TheVariants.{Done, Refused, Usage, ReadFault, WriteFault, NoMemory, ConsoleFault}
 use Rattle.dwz_course.specs.Demo.{asked, new_length, old_length}
-use Rattle.dwz_course.specs.Gets.{gets}
+use Rattle.dwz_course.specs.Gets.{AreOfBytes, gets}
 use Rattle.dwz_course.specs.Outcome.{Giving, Outcome, name_of, refuses, writes}
 use Rattle.dwz_course.specs.Puts.{PutsDone, PutsStopped}
 
@@ -23,12 +23,13 @@ abbrev pub AreContents : (ℕ → List (List ℕ)) → Option ℕ → Told → L
 AreContents makes None old names contents = IfSome old.held (λ store. gets store 0 names ≡ Some contents)
 AreContents makes (Some n) old names contents = contents ≡ makes n
 
--- the words are lawful, the contents that they ask for are there, and this is what the work gives for them
+-- the words are lawful, the contents that they ask for are there, each of bytes, and this is what the work gives for them
 pub record Came (makes : ℕ → List (List ℕ)) (gives : Giving) (words : List (List ℕ)) (old : Told) (outcome : Outcome) : Type 0 where
   pub options : Options
   pub lawful : Lawful words options
   pub contents : List (List ℕ)
   pub are : AreContents makes options.demo old options.files contents
+  pub bytes : AreOfBytes contents
   pub given : gives (asked options) contents outcome
 
 -- ---- before the text is written

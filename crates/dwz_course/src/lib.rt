@@ -4,6 +4,7 @@
 
 mod demo;
 mod getting;
+mod looking;
 mod outcome;
 mod output;
 mod putting;

@@ -14,6 +14,7 @@ ghost use Rattle.dwz_words.specs.Lawful.{Lawful, bytes_of};
 
 use crate::demo::{demo_line, demo_options};
 use crate::getting::{Ungot, got_all};
+use crate::looking::look_at_all;
 use crate::outcome::Work;
 use crate::output::Output;
 use crate::putting::{made_ready, put_all};
@@ -101,6 +102,7 @@ where
         Err(Ungot::Failed(i)) => return not_got(alloc, options, i),
         Err(Ungot::NoMemory) => return Ended::OutOfMemory,
     };
+    look_at_all(&contents);
     let output = match answer(alloc, options, &contents) {
         Ok(output) => output,
         Err(GraphErr::Refused(refusal)) => return was_refused(alloc, options, &refusal),
@@ -135,6 +137,7 @@ where
     let Ok(asked) = demo_options(alloc, options) else {
         return Ended::OutOfMemory;
     };
+    look_at_all(&contents);
     let output = match answer(alloc, &asked, &contents) {
         Ok(output) => output,
         Err(GraphErr::Refused(refusal)) => return was_refused(alloc, &asked, &refusal),

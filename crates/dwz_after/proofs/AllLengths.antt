@@ -1,9 +1,11 @@
 -- The lengths of all files are numbers of 64 bits, as fewer than 2^32 files are there, however many names.
-use Rattle.std.proofs.Common.{◌≡◌, ℕ, zero, suc, ◌-◌, ◌*◌, ◌^◌, ◌<◌, ◌≤◌, Bool, true, false, List, [], ◌∷◌, length, get_or, Option, None, unwrap_or, refl, ap, inl, inr, arith}
+use Rattle.std.proofs.Common.{◌≡◌, ℕ, zero, suc, ◌-◌, ◌*◌, ◌^◌, ◌<◌, ◌≤◌, Bool, true, false, List, [], ◌∷◌, length, get_or, Option, Some, None, unwrap_or, refl, ap, inl, inr, arith, lit<}
 use Rattle.std.specs.List.{sum_by}
+use Rattle.std.specs.Prelude.{if◌then◌else◌}
 use Rattle.std.proofs.lemmas.Bool.{cases_lt}
 use Rattle.std.proofs.lemmas.List.{get_or_past}
 use Rattle.std.proofs.lemmas.List.Sums.{sum_by-cons}
+use Rattle.dwz_docs.specs.ElfLayout.{too_large}
 use Rattle.dwz_docs.specs.ElfReading.{elf_of}
 use Rattle.dwz_docs.specs.Values.{AreBytes}
 use Rattle.dwz_meanings.specs.Documents.{Doc}
@@ -15,9 +17,10 @@ use Rattle.dwz_back.proofs.StillPlaces.{nth_number}
 use Rattle.dwz_rebuilt.proofs.MadeLemmas.{same_length}
 use Rattle.dwz_words.specs.declared.options.Options.{Options}
 use Rattle.dwz_course.specs.Demo.{HasLengths, common_length as length_of}
-use Rattle.dwz_out.specs.FilesAfter.{bytes_by, changes_after, file_after, order_of}
+use Rattle.dwz_out.specs.FilesAfter.{bytes_by, changes_after, common_bytes, file_after, has_common, order_of}
 use Rattle.dwz_out.specs.Out.{IsWritten, common_length, new_length, run_for, summary_lines, summary_of, sup_name}
-use Rattle.dwz_out.proofs.AllMade.{changed, file_free, sections_free}
+use Rattle.dwz_out.proofs.AllMade.{changed, common_free, file_free, sections_free}
+use Rattle.dwz_out.proofs.CommonMade.{is_small}
 use Rattle.dwz_out.proofs.FilesMade.{can_be_made}
 use Rattle.dwz_out.proofs.FilesRead.{content_bytes}
 use Rattle.dwz_after.proofs.RowsAfter.{Line, line_of}
@@ -41,7 +44,7 @@ one_more f x xs count file one rest = elim (cases_lt file count) [
   | inr beyond ↦ (let is = sum_by-cons f x xs in let none = one.1 beyond in omega (arith, is, none, rest, beyond))
 ]
 
-module _ (o : Options) (contents : List (List ℕ)) (docs : List (Doc ℕ)) (prunes : List Bool) (alone : o.common ≡ None) (bytes : Each AreBytes contents) (written : IsWritten o contents docs prunes) where
+module _ (o : Options) (contents : List (List ℕ)) (docs : List (Doc ℕ)) (prunes : List Bool) (bytes : Each AreBytes contents) (written : IsWritten o contents docs prunes) where
   abbrev r : Run
   r = run_for o contents docs prunes
 
@@ -70,7 +73,7 @@ module _ (o : Options) (contents : List (List ℕ)) (docs : List (Doc ℕ)) (pru
 
   new_short : (file : ℕ) (b : Bool) → changes r.move r.units file ≡ b
       → IsShort count file (unwrap_or (new_length b (bytes_by b (r.input.bytes file) (file_after name r file))) (length (r.input.bytes file)))
-  new_short file true e = (made_small file e, λ beyond. (let stays = stays_beyond o contents docs prunes alone written.read bytes file beyond in absurd (cc (e, stays))))
+  new_short file true e = (made_small file e, λ beyond. (let stays = stays_beyond o contents docs prunes written.read bytes file beyond in absurd (cc (e, stays))))
   new_short file false e = old_short file
 
   olds : (file : ℕ) (names : List (List ℕ)) → sum_by (λ line. line.1) (summary_lines o r file names) ≤ (count - file) * 2 ^ 32
@@ -84,11 +87,19 @@ module _ (o : Options) (contents : List (List ℕ)) (docs : List (Doc ℕ)) (pru
   news file (n ∷ names) =
       one_more (λ line. unwrap_or line.2 line.1) (line_of o r file n) (summary_lines o r (suc file) names) count file (new_short file (changes r.move r.units file) refl) (news (suc file) names)
 
-  none_of_common : length_of (common_length o.common r) ≡ 0
-  none_of_common = ap (λ (c : Option (List ℕ)). length_of (common_length c r)) alone
+  -- the common file is short of 2^32 by as much as a file that is too large, and the lengths of all files leave room for it
+  common_small : length_of (common_length o.common r) < too_large
+  common_small = by o.common where
+    some : (n : List ℕ) (b : Bool) → length_of (if b then Some (n, length (common_bytes r)) else None) < too_large
+    some n true = (is_small r (common_free o contents docs prunes bytes written)).file
+    some n false = lit< tt
+
+    by : (c : Option (List ℕ)) → length_of (common_length c r) < too_large
+    by None = lit< tt
+    by (Some n) = some n (has_common r)
 
   pub lengths_fit : count < 2 ^ 32 → HasLengths (summary_of o r)
   lengths_fit few = record {
     before = let old = olds 0 o.files in omega (arith, few, old);
-    after = let new = news 0 o.files in let common = none_of_common in omega (arith, few, new, common);
+    after = let new = news 0 o.files in let common = common_small in omega (arith, few, new, common);
   }

@@ -3,7 +3,7 @@ use Rattle.std.proofs.Common.{◌≡◌, ◌⊎◌, ℕ, ◌+◌, ◌<◌, ◌�
 use Rattle.std.proofs.lemmas.List.{get_or_append_left, get_or_push, length_push}
 use Rattle.std.proofs.lemmas.Option.{slice_get-map, slice_get_read}
 use Rattle.std.specs.Option.{option_map}
-use Rattle.std.specs.Prelude.{if◌then◌else◌, slice_get}
+use Rattle.std.specs.Prelude.{slice_get}
 use Rattle.dwz_model.specs.declared.fault.Fault.{Fault}
 use Rattle.dwz_model.specs.declared.fault.GraphErr.{GraphErr}
 use Rattle.dwz_model.specs.declared.fault.GraphErr.TheVariants.{NoMemory, Refused}
@@ -11,19 +11,18 @@ use Rattle.dwz_model.specs.declared.sections.Sections.{Sections}
 use Rattle.dwz_docs.specs.declared.elf.NewContent.{NewContent}
 use Rattle.dwz_docs.specs.ElfLayout.{Changes, layout_fault, rebuilt_length, too_large}
 use Rattle.dwz_docs.specs.ElfReading.{ElfView, elf_of}
-use Rattle.dwz_docs.specs.Supplementary.{sup_bytes}
 use Rattle.dwz_elf.specs.Rebuilds.{IsRebuilt, IsTooLarge, RebuildView}
 use Rattle.dwz_rebuilt.specs.Changed.{CanGive, CanGiveAll, changes_by, if_new}
 use Rattle.dwz_rebuilt.specs.Rebuilt.{new_file}
 use Rattle.dwz_same.specs.Units.{changes}
 use Rattle.dwz_back.specs.Files.{Run}
 use Rattle.dwz_out.specs.Contents.{sections_after}
-use Rattle.dwz_out.specs.FilesAfter.{changes_after, file_after, order_of, sup_after, sup_of}
+use Rattle.dwz_out.specs.FilesAfter.{changes_after, file_after, order_of, sup_after}
 use Rattle.dwz_out.specs.Refusals.{FileFault, IsUnplaced}
 use Rattle.dwz_out.proofs.FreeLemmas.{Nothing}
 use Rattle.dwz_out.proofs.Orders.{is_order, same_order}
 use Rattle.dwz_after.specs.declared.new_file.NewFile.{NewFile}
-use Rattle.dwz_after.specs.Giving.{IsThere, given}
+use Rattle.dwz_after.specs.Giving.{IsThere, given, with_sup_if}
 use Rattle.dwz_after.specs.Making.{AnswersAll, AnswersFile, AreMadeSo, CanMake, made_after, made_if}
 use Rattle.dwz_after.proofs.FirstFound.{first_found}
 
@@ -34,18 +33,17 @@ unfolding elf_of
 there input code None can = tt
 there input code (Some bytes) can = subst (λ (o : Option (ℕ × ℕ)). IsSome o) (sym can.1) refl
 
--- what was given from the last code to the first
-pub all_given : (e : ElfView) (s : Sections) (start : RebuildView) → start.elf ≡ e → start.changes.new ≡ [] → start.changes.sup ≡ None
-    → given 1 (Some s.info) (given 2 (Some s.abbrev) (given 3 s.strs (given 5 s.offsets (given 6 s.line (given 7 s.loclists (given 8 s.aranges start))))))
-    ≡ record { elf = e; changes = changes_by s None }
-all_given e s start elf new sup =
+-- what was given: `.debug_sup`, and then from the last code to the first
+pub all_given : (e : ElfView) (s : Sections) (sup : Option (List ℕ)) (start : RebuildView) → start.elf ≡ e → start.changes.new ≡ []
+    → given 1 (Some s.info) (given 2 (Some s.abbrev) (given 3 s.strs (given 5 s.offsets (given 6 s.line (given 7 s.loclists (given 8 s.aranges (with_sup_if sup start)))))))
+    ≡ record { elf = e; changes = changes_by s sup }
+all_given e s sup start elf new =
     let list : List NewContent → List NewContent = λ last.
     if_new 1 (Some s.info) ++ (if_new 2 (Some s.abbrev) ++ (if_new 3 s.strs ++ (if_new 5 s.offsets ++ (if_new 6 s.line ++ (if_new 7 s.loclists ++ last))))) in
-    let view : ElfView → List NewContent → Option (List ℕ) → RebuildView = λ e new sup. record { elf = e; changes = record { new = list new; sup = sup } } in
-    ap (λ (x : ElfView). view x (if_new 8 s.aranges ++ start.changes.new) start.changes.sup) elf
-    ∙ (ap (λ (x : List NewContent). view e (if_new 8 s.aranges ++ x) start.changes.sup) new
-    ∙ (ap (λ (x : Option (List ℕ)). view e (if_new 8 s.aranges ++ []) x) sup
-    ∙ ap (λ (x : List NewContent). view e x None) (append-nil (if_new 8 s.aranges))))
+    let view : ElfView → List NewContent → RebuildView = λ e new. record { elf = e; changes = record { new = list new; sup = sup } } in
+    ap (λ (x : ElfView). view x (if_new 8 s.aranges ++ start.changes.new)) elf
+    ∙ (ap (λ (x : List NewContent). view e (if_new 8 s.aranges ++ x)) new
+    ∙ ap (λ (x : List NewContent). view e x) (append-nil (if_new 8 s.aranges)))
 
 -- ---- one file
 
@@ -84,26 +82,23 @@ module _ (name : List ℕ) (r : Run) (file : ℕ) (moves : changes r.move r.unit
       let none : Nothing (IsUnplaced name r file) = λ g e. (let z : None ≡ Some g = sym is.fits ∙ e in absurd (let w : None ≡ Some g = z in cc)) in
       (moves, inr (none, (is.fault, large)))
 
-module _ (name : List ℕ) (r : Run) (file : ℕ) (bytes : List ℕ) (n : NewFile) (can : CanMake r file bytes (Some n)) where
-  no_sup : sup_after name r file ≡ None
-  no_sup = ap (λ (b : Bool). if b then Some (sup_bytes (sup_of name r)) else None) can.alone
-
-  same_changes : changes_by n.sections None ≡ changes_after name r file
+module _ (name : List ℕ) (r : Run) (file : ℕ) (bytes : List ℕ) (n : NewFile) (sup : Option (List ℕ)) (can : CanMake r file bytes (Some n)) (says : sup ≡ sup_after name r file) where
+  same_changes : changes_by n.sections sup ≡ changes_after name r file
   same_changes =
-      ap (λ (s : Sections). changes_by s None) can.is_new.sections
-      ∙ sym (ap (λ (sup : Option (List ℕ)). changes_by (sections_after r file) sup) no_sup)
+      ap (λ (s : Sections). changes_by s sup) can.is_new.sections
+      ∙ ap (λ (x : Option (List ℕ)). changes_by (sections_after r file) x) says
 
   pub can_give : CanGiveAll bytes n.sections
   can_give = subst (λ (s : Sections). CanGiveAll bytes s) (sym can.is_new.sections) (can.can can.is_new.moves)
 
-  pub file_made : (out : List ℕ) → IsRebuilt (view_of bytes (changes_by n.sections None)) bytes out
+  pub file_made : (out : List ℕ) → IsRebuilt (view_of bytes (changes_by n.sections sup)) bytes out
       → Nothing (FileFault name r file) × (Some out ≡ made_after name r file)
   file_made out is =
       let so = subst (λ (b : List ℕ). IsRebuilt (view_of b (changes_after name r file)) b out) can.before
       (subst (λ (c : Changes). IsRebuilt (view_of bytes c) bytes out) same_changes is) in
       (made_free name r file can.is_new.moves out so, made_so name r file can.is_new.moves out so)
 
-  pub file_refused : (f : Fault) → (layout_fault (elf_of bytes) (changes_by n.sections None) ≡ Some f) ⊎ IsTooLarge (view_of bytes (changes_by n.sections None)) bytes f
+  pub file_refused : (f : Fault) → (layout_fault (elf_of bytes) (changes_by n.sections sup) ≡ Some f) ⊎ IsTooLarge (view_of bytes (changes_by n.sections sup)) bytes f
       → FileFault name r file f
   file_refused f is =
       let Why : List ℕ → Changes → Type 0 = λ b c. (layout_fault (elf_of b) c ≡ Some f) ⊎ IsTooLarge (view_of b c) b f in

@@ -4,7 +4,7 @@ use Rattle.std.specs.List.{range_with_len}
 use Rattle.std.specs.Option.{option_or}
 use Rattle.dwz_model.specs.declared.fault.Fault.{Fault}
 use Rattle.dwz_model.specs.declared.fault.Refusal.{Refusal}
-use Rattle.dwz_out.specs.Refusals.{InFile, OfFirst}
+use Rattle.dwz_out.specs.Refusals.{InFile, OfFirst, OrElse}
 use Rattle.dwz_out.proofs.FreeLemmas.{Nothing, not_first, not_then}
 use Rattle.dwz_after.specs.NewFiles.{IsFound}
 
@@ -67,3 +67,11 @@ none_from Has (suc count) start none q (inr later) = none_from Has count (start 
 -- where none of so many files has a fault there is no refusal
 pub none_found : (Has : ℕ → Fault → Type 0) (count : ℕ) → ((k : ℕ) → k < count → Nothing (Has k)) → Nothing (OfFirst (InFile Has) (range_with_len 0 count))
 none_found Has count none = none_from Has count 0 (λ k low high. none k (omega arith))
+
+-- ---- of two
+
+-- the one that is found, or else the other
+pub found_else : {X : Type 0} (First Then : X → Type 0) (a b : Option X) → IsFound First a → IsFound Then b → IsFound (OrElse First Then) (option_or a b)
+found_else First Then (Some x) b first second = inl first
+found_else First Then None (Some x) first second = inr (first, second)
+found_else First Then None None first second = λ x has. elim has [ inl here ↦ first x here | inr later ↦ second x later.1 ]

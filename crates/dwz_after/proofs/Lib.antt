@@ -1,8 +1,12 @@
 pub mod FirstFound
 pub mod SectionFaults
+pub mod FirstFile
+pub mod CommonRoom
+pub mod CommonFaults
+pub mod Imports
+pub mod NoCommon
 pub mod RowsAfter
 pub mod FileAnswers
-pub mod NoCommon
 pub mod RunReady
 pub mod AllLengths
 pub mod Outcomes

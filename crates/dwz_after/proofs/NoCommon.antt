@@ -1,16 +1,16 @@
--- Where no common file is asked for nothing is to stand in one, and no file imports from it.
-use Rattle.std.proofs.Common.{◌≡◌, ◌&&◌, ◌||◌, ◌==◌, ℕ, suc, Bool, true, false, List, [], ◌∷◌, Option, None, refl, subst}
+-- Where nothing is to stand in a common file there is none, and so where none is asked for.
+use Rattle.std.proofs.Common.{◌≡◌, ◌||◌, ℕ, suc, Bool, true, false, List, [], ◌∷◌, Option, None, refl, subst}
 use Rattle.std.specs.List.{list_any}
 use Rattle.dwz_meanings.specs.Documents.{Doc, DwUnit}
 use Rattle.dwz_alike.specs.Alike.{Apart, IsAlike}
-use Rattle.dwz_alike.specs.Spots.{FileUnit, Spot, file_numbers, units_of}
+use Rattle.dwz_alike.specs.Spots.{Spot, file_numbers, units_of}
 use Rattle.dwz_alike.proofs.AlikeLaws.{alike_decides}
-use Rattle.dwz_moving.specs.Homes.{Common, file_of, same_home}
+use Rattle.dwz_moving.specs.Homes.{Common}
 use Rattle.dwz_moving.specs.Moves.{Move}
 use Rattle.dwz_moving.specs.Plan.{PartialUnit}
-use Rattle.dwz_same.specs.Units.{partial_unit, partial_units}
+use Rattle.dwz_same.specs.Units.{common_units, partial_unit, partial_units}
 use Rattle.dwz_back.specs.Back.{run_of}
-use Rattle.dwz_back.specs.Files.{Run, Stored, imports_common}
+use Rattle.dwz_back.specs.Files.{Run, Stored}
 use Rattle.dwz_back.proofs.HomeLemmas.{no_common}
 use Rattle.dwz_words.specs.declared.options.Options.{Options}
 use Rattle.dwz_out.specs.FilesAfter.{has_common, is_common}
@@ -26,28 +26,14 @@ none_there m n (part ∷ parts) none = by (none_there m (suc n) parts) (is_commo
   by rest true e = absurd cc
   by rest false e = rest e
 
-abbrev imports_here : List (FileUnit Spot) → ℕ → List PartialUnit → Bool
-imports_here units file parts = list_any (λ (part : PartialUnit). same_home part.home Common && list_any (λ i. file_of units i == file) part.users) parts
+-- where nothing is to stand in one
+pub none_of_units : (r : Run) → common_units r.move ≡ [] → has_common r ≡ false
+unfolding has_common common_units
+none_of_units r none = none_there r.move 0 r.move.parts none
 
-none_imported : (units : List (FileUnit Spot)) (file : ℕ) (parts : List PartialUnit) → list_any is_common parts ≡ false → imports_here units file parts ≡ false
-none_imported units file [] none = refl
-none_imported units file (part ∷ parts) none = by (none_imported units file parts) (is_common part) none where
-  by : (list_any is_common parts ≡ false → imports_here units file parts ≡ false) → (b : Bool) → (b || list_any is_common parts) ≡ false
-      → ((b && list_any (λ i. file_of units i == file) part.users) || imports_here units file parts) ≡ false
-  by rest true e = absurd cc
-  by rest false e = rest e
-
-module _ (o : Options) (docs : List (Doc ℕ)) (input : Stored) (alone : o.common ≡ None) where
-  abbrev r : Run
-  r = run_of (rule_of o docs) docs input
-
-  pub none_common : has_common r ≡ false
-  unfolding has_common
-  none_common =
-      let is : IsAlike Apart (units_of docs) (rule_of o docs).alike = subst (λ (c : Option (List ℕ)). IsAlike (scope_by c) (units_of docs) (rule_of o docs).alike) alone
-      (alike_decides (scope_of o) (units_of docs)) in
-      none_there r.move 0 r.move.parts (no_common (units_of docs) (rule_of o docs) is (file_numbers 0 docs) r.move refl)
-
-  pub no_imports : (file : ℕ) → imports_common r.move r.units file ≡ false
-  unfolding imports_common has_common
-  no_imports file = none_imported r.units file r.move.parts none_common
+pub none_common : (o : Options) (docs : List (Doc ℕ)) (input : Stored) → o.common ≡ None → has_common (run_of (rule_of o docs) docs input) ≡ false
+unfolding common_units
+none_common o docs input alone =
+    let is : IsAlike Apart (units_of docs) (rule_of o docs).alike = subst (λ (c : Option (List ℕ)). IsAlike (scope_by c) (units_of docs) (rule_of o docs).alike) alone
+    (alike_decides (scope_of o) (units_of docs)) in
+    none_of_units (run_of (rule_of o docs) docs input) (no_common (units_of docs) (rule_of o docs) is (file_numbers 0 docs) (run_of (rule_of o docs) docs input).move refl)

@@ -26,7 +26,6 @@ use Rattle.dwz_out.proofs.SlotsMade.{no_offsets, no_strs}
 use Rattle.dwz_after.specs.declared.new_file.NewFile.{NewFile}
 use Rattle.dwz_after.specs.NewFiles.{AreNew}
 use Rattle.dwz_after.specs.Making.{AreBytesOf, AreMadeSo, CanMake, made_if}
-use Rattle.dwz_after.proofs.NoCommon.{no_imports}
 use Rattle.dwz_after.proofs.SectionFaults.{is_row}
 
 -- ---- numbers of files
@@ -78,7 +77,7 @@ module _ (r : Run) (file : ℕ) (doc : Doc ℕ) (read : IsRead (r.input.bytes fi
 
 -- ---- all files
 
-module _ (o : Options) (contents : List (List ℕ)) (docs : List (Doc ℕ)) (prunes : List Bool) (alone : o.common ≡ None) (read : ReadAs contents docs prunes) (bytes : Each AreBytes contents) where
+module _ (o : Options) (contents : List (List ℕ)) (docs : List (Doc ℕ)) (prunes : List Bool) (read : ReadAs contents docs prunes) (bytes : Each AreBytes contents) where
   abbrev r : Run
   r = run_for o contents docs prunes
 
@@ -102,7 +101,6 @@ module _ (o : Options) (contents : List (List ℕ)) (docs : List (Doc ℕ)) (pru
     is_new = are.each file (get_or made file None) (is_row made file (get_or made file None) inside (sym (same_default made file None inside)));
     before = refl;
     can = λ moves. (let c = changed file moves in can_give_all r file c.doc c.read c.some);
-    alone = no_imports o docs (stored_of contents prunes) alone file;
   } where
     inside : file < length made
     inside =

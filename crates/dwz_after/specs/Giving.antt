@@ -12,3 +12,7 @@ IsThere e code (Some bytes) = IsSome (section_range e.sections code)
 -- the same with new bytes for the section with that code, if there are some
 abbrev pub given : ℕ → Option (List ℕ) → RebuildView → RebuildView
 given code bytes r = record { elf = r.elf; changes = record { new = if_new code bytes ++ r.changes.new; sup = r.changes.sup } }
+
+-- the same with that `.debug_sup`, or with none
+abbrev pub with_sup_if : Option (List ℕ) → RebuildView → RebuildView
+with_sup_if sup r = record { elf = r.elf; changes = record { new = r.changes.new; sup = sup } }

@@ -1,3 +1,4 @@
 pub mod NewFiles
+pub mod Common
 pub mod Giving
 pub mod Making

@@ -6,7 +6,7 @@ use Rattle.dwz_model.specs.declared.fault.GraphErr.{GraphErr}
 use Rattle.dwz_model.specs.declared.fault.GraphErr.TheVariants.{NoMemory, Refused}
 use Rattle.dwz_rebuilt.specs.Changed.{CanGiveAll}
 use Rattle.dwz_same.specs.Units.{changes}
-use Rattle.dwz_back.specs.Files.{Run, imports_common}
+use Rattle.dwz_back.specs.Files.{Run}
 use Rattle.dwz_words.specs.declared.options.Options.{Options}
 use Rattle.dwz_out.specs.Contents.{sections_after}
 use Rattle.dwz_out.specs.FilesAfter.{file_after}
@@ -17,12 +17,11 @@ use Rattle.dwz_after.specs.NewFiles.{IsNewOrOld}
 
 -- ---- one file
 
--- A file with these bytes before: what is new in it can be given to it, and it imports nothing from a common file.
+-- a file with these bytes before: what is new in it can be given to it
 pub record CanMake (r : Run) (file : ℕ) (bytes : List ℕ) (new : Option NewFile) : Type 0 where
   pub is_new : IsNewOrOld r file new
   pub before : bytes ≡ r.input.bytes file
   pub can : changes r.move r.units file ≡ true → CanGiveAll bytes (sections_after r file)
-  pub alone : imports_common r.move r.units file ≡ false
 
 -- bytes, where there are new ones
 abbrev pub made_if : Bool → List ℕ → Option (List ℕ)

@@ -1,11 +1,13 @@
--- What is new in the files of a run, before they are written.
+-- What is new in the files of a run, and their common file, before they are written.
 use Rattle.std.specs.Prelude.{◌≡◌, ℕ, true, false, List, length, Option, Some, None}
 use Rattle.std.specs.List.{range_with_len}
 use Rattle.dwz_model.specs.declared.fault.Fault.{Fault}
+use Rattle.dwz_model.specs.declared.sections.Sections.{Sections}
 use Rattle.dwz_seen.specs.Lists.{Nth}
 use Rattle.dwz_same.specs.Units.{changes}
-use Rattle.dwz_back.specs.Files.{Run}
-use Rattle.dwz_out.specs.Contents.{listed, sections_after}
+use Rattle.dwz_back.specs.Files.{Run, imports_common}
+use Rattle.dwz_out.specs.Contents.{common_after, listed, sections_after}
+use Rattle.dwz_out.specs.FilesAfter.{has_common}
 use Rattle.dwz_out.specs.Refusals.{FirstNarrow, OrElse, spoken}
 use Rattle.dwz_after.specs.declared.new_file.NewFile.{NewFile}
 
@@ -23,6 +25,7 @@ pub record IsNewFile (r : Run) (file : ℕ) (n : NewFile) : Type 0 where
   pub moves : changes r.move r.units file ≡ true
   pub sections : n.sections ≡ sections_after r file
   pub narrow : IsFound (NarrowFault r file) n.narrow
+  pub imports : n.imports ≡ imports_common r.move r.units file
 
 -- a file stays as it is where nothing of it moves
 abbrev pub IsNewOrOld : Run → ℕ → Option NewFile → Type 0
@@ -34,3 +37,8 @@ pub record AreNew (r : Run) (made : List (Option NewFile)) (partials : ℕ) : Ty
   pub files : r.files ≡ range_with_len 0 (length made)
   pub each : (file : ℕ) (new : Option NewFile) → Nth 0 made file new → IsNewOrOld r file new
   pub parts : partials ≡ length r.move.parts
+
+-- these are the sections of the common file of the run, if there is one
+abbrev pub IsNewCommon : Run → Option Sections → Type 0
+IsNewCommon r None = has_common r ≡ false
+IsNewCommon r (Some s) = (has_common r ≡ true) × (s ≡ common_after r)

@@ -4,7 +4,7 @@ ghost use Rattle.std.specs.Prelude.{◌≡◌, ℕ, ◌<◌, ◌^◌, length};
 ghost use Rattle.std.specs.Option.{option_copied};
 ghost use Rattle.std.specs.List.{range_with_len};
 ghost use Rattle.dwz_back.specs.Files.{Run};
-ghost use Rattle.dwz_out.specs.Refusals.{InFile, IsLargeSection, OfFirst, SectionsFault};
+ghost use Rattle.dwz_out.specs.Refusals.{InFile, IsLargeSection, OfFirst, SectionsFault, too_large_at};
 ghost use Rattle.dwz_rebuilt.specs.Changed.{changes_by, if_new};
 ghost use Rattle.dwz_after.specs.NewFiles.{AreNew, IsFound, IsNewFile, IsNewOrOld};
 
@@ -26,8 +26,19 @@ pub(crate) const LOCLISTS: u8 = 7;
 
 pub(crate) const ARANGES: u8 = 8;
 
-// A section of so many bytes is too large.
-const TOO_LARGE: usize = 0xffff_fff0;
+/// A section of so many bytes is too large, and so is a file.
+pub(crate) const TOO_LARGE: usize = 0xffff_fff0;
+
+/// The fault of a section with a code that is too large, or with 0 of a file.
+pub(crate) fn too_large(section: u8) -> Fault
+    ensures { result ≡ too_large_at section }
+{
+    Fault {
+        section,
+        at: 0,
+        reason: Reason::TooLarge,
+    }
+}
 
 /// A fault in the file with a number.
 pub(crate) fn in_file(file: u32, fault: Fault) -> Refusal
@@ -46,17 +57,13 @@ fn large(code: u8, bytes: Option<&Blob>) -> Option<Fault>
     ensures { IsFound (OfFirst IsLargeSection (if_new code (option_copied bytes.entry))) result }
 {
     match bytes {
-        Some(bytes) if bytes.len() >= TOO_LARGE => Some(Fault {
-            section: code,
-            at: 0,
-            reason: Reason::TooLarge,
-        }),
+        Some(bytes) if bytes.len() >= TOO_LARGE => Some(too_large(code)),
         _ => None,
     }
 }
 
-// The fault of the first new section that is too large.
-fn first_large(sections: &Sections) -> Option<Fault>
+/// The fault of the first new section that is too large.
+pub(crate) fn first_large(sections: &Sections) -> Option<Fault>
     ensures { IsFound (OfFirst IsLargeSection (changes_by sections.now None).new) result }
 {
     large(INFO, Some(&sections.info))

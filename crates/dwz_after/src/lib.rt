@@ -1,7 +1,8 @@
-//! The last step of a run: from the new sections of the files that change to what is put, or to the first refusal.
+//! The last step of a run: from the new sections of the files that change, and of the common file, to what is put, or to the first refusal.
 #![tactic(auto)]
 
 mod after;
+mod common;
 mod faults;
 mod making;
 mod new_file;

@@ -1,13 +1,17 @@
 //! The bytes of the files of which something moves.
 
-ghost use Rattle.std.specs.Prelude.{◌≡◌, ℕ, ◌<◌, ◌^◌, List, [], OnOk, get_or, length, map};
+ghost use Rattle.std.specs.Prelude.{◌≡◌, ℕ, ◌<◌, ◌^◌, [], None, OnOk, get_or, length, map};
 ghost use Rattle.dwz_docs.specs.ElfReading.{elf_of};
 ghost use Rattle.dwz_back.specs.Files.{Run};
 ghost use Rattle.dwz_elf.specs.Rebuilds.{Finishes};
 ghost use Rattle.dwz_rebuilt.specs.Changed.{CanGiveAll, changes_by};
-ghost use Rattle.dwz_after.specs.Giving.{IsThere, given};
+ghost use Rattle.dwz_words.specs.declared.options.Options.{Options};
+ghost use Rattle.dwz_out.specs.Out.{sup_name};
+ghost use Rattle.dwz_after.specs.Common.{IsCommonMade};
+ghost use Rattle.dwz_after.specs.Giving.{IsThere, given, with_sup_if};
 ghost use Rattle.dwz_after.specs.Making.{AnswersAll, AnswersFile, CanMake};
 
+use crate::common::{CommonFile, sup_of_file};
 use crate::faults::{ABBREV, ARANGES, INFO, LINE, LOCLISTS, STR, STR_OFFSETS, in_file};
 use crate::new_file::NewFile;
 use crate::rows::taken;
@@ -30,11 +34,29 @@ fn give(rebuild: &mut Rebuild<'_>, elf: &Elf, code: u8, bytes: Option<Blob>) -> 
     Ok(())
 }
 
-// The file with these sections in place of its own.
-fn rebuilt(alloc: Global, bytes: &[u8], elf: &Elf, sections: Sections) -> Result<Vec<u8>, ReadErr>
+// Adds `.debug_sup`, if there is one.
+fn add_sup(rebuild: &mut Rebuild<'_>, sup: Option<Blob>) -> Result<(), NoMemory>
+    requires { rebuild.old.changes.sup ≡ None }
+    ensures file { OnOk result (rebuild.new.elf ≡ rebuild.old.elf) }
+    ensures given { OnOk result (rebuild.new ≡ with_sup_if sup rebuild.old) }
+{
+    match sup {
+        Some(sup) => rebuild.add_sup(sup),
+        None => Ok(()),
+    }
+}
+
+// The file with these sections in place of its own, and with that `.debug_sup`.
+fn rebuilt(
+    alloc: Global,
+    bytes: &[u8],
+    elf: &Elf,
+    sections: Sections,
+    sup: Option<Blob>,
+) -> Result<Vec<u8>, ReadErr>
     requires { elf.now ≡ elf_of bytes.now }
     ensures { CanGiveAll bytes.now sections
-        → Finishes (λ out. out.items) (record { elf = elf_of bytes.now; changes = changes_by sections None }) bytes.now result }
+        → Finishes (λ out. out.items) (record { elf = elf_of bytes.now; changes = changes_by sections sup }) bytes.now result }
 {
     let Sections {
         info,
@@ -46,6 +68,7 @@ fn rebuilt(alloc: Global, bytes: &[u8], elf: &Elf, sections: Sections) -> Result
         aranges,
     } = sections;
     let mut rebuild = Rebuild::new(alloc, elf);
+    add_sup(&mut rebuild, sup)?;
     give(&mut rebuild, elf, ARANGES, aranges)?;
     give(&mut rebuild, elf, LOCLISTS, loclists)?;
     give(&mut rebuild, elf, LINE, line)?;
@@ -62,10 +85,11 @@ fn made_file(
     file: u32,
     bytes: &[u8],
     elf: &Elf,
+    common: &Option<CommonFile>,
     new: Option<NewFile>,
 ) -> Result<Option<Blob>, GraphErr>
     requires { elf.now ≡ elf_of bytes.now }
-    ensures { (name : List ℕ) (r : Run) → CanMake r file bytes.now new → AnswersFile name r file result }
+    ensures { (o : Options) (r : Run) → IsCommonMade o r common.now → CanMake r file bytes.now new → AnswersFile (sup_name o) r file result }
 {
     let Some(new) = new else {
         return Ok(None);
@@ -73,27 +97,30 @@ fn made_file(
     let NewFile {
         sections,
         narrow: _,
+        imports,
     } = new;
-    match rebuilt(alloc, bytes, elf, sections) {
+    let sup = sup_of_file(alloc, common, imports)?;
+    match rebuilt(alloc, bytes, elf, sections, sup) {
         Ok(out) => Ok(Some(Blob::new(out))),
         Err(ReadErr::Refused(fault)) => Err(GraphErr::Refused(in_file(file, fault))),
         Err(ReadErr::NoMemory) => Err(GraphErr::NoMemory),
     }
 }
 
-/// For each file its new bytes, or None where nothing of it moves. Refused with the first file that can't be laid out around
-/// its loaded bytes, or that is too large.
+/// For each file its new bytes, or None where nothing of it moves. One that imports from the common file gets `.debug_sup`. Refused
+/// with the first file that can't be laid out around its loaded bytes, or that is too large.
 pub(crate) fn all_made(
     alloc: Global,
     contents: &[Vec<u8>],
     graph: &Graph<'_>,
+    common: &Option<CommonFile>,
     mut made: Vec<Option<NewFile>>,
 ) -> Result<Vec<Option<Blob>>, GraphErr>
     requires read { graph.now ≡ map (λ c. c.items) contents.now }
     requires few { length contents.now < 2 ^ 32 }
-    ensures { (name : List ℕ) (r : Run)
+    ensures { (o : Options) (r : Run) → IsCommonMade o r common.now
         → ((file : ℕ) → file < length contents.now → CanMake r file (get_or graph.now file []) (get_or made.items file None))
-        → AnswersAll (λ files. files.items) name r (length contents.now) result }
+        → AnswersAll (λ files. files.items) (sup_name o) r (length contents.now) result }
 {
     let mut files = Vec::new(alloc);
     for (file, content) in contents.iter().enumerate() {
@@ -104,6 +131,7 @@ pub(crate) fn all_made(
             number,
             content.as_slice(),
             &graph.file(number).elf,
+            common,
             new,
         )?;
         files.push(bytes)?;

@@ -10,4 +10,6 @@ pub struct NewFile {
     /// The first operand of an expression whose new number needs more bytes than it has: in `.debug_info`, or else in
     /// `.debug_loclists` (DWARF 5, 2.5).
     pub narrow: Option<Fault>,
+    /// Whether it imports from the common file.
+    pub imports: bool,
 }

@@ -2,9 +2,12 @@
 
 ghost use Rattle.std.specs.Prelude.{◌≡◌, ℕ, ◌++◌, OnOk, IfOk, is_some, map, unwrap_or};
 ghost use Rattle.dwz_back.specs.Files.{Run};
-ghost use Rattle.dwz_out.specs.Out.{files_puts, puts_by};
+ghost use Rattle.dwz_words.specs.declared.options.Options.{Options};
+ghost use Rattle.dwz_out.specs.Out.{all_puts, common_puts, puts_by};
+ghost use Rattle.dwz_after.specs.Common.{IsCommonMade};
 ghost use Rattle.dwz_after.specs.Making.{AreBefore, AreBytesOf};
 
+use crate::common::CommonFile;
 use crate::rows::{content_of, copied, taken};
 use dwz_model::{Blob, NoMemory};
 use dwz_outside::Put;
@@ -36,17 +39,39 @@ fn add_put(
     Ok(())
 }
 
-/// What is put of the files, in order.
+// Adds what is put of the common file, where one is asked for.
+fn add_common(
+    alloc: Global,
+    puts: &mut Vec<Put>,
+    name: &Option<Blob>,
+    common: Option<CommonFile>,
+) -> Result<(), NoMemory>
+    ensures { (o : Options) (r : Run) → IsCommonMade o r common → OnOk result (puts.new.items ≡ puts.old.items ++ common_puts name.now r) }
+{
+    if let Some(name) = name
+        && let Some(CommonFile { bytes, sup: _ }) = common
+    {
+        puts.push(Put {
+            name: copied(alloc, name)?,
+            bytes,
+        })?;
+    }
+    Ok(())
+}
+
+/// What is put: the common file, and then the files in order.
 pub(crate) fn puts(
     alloc: Global,
     options: &Options,
     contents: &[Vec<u8>],
+    common: Option<CommonFile>,
     mut files: Vec<Option<Blob>>,
 ) -> Result<Vec<Put>, NoMemory>
-    ensures { (r : Run) → AreBefore r (map (λ c. c.items) contents.now) → AreBytesOf options.now r files.items
-        → IfOk result (λ puts. puts.items ≡ files_puts options.now r 0 options.now.files) }
+    ensures { (r : Run) → AreBefore r (map (λ c. c.items) contents.now) → IsCommonMade options.now r common
+        → AreBytesOf options.now r files.items → IfOk result (λ puts. puts.items ≡ all_puts options.now r) }
 {
     let mut puts = Vec::new(alloc);
+    add_common(alloc, &mut puts, &options.common, common)?;
     for (file, name) in options.files.as_slice().iter().enumerate() {
         let new = taken(&mut files, file);
         let old = content_of(contents, file);

@@ -1,15 +1,33 @@
-//! The lengths of the files before and afterwards.
+//! The lengths of the files before and afterwards, and of the common file.
 
 ghost use Rattle.std.specs.Prelude.{◌≡◌, IfOk, get_or, length, map};
 ghost use Rattle.std.specs.Option.{option_map};
 ghost use Rattle.dwz_back.specs.Files.{Run};
-ghost use Rattle.dwz_out.specs.Out.{summary_lines};
+ghost use Rattle.dwz_out.specs.Out.{common_length, summary_lines};
 ghost use Rattle.dwz_words.specs.declared.options.Options.{Options};
+ghost use Rattle.dwz_after.specs.Common.{IsCommonMade};
 ghost use Rattle.dwz_after.specs.Making.{AreBefore, AreBytesOf};
 
+use crate::common::CommonFile;
 use crate::rows::{content_of, copied};
 use dwz_model::{Blob, NoMemory};
 use std::alloc::Global;
+
+/// The name and the length of the common file, where one is asked for and there is one.
+pub(crate) fn common_line(
+    alloc: Global,
+    name: &Option<Blob>,
+    common: &Option<CommonFile>,
+) -> Result<Option<(Blob, u64)>, NoMemory>
+    ensures { (o : Options) (r : Run) → IsCommonMade o r common.now → IfOk result (λ line. line ≡ common_length name.now r) }
+{
+    match (name, common) {
+        (Some(name), Some(common)) => {
+            Ok(Some((copied(alloc, name)?, common.bytes.len() as u64)))
+        }
+        _ => Ok(None),
+    }
+}
 
 // How many new bytes the file with a number has, where it has some.
 fn new_length(files: &[Option<Blob>], file: usize) -> Option<u64>

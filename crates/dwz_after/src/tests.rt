@@ -1,4 +1,5 @@
-//! A small ELF file, of which something moves or nothing, with `-o` and without. What is expected was counted by hand.
+//! A small ELF file, of which something moves or nothing, with `-o` and without, and with a common file. What is expected was counted
+//! by hand; the digest of `abc` is that of the standard (FIPS 180-4).
 
 use crate::{NewFile, outcome};
 use dwz_course::Output;
@@ -27,6 +28,19 @@ const OLD_LENGTH: usize = 64 + 80 + 4 * 64;
 
 // The same with 3 bytes and 1 in place of the first two sections.
 const NEW_LENGTH: usize = 64 + 48 + 4 * 64;
+
+// How long it is so with `.debug_sup` of 40 bytes, whose name is one more in the table of names, and where that stands.
+const IMPORTING_LENGTH: usize = 64 + 96 + 5 * 64;
+
+const SUP_AT: usize = 64 + 4 + 48;
+
+// `.debug_sup` of a file that imports from a common file with the sections `a`, `b` and `c`, which is named `sup` there.
+const SUP: &[u8; 40] = b"\x05\0\0sup\0\x20\
+    \xba\x78\x16\xbf\x8f\x01\xcf\xea\x41\x41\x40\xde\x5d\xae\x22\x23\
+    \xb0\x03\x61\xa3\x96\x17\x7a\x9c\xb4\x10\xff\x61\xf2\x00\x15\xad";
+
+// How long that common file is: its header, the contents and names up to the next multiple of 8, and six section headers.
+const COMMON_LENGTH: usize = 64 + 104 + 6 * 64;
 
 fn put_section_header(
     out: &mut Vec<u8>,
@@ -67,7 +81,7 @@ fn blob(alloc: Global, bytes: &[u8]) -> Result<Blob, AllocError> {
     Ok(Blob::new(Vec::from_slice(alloc, bytes)?))
 }
 
-fn new_file(alloc: Global, narrow: Option<Fault>) -> Result<NewFile, AllocError> {
+fn new_file(alloc: Global, narrow: Option<Fault>, imports: bool) -> Result<NewFile, AllocError> {
     Ok(NewFile {
         sections: Sections {
             info: blob(alloc, &[1, 2, 3])?,
@@ -79,10 +93,28 @@ fn new_file(alloc: Global, narrow: Option<Fault>) -> Result<NewFile, AllocError>
             aranges: None,
         },
         narrow,
+        imports,
     })
 }
 
-// What comes of files with these contents, which are all named `file`, or of the one with `-o out`.
+// The options for so many files, which are all named `file`.
+fn options_of(alloc: Global, files: usize) -> Result<Options, AllocError> {
+    let mut names = Vec::new(alloc);
+    for _ in 0..files {
+        names.push(blob(alloc, b"file")?)?;
+    }
+    Ok(Options {
+        quiet: false,
+        common: None,
+        name: None,
+        out: None,
+        workers: 1,
+        files: Names::new(names),
+        demo: None,
+    })
+}
+
+// What comes of files with these contents, or of the one with `-o out`.
 fn outcome_of(
     rt: &impl Abort,
     alloc: Global,
@@ -92,26 +124,29 @@ fn outcome_of(
 ) -> Result<Result<Output, GraphErr>, Fail> {
     assert!(rt; contents.len() < 9);
     assert_eq!(rt; made.len(), contents.len());
-    let mut names = Vec::new(alloc);
-    for _ in contents {
-        names.push(blob(alloc, b"file")?)?;
+    let mut options = options_of(alloc, contents.len())?;
+    if out {
+        options.out = Some(blob(alloc, b"out")?);
     }
-    let out = if out {
-        Some(blob(alloc, b"out")?)
-    } else {
-        None
-    };
-    let options = Options {
-        quiet: false,
-        common: None,
-        name: None,
-        out,
-        workers: 1,
-        files: Names::new(names),
-        demo: None,
-    };
     let graph = Graph::read(alloc, contents)?;
-    Ok(outcome(alloc, &options, contents, &graph, made, 0))
+    Ok(outcome(alloc, &options, contents, &graph, None, made, 0))
+}
+
+// What comes of them with `-m common -M sup`, and with these sections of the common file.
+fn outcome_with(
+    rt: &impl Abort,
+    alloc: Global,
+    contents: &[Vec<u8>],
+    common: Option<Sections>,
+    made: Vec<Option<NewFile>>,
+) -> Result<Result<Output, GraphErr>, Fail> {
+    assert!(rt; contents.len() < 9);
+    assert_eq!(rt; made.len(), contents.len());
+    let mut options = options_of(alloc, contents.len())?;
+    options.common = Some(blob(alloc, b"common")?);
+    options.name = Some(blob(alloc, b"sup")?);
+    let graph = Graph::read(alloc, contents)?;
+    Ok(outcome(alloc, &options, contents, &graph, common, made, 1))
 }
 
 // Whether something moves, and whether there is `-o out`; and the name and the length of what is put, if something is.
@@ -151,7 +186,7 @@ fn a_file_is_put_where_it_is_asked_for(rt: HostRuntime) -> Result<(), Fail> {
         contents.push(file(rt.alloc())?)?;
         let mut made = Vec::new(rt.alloc());
         if case.moves {
-            made.push(Some(new_file(rt.alloc(), None)?))?;
+            made.push(Some(new_file(rt.alloc(), None, false)?))?;
         } else {
             made.push(None)?;
         }
@@ -183,7 +218,7 @@ fn new_sections_are_in_the_file(rt: HostRuntime) -> Result<(), Fail> {
     let mut contents = Vec::new(rt.alloc());
     contents.push(file(rt.alloc())?)?;
     let mut made = Vec::new(rt.alloc());
-    made.push(Some(new_file(rt.alloc(), None)?))?;
+    made.push(Some(new_file(rt.alloc(), None, false)?))?;
     let output = outcome_of(&rt, rt.alloc(), &contents, false, made)??;
     let puts = output.puts.as_slice();
     assert_eq!(rt; puts.len(), 1);
@@ -205,8 +240,8 @@ fn the_first_narrow_operand_is_refused(rt: HostRuntime) -> Result<(), Fail> {
         reason: Reason::OperandWidth,
     };
     let mut made = Vec::new(rt.alloc());
-    made.push(Some(new_file(rt.alloc(), None)?))?;
-    made.push(Some(new_file(rt.alloc(), Some(narrow))?))?;
+    made.push(Some(new_file(rt.alloc(), None, false)?))?;
+    made.push(Some(new_file(rt.alloc(), Some(narrow), false)?))?;
     let refusal = match outcome_of(&rt, rt.alloc(), &contents, false, made)? {
         Err(GraphErr::Refused(refusal)) => Some(refusal),
         _ => None,
@@ -218,5 +253,60 @@ fn the_first_narrow_operand_is_refused(rt: HostRuntime) -> Result<(), Fail> {
         reason: Reason::OperandWidth,
     };
     assert_eq!(rt; refusal, Some(expected));
+    Ok(())
+}
+
+#[test]
+fn the_common_file_is_put_first(rt: HostRuntime) -> Result<(), Fail> {
+    let alloc = rt.alloc();
+    let mut contents = Vec::new(alloc);
+    contents.push(file(alloc)?)?;
+    contents.push(file(alloc)?)?;
+    let mut made = Vec::new(alloc);
+    made.push(Some(new_file(alloc, None, true)?))?;
+    made.push(Some(new_file(alloc, None, false)?))?;
+    let common = Sections {
+        info: blob(alloc, b"a")?,
+        abbrev: blob(alloc, b"c")?,
+        strs: Some(blob(alloc, b"b")?),
+        offsets: None,
+        line: None,
+        loclists: None,
+        aranges: None,
+    };
+    let output = outcome_with(&rt, alloc, &contents, Some(common), made)??;
+    let puts = output.puts.as_slice();
+    assert_eq!(rt; puts.len(), 3);
+    assert_eq!(rt; puts[0].name.as_slice(), b"common".as_slice());
+    let bytes = puts[0].bytes.as_slice();
+    assert_eq!(rt; bytes.len(), COMMON_LENGTH);
+    assert_eq!(rt; &bytes[18..20], [62, 0].as_slice());
+    assert_eq!(rt; puts[1].name.as_slice(), b"file".as_slice());
+    let bytes = puts[1].bytes.as_slice();
+    assert_eq!(rt; bytes.len(), IMPORTING_LENGTH);
+    assert_eq!(rt; &bytes[SUP_AT..SUP_AT + 40], SUP.as_slice());
+    assert_eq!(rt; puts[2].bytes.len(), NEW_LENGTH);
+    match &output.summary.common {
+        Some((name, len)) => {
+            assert_eq!(rt; name.as_slice(), b"common".as_slice());
+            assert_eq!(rt; *len, COMMON_LENGTH as u64);
+        }
+        None => assert!(rt; false),
+    }
+    Ok(())
+}
+
+#[test]
+fn no_common_file_is_put_where_nothing_is_in_it(rt: HostRuntime) -> Result<(), Fail> {
+    let alloc = rt.alloc();
+    let mut contents = Vec::new(alloc);
+    contents.push(file(alloc)?)?;
+    let mut made = Vec::new(alloc);
+    made.push(Some(new_file(alloc, None, false)?))?;
+    let output = outcome_with(&rt, alloc, &contents, None, made)??;
+    let puts = output.puts.as_slice();
+    assert_eq!(rt; puts.len(), 1);
+    assert_eq!(rt; puts[0].bytes.len(), NEW_LENGTH);
+    assert!(rt; output.summary.common.is_none());
     Ok(())
 }

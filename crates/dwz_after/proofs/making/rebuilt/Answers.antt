@@ -26,7 +26,8 @@ returns c can =
     ∙ ap (given 3 s.strs) (offsets
     ∙ ap (given 5 s.offsets) (line
     ∙ ap (given 6 s.line) (lists
-    ∙ ap (given 7 s.loclists) ranges))))) in
+    ∙ ap (given 7 s.loclists) (ranges
+    ∙ ap (given 8 s.aranges) c.in_ok-add_sup.ensures.given)))))) in
     let start = c.new-rebuild.ensures in
-    let is = all_given (elf_of input) s c.new-rebuild.result (start.file ∙ c.requires) start.none start.no_sup in
+    let is = all_given (elf_of input) s c.args.sup c.new-rebuild.result (start.file ∙ c.requires) start.none in
     subst (λ (v : RebuildView). Finishes (λ out. out.items) v input c.finish.result) (all ∙ is) c.finish.ensures

@@ -15,8 +15,8 @@ use Rattle.dwz_places.specs.declared.known.Known.{Known}
 use Rattle.dwz_places.specs.declared.known.Row.{Row}
 use Rattle.dwz_places.specs.declared.known.TextAt.{TextAt}
 use Rattle.dwz_places.specs.Known.{number_of, row_at}
-use Rattle.dwz_facts.specs.Facts.{AreFacts, Facts}
-use Rattle.dwz_facts.specs.Listed.{AreListed, AreRows, IsListed, TextsAt}
+use Rattle.dwz_laid.specs.Facts.{AreFacts, Facts}
+use Rattle.dwz_laid.specs.Listed.{AreListed, AreRows, IsListed, TextsAt}
 
 -- ---- files one behind the other
 

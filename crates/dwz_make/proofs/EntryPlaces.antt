@@ -19,13 +19,13 @@ use Rattle.dwz_places.specs.declared.known.Known.{Known}
 use Rattle.dwz_places.specs.declared.order.UnitItems.{UnitItems}
 use Rattle.dwz_places.specs.Known.{owner_of}
 use Rattle.dwz_places.specs.Laid.{made_of}
-use Rattle.dwz_refers.proofs.RowsWritten.{row_written}
-use Rattle.dwz_facts.specs.Facts.{Facts, docs, files_written, move, rule, run, units, units_written}
-use Rattle.dwz_facts.specs.Listed.{TextsAt}
-use Rattle.dwz_facts.specs.Named.{keys, no_name}
-use Rattle.dwz_named.proofs.EntriesReach.{reached}
-use Rattle.dwz_named.proofs.FileEntries.{here, named}
-use Rattle.dwz_named.proofs.ImagesStand.{in_units}
+use Rattle.dwz_laid.proofs.RowsWritten.{row_written}
+use Rattle.dwz_laid.specs.Facts.{Facts, docs, files_written, move, rule, run, units, units_written}
+use Rattle.dwz_laid.specs.Listed.{TextsAt}
+use Rattle.dwz_laid.specs.Named.{keys, no_name}
+use Rattle.dwz_laid.proofs.EntriesReach.{reached}
+use Rattle.dwz_laid.proofs.FileEntries.{here, named}
+use Rattle.dwz_laid.proofs.ImagesStand.{in_units}
 use Rattle.dwz_laid.specs.Laid.{written_out}
 use Rattle.dwz_laid.proofs.FilesLaid.{run_places}
 use Rattle.dwz_laid.proofs.NamesApart.{entries_many, rows_apart}

@@ -1,7 +1,6 @@
 -- The flags of what is settled are those of the facts, and so are the numbers of units that are given by them.
 use Rattle.std.proofs.Common.{◌≡◌, ℕ, Bool, false, List, [], length, refl, sym, ap, subst, ◌∙◌}
 use Rattle.dwz_meanings.specs.Files.{no_files_before}
-use Rattle.dwz_alike.specs.Spots.{file_numbers, units_of}
 use Rattle.dwz_back.specs.Files.{Stored}
 use Rattle.dwz_graph.specs.declared.file.File.{File}
 use Rattle.dwz_graph.specs.Files.{docs_of}
@@ -9,21 +8,19 @@ use Rattle.dwz_graph.proofs.GraphLemmas.{as_many}
 use Rattle.dwz_across.proofs.FileCounts.{files_many}
 use Rattle.dwz_index.specs.Index.{Index}
 use Rattle.dwz_known.specs.declared.numbers.UnitNumbers.{UnitNumbers}
-use Rattle.dwz_known.specs.Owners.{AreUnitNumbers, move_of}
-use Rattle.dwz_same.specs.Units.{changes, common_units}
+use Rattle.dwz_known.specs.Owners.{AreUnitNumbers}
+use Rattle.dwz_same.specs.Units.{changes}
 use Rattle.dwz_ordered.specs.declared.orders.Settled.{Settled as Lent}
-use Rattle.dwz_settled.specs.Settled.{IsSettled}
+use Rattle.dwz_laid.specs.Settled.{IsSettled}
 use Rattle.dwz_plan.specs.declared.plan.Scope.{Scope as Sharing}
-use Rattle.dwz_plan.specs.declared.plan.Scope.TheVariants.{Each as EachAlone}
 use Rattle.dwz_planned.specs.declared.planned.PlannedFiles.{PlannedFiles}
 use Rattle.dwz_planned.specs.Rules.{alike_scope, rule_by}
-use Rattle.dwz_planned.proofs.PartHomes.{no_home, no_units}
 use Rattle.dwz_planned.proofs.PlanFits.{alike_is, choice_is}
-use Rattle.dwz_facts.specs.Facts.{Facts, move, units, written}
+use Rattle.dwz_laid.specs.Facts.{Facts, move, units, written}
 use Rattle.dwz_ready.specs.declared.settled.SettledFiles.{SettledFiles}
 use Rattle.dwz_ready.specs.Settled.{AreFactsOf, ArePlanned, Lends}
 use Rattle.dwz_ready.proofs.FactsAre.{facts_are, facts_same, facts_with}
-use Rattle.dwz_make.specs.NumberLaws.{ApartLaw, FlagsLaw, HasNumbers, PlannedFactsLaw, SettledFactsLaw}
+use Rattle.dwz_make.specs.NumberLaws.{FlagsLaw, HasNumbers, PlannedFactsLaw, SettledFactsLaw}
 use Rattle.dwz_make.specs.Numbered.{AreNumbersOf}
 use Rattle.dwz_make.proofs.WrittenFiles.{flags_many}
 
@@ -101,16 +98,3 @@ settled_facts contents indexes sharing p r f planned same has_flags of stored n 
     let own : AreNumbersOf (docs_of contents) p.plan r.written.items n =
     subst (λ (w : PlannedFiles). AreNumbersOf (docs_of contents) w.plan r.written.items n) same are in
     planned_facts contents indexes sharing p f planned of stored r.written.items n (has_flags.are f of) own has
-
--- ---- each file by itself
-
-none_common : (contents : List (List ℕ)) → common_units (move_of (rule_by EachAlone (docs_of contents)) (docs_of contents)) ≡ []
-unfolding common_units
-none_common contents =
-    let docs = docs_of contents in
-    let m = move_of (rule_by EachAlone docs) docs in
-    no_units m 0 m.parts (no_home (units_of docs) (rule_by EachAlone docs) (alike_is EachAlone docs) (file_numbers 0 docs))
-
-pub apart : ApartLaw
-apart contents indexes p f of =
-    subst (λ (w : Facts). common_units (move w) ≡ []) (facts_same contents indexes EachAlone p f of) (none_common contents)

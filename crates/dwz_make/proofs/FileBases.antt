@@ -16,8 +16,8 @@ use Rattle.dwz_index.specs.Index.{Index}
 use Rattle.dwz_across.specs.Across.{file_units, name_at}
 use Rattle.dwz_across.proofs.FileEntries.{unit_of}
 use Rattle.dwz_across.proofs.ListGets.{part_get}
-use Rattle.dwz_facts.specs.Facts.{AreFacts, Facts, HasFile, units}
-use Rattle.dwz_trees.proofs.FilesFound.{among_of, nth_at}
+use Rattle.dwz_laid.specs.Facts.{AreFacts, Facts, HasFile, units}
+use Rattle.dwz_laid.proofs.FilesFound.{among_of, nth_at}
 
 own_bases : (around : Around ℕ) (u : RawUnit) (v : DwUnit ℕ) → unit_meaning around u ≡ Ok v → bases_of (scope_of around u) ≡ bases_in v
 own_bases around u v e = bases_read (scope_of around u) v.root.attrs (((unit_agrees around u).ok v).0 e).root.attrs

@@ -32,8 +32,8 @@ use Rattle.dwz_plan.specs.Planned.{Planned}
 use Rattle.dwz_places.specs.declared.known.Known.{Known}
 use Rattle.dwz_places.specs.declared.order.UnitItems.{UnitItems}
 use Rattle.dwz_places.specs.Laid.{AllMade, made_of}
-use Rattle.dwz_facts.specs.Facts.{AreFacts, Facts, docs, rule, run}
-use Rattle.dwz_named.proofs.FileEntries.{IsHere, here}
+use Rattle.dwz_laid.specs.Facts.{AreFacts, Facts, docs, rule, run}
+use Rattle.dwz_laid.proofs.FileEntries.{IsHere, here}
 use Rattle.dwz_make.specs.Prepared.{CanLay}
 use Rattle.dwz_renumbered.specs.NumberLaws.{ArePlaces}
 use Rattle.dwz_renumbered.specs.Operands.{HasNewNumbers}
@@ -79,7 +79,7 @@ module _ (f : Facts) (w : Work) (m : Moved) (is : IsMoved f w m) where
   orders = w.prepared.now.ordered.orders.items
 
   abbrev pub plan : Planned
-  plan = w.prepared.now.alone.settled.planned.plan
+  plan = w.prepared.now.run.settled.planned.plan
 
   abbrev pub operands : List ListOperand
   operands = m.file.now.resolved.operands.items

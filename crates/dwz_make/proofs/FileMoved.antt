@@ -16,10 +16,10 @@ use Rattle.dwz_places.specs.declared.order.UnitItems.{UnitItems}
 use Rattle.dwz_places.specs.Laid.{AllMade, FileMade, file_view, made_of}
 use Rattle.dwz_pages.specs.Laws.{FileIs, FilesAre}
 use Rattle.dwz_pages.specs.Shown.{unit_count}
-use Rattle.dwz_facts.specs.Facts.{AreFacts, Facts, files_written, run}
-use Rattle.dwz_facts.specs.Named.{keys}
-use Rattle.dwz_trees.specs.Trees.{IsReadFile}
-use Rattle.dwz_shown_parts.proofs.PartHomes.{file_read_there}
+use Rattle.dwz_laid.specs.Facts.{AreFacts, Facts, files_written, run}
+use Rattle.dwz_laid.specs.Named.{keys}
+use Rattle.dwz_laid.specs.Trees.{IsReadFile}
+use Rattle.dwz_laid.proofs.PartHomes.{file_read_there}
 use Rattle.dwz_laid.specs.Laid.{written_out}
 use Rattle.dwz_laid.proofs.FilesLaid.{run_laid}
 use Rattle.dwz_make.specs.declared.prepared.PreparedFiles.{PreparedFiles}
@@ -40,7 +40,7 @@ are_long n k at roots first (order ∷ orders) (m ∷ made) [] are = absurd are
 are_long n k at roots first (order ∷ orders) (m ∷ made) (x ∷ files) are =
     ap suc (are_long n k at roots (first + length order) orders made files are.1)
 
-file_here : (n : Numbering Spot) (k : Known) (at roots : List ℕ) (first : ℕ) (orders : List (List UnitItems)) (made : List FileMade)
+pub file_here : (n : Numbering Spot) (k : Known) (at roots : List ℕ) (first : ℕ) (orders : List (List UnitItems)) (made : List FileMade)
     (files : List (FileOut Spot)) → FilesAre n k at roots first orders made files
     → (i : ℕ) (order : List UnitItems) (m : FileMade) (x : FileOut Spot)
     → slice_get orders i ≡ Some order → slice_get made i ≡ Some m → slice_get files i ≡ Some x
@@ -70,6 +70,32 @@ unfolding starts_from
 starts_many start [] = refl
 starts_many start (x ∷ indexes) = ap suc (starts_many (start + length x.steps) indexes)
 
+-- ---- all files
+
+module _ (f : Facts) (w : Work) (is : IsWork f w) where
+  abbrev pub prepared : PreparedFiles
+  prepared = w.prepared.now
+
+  abbrev pub orders_in : List (List UnitItems)
+  orders_in = w.prepared.now.ordered.orders.items
+
+  abbrev pub all : AllMade
+  all = made_of w.prepared.now.known w.prepared.now.ordered.orders.items
+
+  pub facts : AreFacts f
+  facts = is.works.ready.can.facts
+
+  pub many : length orders_in ≡ length (written_out f)
+  many = shown_many (keys f) prepared.known 0 orders_in (written_out f) is.works.ready.can.order.shows
+
+  pub laid : FilesAre (places (run f)) prepared.known all.places all.roots 0 orders_in all.files (written_out f)
+  laid = run_laid f prepared.known orders_in facts is.works.ready.can.order
+
+  pub layout_many : length w.layout.now.files ≡ length orders_in
+  layout_many =
+      ap (λ (a : AllMade). length a.files) is.layout_is
+      ∙ are_long (places (run f)) prepared.known all.places all.roots 0 orders_in all.files (written_out f) laid
+
 -- ---- the file at hand
 
 module _ (f : Facts) (w : Work) (is : IsWork f w) (n rank : ℕ) (has : HasRank f n rank) where
@@ -79,17 +105,14 @@ module _ (f : Facts) (w : Work) (is : IsWork f w) (n rank : ℕ) (has : HasRank 
   abbrev orders : List (List UnitItems)
   orders = p.ordered.orders.items
 
-  facts : AreFacts f
-  facts = is.works.ready.can.facts
-
   pub read : IsReadFile f n
-  read = file_read_there f facts n has.0
+  read = file_read_there f (facts f w is) n has.0
 
   pub in_files : n < length p.files.now
   in_files = got_below p.files.now n read.x (ap (λ (xs : List File). slice_get xs n) (sym is.works.files_are) ∙ read.has.file)
 
-  pub in_indexes : n < length p.alone.indexes.items
-  in_indexes = got_below p.alone.indexes.items n read.index (ap (λ (xs : List Index). slice_get xs n) (sym is.works.indexes_are)
+  pub in_indexes : n < length p.run.indexes.items
+  in_indexes = got_below p.run.indexes.items n read.index (ap (λ (xs : List Index). slice_get xs n) (sym is.works.indexes_are)
       ∙ read.has.index_is)
 
   pub in_starts : n < length w.starts.now
@@ -98,29 +121,19 @@ module _ (f : Facts) (w : Work) (is : IsWork f w) (n rank : ℕ) (has : HasRank 
       let starts = ap (λ (xs : List ℕ). length xs) is.starts_are in
       let below = got_below f.indexes n read.index read.has.index_is in omega (arith, long, starts, below)
 
-  many : length orders ≡ length (written_out f)
-  many = shown_many (keys f) p.known 0 orders (written_out f) is.works.ready.can.order.shows
-
   pub in_orders : suc rank < length orders
   in_orders =
       let below = got_below (files_written f) rank n has.1 in
-      let long = length-map (files_written f) (file_out (run f)) in omega (arith, below, long, many)
+      let long = length-map (files_written f) (file_out (run f)) in
+      let all_many = many f w is in omega (arith, below, long, all_many)
 
   pub in_firsts : suc rank < length p.ordered.firsts.items
   in_firsts =
       let long = firsts_many 0 orders in
       let firsts = ap (λ (xs : List ℕ). length xs) is.works.ready.firsts in omega (arith, long, firsts, in_orders)
 
-  abbrev all : AllMade
-  all = made_of p.known orders
-
-  pub laid : FilesAre (places (run f)) p.known all.places all.roots 0 orders all.files (written_out f)
-  laid = run_laid f p.known orders facts is.works.ready.can.order
-
   pub in_layout : suc rank < length w.layout.now.files
-  in_layout =
-      let long = are_long (places (run f)) p.known all.places all.roots 0 orders all.files (written_out f) laid in
-      let layout = ap (λ (a : AllMade). length a.files) is.layout_is in omega (arith, long, layout, in_orders)
+  in_layout = (let long = layout_many f w is in omega (arith, long, in_orders))
 
 -- what was found of it by these numbers is the file of which something moves
 module _ (f : Facts) (w : Work) (is : IsWork f w) (rank place : ℕ) (m : Moved) (has : HasRank f m.number rank)
@@ -137,7 +150,7 @@ module _ (f : Facts) (w : Work) (is : IsWork f w) (rank place : ℕ) (m : Moved)
   abbrev Here : AllMade → ℕ → Type 0
   Here a first = FileIs (places (run f)) k a.places a.roots first m.units.now (file_view m.laid.now) (file_out (run f) n)
 
-  pub is_moved : slice_get w.prepared.now.files.now n ≡ Some m.file.now → slice_get w.prepared.now.alone.indexes.items n ≡ Some m.index.now
+  pub is_moved : slice_get w.prepared.now.files.now n ≡ Some m.file.now → slice_get w.prepared.now.run.indexes.items n ≡ Some m.index.now
       → slice_get w.starts.now n ≡ Some m.start → slice_get w.prepared.now.ordered.firsts.items place ≡ Some m.first
       → slice_get files_in place ≡ Some m.units.now → slice_get w.layout.now.files place ≡ Some (file_view m.laid.now) → IsMoved f w m
   is_moved file index start first_at units_at laid_there =
@@ -154,7 +167,7 @@ module _ (f : Facts) (w : Work) (is : IsWork f w) (rank place : ℕ) (m : Moved)
       ap (λ (x : AllMade). slice_get x.files (suc rank)) (sym is.layout_is) ∙ laid_at in
       let out_there : slice_get (written_out f) (suc rank) ≡ Some (file_out (run f) n) =
       got_map (file_out (run f)) (files_written f) rank n has.1 in
-      let here = file_here (places (run f)) k a.places a.roots 0 files_in a.files (written_out f) (laid f w is n rank has)
+      let here = file_here (places (run f)) k a.places a.roots 0 files_in a.files (written_out f) (laid f w is)
       (suc rank) m.units.now
       (file_view m.laid.now) (file_out (run f) n) units made_there out_there in
       let counted = first_behind files_in (suc rank) m.first (ap (λ (xs : List ℕ). slice_get xs (suc rank)) (sym is.works.ready.firsts)

@@ -1,10 +1,11 @@
 -- The texts of a file move, unit by unit: where just those stay that are used, each stands where its new number says; and in a file that
 -- isn't prunable all stay where they were.
-use Rattle.std.proofs.Common.{◌≡◌, ℕ, suc, ◌+◌, Bool, false, Contains, List, [], ◌∷◌, ◌++◌, Option, Some, None, slice_get, refl, sym, ap}
+use Rattle.std.proofs.Common.{◌≡◌, ℕ, zero, suc, ◌+◌, Bool, false, Contains, List, [], ◌∷◌, ◌++◌, Option, Some, None, slice_get, refl, sym, ap}
 use Rattle.std.proofs.Common.{subst, ◌∙◌, arith}
 use Rattle.dwz_docs.specs.Lists.{In}
 use Rattle.dwz_docs.specs.Pruning.{new_number}
 use Rattle.dwz_meanings.specs.Documents.{DwUnit, Node, node_map}
+use Rattle.dwz_seen.specs.Lists.{Each}
 use Rattle.dwz_seen.specs.Spaces.{space_text}
 use Rattle.dwz_seen.proofs.Members.{in_left}
 use Rattle.dwz_alike.specs.Spots.{Spot, name_of}
@@ -25,15 +26,15 @@ use Rattle.dwz_places.specs.declared.known.TextAt.TheVariants.{Own}
 use Rattle.dwz_places.specs.declared.order.UnitItems.{UnitItems}
 use Rattle.dwz_places.specs.Attributes.{holder_by, is_common}
 use Rattle.dwz_places.specs.Entries.{row}
-use Rattle.dwz_places.specs.Known.{no_space, no_text, space_at, text_at}
+use Rattle.dwz_places.specs.Known.{no_space, no_text, space_at, text_at, text_held}
 use Rattle.dwz_fitted.specs.Fitted.{KnowUnits, KnowsShown}
 use Rattle.dwz_fitted.specs.Knows.{EachFrom, IsRead, IsText, NewNumbers, Writes, firsts_at, name_attr, texts_in}
 use Rattle.dwz_ordered.specs.declared.orders.Settled.{Settled}
-use Rattle.dwz_facts.specs.Facts.{Facts, HasFile, file_read, move, run, units}
-use Rattle.dwz_facts.specs.Listed.{TextsAt, entry_row, space_entries}
-use Rattle.dwz_facts.specs.Named.{keys}
-use Rattle.dwz_named.proofs.LayoutLemmas.{knows_file}
-use Rattle.dwz_settled.specs.Unfitted.{HasChained, KnowTexts, KnowsUnitTexts, fit_in}
+use Rattle.dwz_laid.specs.Facts.{Facts, HasFile, file_read, move, run, units}
+use Rattle.dwz_laid.specs.Listed.{TextsAt, entry_row, space_entries}
+use Rattle.dwz_laid.specs.Named.{keys}
+use Rattle.dwz_laid.proofs.LayoutLemmas.{knows_file}
+use Rattle.dwz_laid.specs.Unfitted.{HasChained, KnowTexts, KnowsUnitTexts, fit_in}
 use Rattle.dwz_texts.proofs.FileTexts.{space_row}
 use Rattle.dwz_laid.specs.Laid.{numbers_if, run_numbers}
 use Rattle.dwz_uses.specs.declared.pruning.PrunedFile.{PrunedFile}
@@ -43,16 +44,18 @@ use Rattle.dwz_uses.proofs.MovedNames.{name_moved}
 use Rattle.dwz_uses.proofs.MovedUses.{entry_moved}
 use Rattle.dwz_make.specs.Moved.{AreMoved, IsPrunedIf, moved_if, moved_space, pruned_at}
 use Rattle.dwz_make.specs.Prepared.{ArePrepared, IsOrdered}
-use Rattle.dwz_make.specs.MovedLaws.{StandWhole}
+use Rattle.dwz_make.specs.Whole.{EachText, IsNotPooled, StandWhole}
+use Rattle.dwz_make.proofs.CommonMoves.{each_from_more}
 use Rattle.dwz_make.proofs.FilesUse.{file_keys, units_known, uses_are}
 use Rattle.dwz_make.proofs.SameLists.{firsts_same, texts_moved, writes_same}
+use Rattle.dwz_make.proofs.HeldTexts.{held_in_file}
 use Rattle.dwz_make.proofs.SlotsThere.{unit_there}
 use Rattle.dwz_make.proofs.UnitUses.{chained_among, entry_among, front_stays, here, in_contains, same_holder}
 
-each_from_more : {X : Type 0} (P Q : ℕ → X → Type 0) (n : ℕ) (xs : List X) → ((j : ℕ) (x : X) → P j x → Q j x) → EachFrom P n xs
-    → EachFrom Q n xs
-each_from_more P Q n [] go all = tt
-each_from_more P Q n (x ∷ xs) go all = (go n x all.0, each_from_more P Q (n + 1) xs go all.1)
+each_at : {X : Type 0} (P : X → Type 0) (xs : List X) (i : ℕ) (x : X) → Each P xs → slice_get xs i ≡ Some x → P x
+each_at P [] i x all e = absurd cc
+each_at P (y ∷ xs) zero x all e = (let same : y ≡ x = cc in subst P same all.0)
+each_at P (y ∷ xs) (suc i) x all e = each_at P xs i x all.1 e
 
 module _ (f : Facts) (s : Settled) (t : TextsAt) (k : Known) (orders : List (List UnitItems)) (p : ArePrepared f s t k orders)
     (stand : StandWhole f k orders)
@@ -66,12 +69,19 @@ module _ (f : Facts) (s : Settled) (t : TextsAt) (k : Known) (orders : List (Lis
         let many = p.listed.many_spaces in
         get_there t.spaces space (omega (arith, low, many))
 
+    common_there : (x : TextAt) × (slice_get t.commons space ≡ Some x)
+    common_there =
+        let low = got_below (space_entries 0 f.indexes) space (entry_row n i) at in
+        let many = p.listed.many_commons in
+        get_there t.commons space (omega (arith, low, many))
+
     abbrev old_space : SpaceRow
-    old_space = record { row = entry_row n i; text = text_there.0 }
+    old_space = record { row = entry_row n i; text = text_there.0; common = common_there.0 }
 
     there : slice_get k.spaces.items space ≡ Some old_space
     there = ap (λ (w : List SpaceRow). slice_get w space) p.listed.spaces
-        ∙ space_row (space_entries 0 f.indexes) t.spaces space (entry_row n i) text_there.0 at text_there.1
+        ∙ space_row (space_entries 0 f.indexes) t.spaces t.commons space (entry_row n i) text_there.0 common_there.0 at text_there.1
+        common_there.1
 
     space_is : space_at k space ≡ old_space
     space_is = got_index k.spaces.items space old_space no_space there
@@ -86,6 +96,12 @@ module _ (f : Facts) (s : Settled) (t : TextsAt) (k : Known) (orders : List (Lis
 
     space_moves : (space_at m space).text ≡ moved_if (pruned_at pruned n) (space_at k space).text
     space_moves = ap (λ (w : SpaceRow). w.text) space_now ∙ sym (ap (λ (w : SpaceRow). moved_if (pruned_at pruned n) w.text) space_is)
+
+    -- so does its name where a unit of the file holds it
+    held_moves : (u : DwUnit Spot)
+        → text_held (fit_in f n u).holder (space_at m space) ≡ moved_if (pruned_at pruned n) (text_held (fit_in f n u).holder (space_at k space))
+    held_moves u = held_in_file u.kind (space_at m space) ∙ space_moves
+        ∙ ap (moved_if (pruned_at pruned n)) (sym (held_in_file u.kind (space_at k space)))
 
   -- ---- a file of which this stays
 
@@ -106,7 +122,7 @@ module _ (f : Facts) (s : Settled) (t : TextsAt) (k : Known) (orders : List (Lis
         → (space i : ℕ) (r : EntryRow) (d : Node ℕ) (text : List ℕ) → HasChained space o.items
         → slice_get (space_entries 0 f.indexes) space ≡ Some (entry_row n i)
         → IsRead (file_read f n bytes x) i r d → space_text d ≡ Some text
-        → IsText (fit_in f n u) rn (name_attr (name_of text d)) (moved_if q (space_at k space).text)
+        → IsText (fit_in f n u) rn (name_attr (name_of text d)) (moved_if q (text_held (fit_in f n u).holder (space_at k space)))
 
     unit_told : (rn : NewNumbers) (o : UnitItems) (u : DwUnit Spot) → EntriesTold rn o u → NamesTold rn o u → KnowsUnitTexts f m rn n o u
     unit_told rn o u entries names = record {
@@ -119,7 +135,7 @@ module _ (f : Facts) (s : Settled) (t : TextsAt) (k : Known) (orders : List (Lis
       };
       spaces = λ bytes x index has space i r d text chained found read is.
           subst (λ (w : TextAt). IsText (fit_in f n u) rn (name_attr (name_of text d)) w)
-          (sym (space_moves n space i found ∙ ap (λ (w : Option PrunedFile). moved_if w (space_at k space).text) at))
+          (sym (held_moves n space i found u ∙ ap (λ (w : Option PrunedFile). moved_if w (text_held (fit_in f n u).holder (space_at k space))) at))
           (names bytes x index has space i r d text chained found read is);
     }
 
@@ -142,10 +158,10 @@ module _ (f : Facts) (s : Settled) (t : TextsAt) (k : Known) (orders : List (Lis
     front : moved_if (Some pf) no_text ≡ no_text
     front = ap (λ (x : ℕ). Own x) (front_stays strs used pf.strs is)
 
-    unit_moves : (j : ℕ) (o : UnitItems) (u : DwUnit Spot) → slice_get order j ≡ Some o
+    unit_moves : (j : ℕ) (o : UnitItems) (u : DwUnit Spot) → slice_get order j ≡ Some o → EachText IsNotPooled f k o n
         → KnowsShown (keys f) k (file_keys f n) None (first + j) o u
         → KnowsUnitTexts f k None n o u → KnowsUnitTexts f m (Some (new_number strs used)) n o u
-    unit_moves j o u found known old =
+    unit_moves j o u found own known old =
         let slots = unit_there (keys f) k known.files (first + j) o (fit_in f n u) None known.names known.known in
         let common : is_common k (first + j) ≡ false = known.common in
         let held : (fit_in f n u).holder ≡ holder_by (is_common k (first + j)) o.sort =
@@ -158,14 +174,16 @@ module _ (f : Facts) (s : Settled) (t : TextsAt) (k : Known) (orders : List (Lis
         entry_moved strs used pf.strs is k m file (text_moves n (Some pf) at front) rows (here k used first j order o found among)
         (fit_in f n u) held i r d read
         (entry_among k used first j order o found among f t p.facts p.listed slots (row n i) r there writes)
-        ((old.entries bytes x index has).are i r d read writes)))
+        ((old.entries bytes x index has).are i r d read writes)
+        (own bytes x index has i r d read writes)))
         (λ bytes x index has space i r d text chained at_space read is_space.
         (let file = file_read f n bytes x in
         let rows = (knows_file f t k p.facts p.listed n bytes x index has).rows in
         name_moved strs used pf.strs is k file rows (fit_in f n u) (space_at k space) i r d text
         (space_row_is n space i at_space) read is_space
         (chained_among k used first j order o found among (fit_in f n u).holder held space chained)
-        (old.spaces bytes x index has space i r d text chained at_space read is_space)))
+        (old.spaces bytes x index has space i r d text chained at_space read is_space)
+        (subst IsNotPooled (sym (held_in_file u.kind (space_at k space))) (stand.names n bytes x index has space i r d at_space read))))
 
   -- ---- unit by unit
 
@@ -229,4 +247,5 @@ module _ (f : Facts) (s : Settled) (t : TextsAt) (k : Known) (orders : List (Lis
           (subst (In x) uses_same (in_left x (order_uses k first order) (pruning.slot_uses strs offsets (known_slots offsets)) there)) in
           subst (λ (b : Bool). KnowTexts f m (numbers_if b (run f) n) n order (out_units (move f) (units f) n)) (sym some_stay.0)
           (all_move n first order (Some (new_number strs (uses (run f) n)))
-          (λ j o u found shown texts. unit_moves n first order pf at strs (uses (run f) n) all among j o u found shown texts) known old)
+          (λ j o u found shown texts. unit_moves n first order pf at strs (uses (run f) n) all among j o u found
+          (each_at (λ (w : UnitItems). EachText IsNotPooled f k w n) order j o (stand.owned n rank first order is) found) shown texts) known old)

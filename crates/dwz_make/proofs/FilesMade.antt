@@ -1,11 +1,12 @@
--- What is new in each file is new in the files of the run, with as many partial units as the plan has.
+-- What is new in each file is new in the files of the run, with as many partial units as the plan has; and so is the common file.
 use Rattle.std.proofs.Common.{◌≡◌, ℕ, suc, ◌+◌, Bool, List, [], ◌∷◌, ◌++◌, length, Option, refl, sym, ap, subst, ◌∙◌, inl}
 use Rattle.std.proofs.Common.{inr, arith}
 use Rattle.std.specs.List.{range_with_len}
 use Rattle.std.proofs.lemmas.List.{length-map}
+use Rattle.dwz_model.specs.declared.sections.Sections.{Sections}
 use Rattle.dwz_meanings.specs.Documents.{Doc}
 use Rattle.dwz_seen.specs.Lists.{Nth}
-use Rattle.dwz_alike.specs.Alike.{Apart, Scope}
+use Rattle.dwz_alike.specs.Alike.{Scope}
 use Rattle.dwz_alike.specs.Deciding.{alike_test}
 use Rattle.dwz_alike.specs.Spots.{file_numbers, units_of}
 use Rattle.dwz_moving.specs.Gain.{gain_rule}
@@ -13,16 +14,16 @@ use Rattle.dwz_moving.specs.Plan.{partials as unit_partials}
 use Rattle.dwz_back.specs.Back.{run_of}
 use Rattle.dwz_back.specs.Files.{Run, Stored}
 use Rattle.dwz_out.specs.Out.{stored_of}
-use Rattle.dwz_plan.specs.declared.plan.Scope.TheVariants.{Each as EachAlone}
+use Rattle.dwz_plan.specs.declared.plan.Scope.{Scope as Sharing}
 use Rattle.dwz_plan.specs.Shows.{shown_part}
 use Rattle.dwz_plan.proofs.BridgeLemmas.{file_numbers_are}
-use Rattle.dwz_planned.specs.Rules.{rule_by}
+use Rattle.dwz_planned.specs.Rules.{alike_scope, rule_by}
 use Rattle.dwz_graph.specs.Files.{docs_of}
-use Rattle.dwz_facts.specs.Facts.{AreFacts, Facts, docs, move, rule, run, units}
+use Rattle.dwz_laid.specs.Facts.{AreFacts, Facts, docs, move, rule, run, units}
 use Rattle.dwz_make.specs.declared.prepared.PreparedFiles.{PreparedFiles}
 use Rattle.dwz_make.specs.Ready.{AreFactsOf}
 use Rattle.dwz_after.specs.declared.new_file.NewFile.{NewFile}
-use Rattle.dwz_after.specs.NewFiles.{AreNew, IsNewOrOld}
+use Rattle.dwz_after.specs.NewFiles.{AreNew, IsNewCommon, IsNewOrOld}
 use Rattle.dwz_make.specs.Works.{AreNewFiles}
 
 pub numbers_long : (s : ℕ) (ds : List (Doc ℕ)) → length (file_numbers s ds) ≡ length ds
@@ -37,23 +38,33 @@ parts_many f facts =
     ∙ length-map all (shown_part (length (docs f)))
     ∙ ap (λ (numbers : List ℕ). length (unit_partials (rule f) (units f) numbers)) (sym (file_numbers_are 0 (docs f)))
 
--- the run of files by themselves
+-- the run of files in that scope
 abbrev run_with : List (List ℕ) → Scope → Stored → Run
 run_with contents scope input =
     run_of (gain_rule (alike_test scope (units_of (docs_of contents))) (units_of (docs_of contents))) (docs_of contents) input
 
-pub are_new : (contents : List (List ℕ)) (prunes : List Bool) (p : PreparedFiles) (f : Facts) → AreFacts f → AreFactsOf contents prunes p f
-    → (made : List (Option NewFile)) (partials : ℕ) → AreNewFiles (run f) made → partials ≡ length f.planned.partials
-    → AreNew (run_of (rule_by EachAlone (docs_of contents)) (docs_of contents) (stored_of contents prunes)) made partials
-are_new contents prunes p f facts of made partials are parts =
-    let same : run f ≡ run_with contents Apart (stored_of contents prunes) =
-    (λ i. run_with (of.contents_are i) (of.scope_is i) (of.input_is i)) in
-    let many : length (docs f) ≡ length made = sym (are.many ∙ numbers_long 0 (docs f)) in
-    subst (λ (r : Run). AreNew r made partials) same (record {
-      files = file_numbers_are 0 (docs f) ∙ ap (range_with_len 0) many;
-      each = are.each;
-      parts = parts ∙ parts_many f facts;
-    })
+module _ (contents : List (List ℕ)) (prunes : List Bool) (sharing : Sharing) (p : PreparedFiles) (f : Facts)
+    (shares : p.run.settled.scope ≡ sharing) (of : AreFactsOf contents prunes p f) where
+  abbrev run_made : Run
+  run_made = run_of (rule_by sharing (docs_of contents)) (docs_of contents) (stored_of contents prunes)
+
+  same_run : run f ≡ run_made
+  same_run =
+      let scope : f.scope ≡ alike_scope sharing = of.scope_is ∙ ap alike_scope shares in
+      (λ i. run_with (of.contents_are i) (scope i) (of.input_is i))
+
+  pub is_new_common : (common : Option Sections) → IsNewCommon (run f) common → IsNewCommon run_made common
+  is_new_common common is = subst (λ (r : Run). IsNewCommon r common) same_run is
+
+  pub are_new : AreFacts f → (made : List (Option NewFile)) (partials : ℕ) → AreNewFiles (run f) made
+      → partials ≡ length f.planned.partials → AreNew run_made made partials
+  are_new facts made partials are parts =
+      let many : length (docs f) ≡ length made = sym (are.many ∙ numbers_long 0 (docs f)) in
+      subst (λ (r : Run). AreNew r made partials) same_run (record {
+        files = file_numbers_are 0 (docs f) ∙ ap (range_with_len 0) many;
+        each = are.each;
+        parts = parts ∙ parts_many f facts;
+      })
 
 -- ---- one file after another
 

@@ -36,8 +36,8 @@ use Rattle.dwz_back.proofs.ReadOperands.{file_read, lists_in, reading}
 use Rattle.dwz_back.proofs.ReadPlaces.{read_from}
 use Rattle.dwz_back.proofs.WithinLemmas.{within}
 use Rattle.dwz_sound.specs.Sound.{FewTexts}
-use Rattle.dwz_facts.specs.Facts.{AreFacts, Facts, docs, move, rule, run, units}
-use Rattle.dwz_named.proofs.ReadFiles.{all_placed}
+use Rattle.dwz_laid.specs.Facts.{AreFacts, Facts, docs, move, rule, run, units}
+use Rattle.dwz_laid.proofs.ReadFiles.{all_placed}
 use Rattle.dwz_laid.proofs.FilesLaid.{all_once}
 
 -- ---- the units before

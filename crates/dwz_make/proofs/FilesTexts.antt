@@ -1,5 +1,5 @@
 -- The texts of all files that are written, file by file: of each its partial units, and then its old ones.
-use Rattle.std.proofs.Common.{◌≡◌, ℕ, zero, suc, ◌+◌, ◌<◌, Bool, true, false, List, [], ◌∷◌, ◌++◌, None, Ok, Result, Some, cond}
+use Rattle.std.proofs.Common.{◌≡◌, ℕ, zero, suc, ◌+◌, ◌<◌, Bool, true, false, List, [], ◌∷◌, ◌++◌, Ok, Result, Some, cond}
 use Rattle.std.proofs.Common.{length, map, slice_get, refl, sym, ap, subst, ◌∙◌, arith}
 use Rattle.std.specs.List.{filter}
 use Rattle.std.specs.Prelude.{slice_index_or}
@@ -8,7 +8,7 @@ use Rattle.dwz_meanings.specs.Documents.{Doc, DwUnit}
 use Rattle.dwz_meanings.specs.Files.{Limits, file_meaning, limits_after, no_files_before}
 use Rattle.dwz_meanings.specs.Meanings.{IfSo}
 use Rattle.dwz_alike.specs.Spots.{Spot, file_numbers}
-use Rattle.dwz_same.specs.Units.{changes, common_units, out_units}
+use Rattle.dwz_same.specs.Units.{changes, out_units}
 use Rattle.dwz_unit.specs.Rows.{units_of as raw_units}
 use Rattle.dwz_graph.specs.declared.file.File.{File}
 use Rattle.dwz_graph.specs.Files.{AreRead, IsRead}
@@ -23,16 +23,15 @@ use Rattle.dwz_ordered.specs.declared.orders.Settled.{Settled}
 use Rattle.dwz_ordered.specs.Ordered.{FilePut, FilesPut, FirstFile, from_index, next_index}
 use Rattle.dwz_places.specs.declared.known.Known.{Known}
 use Rattle.dwz_places.specs.declared.order.UnitItems.{UnitItems}
-use Rattle.dwz_facts.specs.Facts.{AreFacts, Facts, HasFile, docs, move, units, written}
-use Rattle.dwz_facts.specs.Listed.{AreListed, TextsAt}
-use Rattle.dwz_settled.specs.Settled.{IsSettled}
-use Rattle.dwz_settled.specs.Unfitted.{KnowTexts}
+use Rattle.dwz_laid.specs.Facts.{AreFacts, Facts, HasFile, docs, files_written, move, units, written}
+use Rattle.dwz_laid.specs.Listed.{AreListed, TextsAt}
+use Rattle.dwz_laid.specs.Settled.{IsSettled}
 use Rattle.dwz_texts.specs.TextLaws.{StandAsRead}
-use Rattle.dwz_trees.proofs.OldUnits.{units_shown}
-use Rattle.dwz_shown_kept.specs.ShownKept.{olds_after}
-use Rattle.dwz_shown_parts.specs.ShownParts.{parts_after}
-use Rattle.dwz_laid.specs.Laid.{FilesTexts, TextsKnown}
-use Rattle.dwz_make.specs.Stood.{StoodLaw}
+use Rattle.dwz_laid.proofs.OldUnits.{units_shown}
+use Rattle.dwz_laid.specs.ShownKept.{olds_after}
+use Rattle.dwz_laid.specs.ShownParts.{parts_after}
+use Rattle.dwz_make.specs.Stood.{FilesUnshared, KnowUnshared, StoodLaw, WritesOwn}
+use Rattle.dwz_make.proofs.FileOwn.{file_own}
 use Rattle.dwz_make.proofs.OldTexts.{olds_texts}
 use Rattle.dwz_make.proofs.PartTexts.{parts_texts}
 
@@ -91,7 +90,7 @@ files_put s l n start (bytes ∷ contents) (x ∷ xs) (y ∷ ys) a b p q (index 
 
 -- ---- numbers of files
 
-flag_is : (g : ℕ → Bool) (s : ℕ) (said : List (Doc ℕ)) (n : ℕ) → n < length said
+pub flag_is : (g : ℕ → Bool) (s : ℕ) (said : List (Doc ℕ)) (n : ℕ) → n < length said
     → slice_index_or (map g (file_numbers s said)) n false ≡ g (s + n)
 unfolding file_numbers
 flag_is g s [] n lt = absurd (omega (arith, lt))
@@ -105,11 +104,11 @@ indexed_long s (doc ∷ said) [] end are = absurd are
 indexed_long s (doc ∷ said) (x ∷ is) end are = ap suc (indexed_long (starts_behind s doc x) said is end are.1)
 
 module _ (f : Facts) (t : TextsAt) (k : Known) (facts : AreFacts f) (listed : AreListed f t k) (stand : StandAsRead f t)
-    (none : common_units (move f) ≡ []) (s : Settled) (settled : IsSettled f s) where
+    (s : Settled) (settled : IsSettled f s) where
   -- ---- a file
 
-  texts_append : (n : ℕ) (xs ys : List UnitItems) (us vs : List (DwUnit Spot)) → KnowTexts f k None n xs us → KnowTexts f k None n ys vs
-      → KnowTexts f k None n (xs ++ ys) (us ++ vs)
+  texts_append : (n : ℕ) (xs ys : List UnitItems) (us vs : List (DwUnit Spot)) → KnowUnshared f k n xs us → KnowUnshared f k n ys vs
+      → KnowUnshared f k n (xs ++ ys) (us ++ vs)
   texts_append n [] ys [] vs first later = later
   texts_append n [] ys (u ∷ us) vs first later = absurd first
   texts_append n (x ∷ xs) ys [] vs first later = absurd first
@@ -117,15 +116,15 @@ module _ (f : Facts) (t : TextsAt) (k : Known) (facts : AreFacts f) (listed : Ar
 
   file_texts : (n : ℕ) (bytes : List ℕ) (x : File) (index : Index) → HasFile f n bytes x index → n < length (docs f)
       → (start : ℕ) → slice_get (starts_from 0 f.indexes) n ≡ Some start → (order : List UnitItems) → Own s n start x index order
-      → KnowTexts f k None n order (out_units (move f) (units f) n)
+      → KnowUnshared f k n order (out_units (move f) (units f) n)
   unfolding out_units
   file_texts n bytes x index h below start at order put =
       let olds = units_shown f t k facts listed n bytes x index h start at s.marks (imports_at s.plan.now) (from_index n start index)
       (next_index index) put.olds refl refl refl put.olds_kept in
-      subst (λ (w : List UnitItems). KnowTexts f k None n w (parts_after f n ++ olds_after f n)) (sym put.order_is)
+      subst (λ (w : List UnitItems). KnowUnshared f k n w (parts_after f n ++ olds_after f n)) (sym put.order_is)
       (texts_append n put.parts put.olds (parts_after f n) (olds_after f n)
-      (parts_texts f t k facts listed stand none s settled n below put.parts put.parts_put)
-      (olds_texts f t k facts listed stand none n bytes x 0 (units f) put.olds olds))
+      (parts_texts f t k facts listed stand s settled n below put.parts put.parts_put)
+      (olds_texts f t k facts listed stand n bytes x 0 (units f) put.olds olds))
 
   -- ---- all files
 
@@ -149,7 +148,7 @@ module _ (f : Facts) (t : TextsAt) (k : Known) (facts : AreFacts f) (listed : Ar
       IfSo b (FirstFile (Own s n start x index) (Others s n start xs is index) orders) (Others s n start xs is index orders)
 
   abbrev Texts : List ℕ → List (List UnitItems) → Type 0
-  Texts files orders = FilesTexts f k (λ n. None) files orders
+  Texts files orders = FilesUnshared f k files orders
 
   texts_from : (n start : ℕ) (said : List (Doc ℕ)) (xs : List File) (is : List Index) (orders : List (List UnitItems))
       → length said ≡ length is → n + length said ≡ length (docs f) → Has n xs is → Start n start is → Flags n said
@@ -166,7 +165,7 @@ module _ (f : Facts) (t : TextsAt) (k : Known) (facts : AreFacts f) (listed : Ar
       subst (λ (q : ℕ). slice_index_or (written f) q false ≡ changes (move f) (units f) q) zero_more (flags 0 (omega arith)) in
       let settled_flag : flag_at s.files.now n ≡ changes (move f) (units f) n =
       ap (λ (w : List Bool). slice_index_or w n false) settled.files ∙ flag in
-      by (changes (move f) (units f) n) orders
+      by (changes (move f) (units f) n) refl orders
       (subst (λ (b : Bool). PutIf b n start x xs index is orders) settled_flag put)
       (λ some put. texts_from (suc n) (start + length index.steps) said xs is some (omega (arith, long)) (omega (arith, many))
       (λ j y i e g. (
@@ -179,29 +178,32 @@ module _ (f : Facts) (t : TextsAt) (k : Known) (facts : AreFacts f) (listed : Ar
       subst (λ (q : ℕ). slice_index_or (written f) q false ≡ changes (move f) (units f) q) next (flags (suc j) (omega (arith, lt)))))
       put)
     where
-      by : (b : Bool) → (orders : List (List UnitItems))
+      by : (b : Bool) → changes (move f) (units f) n ≡ b → (orders : List (List UnitItems))
           → PutIf b n start x xs index is orders
           → ((some : List (List UnitItems)) → Others s n start xs is index some → Texts (some_of (suc n) said) some)
           → Texts (cond b (n ∷ some_of (suc n) said) (some_of (suc n) said)) orders
-      by true [] put rest = absurd put
-      by true (order ∷ orders) put rest =
+      by true moves [] put rest = absurd put
+      by true moves (order ∷ orders) put rest =
           let zero_more : n + 0 ≡ n = omega arith in
           let o = has 0 x index refl refl in
           let h = subst (λ (q : ℕ). HasFile f q o.0 x index) zero_more o.1 in
           let at = ap (slice_get (starts_from 0 f.indexes)) (sym zero_more) ∙ starts 0 start refl in
-          let below : n < length (docs f) = omega (arith, many) in
-          (file_texts n o.0 x index h below start at order put.0, rest orders put.1)
-      by false orders put rest = rest orders put
+          let below : n < length (docs f) = omega (arith, many) in (
+            file_texts n o.0 x index h below start at order put.0,
+            file_own f t k facts listed s settled n x index h.file h.index_is below moves start at order put.0,
+            rest orders put.1,
+          )
+      by false moves orders put rest = rest orders put
 
 pub stood : StoodLaw
-stood f s t k orders are stand =
+stood f s t k orders are stand common others same =
     let facts = are.facts in
     let put = are.ordered in
     let first : (n : ℕ) → 0 + n ≡ n = λ n. omega arith in
     let long = indexed_long first_starts (docs f) f.indexes facts.indexed.end facts.indexed.are in
     let kept = files_put s no_files_before 0 0 f.contents f.files put.files facts.kept.end put.kept.end facts.kept.are put.kept.are
     f.indexes put.others put.files_put in
-    let all = texts_from f t k facts are.listed stand are.none s are.settled 0 0 (docs f) f.files f.indexes put.others long
+    let all = texts_from f t k facts are.listed stand s are.settled 0 0 (docs f) f.files f.indexes put.others long
     (first (length (docs f)))
     (λ j x index e g. (
     let o = is_among f.contents f.files f.indexes j x index facts.kept facts.indexed e g in
@@ -210,4 +212,4 @@ stood f s t k orders are stand =
     (λ j c e. ap (slice_get (starts_from 0 f.indexes)) (first j) ∙ e)
     (λ j lt. ap (λ (q : ℕ). slice_index_or (written f) q false) (first j) ∙ flag_is (changes (move f) (units f)) 0 (docs f) j lt)
     kept in
-    subst (TextsKnown f k (λ n. None)) (sym put.orders_are) all
+    subst (FilesUnshared f k (files_written f)) (let both : put.common ∷ put.others ≡ common ∷ others = sym put.orders_are ∙ same in cc) all

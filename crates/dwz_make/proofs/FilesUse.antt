@@ -10,6 +10,7 @@ use Rattle.dwz_same.specs.Units.{changes, out_units}
 use Rattle.dwz_writing.specs.Placing.{FileFit, with_keys}
 use Rattle.dwz_writing.specs.Pruned.{units_uses}
 use Rattle.dwz_back.specs.Files.{file_forms, formed, sources, tells}
+use Rattle.dwz_sound.specs.Sound.{FewTexts}
 use Rattle.dwz_across.proofs.ListGets.{got_in, got_map}
 use Rattle.dwz_places.specs.declared.known.Known.{Known}
 use Rattle.dwz_places.specs.declared.order.UnitItems.{UnitItems}
@@ -17,17 +18,17 @@ use Rattle.dwz_pages.specs.Shown.{Keys, ShowUnits, unit_count}
 use Rattle.dwz_fitted.specs.Fitted.{KnowFiles, KnowUnits, Unfitted}
 use Rattle.dwz_fitted.proofs.FileFits.{files_fit}
 use Rattle.dwz_ordered.specs.declared.orders.Settled.{Settled}
-use Rattle.dwz_facts.specs.Facts.{Facts, docs, files_written, move, run, units}
-use Rattle.dwz_facts.specs.Listed.{TextsAt}
-use Rattle.dwz_facts.specs.Named.{keys}
-use Rattle.dwz_settled.specs.Unfitted.{unfitted, unfitted_file}
+use Rattle.dwz_laid.specs.Facts.{Facts, docs, files_written, move, run, units}
+use Rattle.dwz_laid.specs.Listed.{TextsAt}
+use Rattle.dwz_laid.specs.Named.{keys}
+use Rattle.dwz_laid.specs.Unfitted.{unfitted, unfitted_file}
 use Rattle.dwz_laid.proofs.FilesKnown.{run_known}
-use Rattle.dwz_laid.proofs.OrderOfRun.{run_few}
 use Rattle.dwz_uses.specs.Used.{order_uses}
 use Rattle.dwz_uses.proofs.NamedUses.{named_uses}
 use Rattle.dwz_uses.proofs.ShownUses.{shown_uses}
 use Rattle.dwz_make.specs.Prepared.{ArePrepared, IsOrdered}
-use Rattle.dwz_make.specs.MovedLaws.{StandWhole, UsesLaw}
+use Rattle.dwz_make.specs.Whole.{StandWhole}
+use Rattle.dwz_make.specs.MovedLaws.{UsesLaw}
 use Rattle.dwz_make.proofs.FilesSay.{formed_say}
 
 -- what is known of the units of a file, the first of which has that number
@@ -61,7 +62,7 @@ module _ (f : Facts) (s : Settled) (t : TextsAt) (k : Known) (orders : List (Lis
   pub units_known : (n rank first : ℕ) (order : List UnitItems) → IsOrdered f orders n rank first order
       → KnowUnits (keys f) k (file_keys f n) None first order (out_units (move f) (units f) n)
   units_known n rank first order is =
-      let known = run_known f t k s p.facts p.listed p.settled p.none orders p.ordered (λ n. None) stand in
+      let known = run_known f t k s p.facts p.listed p.settled orders p.ordered (λ n. None) stand.known in
       let x = unfitted_file f (λ n. None) n in
       let there : slice_get (unfitted f (λ n. None)) (suc rank) ≡ Some x =
       got_map (unfitted_file f (λ n. None)) (files_written f) rank n is.file in
@@ -81,15 +82,15 @@ module _ (f : Facts) (s : Settled) (t : TextsAt) (k : Known) (orders : List (Lis
       → order_uses k first order ≡ units_uses (formed (run f) n)
   uses_are n rank first order is = shown_uses (keys f) k first order (formed (run f) n) (units_shown n rank first order is)
 
-  uses_named : (n rank first : ℕ) (order : List UnitItems) → IsOrdered f orders n rank first order
+  uses_named : FewTexts (run f) → (n rank first : ℕ) (order : List UnitItems) → IsOrdered f orders n rank first order
       → All (λ used. IsSome (text_at (sources (run f) n).strs used)) (order_uses k first order)
-  uses_named n rank first order is =
+  uses_named few n rank first order is =
       let there : In n (file_numbers 0 (docs f)) =
       (in_filter_from (changes (move f) (units f)) n (file_numbers 0 (docs f)) (got_in (files_written f) rank n is.file)).0 in
-      let say = formed_say f p.facts p.read (run_few f p.none) n there in
+      let say = formed_say f p.facts p.read few n there in
       subst (λ (w : List ℕ). All (λ used. IsSome (text_at (sources (run f) n).strs used)) w) (sym (uses_are n rank first order is))
       (named_uses (tells (run f) n) (formed (run f) n) say)
 
 pub order_uses_are : UsesLaw
-order_uses_are = λ f s t k orders p stand n rank first order is.
-    (uses_are f s t k orders p stand n rank first order is, uses_named f s t k orders p stand n rank first order is)
+order_uses_are = λ f s t k orders p stand few n rank first order is.
+    (uses_are f s t k orders p stand n rank first order is, uses_named f s t k orders p stand few n rank first order is)

@@ -15,7 +15,7 @@ use Rattle.dwz_out.specs.Contents.{listed}
 use Rattle.dwz_out.specs.Refusals.{FirstNarrow, narrow_at, operands_of_units, spoken}
 use Rattle.dwz_resolve.specs.ListRows.{operand_view}
 use Rattle.dwz_resolve.specs.Named.{units_refs}
-use Rattle.dwz_facts.specs.Facts.{Facts, run}
+use Rattle.dwz_laid.specs.Facts.{Facts, run}
 use Rattle.dwz_renumbered.specs.NumberLaws.{HaveNewNumbers}
 use Rattle.dwz_renumbered.proofs.FilePlaces.{numbers_are, starts_after, targets}
 use Rattle.dwz_after.specs.NewFiles.{IsFound, NarrowFault}

@@ -10,8 +10,8 @@ use Rattle.dwz_places.specs.declared.known.Known.{Known}
 use Rattle.dwz_places.specs.declared.known.Row.{Row}
 use Rattle.dwz_places.specs.declared.known.SpaceRow.{SpaceRow}
 use Rattle.dwz_places.specs.declared.known.TextAt.{TextAt}
-use Rattle.dwz_facts.specs.Facts.{Facts, docs, rule}
-use Rattle.dwz_facts.specs.Listed.{AreAllOwners, AreListed, AreRows, IsListed, TextsAt, space_entries, space_rows}
+use Rattle.dwz_laid.specs.Facts.{Facts, docs, rule}
+use Rattle.dwz_laid.specs.Listed.{AreAllOwners, AreListed, AreRows, IsListed, TextsAt, space_entries, space_rows}
 use Rattle.dwz_uses.specs.declared.pruning.PrunedFile.{PrunedFile}
 use Rattle.dwz_make.specs.Moved.{AreMoved, RowMoved, RowsMoved, moved_space, pruned_at}
 
@@ -20,7 +20,12 @@ abbrev row_texts : FileRows → List TextAt
 row_texts r = r.texts.items
 
 abbrev pub texts_in : Known → TextsAt
-texts_in k = record { files = map row_texts k.files.items; spaces = map (λ (s : SpaceRow). s.text) k.spaces.items }
+texts_in k = record {
+  files = map row_texts k.files.items;
+  spaces = map (λ (s : SpaceRow). s.text) k.spaces.items;
+  commons = map (λ (s : SpaceRow). s.common) k.spaces.items;
+  numbers = map (λ (r : FileRows). r.files.items) k.files.items;
+}
 
 -- ---- files
 
@@ -55,18 +60,22 @@ rows_listed f pruned c (x ∷ files) (y ∷ indexes) (s ∷ starts) (t ∷ texts
 
 -- ---- spaces
 
-spaces_listed : (pruned : List (Option PrunedFile)) (rows : List Row) (texts : List TextAt)
-    → map (moved_space pruned) (space_rows rows texts) ≡ space_rows rows
-    (map (λ (s : SpaceRow). s.text) (map (moved_space pruned) (space_rows rows texts)))
-spaces_listed pruned [] texts = refl
-spaces_listed pruned (r ∷ rows) [] = refl
-spaces_listed pruned (r ∷ rows) (t ∷ texts) =
-    ap (λ (w : List SpaceRow). moved_space pruned (record { row = r; text = t }) ∷ w) (spaces_listed pruned rows texts)
+spaces_listed : (pruned : List (Option PrunedFile)) (rows : List Row) (texts commons : List TextAt)
+    → map (moved_space pruned) (space_rows rows texts commons) ≡ space_rows rows
+    (map (λ (s : SpaceRow). s.text) (map (moved_space pruned) (space_rows rows texts commons)))
+    (map (λ (s : SpaceRow). s.common) (map (moved_space pruned) (space_rows rows texts commons)))
+spaces_listed pruned [] texts commons = refl
+spaces_listed pruned (r ∷ rows) [] commons = refl
+spaces_listed pruned (r ∷ rows) (t ∷ texts) [] = refl
+spaces_listed pruned (r ∷ rows) (t ∷ texts) (c ∷ commons) =
+    ap (λ (w : List SpaceRow). moved_space pruned (record { row = r; text = t; common = c }) ∷ w) (spaces_listed pruned rows texts commons)
 
-spaces_many : (rows : List Row) (texts : List TextAt) → length texts ≡ length rows → length (space_rows rows texts) ≡ length rows
-spaces_many [] texts e = refl
-spaces_many (r ∷ rows) [] e = absurd (omega (arith, e))
-spaces_many (r ∷ rows) (t ∷ texts) e = ap suc (spaces_many rows texts (omega (arith, e)))
+spaces_many : (rows : List Row) (texts commons : List TextAt) → length texts ≡ length rows → length commons ≡ length rows
+    → length (space_rows rows texts commons) ≡ length rows
+spaces_many [] texts commons e g = refl
+spaces_many (r ∷ rows) [] commons e g = absurd (omega (arith, e))
+spaces_many (r ∷ rows) (t ∷ texts) [] e g = absurd (omega (arith, g))
+spaces_many (r ∷ rows) (t ∷ texts) (c ∷ commons) e g = ap suc (spaces_many rows texts commons (omega (arith, e)) (omega (arith, g)))
 
 -- ---- all
 
@@ -75,18 +84,22 @@ pub lists_moved : (f : Facts) (t : TextsAt) (k : Known) → AreListed f t k → 
 lists_moved f t k listed pruned m h =
     let entries = space_entries 0 f.indexes in
     let text : SpaceRow → TextAt = λ s. s.text in
-    let spaces : m.spaces.items ≡ map (moved_space pruned) (space_rows entries t.spaces) =
-    h.spaces ∙ ap (map (moved_space pruned)) listed.spaces in
+    let common : SpaceRow → TextAt = λ s. s.common in
+    let old = space_rows entries t.spaces t.commons in
+    let spaces : m.spaces.items ≡ map (moved_space pruned) old = h.spaces ∙ ap (map (moved_space pruned)) listed.spaces in
+    let many : length m.spaces.items ≡ length entries =
+    ap (λ (w : List SpaceRow). length w) spaces
+    ∙ length-map old (moved_space pruned)
+    ∙ spaces_many entries t.spaces t.commons listed.many_spaces listed.many_commons in
     record {
       rows = rows_listed f pruned 0 f.files f.indexes (starts_from 0 f.indexes) t.files k.files.items m.files.items listed.rows h.files;
       owners = subst (AreAllOwners f f.files f.indexes) (λ i. (sym h.owners i).items) listed.owners;
       tops = (λ i. (h.tops i).items) ∙ listed.tops;
-      spaces = spaces ∙ spaces_listed pruned entries t.spaces ∙ ap (λ (w : List SpaceRow). space_rows entries (map text w)) (sym spaces);
-      many_spaces =
-          length-map m.spaces.items text
-          ∙ ap (λ (w : List SpaceRow). length w) spaces
-          ∙ length-map (space_rows entries t.spaces) (moved_space pruned)
-          ∙ spaces_many entries t.spaces listed.many_spaces;
+      numbers = refl;
+      spaces = spaces ∙ spaces_listed pruned entries t.spaces t.commons
+          ∙ ap (λ (w : List SpaceRow). space_rows entries (map text w) (map common w)) (sym spaces);
+      many_spaces = length-map m.spaces.items text ∙ many;
+      many_commons = length-map m.spaces.items common ∙ many;
       parts = (λ i. (h.parts i).items) ∙ listed.parts;
       commons = h.commons ∙ listed.commons;
     }

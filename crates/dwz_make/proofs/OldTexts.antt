@@ -1,27 +1,27 @@
 -- The texts of the old units of a file: none of them is partial, so each has its own bases.
-use Rattle.std.proofs.Common.{◌≡◌, ℕ, suc, Bool, true, false, List, [], ◌∷◌, None, ◌==◌, sym, subst}
+use Rattle.std.proofs.Common.{ℕ, suc, Bool, true, false, List, [], ◌∷◌, ◌==◌, sym, subst}
 use Rattle.dwz_meanings.specs.Documents.{Compile, DwUnit, Entries, Kind, Node, OfType, Partial, entries_map, kind_map, node_map}
 use Rattle.dwz_meanings.specs.Meanings.{IfSo}
 use Rattle.dwz_seen.specs.Seen.{IsPartial}
 use Rattle.dwz_alike.specs.Spots.{FileUnit, Spot}
 use Rattle.dwz_moving.specs.Moves.{image_in}
-use Rattle.dwz_same.specs.Units.{common_units, kept_unit, kept_units}
+use Rattle.dwz_same.specs.Units.{kept_unit, kept_units}
 use Rattle.dwz_graph.specs.declared.file.File.{File}
 use Rattle.dwz_order.specs.Orders.{First}
-use Rattle.dwz_items.specs.Old.{EachOld}
+use Rattle.dwz_laid.specs.Old.{EachOld}
 use Rattle.dwz_places.specs.declared.known.Known.{Known}
 use Rattle.dwz_places.specs.declared.order.Sort.{Sort}
 use Rattle.dwz_places.specs.declared.order.Sort.TheVariants.{Compile as CompileSort, OfType as TypeSort, Partial as PartialSort}
 use Rattle.dwz_places.specs.declared.order.UnitItems.{UnitItems}
 use Rattle.dwz_pages.specs.Shown.{SortShows}
 use Rattle.dwz_fitted.specs.Knows.{FileRead, ShowsWhole}
-use Rattle.dwz_facts.specs.Facts.{AreFacts, Facts, file_read, move, units}
-use Rattle.dwz_facts.specs.Listed.{AreListed, TextsAt}
-use Rattle.dwz_facts.specs.Named.{keys}
-use Rattle.dwz_settled.specs.Unfitted.{KnowTexts, KnowsUnitTexts}
+use Rattle.dwz_laid.specs.Facts.{AreFacts, Facts, file_read, move, units}
+use Rattle.dwz_laid.specs.Listed.{AreListed, TextsAt}
+use Rattle.dwz_laid.specs.Named.{keys}
 use Rattle.dwz_texts.specs.TextLaws.{StandAsRead}
-use Rattle.dwz_trees.specs.Roots.{UnitShown}
-use Rattle.dwz_make.proofs.UnitTexts.{whole_texts}
+use Rattle.dwz_laid.specs.Roots.{UnitShown}
+use Rattle.dwz_make.specs.Stood.{KnowUnshared}
+use Rattle.dwz_make.proofs.UnitTexts.{Stand, whole_texts}
 
 -- a unit of which all is shown by what was read is not partial
 not_partial : (f : Facts) (files : List FileRead) (kind : Kind Spot) (sort : Sort) (node : Node Spot) (below : Entries Spot)
@@ -33,11 +33,11 @@ not_partial f files Partial (TypeSort root signature main) node below shows whol
 not_partial f files Partial (PartialSort line) node below shows whole is = whole
 
 module _ (f : Facts) (t : TextsAt) (k : Known) (facts : AreFacts f) (listed : AreListed f t k) (stand : StandAsRead f t)
-    (none : common_units (move f) ≡ []) (n : ℕ) (bytes : List ℕ) (x : File) where
+    (n : ℕ) (bytes : List ℕ) (x : File) where
   old_texts : (i : ℕ) (u : FileUnit Spot) (o : UnitItems) → UnitShown f n bytes x u.unit o.sort
-      → KnowsUnitTexts f k None n o (kept_unit (move f) (units f) i u)
+      → Stand f t k facts listed stand n o (kept_unit (move f) (units f) i u)
   old_texts i u o shown =
-      whole_texts f t k facts listed stand none n o (kept_unit (move f) (units f) i u)
+      whole_texts f t k facts listed stand n o (kept_unit (move f) (units f) i u)
       (not_partial f (file_read f n bytes x ∷ []) (kind_map (image_in (move f)) u.unit.kind) o.sort
       (node_map (image_in (move f)) u.unit.root) (entries_map (image_in (move f)) u.unit.below) shown.sort shown.whole)
 
@@ -52,14 +52,14 @@ module _ (f : Facts) (t : TextsAt) (k : Known) (facts : AreFacts f) (listed : Ar
   ]
 
   pub olds_texts : (i : ℕ) (us : List (FileUnit Spot)) (order : List UnitItems) → Shown i us order
-      → KnowTexts f k None n order (kept_units (move f) (units f) n i us)
+      → KnowUnshared f k n order (kept_units (move f) (units f) n i us)
   unfolding kept_units
-  olds_texts i [] order shown = subst (λ (w : List UnitItems). KnowTexts f k None n w []) (sym shown) tt
+  olds_texts i [] order shown = subst (λ (w : List UnitItems). KnowUnshared f k n w []) (sym shown) tt
   olds_texts i (u ∷ us) order shown = by (olds_texts (suc i) us) (u.file == n) order shown where
-    by : ((some : List UnitItems) → Shown (suc i) us some → KnowTexts f k None n some (kept_units (move f) (units f) n (suc i) us))
+    by : ((some : List UnitItems) → Shown (suc i) us some → KnowUnshared f k n some (kept_units (move f) (units f) n (suc i) us))
         → (b : Bool) (order : List UnitItems)
         → IfSo b (First (λ o. UnitShown f n bytes x u.unit o.sort) (Shown (suc i) us) order) (Shown (suc i) us order)
-        → KnowTexts f k None n order (These b i u us)
+        → KnowUnshared f k n order (These b i u us)
     by rest true [] shown = absurd shown
     by rest true (o ∷ order) shown = (old_texts i u o shown.0, rest order shown.1)
     by rest false order shown = rest order shown

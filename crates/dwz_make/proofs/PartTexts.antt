@@ -1,5 +1,5 @@
 -- The texts of the partial units of a file, one by one among those of the plan.
-use Rattle.std.proofs.Common.{◌≡◌, ℕ, suc, ◌<◌, Bool, true, false, List, [], ◌∷◌, length, map, None, refl, sym, subst, inl, inr}
+use Rattle.std.proofs.Common.{◌≡◌, ℕ, suc, ◌<◌, Bool, true, false, List, [], ◌∷◌, length, map, refl, sym, subst, inl, inr}
 use Rattle.dwz_meanings.specs.Documents.{DwUnit}
 use Rattle.dwz_meanings.specs.Meanings.{IfSo}
 use Rattle.dwz_seen.specs.Lists.{Nth}
@@ -12,7 +12,7 @@ use Rattle.dwz_moving.specs.Plan.{PartialUnit}
 use Rattle.dwz_moving.proofs.PlanLemmas.{home_true}
 use Rattle.dwz_plan.specs.declared.plan.Partial.{Partial as PlannedPart}
 use Rattle.dwz_plan.specs.Shows.{shown_part}
-use Rattle.dwz_same.specs.Units.{common_units, partial_unit, partial_units}
+use Rattle.dwz_same.specs.Units.{partial_unit, partial_units}
 use Rattle.dwz_order.specs.Lists.{all_spaces, all_tops, rows_from, spaces_at}
 use Rattle.dwz_order.specs.Orders.{First}
 use Rattle.dwz_order.specs.Parts.{IsPart}
@@ -21,22 +21,22 @@ use Rattle.dwz_ordered.specs.declared.orders.Settled.{Settled}
 use Rattle.dwz_ordered.specs.Ordered.{PartPut, PartsPut, line_given}
 use Rattle.dwz_places.specs.declared.known.Known.{Known}
 use Rattle.dwz_places.specs.declared.order.UnitItems.{UnitItems}
-use Rattle.dwz_facts.specs.Facts.{AreFacts, Facts, docs, move, rule, units}
-use Rattle.dwz_facts.specs.Listed.{AreListed, TextsAt}
-use Rattle.dwz_settled.specs.Settled.{IsSettled}
-use Rattle.dwz_settled.specs.Unfitted.{KnowTexts, KnowsUnitTexts}
-use Rattle.dwz_items.specs.New.{NewNames}
-use Rattle.dwz_items.proofs.FileSpaces.{new_items}
-use Rattle.dwz_shown_parts.specs.ShownParts.{parts_after}
-use Rattle.dwz_shown_parts.proofs.PartHomes.{home_moves, home_number}
+use Rattle.dwz_laid.specs.Facts.{AreFacts, Facts, docs, move, rule, units}
+use Rattle.dwz_laid.specs.Listed.{AreListed, TextsAt}
+use Rattle.dwz_laid.specs.Settled.{IsSettled}
+use Rattle.dwz_laid.specs.New.{NewNames}
+use Rattle.dwz_laid.proofs.FileSpaces.{new_items}
+use Rattle.dwz_laid.specs.ShownParts.{parts_after}
+use Rattle.dwz_laid.proofs.PartHomes.{home_moves, home_number}
 use Rattle.dwz_texts.specs.TextLaws.{StandAsRead}
-use Rattle.dwz_laid.proofs.FileKnown.{parts_are}
+use Rattle.dwz_laid.proofs.PartsKnown.{parts_are}
 use Rattle.dwz_make.proofs.PartUnits.{entry_bases, space_here, written_here}
 use Rattle.dwz_make.proofs.SpaceUnits.{space_of_unit}
-use Rattle.dwz_make.proofs.UnitTexts.{unit_texts}
+use Rattle.dwz_make.specs.Stood.{KnowUnshared}
+use Rattle.dwz_make.proofs.UnitTexts.{Stand, unit_texts}
 
 module _ (f : Facts) (t : TextsAt) (k : Known) (facts : AreFacts f) (listed : AreListed f t k) (stand : StandAsRead f t)
-    (none : common_units (move f) ≡ []) (s : Settled) (settled : IsSettled f s) (n : ℕ) where
+    (s : Settled) (settled : IsSettled f s) (n : ℕ) where
   abbrev numbers_of : PartialUnit → List ℕ
   numbers_of part = map (λ (y : Top). y.number) part.tops
 
@@ -60,9 +60,9 @@ module _ (f : Facts) (t : TextsAt) (k : Known) (facts : AreFacts f) (listed : Ar
         new_items (docs f) f.indexes f.scope (rule f) (file_numbers 0 (docs f)) settled.texts settled.lists facts.indexed facts.alike
         facts.choice spaces p part o.items nth put_so
 
-    part_texts : part.home ≡ Local n → KnowsUnitTexts f k None n o (partial_unit (move f) p)
+    part_texts : part.home ≡ Local n → Stand f t k facts listed stand n o (partial_unit (move f) p)
     part_texts home =
-        unit_texts f t k facts listed stand none n o (partial_unit (move f) p)
+        unit_texts f t k facts listed stand n o (partial_unit (move f) p)
         (λ bytes x index h i r d read writes is. entry_bases f t k facts listed n p part nth bytes x index h i r d read
         (written_here f t k facts listed n p part nth home bytes x index h o (line_given s p) put.sort new i writes))
         (λ bytes x index h space i r d read has at is. entry_bases f t k facts listed n p part nth bytes x index h i r d read
@@ -89,7 +89,7 @@ module _ (f : Facts) (t : TextsAt) (k : Known) (facts : AreFacts f) (listed : Ar
         IfSo b (First (PartPut s p (shown_part (length (docs f)) part)) (Put (suc p) parts) order) (Put (suc p) parts order)
 
     from : (p : ℕ) (parts : List PartialUnit) → ((q : ℕ) (part : PartialUnit) → Nth p parts q part → Nth 0 (move f).parts q part)
-        → (order : List UnitItems) → Put p parts order → KnowTexts f k None n order (After p parts)
+        → (order : List UnitItems) → Put p parts order → KnowUnshared f k n order (After p parts)
     unfolding partial_units
     from p [] among [] put = tt
     from p [] among (o ∷ order) put = absurd cc
@@ -99,14 +99,14 @@ module _ (f : Facts) (t : TextsAt) (k : Known) (facts : AreFacts f) (listed : Ar
         by nth (from (suc p) parts (λ q other i. among q other (inr i))) (same_home part.home (Local n)) refl order
         (subst (λ (b : Bool). PutIf b p part parts order) (sym same) put) where
           by : Nth 0 (move f).parts p part
-              → ((order : List UnitItems) → Put (suc p) parts order → KnowTexts f k None n order (After (suc p) parts))
+              → ((order : List UnitItems) → Put (suc p) parts order → KnowUnshared f k n order (After (suc p) parts))
               → (b : Bool) → same_home part.home (Local n) ≡ b → (order : List UnitItems)
-              → PutIf b p part parts order → KnowTexts f k None n order (AfterIf b p parts)
+              → PutIf b p part parts order → KnowUnshared f k n order (AfterIf b p parts)
           by nth rest false e order put = rest order put
           by nth rest true e [] put = absurd put
           by nth rest true e (o ∷ order) put = (part_texts p part nth o put.0 (home_true part.home (Local n) e), rest order put.1)
 
-    pub parts_texts : (order : List UnitItems) → PartsPut s n 0 s.plan.now.partials order → KnowTexts f k None n order (parts_after f n)
+    pub parts_texts : (order : List UnitItems) → PartsPut s n 0 s.plan.now.partials order → KnowUnshared f k n order (parts_after f n)
     parts_texts order put =
         from 0 (move f).parts (λ q part i. i) order
         (subst (λ (w : List PlannedPart). PartsPut s n 0 w order) (sym (parts_are f t k facts listed s settled)) put)

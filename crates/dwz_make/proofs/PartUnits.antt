@@ -31,14 +31,14 @@ use Rattle.dwz_places.specs.Entries.{items_slots, row, what_slots}
 use Rattle.dwz_places.specs.Known.{number_of}
 use Rattle.dwz_pages.specs.Shown.{HasRow, IsRow}
 use Rattle.dwz_fitted.specs.Knows.{IsRead, Writes}
-use Rattle.dwz_facts.specs.Facts.{AreFacts, Facts, HasFile, docs, file_read, move, rule, units}
-use Rattle.dwz_facts.specs.Listed.{AreListed, TextsAt}
-use Rattle.dwz_settled.specs.Unfitted.{HasChained, NamesChained}
-use Rattle.dwz_named.proofs.LayoutLemmas.{knows_file}
-use Rattle.dwz_items.specs.New.{IsOfNew, NewNames}
-use Rattle.dwz_items.specs.Old.{IsSpaceIn}
-use Rattle.dwz_items.proofs.PartUnits.{part_tops}
-use Rattle.dwz_shown_parts.proofs.PartHomes.{top_file}
+use Rattle.dwz_laid.specs.Facts.{AreFacts, Facts, HasFile, docs, file_read, move, rule, units}
+use Rattle.dwz_laid.specs.Listed.{AreListed, TextsAt}
+use Rattle.dwz_laid.specs.Unfitted.{HasChained, NamesChained}
+use Rattle.dwz_laid.proofs.LayoutLemmas.{knows_file}
+use Rattle.dwz_laid.specs.New.{IsOfNew, NewNames}
+use Rattle.dwz_laid.specs.Old.{IsSpaceIn}
+use Rattle.dwz_laid.proofs.PartUnits.{part_tops}
+use Rattle.dwz_laid.proofs.PartHomes.{top_file}
 use Rattle.dwz_make.proofs.FileBases.{unit_bases}
 use Rattle.dwz_make.proofs.TopUnits.{top_stands}
 use Rattle.dwz_make.proofs.TreeUnits.{AllOfUnit, OfUnit, UnitOrigin, tree_of_unit}

@@ -19,8 +19,8 @@ use Rattle.dwz_across.proofs.ListGets.{get_there, got_below, got_index, item_got
 use Rattle.dwz_places.specs.declared.known.Known.{Known}
 use Rattle.dwz_places.specs.declared.order.UnitItems.{UnitItems}
 use Rattle.dwz_pages.specs.Shown.{unit_count}
-use Rattle.dwz_facts.specs.Facts.{Facts}
-use Rattle.dwz_trees.proofs.FilesFound.{file_there}
+use Rattle.dwz_laid.specs.Facts.{Facts}
+use Rattle.dwz_laid.proofs.FilesFound.{file_there}
 use Rattle.dwz_uses.specs.declared.pruning.PrunedFile.{PrunedFile}
 use Rattle.dwz_uses.specs.PrunedFiles.{IsPrunedFile}
 use Rattle.dwz_uses.specs.Used.{order_uses}

@@ -8,7 +8,7 @@ use Rattle.dwz_alike.specs.Spots.{file_numbers}
 use Rattle.dwz_same.specs.Units.{changes}
 use Rattle.dwz_across.proofs.ListGets.{get_there, got_below}
 use Rattle.dwz_known.proofs.CountLemmas.{next_of}
-use Rattle.dwz_facts.specs.Facts.{Facts, docs, files_written, move, units, written}
+use Rattle.dwz_laid.specs.Facts.{Facts, docs, files_written, move, units, written}
 use Rattle.dwz_make.specs.Prepared.{AreRanks, IsRank}
 
 -- the ranks of those whose flags are set, the first of which has that one

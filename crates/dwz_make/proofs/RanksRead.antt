@@ -10,10 +10,10 @@ use Rattle.dwz_across.proofs.ListGets.{get_there, got_below}
 use Rattle.dwz_places.specs.declared.known.Known.{Known}
 use Rattle.dwz_places.specs.declared.order.UnitItems.{UnitItems}
 use Rattle.dwz_pages.specs.Shown.{Keys, ShowFiles, unit_count}
-use Rattle.dwz_facts.specs.Facts.{AreFacts, Facts, files_written, move, run, units}
+use Rattle.dwz_laid.specs.Facts.{AreFacts, Facts, files_written, move, run, units}
 use Rattle.dwz_laid.specs.Laid.{written_out}
 use Rattle.dwz_make.specs.Prepared.{AreRanks, IsOrdered, IsRank, firsts_from}
-use Rattle.dwz_shown_parts.proofs.PartHomes.{file_read_there}
+use Rattle.dwz_laid.proofs.PartHomes.{file_read_there}
 
 -- the first unit of an order comes behind those of the orders before it
 first_counted : (start : ℕ) (orders : List (List UnitItems)) (i first : ℕ) → slice_get (firsts_from start orders) i ≡ Some first

@@ -1,20 +1,22 @@
 -- All files that are written move, one after the other, so that what is settled can be laid.
 use Rattle.std.proofs.Common.{◌≡◌, ℕ, suc, List, [], ◌∷◌, Option, Some, None, slice_get, take, refl}
-use Rattle.dwz_same.specs.Units.{out_units}
+use Rattle.dwz_same.specs.Units.{common_units, out_units}
 use Rattle.dwz_places.specs.declared.known.Known.{Known}
 use Rattle.dwz_places.specs.declared.order.UnitItems.{UnitItems}
 use Rattle.dwz_pages.specs.Shown.{unit_count}
 use Rattle.dwz_fitted.specs.Knows.{NewNumbers}
 use Rattle.dwz_ordered.specs.declared.orders.Settled.{Settled}
-use Rattle.dwz_facts.specs.Facts.{Facts, files_written, move, run, units}
-use Rattle.dwz_facts.specs.Listed.{TextsAt}
-use Rattle.dwz_settled.specs.Unfitted.{KnowTexts}
+use Rattle.dwz_laid.specs.Facts.{Facts, files_written, move, run, units}
+use Rattle.dwz_laid.specs.Listed.{TextsAt}
+use Rattle.dwz_laid.specs.Unfitted.{KnowTexts}
 use Rattle.dwz_laid.specs.Laid.{FilesTexts, TextsKnown, run_numbers}
 use Rattle.dwz_laid.proofs.OrderOfRun.{settled_order}
 use Rattle.dwz_uses.specs.declared.pruning.PrunedFile.{PrunedFile}
 use Rattle.dwz_make.specs.Moved.{AreMoved, ArePruned}
 use Rattle.dwz_make.specs.Prepared.{ArePrepared, IsOrdered}
-use Rattle.dwz_make.specs.MovedLaws.{MovedLaw, OrderLaw, StandWhole}
+use Rattle.dwz_make.specs.Whole.{StandWhole}
+use Rattle.dwz_make.specs.MovedLaws.{MovedLaw, OrderLaw}
+use Rattle.dwz_make.proofs.CommonMoves.{common_moves}
 use Rattle.dwz_make.proofs.FileMoves.{file_moves}
 use Rattle.dwz_make.proofs.ListsMove.{lists_moved, texts_in}
 
@@ -32,18 +34,20 @@ module _ (f : Facts) (k m : Known) (numbers : ℕ → NewNumbers) where
 module _ (f : Facts) (s : Settled) (t : TextsAt) (k : Known) (pruned : List (Option PrunedFile)) (m : Known) (h : AreMoved pruned k m) where
   texts_move : (orders : List (List UnitItems)) → ArePrepared f s t k orders → StandWhole f k orders → ArePruned f k orders pruned
       → TextsKnown f m (run_numbers (run f)) orders
-  texts_move [] p stand are = absurd stand
-  texts_move (common ∷ orders) p stand are = files_move f k m (run_numbers (run f)) (files_written f) orders
-      (λ j n order e g old.
-      (let first = unit_count (take (suc j) (common ∷ orders)) in
-      let is : IsOrdered f (common ∷ orders) n j first order = record { file = e; order_is = g; first_is = refl } in
-      file_moves f s t k (common ∷ orders) p stand pruned m h n j first order is (are n j first order is) old)) stand
+  texts_move [] p stand are = absurd stand.known
+  texts_move (common ∷ orders) p stand are = (
+    common_moves f k pruned m h common (common_units (move f)) (stand.pooled common orders refl) stand.known.0,
+    files_move f k m (run_numbers (run f)) (files_written f) orders
+        (λ j n order e g old.
+        (let first = unit_count (take (suc j) (common ∷ orders)) in
+        let is : IsOrdered f (common ∷ orders) n j first order = record { file = e; order_is = g; first_is = refl } in
+        file_moves f s t k (common ∷ orders) p stand pruned m h n j first order is (are n j first order is) old)) stand.known.1,
+  )
 
   prepared : (orders : List (List UnitItems)) → ArePrepared f s t k orders → ArePrepared f s (texts_in m) m orders
   prepared orders p = record {
     facts = p.facts;
     read = p.read;
-    none = p.none;
     settled = p.settled;
     ordered = p.ordered;
     listed = lists_moved f t k p.listed pruned m h;
@@ -54,15 +58,14 @@ run_moved = λ f s t k orders p stand pruned are m h.
     (texts_in m, prepared f s t k pruned m h orders p, texts_move f s t k pruned m h orders p stand are)
 
 pub run_order : OrderLaw
-run_order = λ f s t k orders p stand pruned are m h. (
+run_order = λ f s t k orders p stand few pruned are m h. (
     let listed = lists_moved f t k p.listed pruned m h in (
       texts_in m,
       record {
         facts = p.facts;
         read = p.read;
-        none = p.none;
         listed = listed;
-        order = settled_order f (texts_in m) m s p.facts listed p.settled p.none p.read orders p.ordered
+        order = settled_order f (texts_in m) m s p.facts listed p.settled few p.read orders p.ordered
             (texts_move f s t k pruned m h orders p stand are);
       },
     ))

@@ -2,7 +2,7 @@
 use Rattle.std.proofs.Common.{◌≡◌, ◌⊎◌, ℕ, zero, suc, ◌+◌, List, [], ◌∷◌, ◌++◌, map, Option, Some, None, slice_get, refl, sym, ap, subst}
 use Rattle.std.proofs.Common.{◌∙◌, inl, inr, arith}
 use Rattle.std.specs.Option.{option_map_or}
-use Rattle.std.specs.Prelude.{slice_index_or, slice_range}
+use Rattle.std.specs.Prelude.{slice_index, slice_index_or, slice_range}
 use Rattle.dwz_layout.specs.declared.order.Item.{Item}
 use Rattle.dwz_layout.specs.declared.order.What.{What}
 use Rattle.dwz_layout.specs.declared.order.What.TheVariants.{Import, InChain, Root, Space, Top, Whole}
@@ -12,6 +12,7 @@ use Rattle.dwz_places.specs.declared.known.Known.{Known}
 use Rattle.dwz_places.specs.declared.known.Row.{Row}
 use Rattle.dwz_places.specs.declared.known.SpaceRow.{SpaceRow}
 use Rattle.dwz_places.specs.declared.known.TextAt.{TextAt}
+use Rattle.dwz_places.specs.declared.known.TextAt.TheVariants.{Own, Pooled, Shared}
 use Rattle.dwz_places.specs.declared.order.Sort.{Sort}
 use Rattle.dwz_places.specs.declared.order.Sort.TheVariants.{Compile, OfType, Partial}
 use Rattle.dwz_places.specs.declared.order.UnitItems.{UnitItems}
@@ -19,10 +20,11 @@ use Rattle.dwz_places.specs.declared.walk.Origin.{Origin}
 use Rattle.dwz_places.specs.declared.walk.Origin.TheVariants.{Chained, Imported, OwnRoot, Read as OfRow}
 use Rattle.dwz_places.specs.declared.walk.Slot.{Slot}
 use Rattle.dwz_places.specs.Entries.{items_slots, row, row_slots, slot, tree_slots, what_slots, whole_slots}
-use Rattle.dwz_places.specs.Known.{firsts_of, no_firsts, no_row, no_space, no_text, number_of, rows_in, space_at, text_at, top_row}
+use Rattle.dwz_places.specs.Known.{file_at, firsts_of, no_firsts, no_row, no_space, no_text, number_of, rows_in, space_at, text_at, top_row}
 use Rattle.dwz_pages.specs.Shown.{HasRow, IsRow}
 use Rattle.dwz_fitted.specs.Knows.{FileRead, Writes}
 use Rattle.dwz_uses.specs.declared.pruning.PrunedFile.{PrunedFile}
+use Rattle.dwz_uses.specs.MovedTexts.{IsPooled}
 use Rattle.dwz_make.specs.Moved.{AreMoved, RowMoved, RowsMoved, moved_if, moved_space, pruned_at}
 
 -- ---- the rows of a file
@@ -84,6 +86,9 @@ module _ (pruned : List (Option PrunedFile)) (k m : Known) (h : AreMoved pruned 
       seen (λ (f : FileRows). slice_index_or f.firsts.items r.entry no_firsts) no_firsts
       (λ p a b w i. slice_index_or (w.firsts i).items r.entry no_firsts) r.file
 
+  pub file_same : (n j : ℕ) → file_at m n j ≡ file_at k n j
+  file_same n j = seen (λ (f : FileRows). slice_index f.files.items j) 0 (λ p a b w i. slice_index (w.files i).items j) n
+
   -- ---- spaces
 
   pub top_same : (top : ℕ) → top_row m top ≡ top_row k top
@@ -97,6 +102,16 @@ module _ (pruned : List (Option PrunedFile)) (k m : Known) (h : AreMoved pruned 
 
   pub space_same : (s : ℕ) → (space_at m s).row ≡ (space_at k s).row
   space_same s = ap (λ (w : List SpaceRow). (slice_index_or w s no_space).row) h.spaces ∙ space_moved k.spaces.items s
+
+  -- the name of a space in the common file stays
+  common_stays : (spaces : List SpaceRow) (s : ℕ)
+      → (slice_index_or (map (moved_space pruned) spaces) s no_space).common ≡ (slice_index_or spaces s no_space).common
+  common_stays [] s = refl
+  common_stays (x ∷ spaces) zero = refl
+  common_stays (x ∷ spaces) (suc s) = common_stays spaces s
+
+  pub common_same : (s : ℕ) → (space_at m s).common ≡ (space_at k s).common
+  common_same s = ap (λ (w : List SpaceRow). (slice_index_or w s no_space).common) h.spaces ∙ common_stays k.spaces.items s
 
   -- ---- entries of items
 
@@ -165,4 +180,29 @@ module _ (pruned : List (Option PrunedFile)) (k m : Known) (h : AreMoved pruned 
             ∙ ap (λ (w : List TextAt). slice_index_or w j no_text) o.moved.texts
             ∙ text_moved g none o.before.texts.items j
             ∙ ap (λ (w : Option FileRows). g (option_map_or at w no_text)) (sym o.before_is)
+      ]
+
+  -- a text of the common file stays where it was
+  pooled_stays : (p : Option PrunedFile) (t : TextAt) → IsPooled t → moved_if p t ≡ t
+  pooled_stays None t is = refl
+  pooled_stays (Some p) (Own offset) none = absurd none
+  pooled_stays (Some p) (Shared offset) none = absurd none
+  pooled_stays (Some p) (Pooled offset) is = refl
+
+  stays_at : (p : Option PrunedFile) (texts : List TextAt) (j : ℕ) → IsPooled (slice_index_or texts j no_text)
+      → slice_index_or (map (moved_if p) texts) j no_text ≡ slice_index_or texts j no_text
+  stays_at p [] j none = absurd none
+  stays_at p (x ∷ texts) zero is = pooled_stays p x is
+  stays_at p (x ∷ texts) (suc j) is = stays_at p texts j is
+
+  pub pooled_same : (n j : ℕ) → IsPooled (text_at k n j) → text_at m n j ≡ text_at k n j
+  pooled_same n j is =
+      let at : FileRows → TextAt = λ f. slice_index_or f.texts.items j no_text in
+      elim (rows_at n) [
+        | inl o ↦ ap (λ (w : Option FileRows). option_map_or at w no_text) (o.1 ∙ sym o.0)
+        | inr o ↦ ap (λ (w : Option FileRows). option_map_or at w no_text) o.after_is
+            ∙ ap (λ (w : List TextAt). slice_index_or w j no_text) o.moved.texts
+            ∙ stays_at (pruned_at pruned n) o.before.texts.items j
+            (subst (λ (w : Option FileRows). IsPooled (option_map_or at w no_text)) o.before_is is)
+            ∙ ap (λ (w : Option FileRows). option_map_or at w no_text) (sym o.before_is)
       ]

@@ -7,7 +7,7 @@ use Rattle.dwz_meanings.specs.Meanings.{Sources}
 use Rattle.dwz_alike.proofs.SpotLemmas.{numbers_same}
 use Rattle.dwz_back.specs.Files.{Run, sections_of, sources, strs_if}
 use Rattle.dwz_out.specs.Contents.{if_other, lists_after, offsets_after, offsets_if, ranges_after, sections_after, strs_after}
-use Rattle.dwz_facts.specs.Facts.{Facts, run}
+use Rattle.dwz_laid.specs.Facts.{Facts, run}
 use Rattle.dwz_make.specs.Moved.{pruned_at}
 use Rattle.dwz_uses.specs.declared.pruning.PrunedFile.{PrunedFile}
 use Rattle.dwz_make.specs.Ready.{IsPruned}

@@ -30,12 +30,12 @@ use Rattle.dwz_across.proofs.TopRows.{units_long}
 use Rattle.dwz_order.specs.Shown.{Pairs}
 use Rattle.dwz_order.specs.Spaces.{spaces_below, spaces_of, spaces_under}
 use Rattle.dwz_order.proofs.ChainShown.{pairs_append, pairs_at}
-use Rattle.dwz_items.specs.Old.{IsSpaceIn}
+use Rattle.dwz_laid.specs.Old.{IsSpaceIn}
 use Rattle.dwz_places.specs.declared.known.Row.{Row}
-use Rattle.dwz_facts.specs.Facts.{AreFacts, Facts, HasFile, docs, units}
-use Rattle.dwz_facts.specs.Listed.{entry_row, space_entries}
-use Rattle.dwz_trees.proofs.FilesFound.{among_of, file_there, one_file}
-use Rattle.dwz_trees.proofs.SpaceLists.{IsHere, in_list}
+use Rattle.dwz_laid.specs.Facts.{AreFacts, Facts, HasFile, docs, units}
+use Rattle.dwz_laid.specs.Listed.{entry_row, space_entries}
+use Rattle.dwz_laid.proofs.FilesFound.{among_of, file_there, one_file}
+use Rattle.dwz_laid.proofs.SpaceLists.{IsHere, in_list}
 use Rattle.dwz_make.proofs.TreeUnits.{OfUnit}
 
 -- ---- the units of spaces

@@ -20,7 +20,7 @@ use Rattle.dwz_resolve.specs.ListRows.{operand_view}
 use Rattle.dwz_resolve.specs.Named.{units_refs}
 use Rattle.dwz_sections.specs.Ranges.{AreMoved}
 use Rattle.dwz_sections.proofs.RangeSetLemmas.{if_more}
-use Rattle.dwz_facts.specs.Facts.{Facts, docs, rule, run}
+use Rattle.dwz_laid.specs.Facts.{Facts, docs, rule, run}
 use Rattle.dwz_renumbered.specs.Operands.{AreNewNumbers, HasNewNumbers}
 use Rattle.dwz_make.specs.Spots.{unit_places_from}
 use Rattle.dwz_make.specs.declared.moved.Moved.{Moved}

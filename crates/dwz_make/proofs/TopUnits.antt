@@ -22,10 +22,10 @@ use Rattle.dwz_across.proofs.ListGets.{got_in, got_index, same_got}
 use Rattle.dwz_places.specs.declared.known.Known.{Known}
 use Rattle.dwz_places.specs.Entries.{row}
 use Rattle.dwz_places.specs.Known.{no_row, top_row}
-use Rattle.dwz_facts.specs.Facts.{AreFacts, Facts, HasFile, docs, units}
-use Rattle.dwz_facts.specs.Listed.{AreListed, TextsAt, entry_row, top_rows}
-use Rattle.dwz_trees.proofs.FilesFound.{among_of}
-use Rattle.dwz_trees.proofs.ListRows.{top_there}
+use Rattle.dwz_laid.specs.Facts.{AreFacts, Facts, HasFile, docs, units}
+use Rattle.dwz_laid.specs.Listed.{AreListed, TextsAt, entry_row, top_rows}
+use Rattle.dwz_laid.proofs.FilesFound.{among_of}
+use Rattle.dwz_laid.proofs.ListRows.{top_there}
 
 -- From the row that the lists have for a top on stand its entry and all below it, which are of the unit with that number in the file: it
 -- is the top's own.

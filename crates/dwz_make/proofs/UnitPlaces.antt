@@ -26,9 +26,9 @@ use Rattle.dwz_known.specs.Images.{starts_from}
 use Rattle.dwz_known.specs.Names.{all_names}
 use Rattle.dwz_places.specs.declared.known.Known.{Known}
 use Rattle.dwz_places.specs.Laid.{made_of}
-use Rattle.dwz_facts.specs.Facts.{AreFacts, Facts, docs, rule, run, units}
-use Rattle.dwz_named.proofs.FileEntries.{IsHere, here, named, named_all}
-use Rattle.dwz_named.proofs.ImagesStand.{old}
+use Rattle.dwz_laid.specs.Facts.{AreFacts, Facts, docs, rule, run, units}
+use Rattle.dwz_laid.proofs.FileEntries.{IsHere, here, named, named_all}
+use Rattle.dwz_laid.proofs.ImagesStand.{old}
 use Rattle.dwz_laid.proofs.EntriesPlaced.{run_roots}
 use Rattle.dwz_make.specs.Spots.{UnitPlacesLaw}
 use Rattle.dwz_make.proofs.EntryPlaces.{entry_places}

@@ -1,23 +1,26 @@
--- The texts of a unit, by the bases of the units that its entries and the spaces of its chains were read in.
-use Rattle.std.proofs.Common.{◌≡◌, ℕ, List, [], None, Some, slice_get}
+-- The texts of a unit of a file that shares none, by the bases of the units that its entries and the spaces of its chains were read in.
+use Rattle.std.proofs.Common.{◌≡◌, ℕ, List, None, Some, slice_get, sym, subst}
 use Rattle.dwz_meanings.specs.Documents.{DwUnit, Node}
 use Rattle.dwz_meanings.specs.Files.{around_of}
 use Rattle.dwz_meanings.specs.Meanings.{scope_of}
 use Rattle.dwz_seen.specs.Seen.{IsPartial}
 use Rattle.dwz_seen.specs.Shown.{units_keys}
-use Rattle.dwz_alike.specs.Spots.{Spot}
-use Rattle.dwz_same.specs.Units.{common_units, out_units}
+use Rattle.dwz_alike.specs.Spots.{Spot, name_of}
+use Rattle.dwz_same.specs.Units.{out_units}
 use Rattle.dwz_graph.specs.declared.file.File.{File}
 use Rattle.dwz_index.specs.Index.{Index}
 use Rattle.dwz_unit.specs.Rows.{EntryRow, units_of as raw_units}
 use Rattle.dwz_places.specs.declared.known.Known.{Known}
 use Rattle.dwz_places.specs.declared.order.UnitItems.{UnitItems}
-use Rattle.dwz_fitted.specs.Knows.{IsRead, Writes}
-use Rattle.dwz_facts.specs.Facts.{AreFacts, Facts, HasFile, file_read, move, units}
-use Rattle.dwz_facts.specs.Listed.{AreListed, TextsAt, entry_row, space_entries}
-use Rattle.dwz_settled.specs.Unfitted.{HasChained, KnowsUnitTexts}
-use Rattle.dwz_texts.specs.TextLaws.{ComesFromScope, StandAsRead}
+use Rattle.dwz_places.specs.declared.known.TextAt.{TextAt}
+use Rattle.dwz_places.specs.Known.{space_at}
+use Rattle.dwz_fitted.specs.Knows.{IsRead, IsText, Writes, name_attr}
+use Rattle.dwz_laid.specs.Facts.{AreFacts, Facts, HasFile, file_read, move, units}
+use Rattle.dwz_laid.specs.Listed.{AreListed, TextsAt, entry_row, space_entries}
+use Rattle.dwz_laid.specs.Unfitted.{HasChained, KnowsTextsOf, fit_in}
+use Rattle.dwz_texts.specs.TextLaws.{ComesFromScope, StandAsRead, unshared}
 use Rattle.dwz_texts.proofs.LawLemmas.{names_law, texts_law}
+use Rattle.dwz_make.proofs.HeldTexts.{held_in_file}
 
 module _ (f : Facts) (k : Known) (n : ℕ) (o : UnitItems) (u : DwUnit Spot) where
   -- the values of the unit come from those units
@@ -35,22 +38,27 @@ module _ (f : Facts) (k : Known) (n : ℕ) (o : UnitItems) (u : DwUnit Spot) whe
       → ComesFromScope f u (scope_of (around_of bytes (raw_units x.units)) read.unit)
 
 module _ (f : Facts) (t : TextsAt) (k : Known) (facts : AreFacts f) (listed : AreListed f t k) (stand : StandAsRead f t)
-    (none : common_units (move f) ≡ []) (n : ℕ) (o : UnitItems) (u : DwUnit Spot) where
+    (n : ℕ) (o : UnitItems) (u : DwUnit Spot) where
   abbrev keys : List Spot
   keys = units_keys (out_units (move f) (units f) n)
 
-  pub unit_texts : EntriesCome f k n o u → SpacesCome f k n o u → KnowsUnitTexts f k None n o u
+  -- they stand where the definitions say, if the file shares none
+  abbrev pub Stand : Type 0
+  Stand = KnowsTextsOf f k (unshared (fit_in f n u)) None n o
+
+  pub unit_texts : EntriesCome f k n o u → SpacesCome f k n o u → Stand
   unit_texts entries spaces = record {
     entries = λ bytes x index h. record {
       are = λ i r d read writes.
-          texts_law f t k facts listed stand none n bytes x index h keys u i r d read (entries bytes x index h i r d read writes);
+          texts_law f t k facts listed stand n bytes x index h keys u i r d read (entries bytes x index h i r d read writes);
     };
     spaces = λ bytes x index h s i r d text has at read is.
-        names_law f t k facts listed stand none n bytes x index h keys u i r d read (spaces bytes x index h s i r d read has at)
-        s text at is;
+        subst (λ (w : TextAt). IsText (unshared (fit_in f n u)) None (name_attr (name_of text d)) w)
+        (sym (held_in_file u.kind (space_at k s)))
+        (names_law f t k facts listed stand n bytes x index h keys u i r d read (spaces bytes x index h s i r d read has at) s text at is);
   }
 
   -- so are those of a unit that isn't partial
-  pub whole_texts : (IsPartial u.kind → ⊥) → KnowsUnitTexts f k None n o u
+  pub whole_texts : (IsPartial u.kind → ⊥) → Stand
   whole_texts whole =
       unit_texts (λ bytes x index h i r d read writes is. absurd (whole is)) (λ bytes x index h s i r d read has at is. absurd (whole is))

@@ -28,9 +28,9 @@ use Rattle.dwz_places.specs.Attributes.{Here, here_of, holder_by, is_common, spa
 use Rattle.dwz_places.specs.Entries.{items_slots, slot, what_slots}
 use Rattle.dwz_places.specs.Known.{number_of, row_at, space_at}
 use Rattle.dwz_pages.specs.Shown.{HasRow, IsRow, Keys, SortShows}
-use Rattle.dwz_facts.specs.Facts.{AreFacts, Facts}
-use Rattle.dwz_facts.specs.Listed.{AreListed, TextsAt}
-use Rattle.dwz_settled.specs.Unfitted.{HasChained, NamesChained}
+use Rattle.dwz_laid.specs.Facts.{AreFacts, Facts}
+use Rattle.dwz_laid.specs.Listed.{AreListed, TextsAt}
+use Rattle.dwz_laid.specs.Unfitted.{HasChained, NamesChained}
 use Rattle.dwz_uses.specs.Used.{order_uses, origin_uses, out_uses}
 use Rattle.dwz_uses.proofs.SlotUses.{slot_uses}
 use Rattle.dwz_make.proofs.EntryNumbers.{IsEntry, entry_there, one_entry}

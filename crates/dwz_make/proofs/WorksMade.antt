@@ -11,9 +11,10 @@ use Rattle.dwz_known.proofs.WholeLemmas.{all_inside}
 use Rattle.dwz_listed.proofs.Fits.{whole}
 use Rattle.dwz_places.specs.declared.order.UnitItems.{UnitItems}
 use Rattle.dwz_places.specs.Laid.{made_of}
-use Rattle.dwz_facts.specs.Facts.{AreFacts, Facts, docs, run}
+use Rattle.dwz_laid.specs.Facts.{AreFacts, Facts, docs, run}
 use Rattle.dwz_make.specs.Prepared.{IsRank}
 use Rattle.dwz_make.specs.declared.prepared.PreparedFiles.{PreparedFiles}
+use Rattle.dwz_make.specs.declared.prepared.ReadyRun.{ReadyRun}
 use Rattle.dwz_make.specs.Ready.{AreReady}
 use Rattle.dwz_after.specs.declared.new_file.NewFile.{NewFile}
 use Rattle.dwz_make.specs.declared.work.Work.{Work}
@@ -21,32 +22,32 @@ use Rattle.dwz_make.specs.Works.{AreNewFiles, IsWork, WorksOf}
 use Rattle.dwz_make.proofs.FilesMade.{EachIs, numbers_long}
 
 -- what is ready, of few files
-pub works_of : (contents : List (List ℕ)) (prunes : List Bool) (p : PreparedFiles) (r : AreReady contents prunes p)
+pub works_of : (contents : List (List ℕ)) (prunes : List Bool) (all : ReadyRun) (r : AreReady contents prunes all)
     → length contents < 2 ^ 32
-    → WorksOf r.facts p
-works_of contents prunes p r few =
+    → WorksOf r.facts all.files
+works_of contents prunes all r few =
     let f = r.facts in
     let facts : AreFacts f = r.ready.can.facts in
     let many = are_many f.contents f.files f.indexes facts.kept facts.indexed in
     let files = many.0 in
-    let all = many.2 in
+    let kept = many.2 in
     let same = ap (λ (xs : List File). length xs) r.theirs.files_are in
     let contents_same = ap (λ (xs : List (List ℕ)). length xs) r.theirs.contents_are in
     record {
       ready = r.ready;
-      few = omega (arith, files, all, same, contents_same, few);
+      few = omega (arith, files, kept, same, contents_same, few);
       files_are = r.theirs.files_are;
       indexes_are = r.theirs.indexes_are;
       plan_is = r.theirs.plan_is;
     }
 
 -- there are few partial units
-pub parts_few : (contents : List (List ℕ)) (prunes : List Bool) (p : PreparedFiles) → AreReady contents prunes p
-    → length p.alone.settled.planned.plan.partials < 2 ^ 32
-parts_few contents prunes p r = (let fits = r.ready.fits in let parts = fits.few_parts in let rows = fits.few_rows in omega
+pub parts_few : (contents : List (List ℕ)) (prunes : List Bool) (all : ReadyRun) → AreReady contents prunes all
+    → length all.files.run.settled.planned.plan.partials < 2 ^ 32
+parts_few contents prunes all r = (let fits = r.ready.fits in let parts = fits.few_parts in let rows = fits.few_rows in omega
     (arith, parts, rows))
 
-module _ (f : Facts) (p : PreparedFiles) (works : WorksOf f p) (xs : List Index) (same : xs ≡ p.alone.indexes.items) where
+module _ (f : Facts) (p : PreparedFiles) (works : WorksOf f p) (xs : List Index) (same : xs ≡ p.run.indexes.items) where
   facts : AreFacts f
   facts = works.ready.can.facts
 
@@ -66,7 +67,7 @@ module _ (f : Facts) (p : PreparedFiles) (works : WorksOf f p) (xs : List Index)
 
 -- the files are laid by these lists
 pub work_made : (f : Facts) (w : Work) → WorksOf f w.prepared.now → (xs : List Index) (os : List (List UnitItems)) (ss ts : List ℕ)
-    → xs ≡ w.prepared.now.alone.indexes.items → os ≡ w.prepared.now.ordered.orders.items → w.layout.now ≡ made_of w.prepared.now.known os
+    → xs ≡ w.prepared.now.run.indexes.items → os ≡ w.prepared.now.ordered.orders.items → w.layout.now ≡ made_of w.prepared.now.known os
     → w.starts.now ≡ ss → ss ≡ starts_from 0 xs → w.tops.now ≡ ts → ts ≡ tops_from 0 xs → IsWork f w
 work_made f w works xs os ss ts indexes orders layout starts begin tops there =
     let same : xs ≡ f.indexes = indexes ∙ sym works.indexes_are in

@@ -4,9 +4,11 @@ pub mod Stored
 pub mod Numbered
 pub mod NumberLaws
 pub mod Stood
+pub mod Whole
 pub mod MovedLaws
 pub mod Pruned
 pub mod Spots
-pub mod Alone
+pub mod SettledRun
+pub mod Common
 pub mod Ready
 pub mod Works

@@ -6,7 +6,7 @@ use Rattle.dwz_places.specs.declared.known.Known.{Known}
 use Rattle.dwz_places.specs.declared.known.SpaceRow.{SpaceRow}
 use Rattle.dwz_places.specs.declared.known.TextAt.{TextAt}
 use Rattle.dwz_places.specs.declared.order.UnitItems.{UnitItems}
-use Rattle.dwz_facts.specs.Facts.{Facts, run}
+use Rattle.dwz_laid.specs.Facts.{Facts, run}
 use Rattle.dwz_uses.specs.declared.pruning.PrunedFile.{PrunedFile}
 use Rattle.dwz_uses.specs.MovedTexts.{moved_text}
 use Rattle.dwz_uses.specs.PrunedFiles.{IsPrunedFile}
@@ -51,9 +51,9 @@ RowsMoved pruned n [] [] = Unit {0}
 RowsMoved pruned n (r ∷ rows) (m ∷ moved) = RowMoved (pruned_at pruned n) r m × RowsMoved pruned (suc n) rows moved
 RowsMoved pruned n _ _ = ⊥
 
--- a space, whose name stands in its file
+-- a space, whose name in a partial unit of its file stands in that file or is shared; in the common file it stays
 abbrev pub moved_space : List (Option PrunedFile) → SpaceRow → SpaceRow
-moved_space pruned s = record { row = s.row; text = moved_if (pruned_at pruned s.row.file) s.text }
+moved_space pruned s = record { row = s.row; text = moved_if (pruned_at pruned s.row.file) s.text; common = s.common }
 
 -- the lists with the places of texts that have moved
 pub record AreMoved (pruned : List (Option PrunedFile)) (k moved : Known) : Type 0 where

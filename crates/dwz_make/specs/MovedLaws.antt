@@ -1,28 +1,27 @@
 -- What holds of files whose units are in order, before texts are taken out that nothing uses, and then.
-use Rattle.std.specs.Prelude.{◌≡◌, ℕ, All, IsSome, List, None, Option}
+use Rattle.std.specs.Prelude.{◌≡◌, ℕ, All, IsSome, List, Option}
 use Rattle.dwz_docs.specs.Texts.{text_at}
 use Rattle.dwz_writing.specs.Pruned.{units_uses}
 use Rattle.dwz_back.specs.Files.{formed, sources}
+use Rattle.dwz_sound.specs.Sound.{FewTexts}
 use Rattle.dwz_places.specs.declared.known.Known.{Known}
 use Rattle.dwz_places.specs.declared.order.UnitItems.{UnitItems}
 use Rattle.dwz_ordered.specs.declared.orders.Settled.{Settled}
-use Rattle.dwz_facts.specs.Facts.{Facts, run}
-use Rattle.dwz_facts.specs.Listed.{TextsAt}
+use Rattle.dwz_laid.specs.Facts.{Facts, run}
+use Rattle.dwz_laid.specs.Listed.{TextsAt}
 use Rattle.dwz_laid.specs.Laid.{TextsKnown, run_numbers}
 use Rattle.dwz_uses.specs.declared.pruning.PrunedFile.{PrunedFile}
 use Rattle.dwz_uses.specs.Used.{order_uses}
 use Rattle.dwz_make.specs.Moved.{AreMoved, ArePruned}
 use Rattle.dwz_make.specs.Prepared.{ArePrepared, CanLay, IsOrdered}
+use Rattle.dwz_make.specs.Whole.{StandWhole}
 
--- all texts stand where the definitions say while none is taken out
-abbrev pub StandWhole : Facts → Known → List (List UnitItems) → Type 0
-StandWhole f k orders = TextsKnown f k (λ n. None) orders
-
--- Then the texts that are counted in the order of a file are those that its units after use, and each names a text of the file.
+-- Where all texts stand while none is taken out, and those of the common file are few, the texts that are counted in the order of a file
+-- are those that its units after use, and each names a text of the file.
 abbrev pub UsesLaw : Type 0
 UsesLaw =
     (f : Facts) (s : Settled) (t : TextsAt) (k : Known) (orders : List (List UnitItems)) → ArePrepared f s t k orders
-    → StandWhole f k orders → (n rank first : ℕ) (order : List UnitItems) → IsOrdered f orders n rank first order
+    → StandWhole f k orders → FewTexts (run f) → (n rank first : ℕ) (order : List UnitItems) → IsOrdered f orders n rank first order
     → (order_uses k first order ≡ units_uses (formed (run f) n))
     × All (λ used. IsSome (text_at (sources (run f) n).strs used)) (order_uses k first order)
 
@@ -39,5 +38,5 @@ MovedLaw =
 abbrev pub OrderLaw : Type 0
 OrderLaw =
     (f : Facts) (s : Settled) (t : TextsAt) (k : Known) (orders : List (List UnitItems)) → ArePrepared f s t k orders
-    → StandWhole f k orders → (pruned : List (Option PrunedFile)) → ArePruned f k orders pruned
+    → StandWhole f k orders → FewTexts (run f) → (pruned : List (Option PrunedFile)) → ArePruned f k orders pruned
     → (moved : Known) → AreMoved pruned k moved → (after : TextsAt) × CanLay f after moved orders

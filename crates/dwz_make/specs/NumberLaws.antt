@@ -1,22 +1,20 @@
 -- Laws on planned files and the numbers of their units.
-use Rattle.std.specs.Prelude.{◌≡◌, ℕ, ◌+◌, ◌<◌, ◌^◌, Bool, List, [], length}
+use Rattle.std.specs.Prelude.{◌≡◌, ℕ, ◌+◌, ◌<◌, ◌^◌, Bool, List, length}
 use Rattle.dwz_alike.specs.Spots.{units_of}
-use Rattle.dwz_same.specs.Units.{common_units}
 use Rattle.dwz_groups.specs.declared.tops.Tops.{Tops}
 use Rattle.dwz_graph.specs.declared.file.File.{File}
 use Rattle.dwz_graph.specs.Files.{AreKept, docs_of}
 use Rattle.dwz_index.specs.Index.{Index}
 use Rattle.dwz_indexes.specs.Indexed.{AreIndexes}
 use Rattle.dwz_plan.specs.declared.plan.Scope.{Scope as Sharing}
-use Rattle.dwz_plan.specs.declared.plan.Scope.TheVariants.{Each as EachAlone}
 use Rattle.dwz_plan.specs.Planned.{Planned}
 use Rattle.dwz_planned.specs.declared.planned.PlannedFiles.{PlannedFiles}
 use Rattle.dwz_planned.specs.Fits.{FitsFiles}
 use Rattle.dwz_known.specs.declared.numbers.UnitNumbers.{UnitNumbers}
 use Rattle.dwz_known.specs.Images.{entry_count}
-use Rattle.dwz_facts.specs.Facts.{AreFacts, Facts, move, written}
+use Rattle.dwz_laid.specs.Facts.{AreFacts, Facts, written}
 use Rattle.dwz_ordered.specs.declared.orders.Settled.{Settled as Lent}
-use Rattle.dwz_settled.specs.Settled.{IsSettled}
+use Rattle.dwz_laid.specs.Settled.{IsSettled}
 use Rattle.dwz_ready.specs.declared.settled.SettledFiles.{SettledFiles}
 use Rattle.dwz_ready.specs.Settled.{AreFactsOf, ArePlanned, AreStored, Lends}
 use Rattle.dwz_make.specs.Numbered.{AreNumbersOf}
@@ -74,9 +72,3 @@ SettledFactsLaw =
     → ArePlanned sharing (docs_of contents) p → r.planned ≡ p → HasFlags contents indexes sharing p r
     → AreFactsOf contents indexes sharing p f → AreStored f
     → (n : UnitNumbers) → AreNumbersOf (docs_of contents) r.planned.plan r.written.items n → HasNumbers f n → AreFacts f
-
--- where each file is by itself, nothing is in the common file
-abbrev pub ApartLaw : Type 0
-ApartLaw =
-    (contents : List (List ℕ)) (indexes : List Index) (p : PlannedFiles) (f : Facts) → AreFactsOf contents indexes EachAlone p f
-    → common_units (move f) ≡ []

@@ -1,6 +1,6 @@
 -- Files that were read, planned and settled, with the order of all that is written, and with the lists that a layout looks into.
 use Rattle.std.specs.Prelude.{◌≡◌, ℕ, suc, false, true, List, [], ◌∷◌, length, Option, Some, None, ◌+◌, slice_get, take}
-use Rattle.dwz_same.specs.Units.{changes, common_units}
+use Rattle.dwz_same.specs.Units.{changes}
 use Rattle.dwz_back.specs.AllFiles.{AreRead}
 use Rattle.dwz_ordered.specs.declared.orders.Settled.{Settled}
 use Rattle.dwz_ordered.specs.Ordered.{AreOrders}
@@ -8,17 +8,16 @@ use Rattle.dwz_places.specs.declared.known.Known.{Known}
 use Rattle.dwz_places.specs.declared.order.UnitItems.{UnitItems}
 use Rattle.dwz_pages.specs.Laws.{IsOrderOf}
 use Rattle.dwz_pages.specs.Shown.{unit_count}
-use Rattle.dwz_facts.specs.Facts.{AreFacts, Facts, docs, files_written, move, units}
-use Rattle.dwz_facts.specs.Listed.{AreListed, TextsAt}
-use Rattle.dwz_facts.specs.Named.{keys}
+use Rattle.dwz_laid.specs.Facts.{AreFacts, Facts, docs, files_written, move, units}
+use Rattle.dwz_laid.specs.Listed.{AreListed, TextsAt}
+use Rattle.dwz_laid.specs.Named.{keys}
 use Rattle.dwz_laid.specs.Laid.{written_out}
-use Rattle.dwz_settled.specs.Settled.{IsSettled}
+use Rattle.dwz_laid.specs.Settled.{IsSettled}
 
--- Nothing is in the common file. The order is that of what is settled, and the lists are of the files, whose texts stand there.
+-- The order is that of what is settled, and the lists are of the files, whose texts stand there.
 pub record ArePrepared (f : Facts) (s : Settled) (t : TextsAt) (k : Known) (orders : List (List UnitItems)) : Type 0 where
   pub facts : AreFacts f
   pub read : AreRead f.input (docs f)
-  pub none : common_units (move f) ≡ []
   pub settled : IsSettled f s
   pub ordered : AreOrders f.contents f.indexes s orders
   pub listed : AreListed f t k
@@ -49,10 +48,9 @@ firsts_from first (order ∷ orders) = first ∷ firsts_from (first + length ord
 
 -- ---- in the end
 
--- The order is one of the files that are written, with what is in these lists, and nothing is in the common file. So it can be laid.
+-- The order is one of the common file and the files that are written, with what is in these lists. So it can be laid.
 pub record CanLay (f : Facts) (t : TextsAt) (k : Known) (orders : List (List UnitItems)) : Type 0 where
   pub facts : AreFacts f
   pub read : AreRead f.input (docs f)
-  pub none : common_units (move f) ≡ []
   pub listed : AreListed f t k
   pub order : IsOrderOf (keys f) k orders (written_out f)

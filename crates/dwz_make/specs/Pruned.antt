@@ -4,7 +4,7 @@ use Rattle.dwz_docs.specs.Texts.{text_at}
 use Rattle.dwz_meanings.specs.Files.{sources_of}
 use Rattle.dwz_places.specs.declared.known.Known.{Known}
 use Rattle.dwz_places.specs.declared.order.UnitItems.{UnitItems}
-use Rattle.dwz_facts.specs.Facts.{AreFacts, Facts}
+use Rattle.dwz_laid.specs.Facts.{AreFacts, Facts}
 use Rattle.dwz_make.specs.Prepared.{AreRanks, firsts_from}
 use Rattle.dwz_uses.specs.declared.pruning.PrunedFile.{PrunedFile}
 use Rattle.dwz_uses.specs.PrunedFiles.{IsPrunedFile}

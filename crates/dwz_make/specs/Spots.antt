@@ -9,8 +9,8 @@ use Rattle.dwz_known.specs.Images.{starts_from}
 use Rattle.dwz_places.specs.declared.known.Known.{Known}
 use Rattle.dwz_places.specs.declared.order.UnitItems.{UnitItems}
 use Rattle.dwz_places.specs.Laid.{made_of}
-use Rattle.dwz_facts.specs.Facts.{Facts, HasFile, move, units}
-use Rattle.dwz_facts.specs.Listed.{TextsAt}
+use Rattle.dwz_laid.specs.Facts.{Facts, HasFile, move, units}
+use Rattle.dwz_laid.specs.Listed.{TextsAt}
 use Rattle.dwz_make.specs.Prepared.{CanLay}
 use Rattle.dwz_renumbered.specs.NumberLaws.{ArePlaces, AreUnitPlaces}
 

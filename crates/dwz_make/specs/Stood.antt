@@ -1,17 +1,47 @@
--- Where texts stand before any are taken out of a file.
-use Rattle.std.specs.Prelude.{List, None}
+-- Where texts stand as they were read: before any are taken out of a file, and before the common file has any.
+use Rattle.std.specs.Prelude.{◌≡◌, ℕ, false, List, [], ◌∷◌, None}
+use Rattle.dwz_meanings.specs.Documents.{DwUnit, Node}
+use Rattle.dwz_seen.specs.Lists.{Each}
+use Rattle.dwz_alike.specs.Spots.{Spot}
+use Rattle.dwz_same.specs.Units.{out_units}
+use Rattle.dwz_unit.specs.Rows.{EntryRow}
+use Rattle.dwz_graph.specs.declared.file.File.{File}
+use Rattle.dwz_index.specs.Index.{Index}
 use Rattle.dwz_ordered.specs.declared.orders.Settled.{Settled}
 use Rattle.dwz_places.specs.declared.known.Known.{Known}
 use Rattle.dwz_places.specs.declared.order.UnitItems.{UnitItems}
-use Rattle.dwz_facts.specs.Facts.{Facts}
-use Rattle.dwz_facts.specs.Listed.{TextsAt}
-use Rattle.dwz_laid.specs.Laid.{TextsKnown}
+use Rattle.dwz_fitted.specs.Knows.{IsRead, Writes}
+use Rattle.dwz_common.specs.Placed.{in_common_file}
+use Rattle.dwz_laid.specs.Facts.{Facts, HasFile, file_read, files_written, move, units}
+use Rattle.dwz_laid.specs.Listed.{TextsAt}
+use Rattle.dwz_laid.specs.Unfitted.{KnowsTextsOf, fit_in}
 use Rattle.dwz_make.specs.Prepared.{ArePrepared}
-use Rattle.dwz_texts.specs.TextLaws.{StandAsRead}
+use Rattle.dwz_texts.specs.TextLaws.{StandAsRead, unshared}
 
--- Of files that are prepared, and whose texts stand as they were read, the texts of all that is written stand where the definitions of
--- forms say.
+-- the texts of each unit of a file stand where the definitions say of a file that shares none with the common file
+abbrev pub KnowUnshared : Facts → Known → ℕ → List UnitItems → List (DwUnit Spot) → Type 0
+KnowUnshared f k n [] [] = Unit {0}
+KnowUnshared f k n (o ∷ order) (u ∷ some) = KnowsTextsOf f k (unshared (fit_in f n u)) None n o × KnowUnshared f k n order some
+KnowUnshared f k n _ _ = ⊥
+
+-- no entry of the file with that number that the unit writes is one of the common file
+abbrev pub WritesOwn : Facts → Known → ℕ → UnitItems → Type 0
+WritesOwn f k n o =
+    (bytes : List ℕ) (x : File) (index : Index) → HasFile f n bytes x index
+    → (i : ℕ) (r : EntryRow) (d : Node ℕ) → IsRead (file_read f n bytes x) i r d → Writes k o (file_read f n bytes x) i
+    → in_common_file k n i ≡ false
+
+-- So are the texts of each of these files; and what it writes are entries of its own.
+abbrev pub FilesUnshared : Facts → Known → List ℕ → List (List UnitItems) → Type 0
+FilesUnshared f k [] [] = Unit {0}
+FilesUnshared f k (n ∷ files) (order ∷ orders) =
+    KnowUnshared f k n order (out_units (move f) (units f) n) × Each (WritesOwn f k n) order × FilesUnshared f k files orders
+FilesUnshared f k _ _ = ⊥
+
+-- Of files that are prepared, and whose texts stand as they were read, the texts of all that is written of files stand where the
+-- definitions of forms say if none is shared, and none of it is an entry of the common file. The units of the common file come first.
 abbrev pub StoodLaw : Type 0
 StoodLaw =
     (f : Facts) (s : Settled) (t : TextsAt) (k : Known) (orders : List (List UnitItems))
-    → ArePrepared f s t k orders → StandAsRead f t → TextsKnown f k (λ n. None) orders
+    → ArePrepared f s t k orders → StandAsRead f t → (common : List UnitItems) (others : List (List UnitItems)) → orders ≡ common ∷ others
+    → FilesUnshared f k (files_written f) others

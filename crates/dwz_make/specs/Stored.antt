@@ -9,8 +9,8 @@ use Rattle.dwz_out.specs.Out.{ArePrunable, ReadAs, stored_of}
 use Rattle.dwz_graph.specs.declared.file.File.{File}
 use Rattle.dwz_graph.specs.Files.{AreKept, docs_of}
 use Rattle.dwz_indexes.specs.Indexed.{AreIndexes}
-use Rattle.dwz_facts.specs.Facts.{Facts, IsStoredSo, docs}
-use Rattle.dwz_trees.specs.Trees.{IsReadFile}
+use Rattle.dwz_laid.specs.Facts.{Facts, IsStoredSo, docs}
+use Rattle.dwz_laid.specs.Trees.{IsReadFile}
 
 -- Files that are kept, with a flag for each that says whether it is prunable, read as their documents; and as they are stored each of them
 -- reads as its own.

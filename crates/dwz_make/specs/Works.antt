@@ -9,7 +9,7 @@ use Rattle.dwz_unit.specs.Rows.{units_of as raw_units}
 use Rattle.dwz_known.specs.Images.{starts_from, tops_from}
 use Rattle.dwz_places.specs.Laid.{made_of}
 use Rattle.dwz_pages.specs.Pages.{units_page}
-use Rattle.dwz_facts.specs.Facts.{Facts, HasFile, move, run, units}
+use Rattle.dwz_laid.specs.Facts.{Facts, HasFile, move, run, units}
 use Rattle.dwz_make.specs.Prepared.{IsRank}
 use Rattle.dwz_renumbered.specs.NumberLaws.{AreUnitPlaces}
 use Rattle.dwz_uses.specs.declared.pruning.PrunedFile.{PrunedFile}
@@ -27,8 +27,8 @@ pub record WorksOf (f : Facts) (p : PreparedFiles) : Type 0 where
   pub ready : IsReady f p
   pub few : length p.files.now < 2 ^ 32
   pub files_are : f.files ≡ p.files.now
-  pub indexes_are : f.indexes ≡ p.alone.indexes.items
-  pub plan_is : f.planned ≡ p.alone.settled.planned.plan
+  pub indexes_are : f.indexes ≡ p.run.indexes.items
+  pub plan_is : f.planned ≡ p.run.settled.planned.plan
 
 -- they are laid, and their entries and tops are counted so
 pub record IsWork (f : Facts) (w : Work) : Type 0 where

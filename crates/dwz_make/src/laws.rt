@@ -1,7 +1,7 @@
 //! What holds of files from reading them to laying what is written of them.
 
 ghost use Rattle.dwz_make.specs.Stored.{FileLaw, ManyLaw, ReadLaw, RefusedLaw, StoredLaw};
-ghost use Rattle.dwz_make.specs.NumberLaws.{ApartLaw, EntriesLaw, FlagsLaw, PlannedFactsLaw, RoomLaw, SettledFactsLaw};
+ghost use Rattle.dwz_make.specs.NumberLaws.{EntriesLaw, FlagsLaw, PlannedFactsLaw, RoomLaw, SettledFactsLaw};
 ghost use Rattle.dwz_make.specs.Stood.{StoodLaw};
 ghost use Rattle.dwz_make.specs.MovedLaws.{MovedLaw, OrderLaw, UsesLaw};
 ghost use Rattle.dwz_make.specs.Spots.{EntryPlacesLaw, UnitPlacesLaw};
@@ -29,24 +29,24 @@ pub fn room_laws()
 {}
 
 /// What is settled of planned files has a flag for each file, which says whether something of it moves. With the numbers of units under
-/// these flags the facts of files that were read and planned are facts. Where each file is by itself, nothing is in the common file.
+/// these flags the facts of files that were read and planned are facts.
 pub fn facts_laws()
     ensures flags { FlagsLaw }
     ensures facts { PlannedFactsLaw }
     ensures settled { SettledFactsLaw }
-    ensures apart { ApartLaw }
 {}
 
-/// Files that are prepared, whose texts stand as they were read: the texts of each unit that is written stand where the definitions of
-/// forms say. A partial unit has its bases from the unit that its tops were read in (DWARF 5, 7.26).
+/// Files that are prepared, whose texts stand as they were read: the texts of each unit of a file that is written stand where the
+/// definitions of forms say of a file that shares none, and no entry that it writes is one of the common file. A partial unit has its bases
+/// from the unit that its tops were read in (DWARF 5, 7.26).
 pub fn stood_laws()
     ensures { StoodLaw }
 {}
 
 /// Where all texts stand where the definitions say before any is taken out, the uses that are counted in the order of a file are those of
-/// its units after, and each names a text of `.debug_str` (DWARF 5, 7.26). Where just the texts stay that are used, and the lists have
-/// moved by that, the lists are still those of the files, and all texts stand where the definitions say, with their new numbers; so what
-/// is settled can be laid.
+/// its units after, and each names a text of `.debug_str` (DWARF 5, 7.26); a text of the common file is none. Where just the texts stay
+/// that are used, and the lists have moved by that, the lists are still those of the files, and all texts stand where the definitions
+/// say, with their new numbers, and those of the common file where they stood; so what is settled can be laid.
 pub fn moved_laws()
     ensures uses { UsesLaw }
     ensures moved { MovedLaw }

@@ -1,12 +1,13 @@
-//! What is new in files, each by itself, from files that were read to their new sections.
+//! What is new in files, each by itself or all together with a common file, from files that were read to their new sections.
 //!
 //! First all is prepared: which tops move (DWARF 5, 3.1.1 and appendix E), the numbers of all units that are written, their order, and the
 //! lists that a layout looks into, with the places of the texts that stay. Then each file of which something moves is laid, and the
 //! numbers in its other sections are changed in place (6.1.2, 7.7.3 and 7.26).
 #![tactic(auto)]
 
-mod alone;
 mod bytes;
+mod common;
+mod common_sections;
 mod counts;
 #[cfg(test)]
 mod counts_tests;
@@ -27,10 +28,10 @@ mod ranks;
 #[cfg(test)]
 mod ranks_tests;
 mod sections;
+mod settled;
 mod units;
 mod work;
 
-pub(crate) use alone::AloneFiles;
 pub(crate) use counts::number_units;
 pub use laws::{
     facts_laws, moved_laws, refused_laws, room_laws, spot_laws, stood_laws, stored_laws,
@@ -42,3 +43,4 @@ pub(crate) use places::unit_places;
 pub(crate) use prepared::{PreparedFiles, prepare_files};
 pub(crate) use pruned::{Written, prune_files};
 pub(crate) use ranks::{firsts_of, ranks_of};
+pub(crate) use settled::SettledRun;

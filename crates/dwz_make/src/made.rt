@@ -1,16 +1,17 @@
-//! What is new in all files.
+//! What is new in all files, and the common file.
 
 ghost use Rattle.std.specs.Prelude.{◌≡◌, ◌<◌, ◌≤◌, ◌^◌, None, length, map, slice_index_or, IfOk};
-ghost use Rattle.dwz_after.specs.NewFiles.{AreNew};
+ghost use Rattle.dwz_after.specs.NewFiles.{AreNew, IsNewCommon};
 ghost use Rattle.dwz_back.specs.Back.{run_of};
-ghost use Rattle.dwz_facts.specs.Facts.{Facts, run};
+ghost use Rattle.dwz_laid.specs.Facts.{Facts, run};
 ghost use Rattle.dwz_graph.specs.Files.{docs_of};
 ghost use Rattle.dwz_out.specs.Out.{ArePrunable, stored_of};
-ghost use Rattle.dwz_plan.specs.declared.plan.Scope.TheVariants.{Each as EachAlone};
 ghost use Rattle.dwz_planned.specs.Rules.{rule_by};
-ghost use Rattle.dwz_make.specs.Ready.{AreReady};
+ghost use Rattle.dwz_make.specs.Common.{HasTexts};
 ghost use Rattle.dwz_make.specs.Works.{AreNewFiles, IsWork, WorksOf};
 
+use crate::common::CommonTexts;
+use crate::common_sections::new_common;
 use crate::sections::new_or_old;
 use crate::work::Work;
 use crate::{PreparedFiles, prepare_files};
@@ -18,14 +19,17 @@ use dwz_after::NewFile;
 use dwz_gate::Gate;
 use dwz_graph::Graph;
 use dwz_known::{starts, tops};
-use dwz_model::NoMemory;
+use dwz_model::{NoMemory, Sections};
 use dwz_places::Layout;
+use dwz_plan::Scope;
 use std::alloc::Global;
 use std::thread::Threads;
 
 /// What is new in files.
 #[derive(Debug, Drop)]
 pub struct Made {
+    /// The sections of the common file, if there is one.
+    pub common: Option<Sections>,
     /// For each file what is new in it, or None where nothing of it moves.
     pub files: Vec<Option<NewFile>>,
     /// How many partial units they have together.
@@ -59,12 +63,24 @@ fn new_files(alloc: Global, work: &Work) -> Result<Vec<Option<NewFile>>, NoMemor
     Ok(made)
 }
 
-// Lays prepared files, and makes what is new in each.
-fn lay_files(alloc: Global, prepared: &PreparedFiles) -> Result<Vec<Option<NewFile>>, NoMemory>
-    requires { (f : Facts) × WorksOf f prepared.now }
-    ensures { (f : Facts) → WorksOf f prepared.now → IfOk result (λ made. AreNewFiles (run f) made.items) }
+// What is laid of files: the sections of the common file, if there is one, and what is new in each file.
+#[derive(Drop)]
+struct Laid {
+    common: Option<Sections>,
+    files: Vec<Option<NewFile>>,
+}
+
+// Lays prepared files, and makes what is new.
+fn lay_files(
+    alloc: Global,
+    prepared: &PreparedFiles,
+    texts: Option<CommonTexts>,
+) -> Result<Laid, NoMemory>
+    requires { (f : Facts) × WorksOf f prepared.now × HasTexts (run f) texts }
+    ensures common { (f : Facts) → WorksOf f prepared.now → HasTexts (run f) texts → IfOk result (λ laid. IsNewCommon (run f) laid.common) }
+    ensures files { (f : Facts) → WorksOf f prepared.now → IfOk result (λ laid. AreNewFiles (run f) laid.files.items) }
 {
-    let indexes = prepared.alone.indexes.as_slice();
+    let indexes = prepared.run.indexes.as_slice();
     let layout = Layout::make(alloc, &prepared.known, &prepared.ordered.orders)?;
     let starts = starts(alloc, indexes)?;
     let tops = tops(alloc, indexes)?;
@@ -74,13 +90,16 @@ fn lay_files(alloc: Global, prepared: &PreparedFiles) -> Result<Vec<Option<NewFi
         starts: starts.as_slice(),
         tops: tops.as_slice(),
     };
-    new_files(alloc, &work)
+    let common = new_common(alloc, &work, texts)?;
+    let files = new_files(alloc, &work)?;
+    Ok(Laid { common, files })
 }
 
-/// What is new in files, each by itself: tops that stand in several of its units move into partial units of the file (DWARF 5, 3.1.2
-/// and E.1), where that makes it smaller; all else stays, and what names an entry names it where it stands after. In a file whose texts
-/// nothing else speaks of just those stay that are used. `contents` is what the files were read from, and `prunes` says of each file
-/// whether it is so. It is the same for every number of workers and every gate.
+/// What is new in files that share so: tops that stand in several units of a file move into partial units of the file (DWARF 5, 3.1.2
+/// and E.1), and those that stand in units of several files, where these share, into partial units of a common file (7.3.6), where that
+/// makes it smaller; all else stays, and what names an entry names it where it stands after. In a file whose texts nothing else speaks of
+/// just those stay that are used. `contents` is what the files were read from, and `prunes` says of each file whether it is so. It is
+/// the same for every number of workers and every gate.
 ///
 /// The only error is that memory ran out, or more numbers were needed than 32 bits have.
 pub fn make_files<R: Threads + Sync, G: Gate>(
@@ -89,6 +108,7 @@ pub fn make_files<R: Threads + Sync, G: Gate>(
     contents: &[Vec<u8>],
     graph: &Graph,
     prunes: &[bool],
+    scope: Scope,
     workers: u32,
     gate: &G,
 ) -> Result<Made, NoMemory>
@@ -96,11 +116,18 @@ pub fn make_files<R: Threads + Sync, G: Gate>(
     requires few { length graph.now < 2 ^ 32 }
     requires prunes { ArePrunable graph.now (docs_of graph.now) prunes.now }
     requires workers { (0 < workers) × (workers ≤ 64) }
-    ensures { IfOk result (λ m. let docs = docs_of graph.now in
-        AreNew (run_of (rule_by EachAlone docs) docs (stored_of graph.now prunes.now)) m.files.items m.partials) }
+    ensures common { IfOk result (λ m. let docs = docs_of graph.now in
+        IsNewCommon (run_of (rule_by scope docs) docs (stored_of graph.now prunes.now)) m.common) }
+    ensures files { IfOk result (λ m. let docs = docs_of graph.now in
+        AreNew (run_of (rule_by scope docs) docs (stored_of graph.now prunes.now)) m.files.items m.partials) }
 {
-    let prepared = prepare_files(rt, alloc, contents, graph, prunes, workers, gate)?;
-    let files = lay_files(alloc, &prepared)?;
-    let partials = prepared.alone.settled.planned.plan.partials().len() as u32;
-    Ok(Made { files, partials })
+    let ready = prepare_files(rt, alloc, contents, graph, prunes, scope, workers, gate)?;
+    let prepared = ready.files;
+    let laid = lay_files(alloc, &prepared, ready.common)?;
+    let partials = prepared.run.settled.planned.plan.partials().len() as u32;
+    Ok(Made {
+        common: laid.common,
+        files: laid.files,
+        partials,
+    })
 }

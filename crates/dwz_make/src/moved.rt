@@ -1,7 +1,7 @@
 //! A file of which something moves.
 
 ghost use Rattle.std.specs.Prelude.{◌≡◌, Some, slice_get, true};
-ghost use Rattle.dwz_facts.specs.Facts.{Facts, files_written, move, units};
+ghost use Rattle.dwz_laid.specs.Facts.{Facts, files_written, move, units};
 ghost use Rattle.dwz_same.specs.Units.{changes};
 ghost use Rattle.dwz_make.specs.Works.{HasRank, IsMoved, IsWork};
 
@@ -45,7 +45,7 @@ pub(crate) fn moved_file<'w, 'u, 'a>(
     Moved {
         number,
         file: &prepared.files[number],
-        index: &prepared.alone.indexes[number],
+        index: &prepared.run.indexes[number],
         start: work.starts[number],
         first: ordered.firsts[place],
         units: ordered.orders[place].as_slice(),

@@ -19,6 +19,7 @@ fn moved_text(text: TextAt, pruned: &[Option<PrunedFile>], file: usize) -> TextA
     match text {
         TextAt::Own(offset) => TextAt::Own(stays.strs.moved(offset).unwrap_or(offset)),
         TextAt::Shared(offset) => TextAt::Shared(offset),
+        TextAt::Pooled(offset) => TextAt::Pooled(offset),
     }
 }
 
@@ -67,7 +68,7 @@ fn moved_rows<'u, 'a>(
     Ok(moved)
 }
 
-// A space, whose name stands in its file.
+// A space, whose name in a partial unit of its file stands in that file, or in the common one. In a unit of the common file it stays.
 #[inline(always)]
 fn moved_name(space: SpaceRow, pruned: &[Option<PrunedFile>]) -> SpaceRow
     ensures { result ≡ moved_space pruned.now space }
@@ -75,6 +76,7 @@ fn moved_name(space: SpaceRow, pruned: &[Option<PrunedFile>]) -> SpaceRow
     SpaceRow {
         row: space.row,
         text: moved_text(space.text, pruned, space.row.file as usize),
+        common: space.common,
     }
 }
 

@@ -2,7 +2,7 @@
 
 ghost use Rattle.std.specs.Prelude.{◌≡◌, ℕ, length, IfOk};
 ghost use Rattle.dwz_after.specs.NewFiles.{IsFound, NarrowFault};
-ghost use Rattle.dwz_facts.specs.Facts.{Facts, run};
+ghost use Rattle.dwz_laid.specs.Facts.{Facts, run};
 ghost use Rattle.dwz_narrow.specs.Narrow.{FirstPlace, after_in, number_by};
 ghost use Rattle.dwz_out.specs.Contents;
 ghost use Rattle.dwz_out.specs.Refusals;
@@ -56,7 +56,7 @@ fn listed(
         alloc,
         operands,
         moved.index,
-        &work.prepared.alone.settled.planned.plan,
+        &work.prepared.run.settled.planned.plan,
         work.tops,
         moved.start,
         work.layout.spots().places.as_slice(),

@@ -2,7 +2,7 @@
 
 ghost use Rattle.std.specs.Prelude.{◌≡◌, ◌%◌, ◌^◌, ℕ, length, map, IfOk};
 ghost use Rattle.dwz_docs.specs.Units.{RawUnit};
-ghost use Rattle.dwz_facts.specs.Facts.{Facts, run};
+ghost use Rattle.dwz_laid.specs.Facts.{Facts, run};
 ghost use Rattle.dwz_out.specs.Contents.{lists_after, ranges_after};
 ghost use Rattle.dwz_uses.specs.declared.pruning.PrunedFile.{PrunedFile};
 ghost use Rattle.dwz_make.specs.Moved.{pruned_at};
@@ -66,7 +66,7 @@ pub(crate) fn lists(
         file.sections.lists,
         &file.resolved.operands,
         moved.index,
-        &work.prepared.alone.settled.planned.plan,
+        &work.prepared.run.settled.planned.plan,
         work.tops,
         moved.start,
         work.layout.spots().places.as_slice(),

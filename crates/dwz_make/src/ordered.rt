@@ -1,9 +1,9 @@
 //! What is written of files, in order.
 
 ghost use Rattle.std.specs.Prelude.{◌≡◌, ◌<◌, ◌^◌, length, IfOk};
-ghost use Rattle.dwz_make.specs.Alone.{AreAlone, AreOrdered, IsInOrder};
+ghost use Rattle.dwz_make.specs.SettledRun.{AreOrdered, IsInOrder, IsSettledRun};
 
-use crate::alone::AloneFiles;
+use crate::settled::SettledRun;
 use crate::{Written, firsts_of, ranks_of};
 use dwz_graph::Graph;
 use dwz_model::NoMemory;
@@ -14,7 +14,7 @@ use std::alloc::Global;
 /// What is written of files, and where the units of each are counted.
 #[derive(Drop)]
 pub struct OrderedFiles {
-    /// The units of the common file, of which there are none, and then those of each file that is written, by their ranks.
+    /// The units of the common file, and then those of each file that is written, by their ranks.
     pub orders: Vec<FileItems>,
     /// For each file that was read its rank among those that are written, or none where it isn't written.
     pub ranks: Vec<Option<u32>>,
@@ -38,27 +38,27 @@ impl OrderedFiles {
 }
 
 // The units of each file that is written, with their entries.
-fn orders_of(alloc: Global, graph: &Graph, alone: &AloneFiles) -> Result<Vec<FileItems>, NoMemory>
+fn orders_of(alloc: Global, graph: &Graph, run: &SettledRun) -> Result<Vec<FileItems>, NoMemory>
     requires few { length graph.now < 2 ^ 32 }
-    requires alone { AreAlone graph.now alone.now }
-    ensures { IfOk result (λ orders. IsInOrder graph.now alone.now orders.items) }
+    requires run { IsSettledRun graph.now run.now }
+    ensures { IfOk result (λ orders. IsInOrder graph.now run.now orders.items) }
 {
-    let settled = alone.settled.settled();
-    orders_of_files(alloc, graph, &alone.indexes, &settled)
+    let settled = run.settled.settled();
+    orders_of_files(alloc, graph, &run.indexes, &settled)
 }
 
 /// What is written of settled files.
-pub(crate) fn order_alone(
+pub(crate) fn order_run(
     alloc: Global,
     graph: &Graph,
-    alone: &AloneFiles,
+    run: &SettledRun,
 ) -> Result<OrderedFiles, NoMemory>
     requires few { length graph.now < 2 ^ 32 }
-    requires alone { AreAlone graph.now alone.now }
-    ensures { IfOk result (AreOrdered graph.now alone.now) }
+    requires run { IsSettledRun graph.now run.now }
+    ensures { IfOk result (AreOrdered graph.now run.now) }
 {
-    let orders = orders_of(alloc, graph, alone)?;
-    let ranks = ranks_of(alloc, alone.settled.written.as_slice())?;
+    let orders = orders_of(alloc, graph, run)?;
+    let ranks = ranks_of(alloc, run.settled.written.as_slice())?;
     let firsts = firsts_of(alloc, orders.as_slice())?;
     Ok(OrderedFiles {
         orders,

@@ -2,7 +2,7 @@
 
 ghost use Rattle.std.specs.Prelude.{◌≡◌, ◌<◌, ◌^◌, All, IfOk, IsSome, get_or, length, false};
 ghost use Rattle.dwz_docs.specs.Texts.{text_at};
-ghost use Rattle.dwz_facts.specs.Facts.{Facts};
+ghost use Rattle.dwz_laid.specs.Facts.{Facts};
 ghost use Rattle.dwz_make.specs.Moved.{ArePruned};
 ghost use Rattle.dwz_make.specs.Pruned.{AreFilesWritten, FileKeeps, UsesNameTexts};
 ghost use Rattle.dwz_uses.specs.PrunedFiles.{IsPrunedFile};

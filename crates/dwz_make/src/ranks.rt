@@ -1,7 +1,7 @@
 //! The ranks of files among those that are written, and the numbers of their units.
 
 ghost use Rattle.std.specs.Prelude.{◌≡◌, ◌<◌, ◌^◌, length, IfOk};
-ghost use Rattle.dwz_facts.specs.Facts.{Facts, written as written_of};
+ghost use Rattle.dwz_laid.specs.Facts.{Facts, written as written_of};
 ghost use Rattle.dwz_make.specs.Prepared.{AreRanks, firsts_from};
 
 use dwz_model::NoMemory;

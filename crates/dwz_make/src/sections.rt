@@ -1,8 +1,8 @@
 //! All that is new in a file.
 
-ghost use Rattle.std.specs.Prelude.{◌≡◌, ℕ, length, IfOk};
+ghost use Rattle.std.specs.Prelude.{◌≡◌, ℕ, false, get_or, length, IfOk};
 ghost use Rattle.dwz_after.specs.NewFiles.{IsNewFile, IsNewOrOld};
-ghost use Rattle.dwz_facts.specs.Facts.{Facts, run};
+ghost use Rattle.dwz_laid.specs.Facts.{Facts, run};
 ghost use Rattle.dwz_out.specs.Contents.{sections_after};
 ghost use Rattle.dwz_make.specs.Prepared.{IsRank};
 ghost use Rattle.dwz_unit.specs.Rows.{units_of as raw_units};
@@ -49,6 +49,17 @@ fn sections_of(
     })
 }
 
+// Whether the file with a number imports from the common file.
+#[inline(always)]
+fn is_importing(importing: &[bool], number: usize) -> bool
+    ensures { result ≡ get_or importing.now number false }
+{
+    match importing.get(number) {
+        Some(flag) => *flag,
+        None => false,
+    }
+}
+
 // What is new in the file with a number, which has that rank among those that are written.
 fn new_file(alloc: Global, work: &Work, number: usize, rank: u32) -> Result<NewFile, NoMemory>
     requires { (f : Facts) × IsWork f work.now × HasRank f number rank }
@@ -58,7 +69,12 @@ fn new_file(alloc: Global, work: &Work, number: usize, rank: u32) -> Result<NewF
     let units_at = units_at(alloc, work, &moved)?;
     let sections = sections_of(alloc, work, &moved, units_at.as_slice())?;
     let narrow = narrow_fault(alloc, work, &moved, units_at.as_slice())?;
-    Ok(NewFile { sections, narrow })
+    let imports = is_importing(work.prepared.run.settled.importing.as_slice(), number);
+    Ok(NewFile {
+        sections,
+        narrow,
+        imports,
+    })
 }
 
 /// What is new in the file with a number, if it is written.

@@ -1,9 +1,11 @@
-//! `.debug_info` and `.debug_abbrev` of a file, and where its units begin after.
+//! `.debug_info` and `.debug_abbrev` of what is laid, and where the units of a file begin after.
 
 ghost use Rattle.std.specs.Prelude.{◌≡◌, ℕ, length, IfOk};
 ghost use Rattle.dwz_back.specs.Files.{sections_of};
-ghost use Rattle.dwz_facts.specs.Facts.{Facts, run};
+ghost use Rattle.dwz_laid.specs.Facts.{Facts, run};
+ghost use Rattle.dwz_pages.specs.Pages.{units_page};
 ghost use Rattle.dwz_unit.specs.Rows.{units_of as raw_units};
+ghost use Rattle.dwz_writing.specs.Writing.{joined};
 ghost use Rattle.dwz_make.specs.Works.{HaveUnitPlaces, IsMoved};
 
 use crate::moved::Moved;
@@ -11,16 +13,38 @@ use crate::unit_places;
 use crate::work::Work;
 use dwz_model::{Blob, NoMemory};
 use dwz_pages::info_of;
+use dwz_places::{FileLayout, UnitItems};
 use std::alloc::Global;
 
-/// `.debug_info` of a file (DWARF 5, 7.5.1).
+/// `.debug_info` of units that are laid so, the first of which has that number (DWARF 5, 7.5.1).
+pub(crate) fn laid_info(
+    alloc: Global,
+    work: &Work,
+    first: u32,
+    units: &[UnitItems],
+    laid: &FileLayout,
+) -> Result<Blob, NoMemory>
+    ensures { let layout = work.now.layout.now in
+        IfOk result (λ info. info ≡ units_page work.now.prepared.now.known layout.places layout.roots first units.now laid.now.units.items) }
+{
+    let known = &work.prepared.known;
+    let info = info_of(alloc, known, work.layout.spots(), first, units, laid)?;
+    Ok(Blob::new(info))
+}
+
+/// Their `.debug_abbrev` (7.5.3).
+pub(crate) fn laid_abbrevs(alloc: Global, laid: &FileLayout) -> Result<Blob, NoMemory>
+    ensures { IfOk result (λ abbrevs. abbrevs ≡ joined laid.now.tables) }
+{
+    let abbrevs = laid.tables.section().to_vec(alloc)?;
+    Ok(Blob::new(abbrevs))
+}
+
+/// `.debug_info` of a file (7.5.1).
 pub(crate) fn info_section(alloc: Global, work: &Work, moved: &Moved) -> Result<Blob, NoMemory>
     ensures { (f : Facts) → IsMoved f work.now moved.now → IfOk result (λ info. info ≡ (sections_of (run f) moved.now.number).info) }
 {
-    let known = &work.prepared.known;
-    let spots = work.layout.spots();
-    let info = info_of(alloc, known, spots, moved.first, moved.units, moved.laid)?;
-    Ok(Blob::new(info))
+    laid_info(alloc, work, moved.first, moved.units, moved.laid)
 }
 
 /// `.debug_abbrev` of a file (7.5.3).
@@ -28,8 +52,7 @@ pub(crate) fn abbrev_section(alloc: Global, work: &Work, moved: &Moved) -> Resul
     ensures { (f : Facts) → IsMoved f work.now moved.now
         → IfOk result (λ abbrevs. abbrevs ≡ (sections_of (run f) moved.now.number).abbrevs) }
 {
-    let abbrevs = moved.laid.tables.section().to_vec(alloc)?;
-    Ok(Blob::new(abbrevs))
+    laid_abbrevs(alloc, moved.laid)
 }
 
 /// For each unit of a file where it begins after, in bytes from the first of `.debug_info`.

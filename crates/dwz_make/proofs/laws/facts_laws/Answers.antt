@@ -1,4 +1,4 @@
-use Rattle.dwz_make.proofs.FactsNumbered.{apart, flags_are, planned_facts, settled_facts}
+use Rattle.dwz_make.proofs.FactsNumbered.{flags_are, planned_facts, settled_facts}
 use Rattle.dwz_make.proofs.laws.facts_laws.Goals as goal
 
 pub returns-clause-flags : goal.returns-clause-flags
@@ -9,6 +9,3 @@ returns-clause-facts c = planned_facts
 
 pub returns-clause-settled : goal.returns-clause-settled
 returns-clause-settled c = settled_facts
-
-pub returns-clause-apart : goal.returns-clause-apart
-returns-clause-apart c = apart

@@ -2,4 +2,4 @@ use Rattle.dwz_make.proofs.FilesTexts.{stood}
 use Rattle.dwz_make.proofs.laws.stood_laws.Goals as goal
 
 pub returns : goal.returns
-returns c = λ f s t k orders are stand. stood f s t k orders are stand
+returns c = stood

@@ -12,6 +12,16 @@ pub tops-requires-clause-inside : goal.tops-requires-clause-inside
 tops-requires-clause-inside c =
     tops_inside c.requires.0 c.args.prepared.now c.requires.1 c.as_slice-indexes.result.now c.as_slice-indexes.ensures.value
 
+pub new_common-requires : goal.new_common-requires
+new_common-requires c = (
+  c.requires.0,
+  work_made c.requires.0 _ c.requires.1 c.as_slice-indexes.result.now c.deref.result.now c.in_ok-starts.starts.items c.in_ok-tops.tops.items
+      c.as_slice-indexes.ensures.value c.deref.ensures.value c.in_ok-layout.ensures c.as_slice.ensures.value c.in_ok-starts.ensures
+      c.as_slice-2.ensures.value
+      c.in_ok-tops.ensures,
+  c.requires.2,
+)
+
 pub new_files-requires : goal.new_files-requires
 new_files-requires c = (
   c.requires.0,
@@ -21,9 +31,18 @@ new_files-requires c = (
       c.in_ok-tops.ensures,
 )
 
-pub returns : goal.returns
-returns c f works =
-    c.new_files.ensures f
+pub returns-clause-common : goal.returns-clause-common
+returns-clause-common c f works has =
+    c.in_ok-common.ensures f
+    (work_made f _ works c.as_slice-indexes.result.now c.deref.result.now c.in_ok-starts.starts.items c.in_ok-tops.tops.items
+    c.as_slice-indexes.ensures.value c.deref.ensures.value c.in_ok-layout.ensures c.as_slice.ensures.value c.in_ok-starts.ensures
+    c.as_slice-2.ensures.value
+    c.in_ok-tops.ensures)
+    has
+
+pub returns-clause-files : goal.returns-clause-files
+returns-clause-files c f works =
+    c.in_ok-files.ensures f
     (work_made f _ works c.as_slice-indexes.result.now c.deref.result.now c.in_ok-starts.starts.items c.in_ok-tops.tops.items
     c.as_slice-indexes.ensures.value c.deref.ensures.value c.in_ok-layout.ensures c.as_slice.ensures.value c.in_ok-starts.ensures
     c.as_slice-2.ensures.value

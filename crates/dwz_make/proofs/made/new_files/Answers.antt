@@ -1,6 +1,6 @@
 use Rattle.std.proofs.Common.{◌≡◌, ◌+◌, ◌<◌, ℕ, List, Option, length, refl, sym, ap, subst, ◌∙◌, arith}
 use Rattle.std.proofs.lemmas.List.{length_push}
-use Rattle.dwz_facts.specs.Facts.{run}
+use Rattle.dwz_laid.specs.Facts.{run}
 use Rattle.dwz_after.specs.declared.new_file.NewFile.{NewFile}
 use Rattle.dwz_make.proofs.FilesMade.{EachIs, each_push}
 use Rattle.dwz_make.proofs.WorksMade.{all_new, rank_found}

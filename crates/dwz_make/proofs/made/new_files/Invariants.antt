@@ -1,5 +1,5 @@
 use Rattle.std.proofs.Common.{◌≡◌, length}
-use Rattle.dwz_facts.specs.Facts.{Facts, run}
+use Rattle.dwz_laid.specs.Facts.{Facts, run}
 use Rattle.dwz_make.specs.Works.{IsWork}
 use Rattle.dwz_make.proofs.FilesMade.{EachIs}
 use Rattle.dwz_make.proofs.made.new_files.Given as goal

@@ -18,7 +18,7 @@ pub index-requires : goal.index-requires
 index-requires c =
     let r = c.requires in
     let below = in_indexes r.0 c.args.work.now r.1 c.args.number c.args.rank r.2 in
-    omega (arith, below, c.args.work.now.prepared.now.alone.indexes.ok.0)
+    omega (arith, below, c.args.work.now.prepared.now.run.indexes.ok.0)
 
 pub offset_bounds-work-number : goal.offset_bounds-work-number
 offset_bounds-work-number c =
@@ -60,6 +60,6 @@ returns-clause-moved c f is has =
     ∙ ap (λ (us : List UnitItems). Some us) (sym c.as_slice.ensures) in
     is_moved f w is rank (rank + 1) _ has behind (slice_get-get_or p.files.now n c.index-prepared-number.result
     (in_files f w is n rank has))
-    (item_got p.alone.indexes.items n c.index.result.now (in_indexes f w is n rank has) c.index.ensures)
+    (item_got p.run.indexes.items n c.index.result.now (in_indexes f w is n rank has) c.index.ensures)
     (slice_get-get_or w.starts.now n 0 (in_starts f w is n rank has))
     (item_got p.ordered.firsts.items (rank + 1) c.index-2.result.now low_firsts c.index-2.ensures) units c.file.ensures

@@ -7,7 +7,7 @@ use Rattle.dwz_make.specs.Moved.{moved_space}
 use Rattle.dwz_make.proofs.moving.move_names.Goals as goal
 
 none : SpaceRow
-none = record { row = record { file = 0; entry = 0 }; text = Own 0 }
+none = record { row = record { file = 0; entry = 0 }; text = Own 0; common = Own 0 }
 
 pub loop-space-preserved : goal.loop-space-preserved
 unfolding none

@@ -4,7 +4,7 @@ use Rattle.dwz_after.specs.NewFiles.{NarrowFault}
 use Rattle.dwz_narrow.specs.Narrow.{FirstPlace, after_in, number_by}
 use Rattle.dwz_out.specs.Contents.{listed}
 use Rattle.dwz_out.specs.Refusals.{spoken}
-use Rattle.dwz_facts.specs.Facts.{run}
+use Rattle.dwz_laid.specs.Facts.{run}
 use Rattle.dwz_make.proofs.FirstNarrow.{found_listed, found_none, found_spoken}
 use Rattle.dwz_make.proofs.narrow.narrow_fault.Goals as goal
 

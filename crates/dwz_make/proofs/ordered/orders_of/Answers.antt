@@ -1,6 +1,6 @@
-use Rattle.dwz_make.proofs.AloneSettled.{parts_within}
+use Rattle.dwz_make.proofs.RunSettled.{parts_within}
 use Rattle.dwz_make.proofs.ordered.orders_of.Goals as goal
 
 pub orders_of_files-requires-clause-files : goal.orders_of_files-requires-clause-files
 orders_of_files-requires-clause-files c =
-    parts_within c.args.graph.now c.args.alone.now c.settled-settled.result c.requires.alone c.settled-settled.ensures
+    parts_within c.args.graph.now c.args.run.now c.settled-settled.result c.requires.run c.settled-settled.ensures

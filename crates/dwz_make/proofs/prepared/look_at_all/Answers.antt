@@ -3,7 +3,7 @@ use Rattle.std.proofs.lemmas.List.{length-map}
 use Rattle.std.proofs.lemmas.Option.{get_or_from_slice_get}
 use Rattle.dwz_docs.specs.Values.{AreBytes}
 use Rattle.dwz_seen.specs.Lists.{Each}
-use Rattle.dwz_make.proofs.AloneSettled.{content_at}
+use Rattle.dwz_make.proofs.RunSettled.{content_at}
 use Rattle.dwz_make.proofs.prepared.look_at_all.Goals as goal
 
 items_of : Vec ℕ Global → List ℕ

@@ -1,7 +1,9 @@
-use Rattle.std.proofs.Common.{ℕ, List, length, sym, ap, subst, ◌∙◌}
+use Rattle.std.proofs.Common.{◌≡◌, ℕ, Bool, false, List, get_or, length, sym, ap, subst, ◌∙◌}
 use Rattle.dwz_after.specs.declared.new_file.NewFile.{NewFile}
 use Rattle.dwz_after.specs.NewFiles.{IsNewFile}
-use Rattle.dwz_facts.specs.Facts.{run}
+use Rattle.dwz_back.specs.Files.{imports_common}
+use Rattle.dwz_laid.specs.Facts.{move, run, units}
+use Rattle.dwz_make.proofs.FileImports.{imports_are}
 use Rattle.dwz_make.specs.Works.{HaveUnitPlaces}
 use Rattle.dwz_make.proofs.sections.new_file.Goals as goal
 
@@ -24,10 +26,18 @@ returns c f is has =
     let begin = c.in_ok-units_at.ensures.places f moved in
     let first = subst (HaveUnitPlaces f m) (sym c.as_slice.ensures.value) begin in
     let second = subst (HaveUnitPlaces f m) (sym c.as_slice-2.ensures.value) begin in
-    let new : NewFile = record { sections = c.in_ok-sections.sections; narrow = c.in_ok-narrow.narrow } in
+    let imports = c.is_importing-imports.ensures ∙ ap (λ (flags : List Bool). get_or flags c.args.number false) c.as_slice-3.ensures.value
+    ∙ imports_are f c.args.work.now is c.args.number c.args.rank has in
+    let new : NewFile = record {
+      sections = c.in_ok-sections.sections;
+      narrow = c.in_ok-narrow.narrow;
+      imports = c.is_importing-imports.result;
+    } in
     let made : IsNewFile (run f) m.number new = record {
       moves = moved.moves;
       sections = c.in_ok-sections.ensures f moved first;
       narrow = c.in_ok-narrow.ensures f moved second;
+      imports = subst (λ (k : ℕ). c.is_importing-imports.result ≡ imports_common (move f) (units f) k) (sym c.moved_file-moved.ensures.number)
+          imports;
     } in
     subst (λ (k : ℕ). IsNewFile (run f) k new) c.moved_file-moved.ensures.number made

@@ -1,0 +1,93 @@
+-- Once the common file has its texts, all texts stand where the definitions say: its own, those that files share, and all others.
+use Rattle.std.proofs.Common.{◌≡◌, ℕ, suc, ◌<◌, Bool, true, List, [], ◌∷◌, map, None, Option, Some, slice_get, refl, sym, ap, subst, ◌∙◌}
+use Rattle.dwz_seen.specs.Lists.{Each}
+use Rattle.dwz_alike.specs.Spots.{file_numbers}
+use Rattle.dwz_back.specs.Files.{imports_common, paths, texts}
+use Rattle.dwz_sound.specs.Sound.{FewTexts}
+use Rattle.dwz_writing.specs.Placing.{lines_bytes, texts_bytes}
+use Rattle.dwz_ordered.specs.declared.orders.Settled.{Settled}
+use Rattle.dwz_ordered.specs.Ordered.{AreOrders}
+use Rattle.dwz_places.specs.declared.known.Known.{Known}
+use Rattle.dwz_places.specs.declared.order.UnitItems.{UnitItems}
+use Rattle.dwz_laid.specs.Facts.{Facts, docs, files_written, move, run, units}
+use Rattle.dwz_laid.specs.Laid.{TextsKnown}
+use Rattle.dwz_laid.specs.Listed.{AreListed, TextsAt}
+use Rattle.dwz_texts.specs.TextLaws.{StandAsRead}
+use Rattle.dwz_common.specs.CommonLaws.{IsCommonOrder}
+use Rattle.dwz_common.specs.Pooled.{PoolsUnit as Pools}
+use Rattle.dwz_common.specs.SharedLaws.{HasCommon}
+use Rattle.dwz_common.specs.WithCommon.{texts_held}
+use Rattle.dwz_common.proofs.CommonUnits.{know_common}
+use Rattle.dwz_common.proofs.PooledTexts.{pooled_law}
+use Rattle.dwz_make.specs.declared.common.CommonTexts.{CommonTexts}
+use Rattle.dwz_make.specs.declared.common.WholeLists.{WholeLists}
+use Rattle.dwz_make.specs.Common.{AreWhole, HasTexts}
+use Rattle.dwz_make.specs.Prepared.{ArePrepared, IsOrdered}
+use Rattle.dwz_make.specs.Stood.{FilesUnshared}
+use Rattle.dwz_make.specs.Whole.{PoolsUnit, StandWhole}
+use Rattle.dwz_make.proofs.CommonThere.{some_there}
+use Rattle.dwz_make.proofs.FilesTexts.{stood}
+use Rattle.dwz_make.proofs.OwnedTexts.{names_owned, order_owned}
+use Rattle.dwz_make.proofs.SharedFiles.{files_shared}
+
+-- the texts of the entries of each unit
+entries_pooled : (f : Facts) (k : Known) (order : List UnitItems) → Each (Pools f k) order → Each (PoolsUnit f k) order
+entries_pooled f k [] all = tt
+entries_pooled f k (o ∷ order) all = (λ n bytes x index h i r d read writes. all.0.entries n bytes x index h i r d read writes, entries_pooled f k order all.1)
+
+module _ (f : Facts) (s : Settled) (t : TextsAt) (before : Known) (orders : List (List UnitItems)) (p : ArePrepared f s t before orders)
+    (as_read : StandAsRead f t) where
+  -- the first order is that of the common file
+  pub common_order : (common : List UnitItems) (others : List (List UnitItems)) → orders ≡ common ∷ others → IsCommonOrder f before common
+  common_order common others are = record {
+    facts = p.facts;
+    t = t;
+    listed = p.listed;
+    s = s;
+    settled = p.settled;
+    others = others;
+    ordered = subst (λ (w : List (List UnitItems)). AreOrders f.contents f.indexes s w) are p.ordered;
+  }
+
+  pub first_is : (order : List UnitItems) → slice_get orders 0 ≡ Some order → orders ≡ order ∷ p.ordered.others
+  first_is order is =
+      let are = p.ordered.orders_are in
+      let both : Some p.ordered.common ≡ Some order = ap (λ (w : List (List UnitItems)). slice_get w 0) (sym are) ∙ is in
+      let same : p.ordered.common ≡ order = cc in
+      are ∙ ap (λ (o : List UnitItems). o ∷ p.ordered.others) same
+
+  module _ (sharing : List Bool) (flags : sharing ≡ map (imports_common (move f) (units f)) (file_numbers 0 (docs f))) (k : Known)
+      (has : HasCommon f sharing before k) where
+    old : (common : List UnitItems) (others : List (List UnitItems)) → orders ≡ common ∷ others
+        → FilesUnshared f before (files_written f) others
+    old common others are = stood f s t before orders p as_read common others are
+
+    given : StandWhole f k orders
+    given =
+        let common = p.ordered.common in
+        let others = p.ordered.others in
+        let are = p.ordered.orders_are in
+        record {
+          known = subst (TextsKnown f k (λ n. None)) (sym are) (
+            know_common f sharing before k common (common_order common others are) has,
+            files_shared f t sharing before k p.facts p.listed has flags (files_written f) others (old common others are),
+          );
+          pooled = λ common others are. entries_pooled f k common (pooled_law f sharing before k common (common_order common others are) has);
+          owned = λ n rank first order is.
+              order_owned f t sharing before k p.facts p.listed as_read has (files_written f) others (old common others are) rank n order
+              is.file (ap (λ (w : List (List UnitItems)). slice_get w (suc rank)) (sym are) ∙ is.order_is);
+          names = λ n. names_owned f t sharing before k p.facts p.listed as_read has n;
+        }
+
+    -- so the lists are those with the texts of the common file, where these are its sections, and not too long
+    pub texts_given : AreListed f (texts_held k) k → 0 < f.commons → (c : CommonTexts) → c.strs.items ≡ texts_bytes (texts (run f))
+        → c.lines.items ≡ lines_bytes (paths (run f)) → FewTexts (run f) → (w : WholeLists) → w.known ≡ k → w.common ≡ Some c
+        → AreWhole f s orders w
+    texts_given listed some c strs lines few w known common = record {
+      texts = texts_held k;
+      prepared = subst (λ (x : Known). ArePrepared f s (texts_held k) x orders) (sym known)
+          (record { facts = p.facts; read = p.read; settled = p.settled; ordered = p.ordered; listed = listed });
+      stand = subst (λ (x : Known). StandWhole f x orders) (sym known) given;
+      few = few;
+      common = subst (HasTexts (run f)) (sym common) (some_there f p.facts some, strs, lines);
+    }

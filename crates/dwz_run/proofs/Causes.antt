@@ -1,6 +1,5 @@
 -- Why a run ends as it does: what each status says, by its words and by what failed.
-use Rattle.std.proofs.Common.{◌≡◌, ◌⊎◌, ℕ, List, Option, Some, None, refl, sym, ap, subst, inl, inr}
-use Rattle.std.specs.Prelude.{IsSome}
+use Rattle.std.proofs.Common.{◌≡◌, ◌⊎◌, ℕ, List, Option, Some, None, refl, ap, subst, inl, inr}
 use Rattle.dwz_model.specs.declared.fault.Refusal.{Refusal}
 use Rattle.dwz_outside.specs.Store.{Store}
 use Rattle.dwz_outside.specs.Told.{LeavesPuts, Shown, Told}
@@ -8,13 +7,19 @@ use Rattle.dwz_words.specs.declared.options.Options.{Options}
 use Rattle.dwz_words.specs.Lawful.{Lawful}
 use Rattle.dwz_course.specs.declared.status.Status.{Status}
 use Rattle.dwz_course.specs.declared.status.Status.TheVariants.{Done, Refused, Usage, ReadFault, WriteFault, NoMemory, ConsoleFault}
-use Rattle.dwz_course.specs.Demo.{asked_by}
+use Rattle.dwz_report.specs.Texts.{refusal_text}
+use Rattle.dwz_course.specs.Demo.{asked, asked_by, demo_options}
 use Rattle.dwz_course.specs.Ends.{AreContents, Came, Says}
-use Rattle.dwz_course.specs.Gets.{gets}
-use Rattle.dwz_course.specs.Outcome.{refuses}
-use Rattle.dwz_run.specs.Gives.{gives_alone, gives_by, no_files, not_built}
-use Rattle.dwz_run.specs.Laws.{IsCause, PutsNothing, RunEnds, WasRefused}
+use Rattle.dwz_course.specs.Outcome.{name_of, refuses}
+use Rattle.dwz_demo.specs.Demo.{demo_files}
+use Rattle.dwz_out.specs.Out.{Out}
+use Rattle.dwz_run.specs.Laws.{IsFirstRefusal, PutsNothing, RunEnds, WasRefused, for_demo, for_files}
 use Rattle.dwz_run.proofs.Outputs.{got_of}
+
+-- the files of a demonstration were refused with their first fault
+pub demo_refused : (r : Refusal) (o : Options) (n : ℕ) (contents : List (List ℕ)) → contents ≡ demo_files n → Out (demo_options o) contents (refuses r)
+    → IsFirstRefusal (demo_options o) (demo_files n) r
+demo_refused r o n contents are given = subst (λ (cs : List (List ℕ)). Out (demo_options o) cs (refuses r)) are given
 
 module _ (words : List (List ℕ)) (old new : Told) (shown shown_new : Shown) where
   -- ---- nothing is put
@@ -56,39 +61,30 @@ module _ (words : List (List ℕ)) (old new : Told) (shown shown_new : Shown) wh
   -- ---- a refusal
 
   module _ (store : Store) (told : old.held ≡ Some store) where
-    one_refusal : (a b : Refusal) → refuses a ≡ refuses b → a ≡ b
-    one_refusal a b e = cc
-
-    cause : (r : Refusal) → Came no_files gives_alone words old (refuses r) → IsCause words store r
-    cause r came = by came.options.demo refl came.are came.given where
+    refused_with : (r : Refusal) (came : Came demo_files Out words old (refuses r)) (text : List ℕ)
+        → text ≡ refusal_text (name_of (asked came.options) r.file) r → WasRefused words store text
+    refused_with r came text is = by came.options.demo refl came.are came.given is where
       o : Options
       o = came.options
 
       contents : List (List ℕ)
       contents = came.contents
 
-      of_files : o.demo ≡ None → gets store 0 o.files ≡ Some contents → (c : Option (List ℕ)) → o.common ≡ c
-          → gives_by c o contents (refuses r) → IsCause words store r
-      of_files no_demo got None e given =
-          inl (record { options = o; lawful = came.lawful; no_demo = no_demo; alone = e; contents = contents; got = got }, given)
-      of_files no_demo got (Some common) e given =
-          inr (o, came.lawful, inl (subst (λ (c : Option (List ℕ)). IsSome c) (sym e) refl), one_refusal r not_built given)
-
-      by : (d : Option ℕ) → o.demo ≡ d → AreContents no_files d old o.files contents
-          → gives_alone (asked_by d o) contents (refuses r) → IsCause words store r
-      by (Some n) e are given = inr (o, came.lawful, inr (subst (λ (d : Option ℕ). IsSome d) (sym e) refl), one_refusal r not_built given)
-      by None e are given = of_files e (got_of words old store told o.files contents are) o.common refl given
+      by : (d : Option ℕ) → o.demo ≡ d → AreContents demo_files d old o.files contents → Out (asked_by d o) contents (refuses r)
+          → text ≡ refusal_text (name_of (asked_by d o) r.file) r → WasRefused words store text
+      by None e are given is = record {
+        asks = for_files (record { options = o; lawful = came.lawful; no_demo = e; contents = contents; got = got_of words old store told o.files contents are });
+        refusal = r;
+        is_first = given;
+        text_is = is;
+      }
+      by (Some n) e are given is = record {
+        asks = for_demo (record { options = o; lawful = came.lawful; units = n; is_demo = e });
+        refusal = r;
+        is_first = demo_refused r o n contents are given;
+        text_is = is;
+      }
 
     pub was_refused : RunEnds words old new shown shown_new Refused
         → (text : List ℕ) × WasRefused words store text × Says shown shown_new Refused text
-    was_refused e = (
-      e.text,
-      record {
-        refusal = e.files.0;
-        cause = cause e.files.0 e.files.1;
-        options = e.files.1.options;
-        lawful = e.files.1.lawful;
-        text_is = e.files.3;
-      },
-      e.console,
-    )
+    was_refused e = (e.text, refused_with e.files.0 e.files.1 e.text e.files.3, e.console)

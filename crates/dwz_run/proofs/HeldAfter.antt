@@ -1,6 +1,8 @@
--- When all puts are done each FILE, or the one output, holds what it has after: FILEs differ, and held their bytes before.
+-- When all puts are done each FILE, or the one output, holds what it has after, and the common file is there: names differ, and FILEs held
+-- their bytes before.
 use Rattle.std.proofs.Common.{◌≡◌, ℕ, suc, Bool, true, false, List, [], ◌∷◌, ◌++◌, length, Option, Some, None, refl, sym, ap, subst, ◌∙◌, inl, inr, arith}
 use Rattle.std.specs.Prelude.{◌||◌, ◌&&◌, ◌==◌, not, is_none, if◌then◌else◌}
+use Rattle.std.specs.Option.{option_map_or}
 use Rattle.std.specs.Str.{bytes_eq}
 use Rattle.std.proofs.lemmas.Bool.{and_parts, eqb-true}
 use Rattle.std.proofs.lemmas.Slice.Eq.{bytes_eq-Decides}
@@ -11,8 +13,8 @@ use Rattle.dwz_outside.specs.declared.puts.Put.{Put}
 use Rattle.dwz_outside.specs.Store.{Store, done, put_in}
 use Rattle.dwz_words.specs.Conditions.{FitTogether, are_distinct, is_among}
 use Rattle.dwz_words.specs.declared.options.Options.{Options}
-use Rattle.dwz_out.specs.FilesAfter.{bytes_after, bytes_by, file_after}
-use Rattle.dwz_out.specs.Out.{all_puts, common_puts, file_puts, files_puts, puts_by, sup_name}
+use Rattle.dwz_out.specs.FilesAfter.{bytes_after, bytes_by, common_bytes, file_after, has_common}
+use Rattle.dwz_out.specs.Out.{all_puts, common_puts, file_puts, files_puts, put_of, puts_by, sup_name}
 use Rattle.dwz_run.specs.Laws.{HoldAfter, goes_to}
 
 -- ---- names that differ
@@ -128,19 +130,83 @@ module _ (o : Options) (r : Run) (out : List ℕ) (elsewhere : o.out ≡ Some ou
   one_file (x ∷ []) len st file name (inr later) = absurd later
   one_file (x ∷ []) len st file name (inl is) = subst (λ (f : ℕ). done (file_puts o r 0 x ++ []) st out ≡ Some (bytes f)) is.0 (single st x)
 
-  one_alone : FitTogether o → length o.files ≡ 1
-  one_alone fit =
-      let given = sym (ap (λ (w : Option (List ℕ)). is_none w || ((length o.files == 1) && is_none o.common)) elsewhere) ∙ fit.out_only_for_one in
-      eqb-true (length o.files) 1 (and_parts (length o.files == 1) (is_none o.common) given).0
+  one_alone : FitTogether o → (length o.files == 1) && is_none o.common ≡ true
+  one_alone fit = sym (ap (λ (w : Option (List ℕ)). is_none w || ((length o.files == 1) && is_none o.common)) elsewhere) ∙ fit.out_only_for_one
+
+  no_common : FitTogether o → o.common ≡ None
+  no_common fit = by o.common (and_parts (length o.files == 1) (is_none o.common) (one_alone fit)).1 where
+    by : (w : Option (List ℕ)) → is_none w ≡ true → w ≡ None
+    by None e = refl
+    by (Some c) e = absurd cc
+
+  elsewhere_held : FitTogether o → (store : Store) → HoldAfter o r (done (all_puts o r) store)
+  elsewhere_held fit store = record {
+    files = λ file name nth.
+        subst (λ (w : Option (List ℕ)). done (all_puts o r) store (goes_to w name) ≡ Some (bytes file)) (sym elsewhere)
+        (subst (λ (c : Option (List ℕ)). done (common_puts c r ++ files_puts o r 0 o.files) store out ≡ Some (bytes file)) (sym (no_common fit))
+        (one_file o.files (eqb-true (length o.files) 1 (and_parts (length o.files == 1) (is_none o.common) (one_alone fit)).0) store file name nth));
+    common = λ name is has. absurd (let z : None ≡ Some name = sym (no_common fit) ∙ is in cc);
+  }
+
+-- ---- in place, the common file first
+
+module _ (o : Options) (r : Run) (in_place : o.out ≡ None) (fit : FitTogether o) (store : Store)
+    (held : (file : ℕ) (name : List ℕ) → Nth 0 o.files file name → store name ≡ Some (r.input.bytes file)) where
+  abbrev puts : List Put
+  puts = files_puts o r 0 o.files
+
+  abbrev is_new : ℕ → List ℕ
+  is_new file = bytes_after (sup_name o) r file
+
+  -- these puts leave each FILE with what it has after, and the common file with its bytes
+  record Leave (c : Option (List ℕ)) (has : Bool) (now : Store) : Type 0 where
+    files : (file : ℕ) (name : List ℕ) → Nth 0 o.files file name → now name ≡ Some (is_new file)
+    common : (name : List ℕ) → c ≡ Some name → has ≡ true → now name ≡ Some (common_bytes r)
+
+  one_some : (a b : List ℕ) → Some a ≡ Some b → a ≡ b
+  one_some a b e = cc
+
+  files_alone : (file : ℕ) (name : List ℕ) → Nth 0 o.files file name → done puts store name ≡ Some (is_new file)
+  files_alone file name nth = all o r in_place 0 o.files store fit.distinct_files held file name nth
+
+  -- the puts of the FILEs leave the common file, and that leaves the FILEs
+  behind : (c : List ℕ) → is_among o.files c ≡ false → Leave (Some c) true (done (put_of c (common_bytes r) ∷ puts) store)
+  behind c free =
+      let first = put_in c (common_bytes r) store in
+      let others = λ (f : ℕ) (n : List ℕ) (at : Nth 0 o.files f n). put_other n c (common_bytes r) store (not_named c o.files free 0 f n at) ∙ held f n at in
+      record {
+        files = λ file name nth. all o r in_place 0 o.files first fit.distinct_files others file name nth;
+        common = λ name is has.
+            (let same : c ≡ name = one_some c name is in
+            subst (λ (w : List ℕ). done puts first w ≡ Some (common_bytes r)) same
+            (leaves o r in_place c 0 o.files first free ∙ put_own c (common_bytes r) store));
+      }
+
+  leave : Leave o.common (has_common r) (done (all_puts o r) store)
+  leave = by o.common refl (has_common r) refl where
+    by : (w : Option (List ℕ)) → o.common ≡ w → (b : Bool) → has_common r ≡ b → Leave w b (done (common_puts w r ++ puts) store)
+    by None e b h = record { files = files_alone; common = λ name is has. absurd (let z : None ≡ Some name = is in cc) }
+    by (Some c) e true h =
+        let free : is_among o.files c ≡ false = not_false (is_among o.files c)
+        (sym (ap (λ (w : Option (List ℕ)). option_map_or (λ common. not (is_among o.files common)) w true) e) ∙ fit.common_apart) in
+        subst (λ (t : Bool). Leave (Some c) true (done ((if t then put_of c (common_bytes r) ∷ [] else []) ++ puts) store)) (sym h) (behind c free)
+    by (Some c) e false h =
+        subst (λ (t : Bool). Leave (Some c) false (done ((if t then put_of c (common_bytes r) ∷ [] else []) ++ puts) store)) (sym h)
+        (record { files = files_alone; common = λ name is has. absurd (let z : false ≡ true = has in cc) })
+
+  in_place_held : HoldAfter o r (done (all_puts o r) store)
+  in_place_held =
+      record {
+        files = λ file name nth.
+            subst (λ (w : Option (List ℕ)). done (all_puts o r) store (goes_to w name) ≡ Some (is_new file)) (sym in_place) (leave.files file name nth);
+        common = leave.common;
+      }
 
 -- ---- either way
 
-pub hold_after : (o : Options) (r : Run) → FitTogether o → o.common ≡ None → (store : Store)
+pub hold_after : (o : Options) (r : Run) → FitTogether o → (store : Store)
     → ((file : ℕ) (name : List ℕ) → Nth 0 o.files file name → store name ≡ Some (r.input.bytes file)) → HoldAfter o r (done (all_puts o r) store)
-hold_after o r fit alone store held file name nth =
-    subst (λ (c : Option (List ℕ)). done (common_puts c r ++ files_puts o r 0 o.files) store (goes_to o.out name) ≡ Some (bytes_after (sup_name o) r file))
-    (sym alone) (by o.out refl) where
-      by : (w : Option (List ℕ)) → o.out ≡ w
-          → done (files_puts o r 0 o.files) store (goes_to w name) ≡ Some (bytes_after (sup_name o) r file)
-      by None e = all o r e 0 o.files store fit.distinct_files held file name nth
-      by (Some out) e = one_file o r out e o.files (one_alone o r out e fit) store file name nth
+hold_after o r fit store held = by o.out refl where
+  by : (w : Option (List ℕ)) → o.out ≡ w → HoldAfter o r (done (all_puts o r) store)
+  by None e = in_place_held o r e fit store held
+  by (Some out) e = elsewhere_held o r out e fit store

@@ -1,8 +1,12 @@
-pub mod FilesAlone
-pub mod HeldBytes
+pub mod FilesWritten
+pub mod OfBytes
+pub mod CommonName
 pub mod HeldAfter
+pub mod ChangedFiles
 pub mod Outputs
 pub mod AllDone
+pub mod Stopped
 pub mod SameWorkers
 pub mod Causes
 pub mod Answered
+pub mod Demonstrated

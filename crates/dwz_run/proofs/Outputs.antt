@@ -1,88 +1,115 @@
--- A run that puts something was asked for FILEs by themselves: for a common file, and so for a demonstration, there is just the refusal.
-use Rattle.std.proofs.Common.{◌≡◌, ℕ, Bool, List, [], Option, Some, None, refl, ap, subst, ◌∙◌}
+-- What came of a run that did all is what is put of its FILEs, or of the two files of a demonstration, of which nothing is put.
+use Rattle.std.proofs.Common.{◌≡◌, ◌⊎◌, ℕ, List, [], Option, Some, None, refl, ap, subst, ◌∙◌, inl, inr}
 use Rattle.std.specs.Prelude.{IfSome, if◌then◌else◌}
-use Rattle.dwz_meanings.specs.Documents.{Doc}
-use Rattle.dwz_docs.specs.Values.{AreBytes}
-use Rattle.dwz_seen.specs.Lists.{Each}
-use Rattle.dwz_alike.specs.Alike.{Apart}
-use Rattle.dwz_back.specs.AllFiles.{ReadBack}
-use Rattle.dwz_model.specs.declared.fault.Refusal.{Refusal}
+use Rattle.dwz_docs.specs.Texts.{NoZero}
 use Rattle.dwz_outside.specs.Store.{Store, done}
 use Rattle.dwz_outside.specs.Told.{Told}
-use Rattle.dwz_report.specs.Texts.{summary_text}
+use Rattle.dwz_report.specs.Texts.{demo_text, summary_text}
 use Rattle.dwz_words.specs.declared.options.Options.{Options}
+use Rattle.dwz_words.specs.Lawful.{Lawful}
 use Rattle.dwz_course.specs.declared.output.Output.{Output}
-use Rattle.dwz_course.specs.Demo.{asked_by}
+use Rattle.dwz_course.specs.Demo.{asked_by, demo_options, new_length, old_length}
 use Rattle.dwz_course.specs.Ends.{AreContents, Came, done_text, output_text, puts_by}
-use Rattle.dwz_course.specs.Gets.{gets}
-use Rattle.dwz_course.specs.Outcome.{Outcome, refuses, writes}
-use Rattle.dwz_out.specs.FilesAfter.{file_after}
-use Rattle.dwz_out.specs.Out.{IsWritten, common_of, rule_of, run_for, scope_by, stored_of, sup_name}
-use Rattle.dwz_out.proofs.AllMade.{read_back}
+use Rattle.dwz_course.specs.Gets.{AreOfBytes, gets}
+use Rattle.dwz_course.specs.Outcome.{writes}
+use Rattle.dwz_demo.specs.Demo.{demo_files}
+use Rattle.dwz_out.specs.Out.{Out, output_of, sup_name}
+use Rattle.dwz_out.proofs.AllMade.{common_tied, file_tied, read_back}
 use Rattle.dwz_out.proofs.Gotten.{are_held}
-use Rattle.dwz_run.specs.Gives.{gives_alone, gives_by, no_files, not_built}
-use Rattle.dwz_run.specs.Laws.{HasOutput, HoldAfter, HoldsBytes, puts_in, run_in, said}
+use Rattle.dwz_run.specs.Laws.{AsksForDemo, AsksForFiles, HasOutput, HoldAfter, IsDemoText, puts_in, run_in, said}
 use Rattle.dwz_run.proofs.HeldAfter.{hold_after}
-use Rattle.dwz_run.proofs.HeldBytes.{all_bytes}
+use Rattle.dwz_run.proofs.CommonName.{demo_named, named_well}
+use Rattle.dwz_run.proofs.OfBytes.{each_bytes}
 
--- an outcome isn't both
-abbrev IsWriting : Outcome → Type 0
-IsWriting (writes out) = Unit {0}
-IsWriting (refuses r) = ⊥
+-- ---- what comes of bytes reads back, and is tied to its common file
 
-not_both : (out : Output) (r : Refusal) → writes out ≡ refuses r → ⊥
-not_both out r is = subst IsWriting is tt
+pub record Given (o : Options) (contents : List (List ℕ)) (out : Output) : Type 0 where
+  pub has : HasOutput o contents
+  pub is : out ≡ output_of o (run_in has)
 
--- without a common file what is put reads back by itself
-reads_back : (o : Options) (contents : List (List ℕ)) (docs : List (Doc ℕ)) (prunes : List Bool) → o.common ≡ None
-    → Each AreBytes contents → IsWritten o contents docs prunes
-    → ReadBack Apart docs (rule_of o docs) (stored_of contents prunes) (file_after (sup_name o) (run_for o contents docs prunes)) None
-reads_back o contents docs prunes alone bytes written =
-    subst (λ (c : Option (List ℕ)). ReadBack (scope_by c) docs (rule_of o docs) (stored_of contents prunes) (file_after (sup_name o) (run_for o contents docs prunes))
-    (common_of c (run_for o contents docs prunes))) alone (read_back o contents docs prunes bytes written)
+given_of : (o : Options) (contents : List (List ℕ)) (out : Output) → NoZero (sup_name o) → AreOfBytes contents → Out o contents (writes out)
+    → Given o contents out
+given_of o contents out no_zero bytes given =
+    let are = each_bytes contents bytes in
+    record {
+      has = record {
+        docs = given.0;
+        prunes = given.1;
+        written = given.2;
+        back = read_back o contents given.0 given.1 are given.2;
+        tied = record {
+          common = common_tied o contents given.0 given.1 are given.2;
+          file = λ file there moves imports. file_tied o contents given.0 given.1 are given.2 file there moves imports no_zero;
+        };
+      };
+      is = given.3;
+    }
+
+-- ---- of FILEs, and of a demonstration
+
+-- these FILEs were asked for, and that is put and said of what came
+pub record OfFiles (words : List (List ℕ)) (store : Store) (o : Options) (out : Output) : Type 0 where
+  pub asks : AsksForFiles words store
+  pub has : HasOutput asks.options asks.contents
+  pub puts_are : puts_by o.demo out ≡ puts_in has
+  pub text_is : done_text o out ≡ said asks.options (run_in has)
+
+-- a demonstration was, and of what came of its two files nothing is put, and one line is said
+pub record OfDemo (words : List (List ℕ)) (o : Options) (out : Output) : Type 0 where
+  pub asks : AsksForDemo words
+  pub puts_are : puts_by o.demo out ≡ []
+  pub is_text : IsDemoText asks (done_text o out)
+
+abbrev demo_line : Options → ℕ → Output → List ℕ
+demo_line o n out = if o.quiet then [] else demo_text n (old_length out.summary) (new_length out.summary) out.partials
+
+pub demo_said_of : (words : List (List ℕ)) (a : AsksForDemo words) (contents : List (List ℕ)) (out : Output) → contents ≡ demo_files a.units
+    → AreOfBytes contents → Out (demo_options a.options) contents (writes out) → IsDemoText a (done_text a.options out)
+demo_said_of words a contents out are bytes given =
+    let o = demo_options a.options in
+    let g = given_of o (demo_files a.units) out (demo_named a.options) (subst AreOfBytes are bytes) (subst (λ (cs : List (List ℕ)). Out o cs (writes out)) are given) in
+    record {
+      out = g.has;
+      text_is = ap (λ (d : Option ℕ). if a.options.quiet then [] else output_text d out) a.is_demo ∙ ap (demo_line a.options a.units) g.is;
+    }
 
 module _ (words : List (List ℕ)) (old : Told) (store : Store) (told : old.held ≡ Some store) where
   pub got_of : (names contents : List (List ℕ)) → IfSome old.held (λ s. gets s 0 names ≡ Some contents) → gets store 0 names ≡ Some contents
   got_of names contents is = subst (λ (h : Option Store). IfSome h (λ s. gets s 0 names ≡ Some contents)) told is
 
-  -- an output of FILEs, with what is put and said of it
-  pub record Outputs (o : Options) (out : Output) : Type 0 where
-    pub has : HasOutput words store
-    pub puts_are : puts_by o.demo out ≡ puts_in has
-    pub text_is : done_text o out ≡ said has.asks.options (run_in has)
+  of_files : (o : Options) (contents : List (List ℕ)) (out : Output) → Lawful words o → o.demo ≡ None → gets store 0 o.files ≡ Some contents
+      → AreOfBytes contents → Out o contents (writes out) → OfFiles words store o out
+  of_files o contents out lawful no_demo got bytes given =
+      let g = given_of o contents out (named_well o lawful.fit) bytes given in
+      record {
+        asks = record { options = o; lawful = lawful; no_demo = no_demo; contents = contents; got = got };
+        has = g.has;
+        puts_are = ap (λ (d : Option ℕ). puts_by d out) no_demo ∙ ap (λ (x : Output). x.puts) g.is;
+        text_is = ap (λ (d : Option ℕ). if o.quiet then [] else output_text d out) no_demo
+            ∙ ap (λ (x : Output). if o.quiet then [] else summary_text x.summary) g.is;
+      }
 
-  pub outputs : HoldsBytes store → (out : Output) (came : Came no_files gives_alone words old (writes out)) → Outputs came.options out
-  outputs held out came = by came.options.demo refl came.are came.given where
+  pub outputs : (out : Output) (came : Came demo_files Out words old (writes out)) → OfFiles words store came.options out ⊎ OfDemo words came.options out
+  outputs out came = by came.options.demo refl came.are came.given where
     o : Options
     o = came.options
 
     contents : List (List ℕ)
     contents = came.contents
 
-    alone : o.demo ≡ None → gets store 0 o.files ≡ Some contents → (c : Option (List ℕ)) → o.common ≡ c
-        → gives_by c o contents (writes out) → Outputs o out
-    alone no_demo got (Some c) e given = absurd (not_both out not_built given)
-    alone no_demo got None e given = record {
-      has = record {
-        asks = record { options = o; lawful = came.lawful; no_demo = no_demo; alone = e; contents = contents; got = got };
-        docs = given.0;
-        prunes = given.1;
-        written = given.2;
-        back = reads_back o contents given.0 given.1 e (all_bytes store held o.files 0 contents got) given.2;
-      };
-      puts_are = ap (λ (d : Option ℕ). puts_by d out) no_demo ∙ ap (λ (x : Output). x.puts) given.3;
-      text_is = ap (λ (d : Option ℕ). if o.quiet then [] else output_text d out) no_demo
-          ∙ ap (λ (x : Output). if o.quiet then [] else summary_text x.summary) given.3;
-    }
-
-    by : (d : Option ℕ) → o.demo ≡ d → AreContents no_files d old o.files contents
-        → gives_alone (asked_by d o) contents (writes out) → Outputs o out
-    by (Some n) e are given = absurd (not_both out not_built given)
-    by None e are given = alone e (got_of o.files contents are) o.common refl given
+    by : (d : Option ℕ) → o.demo ≡ d → AreContents demo_files d old o.files contents → Out (asked_by d o) contents (writes out)
+        → OfFiles words store o out ⊎ OfDemo words o out
+    by (Some n) e are given =
+        let a : AsksForDemo words = record { options = o; lawful = came.lawful; units = n; is_demo = e } in
+        inr (record {
+          asks = a;
+          puts_are = ap (λ (d : Option ℕ). puts_by d out) e;
+          is_text = demo_said_of words a contents out are came.bytes given;
+        })
+    by None e are given = inl (of_files o contents out came.lawful e (got_of o.files contents are) came.bytes given)
 
 -- all puts done, the FILEs hold what they have after
-pub output_held : {words : List (List ℕ)} {store : Store} (out : HasOutput words store)
-    → HoldAfter out.asks.options (run_in out) (done (puts_in out) store)
-output_held {words} {store} out =
-    let a = out.asks in
-    hold_after a.options (run_in out) a.lawful.fit a.alone store (are_held store a.options.files a.contents out.docs a.got out.written.read.reads)
+pub output_held : {words : List (List ℕ)} {store : Store} (a : AsksForFiles words store) (out : HasOutput a.options a.contents)
+    → HoldAfter a.options (run_in out) (done (puts_in out) store)
+output_held {words} {store} a out =
+    hold_after a.options (run_in out) a.lawful.fit store (are_held store a.options.files a.contents out.docs a.got out.written.read.reads)

@@ -1,5 +1,5 @@
 -- The number of workers is in nothing that comes of options: what is put and said is by names, contents and what moves.
-use Rattle.std.proofs.Common.{◌≡◌, ℕ, suc, List, [], ◌∷◌, ◌++◌, Option, Some, None, length, refl, ap, ◌∙◌, inl, inr}
+use Rattle.std.proofs.Common.{◌≡◌, ℕ, suc, List, [], ◌∷◌, ◌++◌, Option, length, refl, ap, ◌∙◌, inl, inr}
 use Rattle.dwz_same.specs.Units.{changes}
 use Rattle.dwz_back.specs.Files.{Run}
 use Rattle.dwz_outside.specs.declared.puts.Put.{Put}
@@ -8,7 +8,6 @@ use Rattle.dwz_course.specs.declared.output.Output.{Output}
 use Rattle.dwz_course.specs.Outcome.{Outcome, refuses, writes}
 use Rattle.dwz_out.specs.FilesAfter.{bytes_after}
 use Rattle.dwz_out.specs.Out.{Out, common_length, common_puts, file_puts, files_puts, new_length, output_of, run_for, summary_lines, sup_name}
-use Rattle.dwz_run.specs.Gives.{gives_alone, gives_by}
 
 module _ (o : Options) (n : ℕ) where
   -- the same with so many workers
@@ -35,14 +34,8 @@ module _ (o : Options) (n : ℕ) where
       } in
       ap (λ (ps : List Put). by ps (summary_lines o r 0 o.files)) (same_puts r 0 o.files) ∙ ap (by (files_puts other r 0 o.files)) (same_lines r 0 o.files)
 
-  same_out : (contents : List (List ℕ)) (outcome : Outcome) → Out o contents outcome → Out other contents outcome
+  pub same_out : (contents : List (List ℕ)) (outcome : Outcome) → Out o contents outcome → Out other contents outcome
   same_out contents (writes out) is =
       (is.0, is.1, record { read = is.2.read; free = is.2.free }, is.3 ∙ same_output (run_for o contents is.0 is.1))
   same_out contents (refuses q) (inl first) = inl first
   same_out contents (refuses q) (inr is) = inr (is.0, is.1, record { read = is.2.read; fault = is.2.fault })
-
-  pub same_given : (contents : List (List ℕ)) (outcome : Outcome) → gives_alone o contents outcome → gives_alone other contents outcome
-  same_given contents outcome given = by o.common given where
-    by : (c : Option (List ℕ)) → gives_by c o contents outcome → gives_by c other contents outcome
-    by None is = same_out contents outcome is
-    by (Some common) is = is

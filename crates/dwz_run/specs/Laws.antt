@@ -1,67 +1,87 @@
 -- What follows of how a run ends. What a run asks for, gets, puts and says is that of its words and of what was held.
-use Rattle.std.specs.Prelude.{◌≡◌, ◌⊎◌, ℕ, Bool, List, [], Option, Some, None, IfSome, IsSome, take, slice_get, if◌then◌else◌}
+use Rattle.std.specs.Prelude.{◌≡◌, ◌⊎◌, ℕ, Bool, true, List, [], Option, Some, None, take, slice_get, length, if◌then◌else◌}
 use Rattle.dwz_model.specs.declared.fault.Refusal.{Refusal}
-use Rattle.dwz_docs.specs.Values.{AreBytes}
 use Rattle.dwz_meanings.specs.Documents.{Doc}
 use Rattle.dwz_meanings.specs.Files.{First, no_files_before}
 use Rattle.dwz_seen.specs.Lists.{Nth}
-use Rattle.dwz_alike.specs.Alike.{Apart}
-use Rattle.dwz_back.specs.AllFiles.{ReadBack}
-use Rattle.dwz_back.specs.Files.{Run}
+use Rattle.dwz_back.specs.AllFiles.{ReadBack, SaysStill, given_if}
+use Rattle.dwz_back.specs.Back.{SaysPlaced}
+use Rattle.dwz_back.specs.Files.{Run, fitted}
 use Rattle.dwz_outside.specs.declared.puts.Put.{Put}
 use Rattle.dwz_outside.specs.Counts.{Rose}
 use Rattle.dwz_outside.specs.Store.{Store, done}
 use Rattle.dwz_outside.specs.Told.{FailedWrite, LeavesPuts, Shown, Told}
-use Rattle.dwz_report.specs.Texts.{refusal_text, summary_text, write_text}
+use Rattle.dwz_report.specs.Texts.{demo_text, refusal_text, summary_text, write_text}
 use Rattle.dwz_words.specs.declared.options.Options.{Options}
 use Rattle.dwz_words.specs.Lawful.{Lawful}
 use Rattle.dwz_course.specs.declared.status.Status.{Status}
 use Rattle.dwz_course.specs.declared.status.Status.TheVariants.{Done, Refused, Usage, ReadFault, WriteFault, NoMemory, ConsoleFault}
-use Rattle.dwz_course.specs.Demo.{asked}
+use Rattle.dwz_course.specs.Demo.{demo_options, new_length, old_length}
 use Rattle.dwz_course.specs.Ends.{Complete, Ends, Refuses, Says, SaysAll, SaysNothing}
 use Rattle.dwz_course.specs.Gets.{gets}
 use Rattle.dwz_course.specs.Outcome.{Outcome, name_of}
-use Rattle.dwz_out.specs.FilesAfter.{bytes_after, file_after}
-use Rattle.dwz_out.specs.Out.{IsRefused, IsWritten, all_puts, rule_of, run_for, stored_of, summary_of, sup_name}
-use Rattle.dwz_out.specs.Stops.{AreOldOrMade}
-use Rattle.dwz_run.specs.Gives.{gives_alone, no_files, not_built}
+use Rattle.dwz_demo.specs.Demo.{demo_files}
+use Rattle.dwz_out.specs.FilesAfter.{bytes_after, common_bytes, file_after, has_common}
+use Rattle.dwz_out.specs.Laws.{AreTied}
+use Rattle.dwz_out.specs.Out.{IsRefused, IsWritten, Out, all_puts, common_of, rule_of, run_for, scope_of, stored_of, summary_of, sup_name}
+use Rattle.dwz_out.specs.Stops.{IsMade}
 
 -- how a run ends, by its words, by what is told of the files and of the console before and after, and by its status
 abbrev pub RunEnds : List (List ℕ) → Told → Told → Shown → Shown → Status → Type 0
-RunEnds words old new shown shown_new status = Ends no_files gives_alone words old new shown shown_new status
+RunEnds words old new shown shown_new status = Ends demo_files Out words old new shown shown_new status
 
--- each content that is held is one of bytes
-abbrev pub HoldsBytes : Store → Type 0
-HoldsBytes store = (name : List ℕ) → IfSome (store name) AreBytes
+-- ---- what is asked for
 
--- ---- what is asked for, and what is put
-
--- the words are lawful and name FILEs, each by itself, whose contents are held
+-- the words are lawful and name FILEs, whose contents are held
 pub record AsksForFiles (words : List (List ℕ)) (store : Store) : Type 0 where
   pub options : Options
   pub lawful : Lawful words options
   pub no_demo : options.demo ≡ None
-  pub alone : options.common ≡ None
   pub contents : List (List ℕ)
   pub got : gets store 0 options.files ≡ Some contents
 
--- They read as documents, and nothing refuses what is put of them. And that reads back: it says the same as what was read, along images,
--- with imports expanded (DWARF 5, 3.2.5), and entries share an image exactly where they move and nothing tells them apart.
-pub record HasOutput (words : List (List ℕ)) (store : Store) : Type 0 where
-  pub asks : AsksForFiles words store
+-- the words are lawful and ask for a demonstration, with so many units in each of its two files
+pub record AsksForDemo (words : List (List ℕ)) : Type 0 where
+  pub options : Options
+  pub lawful : Lawful words options
+  pub units : ℕ
+  pub is_demo : options.demo ≡ Some units
+
+-- one or the other
+pub data Asks (words : List (List ℕ)) (store : Store) : Type 0 where
+  for_files : AsksForFiles words store → Asks words store
+  for_demo : AsksForDemo words → Asks words store
+
+-- the options of the work: for a demonstration, those by which its two files are given a common one
+abbrev pub work_options : {words : List (List ℕ)} {store : Store} → Asks words store → Options
+work_options (for_files a) = a.options
+work_options (for_demo a) = demo_options a.options
+
+-- the contents of the files that are worked on
+abbrev pub work_contents : {words : List (List ℕ)} {store : Store} → Asks words store → List (List ℕ)
+work_contents (for_files a) = a.contents
+work_contents (for_demo a) = demo_files a.units
+
+-- ---- what comes of it
+
+-- The contents read as documents, and nothing refuses what comes of them. And that reads back, the files with the common one, if there is
+-- one: it says the same as what was read, along images, with imports expanded (DWARF 5, 3.2.5), and entries share an image exactly where
+-- they move and nothing tells them apart. Each file that imports from the common one has its name and its checksum (DWARF 5, 7.3.6).
+pub record HasOutput (o : Options) (contents : List (List ℕ)) : Type 0 where
   pub docs : List (Doc ℕ)
   pub prunes : List Bool
-  pub written : IsWritten asks.options asks.contents docs prunes
-  pub back : ReadBack Apart docs (rule_of asks.options docs) (stored_of asks.contents prunes)
-      (file_after (sup_name asks.options) (run_for asks.options asks.contents docs prunes)) None
+  pub written : IsWritten o contents docs prunes
+  pub back : ReadBack (scope_of o) docs (rule_of o docs) (stored_of contents prunes)
+      (file_after (sup_name o) (run_for o contents docs prunes)) (common_of o.common (run_for o contents docs prunes))
+  pub tied : AreTied (sup_name o) (run_for o contents docs prunes)
 
 -- the run of these files
-abbrev pub run_in : {words : List (List ℕ)} {store : Store} → HasOutput words store → Run
-run_in out = run_for out.asks.options out.asks.contents out.docs out.prunes
+abbrev pub run_in : {o : Options} {contents : List (List ℕ)} → HasOutput o contents → Run
+run_in {o} {contents} out = run_for o contents out.docs out.prunes
 
--- what is put, in order
-abbrev pub puts_in : {words : List (List ℕ)} {store : Store} → HasOutput words store → List Put
-puts_in out = all_puts out.asks.options (run_in out)
+-- what is put, in order: first the common file, if there is one
+abbrev pub puts_in : {o : Options} {contents : List (List ℕ)} → HasOutput o contents → List Put
+puts_in {o} out = all_puts o (run_in out)
 
 -- ---- all is done
 
@@ -70,40 +90,64 @@ abbrev pub goes_to : Option (List ℕ) → List ℕ → List ℕ
 goes_to None name = name
 goes_to (Some out) name = out
 
--- each FILE, or else the one output, holds the bytes that the file has after: those that are made of it, or its own where nothing moves
-abbrev pub HoldAfter : Options → Run → Store → Type 0
-HoldAfter o r now = (file : ℕ) (name : List ℕ) → Nth 0 o.files file name → now (goes_to o.out name) ≡ Some (bytes_after (sup_name o) r file)
+-- Each FILE, or else the one output, holds the bytes that the file has after: those that are made of it, or its own where nothing moves.
+-- And the name of the common file, if there is one, holds that.
+pub record HoldAfter (o : Options) (r : Run) (now : Store) : Type 0 where
+  pub files : (file : ℕ) (name : List ℕ) → Nth 0 o.files file name → now (goes_to o.out name) ≡ Some (bytes_after (sup_name o) r file)
+  pub common : (name : List ℕ) → o.common ≡ Some name → has_common r ≡ true → now name ≡ Some (common_bytes r)
 
--- the line of each file, unless there is to be none
+-- the line of the common file and of each file, unless there is to be none
 abbrev pub said : Options → Run → List ℕ
 said o r = if o.quiet then [] else summary_text (summary_of o r)
 
--- All is put, in order, and nothing else; so the FILEs hold what they have after. And this is the text of it.
+-- All is put, in order, and nothing else; so the FILEs hold what they have after, and the common file is there. And this is the text of it.
 pub record DidAll (words : List (List ℕ)) (store : Store) (new : Told) (text : List ℕ) : Type 0 where
-  pub out : HasOutput words store
+  pub asks : AsksForFiles words store
+  pub out : HasOutput asks.options asks.contents
   pub held : new.held ≡ Some (done (puts_in out) store)
-  pub after : HoldAfter out.asks.options (run_in out) (done (puts_in out) store)
-  pub text_is : text ≡ said out.asks.options (run_in out)
+  pub after : HoldAfter asks.options (run_in out) (done (puts_in out) store)
+  pub text_is : text ≡ said asks.options (run_in out)
 
--- Where a run answers Done its FILEs were held and read; all is put, and reads back; and its text is written, once.
+-- the one line of a demonstration: its units, the bytes of all files before and after, with the common file, and the partial units
+abbrev pub demo_said : Options → ℕ → Run → List ℕ
+demo_said o units r =
+    let s = summary_of (demo_options o) r in
+    if o.quiet then [] else demo_text units (old_length s) (new_length s) (length r.move.parts)
+
+-- this is the text of a demonstration: of what comes of its two files with a common one
+pub record IsDemoText {words : List (List ℕ)} (a : AsksForDemo words) (text : List ℕ) : Type 0 where
+  pub out : HasOutput (demo_options a.options) (demo_files a.units)
+  pub text_is : text ≡ demo_said a.options a.units (run_in out)
+
+-- so it is, and nothing is held otherwise than before
+pub record DidDemo (words : List (List ℕ)) (store : Store) (new : Told) (text : List ℕ) : Type 0 where
+  pub asks : AsksForDemo words
+  pub is_text : IsDemoText asks text
+  pub held : new.held ≡ Some store
+
+abbrev pub Did : List (List ℕ) → Store → Told → List ℕ → Type 0
+Did words store new text = DidAll words store new text ⊎ DidDemo words store new text
+
+-- Where a run answers Done its FILEs were held and read; all is put, and reads back; and its text is written, once. Or it is a
+-- demonstration.
 abbrev pub DoneLaw : Type 0
 DoneLaw =
     (words : List (List ℕ)) (old new : Told) (shown shown_new : Shown) → RunEnds words old new shown shown_new Done
-    → (store : Store) → old.held ≡ Some store → HoldsBytes store
-    → (text : List ℕ) × DidAll words store new text × SaysAll shown shown_new text
+    → (store : Store) → old.held ≡ Some store
+    → (text : List ℕ) × Did words store new text × SaysAll shown shown_new text
 
 -- Where it answers ConsoleFault all is put as well. There is a text, and since the console failed nothing of it is written.
 abbrev pub SilentLaw : Type 0
 SilentLaw =
     (words : List (List ℕ)) (old new : Told) (shown shown_new : Shown) → RunEnds words old new shown shown_new ConsoleFault
-    → (store : Store) → old.held ≡ Some store → HoldsBytes store
-    → (text : List ℕ) × DidAll words store new text × SaysNothing shown shown_new text
+    → (store : Store) → old.held ≡ Some store
+    → (text : List ℕ) × Did words store new text × SaysNothing shown shown_new text
 
 -- what comes of options and contents is the same for every number of workers
 abbrev pub WorkersLaw : Type 0
 WorkersLaw =
-    (o : Options) (n : ℕ) (contents : List (List ℕ)) (outcome : Outcome) → gives_alone o contents outcome
-    → gives_alone (record o { workers = n }) contents outcome
+    (o : Options) (n : ℕ) (contents : List (List ℕ)) (outcome : Outcome) → Out o contents outcome
+    → Out (record o { workers = n }) contents outcome
 
 -- ---- why something else is answered
 
@@ -120,31 +164,20 @@ NothingLaw =
     (words : List (List ℕ)) (old new : Told) (shown shown_new : Shown) (status : Status) → RunEnds words old new shown shown_new status
     → PutsNothing status → LeavesPuts old new
 
--- words that ask for what isn't built: for a common file, or a demonstration
-abbrev pub AsksForMore : Options → Type 0
-AsksForMore o = IsSome o.common ⊎ IsSome o.demo
-
--- the first fault of reading these contents, or of what is put of them
+-- the first fault of reading these contents, or of what comes of them
 abbrev pub IsFirstRefusal : Options → List (List ℕ) → Refusal → Type 0
 IsFirstRefusal o contents r =
     First no_files_before 0 contents r
     ⊎ ((docs : List (Doc ℕ)) × (prunes : List Bool) × IsRefused o contents docs prunes r)
 
--- Files are refused with the first fault, or what isn't built is refused so.
-abbrev pub IsCause : List (List ℕ) → Store → Refusal → Type 0
-IsCause words store r =
-    ((a : AsksForFiles words store) × IsFirstRefusal a.options a.contents r)
-    ⊎ ((o : Options) × Lawful words o × AsksForMore o × (r ≡ not_built))
-
--- it is named, with its file
+-- what is asked for is refused with its first fault, which is named, with its file
 pub record WasRefused (words : List (List ℕ)) (store : Store) (text : List ℕ) : Type 0 where
+  pub asks : Asks words store
   pub refusal : Refusal
-  pub cause : IsCause words store refusal
-  pub options : Options
-  pub lawful : Lawful words options
-  pub text_is : text ≡ refusal_text (name_of (asked options) refusal.file) refusal
+  pub is_first : IsFirstRefusal (work_options asks) (work_contents asks) refusal
+  pub text_is : text ≡ refusal_text (name_of (work_options asks) refusal.file) refusal
 
--- Where a run answers Refused there is such a cause, and the text names it.
+-- Where a run answers Refused there is such a fault, and the text names it.
 abbrev pub RefusedLaw : Type 0
 RefusedLaw =
     (words : List (List ℕ)) (old new : Told) (shown shown_new : Shown) → RunEnds words old new shown shown_new Refused
@@ -172,45 +205,77 @@ AnswerLaw =
     → NoneFailed old new shown shown_new → (o : Options) → Lawful words o
     → (status ≡ Done) ⊎ (status ≡ Refused) ⊎ (status ≡ NoMemory)
 
--- Done, where the FILEs are held, read, and nothing refuses what is put of them
+-- Done, where what is asked for reads, and nothing refuses what comes of it
 abbrev pub CompleteLaw : Type 0
 CompleteLaw =
     (words : List (List ℕ)) (old new : Told) (shown shown_new : Shown) (status : Status)
-    → Complete no_files gives_alone words old new shown shown_new status → NoneFailed old new shown shown_new
-    → (store : Store) → old.held ≡ Some store → (a : AsksForFiles words store) (docs : List (Doc ℕ)) (prunes : List Bool)
-    → IsWritten a.options a.contents docs prunes → (status ≡ Done) ⊎ (status ≡ NoMemory)
+    → Complete demo_files Out words old new shown shown_new status → NoneFailed old new shown shown_new
+    → (store : Store) → old.held ≡ Some store → (a : Asks words store) (docs : List (Doc ℕ)) (prunes : List Bool)
+    → IsWritten (work_options a) (work_contents a) docs prunes → (status ≡ Done) ⊎ (status ≡ NoMemory)
 
--- Refused, where the FILEs are held, and there is a first refusal
+-- Refused, where there is a first refusal
 abbrev pub RefusesLaw : Type 0
 RefusesLaw =
-    (words : List (List ℕ)) (old new : Told) (status : Status) → Refuses no_files gives_alone words old new status
+    (words : List (List ℕ)) (old new : Told) (status : Status) → Refuses demo_files Out words old new status
     → ¬ (Rose old.read_faults new.read_faults)
-    → (store : Store) → old.held ≡ Some store → (a : AsksForFiles words store) (r : Refusal) → IsFirstRefusal a.options a.contents r
+    → (store : Store) → old.held ≡ Some store → (a : Asks words store) (r : Refusal) → IsFirstRefusal (work_options a) (work_contents a) r
     → (status ≡ Refused) ⊎ (status ≡ NoMemory)
-
--- Refused, where a common file is asked for and the FILEs are held, or a demonstration is
-abbrev pub NotBuiltLaw : Type 0
-NotBuiltLaw =
-    (words : List (List ℕ)) (old new : Told) (status : Status) → Refuses no_files gives_alone words old new status
-    → ¬ (Rose old.read_faults new.read_faults)
-    → (store : Store) → old.held ≡ Some store → (o : Options) → Lawful words o → AsksForMore o
-    → (contents : List (List ℕ)) → gets store 0 o.files ≡ Some contents → (status ≡ Refused) ⊎ (status ≡ NoMemory)
 
 -- ---- a put failed
 
--- The first puts are done, and the next one failed, and was the last that did. Each FILE is as it was, or as it is made.
+-- A FILE reads as before: it holds what was read, which says the same also where a common file is put beside it; or what is made of it,
+-- and then the common file stands, if there is one, with which that says the units that it has after.
+abbrev pub ReadsOn : {o : Options} {contents : List (List ℕ)} → HasOutput o contents → Store → ℕ → List ℕ → Type 0
+ReadsOn {o} out now file name =
+    let r = run_in out in
+    let common = given_if r out.back.place (common_of o.common r) out.back.back.common in
+    ((now name ≡ Some (r.input.bytes file)) × ((doc : Doc ℕ) → Nth 0 out.docs file doc → SaysStill common file (r.input.bytes file) doc))
+    ⊎ (IsMade o r now file name × SaysPlaced r out.back.place common file (file_after (sup_name o) r file) (fitted r file))
+
+-- each FILE does
+abbrev pub ReadOn : {o : Options} {contents : List (List ℕ)} → HasOutput o contents → Store → Type 0
+ReadOn {o} out now = (file : ℕ) (name : List ℕ) → Nth 0 o.files file name → ReadsOn out now file name
+
+-- The first puts are done, and the next one failed, and was the last that did. Each FILE is as it was, or as it is made, and reads as
+-- before.
 pub record StoppedAt (words : List (List ℕ)) (store : Store) (old new : Told) (text : List ℕ) : Type 0 where
-  pub out : HasOutput words store
+  pub asks : AsksForFiles words store
+  pub out : HasOutput asks.options asks.contents
   pub count : ℕ
   pub failed : Put
   pub next : slice_get (puts_in out) count ≡ Some failed
   pub fault : FailedWrite old new failed.name
   pub held : new.held ≡ Some (done (take count (puts_in out)) store)
-  pub after : AreOldOrMade out.asks.options (run_in out) (done (take count (puts_in out)) store)
+  pub after : ReadOn out (done (take count (puts_in out)) store)
   pub text_is : text ≡ write_text failed.name
 
 abbrev pub StoppedLaw : Type 0
 StoppedLaw =
     (words : List (List ℕ)) (old new : Told) (shown shown_new : Shown) → RunEnds words old new shown shown_new WriteFault
-    → (store : Store) → old.held ≡ Some store → HoldsBytes store
+    → (store : Store) → old.held ≡ Some store
     → (text : List ℕ) × StoppedAt words store old new text × Says shown shown_new WriteFault text
+
+-- however many puts are done
+abbrev pub PrefixesLaw : Type 0
+PrefixesLaw =
+    (words : List (List ℕ)) (store : Store) (a : AsksForFiles words store) (out : HasOutput a.options a.contents) (count : ℕ)
+    → ReadOn out (done (take count (puts_in out)) store)
+
+-- ---- a demonstration
+
+-- What each status says of it: its text is of the two files with a common one, or of the first refusal of these.
+abbrev pub DemoEnds : {words : List (List ℕ)} → AsksForDemo words → Shown → Shown → Status → Type 0
+DemoEnds a shown shown_new Done = (text : List ℕ) × IsDemoText a text × SaysAll shown shown_new text
+DemoEnds a shown shown_new ConsoleFault = (text : List ℕ) × IsDemoText a text × SaysNothing shown shown_new text
+DemoEnds a shown shown_new Refused =
+    (r : Refusal) × IsFirstRefusal (demo_options a.options) (demo_files a.units) r
+    × Says shown shown_new Refused (refusal_text (name_of (demo_options a.options) r.file) r)
+DemoEnds a shown shown_new NoMemory = Unit {0}
+DemoEnds a shown shown_new _ = ⊥
+
+-- Where words ask for a demonstration the run ends so, and nothing is held otherwise than before.
+abbrev pub DemoLaw : Type 0
+DemoLaw =
+    (words : List (List ℕ)) (old new : Told) (shown shown_new : Shown) (status : Status) → RunEnds words old new shown shown_new status
+    → (a : AsksForDemo words)
+    → DemoEnds a shown shown_new status × ((store : Store) → old.held ≡ Some store → new.held ≡ Some store)

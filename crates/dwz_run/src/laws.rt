@@ -1,12 +1,13 @@
 //! What follows of how a run ends.
 
-ghost use Rattle.dwz_run.specs.Laws.{AnswerLaw, CompleteLaw, DoneLaw, NotBuiltLaw, NothingLaw, RefusedLaw, RefusesLaw, SilentLaw, StoppedLaw, UsageLaw, WorkersLaw};
+ghost use Rattle.dwz_run.specs.Laws.{AnswerLaw, CompleteLaw, DemoLaw, DoneLaw, NothingLaw, PrefixesLaw, RefusedLaw, RefusesLaw, SilentLaw, StoppedLaw, UsageLaw, WorkersLaw};
 
 /// Where a run answers Done, its words are lawful and name FILEs, which were held and read as documents; what is put of these is put, in
-/// order, and nothing else; each FILE then holds what is made of it; and what is written says the same as what was read, along images,
-/// with imports expanded (DWARF 5, 3.2.5), where entries share an image exactly where they move and nothing tells them apart. Its text is
-/// written, once. Where it answers ConsoleFault so it is too, but for the text, which isn't written. What is put is the same for every
-/// number of workers.
+/// order, and nothing else; each FILE then holds what is made of it, and the common file, if there is one, is there; and what is written
+/// says the same as what was read, along images, with imports expanded (DWARF 5, 3.2.5), where entries share an image exactly where they
+/// move and nothing tells them apart. Its text is written, once. Or its words ask for a demonstration, and nothing is held otherwise than
+/// before. Where it answers ConsoleFault so it is too, but for the text, which isn't written. What is put is the same for every number of
+/// workers.
 pub fn done_laws()
     ensures done { DoneLaw }
     ensures silent { SilentLaw }
@@ -14,7 +15,7 @@ pub fn done_laws()
 {}
 
 /// Where a run answers Usage, Refused, ReadFault or NoMemory, nothing is put. Where it answers Refused, the FILEs have a first fault, or
-/// what is put of them has one, or words ask for what isn't built; and it is named. Words that aren't lawful get Usage, and no others.
+/// what is put of them has one; and it is named. Words that aren't lawful get Usage, and no others.
 pub fn cause_laws()
     ensures nothing { NothingLaw }
     ensures refused { RefusedLaw }
@@ -22,17 +23,22 @@ pub fn cause_laws()
 {}
 
 /// Where no get, no put and no writing of the text failed, lawful words get Done, Refused or NoMemory: Done, where the FILEs are held and
-/// read and nothing refuses what is put of them; Refused, where there is a first refusal, or they ask for what isn't built. Memory may
-/// always run out.
+/// read and nothing refuses what is put of them; Refused, where there is a first refusal. Memory may always run out.
 pub fn answer_laws()
     ensures answer { AnswerLaw }
     ensures complete { CompleteLaw }
     ensures refuses { RefusesLaw }
-    ensures not_built { NotBuiltLaw }
 {}
 
 /// Where a run answers WriteFault, the first puts are done, and the next one failed, whose name is told. Each FILE is as it was, or as it
-/// is made.
+/// is made, and then the common file stands; it reads as before. So it is after the first puts, however many.
 pub fn stop_laws()
-    ensures { StoppedLaw }
+    ensures stopped { StoppedLaw }
+    ensures prefixes { PrefixesLaw }
+{}
+
+/// Where words ask for a demonstration, what is said is of its two files with a common one, in one line, or it is the first refusal of
+/// these; a run doesn't answer Usage, ReadFault or WriteFault. Nothing is held otherwise than before.
+pub fn demo_laws()
+    ensures { DemoLaw }
 {}

@@ -1,25 +1,29 @@
 //! The whole run.
 
 ghost use Rattle.dwz_course.specs.Ends.{Complete, Ends, KeepsLastRead, LeavesFiles, Refuses};
-ghost use Rattle.dwz_run.specs.Gives.{gives_alone, no_files};
+ghost use Rattle.dwz_demo.specs.Demo.{demo_files};
+ghost use Rattle.dwz_out.specs.Out.{Out};
 ghost use Rattle.dwz_words.specs.Lawful.{bytes_of};
 
-use crate::work::{FileWork, answer};
+use crate::work::FileWork;
+use crate::written::written_files;
 use dwz_course::{Status, run_course};
 use dwz_gate::Gate;
 use dwz_outside::{Console, Files};
 use std::alloc::Global;
 use std::thread::Threads;
 
-/// Does what the words ask for: gets their FILEs, finds the entries of each that repeat, and puts the FILEs again with these entries
-/// stored once (DWARF 5, 3.2.5 and appendix E); and says so, once. What is put is one function of options and contents: it is the same
-/// for every number of workers, every gate and every order of threads.
+/// Does what the words ask for: gets their FILEs, finds the entries that repeat, in each of them or, with a common file, in all together,
+/// and puts the FILEs again with these entries stored once (DWARF 5, 3.2.5 and appendix E), the common file first; and says so, once.
+/// What is put is one function of options and contents: it is the same for every number of workers, every gate and every order of
+/// threads.
 ///
-/// A common file, and so a demonstration, is refused as not built yet.
+/// For a demonstration it makes two files, works on them with a common one, and says in one line what came of them: `ends` and `complete`
+/// speak of these two files (`demo_files`) in place of FILEs, and by `demo` nothing is got or put.
 ///
 /// What follows of how a run ends is said by laws: where all is done, the FILEs that are put read back as what was read (`done_laws`);
 /// why each other status is answered, and what it leaves (`cause_laws`); which status comes where nothing outside fails
-/// (`answer_laws`); and what is held where the puts stop (`stop_laws`).
+/// (`answer_laws`); what is held where the puts stop (`stop_laws`); and what a demonstration says (`demo_laws`).
 pub fn run<Rt: Threads + Sync, F: Files, C: Console, G: Gate>(
     rt: &Rt,
     alloc: Global,
@@ -28,9 +32,9 @@ pub fn run<Rt: Threads + Sync, F: Files, C: Console, G: Gate>(
     console: &mut C,
     gate: &G,
 ) -> Status
-    ensures ends { Ends no_files gives_alone (bytes_of words.now) (F.told files.old) (F.told files.new) (C.shown console.old) (C.shown console.new) result }
-    ensures complete { Complete no_files gives_alone (bytes_of words.now) (F.told files.old) (F.told files.new) (C.shown console.old) (C.shown console.new) result }
-    ensures refuses { Refuses no_files gives_alone (bytes_of words.now) (F.told files.old) (F.told files.new) result }
+    ensures ends { Ends demo_files Out (bytes_of words.now) (F.told files.old) (F.told files.new) (C.shown console.old) (C.shown console.new) result }
+    ensures complete { Complete demo_files Out (bytes_of words.now) (F.told files.old) (F.told files.new) (C.shown console.old) (C.shown console.new) result }
+    ensures refuses { Refuses demo_files Out (bytes_of words.now) (F.told files.old) (F.told files.new) result }
     ensures demo { LeavesFiles (bytes_of words.now) (F.told files.old) (F.told files.new) }
     ensures reads { KeepsLastRead result (F.told files.old) (F.told files.new) }
 {
@@ -40,6 +44,6 @@ pub fn run<Rt: Threads + Sync, F: Files, C: Console, G: Gate>(
         files,
         console,
         &FileWork,
-        &|alloc, options, contents| answer(rt, alloc, options, contents, gate),
+        &|alloc, options, contents| written_files(rt, alloc, options, contents, gate),
     )
 }

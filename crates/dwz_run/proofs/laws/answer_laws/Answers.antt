@@ -1,4 +1,4 @@
-use Rattle.dwz_run.proofs.Answered.{answered, completes, is_refused, not_built_yet}
+use Rattle.dwz_run.proofs.Answered.{answered, completes, is_refused}
 use Rattle.dwz_run.proofs.laws.answer_laws.Goals as goal
 
 pub returns-clause-answer : goal.returns-clause-answer
@@ -10,7 +10,3 @@ returns-clause-complete c words old new shown shown_new status complete none sto
 
 pub returns-clause-refuses : goal.returns-clause-refuses
 returns-clause-refuses c words old new status all none store told a r first = is_refused words old store told new status all none a r first
-
-pub returns-clause-not_built : goal.returns-clause-not_built
-returns-clause-not_built c words old new status all none store told o lawful more contents got =
-    not_built_yet words old store told new status all none o lawful more contents got

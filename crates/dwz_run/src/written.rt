@@ -1,8 +1,9 @@
-//! Files by themselves, from their contents to what is put.
+//! Files, from their contents to what is put.
 
-ghost use Rattle.std.specs.Prelude.{◌≡◌, ◌<◌, ◌≤◌, None, map};
+ghost use Rattle.std.specs.Prelude.{◌≡◌, ◌<◌, ◌≤◌, map};
 ghost use Rattle.dwz_course.specs.Answers.{IsAnswer};
-ghost use Rattle.dwz_out.specs.Out.{Out};
+ghost use Rattle.dwz_out.specs.Out.{Out, scope_of};
+ghost use Rattle.dwz_planned.specs.Rules.{alike_scope};
 
 use dwz_after::outcome;
 use dwz_course::Output;
@@ -10,6 +11,7 @@ use dwz_gate::Gate;
 use dwz_graph::Graph;
 use dwz_make::make_files;
 use dwz_model::GraphErr;
+use dwz_plan::Scope;
 use dwz_prunable::prunable_files;
 use dwz_words::Options;
 use std::alloc::Global;
@@ -27,15 +29,24 @@ fn workers_of(options: &Options) -> u32
     options.workers.clamp(1, MOST_WORKERS)
 }
 
-/// What comes of files with these contents, where no common file is asked for: what is put, or the first refusal.
-pub(crate) fn files_alone<R: Threads + Sync, G: Gate>(
+// Which files share: all of them where a common file is asked for, and else each by itself.
+fn sharing_of(options: &Options) -> Scope
+    ensures { alike_scope result ≡ scope_of options.now }
+{
+    match options.common {
+        None => Scope::Each,
+        Some(_) => Scope::Together,
+    }
+}
+
+/// What comes of options and of the contents of their files: what is put, or the first refusal.
+pub(crate) fn written_files<R: Threads + Sync, G: Gate>(
     rt: &R,
     alloc: Global,
     options: &Options,
     contents: &[Vec<u8>],
     gate: &G,
 ) -> Result<Output, GraphErr>
-    requires { options.now.common ≡ None }
     ensures { IsAnswer (Out options.now (map (λ c. c.items) contents.now)) result }
 {
     if contents.len() >= MANY_FILES {
@@ -43,7 +54,16 @@ pub(crate) fn files_alone<R: Threads + Sync, G: Gate>(
     }
     let graph = Graph::read(alloc, contents)?;
     let prunes = prunable_files(alloc, contents, &graph)?;
+    let sharing = sharing_of(options);
     let workers = workers_of(options);
-    let made = make_files(rt, alloc, contents, &graph, &prunes, workers, gate)?;
-    outcome(alloc, options, contents, &graph, made.files, made.partials)
+    let made = make_files(rt, alloc, contents, &graph, &prunes, sharing, workers, gate)?;
+    outcome(
+        alloc,
+        options,
+        contents,
+        &graph,
+        made.common,
+        made.files,
+        made.partials,
+    )
 }

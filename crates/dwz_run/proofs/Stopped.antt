@@ -1,0 +1,66 @@
+-- What holds where one of the puts failed, and after the first puts, however many.
+use Rattle.std.proofs.Common.{◌≡◌, ◌⊎◌, ℕ, List, [], ◌∷◌, ◌++◌, length, take, Some, refl, sym, ap, subst, ◌∙◌, inl, inr}
+use Rattle.std.proofs.Math.Seq.{take-append_seam}
+use Rattle.std.specs.Prelude.{slice_get}
+use Rattle.dwz_outside.specs.declared.puts.Put.{Put}
+use Rattle.dwz_outside.specs.Store.{Store, done}
+use Rattle.dwz_outside.specs.Told.{FailedWrite, Shown, Told}
+use Rattle.dwz_report.specs.Texts.{write_text}
+use Rattle.dwz_course.specs.declared.output.Output.{Output}
+use Rattle.dwz_course.specs.declared.status.Status.TheVariants.{WriteFault}
+use Rattle.dwz_course.specs.Ends.{Came, Says, puts_by}
+use Rattle.dwz_course.specs.Outcome.{writes}
+use Rattle.dwz_course.specs.Puts.{PutsStopped}
+use Rattle.dwz_demo.specs.Demo.{demo_files}
+use Rattle.dwz_out.specs.Out.{Out}
+use Rattle.dwz_out.proofs.Stopping.{stops}
+use Rattle.dwz_run.specs.Laws.{AsksForFiles, HasOutput, ReadOn, RunEnds, StoppedAt, puts_in}
+use Rattle.dwz_run.proofs.AllDone.{with_puts}
+use Rattle.dwz_run.proofs.ChangedFiles.{changed_there}
+use Rattle.dwz_run.proofs.Outputs.{OfDemo, OfFiles, outputs}
+
+-- after the first puts each FILE is as it was or as it is made, and either reads by what is known of all files together
+pub read_on : (words : List (List ℕ)) (store : Store) (a : AsksForFiles words store) (out : HasOutput a.options a.contents) (count : ℕ)
+    → ReadOn out (done (take count (puts_in out)) store)
+read_on words store a out count file name nth =
+    elim (stops a.options a.lawful.fit store a.contents out.docs out.prunes a.got out.written count file name nth) [
+      | inl same ↦ inl (same, λ doc at. out.back.back.still file doc at)
+      | inr made ↦ inr (made, out.back.back.file file (changed_there a.options a.contents out.docs out.prunes file made.changed) made.changed)
+    ]
+
+-- what stands behind others is next
+next_is : (before : List Put) (p : Put) (after : List Put) → slice_get (before ++ p ∷ after) (length before) ≡ Some p
+next_is [] p after = refl
+next_is (b ∷ before) p after = next_is before p after
+
+-- where nothing is put no put fails
+pub none_fails : (before : List Put) (p : Put) (after : List Put) → [] ≡ before ++ p ∷ after → ⊥
+none_fails [] p after e = cc
+none_fails (b ∷ before) p after e = cc
+
+module _ (words : List (List ℕ)) (old new : Told) (shown shown_new : Shown) (store : Store) (told : old.held ≡ Some store) where
+  stopped_at : (out : Output) (came : Came demo_files Out words old (writes out)) (name text : List ℕ)
+      → PutsStopped old new (puts_by came.options.demo out) name
+      → text ≡ write_text name → StoppedAt words store old new text
+  stopped_at out came name text s is = by (outputs words old store told out came) where
+    by : OfFiles words store came.options out ⊎ OfDemo words came.options out → StoppedAt words store old new text
+    by (inl f) =
+        let has = f.has in
+        let puts_are : puts_in has ≡ s.before ++ s.failed ∷ s.after = sym f.puts_are ∙ s.puts_are in
+        let first : s.before ≡ take (length s.before) (puts_in has) = sym (ap (take (length s.before)) puts_are ∙ take-append_seam s.before (s.failed ∷ s.after)) in
+        record {
+          asks = f.asks;
+          out = has;
+          count = length s.before;
+          failed = s.failed;
+          next = ap (λ (ps : List Put). slice_get ps (length s.before)) puts_are ∙ next_is s.before s.failed s.after;
+          fault = subst (FailedWrite old new) s.name_is s.fault;
+          held = with_puts old new store s.before (take (length s.before) (puts_in has)) told first s.held;
+          after = read_on words store f.asks has (length s.before);
+          text_is = is ∙ ap write_text s.name_is;
+        }
+    by (inr d) = absurd (none_fails s.before s.failed s.after (sym d.puts_are ∙ s.puts_are))
+
+  pub all_stopped : RunEnds words old new shown shown_new WriteFault
+      → (text : List ℕ) × StoppedAt words store old new text × Says shown shown_new WriteFault text
+  all_stopped e = (e.text, stopped_at e.files.0 e.files.1 e.files.2 e.text e.files.3 e.files.4, e.console)

@@ -2,7 +2,19 @@
 #![tactic(auto)]
 
 #[cfg(test)]
+mod common;
+#[cfg(test)]
+mod common_refused;
+#[cfg(test)]
+mod common_spaces;
+#[cfg(test)]
+mod common_texts;
+#[cfg(test)]
+mod common_units;
+#[cfg(test)]
 mod cut;
+#[cfg(test)]
+mod demo;
 #[cfg(test)]
 mod elf;
 #[cfg(test)]
@@ -22,6 +34,8 @@ mod operands;
 #[cfg(test)]
 mod outside;
 #[cfg(test)]
+mod outside_common;
+#[cfg(test)]
 mod programs;
 #[cfg(test)]
 mod row;
@@ -31,6 +45,8 @@ mod several;
 mod spaces;
 #[cfg(test)]
 mod spelling;
+#[cfg(test)]
+mod stop;
 #[cfg(test)]
 mod texts;
 #[cfg(test)]

@@ -4,28 +4,10 @@ use crate::elf::Content::Plain;
 use crate::elf::Section;
 use crate::elf::Section::{Abbrev, Info};
 use crate::moves::{USERS, USERS_ONCE};
-use crate::row::{Call, Held, are_put, console, files, set_failing, words};
-use dwz_gate::OpenGate;
-use dwz_outside::{MemConsole, MemFiles};
-use dwz_run::{Status, run};
-use std::alloc::Global;
-use std::process::Abort;
+use crate::row::{Call, Held, are_put, console, files, set_failing};
+use crate::stop::{Stop, ends, stop_and_go};
+use dwz_run::Status;
 use std::test::Fail;
-use std::thread::Threads;
-
-// A run in which one call fails, and the same run again, in which none does.
-struct Stop {
-    words: &'static str,
-    before: &'static [Held],
-    fails: Call,
-    status: Status,
-    text: &'static str,
-    // What is put where no call fails, and how many of these puts are done.
-    puts: &'static [Held],
-    done: usize,
-    again: Status,
-    text_again: &'static str,
-}
 
 // Two units with one type.
 const TWICE: &[Section] = &[
@@ -187,57 +169,6 @@ const STOPS: &[Stop] = &[
         text_again: FIRST_WRITTEN,
     },
 ];
-
-// Whether the first so many puts are done, and no other.
-fn are_done(alloc: Global, files: &MemFiles, stop: &Stop, done: usize) -> Result<bool, Fail> {
-    let (done, not_done) = stop.puts.split_at(done.min(stop.puts.len()));
-    are_put(alloc, files, stop.before, done, not_done)
-}
-
-// Runs, and says how it ends.
-fn ends<R: Threads + Sync>(
-    rt: &R,
-    alloc: Global,
-    text: &str,
-    files: &mut MemFiles,
-    console: &mut MemConsole,
-) -> Result<Status, Fail> {
-    let words = words(alloc, text)?;
-    Ok(run(rt, alloc, &words, files, console, &OpenGate))
-}
-
-// The first run ends as it should, and so does one on the same files and the same console, which counts no fault again.
-fn stop_and_go<R: Abort + Threads + Sync>(rt: &R, alloc: Global, stop: &Stop) -> Result<(), Fail> {
-    let mut files = files(alloc, stop.before, 9)?;
-    let mut console = console(alloc)?;
-    set_failing(&mut files, &mut console, stop.fails)?;
-    let status = ends(rt, alloc, stop.words, &mut files, &mut console)?;
-    assert_eq!(rt; status, stop.status, "{}: {}", stop.words, stop.text);
-    assert_eq!(rt; console.text(), stop.text.as_bytes());
-    assert!(rt;
-        are_done(alloc, &files, stop, stop.done)?,
-        "{}: {}",
-        stop.words,
-        stop.text
-    );
-
-    let status = ends(rt, alloc, stop.words, &mut files, &mut console)?;
-    assert_eq!(rt; status, stop.again, "{}: {}", stop.words, stop.text);
-    let both = format!(in alloc; "{}{}", stop.text, stop.text_again)?;
-    assert_eq!(rt; console.text(), both.as_bytes());
-    let done = if status == Status::Done {
-        stop.puts.len()
-    } else {
-        stop.done
-    };
-    assert!(rt;
-        are_done(alloc, &files, stop, done)?,
-        "{}: {}",
-        stop.words,
-        stop.text
-    );
-    Ok(())
-}
 
 #[test]
 fn each_failing_call_stops_the_run_once(rt: HostRuntime) -> Result<(), Fail> {

@@ -130,8 +130,8 @@ pub(crate) fn run_row<R: Abort + Threads + Sync>(
     run_row_with(rt, alloc, row, "")
 }
 
-/// The same, with these options before the words of the row.
-pub(crate) fn run_row_with<R: Abort + Threads + Sync>(
+// The same, with these options before the words of the row.
+fn run_row_with<R: Abort + Threads + Sync>(
     rt: &R,
     alloc: Global,
     row: &Row,
@@ -150,6 +150,18 @@ pub(crate) fn run_row_with<R: Abort + Threads + Sync>(
         "{}",
         row.shows
     );
+    Ok(())
+}
+
+/// Runs, by each of these numbers of workers, and compares what comes of it.
+pub(crate) fn run_by_workers<R: Abort + Threads + Sync>(
+    rt: &R,
+    alloc: Global,
+    row: &Row,
+) -> Result<(), Fail> {
+    for workers in ["", "-j 1 ", "-j 3 ", "-j 7 ", "-j 64 "] {
+        run_row_with(rt, alloc, row, workers)?;
+    }
     Ok(())
 }
 

@@ -1,12 +1,11 @@
-//! Words that aren't lawful, and what isn't built.
+//! Words that aren't lawful.
 
-use crate::elf::Content::Plain;
-use crate::elf::Section::{Abbrev, Info};
-use crate::row::{Held, Row, run_row};
+use crate::row::{Row, run_row};
 use dwz_run::Status;
 use std::test::Fail;
 
-const USAGE: &str =
+/// The usage line.
+pub(crate) const USAGE: &str =
     "usage: dwz [-q] [--dwarf-5] [-m COMMON [-M NAME]] [-o OUT] [-j N] FILE... | --demo N\n";
 
 // No name is held: a get would fail.
@@ -64,43 +63,6 @@ const NOT_LAWFUL: &[Row] = &[
 #[test]
 fn words_that_are_not_lawful_get_nothing(rt: HostRuntime) -> Result<(), Fail> {
     for row in NOT_LAWFUL {
-        run_row(&rt, rt.alloc(), row)?;
-    }
-    Ok(())
-}
-
-const EMPTY: Held = Held("one", Plain(&[Info(&[]), Abbrev(&[])]));
-
-const NOT_BUILT: &[Row] = &[
-    Row {
-        shows: "a common file",
-        words: "-m common one",
-        before: &[EMPTY],
-        status: Status::Refused,
-        text: "dwz: one: file+0x0: not built yet\n",
-        puts: &[],
-    },
-    Row {
-        shows: "a common file whose file isn't held",
-        words: "-m common two",
-        before: &[EMPTY],
-        status: Status::ReadFault,
-        text: "dwz: cannot read two\n",
-        puts: &[],
-    },
-    Row {
-        shows: "a demonstration",
-        words: "--demo 50",
-        before: &[],
-        status: Status::Refused,
-        text: "dwz: one: file+0x0: not built yet\n",
-        puts: &[],
-    },
-];
-
-#[test]
-fn a_common_file_is_not_built_yet(rt: HostRuntime) -> Result<(), Fail> {
-    for row in NOT_BUILT {
         run_row(&rt, rt.alloc(), row)?;
     }
     Ok(())

@@ -4,6 +4,8 @@
 #[cfg(test)]
 mod case;
 #[cfg(test)]
+mod common;
+#[cfg(test)]
 mod elf;
 #[cfg(test)]
 mod faults;
@@ -19,6 +21,8 @@ mod moving;
 mod outside;
 #[cfg(test)]
 mod program;
+#[cfg(test)]
+mod programs;
 #[cfg(test)]
 mod runs;
 #[cfg(test)]

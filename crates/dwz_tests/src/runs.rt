@@ -170,20 +170,20 @@ fn words_that_are_not_lawful_write_nothing(rt: HostRuntime) -> Result<(), Fail> 
 }
 
 #[test]
-fn a_common_file_is_not_built_yet(rt: HostRuntime) -> Result<(), Fail> {
+fn a_demonstration_says_one_line_and_puts_nothing(rt: HostRuntime) -> Result<(), Fail> {
     let alloc = rt.alloc();
-    let table: [(&[&[u8]], &[u8]); 2] = [
-        (
-            &[b"-m", b"common", b"one", b"two"],
-            b"dwz: one: file+0x0: not built yet\n",
-        ),
-        (&[b"--demo", b"50"], b"dwz: one: file+0x0: not built yet\n"),
+    let said = b"demo 50: 100 units, 11760 -> 7856 bytes, 51 partial units\n";
+    let table: [(&[&[u8]], &[u8]); 4] = [
+        (&[b"--demo", b"50", b"-j", b"1"], said),
+        (&[b"--demo", b"50", b"-j", b"7"], said),
+        (&[b"--demo", b"50"], said),
+        (&[b"-q", b"--demo", b"50"], b""),
     ];
     for (words, text) in table {
         let mut files = three(alloc)?;
         let mut console = screen(alloc)?;
         let status = ends(&rt, alloc, words, &mut files, &mut console)?;
-        assert_eq!(rt; status, Status::Refused);
+        assert_eq!(rt; status, Status::Done);
         assert_eq!(rt; console.text(), text);
         assert!(rt; are_new(alloc, &files, 0)?);
         assert!(rt; files.content(b"common").is_none());

@@ -4,8 +4,10 @@
     tools/bench_runs.py [--times N] [--program PROGRAM] FILE...
 
 Each FILE is written elsewhere (`-o`), N times by each of: the program with one worker, the program with four, and dwz (with limits
-that no FILE reaches), where it is at hand. Of each the least time is told, how many entries a second that makes, and the most memory
-that it took. Entries are counted by readelf. Other programs on the machine make times longer. It belongs to no gate.
+that no FILE reaches), where it is at hand. Of each are told the least time by the clock and the least processor time, how many entries
+a second each makes, how many times those of dwz that is, and the most memory that it took, beside dwz's. Entries are counted by
+readelf. Other programs on the machine make times longer, those by the clock more: what several workers save shows in the time by
+the clock alone, and only where processors are free. It belongs to no gate.
 """
 
 import argparse
@@ -14,6 +16,7 @@ import shutil
 import subprocess
 import tempfile
 import time
+from collections import namedtuple
 
 
 def entries_of(path):
@@ -26,8 +29,11 @@ def entries_of(path):
     return count
 
 
+Run = namedtuple("Run", "wall cpu memory")  # seconds, seconds of all processors together, kilobytes
+
+
 def run_once(words, folder):
-    """Seconds, and the most kilobytes of memory."""
+    """A run, or None where it is refused."""
     child = os.fork()
     if child == 0:
         os.chdir(folder)
@@ -39,7 +45,30 @@ def run_once(words, folder):
     _, status, used = os.wait4(child, 0)
     if status:
         return None
-    return time.monotonic() - start, used.ru_maxrss
+    return Run(time.monotonic() - start, used.ru_utime + used.ru_stime, used.ru_maxrss)
+
+
+def best_of(times, words):
+    """The least times and the most memory of several runs, each in a new folder."""
+    runs = []
+    for _ in range(times):
+        with tempfile.TemporaryDirectory() as folder:
+            runs.append(run_once(words, folder))
+    if None in runs:
+        return None
+    return Run(min(run.wall for run in runs), min(run.cpu for run in runs), max(run.memory for run in runs))
+
+
+def row_of(name, run, entries, dwz):
+    """A line about a way, beside dwz."""
+    def times(mine, other):
+        return "" if dwz is None else " (%.2f)" % (mine / other)
+    if run is None:
+        return "  %-12s refused" % name
+    rates = ["%.2f" % (entries / seconds / 1e6) if entries else "?" for seconds in (run.wall, run.cpu)]
+    return "  %-12s wall %.3f s, %s million a second%s; cpu %.3f s, %s million a second%s; %d MB%s" % (
+        name, run.wall, rates[0], times(dwz.wall if dwz else 0, run.wall), run.cpu, rates[1], times(dwz.cpu if dwz else 0, run.cpu),
+        run.memory // 1024, times(run.memory, dwz.memory if dwz else 1))
 
 
 def main():
@@ -57,16 +86,9 @@ def main():
     for path in options.files:
         entries = entries_of(path)
         print("%s: %d bytes, %s entries" % (path, os.path.getsize(path), "?" if entries is None else entries))
-        for name, words in ways:
-            with tempfile.TemporaryDirectory() as folder:
-                runs = [run_once(words + [os.path.abspath(path)], folder) for _ in range(options.times)]
-            runs = [run for run in runs if run]
-            if not runs:
-                print("  %s: refused" % name)
-                continue
-            seconds, memory = min(run[0] for run in runs), max(run[1] for run in runs)
-            rate = "?" if entries is None else "%.2f million" % (entries / seconds / 1e6)
-            print("  %s: %.3f s, %s entries a second, %d MB" % (name, seconds, rate, memory // 1024))
+        runs = {name: best_of(options.times, words + [os.path.abspath(path)]) for name, words in ways}
+        for name, run in runs.items():
+            print(row_of(name, run, entries, runs.get("dwz")), flush=True)
 
 
 if __name__ == "__main__":

@@ -1,205 +1,104 @@
 #!/usr/bin/env python3
 """Compares the program with an independent model over files that compilers make, and asks debuggers what they read.
 
-    tools/compare_real.py MODEL [--keep FOLDER] [PROGRAM]
+    tools/compare_real.py MODEL [--keep FOLDER] [--ways WAYS] [--jobs N,N..] [--only WORDS] [PROGRAM]
 
-Small programs in C and C++ of several units are built with each compiler that is at hand (gcc, clang), with -O0 to -O3, with
-link-time optimization, with type units, as shared objects, and as separate debug files (`objcopy --only-keep-debug`). The program
-writes each anew with `-o`; status, text and bytes have to be those of the model. Where something of a file moved, each reader that is
-at hand (readelf, gdb, eu-readelf, llvm-dwarfdump) has to say of the new file what it said of the old one: gdb each of its types, functions and
-variables, the others whether they find something wrong.
+The files are those of `small_programs.py`. The program writes each anew with `-o` (the way `alone`), and three that share headers with
+`-m` (the way `common`), of one compiler and one variant, and of all compilers of a language; once for each number of workers (of
+--jobs). Status, text and bytes have to be those of the model, the common file's too. Where something of a file moved, each reader that
+is at hand (gdb, readelf, eu-readelf, llvm-dwarfdump) has to say of the new file what it said of the old one: `debug_readers.py` tells
+what is asked, and what may differ. In the way `alone` they are asked too of the file that the dwz of a distribution writes, where it is
+at hand and takes the file: how much differs there is shown beside. gdb 13, readelf 2.40, eu-readelf 0.188 and llvm-dwarfdump 14 don't
+follow references into a common file by DWARF 5 (7.5.4); so of files with one they are asked of what tools/gnu_forms.py makes of them.
+With --only just the sets are taken whose names have one of these words.
 
-What isn't at hand is left out, with a line that says so. The last lines count; the status is 1 where something differs. It belongs
-to no gate.
+What isn't at hand is left out, with a line that says so, and so is a reader that crashes on a file as the compiler made it. The last line
+counts; the status is 1 where something differs. It belongs to no gate.
 """
 
 import argparse
 import os
 import shutil
-import subprocess
 import sys
 import tempfile
 
-from compare_runs import differences, run_model, run_program
-
-HEADER_C = """
-#ifndef SHAPES_H
-#define SHAPES_H
-#include <stddef.h>
-typedef unsigned long number;
-enum kind { POINT, LINE, RING = 40 };
-struct point { int x, y; };
-struct shape { enum kind kind; union { struct point at; double length; } u; struct shape *next; const char *name; };
-struct list { struct shape *first; number count; int (*less)(const struct shape *, const struct shape *); char spare[16]; };
-static inline number twice(number n) { return n * 2; }
-number put(struct list *l, struct shape *s);
-number measure(const struct list *l);
-#endif
-"""
-
-UNITS_C = {
-    "main.c": """
-#include "shapes.h"
-static int less(const struct shape *a, const struct shape *b) { return a->kind < b->kind; }
-int main(int argc, char **argv) {
-    struct shape ring = { RING, { .length = 2.5 }, NULL, "ring" };
-    struct list l = { NULL, 0, less, "" };
-    for (int i = 0; i < argc; i++) { number n = put(&l, &ring); if (n > twice(l.count)) return 1; }
-    return (int) measure(&l) + (argv == NULL);
-}
-""",
-    "list.c": """
-#include "shapes.h"
-number put(struct list *l, struct shape *s) {
-    struct shape **at = &l->first;
-    while (*at && *at != s && l->less(*at, s)) at = &(*at)->next;
-    if (*at == s) return l->count;
-    s->next = *at; *at = s;
-    return ++l->count;
-}
-""",
-    "sum.c": """
-#include "shapes.h"
-static double part(const struct shape *s) { switch (s->kind) { case POINT: return s->u.at.x; case LINE: return s->u.length; default: return 1; } }
-number measure(const struct list *l) {
-    double all = 0;
-    for (const struct shape *s = l->first; s; s = s->next) all += part(s);
-    return twice((number) all);
-}
-""",
-}
-
-HEADER_CC = """
-#pragma once
-#include <string>
-#include <vector>
-namespace shapes {
-namespace detail { struct base { virtual ~base(); virtual double area() const = 0; int id = 0; }; }
-enum class kind : unsigned char { ring, square };
-template <class T> struct box { T inside; T *begin() { return &inside; } const T &get() const { return inside; } };
-struct ring : detail::base { explicit ring(double r); double area() const override; double radius; static int made; };
-struct square : detail::base { double area() const override; double side = 1; box<kind> k; };
-double sum(const std::vector<detail::base *> &all);
-std::string name(const ring &);
-}
-"""
-
-UNITS_CC = {
-    "main.cc": """
-#include "shapes.h"
-int main(int argc, char **) {
-    shapes::ring r(argc); shapes::square s; s.k.inside = shapes::kind::square;
-    std::vector<shapes::detail::base *> all { &r, &s };
-    auto more = [&all](int n) { return shapes::sum(all) * n; };
-    return int(more(argc)) + int(shapes::name(r).size());
-}
-""",
-    "ring.cc": """
-#include "shapes.h"
-namespace shapes {
-detail::base::~base() {}
-int ring::made = 0;
-ring::ring(double r) : radius(r) { id = ++made; }
-double ring::area() const { return 3.14 * radius * radius; }
-double square::area() const { return side * side; }
-}
-""",
-    "sum.cc": """
-#include "shapes.h"
-namespace shapes {
-double sum(const std::vector<detail::base *> &all) { double n = 0; for (auto *one : all) n += one->area(); return n; }
-std::string name(const ring &r) { return "ring " + std::to_string(r.id); }
-}
-""",
-}
-
-# name of a variant, and the options that it is built with
-VARIANTS = [
-    ("O0", ["-O0"]), ("O1", ["-O1"]), ("O2", ["-O2"]), ("O3", ["-O3"]), ("lto", ["-O2", "-flto"]),
-    ("types", ["-O2", "-fdebug-types-section"]), ("shared", ["-O2", "-fPIC", "-shared"]), ("static-pie-less", ["-O2", "-no-pie"]),
-]
-
-COMPILERS = [("gcc", "c"), ("clang", "c"), ("g++", "cc"), ("clang++", "cc")]
-
-SOURCES = {"c": (HEADER_C, UNITS_C), "cc": (HEADER_CC, UNITS_CC)}
-
-# what gdb is asked
-ASKED = ["info types", "info functions -n", "info variables -n", "info scope main", "info line main"]
+from compare_runs import COMMON, WAYS, differences, numbers, run_model, run_program
+from debug_readers import Crash, at_hand
+from gnu_forms import rewritten
+from small_programs import quiet, sets_of
 
 
-def quiet(words, folder=None):
-    return subprocess.run(words, cwd=folder, stdout=subprocess.PIPE, stderr=subprocess.STDOUT, timeout=600)
+def write_all(folder, held):
+    os.makedirs(folder, exist_ok=True)
+    for name, data in held.items():
+        with open(os.path.join(folder, os.fsdecode(name)), "wb") as file:
+            file.write(data)
 
 
-def build(compiler, language, options, folder, out):
-    """Builds the units of a language; None where the compiler fails."""
-    header, units = SOURCES[language]
-    with open(os.path.join(folder, "shapes.h"), "w") as file:
-        file.write(header)
-    for name, text in units.items():
-        with open(os.path.join(folder, name), "w") as file:
-            file.write(text)
-    made = quiet([compiler, "-g", "-gdwarf-5", *options, "-o", out, *units], folder)
-    return None if made.returncode else out
+def by_dwz(path, folder):
+    """The file as the dwz of a distribution writes it, in that folder, or None where there is none, or where it refuses the file."""
+    if shutil.which("dwz") is None:
+        return None
+    os.makedirs(folder, exist_ok=True)
+    out = os.path.join(folder, os.path.basename(path))
+    done = quiet(["dwz", "-l", "none", "-L", "none", "-o", out, path])
+    return out if done.returncode == 0 and os.path.exists(out) else None
 
 
-def files_of(folder):
-    """Each file that the compilers make, with its name."""
-    for compiler, language in COMPILERS:
-        if shutil.which(compiler) is None:
-            print("no %s: nothing is built with it" % compiler)
+def read_again(name, asked, old, new, other, counts):
+    """Asks the readers of a file before and after, and of that which dwz wrote, if there is one."""
+    for reader in asked:
+        try:
+            before = reader.says(old, old)
+        except Crash as crash:
+            print("%s: %s %s, on the compiler's own file: it isn't asked" % (name, reader.name, crash))
+            counts["not asked"] += 1
             continue
-        for variant, options in VARIANTS:
-            name = "%s-%s" % (compiler, variant)
-            place = os.path.join(folder, name)
-            os.makedirs(place)
-            if build(compiler, language, options, place, "file") is None:
-                print("%s doesn't build" % name)
-                continue
-            yield name, os.path.join(place, "file")
-            if variant == "O2" and shutil.which("objcopy"):
-                debug = os.path.join(place, "debug")
-                if quiet(["objcopy", "--only-keep-debug", os.path.join(place, "file"), debug]).returncode == 0:
-                    yield name + "-debug", debug
+        try:
+            lost = reader.lost(before, reader.says(new, old))
+        except Crash as crash:
+            lost = [str(crash)]
+        try:
+            beside = "" if other is None else ", of dwz's file %d" % len(reader.lost(before, reader.says(other, old)))
+        except Crash as crash:
+            beside = ", on dwz's file it %s" % crash
+        print("%s: %s: %s; %d differ%s" % (name, reader.name, reader.about(before), len(lost), beside), flush=True)
+        for one in lost:
+            print("    " + one)
+        counts["asked"] += 1
+        counts["read less"] += bool(lost)
 
 
-def gdb_says(path):
-    """What gdb knows, line by line, without the numbers of lines. A partial unit has no name, so that gdb has another heading over
-    what stands there, under which it shows of each name the first alone; and gdb lists a namespace of a partial unit by itself, since
-    nothing says where it was declared."""
-    words = ["gdb", "-nx", "-batch", "-ex", "set width 0", "-ex", "file file"]
-    for question in ASKED:
-        words += ["-ex", question]
-    said = quiet(words, os.path.dirname(path)).stdout.decode(errors="replace")
-    return {line.split("\t")[-1] for line in said.splitlines() if not line.startswith("File ")}
+def read_files(name, asked, folder, before, after, counts):
+    """Asks them of each file of a set of which something moved. `out` is written in place of `one`."""
+    new = {file: data for file, data in after.items() if file != b"out"}
+    if b"out" in after:
+        new[b"one"] = after[b"out"]
+    places = {kind: os.path.join(folder, kind) for kind in ("before", "after", "dwz")}
+    write_all(places["before"], before)
+    write_all(places["after"], {file: rewritten(data) for file, data in new.items()})
+    for file, data in before.items():
+        if new[file] != data:
+            old, made = (os.path.join(places[kind], os.fsdecode(file)) for kind in ("before", "after"))
+            other = None if COMMON in new else by_dwz(old, places["dwz"])
+            read_again("%s, %s" % (name, os.fsdecode(file)), asked, old, made, other, counts)
 
 
-def readers():
-    """The readers that are at hand, each with what it says of a file."""
-    found = []
-    for name, says in [
-        ("gdb", gdb_says),
-        ("readelf", lambda path: warnings(["readelf", "--debug-dump=info,abbrev,aranges,loc", path])),
-        ("eu-readelf", lambda path: warnings(["eu-readelf", "--debug-dump=info", path])),
-        ("llvm-dwarfdump", lambda path: warnings(["llvm-dwarfdump", "--debug-info", "--debug-loclists", "--debug-aranges", path])),
-    ]:
-        if shutil.which(name) is None:
-            print("no %s: it isn't asked" % name)
-        else:
-            found.append((name, says))
-    return found
-
-
-def says_less(before, after):
-    """Whether something that was said isn't said any longer."""
-    return not before <= after if isinstance(before, set) else before != after
-
-
-def warnings(words):
-    """The status of a reader, and how often it warns."""
-    done = subprocess.run(words, stdout=subprocess.PIPE, stderr=subprocess.PIPE, timeout=600)
-    said = done.stdout.decode(errors="replace") + done.stderr.decode(errors="replace")
-    return done.returncode, sum("warning" in line.lower() or "error:" in line.lower() for line in said.splitlines())
+def compare_set(name, words, held, jobs, program, model, counts):
+    """The status and the files after a run, once it was compared, for each number of workers."""
+    counts["sets"] += 1
+    want = run_model(model, words, dict(held)) if model else None
+    for job in jobs:
+        with tempfile.TemporaryDirectory() as place:
+            got = run_program(program, [b"-j", b"%d" % job] + words, held, place)
+        found = differences(got, want) if want else []
+        if found:
+            counts["differ"] += 1
+            print("%s: -j %d: %s" % (name, job, "; ".join(found)))
+    counts["written" if got[0] == 0 else "refused"] += 1
+    counts["with a common file"] += COMMON in got[2]
+    print("%s: status %d, %s" % (name, got[0], "; ".join(got[1].decode(errors="replace").splitlines())), flush=True)
+    return got[0], got[2]
 
 
 def main():
@@ -207,7 +106,12 @@ def main():
     parser.add_argument("model")
     parser.add_argument("program", nargs="?", default=os.path.join(os.path.dirname(__file__), "../crates/dwz/out/dwz"))
     parser.add_argument("--keep", help="a folder that keeps the files")
-    options = parser.parse_args()
+    parser.add_argument("--ways", type=lambda text: text.split(","), default=WAYS, help="alone,common")
+    parser.add_argument("--jobs", type=numbers, default=[1, 7])
+    parser.add_argument("--only", default="", help="words, with commas between them")
+    options = parser.parse_intermixed_args()
+    if not set(options.ways) <= set(WAYS):
+        parser.error("ways are %s" % ", ".join(WAYS))
     program = os.path.abspath(options.program)
     model = None
     if os.path.isdir(os.path.join(options.model, "dwzref")):
@@ -217,35 +121,15 @@ def main():
         model = (outside, run)
     else:
         print("no model in %s: status, text and bytes aren't compared" % options.model)
-    asked = readers()
-    counts = {"files": 0, "written": 0, "refused": 0, "differ": 0, "read less": 0}
+    asked = at_hand()
+    counts = dict.fromkeys(["sets", "written", "with a common file", "refused", "differ", "asked", "not asked", "read less"], 0)
     with tempfile.TemporaryDirectory() as temporary:
         folder = options.keep or temporary
-        for name, path in files_of(folder):
-            counts["files"] += 1
-            with open(path, "rb") as file:
-                held = {b"one": file.read()}
-            with tempfile.TemporaryDirectory() as place:
-                got = run_program(program, [b"-o", b"out", b"one"], held, place)
-            counts["written" if got[0] == 0 else "refused"] += 1
-            print("%s: status %d, %s" % (name, got[0], got[1].decode(errors="replace").strip()))
-            found = differences(got, run_model(model, [b"-o", b"out", b"one"], dict(held))) if model else []
-            if found:
-                counts["differ"] += 1
-                print("%s: %s" % (name, "; ".join(found)))
-            new = got[2].get(b"out")
-            if got[0] or new is None or new == held[b"one"]:
-                continue
-            after = os.path.join(os.path.dirname(path), "after", "file")
-            before = os.path.join(os.path.dirname(path), "before", "file")
-            for where, data in ((before, held[b"one"]), (after, new)):
-                os.makedirs(os.path.dirname(where), exist_ok=True)
-                with open(where, "wb") as file:
-                    file.write(data)
-            for reader, says in asked:
-                if says_less(says(before), says(after)):
-                    counts["read less"] += 1
-                    print("%s: %s says less, or something else" % (name, reader))
+        for name, words, held in sets_of(os.path.join(folder, "built"), options.ways):
+            if any(word in name for word in options.only.split(",")):
+                status, after = compare_set(name, words, held, options.jobs, program, model, counts)
+                if status == 0:
+                    read_files(name, asked, os.path.join(folder, "read", name), held, after, counts)
     print(", ".join("%s %d" % pair for pair in counts.items()))
     return 1 if counts["differ"] or counts["read less"] else 0
 

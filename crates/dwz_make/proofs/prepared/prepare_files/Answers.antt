@@ -25,10 +25,13 @@ whole_lists-requires g c =
       ordered = c.in_ok-ordered.ensures;
       listed = c.in_ok-known.ensures;
     } in
-    let f = joined contents files prunes a o k j in
-    (f, j.ordered.order.lent, j.listed.texts,
-    before contents files prunes a o k j c.as_slice-importing.result.now c.as_slice-importing.ensures.value c.as_slice-orders.result.now
-    c.as_slice-orders.ensures.value)
+    let f = joined contents files prunes a o k j in (
+      f,
+      j.ordered.order.lent,
+      j.listed.texts,
+      before contents files prunes a o k j c.as_slice-importing.result.now c.as_slice-importing.ensures.value c.as_slice-orders.result.now
+          c.as_slice-orders.ensures.value,
+    )
 
 pub prune_files-requires-clause-many : goal.prune_files-requires-clause-many
 prune_files-requires-clause-many g c =

@@ -3,7 +3,7 @@ use Rattle.std.specs.Prelude.{ℕ, ◌*◌, List, [], ◌∷◌, ◌++◌, Optio
 use Rattle.std.specs.List.{concat, flat_map}
 use Rattle.std.specs.Fmt.{digits}
 use Rattle.dwz_model.specs.declared.fault.Reason.{Reason}
-use Rattle.dwz_model.specs.declared.fault.Reason.TheVariants.{NotElf, FileType, SectionTable, Compressed, NoDebugInfo, Index, Layout, TooLarge, BadAbbrev, UnsupportedForm, Truncated, BadNumber, BadString, BadLineTable, BadFile, BadExpr, UnsupportedOp, BadList, SharedList, BadAranges, DwarfFormat, Version, UnitType, AddressSize, NoSuchCode, BadRoot, TooDeep, TooMany, BadReference, BadOperand, Machine, OperandWidth, FileSize, NotBuilt}
+use Rattle.dwz_model.specs.declared.fault.Reason.TheVariants.{NotElf, FileType, SectionTable, Compressed, NoDebugInfo, Index, Layout, TooLarge, BadAbbrev, UnsupportedForm, Truncated, BadNumber, BadString, BadLineTable, BadFile, BadExpr, UnsupportedOp, BadList, SharedList, BadAranges, DwarfFormat, Version, UnitType, AddressSize, NoSuchCode, BadRoot, TooDeep, TooMany, BadReference, BadOperand, Machine, OperandWidth, FileSize}
 use Rattle.dwz_model.specs.declared.fault.Refusal.{Refusal}
 use Rattle.dwz_report.specs.declared.summary.Summary.{Summary}
 
@@ -65,7 +65,6 @@ reason_words BadOperand = codes "bad operand"
 reason_words Machine = codes "files of different machines"
 reason_words OperandWidth = codes "operand too narrow"
 reason_words FileSize = codes "file too large"
-reason_words NotBuilt = codes "not built yet"
 
 -- and the number behind them
 abbrev pub reason_number : Reason → Text

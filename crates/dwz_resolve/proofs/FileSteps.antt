@@ -4,7 +4,6 @@ use Rattle.std.specs.Prelude.{ℤ}
 use Rattle.std.specs.Option.{is_some, option_map}
 use lib.Signed.{lt_z}
 use Rattle.dwz_resolve.specs.declared.files.Files.{Files}
-use Rattle.std.specs.HashMap.{get}
 use Rattle.std.proofs.lemmas.Bool.{cases_Bool, cond-false, cond-true, eqb-true, false≢true, ltb-true}
 use Rattle.dwz_model.specs.declared.fault.Fault.{Fault}
 use Rattle.dwz_model.specs.declared.fault.ReadErr.{ReadErr}
@@ -13,6 +12,7 @@ use Rattle.dwz_bytes.specs.Reading.{◌>>=◌}
 use Rattle.dwz_docs.specs.Faults.{Answers, Fails}
 use Rattle.dwz_meanings.specs.LineTables.{FileTable, nth_path}
 use Rattle.dwz_meanings.specs.Meanings.{Sources, path_by}
+use Rattle.dwz_resolve.specs.TablePlaces.{number_in}
 use Rattle.dwz_resolve.specs.FileRows.{HasTable, KnowTables, SaysFile, file_there, row_there, table_at, unless_none}
 
 get_front : {X : Type 0} (xs ys : List X) (k : ℕ) (x : X) → slice_get xs k ≡ Some x → slice_get (xs ++ ys) k ≡ Some x
@@ -53,21 +53,21 @@ plain_number z y e h = ap (λ (x : ℤ). lt_z (pos 18446744073709551615) x) (sym
 -- ---- the tables that are known
 
 module _ (sources : Sources) where
-  pub know_none : (files : Files) → ((place : ℕ) → get nat_eq files.places place ≡ None) → KnowTables sources files
+  pub know_none : (files : Files) → ((place : ℕ) → number_in files.places place ≡ None) → KnowTables sources files
   know_none files none = record { known = λ place number e. absurd (let both : None ≡ Some number = sym (none place) ∙ e in cc) }
 
   pub know_more : (old new : Files) (t : FileTable) (place number : ℕ) → KnowTables sources old → new.tables.items ≡ old.tables.items ++ t ∷ [] → number ≡ length old.tables.items → table_at sources place ≡ Ok t
-      → ((q : ℕ) → get nat_eq new.places q ≡ cond (nat_eq place q) (Some number) (get nat_eq old.places q)) → KnowTables sources new × HasTable sources new.tables.items place number
+      → ((q : ℕ) → number_in new.places q ≡ cond (nat_eq place q) (Some number) (number_in old.places q)) → KnowTables sources new × HasTable sources new.tables.items place number
   know_more old new t place number h tables len read updates =
       let last : HasTable sources new.tables.items place number = has_last sources old.tables.items new.tables.items t place number tables len read in (
         record {
           known = λ q n e. elim (cases_Bool (nat_eq place q)) [
             | inl same ↦
                 let at : place ≡ q = eqb-true place q same in
-                let both : Some number ≡ Some n = sym (updates q ∙ cond-true (nat_eq place q) (Some number) (get nat_eq old.places q) same) ∙ e in
+                let both : Some number ≡ Some n = sym (updates q ∙ cond-true (nat_eq place q) (Some number) (number_in old.places q) same) ∙ e in
                 let one : number ≡ n = cc in
                 subst (λ (p : ℕ). HasTable sources new.tables.items p n) at (subst (λ (k : ℕ). HasTable sources new.tables.items place k) one last)
-            | inr other ↦ has_more sources old.tables.items new.tables.items t q n tables (h.known q n (sym (updates q ∙ cond-false (nat_eq place q) (Some number) (get nat_eq old.places q) other) ∙ e))
+            | inr other ↦ has_more sources old.tables.items new.tables.items t q n tables (h.known q n (sym (updates q ∙ cond-false (nat_eq place q) (Some number) (number_in old.places q) other) ∙ e))
           ];
         },
         last,

@@ -1,6 +1,5 @@
 -- Which line tables are known, value by value, entry by entry and unit by unit.
 use Rattle.std.proofs.Common.{◌≡◌, ℕ, ◌+◌, ◌≤◌, ◌||◌, ◌⊎◌, zero, suc, Bool, true, false, cond, List, [], ◌∷◌, ◌++◌, length, take, Option, Some, None, Result, Ok, Err, slice_get, nat_eq, refl, sym, ap, subst, ◌∙◌, inl, inr, arith}
-use Rattle.std.specs.HashMap.{get}
 use Rattle.std.specs.List.{list_any}
 use Rattle.std.proofs.Math.Bool.{or-false, or-true}
 use Rattle.std.proofs.lemmas.Bool.{cases_Bool, cond-false, cond-true, eq-eqb, eqb-true, false≢true}
@@ -12,6 +11,7 @@ use Rattle.dwz_docs.specs.Lists.{In}
 use Rattle.dwz_docs.specs.Units.{RawUnit}
 use Rattle.dwz_meanings.specs.Meanings.{Around, scope_of, stmt_list}
 use Rattle.dwz_resolve.specs.declared.files.Files.{Files}
+use Rattle.dwz_resolve.specs.TablePlaces.{number_in}
 use Rattle.dwz_resolve.specs.FileRows.{IfLearns, KnowTables, Learns, number_at}
 use Rattle.dwz_resolve.specs.Named.{entries_of}
 use Rattle.dwz_resolve.specs.Parts.{HasLine, HaveLines, KnowLines, KnowsLine, numbers_file}
@@ -22,10 +22,10 @@ use Rattle.dwz_resolve.proofs.RowLemmas.{take_here}
 pub learns_none : (line : Option ℕ) (files : Files) → Learns false line files files
 learns_none line files = record { still = λ place number e. e; known = λ numbers none. absurd (false≢true numbers) }
 
-still_none : (line : Option ℕ) (old new : Files) → ((place number : ℕ) → get nat_eq old.places place ≡ Some number → get nat_eq new.places place ≡ Some number) → number_at new line ≡ None → number_at old line ≡ None
+still_none : (line : Option ℕ) (old new : Files) → ((place number : ℕ) → number_in old.places place ≡ Some number → number_in new.places place ≡ Some number) → number_at new line ≡ None → number_at old line ≡ None
 still_none None old new still none = refl
-still_none (Some place) old new still none = by (get nat_eq old.places place) refl where
-  by : (o : Option ℕ) → get nat_eq old.places place ≡ o → get nat_eq old.places place ≡ None
+still_none (Some place) old new still none = by (number_in old.places place) refl where
+  by : (o : Option ℕ) → number_in old.places place ≡ o → number_in old.places place ≡ None
   by None e = e
   by (Some number) e = absurd (let both : None ≡ Some number = sym none ∙ still place number e in cc)
 
@@ -43,15 +43,15 @@ learns_same b line old new result none same =
     subst (λ (c : Bool). IfLearns c line old new result) (sym none) (learns_if false line old new result (subst (λ (f : Files). Learns false line old f) (sym same) (learns_none line old)))
 
 -- the number of one table more is kept
-pub learns_more : (old new : Files) (place number : ℕ) → get nat_eq old.places place ≡ None → ((q : ℕ) → get nat_eq new.places q ≡ cond (nat_eq place q) (Some number) (get nat_eq old.places q)) → Learns true (Some place) old new
+pub learns_more : (old new : Files) (place number : ℕ) → number_in old.places place ≡ None → ((q : ℕ) → number_in new.places q ≡ cond (nat_eq place q) (Some number) (number_in old.places q)) → Learns true (Some place) old new
 learns_more old new place number none updates = record {
   still = λ q n e. elim (cases_Bool (nat_eq place q)) [
     | inl same ↦
         let at : place ≡ q = eqb-true place q same in
-        absurd (let both : None ≡ Some n = sym none ∙ ap (get nat_eq old.places) at ∙ e in cc)
-    | inr other ↦ updates q ∙ cond-false (nat_eq place q) (Some number) (get nat_eq old.places q) other ∙ e
+        absurd (let both : None ≡ Some n = sym none ∙ ap (number_in old.places) at ∙ e in cc)
+    | inr other ↦ updates q ∙ cond-false (nat_eq place q) (Some number) (number_in old.places q) other ∙ e
   ];
-  known = λ numbers gone. absurd (let both : None ≡ Some number = sym gone ∙ updates place ∙ cond-true (nat_eq place place) (Some number) (get nat_eq old.places place) (eq-eqb place place refl) in cc);
+  known = λ numbers gone. absurd (let both : None ≡ Some number = sym gone ∙ updates place ∙ cond-true (nat_eq place place) (Some number) (number_in old.places place) (eq-eqb place place refl) in cc);
 }
 
 -- ---- of some things in a row
@@ -83,7 +83,7 @@ module _ (around : Around ℕ) (u : RawUnit) where
     by (Some number) is = is
     by None is = λ e a in_unit in_entry numbers. h.known (any_in entry_numbers (entries_of u) e in_unit (any_in numbers_file e.attrs a in_entry numbers)) is
 
-  still_knows : (old new : Files) (number : Option ℕ) → ((place n : ℕ) → get nat_eq old.places place ≡ Some n → get nat_eq new.places place ≡ Some n) → KnowsLine around old u number → KnowsLine around new u number
+  still_knows : (old new : Files) (number : Option ℕ) → ((place n : ℕ) → number_in old.places place ≡ Some n → number_in new.places place ≡ Some n) → KnowsLine around old u number → KnowsLine around new u number
   still_knows old new None still h = h
   still_knows old new (Some number) still h = by (stmt_list (scope_of around u)) refl where
     by : (o : Option ℕ) → stmt_list (scope_of around u) ≡ o → number_at new (stmt_list (scope_of around u)) ≡ Some number

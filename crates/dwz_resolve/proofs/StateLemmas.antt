@@ -15,6 +15,9 @@ use Rattle.dwz_resolve.specs.State.{IsBehind, IsState}
 pub with_refs : (raw : List RawUnit) (s : Scope ℕ) (n : ℕ) (named : List NamedList) (st : State) (refs : _) → IsState raw s n named st → IsState raw s n named (record st { refs = refs })
 with_refs raw s n named st refs k = record { shows = k.shows; tables = k.tables; seen = k.seen }
 
+pub with_found : (raw : List RawUnit) (s : Scope ℕ) (n : ℕ) (named : List NamedList) (st : State) (refs hints : _) → IsState raw s n named st → IsState raw s n named (record st { refs = refs; hints = hints })
+with_found raw s n named st refs hints k = record { shows = k.shows; tables = k.tables; seen = k.seen }
+
 pub with_expression : (raw : List RawUnit) (s : Scope ℕ) (n : ℕ) (named : List NamedList) (st : State) (refs operands : _) → IsState raw s n named st → IsState raw s n named (record st { refs = refs; operands = operands })
 with_expression raw s n named st refs operands k = record { shows = k.shows; tables = k.tables; seen = k.seen }
 

@@ -1,7 +1,6 @@
 -- Line tables that were read, and what values that number files say.
-use Rattle.std.specs.Prelude.{◌≡◌, ℕ, ℤ, Bool, true, false, List, Option, Some, None, Result, Ok, Err, IfOk, nat_eq, if◌then◌else◌, slice_get}
+use Rattle.std.specs.Prelude.{◌≡◌, ℕ, ℤ, Bool, true, false, List, Option, Some, None, Result, Ok, Err, IfOk, if◌then◌else◌, slice_get}
 use Rattle.std.specs.Option.{is_some}
-use Rattle.std.specs.HashMap.{get}
 use Rattle.dwz_model.specs.declared.fault.Fault.{Fault}
 use Rattle.dwz_model.specs.declared.fault.ReadErr.{ReadErr}
 use Rattle.dwz_model.specs.declared.fault.Reason.TheVariants.{BadFile}
@@ -9,6 +8,7 @@ use Rattle.dwz_bytes.specs.Reading.{◌>>=◌}
 use Rattle.dwz_docs.specs.Faults.{Fails, info_fault}
 use Rattle.dwz_meanings.specs.LineTables.{FileTable, file_table_at}
 use Rattle.dwz_meanings.specs.Meanings.{Sources, is_zero, names_file, path_by, texts_of}
+use Rattle.dwz_resolve.specs.TablePlaces.{number_in}
 use Rattle.dwz_resolve.specs.declared.files.Files.{Files}
 
 -- the table at a place
@@ -23,16 +23,16 @@ pub record HasTable (sources : Sources) (tables : List FileTable) (place number 
 
 -- each place that is kept is that of its table
 pub record KnowTables (sources : Sources) (files : Files) : Type 0 where
-  pub known : (place number : ℕ) → get nat_eq files.places place ≡ Some number → HasTable sources files.tables.items place number
+  pub known : (place number : ℕ) → number_in files.places place ≡ Some number → HasTable sources files.tables.items place number
 
 -- the number that is kept for the table at a place, if there is a place
 abbrev pub number_at : Files → Option ℕ → Option ℕ
 number_at files None = None
-number_at files (Some place) = get nat_eq files.places place
+number_at files (Some place) = number_in files.places place
 
 -- each number that was kept still is; and where a value numbers files, one is kept for the place
 pub record Learns (numbers : Bool) (line : Option ℕ) (old new : Files) : Type 0 where
-  pub still : (place number : ℕ) → get nat_eq old.places place ≡ Some number → get nat_eq new.places place ≡ Some number
+  pub still : (place number : ℕ) → number_in old.places place ≡ Some number → number_in new.places place ≡ Some number
   pub known : numbers ≡ true → number_at new line ≡ None → line ≡ None
 
 abbrev pub IfLearns : {Y : Type 0} → Bool → Option ℕ → Files → Files → Result Y ReadErr → Type 0

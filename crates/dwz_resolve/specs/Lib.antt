@@ -10,4 +10,5 @@ pub mod Operands
 pub mod FileRows
 pub mod ListSteps
 pub mod Parts
+pub mod TablePlaces
 pub mod Places

@@ -13,12 +13,12 @@ ghost use Rattle.dwz_resolve.specs.FileRows.{FindsTable, IfLearns, KnowTables, S
 ghost use Rattle.dwz_resolve.specs.Resolved.{sources_view};
 
 use crate::here::Here;
+use crate::places::TablePlaces;
 use crate::sections::Sections;
 use dwz_forms::Raw;
 use dwz_lines::FileTable;
 use dwz_model::{Fault, ReadErr, Reason};
 use std::alloc::Global;
-use std::collections::HashMap;
 
 /// The line tables that were read.
 #[derive(Drop)]
@@ -27,7 +27,7 @@ pub(crate) struct Files {
     /// The tables.
     pub tables: Vec<FileTable>,
     /// The number of the table at a place of `.debug_line`.
-    pub places: HashMap<u32, usize>,
+    pub places: TablePlaces,
 }
 
 // The section `.debug_info` in faults.
@@ -95,7 +95,7 @@ impl Files {
         Files {
             alloc,
             tables: Vec::new(alloc),
-            places: HashMap::new(alloc),
+            places: TablePlaces::new(alloc),
         }
     }
 
@@ -105,7 +105,7 @@ impl Files {
     {
         match line {
             None => None,
-            Some(place) => self.places.get(&place).copied(),
+            Some(place) => self.places.get(place),
         }
     }
 
@@ -114,8 +114,8 @@ impl Files {
         ensures learns { IfLearns true (Some place) self.old self.new result }
         ensures finds { KnowTables (sources_view sections.now) self.old → FindsTable (sources_view sections.now) place self.new result }
     {
-        if let Some(table) = self.places.get(&place) {
-            return Ok(*table);
+        if let Some(table) = self.places.find(place) {
+            return Ok(table);
         }
         let table = FileTable::read(
             self.alloc,

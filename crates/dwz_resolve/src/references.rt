@@ -9,7 +9,8 @@ ghost use Rattle.dwz_model.specs.declared.fault.ReadErr.TheVariants.{Refused};
 ghost use Rattle.dwz_resolve.specs.Resolved.{NamesEntry, places};
 ghost use Rattle.dwz_unit.specs.Rows.{units_of};
 
-use crate::find::find;
+use crate::find::find_again;
+use crate::hints::Hints;
 use dwz_model::{Fault, ReadErr, Reason};
 use dwz_unit::Units;
 
@@ -35,11 +36,12 @@ pub(crate) fn add_entry(
     at: u64,
     place: u128,
     refs: &mut Vec<u32>,
+    hints: &mut Hints,
 ) -> Result<(), ReadErr>
     requires { end ≤ entries_in (units_of units.now) }
     ensures { (own : List ℕ) → slice_range (places (units_of units.now)) first end ≡ own → NamesEntry (units_of units.now) refs.old.items refs.new.items result (entry_among (λ n. n) own at place) }
 {
-    match find(units, first, end, place) {
+    match find_again(units, first, end, place, hints) {
         Some(number) => {
             refs.push(number)?;
             Ok(())

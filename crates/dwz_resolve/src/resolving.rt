@@ -12,6 +12,7 @@ ghost use Rattle.dwz_resolve.specs.Resolved.{AreEntries, around, place_at};
 ghost use Rattle.dwz_resolve.specs.Said.{said};
 ghost use Rattle.dwz_unit.specs.Rows.{units_of};
 
+use crate::hints::Hints;
 use crate::named::add_units;
 use crate::operands::ListOperand;
 use crate::parts::Parts;
@@ -60,7 +61,8 @@ pub fn resolve(
     // Each reference has a byte of it at least, so 4 bytes are enough for where those of an entry begin.
     let info = units.info();
     prove!(info.len() <= u32::MAX as usize);
-    let mut state = State::new(alloc, file);
+    let hints = Hints::new(alloc)?;
+    let mut state = State::new(alloc, file, hints);
     let mut parts = Parts::new(alloc)?;
     add_units(units, sections, &mut state, &mut parts)?;
     check_ranges(units, sections.aranges)?;

@@ -6,6 +6,7 @@ ghost use Rattle.dwz_meanings.specs.Meanings.{Sources};
 ghost use Rattle.dwz_resolve.specs.FileRows.{KnowTables};
 
 use crate::files::Files;
+use crate::hints::Hints;
 use crate::lists::Lists;
 use dwz_expr::Operand;
 use std::alloc::Global;
@@ -24,10 +25,12 @@ pub(crate) struct State {
     pub files: Files,
     /// Operands of the expression that was read last, kept for the room that they have.
     pub operands: Vec<Operand>,
+    /// Numbers of entries that were named.
+    pub hints: Hints,
 }
 
 impl State {
-    pub(crate) fn new(alloc: Global, file: u32) -> State
+    pub(crate) fn new(alloc: Global, file: u32, hints: Hints) -> State
         ensures file { result.file ≡ file }
         ensures refs { result.refs.items ≡ [] }
         ensures rows { result.lists.rows.items ≡ [] }
@@ -47,6 +50,7 @@ impl State {
             },
             files: Files::new(alloc),
             operands: Vec::new(alloc),
+            hints,
         }
     }
 }

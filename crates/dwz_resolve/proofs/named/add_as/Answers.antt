@@ -8,7 +8,7 @@ use Rattle.dwz_meanings.specs.Meanings.{Scope, all_places, as_class, entry_among
 use Rattle.dwz_meanings.specs.NamedLists.{lists_as}
 use Rattle.dwz_resolve.specs.declared.class.Class.{Class}
 use Rattle.dwz_resolve.specs.declared.state.State.{State}
-use Rattle.dwz_resolve.proofs.StateLemmas.{with_refs}
+use Rattle.dwz_resolve.proofs.StateLemmas.{with_found}
 use Rattle.dwz_resolve.specs.Classes.{class_view}
 use Rattle.dwz_resolve.specs.Named.{Found, found_in, map_ok}
 use Rattle.dwz_resolve.specs.Resolved.{Goes, StateIn, places, scope_in, stored}
@@ -96,10 +96,10 @@ returns-in-UnitEntry-clause-goes c = λ u before here k. (
     let s = scope_in c.args.sections.now raw u in
     let a = stored c.args.at c.args.end c.args.pair.now c.args.raw.now in
     let K = StateIn c.args.sections.now raw u c.args.here.now in
-    let new : State = record c.args.state.now { refs = c.add_entry.new.refs } in
+    let new : State = record c.args.state.now { refs = c.add_entry.new.refs; hints = c.add_entry.new.hints } in
     let own = here.own in
     let at = here.at in
-    let added = entry_goes raw K before c.args.state.now new c.add_entry.result (entry_among (λ (n : ℕ). n) s.own c.args.at (c.args.here.now.at + c.offset_of-offset.result)) (c.add_entry.ensures s.own own) (with_refs raw s c.args.here.now.number before c.args.state.now c.add_entry.new.refs k) in
+    let added = entry_goes raw K before c.args.state.now new c.add_entry.result (entry_among (λ (n : ℕ). n) s.own c.args.at (c.args.here.now.at + c.offset_of-offset.result)) (c.add_entry.ensures s.own own) (with_found raw s c.args.here.now.number before c.args.state.now c.add_entry.new.refs c.add_entry.new.hints k) in
     subst (λ (r : Result Found Fault). Goes raw K before c.args.state.now new c.add_entry.result r)
     ((λ i. map_ok (found_in []) (entry_among (λ (n : ℕ). n) s.own c.args.at (at i + c.offset_of-offset.ensures.value i))) ∙ ap (named_as s a) (sym c.in-UnitEntry.is))
     added)
@@ -110,9 +110,9 @@ returns-in-InfoEntry-clause-goes c = λ u before here k. (
     let s = scope_in c.args.sections.now raw u in
     let a = stored c.args.at c.args.end c.args.pair.now c.args.raw.now in
     let K = StateIn c.args.sections.now raw u c.args.here.now in
-    let new : State = record c.args.state.now { refs = c.add_entry-in-InfoEntry.new.refs } in
+    let new : State = record c.args.state.now { refs = c.add_entry-in-InfoEntry.new.refs; hints = c.add_entry-in-InfoEntry.new.hints } in
     let named = c.add_entry-in-InfoEntry.ensures (all_places raw) (ap (λ (n : ℕ). slice_range (places raw) 0 n) c.entries.ensures ∙ all_are raw) in
-    let added = entry_goes raw K before c.args.state.now new c.add_entry-in-InfoEntry.result (entry_among (λ (n : ℕ). n) (all_places raw) c.args.at c.offset_of-offset.result) named (with_refs raw s c.args.here.now.number before c.args.state.now c.add_entry-in-InfoEntry.new.refs k) in
+    let added = entry_goes raw K before c.args.state.now new c.add_entry-in-InfoEntry.result (entry_among (λ (n : ℕ). n) (all_places raw) c.args.at c.offset_of-offset.result) named (with_found raw s c.args.here.now.number before c.args.state.now c.add_entry-in-InfoEntry.new.refs c.add_entry-in-InfoEntry.new.hints k) in
     subst (λ (r : Result Found Fault). Goes raw K before c.args.state.now new c.add_entry-in-InfoEntry.result r)
     (ap (λ (p : ℕ). map_ok (found_in []) (entry_among (λ (n : ℕ). n) (all_places raw) c.args.at p)) c.offset_of-offset.ensures.value ∙ ap (named_as s a) (sym c.in-InfoEntry.is))
     added)

@@ -10,6 +10,7 @@ use dwz_words::Options;
 use std::alloc::{AllocError, Global};
 use std::process::Abort;
 use std::test::Fail;
+use std::thread::Threads;
 
 // The names of `.debug_info`, `.debug_abbrev` and of the section that holds them.
 const NAMES: &[u8] = b"\0.debug_info\0.debug_abbrev\0.shstrtab\0";
@@ -115,8 +116,8 @@ fn options_of(alloc: Global, files: usize) -> Result<Options, AllocError> {
 }
 
 // What comes of files with these contents, or of the one with `-o out`.
-fn outcome_of(
-    rt: &impl Abort,
+fn outcome_of<R: Abort + Threads + Sync>(
+    rt: &R,
     alloc: Global,
     contents: &[Vec<u8>],
     out: bool,
@@ -128,13 +129,13 @@ fn outcome_of(
     if out {
         options.out = Some(blob(alloc, b"out")?);
     }
-    let graph = Graph::read(alloc, contents)?;
+    let graph = Graph::read(rt, alloc, contents, 1)?;
     Ok(outcome(alloc, &options, contents, &graph, None, made, 0))
 }
 
 // What comes of them with `-m common -M sup`, and with these sections of the common file.
-fn outcome_with(
-    rt: &impl Abort,
+fn outcome_with<R: Abort + Threads + Sync>(
+    rt: &R,
     alloc: Global,
     contents: &[Vec<u8>],
     common: Option<Sections>,
@@ -145,7 +146,7 @@ fn outcome_with(
     let mut options = options_of(alloc, contents.len())?;
     options.common = Some(blob(alloc, b"common")?);
     options.name = Some(blob(alloc, b"sup")?);
-    let graph = Graph::read(alloc, contents)?;
+    let graph = Graph::read(rt, alloc, contents, 1)?;
     Ok(outcome(alloc, &options, contents, &graph, common, made, 1))
 }
 

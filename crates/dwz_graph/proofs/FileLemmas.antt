@@ -1,6 +1,6 @@
 -- A file is read step by step: its length, its sections, its machine, its units, and what these mean.
-use Rattle.std.proofs.Common.{◌≡◌, ℕ, ◌<◌, ◌≤◌, ◌^◌, Bool, true, false, List, length, drop, Option, Some, None, Result, Ok, Err, refl, sym, ap, subst, ◌∙◌, inl, inr, ltb, ◌||◌, arith}
-use Rattle.std.proofs.lemmas.Bool.{cases_lt, false≢true, lt-ltb}
+use Rattle.std.proofs.Common.{eqb, not, ◌≡◌, ℕ, ◌<◌, ◌≤◌, ◌^◌, Bool, true, false, List, length, drop, Option, Some, None, Result, Ok, Err, refl, sym, ap, subst, ◌∙◌, inl, inr, ltb, ◌||◌, arith}
+use Rattle.std.proofs.lemmas.Bool.{cases_Bool, cases_lt, eqb-true, false≢true, lt-ltb}
 use Rattle.std.proofs.lemmas.List.{length-drop, length-take}
 use Rattle.dwz_model.specs.declared.fault.Fault.{Fault}
 use Rattle.dwz_model.specs.declared.fault.ReadErr.{ReadErr}
@@ -13,7 +13,7 @@ use Rattle.dwz_docs.specs.ElfFaults.{file_fault}
 use Rattle.dwz_docs.specs.ElfReading.{ElfView, bytes_in, elf_fault, elf_of, section_range}
 use Rattle.dwz_docs.specs.Entries.{given, unless_so}
 use Rattle.dwz_docs.specs.Faults.{Fails}
-use Rattle.dwz_meanings.specs.Files.{Limits, around_of, debug_abbrev, debug_aranges, debug_info, doc_with, lists_said, sets_said, units_said, ends_at, file_meaning, is_other_machine, is_too_long, longest_file, machine_at, machine_of, section_of, sources_of}
+use Rattle.dwz_meanings.specs.Files.{IsForMachine, IsNotTooLong, Limits, around_of, debug_abbrev, debug_aranges, debug_info, doc_with, lists_said, sets_said, units_said, ends_at, file_meaning, is_other_machine, is_too_long, longest_file, machine_at, machine_of, section_of, sources_of}
 use Rattle.dwz_meanings.specs.Meanings.{Sources, alone, units_meaning}
 use Rattle.dwz_meanings.specs.NamedLists.{lists_of_units}
 use Rattle.dwz_meanings.specs.Ranges.{RangeSet}
@@ -138,6 +138,23 @@ not_above m n e = elim (cases_lt m n) [ inl lt ↦ absurd (false≢true (sym e �
 first_false : (a b : Bool) → (a || b) ≡ false → a ≡ false
 first_false true b e = absurd (false≢true (sym e))
 first_false false b e = refl
+
+second_false : (a b : Bool) → (a || b) ≡ false → b ≡ false
+second_false true b e = absurd (false≢true (sym e))
+second_false false b e = e
+
+pub not_too_long : (l : Limits) (bytes : List ℕ) → is_too_long l bytes ≡ false → IsNotTooLong l bytes
+not_too_long l bytes e = record {
+  file = not_above longest_file (length bytes) (first_false (ltb longest_file (length bytes)) (ltb l.bytes (length bytes)) e);
+  files = not_above l.bytes (length bytes) (second_false (ltb longest_file (length bytes)) (ltb l.bytes (length bytes)) e);
+}
+
+pub for_machine : (other : Option ℕ) (machine : ℕ) → is_other_machine other machine ≡ false → IsForMachine other machine
+for_machine None machine e = tt
+for_machine (Some other) machine e = elim (cases_Bool (eqb machine other)) [
+  | inl t ↦ eqb-true machine other t
+  | inr f ↦ absurd (false≢true (sym e ∙ ap (λ (b : Bool). not b) f))
+]
 
 pub fits_file : (l : Limits) (bytes : List ℕ) → is_too_long l bytes ≡ false → length bytes ≤ 2 ^ 28
 unfolding longest_file

@@ -1,2 +1,4 @@
+pub mod AheadLemmas
 pub mod FileLemmas
 pub mod GraphLemmas
+mod RoomLemmas

@@ -38,6 +38,12 @@ pub(crate) struct Left {
 // No file may be longer, in bytes.
 const LONGEST_FILE: usize = 1 << 28;
 
+/// No files together may be longer, in bytes.
+pub(crate) const LONGEST_FILES: usize = 1 << 29;
+
+/// No files together may have more entries.
+pub(crate) const MOST_ENTRIES: u32 = 1 << 24;
+
 const INFO: u8 = 1;
 
 const ABBREV: u8 = 2;
@@ -67,16 +73,16 @@ fn fault(at: u64, reason: Reason) -> ReadErr
     })
 }
 
-// Whether a file is too long, or with those before it.
+/// Whether a file is too long, or with those before it.
 #[tactic(auto, unfolding(dwz_meanings::specs::Files::longest_file))]
-fn is_too_long(left: &Left, bytes: &[u8]) -> bool
+pub(crate) fn is_too_long(left: &Left, bytes: &[u8]) -> bool
     ensures { result ≡ Files.is_too_long (limits_view left.now) bytes.now }
 {
     bytes.len() > LONGEST_FILE || bytes.len() > left.bytes
 }
 
-// Whether the files before it, if there are any, are for another machine.
-fn is_other_machine(other: Option<u16>, machine: u16) -> bool
+/// Whether the files before it, if there are any, are for another machine.
+pub(crate) fn is_other_machine(other: Option<u16>, machine: u16) -> bool
     ensures { result ≡ Files.is_other_machine other machine }
 {
     match other {

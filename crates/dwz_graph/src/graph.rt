@@ -11,11 +11,13 @@ ghost use Rattle.dwz_meanings.specs.Files.{Limits, around_of, files_meaning, lim
 ghost use Rattle.dwz_graph.specs.Files.{AreKept, FilesAnswer, HasFile, HasRead, docs_of, limits_view, refused_file};
 ghost use Rattle.dwz_unit.specs.Rows.{units_of};
 
-use crate::file::{File, Left, read_file};
+use crate::ahead::{file_behind, read_ahead};
+use crate::file::{File, LONGEST_FILES, Left, MOST_ENTRIES};
 use dwz_model::{GraphErr, ReadErr, Refusal};
 use dwz_resolve::ListOperand;
 use std::alloc::Global;
 use std::marker::Model;
+use std::thread::Threads;
 
 /// The files of a run, each with its units, and with its references resolved. Clauses see the contents of the files; what these say
 /// is `docs_of`.
@@ -35,11 +37,6 @@ impl<'a> Model for Graph<'a> {
 
     ghost invariant = { λ g. AreKept (map (λ v. v.items) g.contents.now) g.files.items };
 }
-
-// No files together may be longer, in bytes, nor have more entries.
-const LONGEST_FILES: usize = 1 << 29;
-
-const MOST_ENTRIES: u32 = 1 << 24;
 
 fn in_file(file: u32, error: ReadErr) -> GraphErr
     ensures { result ≡ refused_file file error }
@@ -70,12 +67,19 @@ fn behind(left: &Left, bytes: &[u8], file: &File<'_>) -> Left
 impl<'a> Graph<'a> {
     /// Reads files, of which there are fewer than 2^32. Refused with the first fault: files come in order, and in a file `FileSize`
     /// comes first, then the faults of its sections, `Machine`, the faults of its units, those of what values mean, those of address
-    /// ranges, and those of shared lists.
-    pub fn read(alloc: Global, files: &'a [Vec<u8>]) -> Result<Graph<'a>, GraphErr>
-        requires { length files.now < 2 ^ 32 }
+    /// ranges, and those of shared lists. So many workers read at once; the answer is the same for any number of them.
+    pub fn read<R: Threads + Sync>(
+        rt: &R,
+        alloc: Global,
+        files: &'a [Vec<u8>],
+        workers: u32,
+    ) -> Result<Graph<'a>, GraphErr>
+        requires few { length files.now < 2 ^ 32 }
+        requires workers { (0 < workers) × (workers ≤ 64) }
         ensures answers { FilesAnswer docs_of result (files_meaning no_files_before 0 (map (λ v. v.items) files.now)) }
         ensures contents { IfOk result (λ graph. graph ≡ map (λ v. v.items) files.now) }
     {
+        let mut ahead = read_ahead(rt, alloc, files, workers)?;
         let mut left = Left {
             bytes: LONGEST_FILES,
             entries: MOST_ENTRIES,
@@ -83,7 +87,8 @@ impl<'a> Graph<'a> {
         };
         let mut kept = Vec::new(alloc);
         for (number, content) in files.iter().enumerate() {
-            match read_file(alloc, number as u32, content.as_slice(), &left) {
+            let done = ahead[number].take();
+            match file_behind(alloc, number as u32, content.as_slice(), &left, done) {
                 Ok(file) => {
                     left = behind(&left, content.as_slice(), &file);
                     kept.push(file)?;

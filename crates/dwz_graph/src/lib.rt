@@ -1,6 +1,7 @@
 //! The files of a run, each with its units, and with its references resolved.
 #![tactic(auto)]
 
+mod ahead;
 mod file;
 mod graph;
 #[cfg(test)]

@@ -1,10 +1,13 @@
 //! Small files, and their first faults. Bytes and expected places come from a model that was written independently.
 
+mod workers;
+
 use crate::Graph;
 use dwz_model::{Fault, GraphErr, ReadErr, Reason, Refusal};
 use dwz_unit::Units;
 use std::alloc::{AllocError, Global};
 use std::test::Fail;
+use std::thread::Threads;
 
 // The names of the sections with the codes 1 to 8, and of the section that holds them.
 const NAMES: &[u8] =
@@ -91,18 +94,27 @@ fn refusal_of(read: Result<Graph<'_>, GraphErr>) -> Option<Refusal> {
 }
 
 // The first fault of a file, if it has one.
-fn fault_of(alloc: Global, content: Vec<u8>) -> Result<Option<Refusal>, Fail> {
+fn fault_of<R: Threads + Sync>(
+    rt: &R,
+    alloc: Global,
+    content: Vec<u8>,
+) -> Result<Option<Refusal>, Fail> {
     let mut files = Vec::new(alloc);
     files.push(content)?;
-    Ok(refusal_of(Graph::read(alloc, &files)))
+    Ok(refusal_of(Graph::read(rt, alloc, &files, 1)))
 }
 
 // The first fault of two.
-fn fault_of_two(alloc: Global, first: Vec<u8>, second: Vec<u8>) -> Result<Option<Refusal>, Fail> {
+fn fault_of_two<R: Threads + Sync>(
+    rt: &R,
+    alloc: Global,
+    first: Vec<u8>,
+    second: Vec<u8>,
+) -> Result<Option<Refusal>, Fail> {
     let mut files = Vec::new(alloc);
     files.push(first)?;
     files.push(second)?;
-    Ok(refusal_of(Graph::read(alloc, &files)))
+    Ok(refusal_of(Graph::read(rt, alloc, &files, 2)))
 }
 
 fn at(section: u8, at: u64, reason: Reason) -> Option<Refusal> {
@@ -305,16 +317,17 @@ fn first_faults_are_placed(rt: HostRuntime) -> Result<(), Fail> {
     ];
     for (info, abbrevs, code, more, fault) in table {
         let sections = sections_of(alloc, info, abbrevs, code, more)?;
-        assert_eq!(rt; fault_of(alloc, file(alloc, 62, &sections)?)?, fault);
+        assert_eq!(rt; fault_of(&rt, alloc, file(alloc, 62, &sections)?)?, fault);
     }
     let sections = decoded(
         alloc,
         &[LISTS, TYPE_AND_LIST, "", "", "", "", OF_TYPE, NO_UNIT],
     )?;
-    let ranges_first = fault_of(alloc, file(alloc, 62, &sections)?)?;
+    let ranges_first = fault_of(&rt, alloc, file(alloc, 62, &sections)?)?;
     assert_eq!(rt; ranges_first, at(8, 0, Reason::BadAranges));
     let sections = decoded(alloc, &[UNIT, TYPE])?;
     let other_machine = fault_of_two(
+        &rt,
         alloc,
         file(alloc, 62, &sections)?,
         file(alloc, 40, &sections)?,
@@ -328,17 +341,22 @@ fn a_file_has_256_mebibytes_at_most(rt: HostRuntime) -> Result<(), Fail> {
     let alloc = rt.alloc();
     let sections = decoded(alloc, &[UNIT, TYPE])?;
     let long = vec![in alloc; 0u8; (1 << 28) + 1]?;
-    let too_long = fault_of_two(alloc, file(alloc, 62, &sections)?, long)?;
+    let too_long = fault_of_two(&rt, alloc, file(alloc, 62, &sections)?, long)?;
     assert_eq!(rt; too_long, second(0, Reason::FileSize));
     Ok(())
 }
 
 // The first fault of a file with these two sections, if it has one.
-fn fault_in(alloc: Global, info: &[u8], abbrevs: &[u8]) -> Result<Option<Refusal>, Fail> {
+fn fault_in<R: Threads + Sync>(
+    rt: &R,
+    alloc: Global,
+    info: &[u8],
+    abbrevs: &[u8],
+) -> Result<Option<Refusal>, Fail> {
     let mut sections = Vec::new(alloc);
     sections.push(Vec::from_slice(alloc, info)?)?;
     sections.push(Vec::from_slice(alloc, abbrevs)?)?;
-    fault_of(alloc, file(alloc, 62, &sections)?)
+    fault_of(rt, alloc, file(alloc, 62, &sections)?)
 }
 
 // The first fault of units that may have only so many entries, if they have one.
@@ -391,7 +409,7 @@ fn the_first_fault_of_a_walk_comes_first(rt: HostRuntime) -> Result<(), Fail> {
         } else {
             at(0, 40, Reason::SectionTable)
         };
-        assert_eq!(rt; fault_of(alloc, cut)?, fault);
+        assert_eq!(rt; fault_of(&rt, alloc, cut)?, fault);
     }
     for len in 0usize..42 {
         let mut cut = two.clone()?;
@@ -401,7 +419,7 @@ fn the_first_fault_of_a_walk_comes_first(rt: HostRuntime) -> Result<(), Fail> {
         } else {
             at(1, (len - len % 21) as u64, Reason::Truncated)
         };
-        assert_eq!(rt; fault_in(alloc, &cut, &abbrevs)?, fault);
+        assert_eq!(rt; fault_in(&rt, alloc, &cut, &abbrevs)?, fault);
     }
     let too_many = ReadErr::Refused(Fault {
         section: 1,
@@ -410,14 +428,14 @@ fn the_first_fault_of_a_walk_comes_first(rt: HostRuntime) -> Result<(), Fail> {
     });
     assert_eq!(rt; fault_within(alloc, &two, &abbrevs, 3), Some(too_many));
     let blocks = hex::decode(alloc, "0111010000020b01000000")?;
-    assert_eq!(rt; fault_in(alloc, &chain(alloc, 256)?, &blocks)?, None);
-    let too_deep = fault_in(alloc, &chain(alloc, 257)?, &blocks)?;
+    assert_eq!(rt; fault_in(&rt, alloc, &chain(alloc, 256)?, &blocks)?, None);
+    let too_deep = fault_in(&rt, alloc, &chain(alloc, 257)?, &blocks)?;
     assert_eq!(rt; too_deep, at(1, 0x10c, Reason::TooDeep));
     let mut cycles = hex::decode(alloc, NO_TYPE)?;
     let cycle = hex::decode(alloc, CYCLE)?;
     cycles.extend_from_slice(&cycle)?;
     cycles.extend_from_slice(&cycle)?;
-    let unread = fault_in(alloc, &cycles, &hex::decode(alloc, INDIRECT)?)?;
+    let unread = fault_in(&rt, alloc, &cycles, &hex::decode(alloc, INDIRECT)?)?;
     assert_eq!(rt; unread, at(1, 0x1d, Reason::UnsupportedForm { form: 0x16 }));
     Ok(())
 }

@@ -54,7 +54,7 @@ pub(crate) fn look<R: Threads + Sync>(
     ensures plan { IfOk result (λ looked. let docs = docs_of (map (λ v. v.items) files.now) in ShowsPlan (rule_by scope docs) (units_of docs) (length docs) looked.plan) }
     ensures lines { IfOk result (λ looked. AnswersEachTop looked.tops looked.least looked.plan) }
 {
-    let graph = Graph::read(alloc, files)?;
+    let graph = Graph::read(rt, alloc, files, workers)?;
     let indexes = indexes(alloc, &graph)?;
     let indexes = indexes.as_slice();
     let planned = plan_files(rt, alloc, &graph, indexes, scope, workers, &OpenGate)?;

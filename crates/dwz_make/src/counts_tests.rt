@@ -186,7 +186,7 @@ fn numbers_as_by_hand(rt: HostRuntime) -> Result<(), Fail> {
     for case in &CASES {
         let files = files_of(alloc, case.files)?;
         assert!(rt; files.len() < 100);
-        let graph = Graph::read(alloc, &files)?;
+        let graph = Graph::read(&rt, alloc, &files, 1)?;
         let numbers = numbers_of(&rt, alloc, &graph, case.scope)?;
         assert_eq!(rt; numbers.commons, case.commons);
         assert_eq!(rt; numbers.parts.as_slice(), case.parts);

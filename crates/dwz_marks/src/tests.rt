@@ -38,7 +38,7 @@ fn tops_are_named_by_operands(rt: HostRuntime) -> Result<(), Fail> {
     files.push(hex::decode(alloc, LISTED)?)?;
     files.push(hex::decode(alloc, CONVERTED)?)?;
     assert_eq!(rt; files.len(), 2);
-    let graph = Graph::read(alloc, &files)?;
+    let graph = Graph::read(&rt, alloc, &files, 1)?;
     let indexes = indexes(alloc, &graph)?;
     let named = named_tops(alloc, &graph, &indexes)?;
     let by_any = [true, false, true, false, false, false, true, false];
@@ -96,7 +96,7 @@ fn files_are_numbered_in_order(rt: HostRuntime) -> Result<(), Fail> {
     files.push(hex::decode(alloc, SPACED)?)?;
     files.push(hex::decode(alloc, NESTED)?)?;
     assert_eq!(rt; files.len(), 2);
-    let graph = Graph::read(alloc, &files)?;
+    let graph = Graph::read(&rt, alloc, &files, 1)?;
     let indexes = indexes(alloc, &graph)?;
     assert_eq!(rt; indexes.len(), 2);
     let first = Starts {

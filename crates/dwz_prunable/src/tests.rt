@@ -4,6 +4,7 @@ use crate::prunable_files;
 use dwz_graph::Graph;
 use std::alloc::{AllocError, Global};
 use std::test::Fail;
+use std::thread::Threads;
 
 // The names of the sections of a file in order, and of the one that holds them.
 const NAMES: &[u8] =
@@ -66,10 +67,14 @@ fn file(alloc: Global, sections: [&[u8]; 5], macros: u32) -> Result<Vec<u8>, All
 }
 
 // What is said of a file, if it is read.
-fn prunable(alloc: Global, content: Vec<u8>) -> Result<Option<bool>, Fail> {
+fn prunable<R: Threads + Sync>(
+    rt: &R,
+    alloc: Global,
+    content: Vec<u8>,
+) -> Result<Option<bool>, Fail> {
     let mut files = Vec::new(alloc);
     files.push(content)?;
-    let Ok(graph) = Graph::read(alloc, &files) else {
+    let Ok(graph) = Graph::read(rt, alloc, &files, 1) else {
         return Ok(None);
     };
     let flags = prunable_files(alloc, &files, &graph)?;
@@ -118,7 +123,7 @@ fn files_are_told_apart(rt: HostRuntime) -> Result<(), Fail> {
         ([UNIT, TYPES, TEXTS, b"", b"\0"], NO_BITS, Some(false)),
     ];
     for (sections, macros, flag) in table {
-        assert_eq!(rt; prunable(alloc, file(alloc, sections, macros)?)?, flag);
+        assert_eq!(rt; prunable(&rt, alloc, file(alloc, sections, macros)?)?, flag);
     }
     Ok(())
 }

@@ -52,10 +52,10 @@ pub(crate) fn written_files<R: Threads + Sync, G: Gate>(
     if contents.len() >= MANY_FILES {
         return Err(GraphErr::NoMemory);
     }
-    let graph = Graph::read(alloc, contents)?;
+    let workers = workers_of(options);
+    let graph = Graph::read(rt, alloc, contents, workers)?;
     let prunes = prunable_files(alloc, contents, &graph)?;
     let sharing = sharing_of(options);
-    let workers = workers_of(options);
     let made = make_files(rt, alloc, contents, &graph, &prunes, sharing, workers, gate)?;
     outcome(
         alloc,

@@ -51,7 +51,7 @@ fn spaces_are_numbered_over_all_files(rt: HostRuntime) -> Result<(), Fail> {
     files.push(hex::decode(alloc, SPACED)?)?;
     files.push(hex::decode(alloc, NESTED)?)?;
     assert_eq!(rt; files.len(), 2);
-    let graph = Graph::read(alloc, &files)?;
+    let graph = Graph::read(&rt, alloc, &files, 1)?;
     let indexes = indexes(alloc, &graph)?;
     let texts = space_texts(alloc, &graph, &indexes)?;
     assert_eq!(rt; texts.as_slice(), [0, 0, 2, 3].as_slice());
@@ -93,7 +93,7 @@ fn ulebs_pin(rt: HostRuntime) -> Result<(), Fail> {
     files.push(hex::decode(alloc, CONVERTED)?)?;
     files.push(hex::decode(alloc, LISTED)?)?;
     assert_eq!(rt; files.len(), 2);
-    let graph = Graph::read(alloc, &files)?;
+    let graph = Graph::read(&rt, alloc, &files, 1)?;
     let indexes = indexes(alloc, &graph)?;
     let flags = pinned_spaces(alloc, &graph, &indexes)?;
     assert_eq!(rt; flags.as_slice(), [true, true, false].as_slice());

@@ -82,7 +82,7 @@ fn names_of_spaces_stand_by_offsets_and_by_slots(rt: HostRuntime) -> Result<(), 
     let mut files = Vec::new(alloc);
     files.push(hex::decode(alloc, SPACED)?)?;
     assert_eq!(rt; files.len(), 1);
-    let graph = Graph::read(alloc, &files)?;
+    let graph = Graph::read(&rt, alloc, &files, 1)?;
     let indexes = indexes(alloc, &graph)?;
     let texts = texts_of_spaces(alloc, &graph, &indexes)?;
     let places = offsets_of(alloc, &texts)?;
@@ -97,7 +97,7 @@ fn texts_of_each_file(rt: HostRuntime) -> Result<(), Fail> {
     files.push(hex::decode(alloc, SPACED)?)?;
     files.push(hex::decode(alloc, SPACED)?)?;
     assert_eq!(rt; files.len(), 2);
-    let graph = Graph::read(alloc, &files)?;
+    let graph = Graph::read(&rt, alloc, &files, 1)?;
     let texts = texts_of_files(alloc, graph.files())?;
     assert_eq!(rt; texts.len(), 2);
     let places = offsets_of(alloc, &texts[1])?;

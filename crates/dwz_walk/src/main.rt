@@ -9,6 +9,7 @@ use anyhow::Context;
 use dwz_model::{GraphErr, Refusal};
 use std::alloc::Global;
 use std::rt::{Env, Files};
+use std::thread::Threads;
 use std::{env, fs};
 use walk::{Counts, walk};
 
@@ -35,11 +36,14 @@ fn report(rt: &impl Print, name: &str, answer: Result<Counts, GraphErr>) -> anyh
     Ok(())
 }
 
-fn run<R: Env + Files + Print + AllocGlobal>(rt: &R, alloc: Global) -> anyhow::Result<()> {
+fn run<R: Env + Files + Print + AllocGlobal + Threads + Sync>(
+    rt: &R,
+    alloc: Global,
+) -> anyhow::Result<()> {
     for name in env::args(rt)?.skip(1) {
         let bytes = fs::read(rt, name.as_str()).context(format_args!("reading {name}"))?;
         let files = vec![in alloc; bytes]?;
-        report(rt, name.as_str(), walk(alloc, files.as_slice()))?;
+        report(rt, name.as_str(), walk(rt, alloc, files.as_slice()))?;
     }
     Ok(())
 }

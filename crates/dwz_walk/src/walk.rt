@@ -8,6 +8,7 @@ ghost use Rattle.dwz_walk.specs.Counting.{AreCounted};
 use dwz_graph::Graph;
 use dwz_model::GraphErr;
 use std::alloc::Global;
+use std::thread::Threads;
 
 /// How many units and entries a file has.
 #[derive(Clone, Copy, Debug, PartialEq, Eq)]
@@ -17,13 +18,17 @@ pub(crate) struct Counts {
 }
 
 /// Reads files, to the last fault that they may have, and counts the units and the entries of the first.
-pub(crate) fn walk(alloc: Global, files: &[Vec<u8>]) -> Result<Counts, GraphErr>
+pub(crate) fn walk<R: Threads + Sync>(
+    rt: &R,
+    alloc: Global,
+    files: &[Vec<u8>],
+) -> Result<Counts, GraphErr>
     requires some { 0 < length files.now }
     requires few { length files.now < 2 ^ 32 }
     ensures reads { FilesAnswer (λ c. docs_of (map (λ v. v.items) files.now)) result (files_meaning no_files_before 0 (map (λ v. v.items) files.now)) }
     ensures counts { IfOk result (λ c. (bytes : List ℕ) → slice_get (map (λ v. v.items) files.now) 0 ≡ Some bytes → AreCounted bytes c) }
 {
-    let graph = Graph::read(alloc, files)?;
+    let graph = Graph::read(rt, alloc, files, 1)?;
     let file = graph.file(0);
     Ok(Counts {
         units: file.units.len(),

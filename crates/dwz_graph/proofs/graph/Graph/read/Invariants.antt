@@ -1,7 +1,12 @@
-use Rattle.std.proofs.Common.{map, take}
+use Rattle.std.proofs.Common.{◌≡◌, length, map, take}
 use Rattle.dwz_meanings.specs.Files.{no_files_before}
+use Rattle.dwz_graph.specs.Ahead.{AreAhead}
 use Rattle.dwz_graph.specs.Files.{AreRead, limits_view}
 use Rattle.dwz_graph.proofs.graph.Graph.read.Given as goal
 
 abbrev pub invariant-loop-number : goal.invariant-loop-number
-invariant-loop-number l = AreRead no_files_before 0 (map (λ v. v.items) (take l.number l.files)) l.kept.items (limits_view l.left)
+invariant-loop-number g l = record {
+  read : AreRead no_files_before 0 (map (λ v. v.items) (take l.number l.files)) l.kept.items (limits_view l.left);
+  len : length l.ahead.items ≡ length l.files;
+  ahead : AreAhead (map (λ v. v.items) l.files) l.ahead.items;
+}

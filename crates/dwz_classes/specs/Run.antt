@@ -1,5 +1,6 @@
 -- The labels of the tops of all files; and where these are.
-use Rattle.std.specs.Prelude.{◌≡◌, ℕ, ◌-◌, ◌<◌, ◌≤◌, List, length, map, Some, slice_get}
+use Rattle.std.specs.Prelude.{◌≡◌, ℕ, ◌-◌, ◌<◌, ◌≤◌, Bool, false, List, [], length, map, if◌then◌else◌, Some, slice_get, slice_index_or}
+use Rattle.std.specs.List.{range_with_len}
 use Rattle.dwz_alike.specs.Spots.{tops_of, units_of}
 use Rattle.dwz_classes.specs.declared.run.Run.{Run}
 use Rattle.dwz_classes.specs.declared.unit.UnitRow.{UnitRow}
@@ -10,13 +11,27 @@ use Rattle.dwz_index.specs.declared.index.TopEntry.{TopEntry}
 use Rattle.dwz_index.specs.Index.{Index}
 use Rattle.dwz_indexes.specs.Indexed.{AreIndexes}
 use Rattle.dwz_label.specs.Labels.{label_of}
+use Rattle.dwz_label.specs.Shown.{nth_label}
 use Rattle.dwz_unit.specs.Rows.{units_of as raw_units}
 
 -- the labels of the tops of all files, in order
 abbrev pub labels_of : List (List ℕ) → List (List ℕ)
 labels_of contents = map label_of (tops_of (units_of (docs_of contents)))
 
+-- of the top with a number its label if it may move, and else no bytes
+abbrev pub movable_label : List (List ℕ) → List Bool → ℕ → List ℕ
+movable_label contents movable n = if slice_index_or movable n false then nth_label (labels_of contents) n else []
+
+-- of the tops of all files, in order
+abbrev pub movable_labels : List (List ℕ) → List Bool → List (List ℕ)
+movable_labels contents movable = map (movable_label contents movable) (range_with_len 0 (length (tops_of (units_of (docs_of contents)))))
+
 -- ---- inner: no public clause cites what follows
+
+-- what files say, and of each of their tops whether it may move
+pub record Asked : Type 0 where
+  pub contents : List (List ℕ)
+  pub movable : List Bool
 
 -- the files are kept, and each has its index
 pub record IsRun (r : Run) : Type 0 where

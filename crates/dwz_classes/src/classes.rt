@@ -37,6 +37,6 @@ pub fn least<R: Threads + Sync, G: Gate>(
     requires workers { (0 < workers) × (workers ≤ 64) }
     ensures { ShowTargets (units_of (docs_of graph.now)) movable.now tops.now.targets → IfOk result (λ least. AreLeast (units_of (docs_of graph.now)) least) }
 {
-    let labels = labels(rt, alloc, graph, indexes)?;
+    let labels = labels(rt, alloc, graph, indexes, movable, workers)?;
     least_alike(rt, alloc, &labels, movable, &tops.targets, workers, gate)
 }

@@ -8,9 +8,8 @@ ghost use Rattle.dwz_label.specs.Shown.{nth_label};
 
 use crate::run::Run;
 use crate::search::{entry_of, file_of};
-use crate::top::put_top_of;
+use crate::top::{Room, put_top_of};
 use crate::unit::UnitRow;
-use dwz_bare::Scratch;
 use dwz_model::NoMemory;
 
 /// Appends the label of the top with a number among those of all files. `rows` has what is kept of each unit of all files.
@@ -18,6 +17,7 @@ pub(crate) fn put_numbered(
     run: &Run,
     rows: &[UnitRow],
     n: usize,
+    room: &mut Room,
     out: &mut Vec<u8>,
 ) -> Result<(), NoMemory>
     requires ready { AreReady run.now rows.now }
@@ -27,8 +27,5 @@ pub(crate) fn put_numbered(
     let file = file_of(run, n);
     let entry = entry_of(run, file, n);
     let row = rows[entry.unit as usize];
-    let mut spaces = Vec::new(run.alloc);
-    let mut scratch = Scratch::new(run.alloc);
-    put_top_of(run, file, &entry, &row, out, &mut spaces, &mut scratch)?;
-    Ok(())
+    put_top_of(run, file, &entry, &row, room, out)
 }

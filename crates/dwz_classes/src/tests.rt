@@ -1,10 +1,18 @@
 //! Small files: their labels, and which of their tops are alike. The bytes and what is expected come from a model that was written
 //! independently.
 
+ghost use Rattle.std.specs.Prelude.{◌≡◌, length};
+ghost use Rattle.dwz_alike.specs.Spots.{tops_of, units_of};
+ghost use Rattle.dwz_graph.specs.Files.{docs_of};
+ghost use Rattle.dwz_indexes.specs.Indexed.{AreIndexes};
+
+use crate::run::run_of;
+use crate::search::top_count;
 use crate::{label, labels, least};
 use dwz_gate::OpenGate;
 use dwz_graph::Graph;
 use dwz_groups::{Pair, Tops, group};
+use dwz_index::Index;
 use dwz_indexes::indexes;
 use dwz_model::{DwzList, Numbers};
 use std::alloc::{AllocError, Global};
@@ -103,6 +111,14 @@ fn files_of(alloc: Global, contents: &[Content]) -> Result<Vec<Vec<u8>>, Fail> {
     Ok(files)
 }
 
+// How many tops all files have.
+fn count_of(alloc: Global, graph: &Graph, indexes: &[Index]) -> usize
+    requires { AreIndexes (docs_of graph.now) indexes.now }
+    ensures { result ≡ length (tops_of (units_of (docs_of graph.now))) }
+{
+    top_count(&run_of(alloc, graph, indexes))
+}
+
 // ---- labels
 
 // A unit in the language 12, in which a namespace `n` has a typedef without a name, and the base type `int`, which is its type.
@@ -121,15 +137,19 @@ const TYPEDEF_LABEL: [u8; 13] = [1, 12, 1, 1, 0x6e, 0, 0x16, 1, 0x49, 6, 1, 1, 0
 fn label_as_by_hand(rt: HostRuntime) -> Result<(), Fail> {
     let files = files_of(rt.alloc(), &[TYPEDEF])?;
     assert_eq!(rt; files.len(), 1);
-    let graph = Graph::read(rt.alloc(), &files)?;
+    let graph = Graph::read(&rt, rt.alloc(), &files, 1)?;
     let indexes = indexes(rt.alloc(), &graph)?;
-    let all = labels(&rt, rt.alloc(), &graph, &indexes)?;
-    assert_eq!(rt; all.len(), 2);
+    let count = count_of(rt.alloc(), &graph, &indexes);
+    assert_eq!(rt; count, 2);
+    let all = labels(&rt, rt.alloc(), &graph, &indexes, &[true, true], 1)?;
     assert_eq!(rt; all.get(0), TYPEDEF_LABEL.as_slice());
     let one = label(rt.alloc(), &graph, &indexes, 0)?;
     assert_eq!(rt; one.as_slice(), TYPEDEF_LABEL.as_slice());
     let other = label(rt.alloc(), &graph, &indexes, 1)?;
     assert_eq!(rt; other.as_slice(), all.get(1));
+    let some = labels(&rt, rt.alloc(), &graph, &indexes, &[true, false], 1)?;
+    assert_eq!(rt; some.get(0), TYPEDEF_LABEL.as_slice());
+    assert!(rt; some.get(1).is_empty());
     Ok(())
 }
 
@@ -313,14 +333,14 @@ fn least_of<R: Threads + Sync>(
     if files.len() > 100 || workers == 0 || workers > 64 {
         return Ok(None);
     }
-    let graph = Graph::read(alloc, &files)?;
+    let graph = Graph::read(rt, alloc, &files, workers)?;
     let indexes = indexes(alloc, &graph)?;
-    let all = labels(rt, alloc, &graph, &indexes)?;
-    let movable = vec![in alloc; true; all.len()]?;
-    let Some(tops) = tops_of(alloc, case.targets, all.len())? else {
+    let count = count_of(alloc, &graph, &indexes);
+    let movable = vec![in alloc; true; count]?;
+    let Some(tops) = tops_of(alloc, case.targets, count)? else {
         return Ok(None);
     };
-    if tops.targets.len() != all.len() || !tops.targets.are_below(all.len()) {
+    if tops.targets.len() != count || !tops.targets.are_below(count) {
         return Ok(None);
     }
     let found = least(

@@ -11,6 +11,25 @@ use crate::unit::UnitRow;
 use dwz_bare::{Scratch, Source, put_top};
 use dwz_index::TopEntry;
 use dwz_model::NoMemory;
+use std::alloc::Global;
+
+/// Rows that are used again from one top to the next, for the room that they have.
+#[derive(Drop)]
+pub(crate) struct Room {
+    // The entries of the spaces that the last top stands in.
+    spaces: Vec<u32>,
+    scratch: Scratch,
+}
+
+impl Room {
+    /// Empty rows.
+    pub(crate) fn new(alloc: Global) -> Room {
+        Room {
+            spaces: Vec::new(alloc),
+            scratch: Scratch::new(alloc),
+        }
+    }
+}
 
 /// Appends the label of a top of the file with a number, by what the file's index gives it and what is kept of its unit.
 pub(crate) fn put_top_of(
@@ -18,9 +37,8 @@ pub(crate) fn put_top_of(
     file: usize,
     entry: &TopEntry,
     row: &UnitRow,
+    room: &mut Room,
     out: &mut Vec<u8>,
-    spaces: &mut Vec<u32>,
-    scratch: &mut Scratch,
 ) -> Result<(), NoMemory>
     requires run { IsRun run.now }
     requires there { IsTopIn run.now.files.now run.now.indexes.now file entry.now row.now }
@@ -28,6 +46,7 @@ pub(crate) fn put_top_of(
 {
     let read = file_at(run, file);
     let index = index_at(run, file);
+    let spaces = &mut room.spaces;
     put_spaces(index.spaces(), index.starts().space, entry.inner, spaces)?;
     let source = Source {
         alloc: run.alloc,
@@ -50,7 +69,7 @@ pub(crate) fn put_top_of(
         entry.entry,
         end,
         next,
-        scratch,
+        &mut room.scratch,
     )?;
     Ok(())
 }

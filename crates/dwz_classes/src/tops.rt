@@ -2,17 +2,16 @@
 
 ghost use Rattle.std.specs.Prelude.{◌≡◌, ◌<◌, ◌≤◌, ◌^◌, IfOk, length};
 ghost use Rattle.dwz_alike.specs.Spots.{tops_of, units_of};
-ghost use Rattle.dwz_classes.specs.Run.{labels_of};
+ghost use Rattle.dwz_classes.specs.Run.{labels_of, movable_labels};
 ghost use Rattle.dwz_graph.specs.Files.{docs_of};
 ghost use Rattle.dwz_indexes.specs.Indexed.{AreIndexes};
 ghost use Rattle.dwz_label.specs.Shown.{nth_label};
 
 use crate::run::{file_at, index_at, run_of};
 use crate::search::{entry_of, file_of};
-use crate::top::put_top_of;
+use crate::top::{Room, put_top_of};
 use crate::unit::unit_row;
 use crate::writer::TopLabels;
-use dwz_bare::Scratch;
 use dwz_graph::Graph;
 use dwz_index::Index;
 use dwz_label::{Labels, labels_by};
@@ -33,35 +32,30 @@ pub fn label(alloc: Global, graph: &Graph, indexes: &[Index], top: u32) -> Resul
     let first = index_at(&run, file).starts().unit;
     let row = unit_row(&file_at(&run, file).units, entry.unit - first);
     let mut out = Vec::new(alloc);
-    let mut spaces = Vec::new(alloc);
-    let mut scratch = Scratch::new(alloc);
-    put_top_of(
-        &run,
-        file,
-        &entry,
-        &row,
-        &mut out,
-        &mut spaces,
-        &mut scratch,
-    )?;
+    let mut room = Room::new(alloc);
+    put_top_of(&run, file, &entry, &row, &mut room, &mut out)?;
     Ok(Blob::new(out))
 }
 
-/// The labels of the tops of all files, in order. Several threads write them, where there are many. There are no more of them than bytes
-/// in all files.
+/// The labels of the tops of all files that may move, in order, and for each other top no bytes: where `movable` says of each top whether
+/// it may move. By at most so many workers: how many there are makes no difference. There are no more tops than bytes in all files.
 pub fn labels<R: Threads + Sync>(
     rt: &R,
     alloc: Global,
     graph: &Graph,
     indexes: &[Index],
+    movable: &[bool],
+    workers: u32,
 ) -> Result<Labels, NoMemory>
-    requires { AreIndexes (docs_of graph.now) indexes.now }
-    ensures labels { IfOk result (λ labels. labels ≡ labels_of graph.now) }
+    requires indexes { AreIndexes (docs_of graph.now) indexes.now }
+    requires movable { length movable.now ≡ length (tops_of (units_of (docs_of graph.now))) }
+    requires workers { (0 < workers) × (workers ≤ 64) }
+    ensures labels { IfOk result (λ labels. labels ≡ movable_labels graph.now movable.now) }
     ensures len { IfOk result (λ labels. length labels ≡ length (tops_of (units_of (docs_of graph.now)))) }
     ensures few { IfOk result (λ labels. length labels ≤ 2 ^ 29) }
 {
     let run = run_of(alloc, graph, indexes);
-    let writer = TopLabels::new(&run)?;
+    let writer = TopLabels::new(&run, movable)?;
     let count = writer.len();
-    labels_by(rt, alloc, &writer, count)
+    labels_by(rt, alloc, workers, &writer, count)
 }

@@ -5,6 +5,7 @@ pub mod Heads
 pub mod LabelLemmas
 pub mod LeastAlike
 pub mod MadeLemmas
+pub mod Moved
 pub mod NodeLooks
 pub mod NumberLemmas
 pub mod Pairs

@@ -1,13 +1,12 @@
--- Runs in order are the whole; and what threads collect of calls that all succeed is what one thread gets.
-use Rattle.std.proofs.Common.{◌≡◌, ℕ, zero, suc, ◌+◌, ◌-◌, ◌*◌, ◌≤◌, ◌++◌, List, [], ◌∷◌, Contains, map, ap, sym, subst, ◌∙◌, append-nil, arith}
-use Rattle.std.specs.Prelude.{IfOk, MatchResult, Ok, Err}
-use Rattle.std.specs.List.{AllZip, flat_map, range_with_len}
+-- Stretches in order are the whole; and what threads collect of calls that all succeed is what one thread gets.
+use Rattle.std.proofs.Common.{◌≡◌, ℕ, zero, suc, ◌+◌, ◌-◌, ◌*◌, ◌<◌, ◌≤◌, ◌++◌, List, [], ◌∷◌, Contains, map, ap, sym, subst, ◌∙◌, arith}
+use Rattle.std.specs.Prelude.{IfOk, MatchResult, Ok, Err, length, slice_index_or}
+use Rattle.std.proofs.lemmas.List.{get_or-map}
+use Rattle.std.specs.List.{AllZip, range_with_len}
 use Rattle.std.specs.declared.result.Result.{Result}
-use Rattle.std.proofs.lemmas.List.Concat.{flat_map-append}
-use Rattle.std.proofs.lemmas.List.FromFn.{map-range_with_len_more}
-use Rattle.dwz_label.specs.Runs.{before, run_of, runs}
+use Rattle.dwz_label.specs.Stretches.{before, front, stretch_of}
 
--- ---- runs
+-- ---- stretches
 
 -- numbers from one on, in two parts
 range_parts : (label : ℕ → List ℕ) (a m n : ℕ) → map label (range_with_len a (m + n)) ≡ map label (range_with_len a m) ++ map label (range_with_len (a + m) n)
@@ -19,26 +18,23 @@ range_parts label a (suc m) n =
     ∙ ap (λ (ls : List (List ℕ)). label a ∷ ls) (range_parts label (a + 1) m n)
     ∙ ap (λ (k : ℕ). label a ∷ map label (range_with_len (a + 1) m) ++ map label (range_with_len k n)) next
 
-module _ (label : ℕ → List ℕ) (count : ℕ) where
-  runs_front : (k : ℕ) → k ≤ runs count → flat_map (λ (part : List (List ℕ)). part) (map (run_of label count) (range_with_len 0 k)) ≡ map label (range_with_len 0 (before count k))
-  runs_front zero le = let none : 0 ≡ before count 0 = omega arith in ap (λ (n : ℕ). map label (range_with_len 0 n)) none
-  runs_front (suc k) le =
-      let so_far = runs_front k (omega arith) in
-      let run = run_of label count in
-      let more : map run (range_with_len 0 (k + 1)) ≡ map run (range_with_len 0 k) ++ run k ∷ [] = map-range_with_len_more (run_of label count) 0 k k (omega arith) in
-      let step : suc k ≡ k + 1 = omega arith in
-      let start : 0 + before count k ≡ k * 1024 = omega arith in
-      let whole : before count k + (before count (k + 1) - k * 1024) ≡ before count (k + 1) = omega arith in
-      ap (λ (m : ℕ). flat_map (λ (part : List (List ℕ)). part) (map (run_of label count) (range_with_len 0 m))) step
-      ∙ ap (flat_map (λ (part : List (List ℕ)). part)) more
-      ∙ flat_map-append (λ (part : List (List ℕ)). part) (map (run_of label count) (range_with_len 0 k)) (run_of label count k ∷ [])
-      ∙ (λ i. so_far i ++ append-nil (run_of label count k) i)
-      ∙ ap (λ (a : ℕ). map label (range_with_len 0 (before count k)) ++ map label (range_with_len a (before count (k + 1) - k * 1024))) (sym start)
-      ∙ sym (range_parts label 0 (before count k) (before count (k + 1) - k * 1024))
-      ∙ (λ i. map label (range_with_len 0 ((whole ∙ ap (before count) (sym step)) i)))
+-- one more stretch
+pub front_more : (label : ℕ → List ℕ) (count len k : ℕ) → front label count len (k + 1) ≡ front label count len k ++ stretch_of label count len k
+front_more label count len k =
+    let m = before count len k in
+    let rest = before count len (k + 1) - before count len k in
+    let whole : before count len (k + 1) ≡ before count len k + (before count len (k + 1) - before count len k) = omega arith in
+    let here : 0 + m ≡ m = omega arith in
+    ap (λ (n : ℕ). map label (range_with_len 0 n)) whole
+    ∙ range_parts label 0 m rest
+    ∙ ap (λ (a : ℕ). map label (range_with_len 0 m) ++ map label (range_with_len a rest)) here
 
-  pub runs_whole : flat_map (λ (part : List (List ℕ)). part) (map (run_of label count) (range_with_len 0 (runs count))) ≡ map label (range_with_len 0 count)
-  runs_whole = let end : before count (runs count) ≡ count = omega arith in runs_front (runs count) (omega arith) ∙ ap (λ (n : ℕ). map label (range_with_len 0 n)) end
+-- enough of them are the whole
+pub front_whole : (label : ℕ → List ℕ) (count len k : ℕ) → count ≤ k * len → front label count len k ≡ map label (range_with_len 0 count)
+front_whole label count len k le = let all : before count len k ≡ count = omega arith in ap (λ (n : ℕ). map label (range_with_len 0 n)) all
+
+pub front_none : (label : ℕ → List ℕ) (count len k : ℕ) → k ≡ 0 → front label count len k ≡ []
+front_none label count len k is = let none : before count len k ≡ 0 = ap (λ (n : ℕ). before count len n) is ∙ omega arith in ap (λ (n : ℕ). map label (range_with_len 0 n)) none
 
 -- ---- results of calls that a chain collected
 
@@ -59,3 +55,13 @@ pub collected : {X Y E V : Type 0} (items : V → List Y) (f : X → Y) (xs : Li
     → IfOk r (λ v. items v ≡ map f xs)
 collected items f xs (Ok v) zs h m = m.2 ∙ all_ok _ f xs m.0 (subst (λ l. AllZip (Gives f) xs l) m.1 h)
 collected items f xs (Err e) zs h m = tt
+
+-- ---- results of calls that were taken out
+
+-- what holds of each result that is Ok holds of what was taken out of it
+pub taken_each : {X E : Type 0} (P : ℕ → X → Type 0) (results : List (Result X E)) (taken : List X) (n : ℕ) → map Ok taken ≡ results → length taken ≡ n
+    → ((i : ℕ) (d : Result X E) → i < n → IfOk (slice_index_or results i d) (P i))
+    → (i : ℕ) (d : X) → i < n → P i (slice_index_or taken i d)
+taken_each P results taken n are many each i d low =
+    let here = get_or-map Ok taken i d (Ok d) (let m = many in omega arith) in
+    subst (λ r. IfOk r (P i)) (ap (λ rs. slice_index_or rs i (Ok d)) (sym are) ∙ here) (each i (Ok d) low)

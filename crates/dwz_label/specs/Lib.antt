@@ -3,5 +3,5 @@ pub mod Labels
 pub mod LabelLaws
 pub mod Nodes
 pub mod Pieces
-pub mod Runs
 pub mod Shown
+pub mod Stretches

@@ -56,10 +56,25 @@ impl Labels {
         }
     }
 
+    // None yet, with room for so many, and for so many bytes.
+    pub(crate) fn with_capacity(
+        alloc: Global,
+        count: usize,
+        size: usize,
+    ) -> Result<Labels, NoMemory>
+        ensures { IfOk result (λ labels. labels ≡ []) }
+    {
+        Ok(Labels {
+            ends: Vec::with_capacity(alloc, count)?,
+            bytes: Vec::with_capacity(alloc, size)?,
+        })
+    }
+
     // Those of a writer from one number to before another.
     pub(crate) fn written<W: LabelWriter>(
         alloc: Global,
         writer: &W,
+        room: &mut W::Room,
         first: usize,
         end: usize,
     ) -> Result<Labels, NoMemory>
@@ -67,13 +82,34 @@ impl Labels {
         requires within { end ≤ W.count writer.now }
         ensures { IfOk result (λ labels. labels ≡ map (W.label writer.now) (range_with_len first (end - first))) }
     {
-        let mut ends = Vec::new(alloc);
+        let mut ends = Vec::with_capacity(alloc, end - first)?;
         let mut bytes = Vec::new(alloc);
         for n in first..end {
-            writer.put_label(&mut bytes, n)?;
+            writer.put_label(room, &mut bytes, n)?;
             ends.push(bytes.len())?;
         }
         Ok(Labels { ends, bytes })
+    }
+
+    // These, and more behind them.
+    pub(crate) fn with(self, more: &Labels) -> Result<Labels, NoMemory>
+        ensures { IfOk result (λ all. all ≡ self ++ more.now) }
+    {
+        let Labels {
+            mut ends,
+            mut bytes,
+        } = self;
+        let start = bytes.len();
+        bytes.extend_from_slice(more.bytes.as_slice())?;
+        for end in &more.ends {
+            ends.push(start + *end)?;
+        }
+        Ok(Labels { ends, bytes })
+    }
+
+    // How many bytes they have together.
+    pub(crate) fn size(&self) -> usize {
+        self.bytes.len()
     }
 
     /// How many there are.

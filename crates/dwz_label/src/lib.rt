@@ -10,7 +10,7 @@ mod labels;
 mod laws;
 mod made;
 mod pieces;
-mod runs;
+mod stretches;
 mod writer;
 
 pub use equal::firsts;
@@ -22,7 +22,7 @@ pub use pieces::{
     put_language, put_list, put_no_file, put_num, put_number, put_offset, put_operand, put_ref,
     put_same, put_signature, put_text,
 };
-pub use runs::labels_by;
+pub use stretches::labels_by;
 pub use writer::LabelWriter;
 
 #[cfg(test)]

@@ -135,28 +135,34 @@ fn firsts_as_by_hand(rt: HostRuntime) -> Result<(), Fail> {
 struct Counting;
 
 impl LabelWriter for Counting {
+    type Room = ();
+
     ghost count = { λ _. 20000 };
 
     ghost label = { λ _ n. number n };
 
-    fn put_label(&self, out: &mut Vec<u8>, n: usize) -> Result<(), NoMemory> {
+    fn room(&self) -> () {}
+
+    fn put_label(&self, _room: &mut (), out: &mut Vec<u8>, n: usize) -> Result<(), NoMemory> {
         put_number(out, n as u128)
     }
 }
 
 #[test]
 fn many_labels_in_order(rt: HostRuntime) -> Result<(), Fail> {
-    let labels = labels_by(&rt, rt.alloc(), &Counting, 20000)?;
-    assert_eq!(rt; labels.len(), 20000);
-    for (n, bytes) in [
-        (0, [0].as_slice()),
-        (1023, &[255, 7]),
-        (1024, &[128, 8]),
-        (19999, &[159, 156, 1]),
-    ] {
-        let there = n < labels.len();
-        assert!(rt; there);
-        assert_eq!(rt; labels.get(n), bytes);
+    for workers in [1, 2, 7] {
+        let labels = labels_by(&rt, rt.alloc(), workers, &Counting, 20000)?;
+        assert_eq!(rt; labels.len(), 20000);
+        for (n, bytes) in [
+            (0, [0].as_slice()),
+            (1023, &[255, 7]),
+            (1024, &[128, 8]),
+            (19999, &[159, 156, 1]),
+        ] {
+            let there = n < labels.len();
+            assert!(rt; there);
+            assert_eq!(rt; labels.get(n), bytes);
+        }
     }
     Ok(())
 }

@@ -8,14 +8,14 @@ use Rattle.dwz_nodes.specs.declared.back.Span.{Span}
 use Rattle.dwz_nodes.specs.Rooms.{AreRooms, count_at, count_below, span, span_at}
 use Rattle.dwz_nodes.proofs.Counts.{count_at-append, count_at-one, count_below-le, count_below-rise, count_below-suc}
 
-pub range-other : (ns : List ℕ) (s e at v : ℕ) → (at < s) ⊎ (e ≤ at) → slice_range (set ns at v) s e ≡ slice_range ns s e
+pub range-other : {X : Type 0} (ns : List X) (s e at : ℕ) (v : X) → (at < s) ⊎ (e ≤ at) → slice_range (set ns at v) s e ≡ slice_range ns s e
 range-other ns s e at v (inl l) = ap (take (e - s)) (drop-set-lt s ns at v l)
 range-other ns s e at v (inr l) = between_is (set ns at v) s e ∙ (ap (drop s) (take-set-le e ns at v l) ∙ sym (between_is ns s e))
 
-pub range-here : (ns : List ℕ) (s at v : ℕ) → s ≤ at → at < length ns → slice_range (set ns at v) s (at + 1) ≡ slice_range ns s at ++ v ∷ []
-range-here ns s at v l in' =
+pub range-here : {X : Type 0} (ns : List X) (s at : ℕ) (v : X) → s ≤ at → at < length ns → slice_range (set ns at v) s (at + 1) ≡ slice_range ns s at ++ v ∷ []
+range-here {X} ns s at v l in' =
     let len : length (take at ns) ≡ at = length-take-le at ns (omega arith) in
-    between_is (set ns at v) s (at + 1) ∙ (ap (drop s) (take_more_set ns at v in') ∙ (drop-append-le s (take at ns) (v ∷ []) (omega (arith, len)) ∙ ap (λ (xs : List ℕ). xs ++ v ∷ []) (sym (between_is ns s at))))
+    between_is (set ns at v) s (at + 1) ∙ (ap (drop s) (take_more_set ns at v in') ∙ (drop-append-le s (take at ns) (v ∷ []) (omega (arith, len)) ∙ ap (λ (xs : List X). xs ++ v ∷ []) (sym (between_is ns s at))))
 
 module _ (ts : List ℕ) where
   pub rooms-none : (spans : List Span) → ((a : ℕ) → a < length spans → span_at spans a ≡ span (count_below ts a) (count_below ts a)) → AreRooms ts [] spans

@@ -3,11 +3,12 @@ use Rattle.std.proofs.Common.{◌≡◌, ℕ, ◌+◌, ◌-◌, ◌<◌, ◌≤�
 use Rattle.std.specs.Prelude.{slice_index, slice_range}
 use Rattle.std.specs.List.{flat_map}
 use Rattle.std.proofs.lemmas.List.{append-nil, drop-drop, drop_all, take_more}
-use Rattle.std.proofs.lemmas.List.Concat.{flat_map-append}
+use Rattle.std.proofs.lemmas.List.Concat.{flat_map-append, length-flat_map}
 use Rattle.dwz_nodes.specs.declared.Row.{Row}
 use Rattle.dwz_nodes.specs.Graph.{Node, node, node_at, targets_at}
 use Rattle.dwz_nodes.specs.Rooms.{all_targets}
 use Rattle.dwz_nodes.specs.Rows.{nodes_of, Ends}
+use Rattle.dwz_nodes.specs.Uses.{target_count}
 
 pub all_targets-none : (g : List Node) → all_targets (take 0 g) ≡ []
 unfolding all_targets
@@ -59,3 +60,8 @@ all_targets-from start (r ∷ rs) ts e = ap (λ (xs : List ℕ). slice_range ts 
 -- the row of targets is that of all nodes
 pub all_targets-nodes_of : (rs : List Row) (ts : List ℕ) → Ends 0 rs (length ts) → all_targets (nodes_of 0 rs ts) ≡ ts
 all_targets-nodes_of rs ts e = all_targets-from 0 rs ts e
+
+-- they are as many as those of each node together
+pub length-all_targets : (g : List Node) → length (all_targets g) ≡ target_count g
+unfolding all_targets
+length-all_targets g = length-flat_map (λ (n : Node). n.targets) g

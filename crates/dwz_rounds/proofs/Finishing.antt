@@ -3,7 +3,6 @@ use Rattle.std.proofs.Common.{◌≡◌, ℕ, zero, suc, ◌+◌, ◌-◌, ◌<�
 use Rattle.std.specs.Prelude.{slice_index}
 use Rattle.std.proofs.Math.ListN.{get_or-append}
 use Rattle.std.proofs.Math.Seq.{get_or-append_seam}
-use Rattle.std.proofs.lemmas.List.{get_or_default}
 use mathlib.Core.Logic.{dite}
 use native.Mathlib.Decide.{ℕ_discrete, dec_le}
 use Rattle.dwz_nodes.specs.Graph.{Node, targets_at, IsClosed}
@@ -13,7 +12,6 @@ use Rattle.dwz_rounds.specs.Pending.{IsPending}
 use Rattle.dwz_rounds.specs.Start.{IsLed, AreNumbered, AreMoved}
 use Rattle.dwz_rounds.specs.Turns.{Among}
 use Rattle.dwz_rounds.proofs.Levels.{look-less, class-look, look-class, look-key, round-level}
-use Rattle.dwz_rounds.proofs.Numberings.{key-kept}
 
 module _ (g : List Node) (closed : IsClosed g) (k : ℕ) (classes next : List ℕ) (level : IsLevel g k classes) (round : IsRound g classes next) where
   deeper : IsLevel g (suc k) next
@@ -61,13 +59,9 @@ module _ (g : List Node) (closed : IsClosed g) (k : ℕ) (classes next : List �
           let c = class-same a b la lb e in
           let d = before a b la lb c in
           p.all b (in-classes b lb) (λ same. (p.from a h).1 (c ∙ (same ∙ ap (λ (x : ℕ). slice_index largest x) (sym d))));
-      stable = λ a b la lb e na nb.
-          key-kept g closed classes numbers a b la lb (one-key a b la lb (class-same a b la lb e))
-          (λ i l ta tb n same.
-          let t : ℕ = slice_index (targets_at g a) i in
-          let u : ℕ = slice_index (targets_at g b) i in
-          number-same t u ta tb
-          (unmoved t ta (λ h. na (t, h, (i, l, get_or_default (targets_at g a) i t 0 l))) ∙ (ap (λ (x : ℕ). slice_index largest x) same ∙ sym (unmoved u tb (λ h. nb (u, h, (i, n, get_or_default (targets_at g b) i u 0 n)))))));
+      before = classes;
+      keys = λ a b la lb e. one-key a b la lb (class-same a b la lb e);
+      kept = λ a b la lb same na nb. number-same a b la lb (unmoved a la na ∙ (ap (λ (x : ℕ). slice_index largest x) same ∙ sym (unmoved b lb nb)));
     }
 
 -- beside each number the first of the nodes below n that has it, if there is one

@@ -1,4 +1,4 @@
--- Rows that are ordered by their keys are nodes that are grouped by their own keys.
+-- Rows that are ordered by their keys are nodes that are grouped by their keys.
 use Rattle.std.proofs.Common.{◌≡◌, ℕ, ◌+◌, ◌<◌, All, Bool, Contains, IsPermutation, List, [], ◌∷◌, ◌++◌, length, get_or, sym, ap, subst, ◌∙◌, arith}
 use Rattle.std.specs.Prelude.{slice_index}
 use Rattle.std.proofs.Math.ListN.{get_or-append, get_or-map as map-get_or}
@@ -7,14 +7,12 @@ use mathlib.Core.Logic.{dite}
 use native.Mathlib.Decide.{ℕ_discrete}
 use Rattle.std.proofs.lemmas.List.{get_or_default, length-map}
 use Rattle.std.proofs.lemmas.List.Sorted.{All-permutation, Contains-permutation, IsPermutation-map, IsPermutation-sym}
-use Rattle.dwz_nodes.specs.Graph.{Node}
-use Rattle.dwz_rounds.specs.Keys.{key, key_at}
+use Rattle.dwz_rounds.specs.Keys.{key_at, AreKeysOf}
 use Rattle.dwz_rounds.specs.declared.order.Keyed.{Keyed}
 use Rattle.dwz_rounds.specs.Order.{nodes_of, keys_of, AreGroups}
-use Rattle.dwz_rounds.specs.Pending.{own_key, AreOwnKeys, AreSame}
+use Rattle.dwz_rounds.specs.Pending.{AreSame}
 use Rattle.dwz_rounds.specs.Split.{IsGrouped}
 use Rattle.dwz_rounds.specs.Turns.{Among}
-use Rattle.dwz_rounds.proofs.Levels.{heads}
 use Rattle.dwz_rounds.proofs.Ordering.{no_row, row-key}
 
 pub among-from : (xs : List ℕ) (a : ℕ) → Contains xs a → Among xs a
@@ -23,19 +21,21 @@ among-from xs a c = let l = c.1 in (c.0, l, sym (get_or_default xs c.0 a 0 l) �
 pub among-to : (xs : List ℕ) (a : ℕ) → Among xs a → Contains xs a
 among-to xs a c = let l = c.1 in (c.0, l, get_or_default xs c.0 a 0 l ∙ c.2)
 
--- the own key of one more node
-pub own-more : (g : List Node) (numbers visit : List ℕ) (keys after : List (List ℕ)) (n : ℕ) → length keys ≡ n → after ≡ keys ++ own_key g numbers (slice_index visit n) ∷ []
-    → ((i : ℕ) → i < n → key_at keys i ≡ own_key g numbers (slice_index visit i)) → (i : ℕ) → i < n + 1 → key_at after i ≡ own_key g numbers (slice_index visit i)
-own-more g numbers visit keys after n len is each i l =
-    let new : List ℕ = own_key g numbers (slice_index visit n) in
+-- the key of one more node
+pub keys-more : (key : ℕ → List ℕ) (visit : List ℕ) (keys after : List (List ℕ)) (n : ℕ) → length keys ≡ n → after ≡ keys ++ key (slice_index visit n) ∷ []
+    → ((i : ℕ) → i < n → key_at keys i ≡ key (slice_index visit i)) → (i : ℕ) → i < n + 1 → key_at after i ≡ key (slice_index visit i)
+keys-more key visit keys after n len is each i l =
+    let new : List ℕ = key (slice_index visit n) in
     ap (λ (k : List (List ℕ)). key_at k i) is ∙ dite (ℕ_discrete i n)
-    (λ e. ap (λ (k : ℕ). key_at (keys ++ new ∷ []) k) (e ∙ sym len) ∙ (get_or-append_seam keys new [] [] ∙ ap (λ (k : ℕ). own_key g numbers (slice_index visit k)) (sym e)))
+    (λ e. ap (λ (k : ℕ). key_at (keys ++ new ∷ []) k) (e ∙ sym len) ∙ (get_or-append_seam keys new [] [] ∙ ap (λ (k : ℕ). key (slice_index visit k)) (sym e)))
     (λ ne. get_or-append keys (new ∷ []) [] i (omega arith) ∙ each i (omega arith))
 
-module _ (g : List Node) (numbers visit : List ℕ) (keys : List (List ℕ)) (rows ordered : List Keyed) (nodes : List ℕ) (news : List Bool) (are : AreOwnKeys g numbers visit keys) (nodes_are : nodes_of rows ≡ visit) (keys_are : keys_of rows ≡ keys) (perm : IsPermutation rows ordered) (groups : AreGroups ordered nodes news) where
+module _ (key : ℕ → List ℕ) (numbers visit : List ℕ) (number_of : (a b : ℕ) → key a ≡ key b → slice_index numbers a ≡ slice_index numbers b)
+    (keys : List (List ℕ)) (rows ordered : List Keyed) (nodes : List ℕ) (news : List Bool)
+    (are : AreKeysOf key visit keys) (nodes_are : nodes_of rows ≡ visit) (keys_are : keys_of rows ≡ keys) (perm : IsPermutation rows ordered) (groups : AreGroups ordered nodes news) where
   -- what each row has
   pub record IsOwn (r : Keyed) : Type 0 where
-    pub is : r.key.now ≡ own_key g numbers r.node
+    pub is : r.key.now ≡ key r.node
 
   many : length rows ≡ length visit
   many = sym (length-map rows (λ (r : Keyed). r.node)) ∙ ap (λ (l : List ℕ). length l) nodes_are
@@ -46,7 +46,7 @@ module _ (g : List Node) (numbers visit : List ℕ) (keys : List (List ℕ)) (ro
       let bytes : (get_or rows i no_row).key.now ≡ key_at keys i = sym (row-key rows i) ∙ ap (λ (x : List (List ℕ)). key_at x i) keys_are in
       let inside : i < length visit = let e = many in omega arith in
       record {
-        is = bytes ∙ (are.each i inside ∙ ap (λ (a : ℕ). own_key g numbers a) (sym node));
+        is = bytes ∙ (are.each i inside ∙ ap (λ (a : ℕ). key a) (sym node));
       }
 
   all-own : All IsOwn ordered
@@ -61,22 +61,22 @@ module _ (g : List Node) (numbers visit : List ℕ) (keys : List (List ℕ)) (ro
   node-at : (i : ℕ) → slice_index nodes i ≡ (get_or ordered i no_row).node
   node-at i = ap (λ (x : List ℕ). slice_index x i) groups.nodes_are ∙ map-get_or (λ (r : Keyed). r.node) ordered i no_row
 
-  word-at : (i : ℕ) → i < length nodes → key_at (keys_of ordered) i ≡ own_key g numbers (slice_index nodes i)
-  word-at i l = row-key ordered i ∙ ((all-own i no_row (let e = long in omega arith)).is ∙ ap (λ (a : ℕ). own_key g numbers a) (sym (node-at i)))
+  word-at : (i : ℕ) → i < length nodes → key_at (keys_of ordered) i ≡ key (slice_index nodes i)
+  word-at i l = row-key ordered i ∙ ((all-own i no_row (let e = long in omega arith)).is ∙ ap (λ (a : ℕ). key a) (sym (node-at i)))
 
-  own-same : (i j : ℕ) → i < length nodes → j < length nodes → key_at (keys_of ordered) i ≡ key_at (keys_of ordered) j → own_key g numbers (slice_index nodes i) ≡ own_key g numbers (slice_index nodes j)
+  own-same : (i j : ℕ) → i < length nodes → j < length nodes → key_at (keys_of ordered) i ≡ key_at (keys_of ordered) j → key (slice_index nodes i) ≡ key (slice_index nodes j)
   own-same i j li lj e = sym (word-at i li) ∙ (e ∙ word-at j lj)
 
-  same-own : (i j : ℕ) → i < length nodes → j < length nodes → own_key g numbers (slice_index nodes i) ≡ own_key g numbers (slice_index nodes j) → key_at (keys_of ordered) i ≡ key_at (keys_of ordered) j
+  same-own : (i j : ℕ) → i < length nodes → j < length nodes → key (slice_index nodes i) ≡ key (slice_index nodes j) → key_at (keys_of ordered) i ≡ key_at (keys_of ordered) j
   same-own i j li lj e = word-at i li ∙ (e ∙ sym (word-at j lj))
 
-  pub is-grouped : IsGrouped (own_key g numbers) numbers nodes news
+  pub is-grouped : IsGrouped key numbers nodes news
   is-grouped = record {
     each = λ i l. let n = groups.each i (let e = long in omega arith) in record {
       new = λ t j lj same. n.new t j lj (same-own j i (omega arith) l same);
       again = λ f. let a = n.again f in (a.0, a.1, own-same a.0 i (let e = a.1 in omega arith) l a.2);
     };
-    old_same = λ i j li lj e. heads (slice_index numbers (slice_index nodes i)) (slice_index numbers (slice_index nodes j)) (key g numbers (slice_index nodes i)) (key g numbers (slice_index nodes j)) e;
+    old_same = λ i j li lj e. number_of (slice_index nodes i) (slice_index nodes j) e;
   }
 
   pub are-same : AreSame visit nodes

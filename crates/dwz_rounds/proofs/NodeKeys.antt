@@ -1,7 +1,7 @@
 -- Keys that aren't written down: each stands at its node's place, and they are those that are written.
-use Rattle.std.proofs.Common.{◌≡◌, ℕ, ◌<◌, All, List, [], length, map, get_or, sym, ap, subst, ◌∙◌, arith}
+use Rattle.std.proofs.Common.{◌≡◌, ℕ, ◌<◌, List, [], length, map, get_or, sym, ap, ◌∙◌, arith}
 use Rattle.std.specs.Prelude.{slice_index}
-use Rattle.std.proofs.lemmas.List.{ext_get_or, get_or-map, get_or_default, length-map}
+use Rattle.std.proofs.lemmas.List.{ext_get_or, get_or-map, length-map}
 use Rattle.std.proofs.lemmas.List.FromFn.{get_or-map-range_with_len, length-map-range_with_len}
 use Rattle.dwz_nodes.specs.Graph.{Node}
 use Rattle.dwz_rounds.specs.Keys.{all_keys, key, key_at, AreKeys}

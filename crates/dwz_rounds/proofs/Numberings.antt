@@ -8,7 +8,7 @@ use Rattle.dwz_nodes.specs.Graph.{Node, label_at, targets_at, IsClosed}
 use Rattle.dwz_nodes.specs.Looks.{LookEqual, Alike, IsLeastBelow, IsRefined}
 use Rattle.dwz_rounds.specs.Keys.{key}
 use Rattle.dwz_rounds.specs.Turns.{Among}
-use Rattle.dwz_rounds.specs.Pending.{PointsAt, IsPending, IsVisit, own_key, IsSplit}
+use Rattle.dwz_rounds.specs.Pending.{PointsAt, IsPending, IsVisit, IsSplit, TellApart}
 use Rattle.dwz_rounds.proofs.Levels.{heads, tails, map-same, map-length, map-at, least-same, look-sym}
 
 -- whether a number stands in a list can be tested
@@ -39,10 +39,10 @@ module _ (g : List Node) (closed : IsClosed g) where
   key-rest : (numbers : List ℕ) (a b : ℕ) → key g numbers a ≡ key g numbers b → map (λ t. slice_index numbers t) (targets_at g a) ≡ map (λ t. slice_index numbers t) (targets_at g b)
   key-rest numbers a b e = let f : ℕ → ℕ = λ t. slice_index numbers t in tails (label_at g a) (label_at g b) (map f (targets_at g a)) (map f (targets_at g b)) e
 
-  key-length : (numbers : List ℕ) (a b : ℕ) → key g numbers a ≡ key g numbers b → length (targets_at g a) ≡ length (targets_at g b)
+  pub key-length : (numbers : List ℕ) (a b : ℕ) → key g numbers a ≡ key g numbers b → length (targets_at g a) ≡ length (targets_at g b)
   key-length numbers a b e = map-length (λ t. slice_index numbers t) (targets_at g a) (targets_at g b) (key-rest numbers a b e)
 
-  key-target : (numbers : List ℕ) (a b i : ℕ) → key g numbers a ≡ key g numbers b → i < length (targets_at g a) → slice_index numbers (target a i) ≡ slice_index numbers (target b i)
+  pub key-target : (numbers : List ℕ) (a b i : ℕ) → key g numbers a ≡ key g numbers b → i < length (targets_at g a) → slice_index numbers (target a i) ≡ slice_index numbers (target b i)
   key-target numbers a b i e l = map-at (λ t. slice_index numbers t) (targets_at g a) (targets_at g b) (key-rest numbers a b e) i l
 
   pub key-same : (numbers : List ℕ) (a b : ℕ) → label_at g a ≡ label_at g b → length (targets_at g a) ≡ length (targets_at g b) → ((i : ℕ) → i < length (targets_at g a) → slice_index numbers (target a i) ≡ slice_index numbers (target b i)) → key g numbers a ≡ key g numbers b
@@ -56,6 +56,11 @@ module _ (g : List Node) (closed : IsClosed g) where
       (λ i l. let m : i < length (targets_at g b) = omega arith in each i l (closed a la i 0 l) (closed b lb i 0 m) m (key-target numbers a b i e l))
 
   module _ (numbers pending : List ℕ) (p : IsPending g numbers pending) where
+    -- nodes with one number have one key, unless one of them points at a pending node
+    stable : (a b : ℕ) → a < length g → b < length g → slice_index numbers a ≡ slice_index numbers b → ¬ (PointsAt g pending a) → ¬ (PointsAt g pending b) → key g numbers a ≡ key g numbers b
+    stable a b la lb e na nb = key-kept p.before numbers a b la lb (p.keys a b la lb e)
+        (λ i l ta tb m same. p.kept (target a i) (target b i) ta tb same (λ h. na (target a i, h, has-target a i l)) (λ h. nb (target b i, h, has-target b i m)))
+
     alike-key : (a b : ℕ) → a < length g → b < length g → Alike g a b → key g numbers a ≡ key g numbers b
     alike-key a b la lb h = let first = h (suc zero) in let len = first.1 in key-same numbers a b first.0 len
         (λ i l. p.sound (target a i) (target b i) (closed a la i 0 l) (closed b lb i 0 (omega arith)) (λ k. (h (suc k)).2 i l))
@@ -79,7 +84,7 @@ module _ (g : List Node) (closed : IsClosed g) where
     end-alike none zero a b la lb e = tt
     end-alike none (suc k) a b la lb e =
         let nobody : (x : ℕ) → ¬ (PointsAt g pending x) = λ x h. let m = h.1 in let l = m.1 in absurd (omega arith) in
-        let same = p.stable a b la lb e (nobody a) (nobody b) in
+        let same = stable a b la lb e (nobody a) (nobody b) in
         (key-label numbers a b same, key-length numbers a b same, λ i l. let len = key-length numbers a b same in end-alike none k (target a i) (target b i) (closed a la i 0 l) (closed b lb i 0 (omega arith)) (key-target numbers a b i same l))
 
     pub end-refined : length pending ≡ 0 → (answers : List ℕ) → length answers ≡ length g → ((a : ℕ) → a < length g → IsLeastBelow (length g) (λ b. slice_index numbers a ≡ slice_index numbers b) (slice_index answers a)) → IsRefined g answers
@@ -98,7 +103,8 @@ module _ (g : List Node) (closed : IsClosed g) where
           (λ whole. v.whole b lb (subst (λ (c : ℕ). Among wholes c) (p.sound a b la lb h) whole))
           (v.from a there)
 
-      module _ (count : ℕ) (below : (a : ℕ) → a < length g → slice_index numbers a < count) (next after : List ℕ) (s : IsSplit g numbers visit wholes count next after) where
+      module _ (part : ℕ → List ℕ) (tell : TellApart g numbers part) (count : ℕ)
+          (below : (a : ℕ) → a < length g → slice_index numbers a < count) (next after : List ℕ) (s : IsSplit g part numbers visit wholes count next after) where
         -- a number that isn't new is the old one
         low : (a : ℕ) → a < length g → slice_index next a < count → slice_index next a ≡ slice_index numbers a
         low a la l = ⊎_elim
@@ -123,15 +129,15 @@ module _ (g : List Node) (closed : IsClosed g) where
             (λ n. absurd (omega arith))
             (s.old a there)
 
-        next-key : (a b : ℕ) → a < length g → b < length g → slice_index next a ≡ slice_index next b → ¬ (PointsAt g after a) → ¬ (PointsAt g after b) → key g numbers a ≡ key g numbers b
-        next-key a b la lb e na nb = ⊎_elim
+        next-key : (a b : ℕ) → a < length g → b < length g → slice_index next a ≡ slice_index next b → key g numbers a ≡ key g numbers b
+        next-key a b la lb e = ⊎_elim
             (λ ta. ⊎_elim
-            (λ tb. tails (slice_index numbers a) (slice_index numbers b) (key g numbers a) (key g numbers b) (s.apart a b ta tb e))
+            (λ tb. tell.key_is a b la lb (s.apart a b ta tb e))
             (λ ob. absurd (both-out a b la lb e ta ob))
             (among_or visit b))
             (λ oa. ⊎_elim
             (λ tb. absurd (both-out b a lb la (sym e) tb oa))
-            (λ ob. p.stable a b la lb (sym (s.kept a la oa) ∙ (e ∙ s.kept b lb ob)) (λ h. oa (v.points a la h)) (λ h. ob (v.points b lb h)))
+            (λ ob. stable a b la lb (sym (s.kept a la oa) ∙ (e ∙ s.kept b lb ob)) (λ h. oa (v.points a la h)) (λ h. ob (v.points b lb h)))
             (among_or visit b))
             (among_or visit a)
 
@@ -141,15 +147,15 @@ module _ (g : List Node) (closed : IsClosed g) where
           inside = λ a h. (s.new a h).0;
           sound = λ a b la lb h.
               let e = p.sound a b la lb h in
-              let same : own_key g numbers a ≡ own_key g numbers b = λ i. e i ∷ alike-key a b la lb h i in
               ⊎_elim
-              (λ ta. s.same a b ta (visit-alike a b la lb h ta) same)
+              (λ ta. s.same a b ta (visit-alike a b la lb h ta) (tell.back a b la lb e (alike-key a b la lb h)))
               (λ oa. ⊎_elim
               (λ tb. absurd (oa (visit-alike b a lb la (λ k. look-sym g k a b (h k)) tb)))
               (λ ob. s.kept a la oa ∙ (e ∙ sym (s.kept b lb ob)))
               (among_or visit b))
               (among_or visit a);
           whole = λ a b la lb e h. s.all b lb (let n = (s.new a h).1 in omega arith);
-          stable = λ a b la lb e na nb. key-kept numbers next a b la lb (next-key a b la lb e na nb)
-              (λ i l ta tb m same. still-same (target a i) (target b i) ta tb (λ h. na (target a i, h, has-target a i l)) (λ h. nb (target b i, h, has-target b i m)) same);
+          before = numbers;
+          keys = next-key;
+          kept = λ a b la lb e na nb. still-same a b la lb na nb e;
         }

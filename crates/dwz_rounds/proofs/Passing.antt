@@ -1,12 +1,15 @@
 -- A pass over the nodes that point at pending ones leaves no more nodes to look at than those whose number it changed.
 use Rattle.std.proofs.Common.{◌≡◌, ℕ, ◌+◌, ◌-◌, ◌*◌, ◌<◌, ◌≤◌, All, Bool, List, length, get_or, min, inl, inr, ⊎_elim, refl, sym, ap, subst, ◌∙◌, arith}
 use Rattle.std.specs.Prelude.{slice_index}
-use Rattle.dwz_nodes.specs.Back.{AreBack, sources_at}
 use Rattle.dwz_nodes.specs.Graph.{Node, IsClosed}
+use Rattle.dwz_nodes.specs.Uses.{AreUses, uses_at}
+use Rattle.dwz_nodes.specs.declared.uses.Use.{Use}
 use mathlib.Core.Logic.{dite}
 use native.Mathlib.Decide.{dec_le}
 use Rattle.dwz_rounds.specs.Marked.{IsMarked, AreMarked}
-use Rattle.dwz_rounds.specs.Pending.{own_key, ArePointing, AreSame, AreWithWholes, IsPending, IsSplit}
+use Rattle.dwz_rounds.specs.Mentions.{sources_of, part_key, AreMentions}
+use Rattle.dwz_rounds.specs.Pending.{AreSame, AreWithWholes, IsPending, IsSplit}
+use Rattle.dwz_rounds.specs.declared.mentions.Mention.{Mention}
 use Rattle.dwz_rounds.specs.Split.{IsSplitting}
 use Rattle.dwz_rounds.specs.Turns.{Among}
 use Rattle.dwz_rounds.specs.declared.split.Part.{Part}
@@ -14,26 +17,27 @@ use Rattle.dwz_rounds.specs.declared.members.Range.{Range}
 use Rattle.dwz_rounds.specs.Members.{AreMembers}
 use Rattle.std.proofs.lemmas.List.{get_or_default}
 use Rattle.dwz_rounds.proofs.Numberings.{among_or, split-pending}
-use Rattle.dwz_rounds.proofs.Visiting.{is-visit}
+use Rattle.std.proofs.lemmas.List.Elements.{Contains-get_or}
+use Rattle.dwz_rounds.proofs.Mentioned.{is-visit, told-apart}
 
-module _ (g : List Node) (numbers visit wholes nodes : List ℕ) (whole : List Bool) (parts : List Part) (count : ℕ) (next after : List ℕ) (number : ℕ)
+module _ (g : List Node) (part : ℕ → List ℕ) (numbers visit wholes nodes : List ℕ) (whole : List Bool) (parts : List Part) (count : ℕ) (next after : List ℕ) (number : ℕ)
     (same : AreSame visit nodes) (marked : AreMarked whole wholes) (inside : (a : ℕ) → Among visit a → a < length g) (below : (a : ℕ) → a < length g → slice_index numbers a < count) (room : count ≤ length whole)
-    (len : length next ≡ length numbers) (s : IsSplitting (own_key g numbers) nodes numbers whole parts count (length nodes) next after number) where
+    (len : length next ≡ length numbers) (s : IsSplitting part nodes numbers whole parts count (length nodes) next after number) where
   out : (a : ℕ) → ¬ (Among visit a) → slice_index next a ≡ slice_index numbers a
   out a not = s.other a (λ p l e. not (same.back a (p, l, e)))
 
-  pub split-from : IsSplit g numbers visit wholes count next after
+  pub split-from : IsSplit g part numbers visit wholes count next after
   split-from = record {
     len = len;
     kept = λ a l not. out a not;
     same = λ a b ta tb e.
         let x = same.there a ta in
         let y = same.there b tb in
-        ap (λ (k : ℕ). slice_index next k) (sym x.2) ∙ (s.same x.0 y.0 x.1 y.1 (ap (own_key g numbers) x.2 ∙ (e ∙ ap (own_key g numbers) (sym y.2))) ∙ ap (λ (k : ℕ). slice_index next k) y.2);
+        ap (λ (k : ℕ). slice_index next k) (sym x.2) ∙ (s.same x.0 y.0 x.1 y.1 (ap part x.2 ∙ (e ∙ ap part (sym y.2))) ∙ ap (λ (k : ℕ). slice_index next k) y.2);
     apart = λ a b ta tb e.
         let x = same.there a ta in
         let y = same.there b tb in
-        ap (own_key g numbers) (sym x.2) ∙ (s.apart x.0 y.0 x.1 y.1 (ap (λ (k : ℕ). slice_index next k) x.2 ∙ (e ∙ ap (λ (k : ℕ). slice_index next k) (sym y.2))) ∙ ap (own_key g numbers) y.2);
+        ap part (sym x.2) ∙ (s.apart x.0 y.0 x.1 y.1 (ap (λ (k : ℕ). slice_index next k) x.2 ∙ (e ∙ ap (λ (k : ℕ). slice_index next k) (sym y.2))) ∙ ap part y.2);
     old = λ a ta.
         let x = same.there a ta in
         let small = below a (inside a ta) in
@@ -48,9 +52,13 @@ module _ (g : List Node) (numbers visit wholes nodes : List ℕ) (whole : List B
         (among_or visit a);
   }
 
-  pub pass-pending : IsClosed g → (rows : List (List ℕ)) (pending first : List ℕ) → AreBack g rows → IsPending g numbers pending → ArePointing rows pending (length pending) first → AreWithWholes numbers first visit wholes → IsPending g next after
-  pass-pending closed rows pending first back p pointing with =
-      split-pending g closed numbers pending p visit wholes (is-visit g rows numbers pending first visit wholes back p.len p.inside pointing with inside) count below next after split-from
+-- what a pass leaves is pending
+pub pass-pending : (g : List Node) → IsClosed g → (rows : List (List Use)) → AreUses g rows → (numbers pending : List ℕ) → IsPending g numbers pending
+    → (ms : List Mention) → AreMentions rows numbers pending ms → (visit wholes : List ℕ) → AreWithWholes numbers (sources_of ms) visit wholes → ((a : ℕ) → Among visit a → a < length g)
+    → (count : ℕ) → ((a : ℕ) → a < length g → slice_index numbers a < count) → (next after : List ℕ) → IsSplit g (part_key numbers ms) numbers visit wholes count next after → IsPending g next after
+pass-pending g closed rows uses numbers pending p ms m visit wholes with inside count below next after s =
+    split-pending g closed numbers pending p visit wholes (is-visit g closed rows uses numbers pending p ms m visit wholes with inside)
+    (part_key numbers ms) (told-apart g closed rows uses numbers pending p ms m) count below next after s
 
 -- either there are more numbers, or nothing is pending
 pub pass-less : (n count grown many left : ℕ) → count ≤ grown → grown ≤ n → (0 < left → count < grown) → 0 < many → 2 * (n - grown) + min 1 left < 2 * (n - count) + min 1 many
@@ -59,8 +67,9 @@ pass-less n count grown many left up few more some = dite (dec_le 1 left)
     (λ none. omega arith)
 
 -- bounds
-pub sources-below : (g : List Node) (rows : List (List ℕ)) (n : ℕ) → AreBack g rows → n ≡ length g → (a : ℕ) → a < length rows → All (λ b. b < n) (sources_at rows a)
-sources-below g rows n back is a l k d m = let s = (back.each a (let e = back.len in omega arith)).each (get_or (sources_at rows a) k d) (k, m, get_or_default (sources_at rows a) k (get_or (sources_at rows a) k d) d m) in let t = s.0 in omega arith
+pub sources-below : (g : List Node) (rows : List (List Use)) (n : ℕ) → AreUses g rows → n ≡ length g → (t : ℕ) → t < length rows → All (λ u. u.source < n) (uses_at rows t)
+sources-below g rows n uses is t l k d m =
+    let s = (uses.each t (let e = uses.len in omega arith)).each (get_or (uses_at rows t) k d) (Contains-get_or (uses_at rows t) k d m) in let x = s.source in omega arith
 
 pub all-below : (xs : List ℕ) (n : ℕ) → ((a : ℕ) → Among xs a → a < n) → All (λ a. a < n) xs
 all-below xs n inside k d l = subst (λ (a : ℕ). a < n) (get_or_default xs k 0 d l) (inside (get_or xs k 0) (k, l, refl))

@@ -1,23 +1,25 @@
 -- Nodes that are numbered by class, and those whose sources have to be looked at again.
-use Rattle.std.specs.Prelude.{◌≡◌, ℕ, ◌<◌, ◌≤◌, ◌⊎◌, ◌∷◌, Contains, List, length, slice_index}
+use Rattle.std.specs.Prelude.{◌≡◌, ℕ, ◌<◌, ◌≤◌, ◌⊎◌, Contains, List, length, slice_index}
 use Rattle.dwz_nodes.specs.Graph.{Node, targets_at}
 use Rattle.dwz_nodes.specs.Looks.{Alike}
-use Rattle.dwz_nodes.specs.Back.{sources_at}
-use Rattle.dwz_rounds.specs.Keys.{key, key_at}
+use Rattle.dwz_rounds.specs.Keys.{key}
 use Rattle.dwz_rounds.specs.Turns.{Among}
 
 -- a has one of these among its targets
 abbrev pub PointsAt : List Node → List ℕ → ℕ → Type 0
 PointsAt g pending a = (t : ℕ) × Among pending t × Contains (targets_at g a) t
 
--- Nodes that are alike have one number. Nodes with one number have one key, unless one of them points at a pending
--- node. The pending nodes are whole classes.
+-- Nodes that are alike have one number. The pending nodes are whole classes. There are numbers before these, under which nodes
+-- that have one number now had one key; and of the nodes that had one number then, those that aren't pending have one now.
 pub record IsPending (g : List Node) (numbers pending : List ℕ) : Type 0 where
   pub len : length numbers ≡ length g
   pub inside : (a : ℕ) → Among pending a → a < length g
   pub sound : (a b : ℕ) → a < length g → b < length g → Alike g a b → slice_index numbers a ≡ slice_index numbers b
   pub whole : (a b : ℕ) → a < length g → b < length g → slice_index numbers a ≡ slice_index numbers b → Among pending a → Among pending b
-  pub stable : (a b : ℕ) → a < length g → b < length g → slice_index numbers a ≡ slice_index numbers b → ¬ (PointsAt g pending a) → ¬ (PointsAt g pending b) → key g numbers a ≡ key g numbers b
+  pub before : List ℕ
+  pub keys : (a b : ℕ) → a < length g → b < length g → slice_index numbers a ≡ slice_index numbers b → key g before a ≡ key g before b
+  pub kept : (a b : ℕ) → a < length g → b < length g → slice_index before a ≡ slice_index before b
+      → ¬ (Among pending a) → ¬ (Among pending b) → slice_index numbers a ≡ slice_index numbers b
 
 -- the nodes to look at: those that point at a pending node, and all of the classes that are taken whole
 pub record IsVisit (g : List Node) (numbers pending visit wholes : List ℕ) : Type 0 where
@@ -26,30 +28,23 @@ pub record IsVisit (g : List Node) (numbers pending visit wholes : List ℕ) : T
   pub points : (a : ℕ) → a < length g → PointsAt g pending a → Among visit a
   pub whole : (a : ℕ) → a < length g → Among wholes (slice_index numbers a) → Among visit a
 
--- a node's number, and its key
-abbrev pub own_key : List Node → List ℕ → ℕ → List ℕ
-own_key g numbers a = slice_index numbers a ∷ key g numbers a
+-- parts of keys that tell nodes apart just as their numbers and keys do
+pub record TellApart (g : List Node) (numbers : List ℕ) (part : ℕ → List ℕ) : Type 0 where
+  pub number : (a b : ℕ) → a < length g → b < length g → part a ≡ part b → slice_index numbers a ≡ slice_index numbers b
+  pub key_is : (a b : ℕ) → a < length g → b < length g → part a ≡ part b → key g numbers a ≡ key g numbers b
+  pub back : (a b : ℕ) → a < length g → b < length g → slice_index numbers a ≡ slice_index numbers b → key g numbers a ≡ key g numbers b
+      → part a ≡ part b
 
--- the own keys of the nodes of the list
-pub record AreOwnKeys (g : List Node) (numbers visit : List ℕ) (keys : List (List ℕ)) : Type 0 where
-  pub len : length keys ≡ length visit
-  pub each : (i : ℕ) → i < length visit → key_at keys i ≡ own_key g numbers (slice_index visit i)
-
--- What a pass over the nodes to look at makes of the numbers: where their own keys differ they have different numbers, and where they
--- are the same one number, which is a new one, or the old one where the class was taken whole. All others keep their number.
-pub record IsSplit (g : List Node) (numbers visit wholes : List ℕ) (count : ℕ) (next pending : List ℕ) : Type 0 where
+-- What a pass over the nodes to look at makes of the numbers: where the parts of their keys differ they have different numbers, and
+-- where they are the same one number, which is a new one, or the old one where the class was taken whole. All others keep their number.
+pub record IsSplit (g : List Node) (part : ℕ → List ℕ) (numbers visit wholes : List ℕ) (count : ℕ) (next pending : List ℕ) : Type 0 where
   pub len : length next ≡ length numbers
   pub kept : (a : ℕ) → a < length g → ¬ (Among visit a) → slice_index next a ≡ slice_index numbers a
-  pub same : (a b : ℕ) → Among visit a → Among visit b → own_key g numbers a ≡ own_key g numbers b → slice_index next a ≡ slice_index next b
-  pub apart : (a b : ℕ) → Among visit a → Among visit b → slice_index next a ≡ slice_index next b → own_key g numbers a ≡ own_key g numbers b
+  pub same : (a b : ℕ) → Among visit a → Among visit b → part a ≡ part b → slice_index next a ≡ slice_index next b
+  pub apart : (a b : ℕ) → Among visit a → Among visit b → slice_index next a ≡ slice_index next b → part a ≡ part b
   pub old : (a : ℕ) → Among visit a → ((slice_index next a ≡ slice_index numbers a) × Among wholes (slice_index numbers a)) ⊎ (count ≤ slice_index next a)
   pub new : (a : ℕ) → Among pending a → (a < length g) × (count ≤ slice_index next a)
   pub all : (a : ℕ) → a < length g → count ≤ slice_index next a → Among pending a
-
--- the nodes that have one of the first n of these among their targets, by the lists of sources
-pub record ArePointing (rows : List (List ℕ)) (pending : List ℕ) (n : ℕ) (visit : List ℕ) : Type 0 where
-  pub from : (a : ℕ) → Among visit a → (i : ℕ) × (i < n) × Among (sources_at rows (slice_index pending i)) a
-  pub all : (i a : ℕ) → i < n → Among (sources_at rows (slice_index pending i)) a → Among visit a
 
 -- the list has got those of the members from here to there that are of the class
 pub record AreOfClass (numbers members : List ℕ) (class from to : ℕ) (old new : List ℕ) : Type 0 where

@@ -1,8 +1,8 @@
 //! From a whole round on: only what changed is looked at again, until nothing is pending.
 ghost use Rattle.std.specs.Prelude.{◌≡◌, ℕ, ◌+◌, ◌-◌, ◌*◌, ◌<◌, ◌≤◌, ◌^◌, ◌⊎◌, [], All, IfOk, IfSome, IsTrue, OnOk, length, min, slice_index, slice_set};
-ghost use Rattle.dwz_nodes.specs.Back.{AreBack};
 ghost use Rattle.dwz_nodes.specs.Graph.{IsClosed};
 ghost use Rattle.dwz_nodes.specs.Looks.{IsLeastBelow, IsRefined};
+ghost use Rattle.dwz_nodes.specs.Uses.{AreUses};
 ghost use Rattle.dwz_rounds.specs.Keys.{IsLevel, IsRound};
 ghost use Rattle.dwz_rounds.specs.Members.{AreMembers};
 ghost use Rattle.dwz_rounds.specs.Pending.{IsPending};
@@ -12,7 +12,7 @@ use crate::members::Range;
 use crate::pass::{new_room, pass};
 use crate::start::{count_moved, largest_parts, members_of, moved, number_classes};
 use dwz_model::NoMemory;
-use dwz_nodes::{Back, Nodes};
+use dwz_nodes::{Nodes, Uses};
 use std::alloc::Global;
 
 // Stands for no node.
@@ -22,7 +22,7 @@ const NONE: u32 = u32::MAX;
 fn pass_all(
     alloc: Global,
     nodes: &Nodes,
-    back: &Back,
+    uses: &Uses,
     numbers: &mut [u32],
     ranges: &mut Vec<Range>,
     members: &mut Vec<u32>,
@@ -30,7 +30,7 @@ fn pass_all(
 ) -> Result<bool, NoMemory>
     requires closed { IsClosed nodes.now }
     requires few { length nodes.now < 2 ^ 32 - 1 }
-    requires back { AreBack nodes.now back.now }
+    requires uses { AreUses nodes.now uses.now }
     requires pending { IsPending nodes.now numbers.old pending.old.items }
     requires members { AreMembers numbers.old ranges.old.items members.old.items }
     ensures len { length numbers.new ≡ length numbers.old }
@@ -40,7 +40,7 @@ fn pass_all(
     let mut room = new_room(alloc, nodes.len() as usize)?;
     'passes: while !pending.is_empty() {
         let done = pass(
-            alloc, nodes, back, numbers, ranges, members, pending, &mut room,
+            alloc, nodes, uses, numbers, ranges, members, pending, &mut room,
         )?;
         if !done {
             return Ok(false);
@@ -53,7 +53,7 @@ fn pass_all(
 fn pass_all_in(
     alloc: Global,
     nodes: &Nodes,
-    back: &Back,
+    uses: &Uses,
     numbers: &mut Vec<u32>,
     ranges: &mut Vec<Range>,
     members: &mut Vec<u32>,
@@ -61,7 +61,7 @@ fn pass_all_in(
 ) -> Result<bool, NoMemory>
     requires closed { IsClosed nodes.now }
     requires few { length nodes.now < 2 ^ 32 - 1 }
-    requires back { AreBack nodes.now back.now }
+    requires uses { AreUses nodes.now uses.now }
     requires pending { IsPending nodes.now numbers.old.items pending.old.items }
     requires members { AreMembers numbers.old.items ranges.old.items members.old.items }
     ensures pending { IfOk result (λ done. IsTrue done → IsPending nodes.now numbers.new.items []) }
@@ -70,7 +70,7 @@ fn pass_all_in(
     pass_all(
         alloc,
         nodes,
-        back,
+        uses,
         numbers.as_mut_slice(),
         ranges,
         members,
@@ -119,7 +119,8 @@ fn least_nodes(alloc: Global, numbers: &[u32]) -> Result<Vec<u32>, NoMemory>
 }
 
 /// For each node the least node that is alike to it, from the last two rows of classes of whole rounds and, beside each
-/// class, a part of it whose nodes aren't looked at for it. None where there weren't numbers enough.
+/// class, a part of it whose nodes aren't looked at for it. None where there weren't numbers enough, or there are 2^32
+/// targets or more.
 pub(crate) fn finish(
     alloc: Global,
     nodes: &Nodes,
@@ -140,11 +141,13 @@ pub(crate) fn finish(
     let mut ranges = rows.ranges;
     let mut members = rows.members;
     let mut pending = moved(alloc, classes, next, largest)?;
-    let back = nodes.back(alloc)?;
+    let Some(uses) = nodes.uses(alloc)? else {
+        return Ok(None);
+    };
     let done = pass_all_in(
         alloc,
         nodes,
-        &back,
+        &uses,
         &mut numbers,
         &mut ranges,
         &mut members,

@@ -19,24 +19,6 @@ pub(crate) fn put(marks: &mut [bool], list: &mut Vec<u32>, number: u32) -> Resul
     Ok(())
 }
 
-/// Marks all these numbers.
-pub(crate) fn put_all(
-    marks: &mut [bool],
-    list: &mut Vec<u32>,
-    numbers: &[u32],
-) -> Result<(), NoMemory>
-    requires inside { All (λ a. a < length marks.old) numbers.now }
-    requires marked { AreMarked marks.old list.old.items }
-    ensures len { length marks.new ≡ length marks.old }
-    ensures marked { OnOk result (AreMarked marks.new list.new.items) }
-    ensures put { OnOk result (ArePut list.old.items numbers.now list.new.items) }
-{
-    for number in numbers {
-        put(marks, list, *number)?;
-    }
-    Ok(())
-}
-
 /// Clears all marks.
 pub(crate) fn clear(marks: &mut [bool], list: &mut Vec<u32>)
     requires { AreMarked marks.old list.old.items }

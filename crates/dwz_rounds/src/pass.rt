@@ -1,39 +1,43 @@
-//! One pass: the nodes that point at pending ones are keyed again, and the parts of their classes get numbers.
+//! One pass: the nodes that point at pending ones are told apart by these, and the parts of their classes get numbers.
 ghost use Rattle.std.specs.Prelude.{◌≡◌, ℕ, ◌+◌, ◌-◌, ◌*◌, ◌<◌, ◌≤◌, ◌^◌, [], All, IfOk, IsTrue, List, OnOk, length, min};
-ghost use Rattle.dwz_nodes.specs.Back.{AreBack, sources_at};
+ghost use Rattle.std.specs.List.Sorted.{IsNonDecreasingBy};
 ghost use Rattle.dwz_nodes.specs.Graph.{IsClosed};
+ghost use Rattle.dwz_nodes.specs.Uses.{AreUses, uses_at};
 ghost use Rattle.dwz_rounds.specs.Marked.{AreMarked};
 ghost use Rattle.dwz_rounds.specs.Members.{AreMembers};
-ghost use Rattle.dwz_rounds.specs.Pending.{own_key, ArePointing, AreSame, AreWithWholes, IsPending, IsVisit};
+ghost use Rattle.dwz_rounds.specs.Mentions.{part_key, sources_of, AreMentions};
+ghost use Rattle.dwz_rounds.specs.Pending.{AreSame, AreWithWholes, IsPending};
 ghost use Rattle.dwz_rounds.specs.Room.{HasMarks, IsRoom};
 ghost use Rattle.dwz_rounds.specs.Split.{IsGrouped};
 
-use crate::keys::{Keys, fill_own};
+use crate::keys::{Keys, fill_parts};
 use crate::marked::clear;
 use crate::members::Range;
+use crate::mentions::{Mention, list_mentions};
 use crate::order::{Groups, groups_of, rows_of};
 use crate::split::{NO_PART, Part, find_parts, split};
 use crate::visit::{visit_sources, visit_wholes};
 use dwz_model::NoMemory;
-use dwz_nodes::{Back, Nodes};
+use dwz_nodes::{Nodes, Uses};
 use std::alloc::Global;
 
-// The nodes of the list, those with one number and one key together. What `keys` held is lost.
+// The nodes of the list, those together that have one number and the same numbers at the same places. What `keys` held is
+// lost.
 fn grouped(
     alloc: Global,
-    nodes: &Nodes,
     numbers: &[u32],
+    mentions: &[Mention],
     visit: &[u32],
     keys: &mut Keys,
 ) -> Result<Groups, NoMemory>
-    requires closed { IsClosed nodes.now }
-    requires len { length numbers.now ≡ length nodes.now }
-    requires inside { All (λ a. a < length nodes.now) visit.now }
-    ensures grouped { IfOk result (λ groups. IsGrouped (own_key nodes.now numbers.now) numbers.now groups.nodes.items groups.news.items) }
+    requires few { length numbers.now < 2 ^ 32 }
+    requires rising { IsNonDecreasingBy (λ m. m.source) mentions.now }
+    requires inside { All (λ a. a < length numbers.now) visit.now }
+    ensures grouped { IfOk result (λ g. IsGrouped (part_key numbers.now mentions.now) numbers.now g.nodes.items g.news.items) }
     ensures same { IfOk result (λ groups. AreSame visit.now groups.nodes.items) }
     ensures len { IfOk result (λ groups. length groups.news.items ≡ length groups.nodes.items) }
 {
-    fill_own(keys, nodes, numbers, visit)?;
+    fill_parts(keys, numbers, mentions, visit)?;
     let rows = rows_of(alloc, keys, visit)?;
     let groups = groups_of(alloc, rows)?;
     Ok(groups)
@@ -42,6 +46,7 @@ fn grouped(
 /// Room that passes use again and again.
 #[derive(Drop)]
 pub(crate) struct Room {
+    mentions: Vec<Mention>,
     marks: Vec<bool>,
     visit: Vec<u32>,
     whole: Vec<bool>,
@@ -56,6 +61,7 @@ pub(crate) fn new_room(alloc: Global, count: usize) -> Result<Room, NoMemory>
     ensures { IfOk result (λ room. IsRoom count room) }
 {
     Ok(Room {
+        mentions: Vec::new(alloc),
         marks: vec![in alloc; false; count]?,
         visit: Vec::new(alloc),
         whole: vec![in alloc; false; count]?,
@@ -66,25 +72,31 @@ pub(crate) fn new_room(alloc: Global, count: usize) -> Result<Room, NoMemory>
     })
 }
 
-// Lists the nodes to look at.
+// Lists the mentions of pending nodes, and the nodes to look at.
 fn look(
-    back: &Back,
+    uses: &Uses,
     numbers: &[u32],
     ranges: &[Range],
     members: &[u32],
     pending: &[u32],
     room: &mut Room,
 ) -> Result<(), NoMemory>
-    requires rows { length back.now ≡ length numbers.now }
-    requires sources { (a : ℕ) → a < length back.now → All (λ b. b < length numbers.now) (sources_at back.now a) }
+    requires rows { length uses.now ≡ length numbers.now }
+    requires sources { (t : ℕ) → t < length uses.now → All (λ u. u.source < length numbers.now) (uses_at uses.now t) }
     requires pending { All (λ a. a < length numbers.now) pending.now }
     requires members { AreMembers numbers.now ranges.now members.now }
     requires numbers { All (λ c. c < length ranges.now) numbers.now }
     requires room { IsRoom (length numbers.now) room.old }
     ensures looking { OnOk result (HasMarks (length numbers.now) room.new) }
-    ensures pointing { OnOk result ((first : List ℕ) × ArePointing back.now pending.now (length pending.now) first × AreWithWholes numbers.now first room.new.visit.items room.new.wholes.items) }
+    ensures mentions { OnOk result (AreMentions uses.now numbers.now pending.now room.new.mentions.items) }
+    ensures all { OnOk result (AreWithWholes numbers.now (sources_of room.new.mentions.items) room.new.visit.items room.new.wholes.items) }
 {
-    visit_sources(back, pending, room.marks.as_mut_slice(), &mut room.visit)?;
+    list_mentions(uses, numbers, pending, &mut room.mentions)?;
+    visit_sources(
+        room.mentions.as_slice(),
+        room.marks.as_mut_slice(),
+        &mut room.visit,
+    )?;
     visit_wholes(
         numbers,
         ranges,
@@ -107,12 +119,12 @@ fn forget(room: &mut Room, count: usize)
     clear(room.whole.as_mut_slice(), &mut room.wholes);
 }
 
-/// Keys the nodes that point at pending ones, gives numbers to the parts of their classes, and makes those nodes the
-/// pending ones whose number changed. It answers false where there aren't numbers enough.
+/// Looks at the nodes that point at pending ones, and of their targets at these alone, gives numbers to the parts of their
+/// classes, and makes those nodes the pending ones whose number changed. It answers false where there aren't numbers enough.
 pub(crate) fn pass(
     alloc: Global,
     nodes: &Nodes,
-    back: &Back,
+    uses: &Uses,
     numbers: &mut [u32],
     ranges: &mut Vec<Range>,
     members: &mut Vec<u32>,
@@ -121,7 +133,7 @@ pub(crate) fn pass(
 ) -> Result<bool, NoMemory>
     requires closed { IsClosed nodes.now }
     requires few { length nodes.now < 2 ^ 32 - 1 }
-    requires back { AreBack nodes.now back.now }
+    requires uses { AreUses nodes.now uses.now }
     requires pending { IsPending nodes.now numbers.old pending.old.items }
     requires members { AreMembers numbers.old ranges.old.items members.old.items }
     requires some { 0 < length pending.old.items }
@@ -133,14 +145,20 @@ pub(crate) fn pass(
     ensures less { IfOk result (λ done. IsTrue done → 2 * (length nodes.now - length ranges.new.items) + min 1 (length pending.new.items) < 2 * (length nodes.now - length ranges.old.items) + min 1 (length pending.old.items)) }
 {
     look(
-        back,
+        uses,
         numbers,
         ranges.as_slice(),
         members.as_slice(),
         pending.as_slice(),
         room,
     )?;
-    let groups = grouped(alloc, nodes, numbers, room.visit.as_slice(), &mut room.keys)?;
+    let groups = grouped(
+        alloc,
+        numbers,
+        room.mentions.as_slice(),
+        room.visit.as_slice(),
+        &mut room.keys,
+    )?;
     let listed = groups.nodes.as_slice();
     let news = groups.news.as_slice();
     let wanted = !room.wholes.is_empty();

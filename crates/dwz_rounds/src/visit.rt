@@ -1,36 +1,31 @@
 //! The nodes whose keys are looked at again: those that point at a pending node, and the whole class of them where
 //! they are most of it.
 ghost use Rattle.std.specs.Prelude.{◌≡◌, ℕ, ◌<◌, ◌≤◌, ◌⊎◌, [], All, Contains, OnOk, length, slice_index};
-ghost use Rattle.dwz_nodes.specs.Back.{AreBack, sources_at};
-ghost use Rattle.dwz_nodes.specs.Graph.{targets_at};
-ghost use Rattle.dwz_rounds.specs.Marked.{AreMarked};
+ghost use Rattle.dwz_rounds.specs.Marked.{AreMarked, ArePut};
 ghost use Rattle.dwz_rounds.specs.Members.{AreMembers};
-ghost use Rattle.dwz_rounds.specs.Pending.{ArePointing, AreOfClass, AreWithWholes};
+ghost use Rattle.dwz_rounds.specs.Mentions.{sources_of};
+ghost use Rattle.dwz_rounds.specs.Pending.{AreOfClass, AreWithWholes};
 ghost use Rattle.dwz_rounds.specs.Turns.{Among};
 
-use crate::marked::{put, put_all};
+use crate::marked::put;
 use crate::members::Range;
+use crate::mentions::Mention;
 use dwz_model::NoMemory;
-use dwz_nodes::Back;
 
-/// Lists the nodes that have one of these among their targets.
+/// Lists the nodes that have these mentions.
 pub(crate) fn visit_sources(
-    back: &Back,
-    pending: &[u32],
+    mentions: &[Mention],
     marks: &mut [bool],
     visit: &mut Vec<u32>,
 ) -> Result<(), NoMemory>
-    requires rows { length back.now ≡ length marks.old }
-    requires sources { (a : ℕ) → a < length back.now → All (λ b. b < length marks.old) (sources_at back.now a) }
-    requires pending { All (λ a. a < length back.now) pending.now }
+    requires inside { All (λ m. m.source < length marks.old) mentions.now }
     requires marked { AreMarked marks.old visit.old.items }
-    requires none { visit.old.items ≡ [] }
     ensures len { length marks.new ≡ length marks.old }
     ensures marked { OnOk result (AreMarked marks.new visit.new.items) }
-    ensures pointing { OnOk result (ArePointing back.now pending.now (length pending.now) visit.new.items) }
+    ensures put { OnOk result (ArePut visit.old.items (sources_of mentions.now) visit.new.items) }
 {
-    for a in pending {
-        put_all(marks, visit, back.sources(*a))?;
+    for mention in mentions {
+        put(marks, visit, mention.source)?;
     }
     Ok(())
 }

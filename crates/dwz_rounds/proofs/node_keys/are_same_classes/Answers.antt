@@ -1,4 +1,4 @@
-use Rattle.std.proofs.Common.{◌≡◌, ℕ, Bool, true, false, length, arith, map, refl}
+use Rattle.std.proofs.Common.{◌≡◌, true, false, length, arith, refl}
 use Rattle.dwz_rounds.proofs.NodeKeys.{classes-same, same-classes}
 use Rattle.dwz_rounds.proofs.node_keys.are_same_classes.Goals as goal
 

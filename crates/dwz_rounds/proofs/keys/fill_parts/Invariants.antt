@@ -1,11 +1,11 @@
 use Rattle.std.proofs.Common.{◌≡◌, ℕ, ◌<◌, length}
 use Rattle.std.specs.Prelude.{slice_index}
 use Rattle.dwz_rounds.specs.Keys.{key_at}
-use Rattle.dwz_rounds.specs.Pending.{own_key}
-use Rattle.dwz_rounds.proofs.keys.fill_own.Given as goal
+use Rattle.dwz_rounds.specs.Mentions.{part_key}
+use Rattle.dwz_rounds.proofs.keys.fill_parts.Given as goal
 
 abbrev pub invariant-loop-a : goal.invariant-loop-a
 invariant-loop-a l = record {
   len : length l.keys ≡ l.a-index;
-  each : (i : ℕ) → i < l.a-index → key_at l.keys i ≡ own_key l.nodes l.numbers (slice_index l.visit i);
+  each : (i : ℕ) → i < l.a-index → key_at l.keys i ≡ part_key l.numbers l.mentions (slice_index l.visit i);
 }

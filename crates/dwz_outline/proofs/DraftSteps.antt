@@ -54,20 +54,21 @@ pushed xs y m z e = ⊎_elim
     last zero at q = (omega arith, (let same : y ≡ z = cc in same))
     last (suc j) at q = absurd cc
 
-pub none_yet : (docs : List (Doc ℕ)) (draft : Draft) → draft.rows.items ≡ [] → draft.binds.items ≡ [] → draft.pairs.items ≡ [] → IsDraft docs 0 draft
+pub none_yet : (docs : List (Doc ℕ)) (first : ℕ) (draft : Draft) → draft.rows.items ≡ [] → draft.binds.items ≡ [] → draft.pairs.items ≡ [] → IsDraft docs first 0 draft
 unfolding pairs_from
-none_yet docs draft rows binds pairs = record {
+none_yet docs first draft rows binds pairs = record {
   targets = [];
   rows_len = ap (λ (w : List TopRow). length w) rows;
   binds_len = ap (λ (w : List Bool). length w) binds;
   targets_len = refl;
   pairs_are = pairs;
-  each = λ n t row b ts e p q r. absurd cc;
+  each = λ k n t row b ts at e p q r. absurd cc;
 }
 
-pub one_more : (docs : List (Doc ℕ)) (n : ℕ) (old new : Draft) (t : Top) (row : TopRow) (b : Bool) (ts : List ℕ) → slice_get (tops_of (units_of docs)) n ≡ Some t → IsGathered docs row b ts t → IsDraft docs n old
-    → new.rows.items ≡ old.rows.items ++ row ∷ [] → new.binds.items ≡ old.binds.items ++ b ∷ [] → new.pairs.items ≡ old.pairs.items ++ map (target_of n) ts → IsDraft docs (n + 1) new
-one_more docs n old new t row b ts there is d rows binds pairs =
+pub one_more : (docs : List (Doc ℕ)) (first count n : ℕ) (old new : Draft) (t : Top) (row : TopRow) (b : Bool) (ts : List ℕ) → first + count ≡ n
+    → slice_get (tops_of (units_of docs)) n ≡ Some t → IsGathered docs row b ts t → IsDraft docs first count old
+    → new.rows.items ≡ old.rows.items ++ row ∷ [] → new.binds.items ≡ old.binds.items ++ b ∷ [] → new.pairs.items ≡ old.pairs.items ++ map (target_of n) ts → IsDraft docs first (count + 1) new
+one_more docs first count n old new t row b ts sum there is d rows binds pairs =
     let rows_len = d.rows_len in
     let binds_len = d.binds_len in
     let targets_len = d.targets_len in
@@ -77,31 +78,31 @@ one_more docs n old new t row b ts there is d rows binds pairs =
       binds_len = ap (λ (w : List Bool). length w) binds ∙ length-append old.binds.items (b ∷ []) ∙ ap (λ (k : ℕ). k + 1) binds_len;
       targets_len = length-append d.targets (ts ∷ []) ∙ ap (λ (k : ℕ). k + 1) targets_len;
       pairs_are =
-          let at : n ≡ 0 + length d.targets = omega arith in
-          pairs ∙ (λ i. d.pairs_are i ++ map (target_of (at i)) ts) ∙ sym (pairs_more 0 d.targets ts);
-      each = λ m u x c us e p q r.
-          by m u x c us e
+          let at : n ≡ first + length d.targets = omega arith in
+          pairs ∙ (λ i. d.pairs_are i ++ map (target_of (at i)) ts) ∙ sym (pairs_more first d.targets ts);
+      each = λ m o u x c us at e p q r.
+          by m o u x c us at e
           (pushed old.rows.items row m x (sym (ap (λ (w : List TopRow). slice_get w m) rows) ∙ p))
           (pushed old.binds.items b m c (sym (ap (λ (w : List Bool). slice_get w m) binds) ∙ q))
           (pushed d.targets ts m us r);
     }
   where
-    by : (m : ℕ) (u : Top) (x : TopRow) (c : Bool) (us : List ℕ) → slice_get (tops_of (units_of docs)) m ≡ Some u
+    by : (m o : ℕ) (u : Top) (x : TopRow) (c : Bool) (us : List ℕ) → first + m ≡ o → slice_get (tops_of (units_of docs)) o ≡ Some u
         → ((slice_get old.rows.items m ≡ Some x) × (m < length old.rows.items)) ⊎ ((m ≡ length old.rows.items) × (row ≡ x))
         → ((slice_get old.binds.items m ≡ Some c) × (m < length old.binds.items)) ⊎ ((m ≡ length old.binds.items) × (b ≡ c))
         → ((slice_get d.targets m ≡ Some us) × (m < length d.targets)) ⊎ ((m ≡ length d.targets) × (ts ≡ us)) → IsGathered docs x c us u
-    by m u x c us e (inl p) (inl q) (inl r) = d.each m u x c us e p.0 q.0 r.0
-    by m u x c us e (inr p) (inr q) (inr r) =
-        let at : m ≡ n = (let len = d.rows_len in let here = p.0 in omega arith) in
+    by m o u x c us is_at e (inl p) (inl q) (inl r) = d.each m o u x c us is_at e p.0 q.0 r.0
+    by m o u x c us is_at e (inr p) (inr q) (inr r) =
+        let at : o ≡ n = (let len = d.rows_len in let here = p.0 in omega arith) in
         let same : t ≡ u = (let both : Some t ≡ Some u = sym there ∙ ap (slice_get (tops_of (units_of docs))) (sym at) ∙ e in cc) in
         subst (λ (w : Top). IsGathered docs x c us w) same
         (subst (λ (w : List ℕ). IsGathered docs x c w t) r.1
         (subst (λ (w : Bool). IsGathered docs x w ts t) q.1
         (subst (λ (w : TopRow). IsGathered docs w b ts t) p.1 is)))
-    by m u x c us e (inl p) (inr q) r = absurd (let a = d.rows_len in let z = d.binds_len in let lt = p.1 in let at = q.0 in omega arith)
-    by m u x c us e (inr p) (inl q) r = absurd (let a = d.rows_len in let z = d.binds_len in let lt = q.1 in let at = p.0 in omega arith)
-    by m u x c us e (inl p) (inl q) (inr r) = absurd (let a = d.rows_len in let z = d.targets_len in let lt = p.1 in let at = r.0 in omega arith)
-    by m u x c us e (inr p) (inr q) (inl r) = absurd (let a = d.rows_len in let z = d.targets_len in let lt = r.1 in let at = p.0 in omega arith)
+    by m o u x c us is_at e (inl p) (inr q) r = absurd (let a = d.rows_len in let z = d.binds_len in let lt = p.1 in let at = q.0 in omega arith)
+    by m o u x c us is_at e (inr p) (inl q) r = absurd (let a = d.rows_len in let z = d.binds_len in let lt = q.1 in let at = p.0 in omega arith)
+    by m o u x c us is_at e (inl p) (inl q) (inr r) = absurd (let a = d.rows_len in let z = d.targets_len in let lt = p.1 in let at = r.0 in omega arith)
+    by m o u x c us is_at e (inr p) (inr q) (inl r) = absurd (let a = d.rows_len in let z = d.targets_len in let lt = r.1 in let at = p.0 in omega arith)
 
 -- ---- a top of a file
 
@@ -193,11 +194,11 @@ module _ (contents : List (List ℕ)) (number : ℕ) (bytes : List ℕ) (f : Fil
     free_so e = or_left (any_in (entry_binds (tops_of (units_of docs)) t.unit) t) _ e
 
     -- one that binds itself is put with no targets
-    pub put_bound : (n : ℕ) → n ≡ t.number → (row : TopRow) → IsRowOf docs row t → (b : Bool) → b ≡ true → b ≡ binds_itself (units_of docs) t → (old new : Draft) → IsDraft docs n old
-        → new.rows.items ≡ old.rows.items ++ row ∷ [] → new.binds.items ≡ old.binds.items ++ b ∷ [] → new.pairs.items ≡ old.pairs.items → IsDraft docs (n + 1) new
-    put_bound n at row row_is b bound binds_is old new d rows binds pairs =
+    pub put_bound : (first count n : ℕ) → first + count ≡ n → n ≡ t.number → (row : TopRow) → IsRowOf docs row t → (b : Bool) → b ≡ true → b ≡ binds_itself (units_of docs) t → (old new : Draft) → IsDraft docs first count old
+        → new.rows.items ≡ old.rows.items ++ row ∷ [] → new.binds.items ≡ old.binds.items ++ b ∷ [] → new.pairs.items ≡ old.pairs.items → IsDraft docs first (count + 1) new
+    put_bound first count n sum at row row_is b bound binds_is old new d rows binds pairs =
         let here : slice_get (tops_of (units_of docs)) n ≡ Some t = ap (slice_get (tops_of (units_of docs))) (at ∙ top_is.number) ∙ top_is.there in
-        one_more docs n old new t row b [] here
+        one_more docs first count n old new t row b [] sum here
         (record { row_is = row_is; binds_is = binds_is; targets_are = λ e. absurd (false≢true (sym e ∙ bound)); inside = all_none (λ (n : ℕ). n < length (tops_of (units_of docs))) })
         d rows binds (pairs ∙ sym (append-nil old.pairs.items))
 
@@ -228,11 +229,11 @@ module _ (contents : List (List ℕ)) (number : ℕ) (bytes : List ℕ) (f : Fil
           (inside_some (slice_range f.resolved.refs.items a b))
 
       -- one that doesn't is put with the tops that its references go into
-      pub put_free : (n : ℕ) → n ≡ t.number → (row : TopRow) → IsRowOf docs row t → (b : Bool) → b ≡ false → b ≡ binds_itself (units_of docs) t → (old new : Draft) → IsDraft docs n old
+      pub put_free : (first count n : ℕ) → first + count ≡ n → n ≡ t.number → (row : TopRow) → IsRowOf docs row t → (b : Bool) → b ≡ false → b ≡ binds_itself (units_of docs) t → (old new : Draft) → IsDraft docs first count old
           → new.rows.items ≡ old.rows.items ++ row ∷ [] → new.binds.items ≡ old.binds.items ++ b ∷ [] → (part : List (Option ℕ)) → part ≡ slice_range into (start top.entry) (start r.end) → new.pairs.items ≡ old.pairs.items ++ map (target_of n) (somes part)
-          → IsDraft docs (n + 1) new
-      put_free n at row row_is b unbound binds_is old new d rows binds part part_is pairs =
+          → IsDraft docs first (count + 1) new
+      put_free first count n sum at row row_is b unbound binds_is old new d rows binds part part_is pairs =
           let here : slice_get (tops_of (units_of docs)) n ≡ Some t = ap (slice_get (tops_of (units_of docs))) (at ∙ top_is.number) ∙ top_is.there in
-          one_more docs n old new t row b (somes (slice_range into (start top.entry) (start r.end))) here
+          one_more docs first count n old new t row b (somes (slice_range into (start top.entry) (start r.end))) sum here
           (record { row_is = row_is; binds_is = binds_is; targets_are = λ e. targets_so (sym binds_is ∙ unbound); inside = targets_low (start top.entry) (start r.end) })
           d rows binds (pairs ∙ ap (λ (w : List (Option ℕ)). old.pairs.items ++ map (target_of n) (somes w)) part_is)

@@ -19,19 +19,19 @@ use Rattle.dwz_across.proofs.ListGets.{item_got}
 use Rattle.dwz_marks.proofs.FilesKnown.{below}
 use Rattle.dwz_marks.proofs.MarkSteps.{starts_zero}
 use Rattle.dwz_outline.specs.declared.draft.Draft.{Draft}
-use Rattle.dwz_outline.specs.Drafts.{AreWithin, IsDraft}
+use Rattle.dwz_outline.specs.Drafts.{AreWithin, IsDraft, IsFileDraft}
 use Rattle.dwz_across.proofs.FileWalk.{is_among}
 
-pub begin : (contents : List (List ℕ)) (indexes : List Index) (draft : Draft) → IsDraft (docs_of contents) 0 draft → IsDraft (docs_of contents) (starts_at (docs_of contents) indexes 0).top draft
-begin contents indexes draft d = subst (λ (s : Starts). IsDraft (docs_of contents) s.top draft) (sym (starts_zero (docs_of contents) indexes)) d
+pub begin : (contents : List (List ℕ)) (indexes : List Index) (draft : Draft) → IsDraft (docs_of contents) 0 0 draft → IsDraft (docs_of contents) 0 (starts_at (docs_of contents) indexes 0).top draft
+begin contents indexes draft d = subst (λ (s : Starts). IsDraft (docs_of contents) 0 s.top draft) (sym (starts_zero (docs_of contents) indexes)) d
 
 pub all_gathered : (contents : List (List ℕ)) (files : List File) (indexes : List Index) (k : ℕ) → AreKept contents files → AreIndexes (docs_of contents) indexes → length files ≤ k → k ≤ length files → (draft : Draft)
-    → IsDraft (docs_of contents) (starts_at (docs_of contents) indexes k).top draft → IsDraft (docs_of contents) (length (tops_of (units_of (docs_of contents)))) draft
+    → IsDraft (docs_of contents) 0 (starts_at (docs_of contents) indexes k).top draft → IsDraft (docs_of contents) 0 (length (tops_of (units_of (docs_of contents)))) draft
 all_gathered contents files indexes k kept is high low draft d =
     let many = are_many contents files indexes kept is in
     let e : k ≡ length indexes = omega arith in
     let docs = docs_of contents in
-    subst (λ (n : ℕ). IsDraft docs n draft) (ap (λ (n : ℕ). (starts_at docs indexes n).top) e ∙ (all_ends contents indexes is).1) d
+    subst (λ (n : ℕ). IsDraft docs 0 n draft) (ap (λ (n : ℕ). (starts_at docs indexes n).top) e ∙ (all_ends contents indexes is).1) d
 
 module _ (contents : List (List ℕ)) (files : List File) (indexes : List Index) (k : ℕ) (f : File) (x : Index) (kept : AreKept contents files) (is : AreIndexes (docs_of contents) indexes)
     (lt : k < length files) (fe : f ≡ get_or files k f) (xe : x ≡ get_or indexes k x) where
@@ -59,9 +59,21 @@ module _ (contents : List (List ℕ)) (files : List File) (indexes : List Index)
   pub tops_within : AreWithin (raw_units f.units) x.tops
   tops_within j e got = (let r = known in let g = gives_top contents k r.bytes f x r.is j e got in (g.top_is.within, g.top_is.ends))
 
-  pub file_more : (old new : Draft) → IsDraft (docs_of contents) (starts_at (docs_of contents) indexes k).top old
-      → ((bytes : List ℕ) → IsFileAmong contents k bytes f x → IsDraft (docs_of contents) x.starts.top old → IsDraft (docs_of contents) (x.starts.top + length x.tops) new)
-      → IsDraft (docs_of contents) (starts_at (docs_of contents) indexes (k + 1)).top new
+  pub file_more : (old new : Draft) → IsDraft (docs_of contents) 0 (starts_at (docs_of contents) indexes k).top old
+      → ((bytes : List ℕ) → IsFileAmong contents k bytes f x → IsDraft (docs_of contents) 0 x.starts.top old → IsDraft (docs_of contents) 0 (x.starts.top + length x.tops) new)
+      → IsDraft (docs_of contents) 0 (starts_at (docs_of contents) indexes (k + 1)).top new
   file_more old new d put =
       let r = known in
-      subst (λ (n : ℕ). IsDraft (docs_of contents) n new) behind (put r.bytes r.is (subst (λ (n : ℕ). IsDraft (docs_of contents) n old) (sym begins) d))
+      subst (λ (n : ℕ). IsDraft (docs_of contents) 0 n new) behind (put r.bytes r.is (subst (λ (n : ℕ). IsDraft (docs_of contents) 0 n old) (sym begins) d))
+
+  -- what is gathered of the file by itself
+  pub file_draft : (draft : Draft)
+      → ((bytes : List ℕ) → IsFileAmong contents k bytes f x → IsDraft (docs_of contents) x.starts.top (length x.tops) draft)
+      → IsFileDraft (docs_of contents) indexes k draft
+  file_draft draft put =
+      let r = known in
+      record {
+        count = length x.tops;
+        is = subst (λ (n : ℕ). IsDraft (docs_of contents) n (length x.tops) draft) begins (put r.bytes r.is);
+        to = ap (λ (n : ℕ). n + length x.tops) (sym begins) ∙ behind;
+      }

@@ -7,4 +7,5 @@ pub mod DraftSteps
 pub mod OutlineLemmas
 pub mod FlagSteps
 pub mod FileSteps
+pub mod PartSteps
 pub mod FilesLow

@@ -118,7 +118,7 @@ unbound units t there m q = m.free 0 (t, there, refl, q)
 
 -- ---- all tops are gathered
 
-module _ (docs : List (Doc ℕ)) (draft : Draft) (d : IsDraft docs (length (tops_of (units_of docs))) draft) where
+module _ (docs : List (Doc ℕ)) (draft : Draft) (d : IsDraft docs 0 (length (tops_of (units_of docs))) draft) where
   abbrev units : List (FileUnit Spot)
   units = units_of docs
 
@@ -147,7 +147,7 @@ module _ (docs : List (Doc ℕ)) (draft : Draft) (d : IsDraft docs (length (tops
       let row = get_there draft.rows.items n (omega arith) in
       let binds = get_there draft.binds.items n (omega arith) in
       let ts = get_there d.targets n (omega arith) in
-      record { row = row.0; binds = binds.0; ts = ts.0; row_there = row.1; binds_there = binds.1; ts_there = ts.1; is = d.each n t row.0 binds.0 ts.0 e row.1 binds.1 ts.1 }
+      record { row = row.0; binds = binds.0; ts = ts.0; row_there = row.1; binds_there = binds.1; ts_there = ts.1; is = d.each n n t row.0 binds.0 ts.0 (omega arith) e row.1 binds.1 ts.1 }
 
   of_top : (t : Top) → In t tops → Of t.number t
   of_top t there = of_number t.number t (top_there units t there)

@@ -98,8 +98,16 @@ unfolding pairs_from
 keys_low n m [] le = all_none (λ (p : Pair). p.key < n)
 keys_low n m (ts ∷ targets) le = all_both (λ (p : Pair). p.key < n) (map (target_of m) ts) (pairs_from (suc m) targets) (all_here n m (omega arith) ts) (keys_low n (suc m) targets (omega arith))
 
--- ---- one more list
+-- ---- more lists
 
+pub pairs_append : (m n : ℕ) (targets more : List (List ℕ)) → m + length targets ≡ n → pairs_from m (targets ++ more) ≡ pairs_from m targets ++ pairs_from n more
+unfolding pairs_from
+pairs_append m n [] more e = (let same : m ≡ n = omega arith in ap (λ (k : ℕ). pairs_from k more) same)
+pairs_append m n (us ∷ targets) more e =
+    ap (λ (w : List Pair). map (target_of m) us ++ w) (pairs_append (suc m) n targets more (omega arith))
+    ∙ sym (append_assoc (map (target_of m) us) (pairs_from (suc m) targets) (pairs_from n more))
+
+-- one more list
 pub pairs_more : (m : ℕ) (targets : List (List ℕ)) (ts : List ℕ) → pairs_from m (targets ++ ts ∷ []) ≡ pairs_from m targets ++ map (target_of (m + length targets)) ts
 unfolding pairs_from
 pairs_more m [] ts = let z : m ≡ m + 0 = omega arith in append-nil (map (target_of m) ts) ∙ ap (λ (k : ℕ). map (target_of k) ts) z

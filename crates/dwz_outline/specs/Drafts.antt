@@ -1,5 +1,5 @@
 -- What is gathered of tops, one after the other.
-use Rattle.std.specs.Prelude.{◌≡◌, ℕ, suc, ◌<◌, ◌≤◌, Bool, false, All, List, [], ◌∷◌, ◌++◌, length, map, Option, Some, slice_get}
+use Rattle.std.specs.Prelude.{◌≡◌, ℕ, suc, ◌+◌, ◌<◌, ◌≤◌, Bool, false, All, List, [], ◌∷◌, ◌++◌, length, map, Option, Some, slice_get, IfSome}
 use Rattle.dwz_alike.specs.Alike.{binds_itself}
 use Rattle.dwz_alike.specs.Spots.{Top, Within, tops_of, units_of}
 use Rattle.dwz_alike.specs.Targets.{targets_of}
@@ -14,7 +14,7 @@ use Rattle.dwz_scan.specs.Bound.{target_of}
 use Rattle.dwz_scan.specs.Known.{tops_of_refs}
 use Rattle.dwz_unit.specs.declared.rows.RawEntry.{RawEntry}
 use Rattle.dwz_unit.specs.Rows.{shown_entries, units_of as raw_units}
-use Rattle.dwz_across.specs.Across.{IsFileAmong, name_at}
+use Rattle.dwz_across.specs.Across.{IsFileAmong, name_at, starts_at}
 use Rattle.dwz_docs.specs.Units.{RawUnit, entries_in}
 use Rattle.dwz_graph.specs.declared.file.File.{File}
 use Rattle.dwz_index.specs.declared.index.TopEntry.{TopEntry}
@@ -49,12 +49,23 @@ unfoldable pub pairs_from : ℕ → List (List ℕ) → List Pair
 pairs_from n [] = []
 pairs_from n (ts ∷ targets) = map (target_of n) ts ++ pairs_from (suc n) targets
 
--- so many tops are gathered
-pub record IsDraft (docs : List (Doc ℕ)) (count : ℕ) (draft : Draft) : Type 0 where
+-- so many tops are gathered, the first of which has that number
+pub record IsDraft (docs : List (Doc ℕ)) (first count : ℕ) (draft : Draft) : Type 0 where
   pub targets : List (List ℕ)
   pub rows_len : length draft.rows.items ≡ count
   pub binds_len : length draft.binds.items ≡ count
   pub targets_len : length targets ≡ count
-  pub pairs_are : draft.pairs.items ≡ pairs_from 0 targets
-  pub each : (n : ℕ) (t : Top) (row : TopRow) (binds : Bool) (ts : List ℕ) → slice_get (tops_of (units_of docs)) n ≡ Some t → slice_get draft.rows.items n ≡ Some row → slice_get draft.binds.items n ≡ Some binds
-      → slice_get targets n ≡ Some ts → IsGathered docs row binds ts t
+  pub pairs_are : draft.pairs.items ≡ pairs_from first targets
+  pub each : (k n : ℕ) (t : Top) (row : TopRow) (binds : Bool) (ts : List ℕ) → first + k ≡ n → slice_get (tops_of (units_of docs)) n ≡ Some t → slice_get draft.rows.items k ≡ Some row → slice_get draft.binds.items k ≡ Some binds
+      → slice_get targets k ≡ Some ts → IsGathered docs row binds ts t
+
+-- the tops of the file with a number are gathered
+pub record IsFileDraft (docs : List (Doc ℕ)) (indexes : List Index) (k : ℕ) (draft : Draft) : Type 0 where
+  pub count : ℕ
+  pub is : IsDraft docs (starts_at docs indexes k).top count draft
+  pub to : (starts_at docs indexes k).top + count ≡ (starts_at docs indexes (k + 1)).top
+
+-- each part, where there is one, is what is gathered of a file; the first file has that number
+abbrev pub AreParts : List (Doc ℕ) → List Index → ℕ → List (Option Draft) → Type 0
+AreParts docs indexes k [] = Unit {0}
+AreParts docs indexes k (part ∷ parts) = IfSome part (IsFileDraft docs indexes k) × AreParts docs indexes (k + 1) parts

@@ -9,6 +9,7 @@ ghost use Rattle.dwz_graph.specs.Files.{docs_of};
 ghost use Rattle.dwz_index.specs.Index.{Index};
 ghost use Rattle.dwz_indexes.specs.Indexed.{AreIndexes};
 ghost use Rattle.dwz_marks.specs.Named.{AreNamed};
+ghost use Rattle.dwz_meanings.specs.Documents.{Doc};
 ghost use Rattle.dwz_outline.specs.Drafts.{AreInto, AreWithin, IsDraft, IsRowOf};
 ghost use Rattle.dwz_scan.specs.Bound.{HasTops, somes, target_of};
 ghost use Rattle.dwz_unit.specs.declared.rows.RawEntry.{RawEntry};
@@ -29,6 +30,17 @@ pub(crate) struct Draft {
     pub(crate) rows: Vec<TopRow>,
     pub(crate) binds: Vec<bool>,
     pub(crate) pairs: Vec<Pair>,
+}
+
+// Nothing is gathered yet.
+pub(crate) fn nothing(alloc: Global) -> Draft
+    ensures { (docs : List (Doc ℕ)) (first : ℕ) → IsDraft docs first 0 result }
+{
+    Draft {
+        rows: Vec::new(alloc),
+        binds: Vec::new(alloc),
+        pairs: Vec::new(alloc),
+    }
 }
 
 // The flag of a top.
@@ -135,7 +147,7 @@ fn put_top(
 ) -> Result<(), NoMemory>
     requires entry { top.entry < entries_in (raw_units file.now.units) }
     requires end { (r : RawEntry) → slice_get (shown_entries (raw_units file.now.units)) top.entry ≡ Some r → r.end ≤ entries_in (raw_units file.now.units) }
-    ensures { (contents : List (List ℕ)) (bytes : List ℕ) (x : Index) (is : IsFileAmong contents number bytes file.now x) (k : ℕ) (t : Top) → IsTopOf contents number bytes file.now x is.kept.read.doc k top t → n ≡ t.number → AreInto contents number bytes file.now x is into.now → HasTops (tops_of (units_of (docs_of contents))) t.unit own.now → AreNamed (units_of (docs_of contents)) named.now → slice_get (tops_of (units_of (docs_of contents))) n ≡ Some t → IsDraft (docs_of contents) n draft.old → OnOk result (IsDraft (docs_of contents) (n + 1) draft.new) }
+    ensures { (contents : List (List ℕ)) (bytes : List ℕ) (x : Index) (is : IsFileAmong contents number bytes file.now x) (k : ℕ) (t : Top) → IsTopOf contents number bytes file.now x is.kept.read.doc k top t → n ≡ t.number → AreInto contents number bytes file.now x is into.now → HasTops (tops_of (units_of (docs_of contents))) t.unit own.now → AreNamed (units_of (docs_of contents)) named.now → slice_get (tops_of (units_of (docs_of contents))) n ≡ Some t → (from count : ℕ) → from + count ≡ n → IsDraft (docs_of contents) from count draft.old → OnOk result (IsDraft (docs_of contents) from (count + 1) draft.new) }
 {
     let end = file.units.entry(top.entry).end;
     let bound = binds(file, own, into, n, top, end, named, operands)?;
@@ -150,8 +162,8 @@ fn put_top(
     )
 }
 
-// Adds the tops of a file.
-fn put_file(
+/// Adds the tops of a file.
+pub(crate) fn put_file(
     alloc: Global,
     draft: &mut Draft,
     file: &File,
@@ -163,7 +175,7 @@ fn put_file(
     requires few { length index.now.steps < 2 ^ 32 }
     requires room { index.now.starts.top + length index.now.tops < 2 ^ 32 }
     requires tops { AreWithin (raw_units file.now.units) index.now.tops }
-    ensures { (contents : List (List ℕ)) (bytes : List ℕ) (is : IsFileAmong contents number bytes file.now index.now) → AreNamed (units_of (docs_of contents)) named.now → IsDraft (docs_of contents) index.now.starts.top draft.old → OnOk result (IsDraft (docs_of contents) (index.now.starts.top + length index.now.tops) draft.new) }
+    ensures { (contents : List (List ℕ)) (bytes : List ℕ) (is : IsFileAmong contents number bytes file.now index.now) → AreNamed (units_of (docs_of contents)) named.now → (from count : ℕ) → from + count ≡ index.now.starts.top → IsDraft (docs_of contents) from count draft.old → OnOk result (IsDraft (docs_of contents) from (count + length index.now.tops) draft.new) }
 {
     let into = tops_of(alloc, index, file.resolved.refs.as_slice())?;
     let first = index.starts().top;
@@ -196,13 +208,9 @@ pub(crate) fn gathered(
 ) -> Result<Draft, NoMemory>
     requires few { length graph.now < 2 ^ 32 }
     requires indexes { AreIndexes (docs_of graph.now) indexes.now }
-    ensures { AreNamed (units_of (docs_of graph.now)) named.now → IfOk result (IsDraft (docs_of graph.now) (length (tops_of (units_of (docs_of graph.now))))) }
+    ensures { AreNamed (units_of (docs_of graph.now)) named.now → IfOk result (IsDraft (docs_of graph.now) 0 (length (tops_of (units_of (docs_of graph.now))))) }
 {
-    let mut draft = Draft {
-        rows: Vec::new(alloc),
-        binds: Vec::new(alloc),
-        pairs: Vec::new(alloc),
-    };
+    let mut draft = nothing(alloc);
     let mut operands = Vec::new(alloc);
     for (number, file) in graph.files().iter().enumerate() {
         put_file(

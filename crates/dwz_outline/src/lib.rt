@@ -3,6 +3,7 @@
 
 mod draft;
 mod outline;
+mod parts;
 mod ranges;
 
 pub use outline::{Outline, outline_files};

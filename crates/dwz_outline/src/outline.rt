@@ -1,6 +1,6 @@
 //! The outline of files.
 
-ghost use Rattle.std.specs.Prelude.{◌≡◌, ℕ, ◌<◌, ◌++◌, ◌^◌, List, length, map, replicate, IfOk, OnOk};
+ghost use Rattle.std.specs.Prelude.{◌≡◌, ℕ, ◌<◌, ◌≤◌, ◌++◌, ◌^◌, List, length, map, replicate, IfOk, OnOk};
 ghost use Rattle.dwz_alike.specs.Spots.{units_of};
 ghost use Rattle.dwz_graph.specs.Files.{docs_of};
 ghost use Rattle.dwz_index.specs.Index.{Index};
@@ -8,7 +8,7 @@ ghost use Rattle.dwz_indexes.specs.Indexed.{AreIndexes};
 ghost use Rattle.dwz_outline.specs.Outlines.{IsOutline};
 ghost use Rattle.dwz_outline.specs.Rows.{with_flags};
 
-use crate::draft::gathered;
+use crate::parts::gathered_by;
 use dwz_graph::Graph;
 use dwz_groups::{TopRow, TopRows, Tops, group};
 use dwz_index::Index;
@@ -16,6 +16,7 @@ use dwz_marks::named_tops;
 use dwz_model::{NoMemory, Numbers};
 use dwz_move::movable_by;
 use std::alloc::Global;
+use std::thread::Threads;
 
 /// What is known of all files together.
 #[derive(Drop)]
@@ -56,15 +57,22 @@ fn set_movable(rows: &mut [TopRow], flags: &[bool])
     }
 }
 
-/// The tops of all files, in order of place.
-pub fn outline_files(alloc: Global, graph: &Graph, indexes: &[Index]) -> Result<Outline, NoMemory>
+/// The tops of all files, in order of place. It is the same for every number of workers.
+pub fn outline_files<R: Threads + Sync>(
+    rt: &R,
+    alloc: Global,
+    graph: &Graph,
+    indexes: &[Index],
+    workers: u32,
+) -> Result<Outline, NoMemory>
     requires few { length graph.now < 2 ^ 32 }
     requires indexes { AreIndexes (docs_of graph.now) indexes.now }
+    requires workers { (0 < workers) × (workers ≤ 64) }
     ensures tops { IfOk result (λ o. IsOutline (docs_of graph.now) o.tops) }
 {
     let files = graph.files();
     let named = named_tops(alloc, graph, indexes)?;
-    let draft = gathered(alloc, graph, indexes, &named)?;
+    let draft = gathered_by(rt, alloc, graph, indexes, &named, workers)?;
     let targets = group(alloc, draft.rows.len(), draft.pairs.as_slice())?;
     let movable = movable_by(alloc, &targets, draft.binds.as_slice())?;
     let mut rows = draft.rows;

@@ -31,15 +31,22 @@ pub struct PlannedFiles {
 }
 
 // The tops of all files, with how many files there are.
-fn tops_of(alloc: Global, graph: &Graph, indexes: &[Index]) -> Result<Tops, NoMemory>
+fn tops_of<R: Threads + Sync>(
+    rt: &R,
+    alloc: Global,
+    graph: &Graph,
+    indexes: &[Index],
+    workers: u32,
+) -> Result<Tops, NoMemory>
     requires few { length graph.now < 2 ^ 32 }
     requires indexes { AreIndexes (docs_of graph.now) indexes.now }
+    requires workers { (0 < workers) × (workers ≤ 64) }
     ensures outline { IfOk result (λ tops. IsOutline (docs_of graph.now) tops) }
     ensures files { IfOk result (λ tops. tops.files ≡ length (docs_of graph.now)) }
     ensures few_rows { IfOk result (λ tops. length tops.rows < 2 ^ 32) }
     ensures few_units { IfOk result (λ tops. length tops.files_of_units < 2 ^ 32) }
 {
-    let outline = outline_files(alloc, graph, indexes)?;
+    let outline = outline_files(rt, alloc, graph, indexes, workers)?;
     let mut tops = outline.tops;
     tops.files = graph.files().len() as u32;
     Ok(tops)
@@ -71,7 +78,7 @@ pub fn plan_files<R: Threads + Sync, G: Gate>(
     ensures plan { IfOk result (λ p. let docs = docs_of graph.now in ShowsPlan (rule_by scope docs) (units_of docs) (length docs) p.plan) }
     ensures fits { IfOk result (λ p. FitsFiles scope (docs_of graph.now) p.tops p.plan) }
 {
-    let tops = tops_of(alloc, graph, indexes)?;
+    let tops = tops_of(rt, alloc, graph, indexes, workers)?;
     let movable = movable_of(alloc, &tops)?;
     let flags = movable.as_slice();
     let least = least(rt, alloc, graph, indexes, &tops, flags, workers, gate)?;

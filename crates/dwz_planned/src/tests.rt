@@ -248,7 +248,7 @@ fn is_as_said<R: Threads + Sync>(
     if files.len() > 100 || workers == 0 || workers > 64 {
         return Ok(false);
     }
-    let graph = Graph::read(alloc, &files)?;
+    let graph = Graph::read(rt, alloc, &files, workers)?;
     let indexes = indexes(alloc, &graph)?;
     let planned = plan_files(rt, alloc, &graph, &indexes, case.scope, workers, &OpenGate)?;
     Ok(goes(&planned, case.moves))

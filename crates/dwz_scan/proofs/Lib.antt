@@ -10,6 +10,7 @@ pub mod MarkLemmas
 pub mod NameMarks
 pub mod MarkSteps
 pub mod RowMarks
+pub mod OtherValues
 pub mod FileSteps
 pub mod UnitSteps
 pub mod IntoLemmas

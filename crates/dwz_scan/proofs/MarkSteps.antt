@@ -1,16 +1,15 @@
 -- What is marked by an entry's values, and what is left.
-use Rattle.std.proofs.Common.{◌≡◌, ◌≢◌, ◌↔◌, ◌⊎◌, ℕ, ◌+◌, ◌<◌, ◌≤◌, Bool, true, List, ◌++◌, Option, drop, length, map, Some, Ok, slice_get, refl, sym, ap, subst, ◌∙◌, arith, inl, inr, ⊎_elim}
+use Rattle.std.proofs.Common.{◌≡◌, ◌≢◌, ◌↔◌, ◌⊎◌, ℕ, ◌+◌, ◌<◌, Bool, true, List, ◌++◌, Option, drop, length, map, Some, Ok, slice_get, refl, sym, ap, subst, ◌∙◌, arith, inl, inr, ⊎_elim}
 use Rattle.std.specs.Prelude.{◌||◌}
 use Rattle.std.specs.List.{list_any}
-use Rattle.std.proofs.lemmas.Bool.{false≢true, or_cases}
-use Rattle.std.proofs.lemmas.List.{drop_all}
+use Rattle.std.proofs.lemmas.Bool.{or_cases}
 use Rattle.dwz_alike.specs.Alike.{any_attr}
 use Rattle.dwz_alike.specs.Spots.{Spot}
 use Rattle.dwz_alike.proofs.Targets.{or_first, or_second}
 use Rattle.dwz_docs.specs.Entries.{RawAttr}
 use Rattle.dwz_docs.specs.Units.{RawUnit}
 use Rattle.dwz_flat.specs.Rows.{AreAttrsMeant, IsEntryMeant, node_refs}
-use Rattle.dwz_flat.proofs.StepLemmas.{entry, no_value, sibling, value}
+use Rattle.dwz_flat.proofs.StepLemmas.{entry, sibling, value}
 use Rattle.dwz_meanings.specs.Documents.{Attr, Node, Value, attr_map, node_map}
 use Rattle.dwz_meanings.specs.Meanings.{Scope, attr_with, meaning}
 use Rattle.dwz_resolve.specs.Named.{attrs_refs, value_refs}
@@ -80,15 +79,4 @@ module _ (test : Test) (raw : List RawUnit) (s : Scope ℕ) (name : ℕ → Spot
                   (λ t. ⊎_elim (λ y. inl (here.1 (inr y))) (λ y. inr y) (or_cases (test k A) (said test name n.left k) (sym (split k) ∙ t)))
                   (was.1 x),
             ));
-      }
-
-  pub mark_none : (values : List RawAttr) (j : ℕ) (into : List (Option ℕ)) (old now : List Bool) (all : ℕ → Bool) → length values ≤ j → MarkLeft test raw s name (drop j values) into old now all → MarksIf (λ n. all n ≡ true) old now
-  mark_none values j into old now all le h =
-      let none = no_value raw s h.numbers h.attrs (subst (λ (vs : List RawAttr). AreAttrsMeant raw s h.numbers vs h.attrs) (drop_all j values le) h.meant) in
-      record {
-        len = h.len;
-        each = λ n l. (
-          λ x. (h.each n l).0 (inl x),
-          λ x. ⊎_elim (λ o. o) (λ t. absurd (false≢true (sym (ap (λ (as' : List (Attr ℕ)). said test name as' n) none) ∙ t))) ((h.each n l).1 x),
-        );
       }

@@ -1,16 +1,17 @@
 //! Which tops operands of expressions name.
 
-ghost use Rattle.std.specs.Prelude.{◌≡◌, ◌↔◌, ◌⊎◌, ℕ, ◌<◌, ◌≤◌, ◌∷◌, [], List, Ok, true, drop, length, map, IfOk, OnOk};
+ghost use Rattle.std.specs.Prelude.{◌≡◌, ◌↔◌, ◌⊎◌, ℕ, ◌<◌, ◌≤◌, ◌∷◌, [], List, Ok, Some, false, true, drop, length, map, slice_get, take, IfOk, OnOk};
 ghost use Rattle.std.specs.List.{list_any};
 ghost use Rattle.dwz_alike.specs.Alike.{any_attr};
 ghost use Rattle.dwz_alike.specs.Spots.{Spot};
 ghost use Rattle.dwz_docs.specs.Units.{entries_in};
 ghost use Rattle.dwz_flat.specs.Rows.{AreRowsMeant, IsEntryMeant, node_refs};
 ghost use Rattle.dwz_meanings.specs.Documents.{Node, Value, attr_map, node_map};
-ghost use Rattle.dwz_meanings.specs.Meanings.{Scope, attr_with, meaning};
+ghost use Rattle.dwz_meanings.specs.Meanings.{Scope, attr_with, class_of, meaning};
+ghost use Rattle.dwz_model.specs.declared.place.Pair.{Pair};
 ghost use Rattle.dwz_resolve.specs.Named.{value_refs};
 ghost use Rattle.dwz_resolve.specs.Resolved.{stored};
-ghost use Rattle.dwz_scan.specs.Bound.{AreInto, EachInto};
+ghost use Rattle.dwz_scan.specs.Bound.{AreInto, EachInto, is_expression};
 ghost use Rattle.dwz_scan.specs.Marked;
 ghost use Rattle.dwz_scan.specs.Marked.{Marks, MarksIf, asked_tops, expression_names, expression_pins, if_asked};
 ghost use Rattle.dwz_unit.specs.Rows.{EntryRow, units_of};
@@ -75,6 +76,21 @@ fn behind(into: &[Option<u32>], count: usize) -> &[Option<u32>]
     }
 }
 
+// The pairs up to the last one whose value is an expression. The values of those behind it aren't read.
+#[inline(always)]
+fn up_to_expressions(pairs: &[Pair]) -> &[Pair]
+    ensures front { result.now ≡ take (length result.now) pairs.now }
+    ensures behind { (k : ℕ) (p : Pair) → length result.now ≤ k → slice_get pairs.now k ≡ Some p → is_expression (class_of p.form) ≡ false }
+{
+    let mut count = 0;
+    for (k, pair) in pairs.iter().enumerate() {
+        if is_expression(class_of(pair.form)) {
+            count = k + 1;
+        }
+    }
+    &pairs[..count]
+}
+
 // Marks the tops that the operands of an entry's expressions name. The tops of the entry's references stand first.
 pub(crate) fn mark_entry(
     units: &Units,
@@ -89,7 +105,7 @@ pub(crate) fn mark_entry(
 {
     let Values { pairs, mut cursor } = units.values(i);
     let mut rest = into;
-    for pair in pairs {
+    for pair in up_to_expressions(pairs) {
         let raw = known_value(&mut cursor, pair);
         let end = cursor.at() as u64;
         if pair.name != SIBLING {

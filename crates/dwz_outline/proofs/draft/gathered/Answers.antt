@@ -1,13 +1,12 @@
 use Rattle.std.proofs.Common.{◌≤◌, length, arith}
 use Rattle.dwz_graph.specs.Files.{docs_of}
 use Rattle.dwz_marks.proofs.FilesKnown.{below}
-use Rattle.dwz_outline.proofs.DraftSteps.{none_yet}
 use Rattle.dwz_outline.proofs.FileSteps.{all_gathered, begin, few_steps, file_more, room, tops_within}
 use Rattle.dwz_outline.proofs.FilesLow.{files_few}
 use Rattle.dwz_outline.proofs.draft.gathered.Goals as goal
 
 pub loop-number-init : goal.loop-number-init
-loop-number-init c = λ named. begin c.args.graph.now c.args.indexes.now _ (none_yet (docs_of c.args.graph.now) _ c.new.ensures.items c.new-2.ensures.items c.new-3.ensures.items)
+loop-number-init c = λ named. begin c.args.graph.now c.args.indexes.now _ (c.nothing-draft.ensures (docs_of c.args.graph.now) 0)
 
 pub bounds-indexes-number : goal.bounds-indexes-number
 bounds-indexes-number c = below c.args.graph.now c.files-file-items.result.now c.args.indexes.now c.loop-number.number c.files-file-items.ensures c.requires.indexes c.loop-number-test.true
@@ -28,7 +27,7 @@ pub loop-number-preserved : goal.loop-number-preserved
 loop-number-preserved c = λ named. (
     let contents = c.args.graph.now in
     file_more contents c.files-file-items.result.now c.args.indexes.now c.loop-number.number c.file-item.result c.index-indexes-number.result c.files-file-items.ensures c.requires.indexes c.loop-number-test.true c.file-item.is c.index-indexes-number.is
-    c.loop-number.draft c.put_file.new.draft (c.loop-number.invariant named) (λ bytes is d. c.in_ok-put_file.ensures contents bytes is named d))
+    c.loop-number.draft c.put_file.new.draft (c.loop-number.invariant named) (λ bytes is d. c.in_ok-put_file.ensures contents bytes is named 0 c.index-indexes-number.result.starts.top (omega arith) d))
 
 pub returns : goal.returns
 returns c = λ named. (

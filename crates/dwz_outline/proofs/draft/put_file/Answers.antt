@@ -24,7 +24,7 @@ none = record { entry = 0; unit = 0; inner = 0 }
 pub loop-i-init : goal.loop-i-init
 loop-i-init c = record {
   own = λ all j y h e got. absurd (omega arith);
-  draft = λ contents bytes is named d. (let at : c.args.index.now.starts.top ≡ c.args.index.now.starts.top + 0 = omega arith in subst (λ (n : ℕ). IsDraft (docs_of contents) n c.args.draft.now) at d);
+  draft = λ contents bytes is named from count sum d. (let at : count ≡ count + 0 = omega arith in subst (λ (n : ℕ). IsDraft (docs_of contents) from n c.args.draft.now) at d);
 }
 
 pub put_top-requires-clause-entry : goal.put_top-requires-clause-entry
@@ -53,7 +53,7 @@ loop-i-preserved c = (
           let at : j ≡ i = omega arith in
           let same : top ≡ y = same_got tops i top y got (subst (λ (k : ℕ). slice_get tops k ≡ Some y) at q) in
           subst (λ (w : TopEntry). HasTops all w.unit c.range_at-own.result) same (c.range_at-own.ensures all top h got (λ k z p r. c.loop-i.invariant.own all k z h p r)));
-      draft = λ contents bytes is named d. (
+      draft = λ contents bytes is named from count sum d. (
           let docs = docs_of contents in
           let all : List Top = tops_of (units_of docs) in
           let raw = raw_units f.units in
@@ -71,15 +71,16 @@ loop-i-preserved c = (
           let units : HaveUnits all first tops = subst (λ (w : List TopEntry). HaveUnits all first w) (sym c.tops-tops.ensures) (subst (λ (m : ℕ). HaveUnits all m x.tops) (sym first_is) (have_units contents number bytes f x is)) in
           let own = subst (λ (u : ℕ). HasTops all u c.range_at-own.result) (sym g.top_is.unit) (c.range_at-own.ensures all top units got (λ k z p q. c.loop-i.invariant.own all k z units p q)) in
           let before : x.starts.top + i ≡ first + i = omega arith in
-          let behind : first + i + 1 ≡ x.starts.top + (i + 1) = omega arith in
+          let behind : count + i + 1 ≡ count + (i + 1) = omega arith in
+          let at_count : from + (count + i) ≡ first + i = omega arith in
           let there : slice_get all (first + i) ≡ Some t = ap (slice_get all) (sym before) ∙ g.top_is.there in
-          subst (λ (n : ℕ). IsDraft docs n c.put_top.new.draft) behind
-          (c.in_ok-put_top.ensures contents bytes x is i t g.top_is at into own named there (subst (λ (n : ℕ). IsDraft docs n c.loop-i.draft) before (c.loop-i.invariant.draft contents bytes is named d))));
+          subst (λ (n : ℕ). IsDraft docs from n c.put_top.new.draft) behind
+          (c.in_ok-put_top.ensures contents bytes x is i t g.top_is at into own named there from (count + i) at_count (c.loop-i.invariant.draft contents bytes is named from count sum d)));
     })
 
 pub returns : goal.returns
-returns c = λ contents bytes is named d. (
+returns c = λ contents bytes is named from count sum d. (
     let x = c.args.index.now in
     let len : length c.tops-tops.result.now ≡ length x.tops = ap (λ (w : List TopEntry). length w) c.tops-tops.ensures in
-    let all : x.starts.top + c.loop-i.i ≡ x.starts.top + length x.tops = omega arith in
-    subst (λ (n : ℕ). IsDraft (docs_of contents) n c.loop-i.draft) all (c.loop-i.invariant.draft contents bytes is named d))
+    let all : count + c.loop-i.i ≡ count + length x.tops = omega arith in
+    subst (λ (n : ℕ). IsDraft (docs_of contents) from n c.loop-i.draft) all (c.loop-i.invariant.draft contents bytes is named from count sum d))

@@ -12,5 +12,6 @@ use Rattle.dwz_outline.proofs.draft.put_file.Given as goal
 abbrev pub invariant-loop-i : goal.invariant-loop-i
 invariant-loop-i l = record {
   own : (all : List Top) (j : ℕ) (y : TopEntry) → HaveUnits all l.first l.tops → suc j ≡ l.i → slice_get l.tops j ≡ Some y → HasTops all y.unit l.own;
-  draft : (contents : List (List ℕ)) (bytes : List ℕ) (is : IsFileAmong contents l.number bytes l.file l.index) → AreNamed (units_of (docs_of contents)) l.named → IsDraft (docs_of contents) l.index.starts.top l.fn.draft → IsDraft (docs_of contents) (l.index.starts.top + l.i) l.draft;
+  draft : (contents : List (List ℕ)) (bytes : List ℕ) (is : IsFileAmong contents l.number bytes l.file l.index) → AreNamed (units_of (docs_of contents)) l.named
+      → (from count : ℕ) → from + count ≡ l.index.starts.top → IsDraft (docs_of contents) from count l.fn.draft → IsDraft (docs_of contents) from (count + l.i) l.draft;
 }

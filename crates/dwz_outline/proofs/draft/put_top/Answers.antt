@@ -11,7 +11,7 @@ use Rattle.dwz_outline.proofs.DraftSteps.{either, put_bound, put_free, rise, wit
 use Rattle.dwz_outline.proofs.draft.put_top.Goals as goal
 
 pub returns : goal.returns
-returns c = λ contents bytes x is k t top_is at into own named there d. (
+returns c = λ contents bytes x is k t top_is at into own named there from count sum d. (
     let f = c.args.file.now in
     let raw = raw_units f.units in
     let number = c.args.number in
@@ -26,7 +26,7 @@ returns c = λ contents bytes x is k t top_is at into own named there d. (
     (rise contents number bytes f x is k top t top_is items into r shown) (within contents number bytes f x is k top t top_is items into r shown) in
     let old = c.args.draft.now in
     let new : Draft = record { rows = c.push.new.self; binds = c.push-2.new.self; pairs = c.put_targets.new.pairs } in
-    either c.put_targets.result c.in_ok-bound.bound (new.pairs.items ≡ old.pairs.items) (new.pairs.items ≡ old.pairs.items ++ map (target_of c.args.n) (somes c.part.result.now)) (IsDraft (docs_of contents) (c.args.n + 1) new)
+    either c.put_targets.result c.in_ok-bound.bound (new.pairs.items ≡ old.pairs.items) (new.pairs.items ≡ old.pairs.items ++ map (target_of c.args.n) (somes c.part.result.now)) (IsDraft (docs_of contents) from (count + 1) new)
     c.put_targets.ensures.bound c.put_targets.ensures.free
-    (λ bound pairs. put_bound contents number bytes f x is k top t top_is c.args.n at c.row_of.result row_is c.in_ok-bound.bound bound binds_is old new d c.in_ok-push.ensures.items c.in_ok-push-2.ensures.items pairs)
-    (λ unbound pairs. put_free contents number bytes f x is k top t top_is items into r shown c.args.n at c.row_of.result row_is c.in_ok-bound.bound unbound binds_is old new d c.in_ok-push.ensures.items c.in_ok-push-2.ensures.items c.part.result.now part_is pairs))
+    (λ bound pairs. put_bound contents number bytes f x is k top t top_is from count c.args.n sum at c.row_of.result row_is c.in_ok-bound.bound bound binds_is old new d c.in_ok-push.ensures.items c.in_ok-push-2.ensures.items pairs)
+    (λ unbound pairs. put_free contents number bytes f x is k top t top_is items into r shown from count c.args.n sum at c.row_of.result row_is c.in_ok-bound.bound unbound binds_is old new d c.in_ok-push.ensures.items c.in_ok-push-2.ensures.items c.part.result.now part_is pairs))

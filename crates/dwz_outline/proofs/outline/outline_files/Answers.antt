@@ -16,7 +16,7 @@ use Rattle.dwz_outline.proofs.PairLemmas.{keys_low}
 use Rattle.dwz_outline.proofs.outline.outline_files.Goals as goal
 
 pub group-requires : goal.group-requires
-group-requires c =
+group-requires g c =
     let d = c.in_ok-draft.ensures c.in_ok-named.ensures in
     let rows_len = d.rows_len in
     let targets_len = d.targets_len in
@@ -25,7 +25,7 @@ group-requires c =
     subst (λ (w : List Pair). All (λ p. p.key < c.len.result) w) (sym (c.as_slice.ensures.value ∙ d.pairs_are)) low
 
 pub movable_by-requires-clause-few : goal.movable_by-requires-clause-few
-movable_by-requires-clause-few c =
+movable_by-requires-clause-few g c =
     let docs = docs_of c.args.graph.now in
     let draft = c.in_ok-draft.draft in
     let d = c.in_ok-draft.ensures c.in_ok-named.ensures in
@@ -36,7 +36,7 @@ movable_by-requires-clause-few c =
     omega arith
 
 pub movable_by-requires-clause-len : goal.movable_by-requires-clause-len
-movable_by-requires-clause-len c =
+movable_by-requires-clause-len g c =
     let docs = docs_of c.args.graph.now in
     let draft = c.in_ok-draft.draft in
     let d = c.in_ok-draft.ensures c.in_ok-named.ensures in
@@ -45,7 +45,7 @@ movable_by-requires-clause-len c =
     ap (λ (w : List Bool). length w) c.as_slice-2.ensures.value ∙ d.binds_len ∙ sym (long docs draft d c.in_ok-targets.targets made)
 
 pub movable_by-requires-clause-inside : goal.movable_by-requires-clause-inside
-movable_by-requires-clause-inside c =
+movable_by-requires-clause-inside g c =
     let docs = docs_of c.args.graph.now in
     let draft = c.in_ok-draft.draft in
     let d = c.in_ok-draft.ensures c.in_ok-named.ensures in
@@ -54,7 +54,7 @@ movable_by-requires-clause-inside c =
     inside docs draft d c.in_ok-targets.targets made
 
 pub set_movable-requires : goal.set_movable-requires
-set_movable-requires c =
+set_movable-requires g c =
     let d = c.in_ok-draft.ensures c.in_ok-named.ensures in
     let docs = docs_of c.args.graph.now in
     let draft = c.in_ok-draft.draft in
@@ -65,7 +65,7 @@ set_movable-requires c =
     ap (λ (w : List Bool). length w) c.as_slice-3.ensures ∙ moves.len ∙ sym d.rows_len ∙ ap (λ (w : List TopRow). length w) (sym c.as_mut_slice.ensures.value)
 
 pub returns : goal.returns
-returns c =
+returns g c =
     let docs = docs_of c.args.graph.now in
     let draft = c.in_ok-draft.draft in
     let d = c.in_ok-draft.ensures c.in_ok-named.ensures in
@@ -80,4 +80,4 @@ returns c =
     record { tops = outline_is docs draft d c.in_ok-targets.targets made flags moves c.in_ok-files_of_units.files_of_units.items (length c.files-files.result.now) c.in_ok-files_of_units.ensures low _ (c.new-listed.ensures ∙ rows) refl c.new-numbers.ensures refl }
 
 pub overflow_cast-tops : goal.overflow_cast-tops
-overflow_cast-tops c = (let many = files_few c.args.graph.now c.files-files.result.now c.files-files.ensures in omega arith)
+overflow_cast-tops g c = (let many = files_few c.args.graph.now c.files-files.result.now c.files-files.ensures in omega arith)

@@ -1,44 +1,46 @@
-use Rattle.std.proofs.Common.{◌≡◌, ℕ, ◌+◌, Bool, true, Option, List, arith, drop, get_or, refl, subst, sym, ◌∙◌, Ok}
-use Rattle.std.specs.Prelude.{IsOk}
+use Rattle.std.proofs.Common.{◌≡◌, ℕ, ◌+◌, Bool, true, Option, List, arith, drop, get_or, subst, sym, ◌∙◌, Ok}
 use Rattle.dwz_alike.specs.Alike.{any_attr}
 use Rattle.dwz_docs.specs.Entries.{RawAttr}
 use Rattle.dwz_forms.specs.RawValues.{raw_view}
 use Rattle.dwz_meanings.specs.Documents.{attr_map, node_map}
 use Rattle.dwz_meanings.specs.Meanings.{attr_with, meaning}
 use Rattle.dwz_resolve.proofs.RowLemmas.{row_there}
-use Rattle.dwz_resolve.proofs.ValueSteps.{next_read, no_pair}
+use Rattle.dwz_resolve.proofs.ValueSteps.{no_pair}
 use Rattle.dwz_unit.specs.Rows.{units_of}
-use Rattle.dwz_unit.proofs.ReadsLemmas.{reads_count, reads_next}
 use Rattle.dwz_scan.specs.Marked.{MarksIf, expression_names, expression_pins}
-use Rattle.dwz_scan.proofs.MarkSteps.{MarkLeft, mark_all, mark_more, mark_none, mark_sibling}
+use Rattle.dwz_scan.proofs.MarkSteps.{MarkLeft, mark_all, mark_more, mark_sibling}
+use Rattle.dwz_scan.proofs.OtherValues.{mark_others, names_expressions, next_in_front, pins_expressions, value_in_front}
 use Rattle.dwz_scan.proofs.marks.mark_entry.Goals as goal
 use Rattle.dwz_scan.proofs.marks.mark_entry.Goals.{then-pair-ne-SIBLING+in_ok-rest, else-pair-ne-SIBLING}
 
 pub loop-pair-init : goal.loop-pair-init
 loop-pair-init c = record {
-  reads = c.values-cursor.ensures.read;
+  reads = λ row found. record {
+    pairs = c.values-cursor.result.pairs.now;
+    front_is = c.up_to_expressions-pair-items.ensures.front;
+    others = c.up_to_expressions-pair-items.ensures.behind;
+    reads = c.values-cursor.ensures.read row found;
+  };
   any = λ s numbers row d name m into. mark_all expression_names (units_of c.args.units.now) s name numbers c.args.i row d c.args.into.now c.args.named.now.by_any.items m into;
   uleb = λ s numbers row d name m into. mark_all expression_pins (units_of c.args.units.now) s name numbers c.args.i row d c.args.into.now c.args.named.now.by_uleb.items m into;
 }
 
 pub known_value-raw-requires : goal.known_value-raw-requires
 known_value-raw-requires c =
-    let pairs = c.values-cursor.result.pairs.now in
     let r = row_there (units_of c.args.units.now) c.args.i c.requires in
-    let x = reads_next r.0.entry.at pairs c.loop-pair.pair-index no_pair c.loop-pair.cursor r.0.entry.attrs c.loop-pair-test.true (c.loop-pair.invariant.reads r.0 r.1) in
-    subst IsOk (sym x.value) refl
+    value_in_front r.0.entry.at c.up_to_expressions-pair-items.result.now c.loop-pair.pair-index c.loop-pair.cursor r.0.entry.attrs (c.loop-pair.invariant.reads r.0 r.1) c.loop-pair-test.true
 
 pub loop-pair-preserved : goal.loop-pair-preserved
 loop-pair-preserved c =
     let raw = units_of c.args.units.now in
-    let pairs = c.values-cursor.result.pairs.now in
+    let front = c.up_to_expressions-pair-items.result.now in
     let j = c.loop-pair.pair-index in
     let value = raw_view c.known_value-raw.result in
-    let a : RawAttr = record { at = c.loop-pair.cursor.at; end = c.known_value-raw.new.cursor.at; pair = get_or pairs j no_pair; raw = value } in
+    let a : RawAttr = record { at = c.loop-pair.cursor.at; end = c.known_value-raw.new.cursor.at; pair = get_or front j no_pair; raw = value } in
     record {
-      reads = λ row found. (next_read row.entry.at pairs j no_pair c.loop-pair.cursor c.known_value-raw.new.cursor value row.entry.attrs c.loop-pair-test.true (c.loop-pair.invariant.reads row found) c.known_value-raw.ensures.value).rest;
+      reads = λ row found. (next_in_front row.entry.at front j c.loop-pair.cursor row.entry.attrs (c.loop-pair.invariant.reads row found) c.loop-pair-test.true c.known_value-raw.new.cursor value c.known_value-raw.ensures.value).rest;
       any = λ s numbers row d name m into. (
-          let is = (next_read row.entry.at pairs j no_pair c.loop-pair.cursor c.known_value-raw.new.cursor value row.entry.attrs c.loop-pair-test.true (c.loop-pair.invariant.reads row m.found) c.known_value-raw.ensures.value).is in
+          let is = (next_in_front row.entry.at front j c.loop-pair.cursor row.entry.attrs (c.loop-pair.invariant.reads row m.found) c.loop-pair-test.true c.known_value-raw.new.cursor value c.known_value-raw.ensures.value).is in
           let all : ℕ → Bool = λ n. any_attr (expression_names n) (node_map name d) in
           let old : List Bool = c.args.named.now.by_any.items in
           let now : List Bool = c.loop-pair.named.by_any.items in
@@ -57,7 +59,7 @@ loop-pair-preserved c =
                 (mark_sibling expression_names raw s name row.entry.attrs j a c.loop-pair.rest.now old now all is w.if-pair-ne-SIBLING.false h))
           ]);
       uleb = λ s numbers row d name m into. (
-          let is = (next_read row.entry.at pairs j no_pair c.loop-pair.cursor c.known_value-raw.new.cursor value row.entry.attrs c.loop-pair-test.true (c.loop-pair.invariant.reads row m.found) c.known_value-raw.ensures.value).is in
+          let is = (next_in_front row.entry.at front j c.loop-pair.cursor row.entry.attrs (c.loop-pair.invariant.reads row m.found) c.loop-pair-test.true c.known_value-raw.new.cursor value c.known_value-raw.ensures.value).is in
           let all : ℕ → Bool = λ n. any_attr (expression_pins n) (node_map name d) in
           let old : List Bool = c.args.named.now.by_uleb.items in
           let now : List Bool = c.loop-pair.named.by_uleb.items in
@@ -79,12 +81,16 @@ loop-pair-preserved c =
 
 pub returns-clause-any : goal.returns-clause-any
 returns-clause-any c = λ s numbers row d name m into. (
-    let pairs = c.values-cursor.result.pairs.now in
-    let count = reads_count row.entry.at pairs c.values-cursor.result.cursor row.entry.attrs (c.values-cursor.ensures.read row m.found) in
-    mark_none expression_names (units_of c.args.units.now) s name row.entry.attrs c.loop-pair.pair-index c.loop-pair.rest.now c.args.named.now.by_any.items c.loop-pair.named.by_any.items (λ n. any_attr (expression_names n) (node_map name d)) (omega (arith, count, c.loop-pair-test.false)) (c.loop-pair.invariant.any s numbers row d name m into))
+    let front = c.up_to_expressions-pair-items.result.now in
+    let all : ℕ → Bool = λ n. any_attr (expression_names n) (node_map name d) in
+    let h = c.loop-pair.invariant.any s numbers row d name m into in
+    mark_others row.entry.at front c.loop-pair.pair-index c.loop-pair.cursor row.entry.attrs (c.loop-pair.invariant.reads row m.found) expression_names names_expressions
+    (units_of c.args.units.now) s name c.loop-pair.rest.now c.args.named.now.by_any.items c.loop-pair.named.by_any.items all (omega (arith, c.loop-pair-test.false)) h)
 
 pub returns-clause-uleb : goal.returns-clause-uleb
 returns-clause-uleb c = λ s numbers row d name m into. (
-    let pairs = c.values-cursor.result.pairs.now in
-    let count = reads_count row.entry.at pairs c.values-cursor.result.cursor row.entry.attrs (c.values-cursor.ensures.read row m.found) in
-    mark_none expression_pins (units_of c.args.units.now) s name row.entry.attrs c.loop-pair.pair-index c.loop-pair.rest.now c.args.named.now.by_uleb.items c.loop-pair.named.by_uleb.items (λ n. any_attr (expression_pins n) (node_map name d)) (omega (arith, count, c.loop-pair-test.false)) (c.loop-pair.invariant.uleb s numbers row d name m into))
+    let front = c.up_to_expressions-pair-items.result.now in
+    let all : ℕ → Bool = λ n. any_attr (expression_pins n) (node_map name d) in
+    let h = c.loop-pair.invariant.uleb s numbers row d name m into in
+    mark_others row.entry.at front c.loop-pair.pair-index c.loop-pair.cursor row.entry.attrs (c.loop-pair.invariant.reads row m.found) expression_pins pins_expressions
+    (units_of c.args.units.now) s name c.loop-pair.rest.now c.args.named.now.by_uleb.items c.loop-pair.named.by_uleb.items all (omega (arith, c.loop-pair-test.false)) h)

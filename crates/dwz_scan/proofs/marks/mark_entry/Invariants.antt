@@ -5,15 +5,15 @@ use Rattle.dwz_flat.specs.Rows.{IsEntryMeant, node_refs}
 use Rattle.dwz_meanings.specs.Documents.{Node, node_map}
 use Rattle.dwz_meanings.specs.Meanings.{Scope}
 use Rattle.dwz_unit.specs.Rows.{EntryRow, rows_of, units_of}
-use Rattle.dwz_unit.specs.Values.{Reads}
 use Rattle.dwz_scan.specs.Bound.{AreInto}
 use Rattle.dwz_scan.specs.Marked.{expression_names, expression_pins}
 use Rattle.dwz_scan.proofs.MarkSteps.{MarkLeft}
+use Rattle.dwz_scan.proofs.OtherValues.{ReadsFront}
 use Rattle.dwz_scan.proofs.marks.mark_entry.Given as goal
 
 abbrev pub invariant-loop-pair : goal.invariant-loop-pair
 invariant-loop-pair l = record {
-  reads : (row : EntryRow) → slice_get (rows_of (units_of l.units)) l.i ≡ Some row → Reads row.entry.at (drop l.pair-index l.pairs) l.cursor (drop l.pair-index row.entry.attrs);
+  reads : (row : EntryRow) → slice_get (rows_of (units_of l.units)) l.i ≡ Some row → ReadsFront row.entry.at l.pair-items l.pair-index l.cursor row.entry.attrs;
   any : (s : Scope ℕ) (numbers : List ℕ) (row : EntryRow) (d : Node ℕ) (name : ℕ → Spot) → IsEntryMeant (units_of l.units) s l.i numbers row d → AreInto name l.into (node_refs d)
       → MarkLeft expression_names (units_of l.units) s name (drop l.pair-index row.entry.attrs) l.rest l.fn.named.by_any.items l.named.by_any.items (λ n. any_attr (expression_names n) (node_map name d));
   uleb : (s : Scope ℕ) (numbers : List ℕ) (row : EntryRow) (d : Node ℕ) (name : ℕ → Spot) → IsEntryMeant (units_of l.units) s l.i numbers row d → AreInto name l.into (node_refs d)

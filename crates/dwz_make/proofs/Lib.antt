@@ -59,3 +59,4 @@ pub mod SectionsMade
 pub mod FilesMade
 pub mod StepsFound
 pub mod WorksMade
+pub mod LanesDealt

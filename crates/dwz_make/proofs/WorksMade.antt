@@ -16,10 +16,9 @@ use Rattle.dwz_make.specs.Prepared.{IsRank}
 use Rattle.dwz_make.specs.declared.prepared.PreparedFiles.{PreparedFiles}
 use Rattle.dwz_make.specs.declared.prepared.ReadyRun.{ReadyRun}
 use Rattle.dwz_make.specs.Ready.{AreReady}
-use Rattle.dwz_after.specs.declared.new_file.NewFile.{NewFile}
 use Rattle.dwz_make.specs.declared.work.Work.{Work}
-use Rattle.dwz_make.specs.Works.{AreNewFiles, IsWork, WorksOf}
-use Rattle.dwz_make.proofs.FilesMade.{EachIs, numbers_long}
+use Rattle.dwz_make.specs.Works.{IsWork, WorksOf}
+use Rattle.dwz_make.proofs.FilesMade.{numbers_long}
 
 -- what is ready, of few files
 pub works_of : (contents : List (List ℕ)) (prunes : List Bool) (all : ReadyRun) (r : AreReady contents prunes all)
@@ -88,9 +87,5 @@ module _ (f : Facts) (w : Work) (is : IsWork f w) (ranks : List (Option ℕ)) (s
       ∙ ap (λ (r : Option ℕ). Some r) (sym at) in
       is.works.ready.ranks.each n rank there
 
-  pub all_new : (n : ℕ) (made : List (Option NewFile)) → n ≡ length ranks → length made ≡ n → EachIs (run f) 0 made
-      → AreNewFiles (run f) made
-  all_new n made end many each = record {
-    many = many ∙ end ∙ ap (λ (rs : List (Option ℕ)). length rs) same ∙ is.works.ready.ranks.many ∙ sym (numbers_long 0 (docs f));
-    each = each;
-  }
+  pub ranks_long : length ranks ≡ length (run f).files
+  ranks_long = ap (λ (rs : List (Option ℕ)). length rs) same ∙ is.works.ready.ranks.many ∙ sym (numbers_long 0 (docs f))

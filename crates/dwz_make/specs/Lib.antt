@@ -12,3 +12,4 @@ pub mod SettledRun
 pub mod Common
 pub mod Ready
 pub mod Works
+pub mod Lanes

@@ -28,7 +28,7 @@ EachText P f k o n =
 abbrev pub PoolsUnit : Facts → Known → UnitItems → Type 0
 PoolsUnit f k o = (n : ℕ) → EachText IsPooled f k o n
 
--- none is
+-- the text isn't one that the common file holds
 abbrev pub IsNotPooled : TextAt → Type 0
 IsNotPooled t = IsPooled t → ⊥
 

@@ -11,6 +11,7 @@ mod common_sections;
 mod counts;
 #[cfg(test)]
 mod counts_tests;
+mod lanes;
 mod laws;
 mod listed;
 mod made;

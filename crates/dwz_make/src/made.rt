@@ -1,6 +1,6 @@
 //! What is new in all files, and the common file.
 
-ghost use Rattle.std.specs.Prelude.{◌≡◌, ◌<◌, ◌≤◌, ◌^◌, None, length, map, slice_index_or, IfOk};
+ghost use Rattle.std.specs.Prelude.{◌≡◌, ◌<◌, ◌≤◌, ◌^◌, length, map, IfOk};
 ghost use Rattle.dwz_after.specs.NewFiles.{AreNew, IsNewCommon};
 ghost use Rattle.dwz_back.specs.Back.{run_of};
 ghost use Rattle.dwz_laid.specs.Facts.{Facts, run};
@@ -8,11 +8,11 @@ ghost use Rattle.dwz_graph.specs.Files.{docs_of};
 ghost use Rattle.dwz_out.specs.Out.{ArePrunable, stored_of};
 ghost use Rattle.dwz_planned.specs.Rules.{rule_by};
 ghost use Rattle.dwz_make.specs.Common.{HasTexts};
-ghost use Rattle.dwz_make.specs.Works.{AreNewFiles, IsWork, WorksOf};
+ghost use Rattle.dwz_make.specs.Works.{AreNewFiles, WorksOf};
 
 use crate::common::CommonTexts;
 use crate::common_sections::new_common;
-use crate::sections::new_or_old;
+use crate::lanes::new_files;
 use crate::work::Work;
 use crate::{PreparedFiles, prepare_files};
 use dwz_after::NewFile;
@@ -36,33 +36,6 @@ pub struct Made {
     pub partials: u32,
 }
 
-// The rank of the file with a number, if it is written.
-#[inline(always)]
-fn rank_at(ranks: &[Option<u32>], number: usize) -> Option<u32>
-    ensures { result ≡ slice_index_or ranks.now number None }
-{
-    match ranks.get(number) {
-        Some(rank) => *rank,
-        None => None,
-    }
-}
-
-// What is new in each file.
-fn new_files(alloc: Global, work: &Work) -> Result<Vec<Option<NewFile>>, NoMemory>
-    requires { (f : Facts) × IsWork f work.now }
-    ensures { (f : Facts) → IsWork f work.now → IfOk result (λ made. AreNewFiles (run f) made.items) }
-{
-    let ranks = work.prepared.ordered.ranks.as_slice();
-    let count = ranks.len();
-    let mut made = Vec::with_capacity(alloc, count)?;
-    for number in 0..count {
-        let rank = rank_at(ranks, number);
-        let new = new_or_old(alloc, work, number, rank)?;
-        made.push(new)?;
-    }
-    Ok(made)
-}
-
 // What is laid of files: the sections of the common file, if there is one, and what is new in each file.
 #[derive(Drop)]
 struct Laid {
@@ -70,13 +43,16 @@ struct Laid {
     files: Vec<Option<NewFile>>,
 }
 
-// Lays prepared files, and makes what is new.
-fn lay_files(
+// Lays prepared files, and makes what is new, by at most so many threads.
+fn lay_files<R: Threads + Sync>(
+    rt: &R,
     alloc: Global,
     prepared: &PreparedFiles,
     texts: Option<CommonTexts>,
+    workers: u32,
 ) -> Result<Laid, NoMemory>
-    requires { (f : Facts) × WorksOf f prepared.now × HasTexts (run f) texts }
+    requires works { (f : Facts) × WorksOf f prepared.now × HasTexts (run f) texts }
+    requires workers { (0 < workers) × (workers ≤ 64) }
     ensures common { (f : Facts) → WorksOf f prepared.now → HasTexts (run f) texts → IfOk result (λ laid. IsNewCommon (run f) laid.common) }
     ensures files { (f : Facts) → WorksOf f prepared.now → IfOk result (λ laid. AreNewFiles (run f) laid.files.items) }
 {
@@ -91,7 +67,7 @@ fn lay_files(
         tops: tops.as_slice(),
     };
     let common = new_common(alloc, &work, texts)?;
-    let files = new_files(alloc, &work)?;
+    let files = new_files(rt, alloc, &work, workers)?;
     Ok(Laid { common, files })
 }
 
@@ -123,7 +99,7 @@ pub fn make_files<R: Threads + Sync, G: Gate>(
 {
     let ready = prepare_files(rt, alloc, contents, graph, prunes, scope, workers, gate)?;
     let prepared = ready.files;
-    let laid = lay_files(alloc, &prepared, ready.common)?;
+    let laid = lay_files(rt, alloc, &prepared, ready.common, workers)?;
     let partials = prepared.run.settled.planned.plan.partials().len() as u32;
     Ok(Made {
         common: laid.common,

@@ -5,10 +5,10 @@ use Rattle.dwz_make.proofs.FilesMade.{are_new, is_new_common}
 use Rattle.dwz_make.proofs.WorksMade.{parts_few, works_of}
 use Rattle.dwz_make.proofs.made.make_files.Goals as goal
 
-pub lay_files-requires : goal.lay_files-requires
-lay_files-requires g c =
+pub lay_files-requires-clause-works : goal.lay_files-requires-clause-works
+lay_files-requires-clause-works g c = λ lifetimes lives. (
     let r = c.in_ok-ready.ensures.ready in
-    (r.facts, works_of c.args.graph.now c.args.prunes.now c.in_ok-ready.ready r c.requires.few, r.texts)
+    (r.facts, works_of c.args.graph.now c.args.prunes.now c.in_ok-ready.ready r c.requires.few, r.texts))
 
 pub overflow_cast-partials : goal.overflow_cast-partials
 overflow_cast-partials g c =

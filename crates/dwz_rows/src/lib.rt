@@ -54,6 +54,8 @@ mod unit_faults;
 #[cfg(test)]
 mod value_faults;
 #[cfg(test)]
+mod value_faults_more;
+#[cfg(test)]
 mod words;
 #[cfg(test)]
 mod workers;

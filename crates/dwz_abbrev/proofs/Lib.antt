@@ -1,3 +1,5 @@
+pub mod AppendLemmas
+pub mod BehindLemmas
 pub mod PlaceLemmas
-pub mod ShapeLemmas
+pub mod StartLemmas
 pub mod WriteLemmas

@@ -8,16 +8,12 @@ use Rattle.std.proofs.lemmas.Bool.{cases_eq, eq-eqb, ne_eqb}
 use Rattle.std.proofs.lemmas.List.{map_push}
 use Rattle.dwz_docs.proofs.CodeLemmas.{last_found}
 use Rattle.dwz_docs.specs.Abbrevs.{Declaration, find_decl}
+use Rattle.dwz_docs.proofs.ListFacts.{get_last}
 use Rattle.dwz_abbrev.specs.declared.decl.Decl.{Decl}
 use Rattle.dwz_abbrev.specs.Places.{IsIndexed, Stores, decl_in, or_else, stored_decl}
 use Rattle.dwz_abbrev.specs.Views.{decl_view, views}
 
--- the place of what is appended, and the other places
-slice_get_new : {X : Type 0} (xs : List X) (x : X) → slice_get (xs ++ x ∷ []) (length xs) ≡ Some x
-slice_get_new [] x = refl
-slice_get_new (y ∷ xs) x = slice_get_new xs x
-
-slice_get_old : {X : Type 0} (xs : List X) (x : X) (i : ℕ) → (i ≡ length xs → ⊥) → slice_get (xs ++ x ∷ []) i ≡ slice_get xs i
+pub slice_get_old : {X : Type 0} (xs : List X) (x : X) (i : ℕ) → (i ≡ length xs → ⊥) → slice_get (xs ++ x ∷ []) i ≡ slice_get xs i
 slice_get_old [] x zero ne = absurd (ne refl)
 slice_get_old [] x (suc i) ne = refl
 slice_get_old (y ∷ xs) x zero ne = refl
@@ -33,7 +29,7 @@ find_old [] d code ne = let other : eqb d.code code ≡ false = ne_eqb d.code co
 find_old (e ∷ table) d code ne = ap (cond (eqb e.code code) (Some e)) (find_old table d code ne)
 
 -- a declaration with another code isn't chosen
-not_it : (o : Option Decl) (d : Decl) (code : ℕ) (other : Option Decl) → o ≡ Some d → (d.code ≡ code → ⊥) → or_else o code other ≡ other
+pub not_it : (o : Option Decl) (d : Decl) (code : ℕ) (other : Option Decl) → o ≡ Some d → (d.code ≡ code → ⊥) → or_else o code other ≡ other
 not_it o d code other is ne = let no : eqb d.code code ≡ false = ne_eqb d.code code ne in ap (λ (p : Option Decl). or_else p code other) is ∙ ap (λ (b : Bool). cond b (Some d) other) no
 
 it_is : (o : Option Decl) (d : Decl) (other : Option Decl) → o ≡ Some d → or_else o d.code other ≡ Some d
@@ -43,13 +39,14 @@ it_is o d other is = let yes : eqb d.code d.code ≡ true = eq-eqb d.code d.code
 same_at : (rows : List Decl) (d : Decl) (code i : ℕ) (other : Option Decl) → (d.code ≡ code → ⊥) → or_else (slice_get (rows ++ d ∷ []) i) code other ≡ or_else (slice_get rows i) code other
 same_at rows d code i other ne = elim (cases_eq i (length rows)) [
   | inl here ↦
-      let new : slice_get (rows ++ d ∷ []) i ≡ Some d = ap (slice_get (rows ++ d ∷ [])) here ∙ slice_get_new rows d in
+      let new : slice_get (rows ++ d ∷ []) i ≡ Some d = ap (slice_get (rows ++ d ∷ [])) here ∙ get_last rows d in
       let old : slice_get rows i ≡ None = ap (slice_get rows) here ∙ slice_get_end rows in
       not_it (slice_get (rows ++ d ∷ []) i) d code other new ne ∙ sym (ap (λ (p : Option Decl). or_else p code other) old)
   | inr there ↦ ap (λ (p : Option Decl). or_else p code other) (slice_get_old rows d i there)
 ]
 
-same_stored : (rows : List Decl) (d : Decl) (code : ℕ) (place : Option ℕ) → (d.code ≡ code → ⊥) → or_else (option_and_then (slice_get (rows ++ d ∷ [])) place) code None ≡ or_else (option_and_then (slice_get rows) place) code None
+same_stored : (rows : List Decl) (d : Decl) (code : ℕ) (place : Option ℕ) → (d.code ≡ code → ⊥) → or_else (option_and_then (slice_get (rows ++ d ∷ [])) place) code None
+    ≡ or_else (option_and_then (slice_get rows) place) code None
 same_stored rows d code None ne = refl
 same_stored rows d code (Some i) ne = same_at rows d code i None ne
 
@@ -58,7 +55,7 @@ none_view None is = refl
 none_view (Some e) is = absurd cc
 
 -- where nothing was found, the first place didn't lead to it
-none_else : (o other : Option Decl) (code : ℕ) → or_else o code other ≡ None → (p : Option Decl) → or_else o code p ≡ p
+pub none_else : (o other : Option Decl) (code : ℕ) → or_else o code other ≡ None → (p : Option Decl) → or_else o code p ≡ p
 none_else None other code is p = refl
 none_else (Some e) other code is p = go (eqb e.code code) is where
   go : (test : Bool) → cond test (Some e) other ≡ None → cond test (Some e) p ≡ p
@@ -87,15 +84,17 @@ module _ (rows : List Decl) (old new : BTreeMap ℕ ℕ) (d : Decl) (index : IsI
     found : decl_in (rows ++ d ∷ []) new d.code ≡ Some d
     found = elim stores.here [
       | inl stored ↦
-          let at : stored_decl (rows ++ d ∷ []) new d.code ≡ Some d = it_is (option_and_then (slice_get (rows ++ d ∷ [])) (get nat_cmp new d.code)) d None (ap (option_and_then (slice_get (rows ++ d ∷ []))) stored ∙ slice_get_new rows d) in
+          let at : stored_decl (rows ++ d ∷ []) new d.code ≡ Some d = it_is (option_and_then (slice_get (rows ++ d ∷ [])) (get nat_cmp new d.code)) d None
+          (ap (option_and_then (slice_get (rows ++ d ∷ []))) stored ∙ get_last rows d) in
           elim (cases_eq (d.code - 1) (length rows)) [
-            | inl here ↦ it_is (slice_get (rows ++ d ∷ []) (d.code - 1)) d (stored_decl (rows ++ d ∷ []) new d.code) (ap (slice_get (rows ++ d ∷ [])) here ∙ slice_get_new rows d)
+            | inl here ↦ it_is (slice_get (rows ++ d ∷ []) (d.code - 1)) d (stored_decl (rows ++ d ∷ []) new d.code) (ap (slice_get (rows ++ d ∷ [])) here ∙ get_last rows d)
             | inr there ↦
                 ap (λ (p : Option Decl). or_else p d.code (stored_decl (rows ++ d ∷ []) new d.code)) (slice_get_old rows d (d.code - 1) there)
                 ∙ none_else (slice_get rows (d.code - 1)) (stored_decl rows old d.code) d.code not_yet (stored_decl (rows ++ d ∷ []) new d.code)
                 ∙ at
           ]
-      | inr next ↦ it_is (slice_get (rows ++ d ∷ []) (d.code - 1)) d (stored_decl (rows ++ d ∷ []) new d.code) (ap (slice_get (rows ++ d ∷ [])) (let next_to = next.0 in let place : d.code - 1 ≡ length rows = omega arith in place) ∙ slice_get_new rows d)
+      | inr next ↦ it_is (slice_get (rows ++ d ∷ []) (d.code - 1)) d (stored_decl (rows ++ d ∷ []) new d.code)
+          (ap (slice_get (rows ++ d ∷ [])) (let next_to = next.0 in let place : d.code - 1 ≡ length rows = omega arith in place) ∙ get_last rows d)
     ]
 
     here : option_map decl_view (decl_in (rows ++ d ∷ []) new d.code) ≡ find_decl (views (rows ++ d ∷ [])) d.code

@@ -1,5 +1,6 @@
 -- What is written of pairs and declarations, one by one.
-use Rattle.std.proofs.Common.{◌≡◌, ◌≢◌, ℕ, zero, suc, ◌+◌, ◌-◌, ◌<◌, ◌≤◌, Result, Ok, Err, List, [], ◌∷◌, ◌++◌, length, take, drop, get_or, refl, sym, ap, subst, ◌∙◌, Bool, true, false, ltb, cond, arith, append_assoc}
+use Rattle.std.proofs.Common.{◌≡◌, ◌≢◌, ℕ, zero, suc, ◌+◌, ◌-◌, ◌<◌, ◌≤◌, Result, Ok, Err, List, [], ◌∷◌, ◌++◌, length, take, drop, get_or, refl, sym, ap, subst, ◌∙◌, Bool, true, false, ltb, cond}
+use Rattle.std.proofs.Common.{arith, append_assoc}
 use Rattle.std.specs.Prelude.{All, AllPairs, OnOk, is_ok}
 use Rattle.std.specs.Borrow.{Bor}
 use Rattle.std.specs.BTreeMap.{insert_entry}
@@ -45,7 +46,8 @@ pub pairs_all : (pairs : List Pair) (i : ℕ) → length pairs ≤ i → pairs_b
 unfolding pairs_bytes
 pairs_all pairs i le = at_drop_all pairs_bytes pairs i le
 
-pub table_more : (decls : List Decl) (i : ℕ) (d : Decl) → i < length decls → table_bytes (views (drop i decls)) ≡ declaration_bytes (decl_view (get_or decls i d)) ++ table_bytes (views (drop (i + 1) decls))
+pub table_more : (decls : List Decl) (i : ℕ) (d : Decl) → i < length decls → table_bytes (views (drop i decls)) ≡ declaration_bytes (decl_view (get_or decls i d))
+    ++ table_bytes (views (drop (i + 1) decls))
 unfolding table_bytes
 table_more decls i d lt = at_drop_more (λ (ds : List Decl). table_bytes (views ds)) decls i d lt
 
@@ -85,29 +87,35 @@ abbrev Other : Decl → Declaration → Type 0
 Other d e = e.code ≢ d.code
 
 -- a declaration among those of a map
-pub insert_lent : (es : Entries) (d : Bor Decl) → All Own es → All (Other d.now) (lent_views (values_of es)) → lent_views (values_of (insert_entry nat_cmp es d.now.code d)) ≡ insert_decl (decl_view d.now) (lent_views (values_of es))
+pub insert_lent : (es : Entries) (d : Bor Decl) → All Own es → All (Other d.now) (lent_views (values_of es)) → lent_views (values_of (insert_entry nat_cmp es d.now.code d))
+    ≡ insert_decl (decl_view d.now) (lent_views (values_of es))
 insert_lent [] d keys others = refl
-insert_lent (e ∷ es) d keys others = go (insert_lent es d (All-tail Own e es keys) (All-tail (Other d.now) (decl_view e.1.now) rest others)) (nat_cmp d.now.code e.0) (ranked d.now.code e.0 (nat_cmp d.now.code e.0) refl) where
-  rest : List Declaration
-  rest = lent_views (values_of es)
+insert_lent (e ∷ es) d keys others = go (insert_lent es d (All-tail Own e es keys) (All-tail (Other d.now) (decl_view e.1.now) rest others)) (nat_cmp d.now.code e.0)
+    (ranked d.now.code e.0 (nat_cmp d.now.code e.0) refl) where
+      rest : List Declaration
+      rest = lent_views (values_of es)
 
-  key : e.0 ≡ e.1.now.code
-  key = All-head Own e es keys
+      key : e.0 ≡ e.1.now.code
+      key = All-head Own e es keys
 
-  chosen : (test : Bool) → ltb e.1.now.code d.now.code ≡ test → insert_decl (decl_view d.now) (decl_view e.1.now ∷ lent_views (values_of es)) ≡ cond test (decl_view e.1.now ∷ insert_decl (decl_view d.now) (lent_views (values_of es))) (decl_view d.now ∷ decl_view e.1.now ∷ lent_views (values_of es))
-  chosen test is = ap (λ (b : Bool). cond b (decl_view e.1.now ∷ insert_decl (decl_view d.now) (lent_views (values_of es))) (decl_view d.now ∷ decl_view e.1.now ∷ lent_views (values_of es))) is
+      chosen : (test : Bool) → ltb e.1.now.code d.now.code ≡ test → insert_decl (decl_view d.now) (decl_view e.1.now ∷ lent_views (values_of es))
+          ≡ cond test (decl_view e.1.now ∷ insert_decl (decl_view d.now) (lent_views (values_of es))) (decl_view d.now ∷ decl_view e.1.now ∷ lent_views (values_of es))
+      chosen test is = ap (λ (b : Bool). cond b (decl_view e.1.now ∷ insert_decl (decl_view d.now) (lent_views (values_of es))) (decl_view d.now ∷ decl_view e.1.now ∷ lent_views (values_of es))) is
 
-  go : lent_views (values_of (insert_entry nat_cmp es d.now.code d)) ≡ insert_decl (decl_view d.now) (lent_views (values_of es)) → (r : Ordering) → MatchOrdering r (d.now.code < e.0) (d.now.code ≡ e.0) (e.0 < d.now.code)
-      → lent_views (values_of (match_ordering r ((d.now.code, d) ∷ e ∷ es) ((e.0, d) ∷ es) (e ∷ insert_entry nat_cmp es d.now.code d))) ≡ insert_decl (decl_view d.now) (lent_views (values_of (e ∷ es)))
-  go below Less is = sym (chosen false (le-ltb e.1.now.code d.now.code (let k = key in omega arith)))
-  go below Equal is = absurd (All-head (Other d.now) (decl_view e.1.now) (lent_views (values_of es)) others (sym key ∙ sym is))
-  go below Greater is = ap (λ (t : List Declaration). decl_view e.1.now ∷ t) below ∙ sym (chosen true (lt-ltb e.1.now.code d.now.code (let k = key in omega arith)))
+      go : lent_views (values_of (insert_entry nat_cmp es d.now.code d)) ≡ insert_decl (decl_view d.now) (lent_views (values_of es)) → (r : Ordering)
+          → MatchOrdering r (d.now.code < e.0) (d.now.code ≡ e.0) (e.0 < d.now.code)
+          → lent_views (values_of (match_ordering r ((d.now.code, d) ∷ e ∷ es) ((e.0, d) ∷ es) (e ∷ insert_entry nat_cmp es d.now.code d)))
+          ≡ insert_decl (decl_view d.now) (lent_views (values_of (e ∷ es)))
+      go below Less is = sym (chosen false (le-ltb e.1.now.code d.now.code (let k = key in omega arith)))
+      go below Equal is = absurd (All-head (Other d.now) (decl_view e.1.now) (lent_views (values_of es)) others (sym key ∙ sym is))
+      go below Greater is = ap (λ (t : List Declaration). decl_view e.1.now ∷ t) below ∙ sym (chosen true (lt-ltb e.1.now.code d.now.code (let k = key in omega arith)))
 
 -- each entry stands under its own code
 pub own_keys : (es : Entries) (d : Bor Decl) → All Own es → All Own (insert_entry nat_cmp es d.now.code d)
 own_keys [] d keys = All-cons Own (d.now.code, d) [] refl keys
 own_keys (e ∷ es) d keys = go (own_keys es d (All-tail Own e es keys)) (nat_cmp d.now.code e.0) (ranked d.now.code e.0 (nat_cmp d.now.code e.0) refl) where
-  go : All Own (insert_entry nat_cmp es d.now.code d) → (r : Ordering) → MatchOrdering r (d.now.code < e.0) (d.now.code ≡ e.0) (e.0 < d.now.code) → All Own (match_ordering r ((d.now.code, d) ∷ e ∷ es) ((e.0, d) ∷ es) (e ∷ insert_entry nat_cmp es d.now.code d))
+  go : All Own (insert_entry nat_cmp es d.now.code d) → (r : Ordering) → MatchOrdering r (d.now.code < e.0) (d.now.code ≡ e.0) (e.0 < d.now.code)
+      → All Own (match_ordering r ((d.now.code, d) ∷ e ∷ es) ((e.0, d) ∷ es) (e ∷ insert_entry nat_cmp es d.now.code d))
   go below Less is = All-cons Own (d.now.code, d) (e ∷ es) refl keys
   go below Equal is = All-cons Own (e.0, d) es (sym is) (All-tail Own e es keys)
   go below Greater is = All-cons Own e (insert_entry nat_cmp es d.now.code d) (All-head Own e es keys) below
@@ -127,7 +135,8 @@ sorted_none decls es none = (
 
 -- one declaration more, in front of those that are sorted
 pub sorted_more : (decls : List Decl) (place : ℕ) (es new : Entries) (d : Bor Decl) → AllPairs Differ (views decls) → 0 < place → place ≤ length decls → d.now ≡ get_or decls (place - 1) d.now
-    → lent_views (values_of es) ≡ by_code (views (drop place decls)) → All Own es → new ≡ insert_entry nat_cmp es d.now.code d → (lent_views (values_of new) ≡ by_code (views (drop (place - 1) decls))) × All Own new
+    → lent_views (values_of es) ≡ by_code (views (drop place decls)) → All Own es → new ≡ insert_entry nat_cmp es d.now.code d → (lent_views (values_of new) ≡ by_code (views (drop (place - 1) decls)))
+    × All Own new
 unfolding by_code
 sorted_more decls place es new d different some within item sorted keys is =
     let rest = views (drop place decls) in

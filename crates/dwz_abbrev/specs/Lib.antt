@@ -1,5 +1,5 @@
 pub mod Views
 pub mod Places
-pub mod Hash
-pub mod Shapes
+pub mod Ranges
+pub mod Starts
 pub mod Written

@@ -1,5 +1,5 @@
 -- Where the declarations of a table stand in memory.
-use Rattle.std.specs.Prelude.{◌≡◌, ◌≢◌, ◌⊎◌, ℕ, ◌+◌, ◌-◌, List, Option, Some, None, if◌then◌else◌, ◌==◌, slice_get}
+use Rattle.std.specs.Prelude.{◌≡◌, ◌≢◌, ◌⊎◌, ℕ, ◌+◌, ◌-◌, List, Option, Some, None, if◌then◌else◌, ◌==◌, nat_lt, slice_get}
 use Rattle.std.specs.Option.{option_and_then, option_map}
 use Rattle.std.specs.Ordering.{nat_cmp}
 use Rattle.std.specs.BTreeMap.{BTreeMap, get}
@@ -15,6 +15,15 @@ or_else (Some d) code other = if d.code == code then Some d else other
 -- the declaration with a code at the place that is stored for it
 abbrev pub stored_decl : List Decl → BTreeMap ℕ ℕ → ℕ → Option Decl
 stored_decl rows places code = or_else (option_and_then (slice_get rows) (get nat_cmp places code)) code None
+
+-- a place, unless it is one of the first so many
+abbrev pub place_behind : ℕ → ℕ → Option ℕ
+place_behind skip place = if nat_lt place skip then None else Some place
+
+-- the same, of those behind the first so many
+abbrev pub stored_decl_behind : List Decl → BTreeMap ℕ ℕ → ℕ → ℕ → Option Decl
+stored_decl_behind rows places skip code =
+    or_else (option_and_then (slice_get rows) (option_and_then (place_behind skip) (get nat_cmp places code))) code None
 
 -- the declaration with a code at its place, which is the code less 1, or at the place that is stored for it
 abbrev pub decl_in : List Decl → BTreeMap ℕ ℕ → ℕ → Option Decl

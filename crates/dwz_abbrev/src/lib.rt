@@ -4,12 +4,8 @@
 mod decl;
 mod reading;
 mod rows;
-mod shape;
 mod table;
 mod writing;
 
 pub use decl::Decl;
-pub use table::Table;
-
-#[cfg(test)]
-mod tests;
+pub use table::{ReadTable, Table};

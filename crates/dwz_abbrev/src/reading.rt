@@ -1,15 +1,16 @@
 //! Tables that are read.
 
-ghost use Rattle.std.specs.Prelude.{◌≡◌, []};
+ghost use Rattle.std.specs.Prelude.{◌≡◌, [], IfOk};
 ghost use Rattle.std.specs.Option.{option_map};
 ghost use Rattle.dwz_docs.specs.Abbrevs.{constant_at, declaration_at, pair_at, pairs_at, table_at};
 ghost use Rattle.dwz_docs.specs.Faults.{Answers, AnswersAt, bad_abbrev};
 ghost use Rattle.dwz_model.specs.declared.fault.ReadErr.TheVariants.{Refused};
+ghost use Rattle.dwz_abbrev.specs.Starts.{AreStarts};
 ghost use Rattle.dwz_abbrev.specs.Views.{decl_view};
 
 use crate::decl::{Decl, IMPLICIT_CONST};
 use crate::rows::Rows;
-use crate::table::Table;
+use crate::table::{ReadTable, Table};
 use dwz_bytes::Cursor;
 use dwz_model::{Fault, Pair, Pairs, ReadErr, Reason};
 use std::alloc::Global;
@@ -100,29 +101,52 @@ fn declaration(alloc: Global, earlier: &Rows, cursor: &mut Cursor) -> Result<Opt
     }))
 }
 
+// Declarations that were read, and where each begins.
+struct ReadRows {
+    rows: Rows,
+    starts: Vec<usize>,
+}
+
 // The declarations of the table at a place.
-fn rows(alloc: Global, section: &[u8], at: usize) -> Result<Rows, ReadErr>
-    ensures { Answers (λ t. t) result (table_at section.now at) }
+fn rows(alloc: Global, section: &[u8], at: usize) -> Result<ReadRows, ReadErr>
+    ensures rows { Answers (λ r. r.rows) result (table_at section.now at) }
+    ensures starts { IfOk result (λ r. AreStarts section.now r.rows r.starts.items) }
 {
     if at > section.len() {
         return Err(bad(at));
     }
     let mut rows = Rows::new(alloc);
+    let mut starts = Vec::new(alloc);
     let mut cursor = Cursor::new(section, at);
+    let mut start = at;
     while let Some(decl) = declaration(alloc, &rows, &mut cursor)? {
         rows.push(decl)?;
+        starts.push(start)?;
+        start = cursor.at();
     }
-    Ok(rows)
+    Ok(ReadRows { rows, starts })
 }
 
 impl Table {
-    /// Reads the table at an offset of `.debug_abbrev`, in bytes from the section's first (DWARF 5, 7.5.3). Refused as
-    /// `BadAbbrev` exactly where no table is spelled there: at the first declaration that isn't spelled, or whose code one
-    /// before it has, or at the offset where that is past the end of the section.
+    /// Reads the table at an offset of `.debug_abbrev`, in bytes from the section's first (DWARF 5, 7.5.3), and says where each of
+    /// its declarations begins: a table at one of those offsets is the end of this one. Refused as `BadAbbrev` exactly where no
+    /// table is spelled there: at the first declaration that isn't spelled, or whose code one before it has, or at the offset
+    /// where that is past the end of the section.
+    pub fn read_with_starts(alloc: Global, section: &[u8], at: u32) -> Result<ReadTable, ReadErr>
+        ensures table { Answers (λ r. r.table) result (table_at section.now at) }
+        ensures starts { IfOk result (λ r. AreStarts section.now r.table r.starts.items) }
+    {
+        let ReadRows { rows, starts } = rows(alloc, section, at as usize)?;
+        Ok(ReadTable {
+            table: Table { rows },
+            starts,
+        })
+    }
+
+    /// The same without the places.
     pub fn read(alloc: Global, section: &[u8], at: u32) -> Result<Table, ReadErr>
         ensures { Answers (λ t. t) result (table_at section.now at) }
     {
-        let rows = rows(alloc, section, at as usize)?;
-        Ok(Table { rows, firsts: None })
+        Ok(Table::read_with_starts(alloc, section, at)?.table)
     }
 }

@@ -1,11 +1,12 @@
 //! The declarations of a table, in memory, and where each code leads.
 
-ghost use Rattle.std.specs.Prelude.{◌≡◌, ◌<◌, ◌^◌, ◌++◌, ◌∷◌, [], None, OnErr, OnOk, length};
+ghost use Rattle.std.specs.Prelude.{◌≡◌, ◌<◌, ◌^◌, ◌++◌, ◌∷◌, [], None, AllPairs, OnErr, OnOk, drop, length};
 ghost use Rattle.std.specs.BTreeMap.{IsUnchanged};
 ghost use Rattle.std.specs.Option.{option_copied, option_map};
 ghost use Rattle.dwz_docs.specs.Abbrevs.{find_decl};
 ghost use Rattle.dwz_abbrev.specs.Views.{decl_view, views};
-ghost use Rattle.dwz_abbrev.specs.Places.{Stores, or_else, stored_decl};
+ghost use Rattle.dwz_abbrev.specs.Places.{Stores, or_else, stored_decl, stored_decl_behind};
+ghost use Rattle.dwz_abbrev.specs.Written.{Differ};
 
 use crate::decl::Decl;
 use dwz_model::NoMemory;
@@ -55,6 +56,23 @@ fn stored<'a>(decls: &'a [Decl], places: &BTreeMap<u64, usize>, code: u64) -> Op
     having(decls.get(place), code)
 }
 
+// The same, of those behind the first so many.
+#[inline(never)]
+fn stored_behind<'a>(
+    decls: &'a [Decl],
+    places: &BTreeMap<u64, usize>,
+    skip: usize,
+    code: u64,
+) -> Option<&'a Decl>
+    ensures { option_copied result ≡ stored_decl_behind decls.now places.now skip code }
+{
+    let place = *places.get(&code)?;
+    if place < skip {
+        return None;
+    }
+    having(decls.get(place), code)
+}
+
 // Stores the place of a declaration with a code, unless it follows from the code.
 fn store(places: &mut BTreeMap<u64, usize>, code: u64, place: usize) -> Result<(), NoMemory>
     requires { place < 2 ^ 63 }
@@ -90,6 +108,22 @@ impl Rows {
             }
         }
         stored(decls, &self.places, code)
+    }
+
+    // The declaration with a code, if one has it of those behind the first so many.
+    #[inline(always)]
+    pub(crate) fn decl_behind(&self, skip: usize, code: u64) -> Option<&Decl>
+        requires { AllPairs Differ self.now }
+        ensures { option_map decl_view (option_copied result) ≡ find_decl (drop skip self.now) code }
+    {
+        let decls = self.decls.as_slice();
+        let place = code.saturating_sub(1) as usize;
+        if let Some(decl) = decls.get(place) {
+            if decl.code == code {
+                return if place < skip { None } else { Some(decl) };
+            }
+        }
+        stored_behind(decls, &self.places, skip, code)
     }
 
     // Appends a declaration with a code of its own.

@@ -1,25 +1,28 @@
 //! Tables that are looked up and made.
 
-ghost use Rattle.std.specs.Prelude.{◌≡◌, ◌==◌, ◌<◌, ◌^◌, [], All, IfOk, OnErr, OnOk, length};
+ghost use Rattle.std.specs.Prelude.{◌≡◌, ◌==◌, ◌<◌, ◌^◌, ◌+◌, ◌++◌, ◌∷◌, [], All, IfOk, OnErr, OnOk, drop, length};
 ghost use Rattle.std.specs.Option.{option_copied, option_map};
-ghost use Rattle.dwz_docs.specs.Abbrevs.{IsCounted, IsPlainPair, added, code_in, find_decl};
-ghost use Rattle.dwz_abbrev.specs.Shapes.{HasPlace, Notes};
+ghost use Rattle.dwz_docs.specs.Abbrevs.{IsCounted, IsPlainPair, find_decl, with_code};
+ghost use Rattle.dwz_abbrev.specs.Ranges.{IsInRange};
 ghost use Rattle.dwz_abbrev.specs.Views.{decl_view};
 
 use crate::decl::Decl;
 use crate::rows::Rows;
-use crate::shape::{Shape, first_code_of, hash_of, least_code_of};
-use dwz_model::{NoMemory, Pairs};
+use dwz_model::{NoMemory, Pair, Pairs};
 use std::alloc::Global;
-use std::collections::BTreeMap;
 use std::marker::Model;
 
 /// An abbreviation table. Clauses see the declarations, in the order in which they stand.
 #[derive(Drop)]
 pub struct Table {
     pub(crate) rows: Rows,
-    // For the hash of a shape the place of the first declaration with that hash. None where the table was read.
-    pub(crate) firsts: Option<BTreeMap<u64, usize>>,
+}
+
+/// A table that was read, and where each of its declarations begins, in bytes from the section's first.
+#[derive(Drop)]
+pub struct ReadTable {
+    pub table: Table,
+    pub starts: Vec<usize>,
 }
 
 impl Model for Table {
@@ -28,24 +31,28 @@ impl Model for Table {
 
     ghost Value = { List Declaration };
 
-    ghost use Rattle.dwz_abbrev.specs.Shapes.{KeepsFirst};
-
     ghost view = { λ t. t.rows };
 
-    ghost invariant = { λ t. FitsTable t.rows × KeepsFirst t.rows t.firsts };
+    ghost invariant = { λ t. FitsTable t.rows };
 }
 
-// Keeps a place as the first for a hash that has none, where such places are kept.
-fn note(firsts: &mut Option<BTreeMap<u64, usize>>, hash: u64, place: usize) -> Result<(), NoMemory>
-    ensures notes { Notes hash place firsts.old firsts.new }
-    ensures ok { OnOk result (HasPlace hash firsts.new) }
+// The numbers of a pair are those of their types, which is known of it once it is read.
+#[inline(always)]
+fn in_range(pair: &Pair)
+    ensures { IsInRange pair.now }
 {
-    if let Some(firsts) = firsts {
-        if firsts.get(&hash).is_none() {
-            firsts.insert(hash, place)?;
-        }
+    let _name = pair.name;
+    let _form = pair.form;
+    let _constant = pair.constant;
+}
+
+// The same of each pair of a list.
+fn all_in_range(pairs: &[Pair])
+    ensures { All IsInRange pairs.now }
+{
+    for pair in pairs {
+        in_range(pair);
     }
-    Ok(())
 }
 
 impl Table {
@@ -55,7 +62,6 @@ impl Table {
     {
         Table {
             rows: Rows::new(alloc),
-            firsts: Some(BTreeMap::new(alloc)),
         }
     }
 
@@ -83,48 +89,28 @@ impl Table {
         self.rows.decl(code)
     }
 
-    /// The least code under which the table declares this tag, with or without children, and these pairs. None exactly where
-    /// it doesn't declare them. A table made by `new` finds them by a hash; one that was read is looked through.
-    pub fn code_of(&self, tag: u16, children: bool, pairs: &Pairs) -> Option<u64>
-        ensures { result ≡ code_in (record { tag = tag; children = children; pairs = pairs.now }) self.now }
+    /// The declaration with a code, of those behind the first so many. None exactly where they have none.
+    #[inline(always)]
+    pub fn decl_behind(&self, skip: usize, code: u64) -> Option<&Decl>
+        ensures { option_map decl_view (option_copied result) ≡ find_decl (drop skip self.now) code }
     {
-        let shape = Shape {
-            tag,
-            children,
-            pairs: pairs.as_slice(),
-        };
-        let decls = self.rows.as_slice();
-        match &self.firsts {
-            None => least_code_of(decls, shape),
-            Some(firsts) => {
-                let first = *firsts.get(&hash_of(shape))?;
-                first_code_of(&decls[first..], shape)
-            }
-        }
+        self.rows.decl_behind(skip, code)
     }
 
-    /// The code under which the table declares this tag, with or without children, and these pairs, the least if there are
-    /// several. Where it doesn't declare them, they are appended under the next code, counted from 1. After NoMemory the
-    /// table is as before.
-    pub fn add(&mut self, tag: u16, children: bool, pairs: Pairs) -> Result<u64, NoMemory>
+    /// Appends a declaration of this tag, with or without children, and these pairs, under the next code, counted from 1. After
+    /// NoMemory the table is as before.
+    pub fn append(&mut self, tag: u16, children: bool, pairs: Pairs) -> Result<u64, NoMemory>
         requires counted { IsCounted self.old }
         requires some_tag { 0 < tag }
         requires plain { All IsPlainPair pairs }
-        ensures ok { IfOk result (λ code. (self.new, code) ≡ added (record { tag = tag; children = children; pairs = pairs }) self.old) }
+        ensures code { IfOk result (λ code. code ≡ length self.old + 1) }
+        ensures ok { IfOk result (λ code.
+            self.new ≡ self.old ++ with_code (record { tag = tag; children = children; pairs = pairs }) code ∷ []) }
         ensures err { OnErr result (self.new ≡ self.old) }
         ensures counted { IsCounted self.new }
     {
-        if let Some(code) = self.code_of(tag, children, &pairs) {
-            return Ok(code);
-        }
-        let place = self.rows.len();
-        let hash = hash_of(Shape {
-            tag,
-            children,
-            pairs: pairs.as_slice(),
-        });
-        note(&mut self.firsts, hash, place)?;
-        let code = place as u64 + 1;
+        all_in_range(pairs.as_slice());
+        let code = self.rows.len() as u64 + 1;
         self.rows.push(Decl {
             code,
             tag,

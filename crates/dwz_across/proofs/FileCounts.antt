@@ -1,29 +1,29 @@
 -- How many files, units and tops there are, and in which file a top is.
-use Rattle.std.proofs.Common.{◌≡◌, ℕ, zero, suc, ◌+◌, ◌-◌, ◌<◌, ◌≤◌, ◌⊎◌, List, [], ◌∷◌, ◌++◌, length, map, Some, slice_get, Ok, refl, sym, ap, ◌∙◌, inl, inr, arith}
+use Rattle.std.proofs.Common.{◌≡◌, ℕ, zero, suc, ◌+◌, ◌-◌, ◌<◌, ◌≤◌, ◌⊎◌, List, [], ◌∷◌, length, Some, slice_get, Ok, refl, sym, ap, ◌∙◌, inl, inr, arith}
 use Rattle.std.proofs.lemmas.Bool.{cases_lt}
 use Rattle.std.proofs.lemmas.List.{length-append}
+use Rattle.dwz_docs.proofs.ListFacts.{got_below, got_there}
 use Rattle.dwz_meanings.specs.Documents.{Doc}
 use Rattle.dwz_meanings.specs.Files.{Limits, files_meaning, limits_after, no_files_before}
-use Rattle.dwz_alike.specs.Spots.{FileUnit, Top, named_files, tops_among, tops_from, tops_of, units_of}
+use Rattle.dwz_alike.specs.Spots.{Top, named_files, tops_among, tops_from, tops_of, units_of}
 use Rattle.dwz_graph.specs.declared.file.File.{File}
 use Rattle.dwz_graph.specs.Files.{AreKept, AreRead, docs_of}
 use Rattle.dwz_graph.proofs.GraphLemmas.{as_many, files_read}
 use Rattle.dwz_index.specs.declared.index.Starts.{Starts}
-use Rattle.dwz_index.specs.declared.index.TopEntry.{TopEntry}
 use Rattle.dwz_index.specs.Index.{Index, next_starts}
-use Rattle.dwz_index.proofs.TopLemmas.{many}
-use Rattle.dwz_indexes.specs.Indexed.{AreIndexed, AreIndexes, IsIndexOf, first_starts, starts_behind}
+use Rattle.dwz_indexes.specs.Indexed.{AreIndexed, AreIndexes, first_starts, starts_behind}
 use Rattle.dwz_indexes.proofs.RoomLemmas.{many_units}
+use Rattle.dwz_indexes.proofs.FileSteps.{tops_long}
 use Rattle.dwz_unit.specs.Rows.{units_of as raw_units}
-use Rattle.dwz_across.specs.Across.{IsFileAmong, file_tops, file_units, starts_at, starts_from}
+use Rattle.dwz_across.specs.Across.{file_tops, file_units, starts_at, starts_from}
 use Rattle.dwz_across.specs.AcrossLaws.{IsIn}
-use Rattle.dwz_across.proofs.FileWalk.{IsThere, among, first_doc}
-use Rattle.dwz_across.proofs.ListGets.{get_there, got_below}
+use Rattle.dwz_across.proofs.FileWalk.{among, first_doc}
 use Rattle.dwz_across.proofs.TopRows.{file_many, tops_behind, units_long}
 
 -- ---- as many files as documents
 
-docs_many : (l : Limits) (contents : List (List ℕ)) (files : List File) (left : Limits) (n : ℕ) (docs : List (Doc ℕ)) → AreRead l n contents files left → files_meaning l n contents ≡ Ok docs → length files ≡ length docs
+docs_many : (l : Limits) (contents : List (List ℕ)) (files : List File) (left : Limits) (n : ℕ) (docs : List (Doc ℕ)) → AreRead l n contents files left → files_meaning l n contents ≡ Ok docs
+    → length files ≡ length docs
 unfolding files_meaning
 docs_many l [] [] left n docs h m = ap length (let same : [] ≡ docs = cc in same)
 docs_many l [] (y ∷ files) left n docs h m = absurd h
@@ -38,17 +38,16 @@ indexes_many s end [] (x ∷ indexes) h = absurd h
 indexes_many s end (d ∷ docs) [] h = absurd h
 indexes_many s end (d ∷ docs) (x ∷ indexes) h = ap suc (indexes_many (starts_behind s d x) end docs indexes h.1)
 
-pub are_many : (contents : List (List ℕ)) (files : List File) (indexes : List Index) → AreKept contents files → AreIndexes (docs_of contents) indexes → (length files ≡ length (docs_of contents)) × (length indexes ≡ length (docs_of contents)) × (length contents ≡ length (docs_of contents))
+pub are_many : (contents : List (List ℕ)) (files : List File) (indexes : List Index) → AreKept contents files → AreIndexes (docs_of contents) indexes
+    → (length files ≡ length (docs_of contents)) × (length indexes ≡ length (docs_of contents)) × (length contents ≡ length (docs_of contents))
 are_many contents files indexes kept is =
     let a = docs_many no_files_before contents files kept.end 0 (docs_of contents) kept.are (files_read contents files kept.end kept.are) in
     (a, indexes_many first_starts is.end (docs_of contents) indexes is.are, sym (as_many no_files_before 0 contents files kept.end kept.are) ∙ a)
 
 -- ---- behind a file
 
-tops_long : (s : Starts) (doc : Doc ℕ) (x : Index) → IsIndexOf s doc x → length x.tops ≡ tops_among doc.units
-tops_long s doc x h = ap (λ (w : List TopEntry). length w) h.tops.tops_are ∙ many s 0 doc.units
-
-pub starts_are : (contents : List (List ℕ)) (files : List File) (indexes : List Index) (k : ℕ) (f : File) (x : Index) → AreKept contents files → AreIndexes (docs_of contents) indexes → slice_get files k ≡ Some f → slice_get indexes k ≡ Some x
+pub starts_are : (contents : List (List ℕ)) (files : List File) (indexes : List Index) (k : ℕ) (f : File) (x : Index) → AreKept contents files → AreIndexes (docs_of contents) indexes
+    → slice_get files k ≡ Some f → slice_get indexes k ≡ Some x
     → (x.starts ≡ starts_at (docs_of contents) indexes k) × (next_starts x (length (raw_units f.units)) ≡ starts_at (docs_of contents) indexes (k + 1))
 starts_are contents files indexes k f x kept is p q =
     let r = among contents files indexes k f x kept is p q in
@@ -61,7 +60,8 @@ starts_are contents files indexes k f x kept is p q =
     )
 
 next : (s end : Starts) (docs : List (Doc ℕ)) (indexes : List Index) → AreIndexed s docs indexes end → (k : ℕ) (x : Index) → slice_get indexes k ≡ Some x
-    → ((starts_from s docs indexes (suc k)).top ≡ (starts_from s docs indexes k).top + length x.tops) × ((starts_from s docs indexes (suc k)).space ≡ (starts_from s docs indexes k).space + length x.spaces)
+    → ((starts_from s docs indexes (suc k)).top ≡ (starts_from s docs indexes k).top + length x.tops)
+    × ((starts_from s docs indexes (suc k)).space ≡ (starts_from s docs indexes k).space + length x.spaces)
 unfolding starts_from
 next s end docs [] h k x e = absurd cc
 next s end [] (y ∷ indexes) h k x e = absurd h
@@ -81,7 +81,8 @@ next_starts_are docs indexes is k x e =
 -- ---- behind all
 
 ends : (n : ℕ) (s end : Starts) (docs : List (Doc ℕ)) (indexes : List Index) → AreIndexed s docs indexes end
-    → ((starts_from s docs indexes (length indexes)).unit ≡ s.unit + length (named_files n s.unit s.top docs)) × ((starts_from s docs indexes (length indexes)).top ≡ s.top + length (tops_from s.unit s.top (named_files n s.unit s.top docs)))
+    → ((starts_from s docs indexes (length indexes)).unit ≡ s.unit + length (named_files n s.unit s.top docs))
+    × ((starts_from s docs indexes (length indexes)).top ≡ s.top + length (tops_from s.unit s.top (named_files n s.unit s.top docs)))
 unfolding named_files starts_from tops_from
 ends n s end [] [] h = ((let z : s.unit ≡ s.unit + 0 = omega arith in z), (let z : s.top ≡ s.top + 0 = omega arith in z))
 ends n s end [] (x ∷ indexes) h = absurd h
@@ -99,7 +100,8 @@ ends n s end (d ∷ docs) (x ∷ indexes) h =
     (omega arith, omega arith)
 
 pub all_ends : (contents : List (List ℕ)) (indexes : List Index) → AreIndexes (docs_of contents) indexes
-    → ((starts_at (docs_of contents) indexes (length indexes)).unit ≡ length (units_of (docs_of contents))) × ((starts_at (docs_of contents) indexes (length indexes)).top ≡ length (tops_of (units_of (docs_of contents))))
+    → ((starts_at (docs_of contents) indexes (length indexes)).unit ≡ length (units_of (docs_of contents)))
+    × ((starts_at (docs_of contents) indexes (length indexes)).top ≡ length (tops_of (units_of (docs_of contents))))
 all_ends contents indexes is =
     let r = ends 0 first_starts is.end (docs_of contents) indexes is.are in
     let a = r.0 in
@@ -118,14 +120,17 @@ record Holds (s : Starts) (indexes : List Index) (n : ℕ) : Type 0 where
 later : (s t : Starts) (y : Index) (indexes : List Index) (n : ℕ) → Holds t indexes n → Holds s (y ∷ indexes) n
 later s t y indexes n h = record { file = suc h.file; x = h.x; got = h.got; from = h.from; to = h.to }
 
-holds : (m : ℕ) (s end : Starts) (docs : List (Doc ℕ)) (indexes : List Index) (n : ℕ) → AreIndexed s docs indexes end → s.top ≤ n → n < s.top + length (tops_from s.unit s.top (named_files m s.unit s.top docs)) → Holds s indexes n
+holds : (m : ℕ) (s end : Starts) (docs : List (Doc ℕ)) (indexes : List Index) (n : ℕ) → AreIndexed s docs indexes end → s.top ≤ n
+    → n < s.top + length (tops_from s.unit s.top (named_files m s.unit s.top docs)) → Holds s indexes n
 unfolding named_files tops_from
 holds m s end [] [] n h ge lt = absurd (omega arith)
 holds m s end [] (x ∷ indexes) n h ge lt = absurd h
 holds m s end (d ∷ docs) [] n h ge lt = absurd h
 holds m s end (d ∷ docs) (x ∷ indexes) n h ge lt = by (cases_lt n (s.top + tops_among d.units)) (λ le less. holds (suc m) (starts_behind s d x) end docs indexes n h.1 le less) where
   by : (n < s.top + tops_among d.units) ⊎ (s.top + tops_among d.units ≤ n)
-      → (s.top + tops_among d.units ≤ n → n < s.top + tops_among d.units + length (tops_from (s.unit + length d.units) (s.top + tops_among d.units) (named_files (suc m) (s.unit + length d.units) (s.top + tops_among d.units) docs)) → Holds (starts_behind s d x) indexes n)
+      → (s.top + tops_among d.units ≤ n → n < s.top + tops_among d.units
+      + length (tops_from (s.unit + length d.units) (s.top + tops_among d.units) (named_files (suc m) (s.unit + length d.units) (s.top + tops_among d.units) docs))
+      → Holds (starts_behind s d x) indexes n)
       → Holds s (x ∷ indexes) n
   by (inl less) more =
       let from = ap (λ (w : Starts). w.top) h.0.tops.starts_are in
@@ -138,17 +143,18 @@ holds m s end (d ∷ docs) (x ∷ indexes) n h ge lt = by (cases_lt n (s.top + t
       let own = file_many s m d in
       later s next x indexes n (more le (omega arith))
 
-pub found : (contents : List (List ℕ)) (files : List File) (indexes : List Index) (n : ℕ) → AreKept contents files → AreIndexes (docs_of contents) indexes → n < length (tops_of (units_of (docs_of contents))) → IsIn files indexes n
+pub found : (contents : List (List ℕ)) (files : List File) (indexes : List Index) (n : ℕ) → AreKept contents files → AreIndexes (docs_of contents) indexes
+    → n < length (tops_of (units_of (docs_of contents))) → IsIn files indexes n
 found contents files indexes n kept is lt =
     let h = holds 0 first_starts is.end (docs_of contents) indexes n is.are (omega arith) (omega arith) in
     let m = are_many contents files indexes kept is in
     let within = got_below indexes h.file h.x h.got in
     let a = m.0 in
     let b = m.1 in
-    let f = get_there files h.file (omega arith) in
+    let f = got_there files h.file (omega arith) in
     let from = h.from in
     let to = h.to in
-    let e = get_there h.x.tops (n - h.x.starts.top) (omega arith) in
+    let e = got_there h.x.tops (n - h.x.starts.top) (omega arith) in
     record { file = h.file; f = f.0; x = h.x; k = n - h.x.starts.top; e = e.0; file_is = f.1; index_is = h.got; top_is = e.1; number = omega arith }
 
 pub files_many : (contents : List (List ℕ)) (files : List File) → AreKept contents files → length files ≡ length (docs_of contents)

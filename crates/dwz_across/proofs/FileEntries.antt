@@ -1,14 +1,15 @@
 -- Of one file: the names of its entries, and where its tops stand.
-use Rattle.std.proofs.Common.{◌≡◌, ℕ, zero, suc, ◌+◌, ◌^◌, ◌<◌, ◌≤◌, List, [], ◌∷◌, length, map, Some, slice_get, Ok, refl, sym, ap, subst, ◌∙◌, arith}
+use Rattle.std.proofs.Common.{◌≡◌, ℕ, zero, suc, ◌+◌, ◌^◌, ◌<◌, ◌≤◌, List, [], ◌∷◌, length, map, Some, slice_get, sym, ap, ◌∙◌, arith}
 use Rattle.std.specs.Prelude.{slice_index}
 use Rattle.std.proofs.lemmas.List.{length-append, length-drop, length-map}
 use Rattle.dwz_docs.specs.Trees.{End, Entry}
 use Rattle.dwz_docs.specs.Units.{RawUnit, entries_in}
-use Rattle.dwz_meanings.specs.Documents.{Doc, DwUnit, unit_map}
+use Rattle.dwz_docs.proofs.ListFacts.{got_below, got_in, got_map, got_there}
+use Rattle.dwz_meanings.specs.Documents.{Doc, unit_map}
 use Rattle.dwz_meanings.specs.Files.{around_of}
-use Rattle.dwz_meanings.specs.Meanings.{Around, MeanUnits, unit_meaning}
+use Rattle.dwz_meanings.specs.Meanings.{Around}
 use Rattle.dwz_meanings.proofs.FileLemmas.{file_agrees}
-use Rattle.dwz_meanings.proofs.MeaningLemmas.{unit_agrees}
+use Rattle.dwz_meanings.proofs.UnitMeans.{unit_meant}
 use Rattle.dwz_alike.specs.Spots.{FileUnit, Spot, Top, Within, in_file, spot_in, spots_from, tops_of, units_of}
 use Rattle.dwz_alike.proofs.RowLemmas.{top_of}
 use Rattle.dwz_graph.specs.declared.file.File.{File}
@@ -22,30 +23,23 @@ use Rattle.dwz_index.proofs.TopLemmas.{many, named}
 use Rattle.dwz_index.proofs.TopUnits.{shows}
 use Rattle.dwz_resolve.specs.Resolved.{place_at, places}
 use Rattle.dwz_resolve.proofs.PlaceLemmas.{places_many}
-use Rattle.dwz_resolve.proofs.RowLemmas.{below-length, rows-length}
+use Rattle.dwz_resolve.proofs.RowLemmas.{rows-length}
 use Rattle.dwz_seen.proofs.Members.{in_map_from, nth_in}
 use Rattle.dwz_scan.specs.Known.{NamesEntries, StandsAt}
 use Rattle.dwz_scan.proofs.StandLemmas.{stands_there}
 use Rattle.dwz_unit.specs.declared.rows.RawEntry.{RawEntry}
 use Rattle.dwz_unit.specs.Rows.{EntryRow, entry_shown, rows_below, rows_of, shown_entries, units_of as raw_units}
-use Rattle.dwz_across.specs.Across.{IsFileAmong, IsTopOf, file_tops, file_units, name_at}
+use Rattle.dwz_unit.proofs.RowLemmas.{shown-length}
+use Rattle.dwz_across.specs.Across.{IsFileAmong, file_tops, file_units, name_at}
 use Rattle.dwz_across.specs.AcrossLaws.{GivesTop, IsUnitOf}
 use Rattle.dwz_across.proofs.FileRoom.{entries_small}
-use Rattle.dwz_across.proofs.ListGets.{get_there, got_below, got_in, got_map, part_get}
+use Rattle.dwz_across.proofs.ListGets.{part_get}
 use Rattle.dwz_across.proofs.TopRows.{file_many}
 
 shown_at : (rows : List EntryRow) (i : ℕ) (r : RawEntry) → slice_get (map entry_shown rows) i ≡ Some r → r.at ≡ slice_index (map (λ row. row.entry.at) rows) i
 shown_at [] i r e = absurd cc
 shown_at (row ∷ rows) zero r e = (let same : entry_shown row ≡ r = cc in ap (λ (w : RawEntry). w.at) (sym same))
 shown_at (row ∷ rows) (suc i) r e = shown_at rows i r e
-
-pub unit_meant : (around : Around ℕ) (us : List RawUnit) (vs : List (DwUnit ℕ)) → MeanUnits around us vs → (n : ℕ) (u : RawUnit) → slice_get us n ≡ Some u → (v : DwUnit ℕ) × (unit_meaning around u ≡ Ok v) × (slice_get vs n ≡ Some v)
-unit_meant around [] vs m n u e = absurd cc
-unit_meant around (w ∷ us) [] m n u e = absurd m
-unit_meant around (w ∷ us) (v ∷ vs) m zero u e =
-    let same : w ≡ u = cc in
-    (v, ap (unit_meaning around) (sym same) ∙ ((unit_agrees around w).ok v).1 m.0, refl)
-unit_meant around (w ∷ us) (v ∷ vs) m (suc n) u e = unit_meant around us vs m.1 n u e
 
 module _ (contents : List (List ℕ)) (file : ℕ) (bytes : List ℕ) (f : File) (x : Index) (h : IsFileAmong contents file bytes f x) where
   abbrev raw : List RawUnit
@@ -84,7 +78,7 @@ module _ (contents : List (List ℕ)) (file : ℕ) (bytes : List ℕ) (f : File)
   ends_within : (t : Top) (e : TopEntry) (r : RawEntry) → StandsAt around (name_at x.starts doc) raw doc.units file x.starts.unit t e.entry r.end → r.end ≤ entries_in raw
   ends_within t e r s =
       let p = s.stands.top.p in
-      let many = below-length (Entry s.stands.top.e s.stands.top.c End) s.stands.n p in
+      let many = shown-length (Entry s.stands.top.e s.stands.top.c End) s.stands.n p in
       let all = rows-length raw in
       let len = ap (λ (w : List EntryRow). length w) s.stands.top.stand in
       let from = s.from in
@@ -97,11 +91,12 @@ module _ (contents : List (List ℕ)) (file : ℕ) (bytes : List ℕ) (f : File)
       let within = got_below (all_tops is_space x.starts 0 (map below_root doc.units)) k e here in
       let count = many x.starts 0 doc.units in
       let own = file_many x.starts file doc in
-      let t = get_there (file_tops x.starts file doc) k (omega arith) in
+      let t = got_there (file_tops x.starts file doc) k (omega arith) in
       let s = shows x.starts doc.units file (name_at x.starts doc) k e t.0 here t.1 in
       let names = names_from x.starts.unit x.starts.top doc.units in
       let named_so : slice_get names e.entry ≡ Some (Within (x.starts.top + k) []) = named x.starts doc.units (read_whole h.kept.limits bytes raw doc h.kept.read.means) k e here in
-      let stands = λ (r : RawEntry) (shown : slice_get (shown_entries raw) e.entry ≡ Some r). stands_there h.kept.limits bytes raw doc x.starts file t.0 h.kept.read.means h.once (got_in (file_tops x.starts file doc) k t.0 t.1) k e r here s.1 shown in
+      let stands = λ (r : RawEntry) (shown : slice_get (shown_entries raw) e.entry ≡ Some r). stands_there h.kept.limits bytes raw doc x.starts file t.0 h.kept.read.means h.once
+      (got_in (file_tops x.starts file doc) k t.0 t.1) k e r here s.1 shown in
       record {
         top = t.0;
         top_is = record {
@@ -111,7 +106,9 @@ module _ (contents : List (List ℕ)) (file : ℕ) (bytes : List ℕ) (f : File)
           unit = sym s.0;
           file_is = tops_file k t.0 t.1;
           ends = λ r shown. ends_within t.0 e r (stands r shown);
-          named = λ r shown. name_of_shown e.entry r shown ∙ (let here : Some (name_at x.starts doc (place_at raw e.entry)) ≡ Some (Within (x.starts.top + k) []) = sym (names_entries e.entry (lt_entry e.entry (Within (x.starts.top + k) []) named_so)) ∙ named_so in let same : name_at x.starts doc (place_at raw e.entry) ≡ Within (x.starts.top + k) [] = cc in same) ∙ ap (λ (n : ℕ). Within n []) (sym s.1);
+          named = λ r shown. name_of_shown e.entry r shown ∙ (let here : Some (name_at x.starts doc (place_at raw e.entry)) ≡ Some (Within (x.starts.top + k) []) =
+              sym (names_entries e.entry (lt_entry e.entry (Within (x.starts.top + k) []) named_so)) ∙ named_so in let same : name_at x.starts doc (place_at raw e.entry)
+              ≡ Within (x.starts.top + k) [] = cc in same) ∙ ap (λ (n : ℕ). Within n []) (sym s.1);
           within = lt_entry e.entry (Within (x.starts.top + k) []) named_so;
           stands = stands;
         };

@@ -1,5 +1,5 @@
 -- There are no more tops than bytes, so their numbers are small.
-use Rattle.std.proofs.Common.{◌≡◌, ℕ, zero, suc, ◌+◌, ◌-◌, ◌<◌, ◌≤◌, ◌^◌, List, [], ◌∷◌, length, Option, Some, None, Ok, refl, sym, ap, subst, ◌∙◌, arith}
+use Rattle.std.proofs.Common.{◌≡◌, ℕ, zero, suc, ◌+◌, ◌<◌, ◌≤◌, ◌^◌, List, [], ◌∷◌, Option, Some, None, Ok, refl, ap, subst, ◌∙◌, arith}
 use Rattle.dwz_docs.specs.Entries.{RawEntry}
 use Rattle.dwz_docs.specs.Trees.{End, Entry, Forest, size}
 use Rattle.dwz_docs.specs.Units.{RawUnit, entries_in}
@@ -33,7 +33,7 @@ kind_few Compile f = under_few f
 kind_few (OfType signature main) f = omega arith
 kind_few Partial f = omega arith
 
-size_same : (s : Scope ℕ) (f : Forest RawEntry) (g : Entries ℕ) → MeanEntries s f g → size g ≡ size f
+pub size_same : (s : Scope ℕ) (f : Forest RawEntry) (g : Entries ℕ) → MeanEntries s f g → size g ≡ size f
 size_same s End End h = refl
 size_same s End (Entry d c n) h = absurd h
 size_same s (Entry e c n) End h = absurd h
@@ -59,11 +59,12 @@ entries_small l bytes raw doc e =
     let size = r.size.file in
     omega arith
 
-no_doc : (l : Limits) (n : ℕ) (d : Doc ℕ) (docs : List (Doc ℕ)) → files_meaning l n [] ≡ Ok (d ∷ docs) → ⊥
+pub no_doc : (l : Limits) (n : ℕ) (d : Doc ℕ) (docs : List (Doc ℕ)) → files_meaning l n [] ≡ Ok (d ∷ docs) → ⊥
 unfolding files_meaning
 no_doc l n d docs e = cc
 
-room : (most : ℕ) (l : Limits) (contents : List (List ℕ)) (files : List File) (left : Limits) (n : ℕ) (docs : List (Doc ℕ)) (indexes : List Index) (s end : Starts) → AreRead l n contents files left → files_meaning l n contents ≡ Ok docs → AreIndexed s docs indexes end
+room : (most : ℕ) (l : Limits) (contents : List (List ℕ)) (files : List File) (left : Limits) (n : ℕ) (docs : List (Doc ℕ)) (indexes : List Index) (s end : Starts) → AreRead l n contents files left
+    → files_meaning l n contents ≡ Ok docs → AreIndexed s docs indexes end
     → s.top + l.bytes ≤ most → (k : ℕ) → (starts_from s docs indexes k).top ≤ most
 unfolding starts_from
 room most l contents files left n docs indexes s end h m is le zero = omega arith
@@ -84,7 +85,8 @@ room most l (b ∷ contents) (y ∷ files) left n (d ∷ docs) (x ∷ indexes) s
     let tops : tops_among d.units ≤ entries_in raw = subst (λ (w : Doc ℕ). tops_among w.units ≤ entries_in raw) doc_is (tops_few (around_of b raw) raw h.0.doc.units means) in
     room most (limits_after l b raw) contents files left (suc n) docs indexes (starts_behind s d x) end h.1 (r.1 ∙ ap (λ (w : List (Doc ℕ)). Ok w) same) is.1 (omega arith) k
 
-pub tops_small : (contents : List (List ℕ)) (files : List File) (indexes : List Index) → AreKept contents files → AreIndexes (docs_of contents) indexes → (k : ℕ) → (starts_at (docs_of contents) indexes k).top ≤ 2 ^ 29
+pub tops_small : (contents : List (List ℕ)) (files : List File) (indexes : List Index) → AreKept contents files → AreIndexes (docs_of contents) indexes → (k : ℕ)
+    → (starts_at (docs_of contents) indexes k).top ≤ 2 ^ 29
 unfolding longest_files
 tops_small contents files indexes kept is k =
     room (2 ^ 29) no_files_before contents files kept.end 0 (docs_of contents) indexes first_starts is.end kept.are (files_read contents files kept.end kept.are) is.are (omega arith) k

@@ -1,13 +1,15 @@
 -- File by file: the one with a number, where its units and tops stand among those of all.
-use Rattle.std.proofs.Common.{◌≡◌, ℕ, zero, suc, ◌+◌, ◌<◌, ◌≤◌, Bool, true, false, List, [], ◌∷◌, ◌++◌, length, map, Some, slice_get, Result, Ok, Err, refl, sym, ap, subst, ◌∙◌, ⊎_elim, arith}
+use Rattle.std.proofs.Common.{◌≡◌, ℕ, zero, suc, ◌+◌, ◌<◌, ◌≤◌, Bool, true, false, List, [], ◌∷◌, ◌++◌, length, Some, slice_get, Result, Ok, Err, refl, sym, ap, subst, ◌∙◌, ⊎_elim, arith}
 use Rattle.std.proofs.lemmas.Bool.{eq-eqb, ne_eqb}
 use Rattle.std.proofs.lemmas.List.{append_assoc, length-append}
 use Rattle.dwz_model.specs.declared.fault.Refusal.{Refusal}
 use Rattle.dwz_bytes.specs.Reading.{◌>>=◌}
 use Rattle.dwz_docs.specs.Lists.{In}
+use Rattle.dwz_docs.proofs.ListFacts.{in_cases}
 use Rattle.dwz_meanings.specs.Documents.{Doc}
-use Rattle.dwz_meanings.specs.Files.{Limits, file_meaning, files_meaning, limits_after, no_files_before, with_doc}
-use Rattle.dwz_alike.specs.Spots.{FileUnit, Spot, Top, in_file, named, named_files, tops_among, tops_from, units_of}
+use Rattle.dwz_meanings.specs.Files.{Limits, files_meaning, limits_after, no_files_before, with_doc}
+use Rattle.dwz_alike.specs.Spots.{FileUnit, Spot, Top, named_files, tops_among, tops_from}
+use Rattle.dwz_alike.proofs.TopOrder.{later_unit}
 use Rattle.dwz_graph.specs.declared.file.File.{File}
 use Rattle.dwz_graph.specs.Files.{AreKept, AreRead, HasFile, IsRead, docs_of}
 use Rattle.dwz_graph.proofs.GraphLemmas.{files_read, step}
@@ -15,12 +17,11 @@ use Rattle.dwz_index.specs.declared.index.Starts.{Starts}
 use Rattle.dwz_index.specs.Index.{Index}
 use Rattle.dwz_index.proofs.NameLemmas.{places_once}
 use Rattle.dwz_indexes.specs.Indexed.{AreIndexed, AreIndexes, IsIndexOf, first_starts, starts_behind}
-use Rattle.dwz_seen.proofs.Members.{in_cases}
 use Rattle.dwz_same.specs.After.{at_file, name_from}
 use Rattle.dwz_unit.specs.Rows.{units_of as raw_units}
-use Rattle.dwz_across.specs.Across.{IsFileAmong, file_tops, file_units, name_at, starts_from}
+use Rattle.dwz_across.specs.Across.{file_tops, file_units, name_at, starts_from}
 use Rattle.dwz_across.specs.AcrossLaws.{IsAmong}
-use Rattle.dwz_across.proofs.TopRows.{file_many, tops_behind, unit_high, unit_low, units_long}
+use Rattle.dwz_across.proofs.TopRows.{file_many, tops_behind, unit_high, units_long}
 
 -- ---- the documents behind one
 
@@ -57,7 +58,8 @@ pub record IsThere (l : Limits) (contents : List (List ℕ)) (n : ℕ) (s : Star
   pub later : (t : Top) → In t tops_back → starts.unit + length read.doc.units ≤ t.unit
   pub names : (offset : ℕ) → name_from n s.unit s.top docs (at_file file offset) ≡ name_at starts read.doc offset
 
-first_there : (l : Limits) (b : List ℕ) (contents : List (List ℕ)) (n : ℕ) (s : Starts) (d : Doc ℕ) (docs : List (Doc ℕ)) (y : File) (z : Index) (indexes : List Index) → (h : IsRead l n b y) → h.doc ≡ d → IsIndexOf s d z
+first_there : (l : Limits) (b : List ℕ) (contents : List (List ℕ)) (n : ℕ) (s : Starts) (d : Doc ℕ) (docs : List (Doc ℕ)) (y : File) (z : Index) (indexes : List Index) → (h : IsRead l n b y)
+    → h.doc ≡ d → IsIndexOf s d z
     → IsThere l (b ∷ contents) n s (d ∷ docs) (z ∷ indexes) 0 n y z
 unfolding named_files starts_from name_from
 first_there l b contents n s d docs y z indexes h e is =
@@ -81,13 +83,15 @@ first_there l b contents n s d docs y z indexes h e is =
       tops = tops_behind s n d others ∙ ap (λ (w : Doc ℕ). file_tops s n w ++ tops_from (s.unit + length d.units) (s.top + tops_among d.units) others) (sym e);
       tops_before = omega arith;
       earlier = λ t there. absurd there;
-      later = λ t there. subst (λ (w : Doc ℕ). s.unit + length w.units ≤ t.unit) (sym e) (unit_low (s.unit + length d.units) (s.top + tops_among d.units) others t there);
+      later = λ t there. subst (λ (w : Doc ℕ). s.unit + length w.units ≤ t.unit) (sym e) (later_unit (s.unit + length d.units) (s.top + tops_among d.units) others t there);
       names = λ offset.
-          ap (λ (b : Bool). elim b as (λ _. Spot) [ true ↦ name_at s d offset | false ↦ name_from (suc n) (s.unit + length d.units) (s.top + tops_among d.units) docs (at_file n offset) ]) (eq-eqb n n refl)
+          ap (λ (b : Bool). elim b as (λ _. Spot) [ true ↦ name_at s d offset | false ↦ name_from (suc n) (s.unit + length d.units) (s.top + tops_among d.units) docs (at_file n offset) ])
+          (eq-eqb n n refl)
           ∙ ap (λ (w : Doc ℕ). name_at s w offset) (sym e);
     }
 
-later_there : (l : Limits) (b : List ℕ) (contents : List (List ℕ)) (n : ℕ) (s : Starts) (d : Doc ℕ) (docs : List (Doc ℕ)) (y : File) (z : Index) (indexes : List Index) (k file : ℕ) (f : File) (x : Index) → (h : IsRead l n b y) → n < file
+later_there : (l : Limits) (b : List ℕ) (contents : List (List ℕ)) (n : ℕ) (s : Starts) (d : Doc ℕ) (docs : List (Doc ℕ)) (y : File) (z : Index) (indexes : List Index) (k file : ℕ) (f : File)
+    (x : Index) → (h : IsRead l n b y) → n < file
     → IsThere (limits_after l b (raw_units y.units)) contents (suc n) (starts_behind s d z) docs indexes k file f x → IsThere l (b ∷ contents) n s (d ∷ docs) (z ∷ indexes) (suc k) file f x
 unfolding named_files starts_from name_from
 later_there l b contents n s d docs y z indexes k file f x h before_it r =
@@ -124,11 +128,13 @@ later_there l b contents n s d docs y z indexes k file f x h before_it r =
           (in_cases t tops r.tops_front there);
       later = r.later;
       names = λ offset.
-          ap (λ (b : Bool). elim b as (λ _. Spot) [ true ↦ name_at s d offset | false ↦ name_from (suc n) (s.unit + length d.units) (s.top + tops_among d.units) docs (at_file file offset) ]) (ne_eqb n file (λ e. omega (arith, e, before_it)))
+          ap (λ (b : Bool). elim b as (λ _. Spot) [ true ↦ name_at s d offset | false ↦ name_from (suc n) (s.unit + length d.units) (s.top + tops_among d.units) docs (at_file file offset) ])
+          (ne_eqb n file (λ e. omega (arith, e, before_it)))
           ∙ r.names offset;
     }
 
-pub there : (l : Limits) (contents : List (List ℕ)) (files : List File) (left : Limits) (n : ℕ) (docs : List (Doc ℕ)) (indexes : List Index) (s end : Starts) → AreRead l n contents files left → files_meaning l n contents ≡ Ok docs → AreIndexed s docs indexes end
+pub there : (l : Limits) (contents : List (List ℕ)) (files : List File) (left : Limits) (n : ℕ) (docs : List (Doc ℕ)) (indexes : List Index) (s end : Starts) → AreRead l n contents files left
+    → files_meaning l n contents ≡ Ok docs → AreIndexed s docs indexes end
     → (k file : ℕ) (f : File) (x : Index) → n + k ≡ file → slice_get files k ≡ Some f → slice_get indexes k ≡ Some x → IsThere l contents n s docs indexes k file f x
 there l [] [] left n docs indexes s end h m is k file f x e p q = absurd cc
 there l [] (y ∷ files) left n docs indexes s end h m is k file f x e p q = absurd h
@@ -152,12 +158,14 @@ there l (b ∷ contents) (y ∷ files) left n (d ∷ docs) (z ∷ indexes) s end
 
 -- ---- from the first file on
 
-pub among : (contents : List (List ℕ)) (files : List File) (indexes : List Index) (k : ℕ) (f : File) (x : Index) → AreKept contents files → AreIndexes (docs_of contents) indexes → slice_get files k ≡ Some f → slice_get indexes k ≡ Some x
+pub among : (contents : List (List ℕ)) (files : List File) (indexes : List Index) (k : ℕ) (f : File) (x : Index) → AreKept contents files → AreIndexes (docs_of contents) indexes
+    → slice_get files k ≡ Some f → slice_get indexes k ≡ Some x
     → IsThere no_files_before contents 0 first_starts (docs_of contents) indexes k k f x
 among contents files indexes k f x kept is p q =
     there no_files_before contents files kept.end 0 (docs_of contents) indexes first_starts is.end kept.are (files_read contents files kept.end kept.are) is.are k k f x (omega arith) p q
 
-pub is_among : (contents : List (List ℕ)) (files : List File) (indexes : List Index) (k : ℕ) (f : File) (x : Index) → AreKept contents files → AreIndexes (docs_of contents) indexes → slice_get files k ≡ Some f → slice_get indexes k ≡ Some x
+pub is_among : (contents : List (List ℕ)) (files : List File) (indexes : List Index) (k : ℕ) (f : File) (x : Index) → AreKept contents files → AreIndexes (docs_of contents) indexes
+    → slice_get files k ≡ Some f → slice_get indexes k ≡ Some x
     → IsAmong contents k f x
 is_among contents files indexes k f x kept is p q =
     let r = among contents files indexes k f x kept is p q in
@@ -171,8 +179,20 @@ is_among contents files indexes k f x kept is p q =
         kept = record { limits = r.limits; read = r.read; there = r.there };
         index = subst (λ (w : Starts). IsIndexOf w r.read.doc x) from r.index;
         doc_is = r.doc_is;
-        units = record { front = r.front; back = r.back; all_are = r.units ∙ ap (λ (w : Starts). r.front ++ (file_units w k r.read.doc ++ r.back)) from; many = units_before ∙ ap (λ (w : Starts). w.unit) from };
-        tops = record { front = r.tops_front; back = r.tops_back; all_are = r.tops ∙ ap (λ (w : Starts). r.tops_front ++ (file_tops w k r.read.doc ++ r.tops_back)) from; many = tops_before ∙ ap (λ (w : Starts). w.top) from };
+        units = record {
+          front = r.front;
+          back = r.back;
+          all_are = r.units ∙ ap (λ (w : Starts). r.front ++ (file_units w k r.read.doc ++ r.back)) from;
+          many = units_before
+              ∙ ap (λ (w : Starts). w.unit) from;
+        };
+        tops = record {
+          front = r.tops_front;
+          back = r.tops_back;
+          all_are = r.tops ∙ ap (λ (w : Starts). r.tops_front ++ (file_tops w k r.read.doc ++ r.tops_back)) from;
+          many = tops_before
+              ∙ ap (λ (w : Starts). w.top) from;
+        };
         earlier = λ t there. subst (λ (w : Starts). t.unit < w.unit) from (r.earlier t there);
         later = λ t there. subst (λ (w : Starts). w.unit + length r.read.doc.units ≤ t.unit) from (r.later t there);
         names = λ offset. r.names offset ∙ ap (λ (w : Starts). name_at w r.read.doc offset) from;

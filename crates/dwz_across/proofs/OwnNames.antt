@@ -1,11 +1,11 @@
 -- What the places of a file are named is of the file: its tops and its units have numbers from those on that it begins with.
-use Rattle.std.proofs.Common.{◌≡◌, ℕ, suc, ◌+◌, ◌<◌, ◌≤◌, Bool, true, false, List, [], ◌∷◌, ◌++◌, length, Option, Some, None, refl, sym, ap, subst, ◌∙◌, inl, inr, ⊎_elim, arith}
+use Rattle.std.proofs.Common.{◌≡◌, ℕ, suc, ◌+◌, ◌<◌, ◌≤◌, Bool, true, false, List, [], ◌∷◌, ◌++◌, length, Option, Some, None, refl, sym, subst, inl, inr, ⊎_elim, arith}
 use Rattle.std.specs.Prelude.{◌==◌}
 use Rattle.dwz_docs.specs.Lists.{In}
 use Rattle.dwz_docs.specs.Trees.{End, Entry}
+use Rattle.dwz_docs.proofs.ListFacts.{in_cases}
 use Rattle.dwz_meanings.specs.Documents.{Compile, DwUnit, Entries, Kind, OfType, Partial}
 use Rattle.dwz_seen.specs.Spaces.{space_text, tops_under}
-use Rattle.dwz_seen.proofs.Members.{in_cases}
 use Rattle.dwz_alike.specs.Spots.{InType, RootOf, SpaceAt, Spot, UnitOf, Within, below_spots, entry_spots, spot_in, spots_from, top_count, top_spots, tops_among}
 use Rattle.dwz_alike.proofs.NameLists.{spots_space, spots_top}
 
@@ -19,7 +19,8 @@ Own unit units top tops (UnitOf u) = Unit {0}
 Own unit units top tops _ = ⊥
 
 -- more are so too
-own_more : (unit units top tops unit' units' top' tops' : ℕ) → unit' ≤ unit → unit + units ≤ unit' + units' → top' ≤ top → top + tops ≤ top' + tops' → (s : Spot) → Own unit units top tops s → Own unit' units' top' tops' s
+own_more : (unit units top tops unit' units' top' tops' : ℕ) → unit' ≤ unit → unit + units ≤ unit' + units' → top' ≤ top → top + tops ≤ top' + tops' → (s : Spot) → Own unit units top tops s
+    → Own unit' units' top' tops' s
 own_more a b c d a' b' c' d' p q r t (Within n path) h = (let x = h.0 in let y = h.1 in (omega arith, omega arith))
 own_more a b c d a' b' c' d' p q r t (RootOf u) h = (let x = h.0 in let y = h.1 in (omega arith, omega arith))
 own_more a b c d a' b' c' d' p q r t (SpaceAt u path) h = (let x = h.0 in let y = h.1 in (omega arith, omega arith))
@@ -37,18 +38,21 @@ in_first : (unit units top tops : ℕ) (p : ℕ) (s : Spot) (xs : List (ℕ × S
 in_first unit units top tops p s xs h k x (inl e) = subst (λ (w : ℕ × Spot). Own unit units top tops w.1) e h
 in_first unit units top tops p s xs h k x (inr later) = k x later
 
-entries_own : (unit units top tops : ℕ) (name : List ℕ → Spot) → ((path : List ℕ) → Own unit units top tops (name path)) → (path : List ℕ) (i : ℕ) (f : Entries ℕ) → OwnAll unit units top tops (entry_spots name path i f)
+entries_own : (unit units top tops : ℕ) (name : List ℕ → Spot) → ((path : List ℕ) → Own unit units top tops (name path)) → (path : List ℕ) (i : ℕ) (f : Entries ℕ)
+    → OwnAll unit units top tops (entry_spots name path i f)
 unfolding entry_spots
 entries_own unit units top tops name all path i End = λ x there. absurd there
 entries_own unit units top tops name all path i (Entry e c n) =
     in_first unit units top tops e.at (name (i ∷ path)) (entry_spots name (i ∷ path) 0 c ++ entry_spots name path (suc i) n) (all (i ∷ path))
-    (in_two unit units top tops (entry_spots name (i ∷ path) 0 c) (entry_spots name path (suc i) n) (entries_own unit units top tops name all (i ∷ path) 0 c) (entries_own unit units top tops name all path (suc i) n))
+    (in_two unit units top tops (entry_spots name (i ∷ path) 0 c) (entry_spots name path (suc i) n) (entries_own unit units top tops name all (i ∷ path) 0 c)
+    (entries_own unit units top tops name all path (suc i) n))
 
 tops_own : (unit top tops : ℕ) (path : List ℕ) (i n : ℕ) (f : Entries ℕ) → top ≤ n → n + tops_under f ≤ top + tops → OwnAll unit 1 top tops (top_spots unit path i n f)
 unfolding top_spots tops_under
 tops_own unit top tops path i n End low high = λ x there. absurd there
 tops_own unit top tops path i n (Entry e c r) low high =
-    by (space_text e) refl high (λ le. tops_own unit top tops path (suc i) (suc n) r (omega arith) le) (λ le. tops_own unit top tops (i ∷ path) 0 n c low le) (λ le. tops_own unit top tops path (suc i) (n + tops_under c) r (omega arith) le)
+    by (space_text e) refl high (λ le. tops_own unit top tops path (suc i) (suc n) r (omega arith) le) (λ le. tops_own unit top tops (i ∷ path) 0 n c low le)
+    (λ le. tops_own unit top tops path (suc i) (n + tops_under c) r (omega arith) le)
   where
     by : (o : Option (List ℕ)) → space_text e ≡ o → n + elim o as (λ _. ℕ) [ None ↦ suc (tops_under r) | Some text ↦ tops_under c + tops_under r ] ≤ top + tops
         → (suc n + tops_under r ≤ top + tops → OwnAll unit 1 top tops (top_spots unit path (suc i) (suc n) r))
@@ -77,8 +81,10 @@ spots_own unit top (u ∷ units) =
     let all = suc (length units) in
     let tops = count + tops_among units in
     let rest = spots_from (suc unit) (top + count) units in
-    let own : OwnAll unit all top tops (below_spots unit top u.kind u.below) = λ x there. own_more unit 1 top count unit all top tops (omega arith) (omega arith) (omega arith) (omega arith) x.1 (below_own unit top u.kind u.below x there) in
-    let more : OwnAll unit all top tops rest = λ x there. own_more (suc unit) (length units) (top + count) (tops_among units) unit all top tops (omega arith) (omega arith) (omega arith) (omega arith) x.1 (spots_own (suc unit) (top + count) units x there) in
+    let own : OwnAll unit all top tops (below_spots unit top u.kind u.below) = λ x there. own_more unit 1 top count unit all top tops (omega arith) (omega arith) (omega arith) (omega arith) x.1
+    (below_own unit top u.kind u.below x there) in
+    let more : OwnAll unit all top tops rest = λ x there. own_more (suc unit) (length units) (top + count) (tops_among units) unit all top tops (omega arith) (omega arith) (omega arith) (omega arith)
+    x.1 (spots_own (suc unit) (top + count) units x there) in
     in_first unit all top tops u.at (UnitOf unit) ((u.root.at, RootOf unit) ∷ (below_spots unit top u.kind u.below ++ rest)) tt
     (in_first unit all top tops u.root.at (RootOf unit) (below_spots unit top u.kind u.below ++ rest) (omega arith, omega arith)
     (in_two unit all top tops (below_spots unit top u.kind u.below) rest own more))

@@ -2,17 +2,17 @@
 use Rattle.std.proofs.Common.{◌≡◌, ℕ, zero, suc, ◌+◌, ◌≤◌, List, [], ◌∷◌, ◌++◌, length, map, take, Some, slice_get, Ok, refl, sym, ap, ◌∙◌, arith}
 use Rattle.std.specs.Prelude.{replicate}
 use Rattle.std.proofs.lemmas.List.{append-nil, append_assoc, length-take-le, map-append, take_all, take_more}
+use Rattle.std.proofs.lemmas.Option.{get_or_from_slice_get}
+use Rattle.dwz_docs.proofs.ListFacts.{got_below}
 use Rattle.dwz_meanings.specs.Documents.{Doc, DwUnit}
 use Rattle.dwz_meanings.specs.Files.{Limits, files_meaning, limits_after, no_files_before}
 use Rattle.dwz_alike.specs.Spots.{FileUnit, Spot, in_file, named, named_files, tops_among, units_of}
 use Rattle.dwz_graph.specs.declared.file.File.{File}
 use Rattle.dwz_graph.specs.Files.{AreKept, AreRead, docs_of}
 use Rattle.dwz_graph.proofs.GraphLemmas.{files_read}
-use Rattle.dwz_index.specs.declared.index.Starts.{Starts}
 use Rattle.dwz_indexes.proofs.RoomLemmas.{many_units}
 use Rattle.dwz_unit.specs.Rows.{units_of as raw_units}
 use Rattle.dwz_across.proofs.FileWalk.{first_doc}
-use Rattle.dwz_across.proofs.ListGets.{got_below, got_index}
 
 -- the number of its file for each unit; the first file has that number
 unfoldable pub files_from : ℕ → List (Doc ℕ) → List ℕ
@@ -23,7 +23,7 @@ one_file : (n : ℕ) (units : List (DwUnit Spot)) → map (λ f. f.file) (map (i
 one_file n [] = refl
 one_file n (u ∷ units) = ap (λ (w : List ℕ). n ∷ w) (one_file n units)
 
-named_long : {X Y : Type 0} (f : X → Y) (xs : List X) → length (map f xs) ≡ length xs
+pub named_long : {X Y : Type 0} (f : X → Y) (xs : List X) → length (map f xs) ≡ length xs
 named_long f [] = refl
 named_long f (x ∷ xs) = ap suc (named_long f xs)
 
@@ -50,7 +50,8 @@ files_more n (d ∷ docs) doc =
 files_more_at : (docs : List (Doc ℕ)) (doc : Doc ℕ) → files_from 0 (docs ++ doc ∷ []) ≡ files_from 0 docs ++ replicate (length doc.units) (length docs)
 files_more_at docs doc = files_more 0 docs doc ∙ (let z : 0 + length docs ≡ length docs = omega arith in ap (λ (n : ℕ). files_from 0 docs ++ replicate (length doc.units) n) z)
 
-doc_there : (l : Limits) (n : ℕ) (contents : List (List ℕ)) (files : List File) (left : Limits) (docs : List (Doc ℕ)) → AreRead l n contents files left → files_meaning l n contents ≡ Ok docs → (k : ℕ) (f : File) → slice_get files k ≡ Some f
+doc_there : (l : Limits) (n : ℕ) (contents : List (List ℕ)) (files : List File) (left : Limits) (docs : List (Doc ℕ)) → AreRead l n contents files left → files_meaning l n contents ≡ Ok docs
+    → (k : ℕ) (f : File) → slice_get files k ≡ Some f
     → (doc : Doc ℕ) × (slice_get docs k ≡ Some doc) × (length (raw_units f.units) ≡ length doc.units)
 doc_there l n [] [] left docs h m k f e = absurd cc
 doc_there l n [] (y ∷ files) left docs h m k f e = absurd h
@@ -65,7 +66,8 @@ doc_there l n (b ∷ contents) (y ∷ files) left docs h m (suc k) f e =
     (o.0, ap (λ (w : List (Doc ℕ)). slice_get w (suc k)) (sym r.2) ∙ o.1, o.2)
 
 -- the document of a file
-pub doc_of : (contents : List (List ℕ)) (files : List File) → AreKept contents files → (k : ℕ) (f : File) → slice_get files k ≡ Some f → (doc : Doc ℕ) × (slice_get (docs_of contents) k ≡ Some doc) × (length (raw_units f.units) ≡ length doc.units)
+pub doc_of : (contents : List (List ℕ)) (files : List File) → AreKept contents files → (k : ℕ) (f : File) → slice_get files k ≡ Some f → (doc : Doc ℕ) × (slice_get (docs_of contents) k ≡ Some doc)
+    × (length (raw_units f.units) ≡ length doc.units)
 doc_of contents files kept k f e = doc_there no_files_before 0 contents files kept.end (docs_of contents) kept.are (files_read contents files kept.end kept.are) k f e
 
 -- ---- file by file
@@ -74,14 +76,15 @@ pub files_none : [] ≡ files_from 0 []
 unfolding files_from
 files_none = refl
 
-pub files_step : (contents : List (List ℕ)) (files : List File) → AreKept contents files → (k : ℕ) (f : File) → slice_get files k ≡ Some f → (now new : List ℕ) (count : ℕ) → now ≡ files_from 0 (take k (docs_of contents)) → count ≡ length (raw_units f.units)
+pub files_step : (contents : List (List ℕ)) (files : List File) → AreKept contents files → (k : ℕ) (f : File) → slice_get files k ≡ Some f → (now new : List ℕ) (count : ℕ)
+    → now ≡ files_from 0 (take k (docs_of contents)) → count ≡ length (raw_units f.units)
     → new ≡ now ++ replicate count k → new ≡ files_from 0 (take (k + 1) (docs_of contents))
 files_step contents files kept k f got now new count is many put =
     let d = doc_of contents files kept k f got in
     let docs = docs_of contents in
     let lt = got_below docs k d.0 d.1 in
     let long : length (take k docs) ≡ k = length-take-le k docs (omega arith) in
-    let taken : take (k + 1) docs ≡ take k docs ++ d.0 ∷ [] = take_more docs k d.0 lt ∙ ap (λ (w : Doc ℕ). take k docs ++ w ∷ []) (got_index docs k d.0 d.0 d.1) in
+    let taken : take (k + 1) docs ≡ take k docs ++ d.0 ∷ [] = take_more docs k d.0 lt ∙ ap (λ (w : Doc ℕ). take k docs ++ w ∷ []) (get_or_from_slice_get docs k d.0 d.0 d.1) in
     put
     ∙ (λ i. is i ++ replicate ((many ∙ d.2) i) (sym long i))
     ∙ sym (files_more_at (take k docs) d.0)

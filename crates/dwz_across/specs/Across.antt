@@ -65,7 +65,8 @@ pub record IsFileAmong (contents : List (List ℕ)) (file : ℕ) (bytes : List �
   pub names : (offset : ℕ) → name_in (docs_of contents) (at_file file offset) ≡ name_at x.starts kept.read.doc offset
 
 -- What the index of a file gives a top: the top stands there, and it has the number, the unit and the file.
-pub record IsTopOf (contents : List (List ℕ)) (file : ℕ) (bytes : List ℕ) (f : File) (x : Index) (doc : Doc ℕ) (k : ℕ) (e : TopEntry) (t : Top) : Type 0 where
+pub record IsTopOf (contents : List (List ℕ)) (file : ℕ) (bytes : List ℕ) (f : File) (x : Index) (doc : Doc ℕ) (k : ℕ) (e : TopEntry)
+    (t : Top) : Type 0 where
   pub there : slice_get (tops_of (units_of (docs_of contents))) (x.starts.top + k) ≡ Some t
   pub of_file : slice_get (file_tops x.starts file doc) k ≡ Some t
   pub number : t.number ≡ x.starts.top + k
@@ -73,6 +74,8 @@ pub record IsTopOf (contents : List (List ℕ)) (file : ℕ) (bytes : List ℕ) 
   pub file_is : t.file ≡ file
   pub within : e.entry < entries_in (raw_units f.units)
   pub ends : (r : RawEntry) → slice_get (shown_entries (raw_units f.units)) e.entry ≡ Some r → r.end ≤ entries_in (raw_units f.units)
-  pub named : (r : RawEntry) → slice_get (shown_entries (raw_units f.units)) e.entry ≡ Some r → name_at x.starts doc r.at ≡ Within t.number []
+  pub named : (r : RawEntry) → slice_get (shown_entries (raw_units f.units)) e.entry ≡ Some r
+      → name_at x.starts doc r.at ≡ Within t.number []
   pub stands : (r : RawEntry) → slice_get (shown_entries (raw_units f.units)) e.entry ≡ Some r
-      → StandsAt (around_of bytes (raw_units f.units)) (name_at x.starts doc) (raw_units f.units) doc.units file x.starts.unit t e.entry r.end
+      → StandsAt (around_of bytes (raw_units f.units)) (name_at x.starts doc) (raw_units f.units) doc.units file x.starts.unit t e.entry
+      r.end

@@ -7,6 +7,3 @@ mod pages;
 mod stretches;
 
 pub use info::info_by;
-
-#[cfg(test)]
-mod tests;

@@ -1,5 +1,5 @@
 -- The lengths of all files are numbers of 64 bits, as fewer than 2^32 files are there, however many names.
-use Rattle.std.proofs.Common.{◌≡◌, ℕ, zero, suc, ◌-◌, ◌*◌, ◌^◌, ◌<◌, ◌≤◌, Bool, true, false, List, [], ◌∷◌, length, get_or, Option, Some, None, unwrap_or, refl, ap, inl, inr, arith, lit<}
+use Rattle.std.proofs.Common.{◌≡◌, ℕ, suc, ◌-◌, ◌*◌, ◌^◌, ◌<◌, ◌≤◌, Bool, true, false, List, [], ◌∷◌, length, Option, Some, None, unwrap_or, refl, ap, inl, inr, arith, lit<}
 use Rattle.std.specs.List.{sum_by}
 use Rattle.std.specs.Prelude.{if◌then◌else◌}
 use Rattle.std.proofs.lemmas.Bool.{cases_lt}
@@ -9,8 +9,8 @@ use Rattle.dwz_docs.specs.ElfLayout.{too_large}
 use Rattle.dwz_docs.specs.ElfReading.{elf_of}
 use Rattle.dwz_docs.specs.Values.{AreBytes}
 use Rattle.dwz_meanings.specs.Documents.{Doc}
-use Rattle.dwz_meanings.specs.Files.{Limits, ReadAll, limits_after, longest_file, no_files_before}
-use Rattle.dwz_seen.specs.Lists.{Each}
+use Rattle.dwz_meanings.specs.Files.{longest_file, no_files_before}
+use Rattle.dwz_docs.specs.Lists.{Each}
 use Rattle.dwz_same.specs.Units.{changes}
 use Rattle.dwz_back.specs.Files.{Run}
 use Rattle.dwz_back.proofs.StillPlaces.{nth_number}
@@ -23,15 +23,9 @@ use Rattle.dwz_out.proofs.AllMade.{changed, common_free, file_free, sections_fre
 use Rattle.dwz_out.proofs.CommonMade.{is_small}
 use Rattle.dwz_out.proofs.FilesMade.{can_be_made}
 use Rattle.dwz_out.proofs.FilesRead.{content_bytes}
+use Rattle.dwz_out.proofs.Lengths.{read_small}
 use Rattle.dwz_after.proofs.RowsAfter.{Line, line_of}
 use Rattle.dwz_after.proofs.RunReady.{stays_beyond}
-
--- what reads is short
-read_small : (l : Limits) (contents : List (List ℕ)) (docs : List (Doc ℕ)) → ReadAll l contents docs → (n : ℕ) → length (get_or contents n []) ≤ longest_file
-read_small l [] docs all n = omega arith
-read_small l (c ∷ contents) [] all n = absurd all
-read_small l (c ∷ contents) (d ∷ docs) all zero = all.1.size.file
-read_small l (c ∷ contents) (d ∷ docs) all (suc n) = read_small (limits_after l c all.0) contents docs all.2 n
 
 -- a length that is short, and 0 where there is no file
 abbrev IsShort : ℕ → ℕ → ℕ → Type 0

@@ -3,7 +3,7 @@ use Rattle.std.proofs.Common.{◌≡◌, ℕ, ◌<◌, ◌≤◌, true, false, L
 use Rattle.std.proofs.lemmas.Bool.{cases_lt}
 use Rattle.dwz_model.specs.declared.fault.Fault.{Fault}
 use Rattle.dwz_model.specs.declared.fault.Refusal.{Refusal}
-use Rattle.dwz_model.specs.declared.sections.Sections.{Sections}
+use Rattle.dwz_model.specs.declared.sections.NewSections.{NewSections}
 use Rattle.dwz_docs.specs.ElfHeaders.{file_header}
 use Rattle.dwz_docs.specs.ElfLayout.{too_large}
 use Rattle.dwz_docs.specs.Supplementary.{sup_bytes}
@@ -13,7 +13,7 @@ use Rattle.dwz_sup.proofs.LengthLemmas.{length_common}
 use Rattle.dwz_back.specs.Files.{Run}
 use Rattle.dwz_words.specs.declared.options.Options.{Options}
 use Rattle.dwz_out.specs.Contents.{common_after}
-use Rattle.dwz_out.specs.FilesAfter.{common_bytes, has_common, sup_of}
+use Rattle.dwz_out.specs.FilesAfter.{common_bytes, sup_of}
 use Rattle.dwz_out.specs.Out.{sup_name}
 use Rattle.dwz_out.specs.Refusals.{CommonFault, CommonRefusal, IsLargeSection, OfFirst, OrElse, too_large_at}
 use Rattle.dwz_out.proofs.FreeLemmas.{Nothing, not_then}
@@ -24,28 +24,28 @@ use Rattle.dwz_after.specs.NewFiles.{IsNewCommon}
 -- ---- its faults
 
 -- what is found first with a file of that length
-abbrev FaultAt : Sections → ℕ → Fault → Type 0
+abbrev FaultAt : NewSections → ℕ → Fault → Type 0
 FaultAt s len = OrElse (OfFirst IsLargeSection (changes_by s None).new) (λ f. (f ≡ too_large_at 0) × (too_large ≤ len))
 
 length_of_common : (r : Run) → length (common_bytes r) ≡ common_length (common_after r)
 unfolding common_bytes
 length_of_common r = length_common (file_header (r.input.bytes 0)).machine (file_header (r.input.bytes 0)).flags (common_after r)
 
-pub fault_of_run : (r : Run) (s : Sections) (f : Fault) → s ≡ common_after r → FaultWith (Some s) f → CommonFault r f
+pub fault_of_run : (r : Run) (s : NewSections) (f : Fault) → s ≡ common_after r → FaultWith (Some s) f → CommonFault r f
 fault_of_run r s f same fault =
-    subst (λ (n : ℕ). FaultAt (common_after r) n f) (sym (length_of_common r)) (subst (λ (t : Sections). FaultAt t (common_length t) f) same fault)
+    subst (λ (n : ℕ). FaultAt (common_after r) n f) (sym (length_of_common r)) (subst (λ (t : NewSections). FaultAt t (common_length t) f) same fault)
 
-fault_of_sections : (r : Run) (s : Sections) (f : Fault) → s ≡ common_after r → CommonFault r f → FaultWith (Some s) f
+fault_of_sections : (r : Run) (s : NewSections) (f : Fault) → s ≡ common_after r → CommonFault r f → FaultWith (Some s) f
 fault_of_sections r s f same fault =
-    subst (λ (t : Sections). FaultAt t (common_length t) f) (sym same) (subst (λ (n : ℕ). FaultAt (common_after r) n f) (length_of_common r) fault)
+    subst (λ (t : NewSections). FaultAt t (common_length t) f) (sym same) (subst (λ (n : ℕ). FaultAt (common_after r) n f) (length_of_common r) fault)
 
 -- where none is found of what was made for the common file, it isn't refused
-pub no_refusal : (r : Run) (common : Option Sections) → IsNewCommon r common → Nothing (FaultWith common) → Nothing (CommonRefusal r)
+pub no_refusal : (r : Run) (common : Option NewSections) → IsNewCommon r common → Nothing (FaultWith common) → Nothing (CommonRefusal r)
 no_refusal r None none free q is = let z : true ≡ false = sym is.0 ∙ none in absurd (let w : true ≡ false = z in cc)
 no_refusal r (Some s) new free q is = let found = is.1 in free found.0 (fault_of_sections r s found.0 new.1 found.1)
 
 -- and one that is found refuses it
-pub refusal : (r : Run) (common : Option Sections) (f : Fault) (n : ℕ) (q : Refusal) → IsNewCommon r common → FaultWith common f → n ≡ r.common
+pub refusal : (r : Run) (common : Option NewSections) (f : Fault) (n : ℕ) (q : Refusal) → IsNewCommon r common → FaultWith common f → n ≡ r.common
     → q ≡ record { file = n; section = f.section; at = f.at; reason = f.reason } → CommonRefusal r q
 refusal r None f n q none has number is = absurd has
 refusal r (Some s) f n q new has number is =
@@ -54,16 +54,16 @@ refusal r (Some s) f n q new has number is =
 
 -- ---- it can be made
 
-pub small_with : (s : Sections) → Nothing (FaultWith (Some s)) → common_length s < too_large
+pub small_with : (s : NewSections) → Nothing (FaultWith (Some s)) → common_length s < too_large
 small_with s free = elim (cases_lt (common_length s) too_large) [
   | inl less ↦ less
   | inr large ↦ absurd (not_then (OfFirst IsLargeSection (changes_by s None).new) (IsLargeWith s) free (too_large_at 0) (refl, large))
 ]
 
-pub small_file : (machine flags : ℕ) (s : Sections) → common_length s < too_large → length (common_file machine flags s) < too_large
+pub small_file : (machine flags : ℕ) (s : NewSections) → common_length s < too_large → length (common_file machine flags s) < too_large
 small_file machine flags s small = subst (λ (n : ℕ). n < too_large) (sym (length_common machine flags s)) small
 
-module _ (o : Options) (r : Run) (s : Sections) (new : IsNewCommon r (Some s)) where
+module _ (o : Options) (r : Run) (s : NewSections) (new : IsNewCommon r (Some s)) where
   file_is : (first : List ℕ) (machine flags : ℕ) → first ≡ r.input.bytes 0 → machine ≡ (file_header first).machine → flags ≡ (file_header first).flags
       → common_file machine flags s ≡ common_bytes r
   unfolding common_bytes
@@ -71,7 +71,7 @@ module _ (o : Options) (r : Run) (s : Sections) (new : IsNewCommon r (Some s)) w
       ap (λ (n : ℕ). common_file n flags s) m
       ∙ (ap (λ (n : ℕ). common_file (file_header first).machine n s) f
       ∙ (ap (λ (b : List ℕ). common_file (file_header b).machine (file_header b).flags s) same
-      ∙ ap (λ (t : Sections). common_file (file_header (r.input.bytes 0)).machine (file_header (r.input.bytes 0)).flags t) new.1))
+      ∙ ap (λ (t : NewSections). common_file (file_header (r.input.bytes 0)).machine (file_header (r.input.bytes 0)).flags t) new.1))
 
   sup_is : (name sum : List ℕ) → name ≡ sup_name o → sum ≡ common_sum s
       → sup_bytes (record { supplementary = false; name = name; sum = sum }) ≡ sup_bytes (sup_of (sup_name o) r)

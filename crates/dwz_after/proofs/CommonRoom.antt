@@ -1,7 +1,7 @@
 -- How long the common file is: what its sections add, each by itself.
 use Rattle.std.proofs.Common.{◌≡◌, ℕ, ◌+◌, ◌*◌, ◌^◌, ◌<◌, List, [], ◌∷◌, ◌++◌, length, replicate, Option, Some, None, unwrap_or, refl, sym, ap, ◌∙◌, arith, codes, length-append}
 use Rattle.std.specs.Int.{next_multiple_of}
-use Rattle.dwz_model.specs.declared.sections.Sections.{Sections}
+use Rattle.dwz_model.specs.declared.sections.NewSections.{NewSections}
 use Rattle.dwz_docs.specs.ElfLayout.{too_large}
 use Rattle.dwz_docs.specs.PlainFile.{PlainSection, if_there, plain_contents, plain_section, section_names, sections_with, text_section_of}
 use Rattle.dwz_sup.specs.Common.{common_length, sup_length}
@@ -35,7 +35,7 @@ maybe_texts None rest = omega arith
 maybe_texts (Some bytes) rest = one_more (text_section_of bytes) rest
 
 -- the lengths that the sections of the common file add
-pub record AreRooms (s : Sections) (info abbrevs strs offsets line lists ranges sup : ℕ) : Type 0 where
+pub record AreRooms (s : NewSections) (info abbrevs strs offsets line lists ranges sup : ℕ) : Type 0 where
   pub info_is : info ≡ length s.info + 11 + 65
   pub abbrevs_is : abbrevs ≡ length s.abbrev + 13 + 65
   pub strs_is : strs ≡ room_of (codes ".debug_str") s.strs
@@ -45,7 +45,7 @@ pub record AreRooms (s : Sections) (info abbrevs strs offsets line lists ranges 
   pub ranges_is : ranges ≡ room_of (codes ".debug_aranges") s.aranges
   pub sup_is : sup ≡ 37 + 10 + 65
 
-all_weight : (s : Sections) (bytes : List ℕ) (info abbrevs strs offsets line lists ranges sup : ℕ) → length bytes ≡ 37 → AreRooms s info abbrevs strs offsets line lists ranges sup
+all_weight : (s : NewSections) (bytes : List ℕ) (info abbrevs strs offsets line lists ranges sup : ℕ) → length bytes ≡ 37 → AreRooms s info abbrevs strs offsets line lists ranges sup
     → weight (sections_with s bytes) ≡ info + abbrevs + strs + offsets + line + lists + ranges + sup
 all_weight s bytes info abbrevs strs offsets line lists ranges sup len are =
     let eight = plain_section (codes ".debug_sup") bytes ∷ [] in
@@ -67,14 +67,14 @@ all_weight s bytes info abbrevs strs offsets line lists ranges sup len are =
     omega (arith, first, second, third, fourth, fifth, sixth, seventh, eighth, last, len)
 
 -- section headers are at a multiple of 8, and add multiples of 8
-whole_length : (s : Sections) → common_length s ≡ next_multiple_of (203 + weight (sections_with s (replicate {A = ℕ} sup_length 0))) 8
+whole_length : (s : NewSections) → common_length s ≡ next_multiple_of (203 + weight (sections_with s (replicate {A = ℕ} sup_length 0))) 8
 unfolding weight
 whole_length s =
     let sections = sections_with s (replicate {A = ℕ} sup_length 0) in
     let names = length-append (section_names sections) (codes ".shstrtab" ++ 0 ∷ []) in
     omega (arith, names)
 
-pub length_is : (s : Sections) (info abbrevs strs offsets line lists ranges sup end len : ℕ) → AreRooms s info abbrevs strs offsets line lists ranges sup
+pub length_is : (s : NewSections) (info abbrevs strs offsets line lists ranges sup end len : ℕ) → AreRooms s info abbrevs strs offsets line lists ranges sup
     → end ≡ 203 + info + abbrevs + strs + offsets + line + lists + ranges + sup → len ≡ next_multiple_of end 8 → len ≡ common_length s
 length_is s info abbrevs strs offsets line lists ranges sup end len are end_is is =
     let whole = whole_length s in
@@ -83,7 +83,7 @@ length_is s info abbrevs strs offsets line lists ranges sup end len are end_is i
     is ∙ (ap (λ (n : ℕ). next_multiple_of n 8) same ∙ sym whole)
 
 -- where the file isn't too large its checksum can be had
-pub can_sum : (s : Sections) → common_length s < too_large → length s.info + length (unwrap_or s.strs []) + length s.abbrev < 2 ^ 61
+pub can_sum : (s : NewSections) → common_length s < too_large → length s.info + length (unwrap_or s.strs []) + length s.abbrev < 2 ^ 61
 can_sum s small =
     let sections = sections_with s (replicate {A = ℕ} sup_length 0) in
     let few : length (plain_contents sections) < 2 ^ 32 = omega (arith, small) in

@@ -1,5 +1,6 @@
 -- A file that is made with its new sections is what is asked for, and what keeps it from being made is its first fault.
-use Rattle.std.proofs.Common.{◌≡◌, ◌⊎◌, ℕ, ◌+◌, ◌<◌, ◌≤◌, Bool, true, false, List, [], ◌∷◌, ◌++◌, length, get_or, map, append-nil, below_more, Option, Some, None, Err, refl, sym, ap, subst, ◌∙◌, inl, inr, arith, IsSome}
+use Rattle.std.proofs.Common.{◌≡◌, ◌⊎◌, ℕ, ◌+◌, ◌<◌, ◌≤◌, Bool, true, false, List, [], ◌∷◌, ◌++◌, length, get_or, map, append-nil, below_more, Option, Some, None, Err, refl, sym, ap, subst, ◌∙◌, inl}
+use Rattle.std.proofs.Common.{inr, arith, IsSome}
 use Rattle.std.proofs.lemmas.List.{get_or_append_left, get_or_push, length_push}
 use Rattle.std.proofs.lemmas.Option.{slice_get-map, slice_get_read}
 use Rattle.std.specs.Option.{option_map}
@@ -7,7 +8,7 @@ use Rattle.std.specs.Prelude.{slice_get}
 use Rattle.dwz_model.specs.declared.fault.Fault.{Fault}
 use Rattle.dwz_model.specs.declared.fault.GraphErr.{GraphErr}
 use Rattle.dwz_model.specs.declared.fault.GraphErr.TheVariants.{NoMemory, Refused}
-use Rattle.dwz_model.specs.declared.sections.Sections.{Sections}
+use Rattle.dwz_model.specs.declared.sections.NewSections.{NewSections}
 use Rattle.dwz_docs.specs.declared.elf.NewContent.{NewContent}
 use Rattle.dwz_docs.specs.ElfLayout.{Changes, layout_fault, rebuilt_length, too_large}
 use Rattle.dwz_docs.specs.ElfReading.{ElfView, elf_of}
@@ -34,7 +35,7 @@ there input code None can = tt
 there input code (Some bytes) can = subst (λ (o : Option (ℕ × ℕ)). IsSome o) (sym can.1) refl
 
 -- what was given: `.debug_sup`, and then from the last code to the first
-pub all_given : (e : ElfView) (s : Sections) (sup : Option (List ℕ)) (start : RebuildView) → start.elf ≡ e → start.changes.new ≡ []
+pub all_given : (e : ElfView) (s : NewSections) (sup : Option (List ℕ)) (start : RebuildView) → start.elf ≡ e → start.changes.new ≡ []
     → given 1 (Some s.info) (given 2 (Some s.abbrev) (given 3 s.strs (given 5 s.offsets (given 6 s.line (given 7 s.loclists (given 8 s.aranges (with_sup_if sup start)))))))
     ≡ record { elf = e; changes = changes_by s sup }
 all_given e s sup start elf new =
@@ -85,11 +86,11 @@ module _ (name : List ℕ) (r : Run) (file : ℕ) (moves : changes r.move r.unit
 module _ (name : List ℕ) (r : Run) (file : ℕ) (bytes : List ℕ) (n : NewFile) (sup : Option (List ℕ)) (can : CanMake r file bytes (Some n)) (says : sup ≡ sup_after name r file) where
   same_changes : changes_by n.sections sup ≡ changes_after name r file
   same_changes =
-      ap (λ (s : Sections). changes_by s sup) can.is_new.sections
+      ap (λ (s : NewSections). changes_by s sup) can.is_new.sections
       ∙ ap (λ (x : Option (List ℕ)). changes_by (sections_after r file) x) says
 
   pub can_give : CanGiveAll bytes n.sections
-  can_give = subst (λ (s : Sections). CanGiveAll bytes s) (sym can.is_new.sections) (can.can can.is_new.moves)
+  can_give = subst (λ (s : NewSections). CanGiveAll bytes s) (sym can.is_new.sections) (can.can can.is_new.moves)
 
   pub file_made : (out : List ℕ) → IsRebuilt (view_of bytes (changes_by n.sections sup)) bytes out
       → Nothing (FileFault name r file) × (Some out ≡ made_after name r file)
@@ -127,7 +128,8 @@ one_made name r count files new are free is =
     }
 
 -- a refusal of a file is that of all, where the files before it have no fault
-pub one_refused : {A : Type 0} (items : A → List (Option (List ℕ))) (name : List ℕ) (r : Run) (count file : ℕ) (files : List (Option (List ℕ))) (e : GraphErr) → AreMadeSo name r file files → file < count
+pub one_refused : {A : Type 0} (items : A → List (Option (List ℕ))) (name : List ℕ) (r : Run) (count file : ℕ) (files : List (Option (List ℕ))) (e : GraphErr) → AreMadeSo name r file files
+    → file < count
     → AnswersFile name r file (Err e) → AnswersAll items name r count (Err e)
 one_refused items name r count file files (Refused q) are less has = first_found (FileFault name r) count file q are.free less has
 one_refused items name r count file files NoMemory are less has = tt

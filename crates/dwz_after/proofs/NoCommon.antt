@@ -16,7 +16,7 @@ use Rattle.dwz_words.specs.declared.options.Options.{Options}
 use Rattle.dwz_out.specs.FilesAfter.{has_common, is_common}
 use Rattle.dwz_out.specs.Out.{rule_of, scope_by, scope_of}
 
-none_there : (m : Move) (n : ℕ) (parts : List PartialUnit) → partial_units m Common n parts ≡ [] → list_any is_common parts ≡ false
+pub none_there : (m : Move) (n : ℕ) (parts : List PartialUnit) → partial_units m Common n parts ≡ [] → list_any is_common parts ≡ false
 unfolding partial_units
 none_there m n [] none = refl
 none_there m n (part ∷ parts) none = by (none_there m (suc n) parts) (is_common part) none where

@@ -5,11 +5,11 @@ use Rattle.dwz_model.specs.declared.fault.Fault.{Fault}
 use Rattle.dwz_model.specs.declared.fault.GraphErr.{GraphErr}
 use Rattle.dwz_model.specs.declared.fault.GraphErr.TheVariants.{NoMemory, Refused}
 use Rattle.dwz_model.specs.declared.fault.Refusal.{Refusal}
-use Rattle.dwz_model.specs.declared.sections.Sections.{Sections}
+use Rattle.dwz_model.specs.declared.sections.NewSections.{NewSections}
 use Rattle.dwz_docs.specs.Values.{AreBytes}
 use Rattle.dwz_meanings.specs.Documents.{Doc}
 use Rattle.dwz_meanings.specs.Files.{no_files_before}
-use Rattle.dwz_seen.specs.Lists.{Each}
+use Rattle.dwz_docs.specs.Lists.{Each}
 use Rattle.dwz_back.specs.Files.{Run}
 use Rattle.dwz_outside.specs.declared.puts.Put.{Put}
 use Rattle.dwz_report.specs.declared.summary.Summary.{Summary}
@@ -44,7 +44,7 @@ module _ (o : Options) (contents : List (List ℕ)) (docs : List (Doc ℕ)) (pru
   refused q fault = (inr (docs, prunes, record { read = read; fault = fault }), of_section (sup_name o) r q fault)
 
   -- the common file is refused; it has the number behind those of the files
-  pub common_refused : (common : Option Sections) (f : Fault) (q : Refusal) → IsNewCommon r common → FaultWith common f
+  pub common_refused : (common : Option NewSections) (f : Fault) (q : Refusal) → IsNewCommon r common → FaultWith common f
       → q ≡ record { file = length contents; section = f.section; at = f.at; reason = f.reason } → IsAnswer (Out o contents) (Err (Refused q))
   common_refused common f q new has is = refused q (inl (refusal r common f (length contents) q new has (sym (as_many no_files_before contents docs read.reads)) is))
 

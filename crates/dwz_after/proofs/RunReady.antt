@@ -1,16 +1,17 @@
 -- The files of a run that were read can be made: what is new in each can be given to it, since its sections are there.
-use Rattle.std.proofs.Common.{◌≡◌, ℕ, zero, suc, ◌+◌, ◌<◌, ◌≤◌, Bool, true, false, List, [], ◌∷◌, length, get_or, Option, None, refl, sym, ap, ◌∙◌, inl, inr, arith}
-use Rattle.std.specs.List.{range_with_len}
+use Rattle.std.proofs.Common.{◌≡◌, ℕ, zero, suc, ◌<◌, ◌≤◌, Bool, true, false, List, [], ◌∷◌, length, get_or, Option, None, refl, sym, ap, ◌∙◌, inl, inr, arith}
 use Rattle.std.proofs.lemmas.Bool.{cases_lt}
 use Rattle.std.proofs.lemmas.List.{get_or_past}
+use Rattle.std.proofs.lemmas.List.FromFn.{length-range_with_len}
 use Rattle.dwz_docs.specs.Entries.{given}
 use Rattle.dwz_docs.specs.Units.{RawUnit, SpellsUnits}
 use Rattle.dwz_docs.specs.Values.{AreBytes}
 use Rattle.dwz_meanings.specs.Documents.{Doc}
 use Rattle.dwz_meanings.specs.Files.{Limits, ReadAll, debug_abbrev, debug_info, limits_after, no_files_before, section_of}
 use Rattle.dwz_rebuilt.specs.Changed.{CanGiveAll}
-use Rattle.dwz_seen.specs.Lists.{Each, Nth}
-use Rattle.dwz_alike.specs.Spots.{file_numbers}
+use Rattle.dwz_docs.specs.Lists.{Each}
+use Rattle.dwz_seen.proofs.Members.{nth_below}
+use Rattle.dwz_alike.proofs.FileNumbers.{numbers_long}
 use Rattle.dwz_same.specs.Units.{changes}
 use Rattle.dwz_back.specs.AllFiles.{IsRead}
 use Rattle.dwz_back.specs.Files.{Run}
@@ -30,25 +31,11 @@ use Rattle.dwz_after.proofs.SectionFaults.{is_row}
 
 -- ---- numbers of files
 
-nth_less : {X : Type 0} (s : ℕ) (xs : List X) (n : ℕ) (x : X) → Nth s xs n x → n < s + length xs
-nth_less s [] n x nth = absurd nth
-nth_less s (y ∷ xs) n x (inl here) = let e = here.0 in omega (arith, e)
-nth_less s (y ∷ xs) n x (inr later) = let less = nth_less (suc s) xs n x later in omega (arith, less)
-
 pub as_many : (l : Limits) (contents : List (List ℕ)) (docs : List (Doc ℕ)) → ReadAll l contents docs → length docs ≡ length contents
 as_many l [] [] all = refl
 as_many l [] (d ∷ docs) all = absurd all
 as_many l (c ∷ contents) [] all = absurd all
 as_many l (c ∷ contents) (d ∷ docs) all = ap suc (as_many (limits_after l c all.0) contents docs all.2)
-
-numbers_len : (n : ℕ) (docs : List (Doc ℕ)) → length (file_numbers n docs) ≡ length docs
-unfolding file_numbers
-numbers_len n [] = refl
-numbers_len n (d ∷ docs) = ap suc (numbers_len (suc n) docs)
-
-range_len : (a n : ℕ) → length (range_with_len a n) ≡ n
-range_len a zero = refl
-range_len a (suc n) = ap suc (range_len (a + 1) n)
 
 -- ---- what can be given
 
@@ -91,7 +78,7 @@ module _ (o : Options) (contents : List (List ℕ)) (docs : List (Doc ℕ)) (pru
     by : (b : Bool) → changes r.move r.units file ≡ b → b ≡ false
     by true e =
         let c = changed file e in
-        let less = nth_less 0 docs file c.doc c.nth in
+        let less = nth_below 0 docs file c.doc c.nth in
         let many = as_many no_files_before contents docs read.reads in absurd (omega (arith, less, many, beyond))
     by false e = refl
 
@@ -105,8 +92,8 @@ module _ (o : Options) (contents : List (List ℕ)) (docs : List (Doc ℕ)) (pru
     inside : file < length made
     inside =
         let numbers = ap length are.files in
-        let all = numbers_len 0 docs in
-        let range = range_len 0 (length made) in
+        let all = numbers_long 0 docs in
+        let range = length-range_with_len 0 (length made) in
         let many = as_many no_files_before contents docs read.reads in omega (arith, numbers, all, range, many, less)
 
     same_default : {X : Type 0} (xs : List X) (k : ℕ) (d : X) → k < length xs → get_or xs k (get_or xs k d) ≡ get_or xs k d

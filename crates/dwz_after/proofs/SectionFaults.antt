@@ -2,7 +2,7 @@
 use Rattle.std.proofs.Common.{◌≡◌, ℕ, zero, suc, ◌+◌, ◌<◌, true, false, List, [], ◌∷◌, ◌++◌, length, get_or, append_assoc, Option, Some, None, refl, sym, subst, ◌∙◌, inl, inr, arith}
 use Rattle.std.specs.Option.{option_or}
 use Rattle.dwz_model.specs.declared.fault.Fault.{Fault}
-use Rattle.dwz_model.specs.declared.sections.Sections.{Sections}
+use Rattle.dwz_model.specs.declared.sections.NewSections.{NewSections}
 use Rattle.dwz_docs.specs.declared.elf.NewContent.{NewContent}
 use Rattle.dwz_rebuilt.specs.Changed.{changes_by, if_new}
 use Rattle.dwz_seen.specs.Lists.{Nth}
@@ -43,7 +43,7 @@ module _ (r : Run) (file : ℕ) (moves : changes r.move r.units file ≡ true) w
 pub new_found : (r : Run) (file : ℕ) (n : NewFile) (b : Option Fault) → IsNewFile r file n → IsFound (OfFirst IsLargeSection (changes_by n.sections None).new) b
     → IsFound (SectionsFault r file) (option_or n.narrow b)
 new_found r file n b is large =
-    sections_found r file is.moves n.narrow b is.narrow (subst (λ (s : Sections). IsFound (OfFirst IsLargeSection (changes_by s None).new) b) is.sections large)
+    sections_found r file is.moves n.narrow b is.narrow (subst (λ (s : NewSections). IsFound (OfFirst IsLargeSection (changes_by s None).new) b) is.sections large)
 
 -- a file of which nothing moves has none
 pub old_found : (r : Run) (file : ℕ) → IsNewOrOld r file None → IsFound (SectionsFault r file) None
@@ -80,23 +80,23 @@ regroup : (a b c d e f g : List NewContent) → (((((a ++ b) ++ c) ++ d) ++ e) +
 regroup a b c d e f g = simp append_assoc
 
 -- the new sections up to a code
-abbrev pub to_abbrevs : Sections → List NewContent
+abbrev pub to_abbrevs : NewSections → List NewContent
 to_abbrevs s = if_new 1 (Some s.info) ++ if_new 2 (Some s.abbrev)
 
-abbrev pub to_strs : Sections → List NewContent
+abbrev pub to_strs : NewSections → List NewContent
 to_strs s = to_abbrevs s ++ if_new 3 s.strs
 
-abbrev pub to_offsets : Sections → List NewContent
+abbrev pub to_offsets : NewSections → List NewContent
 to_offsets s = to_strs s ++ if_new 5 s.offsets
 
-abbrev pub to_line : Sections → List NewContent
+abbrev pub to_line : NewSections → List NewContent
 to_line s = to_offsets s ++ if_new 6 s.line
 
-abbrev pub to_lists : Sections → List NewContent
+abbrev pub to_lists : NewSections → List NewContent
 to_lists s = to_line s ++ if_new 7 s.loclists
 
 -- those of all codes
-pub all_large : (s : Sections) (found : Option Fault) → AreLarge (to_lists s ++ if_new 8 s.aranges) found → AreLarge (changes_by s None).new found
+pub all_large : (s : NewSections) (found : Option Fault) → AreLarge (to_lists s ++ if_new 8 s.aranges) found → AreLarge (changes_by s None).new found
 all_large s found =
     subst (λ (new : List NewContent). AreLarge new found)
     (regroup (if_new 1 (Some s.info)) (if_new 2 (Some s.abbrev)) (if_new 3 s.strs) (if_new 5 s.offsets) (if_new 6 s.line) (if_new 7 s.loclists) (if_new 8 s.aranges))

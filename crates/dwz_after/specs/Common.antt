@@ -1,7 +1,7 @@
 -- The common file: why it is refused, and what is made of it.
 use Rattle.std.specs.Prelude.{◌≡◌, ℕ, ◌+◌, ◌≤◌, true, false, List, length, Option, Some, None}
 use Rattle.dwz_model.specs.declared.fault.Fault.{Fault}
-use Rattle.dwz_model.specs.declared.sections.Sections.{Sections}
+use Rattle.dwz_model.specs.declared.sections.NewSections.{NewSections}
 use Rattle.dwz_docs.specs.ElfLayout.{too_large}
 use Rattle.dwz_docs.specs.Supplementary.{sup_bytes}
 use Rattle.dwz_rebuilt.specs.Changed.{changes_by}
@@ -16,11 +16,11 @@ use Rattle.dwz_after.specs.declared.common.CommonFile.{CommonFile}
 -- ---- its first fault
 
 -- the file with these sections is too large
-abbrev pub IsLargeWith : Sections → Fault → Type 0
+abbrev pub IsLargeWith : NewSections → Fault → Type 0
 IsLargeWith s f = (f ≡ too_large_at 0) × (too_large ≤ common_length s)
 
 -- the first section that is too large, or else the file, if there is one
-abbrev pub FaultWith : Option Sections → Fault → Type 0
+abbrev pub FaultWith : Option NewSections → Fault → Type 0
 FaultWith None = λ f. ⊥
 FaultWith (Some s) = OrElse (OfFirst IsLargeSection (changes_by s None).new) (IsLargeWith s)
 

@@ -2,7 +2,7 @@
 use Rattle.std.specs.Prelude.{◌≡◌, ℕ, true, false, List, length, Option, Some, None}
 use Rattle.std.specs.List.{range_with_len}
 use Rattle.dwz_model.specs.declared.fault.Fault.{Fault}
-use Rattle.dwz_model.specs.declared.sections.Sections.{Sections}
+use Rattle.dwz_model.specs.declared.sections.NewSections.{NewSections}
 use Rattle.dwz_seen.specs.Lists.{Nth}
 use Rattle.dwz_same.specs.Units.{changes}
 use Rattle.dwz_back.specs.Files.{Run, imports_common}
@@ -39,6 +39,6 @@ pub record AreNew (r : Run) (made : List (Option NewFile)) (partials : ℕ) : Ty
   pub parts : partials ≡ length r.move.parts
 
 -- these are the sections of the common file of the run, if there is one
-abbrev pub IsNewCommon : Run → Option Sections → Type 0
+abbrev pub IsNewCommon : Run → Option NewSections → Type 0
 IsNewCommon r None = has_common r ≡ false
 IsNewCommon r (Some s) = (has_common r ≡ true) × (s ≡ common_after r)

@@ -15,7 +15,7 @@ use crate::rows::look_at_all;
 use crate::summary::{common_line, lines};
 use dwz_course::{Output, Puts};
 use dwz_graph::Graph;
-use dwz_model::{GraphErr, Sections};
+use dwz_model::{GraphErr, NewSections};
 use dwz_report::{Summary, SummaryLines};
 use dwz_words::Options;
 use std::alloc::Global;
@@ -33,7 +33,7 @@ pub fn outcome(
     options: &Options,
     contents: &[Vec<u8>],
     graph: &Graph<'_>,
-    common: Option<Sections>,
+    common: Option<NewSections>,
     made: Vec<Option<NewFile>>,
     partials: u32,
 ) -> Result<Output, GraphErr>

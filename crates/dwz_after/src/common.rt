@@ -15,7 +15,7 @@ ghost use Rattle.dwz_after.specs.NewFiles.{IsFound, IsNewCommon};
 use crate::faults::{TOO_LARGE, first_large, too_large};
 use crate::rows::copied;
 use dwz_graph::Graph;
-use dwz_model::{Blob, Fault, NoMemory, Sections};
+use dwz_model::{Blob, Fault, NewSections, NoMemory};
 use dwz_sup::{checksum, common_file, debug_sup};
 use dwz_words::Options;
 use std::alloc::Global;
@@ -56,7 +56,7 @@ fn room_if(name: &[u8], bytes: &Option<Blob>) -> u128
 }
 
 // How many bytes the common file with these sections has.
-fn common_len(sections: &Sections) -> u128
+fn common_len(sections: &NewSections) -> u128
     ensures { result ≡ common_length sections.now }
 {
     let info = room(b".debug_info", sections.info.len());
@@ -72,7 +72,7 @@ fn common_len(sections: &Sections) -> u128
 }
 
 // The fault of the file with these sections, where it is too large.
-fn large_file(sections: &Sections) -> Option<Fault>
+fn large_file(sections: &NewSections) -> Option<Fault>
     ensures { IsFound (IsLargeWith sections.now) result }
 {
     if common_len(sections) >= TOO_LARGE as u128 {
@@ -83,7 +83,7 @@ fn large_file(sections: &Sections) -> Option<Fault>
 }
 
 /// The first fault of the common file, if there is one: a section that is too large, or else the file.
-pub(crate) fn common_fault(common: &Option<Sections>) -> Option<Fault>
+pub(crate) fn common_fault(common: &Option<NewSections>) -> Option<Fault>
     ensures { IsFound (FaultWith common.now) result }
 {
     match common {
@@ -114,7 +114,7 @@ fn name_of(options: &Options) -> &[u8]
 }
 
 // The checksum of the common file with these sections.
-fn sum_of(sections: &Sections) -> [u8; 32]
+fn sum_of(sections: &NewSections) -> [u8; 32]
     requires { common_length sections.now < too_large }
     ensures { result ≡ common_sum sections.now }
 {
@@ -133,7 +133,7 @@ pub(crate) fn common_made(
     alloc: Global,
     options: &Options,
     graph: &Graph<'_>,
-    common: Option<Sections>,
+    common: Option<NewSections>,
 ) -> Result<Option<CommonFile>, NoMemory>
     requires { (f : Fault) → ¬ FaultWith common f }
     ensures { (r : Run) → get_or graph.now 0 [] ≡ r.input.bytes 0 → IsNewCommon r common → IfOk result (IsCommonMade options.now r) }

@@ -9,7 +9,7 @@ ghost use Rattle.dwz_rebuilt.specs.Changed.{changes_by, if_new};
 ghost use Rattle.dwz_after.specs.NewFiles.{AreNew, IsFound, IsNewFile, IsNewOrOld};
 
 use crate::new_file::NewFile;
-use dwz_model::{Blob, Fault, Reason, Refusal, Sections};
+use dwz_model::{Blob, Fault, NewSections, Reason, Refusal};
 
 // The codes of the sections.
 pub(crate) const INFO: u8 = 1;
@@ -63,7 +63,7 @@ fn large(code: u8, bytes: Option<&Blob>) -> Option<Fault>
 }
 
 /// The fault of the first new section that is too large.
-pub(crate) fn first_large(sections: &Sections) -> Option<Fault>
+pub(crate) fn first_large(sections: &NewSections) -> Option<Fault>
     ensures { IsFound (OfFirst IsLargeSection (changes_by sections.now None).new) result }
 {
     large(INFO, Some(&sections.info))

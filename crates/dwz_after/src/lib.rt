@@ -12,6 +12,3 @@ mod summary;
 
 pub use after::outcome;
 pub use new_file::NewFile;
-
-#[cfg(test)]
-mod tests;

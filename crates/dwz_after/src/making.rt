@@ -17,7 +17,7 @@ use crate::new_file::NewFile;
 use crate::rows::taken;
 use dwz_elf::{Elf, Rebuild};
 use dwz_graph::Graph;
-use dwz_model::{Blob, GraphErr, NoMemory, ReadErr, Sections};
+use dwz_model::{Blob, GraphErr, NewSections, NoMemory, ReadErr};
 use std::alloc::Global;
 
 // Gives the section with a code its new bytes, if there are some. One that isn't there gets none.
@@ -51,14 +51,14 @@ fn rebuilt(
     alloc: Global,
     bytes: &[u8],
     elf: &Elf,
-    sections: Sections,
+    sections: NewSections,
     sup: Option<Blob>,
 ) -> Result<Vec<u8>, ReadErr>
     requires { elf.now ≡ elf_of bytes.now }
     ensures { CanGiveAll bytes.now sections
         → Finishes (λ out. out.items) (record { elf = elf_of bytes.now; changes = changes_by sections sup }) bytes.now result }
 {
-    let Sections {
+    let NewSections {
         info,
         abbrev,
         strs,
@@ -89,7 +89,8 @@ fn made_file(
     new: Option<NewFile>,
 ) -> Result<Option<Blob>, GraphErr>
     requires { elf.now ≡ elf_of bytes.now }
-    ensures { (o : Options) (r : Run) → IsCommonMade o r common.now → CanMake r file bytes.now new → AnswersFile (sup_name o) r file result }
+    ensures { (o : Options) (r : Run) → IsCommonMade o r common.now → CanMake r file bytes.now new
+        → AnswersFile (sup_name o) r file result }
 {
     let Some(new) = new else {
         return Ok(None);

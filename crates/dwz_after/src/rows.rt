@@ -2,7 +2,7 @@
 
 ghost use Rattle.std.specs.Prelude.{◌≡◌, ◌≢◌, ℕ, [], None, IfOk, get_or, map};
 ghost use Rattle.dwz_docs.specs.Values.{AreBytes};
-ghost use Rattle.dwz_seen.specs.Lists.{Each};
+ghost use Rattle.dwz_docs.specs.Lists.{Each};
 
 use dwz_model::{Blob, NoMemory};
 use std::alloc::Global;

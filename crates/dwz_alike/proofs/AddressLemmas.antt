@@ -2,25 +2,18 @@
 use Rattle.std.proofs.Common.{◌≡◌, ◌≢◌, ◌↔◌, ◌⊎◌, ◌||◌, ℕ, zero, suc, ◌+◌, Bool, true, false, List, [], ◌∷◌, ◌++◌, length, if◌then◌else◌, ◌==◌, refl, sym, ap, ◌∙◌, inl, inr}
 use Rattle.dwz_model.specs.declared.place.Base.TheVariants.{Unit as FromUnit}
 use Rattle.dwz_meanings.specs.declared.exprs.Operand.{Operand}
-use Rattle.dwz_meanings.specs.Exprs.{AnAddress, AreNamed, Counted, Entry4, EntryOrGeneric, EntryUleb, ExprContext, Expression, Field, Found, Holds, Inside, Located, LocatedBy, Names, Run, Signed, Sized, SpellsExpr, SpellsField, SpellsFields, SpellsOp, SpellsPiece, SpellsWithin, Unsigned, an_operand_or_generic, any_operands, expression_of, has_address, joined, most_inside, operands_in, parts_from, parts_of}
+use Rattle.dwz_meanings.specs.Exprs.{AreNamed, Counted, Entry4, EntryOrGeneric, EntryUleb, ExprContext, Expression, Field, Found, Holds, Inside, Located, LocatedBy, Names, Run, Signed, Sized}
+use Rattle.dwz_meanings.specs.Exprs.{SpellsExpr, SpellsField, SpellsFields, SpellsOp, SpellsPiece, SpellsWithin, Unsigned, an_operand_or_generic, any_operands, expression_of, has_address, joined}
+use Rattle.dwz_meanings.specs.Exprs.{most_inside, operands_in, parts_from, parts_of}
 use Rattle.dwz_meanings.specs.Sequences.{Spelling, SpellsAll}
 use Rattle.dwz_meanings.specs.Documents.{Expr}
 use Rattle.dwz_meanings.specs.Meanings.{expr_context}
 use Rattle.dwz_alike.specs.Alike.{holds_place, is_addressed, says_address}
 use Rattle.dwz_alike.specs.AlikeLaws.{AddressLaw}
 use Rattle.dwz_meanings.proofs.ExprLemmas.{expr_agrees}
+use Rattle.dwz_meanings.proofs.FoundLemmas.{address_append}
 
 -- ---- what several fields hold
-
-address_append : (xs ys : List Found) → has_address (xs ++ ys) ≡ (has_address xs || has_address ys)
-unfolding has_address
-address_append [] ys = refl
-address_append (Names o ∷ xs) ys = address_append xs ys
-address_append (AnAddress ∷ xs) ys = refl
-address_append (Holds e ∷ xs) ys = go (address_append xs ys) e.address where
-  go : has_address (xs ++ ys) ≡ (has_address xs || has_address ys) → (b : Bool) → (b || has_address (xs ++ ys)) ≡ ((b || has_address xs) || has_address ys)
-  go more true = refl
-  go more false = more
 
 both_append : (xs ys zs ws : List Found) → has_address xs ≡ has_address zs → has_address ys ≡ has_address ws → has_address (xs ++ ys) ≡ has_address (zs ++ ws)
 both_append xs ys zs ws first second = rw (address_append xs ys, address_append zs ws, first, second) refl
@@ -43,7 +36,8 @@ Repeats IsExpr IsAgain = (e : Expression) (start place : ℕ) (bytes : List ℕ)
 generic_same : (start place width number : ℕ) → has_address (an_operand_or_generic start width number) ≡ has_address (an_operand_or_generic place width number)
 unfolding has_address
 generic_same start place width number = go (number == 0) where
-  go : (b : Bool) → has_address (if b then [] else Names (record { at = start; width = width; uleb = true; base = FromUnit; number = number }) ∷ []) ≡ has_address (if b then [] else Names (record { at = place; width = width; uleb = true; base = FromUnit; number = number }) ∷ [])
+  go : (b : Bool) → has_address (if b then [] else Names (record { at = start; width = width; uleb = true; base = FromUnit; number = number }) ∷ [])
+      ≡ has_address (if b then [] else Names (record { at = place; width = width; uleb = true; base = FromUnit; number = number }) ∷ [])
   go true = refl
   go false = refl
 
@@ -139,7 +133,8 @@ by_operands : (c : ExprContext) (e : Expression) (start : ℕ) (bytes : List ℕ
     → (holds_place (Expr (parts_of e)) ≡ true) ↔ ((e.address ≡ true) ⊎ (e.operands ≢ []))
 by_operands c e start bytes s [] is =
     let whole : e.bytes ≡ bytes = ap (λ (x : Expression). x.bytes) s.made in
-    let same : holds_place (Expr (parts_of e)) ≡ e.address = ap (λ (w : List Operand). holds_place (Expr (parts_from e.at e.bytes w))) is ∙ bytes_alone e.at e.bytes ∙ ap is_addressed whole ∙ read_again c e start bytes s in (
+    let same : holds_place (Expr (parts_of e)) ≡ e.address = ap (λ (w : List Operand). holds_place (Expr (parts_from e.at e.bytes w))) is ∙ bytes_alone e.at e.bytes ∙ ap is_addressed whole
+    ∙ read_again c e start bytes s in (
       λ h. inl (sym same ∙ h),
       λ h. elim h [ inl a ↦ same ∙ a | inr some ↦ absurd (some is) ],
     )

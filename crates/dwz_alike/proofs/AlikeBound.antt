@@ -6,7 +6,8 @@ use Rattle.std.specs.List.{list_any}
 use Rattle.dwz_meanings.specs.Documents.{Attr, Entries, Node}
 use Rattle.dwz_docs.specs.Lists.{In, has}
 use Rattle.dwz_docs.specs.Trees.{End, Entry}
-use Rattle.dwz_alike.specs.Alike.{Bound, Movable, any_attr, any_entry, any_in, attr_binds, binding_forms, binds_itself, entry_binds, holds_place, is_in, is_named, is_number, leaves, refers_to, unit_in}
+use Rattle.dwz_alike.specs.Alike.{Bound, Movable, any_attr, any_entry, any_in, attr_binds, binding_forms, binds_itself, entry_binds, holds_place, is_in, is_named, is_number, leaves, refers_to}
+use Rattle.dwz_alike.specs.Alike.{unit_in}
 use Rattle.dwz_alike.specs.Deciding.{bound_test, is_movable}
 use Rattle.dwz_alike.specs.Spots.{FileUnit, Import, InChain, InType, PartialOf, PartialRoot, RootOf, SpaceAt, Spot, Top, UnitOf, Within, tops_of}
 use Rattle.dwz_seen.proofs.Members.{any_true, each_of}
@@ -183,7 +184,7 @@ stays tops unit n path h = ⊎_elim
     (λ (e : is_number (unit_in tops n) unit ≡ false). absurd (h (not_from_false (is_number (unit_in tops n) unit) e)))
     (cases_Bool (is_number (unit_in tops n) unit))
 
-free_top : (units : List (FileUnit Spot)) (t : Top) → In t (tops_of units) → Movable units t.number → binds_itself units t ≡ true → ⊥
+pub free_top : (units : List (FileUnit Spot)) (t : Top) → In t (tops_of units) → Movable units t.number → binds_itself units t ≡ true → ⊥
 unfolding Bound
 free_top units t i m e = m.free 0 (t, i, refl, e)
 

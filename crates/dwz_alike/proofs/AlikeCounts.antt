@@ -122,8 +122,10 @@ classes_less fine same (x ∷ xs) h =
     omega arith
 
 -- the first element, and the others
-with_first : (fine same : Test) (x : ℕ) (xs : List ℕ) → IsEquivalence fine (x ∷ xs) → IsEquivalence same (x ∷ xs) → ((z : ℕ) → In z xs → same x z ≡ true → fine x z ≡ true) → Finer same fine xs → Finer same fine (x ∷ xs)
-with_first fine same x xs f s first rest y z (inl p) (inl q) e = f.joins y x z (inl p) (inl refl) (inl q) (subst (λ (w : ℕ). fine w x ≡ true) p (f.self x (inl refl))) (subst (λ (w : ℕ). fine x w ≡ true) q (f.self x (inl refl)))
+with_first : (fine same : Test) (x : ℕ) (xs : List ℕ) → IsEquivalence fine (x ∷ xs) → IsEquivalence same (x ∷ xs) → ((z : ℕ) → In z xs → same x z ≡ true → fine x z ≡ true) → Finer same fine xs
+    → Finer same fine (x ∷ xs)
+with_first fine same x xs f s first rest y z (inl p) (inl q) e = f.joins y x z (inl p) (inl refl) (inl q) (subst (λ (w : ℕ). fine w x ≡ true) p (f.self x (inl refl)))
+    (subst (λ (w : ℕ). fine x w ≡ true) q (f.self x (inl refl)))
 with_first fine same x xs f s first rest y z (inl p) (inr j) e = subst (λ (w : ℕ). fine w z ≡ true) p (first z j (subst (λ (w : ℕ). same w z ≡ true) (sym p) e))
 with_first fine same x xs f s first rest y z (inr i) (inl q) e =
     let turned : same x y ≡ true = subst (λ (w : ℕ). same w y ≡ true) (sym q) (s.turns y z (inr i) (inl q) e) in

@@ -3,7 +3,7 @@ use Rattle.std.proofs.Common.{◌≡◌, ◌⊎◌, ℕ, suc, ◌≤◌, Bool, t
 use Rattle.std.proofs.lemmas.Bool.{false≢true}
 use Rattle.std.proofs.lemmas.Bool.Decides.{Decides-at, Decides-eqb, Decides-like}
 use Rattle.dwz_docs.specs.Lists.{In}
-use Rattle.dwz_alike.specs.Alike.{Alike, Apart, InScope, IsAlike, Look, Movable, Scope, Together}
+use Rattle.dwz_alike.specs.Alike.{Alike, Apart, InScope, IsAlike, Look, Movable, TopScope, Together}
 use Rattle.dwz_alike.specs.Deciding.{alike_test, alike_tops, in_scope, is_movable, look_test, on_tops, top_in}
 use Rattle.dwz_alike.specs.Spots.{FileUnit, Spot, Top, tops_of}
 use Rattle.dwz_alike.proofs.AlikeBound.{movable_closed, movable_decides}
@@ -84,7 +84,8 @@ pub every_look : (units : List (FileUnit Spot)) (m n : ℕ) → Movable units m 
 every_look units m n u v h k =
     let tops = tops_of units in
     let xs = movables units tops in
-    look_every tops (tops_numbers units) xs (movable_closed units (λ i. In i xs) (movable_in units) (in_movable units)) (length tops) (movables_length units tops) m n (movable_in units m u) (movable_in units n v) h k
+    look_every tops (tops_numbers units) xs (movable_closed units (λ i. In i xs) (movable_in units) (in_movable units)) (length tops) (movables_length units tops) m n (movable_in units m u)
+    (movable_in units n v) h k
 
 -- the test of looks of each depth is true of movable tops exactly where the look finds them equal
 pub look_tells : (units : List (FileUnit Spot)) (k m n : ℕ) → Movable units m → Movable units n → Decides (look_test (tops_of units) k m n) (Look (tops_of units) k m n)
@@ -107,11 +108,12 @@ alike_joins units l m n a b = record {
 
 -- ---- the test
 
-scope_decides : (scope : Scope) (a b : Top) → Decides (in_scope scope a b) (InScope scope a b)
+scope_decides : (scope : TopScope) (a b : Top) → Decides (in_scope scope a b) (InScope scope a b)
 scope_decides Together a b = Decides-any tt
 scope_decides Apart a b = Decides-eqb a.file b.file
 
-tops_decide : (scope : Scope) (units : List (FileUnit Spot)) (a b : Top) → In a (tops_of units) → In b (tops_of units) → Decides (alike_tops scope units a b) (InScope scope a b × Alike units a.number b.number)
+tops_decide : (scope : TopScope) (units : List (FileUnit Spot)) (a b : Top) → In a (tops_of units) → In b (tops_of units)
+    → Decides (alike_tops scope units a b) (InScope scope a b × Alike units a.number b.number)
 tops_decide scope units a b i j =
     let tops = tops_of units in
     let n = length tops in
@@ -123,13 +125,15 @@ tops_decide scope units a b i j =
     (Decides-both {P = look ≡ true} look _ (λ e. e, λ e. e)
     (Decides-both (is_movable units a) (is_movable units b) (movable_decides units a i) (movable_decides units b j))))
 
-test_at : (scope : Scope) (units : List (FileUnit Spot)) (a b : Top) → In a (tops_of units) → In b (tops_of units) → alike_test scope units a.number b.number ≡ alike_tops scope units a b
+test_at : (scope : TopScope) (units : List (FileUnit Spot)) (a b : Top) → In a (tops_of units) → In b (tops_of units) → alike_test scope units a.number b.number ≡ alike_tops scope units a b
 unfolding alike_test
 test_at scope units a b i j =
     let tops = tops_of units in
-    ap (λ o. on_tops (alike_tops scope units) o (top_in tops b.number)) (finds 0 tops a (tops_numbers units) i) ∙ ap (λ o. on_tops (alike_tops scope units) (Some a) o) (finds 0 tops b (tops_numbers units) j)
+    ap (λ o. on_tops (alike_tops scope units) o (top_in tops b.number)) (finds 0 tops a (tops_numbers units) i) ∙ ap (λ o. on_tops (alike_tops scope units) (Some a) o)
+    (finds 0 tops b (tops_numbers units) j)
 
-pub test_decides : (scope : Scope) (units : List (FileUnit Spot)) (a b : Top) → In a (tops_of units) → In b (tops_of units) → Decides (alike_test scope units a.number b.number) (InScope scope a b × Alike units a.number b.number)
+pub test_decides : (scope : TopScope) (units : List (FileUnit Spot)) (a b : Top) → In a (tops_of units) → In b (tops_of units)
+    → Decides (alike_test scope units a.number b.number) (InScope scope a b × Alike units a.number b.number)
 test_decides scope units a b i j = Decides-at _ (alike_tops scope units a b) (test_at scope units a b i j) (tops_decide scope units a b i j)
 
 both_there : (test : Top → Top → Bool) (o p : Option Top) → on_tops test o p ≡ true → (a b : Top) × (o ≡ Some a) × (p ≡ Some b)
@@ -138,11 +142,11 @@ both_there test (Some a) None e = absurd (false≢true e)
 both_there test None p e = absurd (false≢true e)
 
 -- what the test finds alike are tops
-tops_there : (scope : Scope) (units : List (FileUnit Spot)) (m n : ℕ) → alike_test scope units m n ≡ true → (a b : Top) × (top_in (tops_of units) m ≡ Some a) × (top_in (tops_of units) n ≡ Some b)
+tops_there : (scope : TopScope) (units : List (FileUnit Spot)) (m n : ℕ) → alike_test scope units m n ≡ true → (a b : Top) × (top_in (tops_of units) m ≡ Some a) × (top_in (tops_of units) n ≡ Some b)
 unfolding alike_test
 tops_there scope units m n e = both_there (alike_tops scope units) (top_in (tops_of units) m) (top_in (tops_of units) n) e
 
-pub alike_decides : (scope : Scope) (units : List (FileUnit Spot)) → IsAlike scope units (alike_test scope units)
+pub alike_decides : (scope : TopScope) (units : List (FileUnit Spot)) → IsAlike scope units (alike_test scope units)
 alike_decides scope units = record {
   decides = λ m n e. (
       let r = tops_there scope units m n e in

@@ -1,7 +1,7 @@
 -- A test that finds tops alike exactly where they are is symmetric and transitive, and finds the targets of alike tops alike.
 use Rattle.std.proofs.Common.{◌≡◌, ℕ, suc, true, List, refl, sym, subst, ◌∙◌}
 use Rattle.dwz_docs.specs.Lists.{In}
-use Rattle.dwz_alike.specs.Alike.{Alike, Apart, InScope, IsAlike, Look, SameTop, Scope, Together}
+use Rattle.dwz_alike.specs.Alike.{Alike, Apart, InScope, IsAlike, Look, SameTop, TopScope, Together}
 use Rattle.dwz_alike.specs.Deciding.{Test}
 use Rattle.dwz_alike.specs.Spots.{FileUnit, Spot, Top, tops_of}
 use Rattle.dwz_alike.proofs.AlikeLaws.{alike_joins, alike_turns}
@@ -17,15 +17,15 @@ look_step tops a b x y h = every_top (Look tops) a b (λ k. h (suc k) a b x y re
 
 -- ---- scopes
 
-scope_turns : (scope : Scope) (a b : Top) → InScope scope a b → InScope scope b a
+scope_turns : (scope : TopScope) (a b : Top) → InScope scope a b → InScope scope b a
 scope_turns Together a b h = tt
 scope_turns Apart a b h = sym h
 
-scope_joins : (scope : Scope) (a b c : Top) → InScope scope a b → InScope scope b c → InScope scope a c
+scope_joins : (scope : TopScope) (a b c : Top) → InScope scope a b → InScope scope b c → InScope scope a c
 scope_joins Together a b c h k = tt
 scope_joins Apart a b c h k = h ∙ k
 
-pub scope_file : (scope : Scope) (a b : Top) → a.file ≡ b.file → InScope scope a b
+pub scope_file : (scope : TopScope) (a b : Top) → a.file ≡ b.file → InScope scope a b
 scope_file Together a b h = tt
 scope_file Apart a b h = h
 
@@ -48,14 +48,15 @@ from_numbers alike a b m n p q e = rw (← p, ← q) e
 alike_at : (units : List (FileUnit Spot)) (a b : Top) (m n : ℕ) → a.number ≡ m → b.number ≡ n → Alike units m n → Alike units a.number b.number
 alike_at units a b m n p q h = subst (λ (i : ℕ). Alike units i b.number) (sym p) (subst (Alike units m) (sym q) h)
 
-module _ (scope : Scope) (units : List (FileUnit Spot)) (alike : Test) (is : IsAlike scope units alike) where
+module _ (scope : TopScope) (units : List (FileUnit Spot)) (alike : Test) (is : IsAlike scope units alike) where
   turns_is : (m n : ℕ) → alike m n ≡ true → alike n m ≡ true
   turns_is m n e =
       let d = is.decides m n e in
       let a = d.first.top in
       let b = d.second.top in
       let s = is.scoped a b d.first.is_top d.second.is_top (at_numbers alike a b m n d.first.number d.second.number e) in
-      from_numbers alike b a n m d.second.number d.first.number (is.decided b a d.second.is_top d.first.is_top (scope_turns scope a b s) (alike_at units b a n m d.second.number d.first.number (alike_turns units m n d)))
+      from_numbers alike b a n m d.second.number d.first.number (is.decided b a d.second.is_top d.first.is_top (scope_turns scope a b s)
+      (alike_at units b a n m d.second.number d.first.number (alike_turns units m n d)))
 
   joins_is : (l m n : ℕ) → alike l m ≡ true → alike m n ≡ true → alike l n ≡ true
   joins_is l m n e f =
@@ -66,7 +67,8 @@ module _ (scope : Scope) (units : List (FileUnit Spot)) (alike : Test) (is : IsA
       let c = g.second.top in
       let s = is.scoped a b d.first.is_top d.second.is_top (at_numbers alike a b l m d.first.number d.second.number e) in
       let t = is.scoped b c d.second.is_top g.second.is_top (at_numbers alike b c m n d.second.number g.second.number f) in
-      from_numbers alike a c l n d.first.number g.second.number (is.decided a c d.first.is_top g.second.is_top (scope_joins scope a b c s t) (alike_at units a c l n d.first.number g.second.number (alike_joins units l m n d g)))
+      from_numbers alike a c l n d.first.number g.second.number (is.decided a c d.first.is_top g.second.is_top (scope_joins scope a b c s t)
+      (alike_at units a c l n d.first.number g.second.number (alike_joins units l m n d g)))
 
   pub alike_per : IsPer alike
   alike_per = record { turns = turns_is; joins = joins_is }

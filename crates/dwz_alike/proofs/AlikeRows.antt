@@ -8,7 +8,7 @@ use Rattle.dwz_meanings.specs.Exprs.{expr_within, fields_at, first_unnamed, has_
 use Rattle.dwz_meanings.specs.Sequences.{all_at, all_from}
 use Rattle.dwz_docs.specs.Lists.{has}
 use Rattle.dwz_docs.specs.Trees.{End, Entry}
-use Rattle.dwz_alike.specs.Alike.{Apart, Scope, Together, any_entry, is_addressed, unit_in}
+use Rattle.dwz_alike.specs.Alike.{Apart, TopScope, Together, any_entry, is_addressed, unit_in}
 use Rattle.dwz_alike.specs.Deciding.{alike_test, bound_test, is_movable, look_test, same_by, same_entries, same_int, same_part, same_plain, top_in}
 use Rattle.dwz_alike.specs.Spots.{FileUnit, Spot, entry_spots, named_files, row_in, row_tops, same_numbers, spot_in, spots_from, top_spots, tops_among, tops_from, tops_of}
 use Rattle.dwz_seen.specs.Spaces.{space_text, tops_under}
@@ -23,13 +23,17 @@ abbrev table : (ℕ → ℕ → Bool) → List ℕ → List (List Bool)
 table test numbers = map (row test numbers) numbers
 
 -- which of the tops with these numbers are alike, to which
-alike_in : Scope → List (FileUnit Spot) → List ℕ → List (List Bool)
-unfolding entries_map first_named has any_entry unit_in alike_test bound_test look_test same_by same_entries same_int same_part same_plain top_in entry_spots named_files tops_under space_text same_numbers spot_in spots_from top_spots tops_among tops_from row_in row_tops is_addressed expr_within most_inside fields_at op_at first_unnamed operands_in has_address joined all_at all_from operator_rows uleb_at sleb_at groups_at
+alike_in : TopScope → List (FileUnit Spot) → List ℕ → List (List Bool)
+unfolding entries_map first_named has any_entry unit_in alike_test bound_test look_test same_by same_entries same_int same_part same_plain top_in entry_spots named_files tops_under space_text
+    same_numbers spot_in spots_from top_spots tops_among tops_from row_in row_tops is_addressed expr_within most_inside fields_at op_at first_unnamed operands_in has_address joined all_at all_from
+    operator_rows uleb_at sleb_at groups_at
 alike_in scope units numbers = table (alike_test scope units) numbers
 
 -- which may move
 movable_in : List (FileUnit Spot) → List Bool
-unfolding entries_map first_named has any_entry unit_in alike_test bound_test look_test same_by same_entries same_int same_part same_plain top_in entry_spots named_files tops_under space_text same_numbers spot_in spots_from top_spots tops_among tops_from row_in row_tops is_addressed expr_within most_inside fields_at op_at first_unnamed operands_in has_address joined all_at all_from operator_rows uleb_at sleb_at groups_at
+unfolding entries_map first_named has any_entry unit_in alike_test bound_test look_test same_by same_entries same_int same_part same_plain top_in entry_spots named_files tops_under space_text
+    same_numbers spot_in spots_from top_spots tops_among tops_from row_in row_tops is_addressed expr_within most_inside fields_at op_at first_unnamed operands_in has_address joined all_at all_from
+    operator_rows uleb_at sleb_at groups_at
 movable_in units = map (is_movable units) (tops_of units)
 
 -- ---- structures and pointers to them that name each other
@@ -62,7 +66,8 @@ ends_equal = one (typedefs 0 4 ∷ typedefs 100 4 ∷ [])
 
 -- of the first two typedefs only a look of depth 6 comes to the ends
 looks_of_first : map (λ k. look_test (tops_of ends_differ) k 0 6) (0 ∷ 1 ∷ 2 ∷ 3 ∷ 4 ∷ 5 ∷ 6 ∷ 7 ∷ []) ≡ true ∷ true ∷ true ∷ true ∷ true ∷ true ∷ false ∷ false ∷ []
-unfolding entries_map first_named has any_entry unit_in alike_test bound_test look_test same_by same_entries same_int same_part same_plain top_in entry_spots named_files tops_under space_text same_numbers spot_in spots_from top_spots tops_among tops_from row_in row_tops
+unfolding entries_map first_named has any_entry unit_in alike_test bound_test look_test same_by same_entries same_int same_part same_plain top_in entry_spots named_files tops_under space_text
+    same_numbers spot_in spots_from top_spots tops_among tops_from row_in row_tops
 looks_of_first = refl
 
 -- each with the one in the same place of the other unit
@@ -70,11 +75,13 @@ abbrev facing : List (FileUnit Spot) → List Bool
 facing units = map (λ n. alike_test Apart units n (n + 6)) (0 ∷ 1 ∷ 2 ∷ 3 ∷ 4 ∷ 5 ∷ [])
 
 none_face : facing ends_differ ≡ false ∷ false ∷ false ∷ false ∷ false ∷ false ∷ []
-unfolding entries_map first_named has any_entry unit_in alike_test bound_test look_test same_by same_entries same_int same_part same_plain top_in entry_spots named_files tops_under space_text same_numbers spot_in spots_from top_spots tops_among tops_from row_in row_tops
+unfolding entries_map first_named has any_entry unit_in alike_test bound_test look_test same_by same_entries same_int same_part same_plain top_in entry_spots named_files tops_under space_text
+    same_numbers spot_in spots_from top_spots tops_among tops_from row_in row_tops
 none_face = refl
 
 all_face : facing ends_equal ≡ true ∷ true ∷ true ∷ true ∷ true ∷ true ∷ []
-unfolding entries_map first_named has any_entry unit_in alike_test bound_test look_test same_by same_entries same_int same_part same_plain top_in entry_spots named_files tops_under space_text same_numbers spot_in spots_from top_spots tops_among tops_from row_in row_tops
+unfolding entries_map first_named has any_entry unit_in alike_test bound_test look_test same_by same_entries same_int same_part same_plain top_in entry_spots named_files tops_under space_text
+    same_numbers spot_in spots_from top_spots tops_among tops_from row_in row_tops
 all_face = refl
 
 -- a typedef is alike to none that is nearer to the end
@@ -82,7 +89,8 @@ abbrev next_ones : List (FileUnit Spot) → List Bool
 next_ones units = map (λ n. alike_test Apart units n (n + 7)) (0 ∷ 1 ∷ 2 ∷ 3 ∷ 4 ∷ [])
 
 none_next : next_ones ends_equal ≡ false ∷ false ∷ false ∷ false ∷ false ∷ []
-unfolding entries_map first_named has any_entry unit_in alike_test bound_test look_test same_by same_entries same_int same_part same_plain top_in entry_spots named_files tops_under space_text same_numbers spot_in spots_from top_spots tops_among tops_from row_in row_tops
+unfolding entries_map first_named has any_entry unit_in alike_test bound_test look_test same_by same_entries same_int same_part same_plain top_in entry_spots named_files tops_under space_text
+    same_numbers spot_in spots_from top_spots tops_among tops_from row_in row_tops
 none_next = refl
 
 -- ---- a base type and a typedef of it, in two units: 0 and 1, 2 and 3
@@ -130,7 +138,8 @@ bound_by k = map (bound_test bound_ones k) (tops_of bound_ones)
 
 chains_bind : map bound_by (0 ∷ 1 ∷ 2 ∷ 3 ∷ [])
     ≡ (true ∷ false ∷ false ∷ false ∷ []) ∷ (true ∷ true ∷ false ∷ false ∷ []) ∷ (true ∷ true ∷ true ∷ false ∷ []) ∷ (true ∷ true ∷ true ∷ false ∷ []) ∷ []
-unfolding entries_map first_named has any_entry unit_in alike_test bound_test look_test same_by same_entries same_int same_part same_plain top_in entry_spots named_files tops_under space_text same_numbers spot_in spots_from top_spots tops_among tops_from row_in row_tops
+unfolding entries_map first_named has any_entry unit_in alike_test bound_test look_test same_by same_entries same_int same_part same_plain top_in entry_spots named_files tops_under space_text
+    same_numbers spot_in spots_from top_spots tops_among tops_from row_in row_tops
 chains_bind = refl
 
 only_the_last_moves : movable_in bound_ones ≡ false ∷ false ∷ false ∷ true ∷ []

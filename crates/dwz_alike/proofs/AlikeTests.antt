@@ -61,7 +61,8 @@ Tells {X} same = (x y : X) → Decides (same x y) (x ≡ y)
 pub by_decides : {X : Type 0} (same : X → X → Bool) → Tells same → Tells (same_by same)
 unfolding same_by
 by_decides same tells [] [] = Decides-any refl
-by_decides same tells (x ∷ xs) (y ∷ ys) = Decides-like _ (λ p. (let e = p.0 in let f = p.1 in cc)) (λ e. (cc, cc)) (Decides-both (same x y) (same_by same xs ys) (tells x y) (by_decides same tells xs ys))
+by_decides same tells (x ∷ xs) (y ∷ ys) = Decides-like _ (λ p. (let e = p.0 in let f = p.1 in cc)) (λ e. (cc, cc))
+    (Decides-both (same x y) (same_by same xs ys) (tells x y) (by_decides same tells xs ys))
 by_decides same tells [] (y ∷ ys) = Decides-none (λ e. cc)
 by_decides same tells (x ∷ xs) [] = Decides-none (λ e. cc)
 

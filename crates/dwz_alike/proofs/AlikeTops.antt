@@ -4,7 +4,7 @@ use Rattle.std.proofs.lemmas.Bool.Decides.{Decides-eqb, Decides-like}
 use Rattle.dwz_meanings.specs.Documents.{Attr, Entries, Node, Value}
 use Rattle.dwz_docs.specs.Trees.{End, Entry}
 use Rattle.dwz_alike.specs.Alike.{SameAttrs, SameEntries, SameNode, SameRefs, SameTarget, SameTop, SameValue}
-use Rattle.dwz_seen.specs.Lists.{Each}
+use Rattle.dwz_docs.specs.Lists.{Each}
 use Rattle.dwz_alike.specs.Deciding.{Test, same_attr, same_by, same_entries, same_int, same_node, same_option, same_plain, same_target, same_top, same_value}
 use Rattle.dwz_alike.specs.Spots.{Spot, Top, Within, name_list, same_numbers}
 use Rattle.dwz_alike.proofs.AlikeTests.{by_decides, Decides-any, Decides-both, Decides-none, int_decides, numbers_decide, option_decides, plain_decides}
@@ -49,7 +49,8 @@ refs_decide Q test R d (x ∷ xs) [] u v = Decides-none (λ h. h)
 value_decides : (Q : ℕ → Type 0) (test : Test) (R : ℕ → ℕ → Type 0) → DecidesIn Q test R → (a b : Value Spot) → RefsIn Q a.refs → RefsIn Q b.refs → Decides (same_value test a b) (SameValue R a b)
 value_decides Q test R d a b u v = Decides-both (same_plain a.plain b.plain) (same_by (same_target test) a.refs b.refs) (plain_decides a.plain b.plain) (refs_decide Q test R d a.refs b.refs u v)
 
-attrs_decide : (Q : ℕ → Type 0) (test : Test) (R : ℕ → ℕ → Type 0) → DecidesIn Q test R → (xs ys : List (Attr Spot)) → AttrsIn Q xs → AttrsIn Q ys → Decides (same_by (same_attr test) xs ys) (SameAttrs R xs ys)
+attrs_decide : (Q : ℕ → Type 0) (test : Test) (R : ℕ → ℕ → Type 0) → DecidesIn Q test R → (xs ys : List (Attr Spot)) → AttrsIn Q xs → AttrsIn Q ys
+    → Decides (same_by (same_attr test) xs ys) (SameAttrs R xs ys)
 unfolding same_by
 attrs_decide Q test R d [] [] u v = Decides-any tt
 attrs_decide Q test R d (x ∷ xs) (y ∷ ys) u v = Decides-like _ (λ p. (p.0.0, p.0.1, p.1)) (λ p. ((p.0, p.1), p.2))
@@ -153,19 +154,29 @@ refs_join Q R S T f _ _ _ z x y = absurd x
 attrs_join : (Q : ℕ → Type 0) (R S T : ℕ → ℕ → Type 0) → Joins Q R S T → (a b c : List (Attr Spot)) → AttrsIn Q b → SameAttrs R a b → SameAttrs S b c → SameAttrs T a c
 attrs_join Q R S T f [] [] [] z x y = tt
 attrs_join Q R S T f [] [] (c ∷ cs) z x y = absurd y
-attrs_join Q R S T f (a ∷ as') (b ∷ bs) (c ∷ cs) z x y = (x.0 ∙ y.0, (x.1.0 ∙ y.1.0, refs_join Q R S T f a.value.refs b.value.refs c.value.refs z.0 x.1.1 y.1.1), attrs_join Q R S T f as' bs cs z.1 x.2 y.2)
+attrs_join Q R S T f (a ∷ as') (b ∷ bs) (c ∷ cs) z x y = (
+  x.0 ∙ y.0,
+  (x.1.0 ∙ y.1.0, refs_join Q R S T f a.value.refs b.value.refs c.value.refs z.0 x.1.1 y.1.1),
+  attrs_join Q R S T f as' bs cs z.1 x.2 y.2,
+)
 attrs_join Q R S T f (a ∷ as') (b ∷ bs) [] z x y = absurd y
 attrs_join Q R S T f _ _ _ z x y = absurd x
 
 entries_join : (Q : ℕ → Type 0) (R S T : ℕ → ℕ → Type 0) → Joins Q R S T → (f g h : Entries Spot) → EntriesIn Q g → SameEntries R f g → SameEntries S g h → SameEntries T f h
 entries_join Q R S T j End End End z x y = tt
 entries_join Q R S T j End End (Entry e f g) z x y = absurd y
-entries_join Q R S T j (Entry a f g) (Entry b f' g') (Entry c f'' g'') z x y = ((x.0.0 ∙ y.0.0, attrs_join Q R S T j a.attrs b.attrs c.attrs z.0 x.0.1 y.0.1), entries_join Q R S T j f f' f'' z.1 x.1 y.1, entries_join Q R S T j g g' g'' z.2 x.2 y.2)
+entries_join Q R S T j (Entry a f g) (Entry b f' g') (Entry c f'' g'') z x y =
+    ((x.0.0 ∙ y.0.0, attrs_join Q R S T j a.attrs b.attrs c.attrs z.0 x.0.1 y.0.1), entries_join Q R S T j f f' f'' z.1 x.1 y.1, entries_join Q R S T j g g' g'' z.2 x.2 y.2)
 entries_join Q R S T j (Entry a f g) (Entry b f' g') End z x y = absurd y
 entries_join Q R S T j _ _ _ z x y = absurd x
 
 pub top_joins : (Q : ℕ → Type 0) (R S T : ℕ → ℕ → Type 0) → Joins Q R S T → (a b c : Top) → TopIn Q b → SameTop R a b → SameTop S b c → SameTop T a c
-top_joins Q R S T j a b c z x y = (x.0 ∙ y.0, x.1 ∙ y.1, (x.2.0 ∙ y.2.0, attrs_join Q R S T j a.node.attrs b.node.attrs c.node.attrs z.0 x.2.1 y.2.1), entries_join Q R S T j a.below b.below c.below z.1 x.3 y.3)
+top_joins Q R S T j a b c z x y = (
+  x.0 ∙ y.0,
+  x.1 ∙ y.1,
+  (x.2.0 ∙ y.2.0, attrs_join Q R S T j a.node.attrs b.node.attrs c.node.attrs z.0 x.2.1 y.2.1),
+  entries_join Q R S T j a.below b.below c.below z.1 x.3 y.3,
+)
 
 -- ---- with another relation
 

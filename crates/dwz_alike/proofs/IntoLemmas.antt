@@ -5,7 +5,7 @@ use Rattle.std.specs.List.{list_any}
 use Rattle.dwz_meanings.specs.Documents.{Attr, Entries}
 use Rattle.dwz_docs.specs.Lists.{In}
 use Rattle.dwz_docs.specs.Trees.{End, Entry}
-use Rattle.dwz_seen.proofs.Members.{in_cases, in_left, in_right}
+use Rattle.dwz_docs.proofs.ListFacts.{in_cases, in_left, in_right}
 use Rattle.dwz_alike.specs.Alike.{any_attr, any_entry, is_in, refers_to}
 use Rattle.dwz_alike.specs.Spots.{Spot, Top, Within}
 use Rattle.dwz_alike.specs.Targets.{attrs_into, entries_into, refs_into, targets_of}

@@ -17,3 +17,5 @@ pub mod Relations
 pub mod AlikePer
 pub mod Tops
 pub mod NameLists
+pub mod TopOrder
+pub mod FileNumbers

@@ -39,7 +39,8 @@ spot_is (x ∷ xs) once p s h = go (spot_is xs once.1 p s) h (x.0 == p) refl whe
 
 -- ---- which places have names
 
-pub spots_top : (unit : ℕ) (path : List ℕ) (i n : ℕ) (e : Node ℕ) (f g : Entries ℕ) → space_text e ≡ None → top_spots unit path i n (Entry e f g) ≡ (e.at, Within n []) ∷ entry_spots (Within n) [] 0 f ++ top_spots unit path (suc i) (suc n) g
+pub spots_top : (unit : ℕ) (path : List ℕ) (i n : ℕ) (e : Node ℕ) (f g : Entries ℕ) → space_text e ≡ None → top_spots unit path i n (Entry e f g) ≡ (e.at, Within n []) ∷ entry_spots (Within n) [] 0 f
+    ++ top_spots unit path (suc i) (suc n) g
 unfolding top_spots
 spots_top unit path i n e f g h = rw (h, top_spots) refl
 
@@ -51,7 +52,9 @@ spots_space unit path i n e f g text h = rw (h, top_spots) refl
 entry_firsts : (name : List ℕ → Spot) (path : List ℕ) (i : ℕ) (f : Entries ℕ) → firsts (entry_spots name path i f) ≡ keys f
 unfolding firsts entry_spots keys
 entry_firsts name path i End = refl
-entry_firsts name path i (Entry e f g) = ap (λ (w : List ℕ). e.at ∷ w) (firsts_append (entry_spots name (i ∷ path) 0 f) (entry_spots name path (suc i) g) ∙ ap (λ (w : List ℕ). w ++ firsts (entry_spots name path (suc i) g)) (entry_firsts name (i ∷ path) 0 f) ∙ ap (λ (w : List ℕ). keys f ++ w) (entry_firsts name path (suc i) g))
+entry_firsts name path i (Entry e f g) = ap (λ (w : List ℕ). e.at ∷ w)
+    (firsts_append (entry_spots name (i ∷ path) 0 f) (entry_spots name path (suc i) g) ∙ ap (λ (w : List ℕ). w ++ firsts (entry_spots name path (suc i) g)) (entry_firsts name (i ∷ path) 0 f)
+    ∙ ap (λ (w : List ℕ). keys f ++ w) (entry_firsts name path (suc i) g))
 
 top_firsts : (unit : ℕ) (path : List ℕ) (i n : ℕ) (f : Entries ℕ) → firsts (top_spots unit path i n f) ≡ keys f
 unfolding firsts top_spots keys
@@ -62,7 +65,8 @@ top_firsts unit path i n (Entry e f g) =
     joined : (xs ys : List (ℕ × Spot)) → firsts xs ≡ keys f → firsts ys ≡ keys g → e.at ∷ firsts (xs ++ ys) ≡ e.at ∷ keys f ++ keys g
     joined xs ys p q = ap (λ (w : List ℕ). e.at ∷ w) (firsts_append xs ys ∙ ap (λ (w : List ℕ). w ++ firsts ys) p ∙ ap (λ (w : List ℕ). keys f ++ w) q)
 
-    go : firsts (top_spots unit path (suc i) (suc n) g) ≡ keys g → firsts (top_spots unit (i ∷ path) 0 n f) ≡ keys f → firsts (top_spots unit path (suc i) (n + tops_under f) g) ≡ keys g → firsts (entry_spots (Within n) [] 0 f) ≡ keys f → (o : Option (List ℕ))
+    go : firsts (top_spots unit path (suc i) (suc n) g) ≡ keys g → firsts (top_spots unit (i ∷ path) 0 n f) ≡ keys f → firsts (top_spots unit path (suc i) (n + tops_under f) g) ≡ keys g
+        → firsts (entry_spots (Within n) [] 0 f) ≡ keys f → (o : Option (List ℕ))
         → firsts (elim o as (λ _. List (ℕ × Spot)) [
           | None ↦ (e.at, Within n []) ∷ entry_spots (Within n) [] 0 f ++ top_spots unit path (suc i) (suc n) g
           | Some text ↦ (e.at, SpaceAt unit (i ∷ path)) ∷ top_spots unit (i ∷ path) 0 n f ++ top_spots unit path (suc i) (n + tops_under f) g

@@ -3,7 +3,7 @@ use Rattle.std.proofs.Common.{ℕ, List, [], ◌∷◌}
 use Rattle.dwz_meanings.specs.Documents.{Attr, Entries}
 use Rattle.dwz_docs.specs.Trees.{End, Entry}
 use Rattle.dwz_alike.specs.Alike.{SameAttrs, SameEntries, SameRefs, SameTarget, SameTop}
-use Rattle.dwz_seen.specs.Lists.{Each}
+use Rattle.dwz_docs.specs.Lists.{Each}
 use Rattle.dwz_alike.specs.Spots.{Spot, Top, Within}
 use Rattle.dwz_alike.proofs.Targets.{RefTo, RefsOf, RefsOfAttr, RefsOfTop}
 

@@ -5,9 +5,10 @@ use Rattle.std.proofs.lemmas.List.{length-append}
 use Rattle.dwz_meanings.specs.Documents.{Compile, Entries, Kind, Node, OfType, Partial, language}
 use Rattle.dwz_docs.specs.Lists.{In}
 use Rattle.dwz_docs.specs.Trees.{End, Entry}
+use Rattle.dwz_docs.proofs.ListFacts.{in_cases, in_left, in_right}
 use Rattle.dwz_seen.specs.Lists.{Nth}
 use Rattle.dwz_seen.specs.Spaces.{space_text, tops_under}
-use Rattle.dwz_seen.proofs.Members.{in_cases, in_left, in_right, nth_from}
+use Rattle.dwz_seen.proofs.Members.{nth_from}
 use Rattle.dwz_alike.specs.Spots.{ASpace, ATop, FileUnit, Nothing, Row, SpaceName, Spot, Top, name_of, row_below, row_from, row_in, row_of, row_tops, top_count, tops_from}
 
 -- ---- a row stands for entries
@@ -30,7 +31,8 @@ module _ (file unit : ℕ) (tongue : Option ℤ) where
   row_is spaces n (Entry e f g) =
       go (row_is spaces (suc n) g) (λ text. row_is (spaces ++ name_of text e ∷ []) n f) (row_is spaces (n + tops_under f) g) (space_text e) refl
     where
-      go : RowIs spaces (suc n) (row_in file unit tongue spaces (suc n) g) g → ((text : List ℕ) → RowIs (spaces ++ name_of text e ∷ []) n (row_in file unit tongue (spaces ++ name_of text e ∷ []) n f) f)
+      go : RowIs spaces (suc n) (row_in file unit tongue spaces (suc n) g) g
+          → ((text : List ℕ) → RowIs (spaces ++ name_of text e ∷ []) n (row_in file unit tongue (spaces ++ name_of text e ∷ []) n f) f)
           → RowIs spaces (n + tops_under f) (row_in file unit tongue spaces (n + tops_under f) g) g → (o : Option (List ℕ)) → space_text e ≡ o
           → RowIs spaces n (elim o as (λ _. Row) [
             | None ↦ ATop (record { file = file; unit = unit; language = tongue; spaces = spaces; number = n; node = e; below = f }) (row_in file unit tongue spaces (suc n) g)
@@ -66,7 +68,11 @@ module _ (file unit : ℕ) (tongue : Option ℤ) where
   pub row_unit : (spaces : List SpaceName) (n : ℕ) (row : Row) (f : Entries Spot) → RowIs spaces n row f → (t : Top) → In t (row_tops row) → (t.file ≡ file) × (t.unit ≡ unit)
   unfolding row_tops
   row_unit spaces n Nothing f h t is = absurd is
-  row_unit spaces n (ATop u row) (Entry e f g) h t (inl x) = (ap (λ (w : Top). w.file) (sym x) ∙ ap (λ (w : Top). w.file) (sym h.1), ap (λ (w : Top). w.unit) (sym x) ∙ ap (λ (w : Top). w.unit) (sym h.1))
+  row_unit spaces n (ATop u row) (Entry e f g) h t (inl x) = (
+    ap (λ (w : Top). w.file) (sym x) ∙ ap (λ (w : Top). w.file) (sym h.1),
+    ap (λ (w : Top). w.unit) (sym x)
+        ∙ ap (λ (w : Top). w.unit) (sym h.1),
+  )
   row_unit spaces n (ATop u row) (Entry e f g) h t (inr r) = row_unit spaces (suc n) row g h.2 t r
   row_unit spaces n (ASpace d inner row) (Entry e f g) h t is = elim (in_cases t (row_tops inner) (row_tops row) is) [
     | inl a ↦ row_unit (spaces ++ name_of h.0 e ∷ []) n inner f h.3 t a
@@ -103,7 +109,11 @@ unit_row_from s n [] i u h k = absurd h
 unit_row_from s n (f ∷ units) i u (inl x) k =
     let here : RowIs f.file s (language f.unit) [] n (row_from s n (f ∷ units) i) f.unit.below =
     subst (λ (w : Row). RowIs f.file s (language f.unit) [] n w f.unit.below) (sym (row_here s n f units i x.0)) (below_row f s n f.unit.kind (ap (λ (w : FileUnit Spot). w.unit.kind) x.1 ∙ k)) in
-    record { first = n; is = subst (λ (w : FileUnit Spot). RowIs w.file i (language w.unit) [] n (row_from s n (f ∷ units) i) w.unit.below) x.1 (subst (λ (w : ℕ). RowIs f.file w (language f.unit) [] n (row_from s n (f ∷ units) i) f.unit.below) x.0 here) }
+    record {
+      first = n;
+      is = subst (λ (w : FileUnit Spot). RowIs w.file i (language w.unit) [] n (row_from s n (f ∷ units) i) w.unit.below) x.1
+          (subst (λ (w : ℕ). RowIs f.file w (language f.unit) [] n (row_from s n (f ∷ units) i) f.unit.below) x.0 here);
+    }
 unit_row_from s n (f ∷ units) i u (inr r) k =
     let later : s ≡ i → ⊥ = λ e. omega (arith, e, nth_from (suc s) units i u r) in
     subst (RowFor u i) (sym (row_later s n f units i later)) (unit_row_from (suc s) (behind n f) units i u r k)
@@ -115,7 +125,8 @@ unit_row units i u h k = unit_row_from 0 0 units i u h k
 
 pub below_unit : (f : FileUnit Spot) (i n : ℕ) (k : Kind Spot) (t : Top) → In t (row_tops (row_below f.file i n f.unit k)) → (t.file ≡ f.file) × (t.unit ≡ i) × (k ≡ Compile)
 unfolding row_tops
-below_unit f i n Compile t h = let o = row_unit f.file i (language f.unit) [] n (row_in f.file i (language f.unit) [] n f.unit.below) f.unit.below (row_is f.file i (language f.unit) [] n f.unit.below) t h in (o.0, o.1, refl)
+below_unit f i n Compile t h = let o = row_unit f.file i (language f.unit) [] n (row_in f.file i (language f.unit) [] n f.unit.below) f.unit.below (row_is f.file i (language f.unit) [] n f.unit.below)
+    t h in (o.0, o.1, refl)
 below_unit f i n (OfType signature main) t h = absurd h
 below_unit f i n Partial t h = absurd h
 
@@ -124,7 +135,8 @@ unfolding row_from tops_from row_tops
 from_row s n [] i t h = absurd h
 from_row s n (f ∷ units) i t h = go (from_row (suc s) (behind n f) units i t) (s == i) refl h where
   go : (In t (row_tops (row_from (suc s) (behind n f) units i)) → In t (tops_from (suc s) (behind n f) units) × (t.unit ≡ i)) → (b : Bool) → (s == i) ≡ b
-      → In t (row_tops (elim b as (λ _. Row) [ true ↦ row_below f.file s n f.unit f.unit.kind | false ↦ row_from (suc s) (behind n f) units i ])) → In t (row_tops (row_below f.file s n f.unit f.unit.kind) ++ tops_from (suc s) (behind n f) units) × (t.unit ≡ i)
+      → In t (row_tops (elim b as (λ _. Row) [ true ↦ row_below f.file s n f.unit f.unit.kind | false ↦ row_from (suc s) (behind n f) units i ]))
+      → In t (row_tops (row_below f.file s n f.unit f.unit.kind) ++ tops_from (suc s) (behind n f) units) × (t.unit ≡ i)
   go more true q is = (in_left t (row_tops (row_below f.file s n f.unit f.unit.kind)) (tops_from (suc s) (behind n f) units) is, (below_unit f s n f.unit.kind t is).1 ∙ eqb-true s i q)
   go more false q is = let o = more is in (in_right t (row_tops (row_below f.file s n f.unit f.unit.kind)) (tops_from (suc s) (behind n f) units) o.0, o.1)
 

@@ -40,7 +40,13 @@ computed bytes = record { name = 0x02; form = 0x18; raw = pos 0; value = only (E
 
 -- the same, of a list with one expression: breg0 0, converted to the type at a place, stack_value
 abbrev pub listed : ℕ → Attr ℕ
-listed place = record { name = 0x02; form = 0x17; raw = pos 0x0c; value = record { plain = Loc ((Same (0x70 ∷ 0 ∷ 0xa8 ∷ []) ∷ Operand 1 true FromUnit ∷ Same (0x9f ∷ []) ∷ []) ∷ []); refs = place ∷ [] } }
+listed place = record {
+  name = 0x02;
+  form = 0x17;
+  raw = pos 0x0c;
+  value =
+      record { plain = Loc ((Same (0x70 ∷ 0 ∷ 0xa8 ∷ []) ∷ Operand 1 true FromUnit ∷ Same (0x9f ∷ []) ∷ []) ∷ []); refs = place ∷ [] };
+}
 
 -- ---- entries and units
 

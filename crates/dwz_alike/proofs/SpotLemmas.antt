@@ -35,7 +35,8 @@ same_spot-true (SpaceAt a p) (SpaceAt b q) e = (let x = both (eqb a b) _ e in ap
 same_spot-true (InType a p) (InType b q) e = (let x = both (eqb a b) _ e in ap (λ (n : ℕ). InType n p) (eqb-true a b x.0) ∙ ap (λ (r : List ℕ). InType b r) (numbers_true p q x.1))
 same_spot-true (PartialOf a) (PartialOf b) e = ap PartialOf (eqb-true a b e)
 same_spot-true (PartialRoot a) (PartialRoot b) e = ap PartialRoot (eqb-true a b e)
-same_spot-true (InChain a i d) (InChain b j k) e = (let x = and_parts (eqb a b) _ e in let y = and_parts (eqb i j) (eqb d k) x.1 in ap (λ (n : ℕ). InChain n i d) (eqb-true a b x.0) ∙ ap (λ (n : ℕ). InChain b n d) (eqb-true i j y.0) ∙ ap (λ (n : ℕ). InChain b j n) (eqb-true d k y.1))
+same_spot-true (InChain a i d) (InChain b j k) e = (let x = and_parts (eqb a b) _ e in let y = and_parts (eqb i j) (eqb d k) x.1 in ap (λ (n : ℕ). InChain n i d) (eqb-true a b x.0)
+    ∙ ap (λ (n : ℕ). InChain b n d) (eqb-true i j y.0) ∙ ap (λ (n : ℕ). InChain b j n) (eqb-true d k y.1))
 same_spot-true (Import i a) (Import j b) e = (let x = and_parts (eqb i j) (eqb a b) e in ap (λ (n : ℕ). Import n a) (eqb-true i j x.0) ∙ ap (λ (n : ℕ). Import j n) (eqb-true a b x.1))
 same_spot-true _ _ e = absurd cc
 

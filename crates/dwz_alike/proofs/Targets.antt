@@ -3,10 +3,11 @@ use Rattle.std.proofs.Common.{◌≡◌, ℕ, suc, ◌⊎◌, ◌==◌, ◌||◌
 use Rattle.std.proofs.lemmas.Bool.{or_cases}
 use Rattle.std.specs.List.{list_any}
 use Rattle.dwz_meanings.specs.Documents.{Attr, Entries, Node}
-use Rattle.dwz_docs.specs.Lists.{In, has}
+use Rattle.dwz_docs.specs.Lists.{Each, In, has}
 use Rattle.dwz_docs.specs.Trees.{End, Entry}
-use Rattle.dwz_alike.specs.Alike.{Bound, Movable, any_attr, any_entry, any_in, attr_binds, binding_forms, binds_itself, entry_binds, holds_place, is_in, is_named, is_number, leaves, refers_to, unit_in}
-use Rattle.dwz_seen.specs.Lists.{Each}
+use Rattle.dwz_docs.proofs.CaseFacts.{or_left, or_right}
+use Rattle.dwz_alike.specs.Alike.{Bound, Movable, any_attr, any_entry, any_in, attr_binds, binding_forms, binds_itself, entry_binds, holds_place, is_in, is_named, is_number, leaves, refers_to}
+use Rattle.dwz_alike.specs.Alike.{unit_in}
 use Rattle.dwz_alike.specs.Spots.{FileUnit, Spot, Top, Within, tops_of}
 use Rattle.dwz_seen.proofs.Members.{any_false, any_from, any_true, each_in, each_of}
 
@@ -50,7 +51,8 @@ spot_more P Q f (Within t path) h = f t h
 spot_more P Q f _ h = absurd h
 
 node_more : (P Q : ℕ → Type 0) → ((n : ℕ) → P n → Q n) → (e : Node Spot) → RefsOfNode P e → RefsOfNode Q e
-node_more P Q f e h = each_of (RefsOfAttr Q) e.attrs (λ a is. each_of (RefTo Q) a.value.refs (λ s there. spot_more P Q f s (each_in (RefTo P) s a.value.refs (each_in (RefsOfAttr P) a e.attrs h is) there)))
+node_more P Q f e h = each_of (RefsOfAttr Q) e.attrs (λ a is. each_of (RefTo Q) a.value.refs
+    (λ s there. spot_more P Q f s (each_in (RefTo P) s a.value.refs (each_in (RefsOfAttr P) a e.attrs h is) there)))
 
 refs_more : (P Q : ℕ → Type 0) → ((n : ℕ) → P n → Q n) → (f : Entries Spot) → RefsOf P f → RefsOf Q f
 refs_more P Q f End h = tt
@@ -60,14 +62,6 @@ pub top_more : (P Q : ℕ → Type 0) → ((n : ℕ) → P n → Q n) → (t : T
 top_more P Q f t h = (node_more P Q f t.node h.0, refs_more P Q f t.below h.1)
 
 -- ---- tests of some
-
-pub or_left : (a b : Bool) → (a || b) ≡ false → a ≡ false
-or_left true b e = e
-or_left false b e = refl
-
-pub or_right : (a b : Bool) → (a || b) ≡ false → b ≡ false
-or_right true b e = absurd cc
-or_right false b e = e
 
 pub or_first : (a b : Bool) → a ≡ true → (a || b) ≡ true
 or_first true b e = refl
@@ -107,7 +101,8 @@ unit_is_in : (tops : List Top) (n unit : ℕ) → unit_in tops n ≡ Some unit �
 unfolding unit_in
 unit_is_in [] n unit e = absurd cc
 unit_is_in (t ∷ tops) n unit e = go (unit_is_in tops n unit) (t.number == n) refl e where
-  go : (unit_in tops n ≡ Some unit → StandsIn tops unit n) → (b : Bool) → (t.number == n) ≡ b → (elim b as (λ _. Option ℕ) [ true ↦ Some t.unit | false ↦ unit_in tops n ]) ≡ Some unit → StandsIn (t ∷ tops) unit n
+  go : (unit_in tops n ≡ Some unit → StandsIn tops unit n) → (b : Bool) → (t.number == n) ≡ b → (elim b as (λ _. Option ℕ) [ true ↦ Some t.unit | false ↦ unit_in tops n ]) ≡ Some unit
+      → StandsIn (t ∷ tops) unit n
   go more true q h = record { top = t; there = inl refl; number = eqb-true t.number n q; unit_is = cc }
   go more false q h = let o = more h in record { top = o.top; there = inr o.there; number = o.number; unit_is = o.unit_is }
 
@@ -128,7 +123,7 @@ inside_spot tops unit _ e = absurd cc
 
 -- ---- targets of a movable top
 
-binds_false : (units : List (FileUnit Spot)) (t : Top) → In t (tops_of units) → Movable units t.number → binds_itself units t ≡ false
+pub binds_false : (units : List (FileUnit Spot)) (t : Top) → In t (tops_of units) → Movable units t.number → binds_itself units t ≡ false
 unfolding Bound
 binds_false units t is m = go (binds_itself units t) refl where
   go : (b : Bool) → binds_itself units t ≡ b → b ≡ false
@@ -136,7 +131,8 @@ binds_false units t is m = go (binds_itself units t) refl where
   go false q = refl
 
 -- no attribute of a movable top binds it
-pub free_attr : (units : List (FileUnit Spot)) (t : Top) → In t (tops_of units) → Movable units t.number → (e : Node Spot) → NodeOf e t → (a : Attr Spot) → In a e.attrs → attr_binds (tops_of units) t.unit a ≡ false
+pub free_attr : (units : List (FileUnit Spot)) (t : Top) → In t (tops_of units) → Movable units t.number → (e : Node Spot) → NodeOf e t → (a : Attr Spot) → In a e.attrs
+    → attr_binds (tops_of units) t.unit a ≡ false
 free_attr units t is m e node a attr =
     let tops = tops_of units in
     let own = or_left (any_in (entry_binds tops t.unit) t) (is_named units t.number) (binds_false units t is m) in
@@ -147,7 +143,8 @@ free_attr units t is m e node a attr =
 pub not_named : (units : List (FileUnit Spot)) (t : Top) → In t (tops_of units) → Movable units t.number → is_named units t.number ≡ false
 not_named units t is m = or_right (any_in (entry_binds (tops_of units) t.unit) t) (is_named units t.number) (binds_false units t is m)
 
-stays_in : (units : List (FileUnit Spot)) (t : Top) → In t (tops_of units) → Movable units t.number → (e : Node Spot) → NodeOf e t → (a : Attr Spot) → In a e.attrs → (s : Spot) → In s a.value.refs → RefTo (StandsIn (tops_of units) t.unit) s
+stays_in : (units : List (FileUnit Spot)) (t : Top) → In t (tops_of units) → Movable units t.number → (e : Node Spot) → NodeOf e t → (a : Attr Spot) → In a e.attrs → (s : Spot) → In s a.value.refs
+    → RefTo (StandsIn (tops_of units) t.unit) s
 stays_in units t is m e node a attr s ref =
     let tops = tops_of units in
     let rest = or_right (has a.form binding_forms) (holds_place a.value.plain || list_any (leaves tops t.unit) a.value.refs) (free_attr units t is m e node a attr) in
@@ -170,7 +167,8 @@ pub record Inside (units : List (FileUnit Spot)) (unit n : ℕ) : Type 0 where
   pub stands : StandsIn (tops_of units) unit n
   pub movable : Movable units n
 
-inside_one : (units : List (FileUnit Spot)) (t : Top) → In t (tops_of units) → Movable units t.number → (s : Spot) → RefTo (StandsIn (tops_of units) t.unit) s → ((n : ℕ) (path : List ℕ) → s ≡ Within n path → refers_to n t ≡ true) → RefTo (Inside units t.unit) s
+inside_one : (units : List (FileUnit Spot)) (t : Top) → In t (tops_of units) → Movable units t.number → (s : Spot) → RefTo (StandsIn (tops_of units) t.unit) s
+    → ((n : ℕ) (path : List ℕ) → s ≡ Within n path → refers_to n t ≡ true) → RefTo (Inside units t.unit) s
 inside_one units t is m (Within n path) stands refers = record { stands = stands; movable = moves_on units t is m n stands (refers n path refl) }
 inside_one units t is m _ stands refers = absurd stands
 
@@ -223,14 +221,17 @@ refers_one P t h m refers = elim (or_cases (test t.node) (any_entry test t.below
     test e = any_attr (λ a. list_any (is_in m) a.value.refs) e
 
 -- from what holds of all targets, with the references to them, something else
-attrs_by : (P Q : ℕ → Type 0) (attrs : List (Attr Spot)) → ((a : Attr Spot) → In a attrs → (n : ℕ) (path : List ℕ) → In (Within n path) a.value.refs → P n → Q n) → Each (RefsOfAttr P) attrs → Each (RefsOfAttr Q) attrs
-attrs_by P Q attrs f h = each_of (RefsOfAttr Q) attrs (λ a is. each_of (RefTo Q) a.value.refs (λ s ref. spot_by P Q s (λ n path same. f a is n path (subst (λ (w : Spot). In w a.value.refs) same ref)) (each_in (RefTo P) s a.value.refs (each_in (RefsOfAttr P) a attrs h is) ref)))
+attrs_by : (P Q : ℕ → Type 0) (attrs : List (Attr Spot)) → ((a : Attr Spot) → In a attrs → (n : ℕ) (path : List ℕ) → In (Within n path) a.value.refs → P n → Q n) → Each (RefsOfAttr P) attrs
+    → Each (RefsOfAttr Q) attrs
+attrs_by P Q attrs f h = each_of (RefsOfAttr Q) attrs (λ a is. each_of (RefTo Q) a.value.refs
+    (λ s ref. spot_by P Q s (λ n path same. f a is n path (subst (λ (w : Spot). In w a.value.refs) same ref)) (each_in (RefTo P) s a.value.refs (each_in (RefsOfAttr P) a attrs h is) ref)))
   where
     spot_by : (P Q : ℕ → Type 0) (s : Spot) → ((n : ℕ) (path : List ℕ) → s ≡ Within n path → P n → Q n) → RefTo P s → RefTo Q s
     spot_by P Q (Within n path) f h = f n path refl h
     spot_by P Q _ f h = absurd h
 
-entries_by : (P Q : ℕ → Type 0) (f : Entries Spot) → ((e : Node Spot) → NodeIn e f → (a : Attr Spot) → In a e.attrs → (n : ℕ) (path : List ℕ) → In (Within n path) a.value.refs → P n → Q n) → RefsOf P f → RefsOf Q f
+entries_by : (P Q : ℕ → Type 0) (f : Entries Spot) → ((e : Node Spot) → NodeIn e f → (a : Attr Spot) → In a e.attrs → (n : ℕ) (path : List ℕ) → In (Within n path) a.value.refs → P n → Q n)
+    → RefsOf P f → RefsOf Q f
 entries_by P Q End k h = tt
 entries_by P Q (Entry e f g) k h = (attrs_by P Q e.attrs (k e (inl refl)) h.0, entries_by P Q f (λ d is. k d (inr (inl is))) h.1, entries_by P Q g (λ d is. k d (inr (inr is))) h.2)
 

@@ -1,5 +1,5 @@
 -- Tops are numbered in order, so a number has one top.
-use Rattle.std.proofs.Common.{◌≡◌, ℕ, ℤ, suc, ◌+◌, ◌<◌, ◌≤◌, Bool, true, false, List, [], ◌∷◌, ◌++◌, length, Option, Some, ◌==◌, refl, sym, ap, subst, ◌∙◌, inl, inr, ⊎_elim, arith}
+use Rattle.std.proofs.Common.{◌≡◌, ℕ, ℤ, suc, ◌+◌, ◌<◌, ◌≤◌, Bool, true, false, List, [], ◌∷◌, ◌++◌, length, Option, Some, ◌==◌, refl, sym, ap, subst, ◌∙◌, inl, inr, ⊎_elim, arith, slice_get}
 use Rattle.std.proofs.lemmas.Bool.{eq-eqb, eqb-true, ne_eqb}
 use Rattle.dwz_meanings.specs.Documents.{Compile, DwUnit, Entries, Kind, OfType, Partial, language}
 use Rattle.dwz_docs.specs.Lists.{In}
@@ -104,7 +104,8 @@ finds n (x ∷ tops) t h (inr j) =
     rw (ne_eqb x.number t.number (λ e. omega arith), top_in) (finds (suc n) tops t h.1 j)
 
 -- a choice by a test, of which one side can't be
-pub chosen : {X Y : Type 0} (b : Bool) (x : X) (r : Option X) (y : X) → (b ≡ true → Some x ≡ Some y → Y) → (b ≡ false → r ≡ Some y → Y) → elim b as (λ _. Option X) [ true ↦ Some x | false ↦ r ] ≡ Some y → Y
+pub chosen : {X Y : Type 0} (b : Bool) (x : X) (r : Option X) (y : X) → (b ≡ true → Some x ≡ Some y → Y) → (b ≡ false → r ≡ Some y → Y) → elim b as (λ _. Option X) [ true ↦ Some x | false ↦ r ]
+    ≡ Some y → Y
 chosen true x r y f g e = f refl e
 chosen false x r y f g e = g refl e
 
@@ -121,3 +122,15 @@ unit_found [] n u e = absurd cc
 unit_found (x ∷ tops) n u e = chosen (x.number == n) x.unit (unit_in tops n) u
     (λ b s. (x, inl refl, eqb-true x.number n b, cc))
     (λ b s. let r = unit_found tops n u s in (r.0, inr r.1, r.2, r.3)) e
+
+pub at_number : (n : ℕ) (tops : List Top) → Numbered n tops → (t : Top) → In t tops → (k : ℕ) × (slice_get tops k ≡ Some t) × (t.number ≡ n + k)
+at_number n [] h t there = absurd there
+at_number n (x ∷ tops) h t (inl e) = (0, ap (λ (w : Top). Some w) e, (let first = h.0 in let same : x.number ≡ t.number = ap (λ (w : Top). w.number) e in omega arith))
+at_number n (x ∷ tops) h t (inr later) = (let r = at_number (suc n) tops h.1 t later in (suc r.0, r.1, (let at = r.2 in omega arith)))
+
+-- a top stands at the place of its number
+pub top_there : (units : List (FileUnit Spot)) (t : Top) → In t (tops_of units) → slice_get (tops_of units) t.number ≡ Some t
+top_there units t there =
+    let r = at_number 0 (tops_of units) (tops_numbers units) t there in
+    let at : r.0 ≡ t.number = (let e = r.2 in omega arith) in
+    subst (λ (k : ℕ). slice_get (tops_of units) k ≡ Some t) at r.1

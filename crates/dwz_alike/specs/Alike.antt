@@ -1,5 +1,6 @@
 -- Which tops may move, and which are alike.
-use Rattle.std.specs.Prelude.{◌⊎◌, ◌≡◌, ℕ, zero, suc, Bool, true, false, List, [], ◌∷◌, ◌++◌, Option, Some, None, Result, Ok, Err, ◌==◌, ◌&&◌, ◌||◌, not}
+use Rattle.std.specs.Prelude.{◌⊎◌, ◌≡◌, ℕ, zero, suc, Bool, true, false, List, [], ◌∷◌, ◌++◌, Option, Some, None, Result, Ok, Err, ◌==◌}
+use Rattle.std.specs.Prelude.{◌&&◌, ◌||◌, not}
 use Rattle.std.specs.List.{list_any}
 use Rattle.dwz_model.specs.declared.fault.Fault.{Fault}
 use Rattle.dwz_meanings.specs.Documents.{Attr, Entries, Expr, Loc, Node, Operand, Part, Plain, Same, Value}
@@ -115,7 +116,8 @@ refers_to n t = any_in (any_attr (λ a. list_any (is_in n) a.value.refs)) t
 -- Bound by itself, or by a chain of so many references into a top that is.
 unfoldable pub Bound : List (FileUnit Spot) → ℕ → ℕ → Type 0
 Bound units zero n = (t : Top) × In t (tops_of units) × (t.number ≡ n) × (binds_itself units t ≡ true)
-Bound units (suc k) n = Bound units k n ⊎ ((t : Top) × (m : ℕ) × In t (tops_of units) × (t.number ≡ n) × (refers_to m t ≡ true) × Bound units k m)
+Bound units (suc k) n = Bound units k n ⊎ ((t : Top) × (m : ℕ) × In t (tops_of units) × (t.number ≡ n) × (refers_to m t ≡ true)
+    × Bound units k m)
 
 -- a top, and no chain of references binds it
 pub record Movable (units : List (FileUnit Spot)) (n : ℕ) : Type 0 where
@@ -174,16 +176,17 @@ pub record Alike (units : List (FileUnit Spot)) (m n : ℕ) : Type 0 where
   pub equal : (k : ℕ) → Look (tops_of units) k m n
 
 -- all files are one scope, or each file is one
-pub data Scope : Type 0 where
-  Together : Scope
-  Apart : Scope
+pub data TopScope : Type 0 where
+  Together : TopScope
+  Apart : TopScope
 
-abbrev pub InScope : Scope → Top → Top → Type 0
+abbrev pub InScope : TopScope → Top → Top → Type 0
 InScope Together a b = Unit {0}
 InScope Apart a b = a.file ≡ b.file
 
 -- a test finds tops alike exactly if they are, and in one scope
-pub record IsAlike (scope : Scope) (units : List (FileUnit Spot)) (alike : ℕ → ℕ → Bool) : Type 0 where
+pub record IsAlike (scope : TopScope) (units : List (FileUnit Spot)) (alike : ℕ → ℕ → Bool) : Type 0 where
   pub decides : (m n : ℕ) → alike m n ≡ true → Alike units m n
   pub scoped : (a b : Top) → In a (tops_of units) → In b (tops_of units) → alike a.number b.number ≡ true → InScope scope a b
-  pub decided : (a b : Top) → In a (tops_of units) → In b (tops_of units) → InScope scope a b → Alike units a.number b.number → alike a.number b.number ≡ true
+  pub decided : (a b : Top) → In a (tops_of units) → In b (tops_of units) → InScope scope a b → Alike units a.number b.number
+      → alike a.number b.number ≡ true

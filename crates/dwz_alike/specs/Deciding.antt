@@ -1,12 +1,14 @@
 -- A test that decides which tops are alike: it looks as deep as there are tops.
-use Rattle.std.specs.Prelude.{◌≡◌, ℕ, ℤ, pos, negsuc, zero, suc, Bool, true, false, List, [], ◌∷◌, length, Option, Some, None, ◌==◌, not, slice_index_or}
+use Rattle.std.specs.Prelude.{◌≡◌, ℕ, ℤ, pos, negsuc, zero, suc, Bool, true, false, List, [], ◌∷◌, length, Option, Some, None, ◌==◌, not}
+use Rattle.std.specs.Prelude.{slice_index_or}
 use Rattle.std.specs.List.{list_any}
 use Rattle.dwz_model.specs.declared.place.Base.{Base}
 use Rattle.dwz_model.specs.declared.place.Base.TheVariants.{Unit as FromUnit, Info as FromInfo}
-use Rattle.dwz_meanings.specs.Documents.{Addr, Attr, Block, Entries, Expr, File, Flag, Index, Loc, Node, Num, Operand, Part, Plain, Ref, Same, Sec, Sig, Text, Value}
+use Rattle.dwz_meanings.specs.Documents.{Addr, Attr, Block, Entries, Expr, File, Flag, Index, Loc, Node, Num, Operand, Part, Plain, Ref}
+use Rattle.dwz_meanings.specs.Documents.{Same, Sec, Sig, Text, Value}
 use Rattle.dwz_docs.specs.Lists.{In}
 use Rattle.dwz_docs.specs.Trees.{End, Entry}
-use Rattle.dwz_alike.specs.Alike.{Apart, Scope, Together, binds_itself, refers_to}
+use Rattle.dwz_alike.specs.Alike.{Apart, TopScope, Together, binds_itself, refers_to}
 use Rattle.dwz_alike.specs.Spots.{FileUnit, Spot, Top, Within, name_list, same_numbers, tops_of}
 
 abbrev pub Test : Type 0
@@ -30,7 +32,13 @@ same_base _ _ = false
 
 unfoldable pub same_part : Part → Part → Bool
 same_part (Same bytes) (Same others) = same_numbers bytes others
-same_part (Operand w u b) (Operand v t c) = elim (w == v) as (λ _. Bool) [ true ↦ elim (same_bool u t) as (λ _. Bool) [ true ↦ same_base b c | false ↦ false ] | false ↦ false ]
+same_part (Operand w u b) (Operand v t c) = elim (w == v) as (λ _. Bool) [
+  | true ↦ elim (same_bool u t) as (λ _. Bool) [
+    | true ↦ same_base b c
+    | false ↦ false
+  ]
+  | false ↦ false
+]
 same_part _ _ = false
 
 -- equally many, and the test holds of each two
@@ -79,7 +87,13 @@ same_node test d e = elim (d.tag == e.tag) as (λ _. Bool) [ true ↦ same_by (s
 unfoldable pub same_entries : Test → Entries Spot → Entries Spot → Bool
 same_entries test End End = true
 same_entries test (Entry d f g) (Entry e f' g') =
-    elim (same_node test d e) as (λ _. Bool) [ true ↦ elim (same_entries test f f') as (λ _. Bool) [ true ↦ same_entries test g g' | false ↦ false ] | false ↦ false ]
+    elim (same_node test d e) as (λ _. Bool) [
+      | true ↦ elim (same_entries test f f') as (λ _. Bool) [
+        | true ↦ same_entries test g g'
+        | false ↦ false
+      ]
+      | false ↦ false
+    ]
 same_entries test _ _ = false
 
 abbrev pub same_top : Test → Top → Top → Bool
@@ -111,7 +125,11 @@ look_test tops (suc k) m n = on_tops (same_top (look_test tops k)) (top_in tops 
 unfoldable pub bound_test : List (FileUnit Spot) → ℕ → Top → Bool
 bound_test units zero t = binds_itself units t
 bound_test units (suc k) t =
-    elim (bound_test units k t) as (λ _. Bool) [ true ↦ true | false ↦ list_any (λ u. elim (refers_to u.number t) as (λ _. Bool) [ true ↦ bound_test units k u | false ↦ false ]) (tops_of units) ]
+    elim (bound_test units k t) as (λ _. Bool) [
+      | true ↦ true
+      | false ↦ list_any (λ u. elim (refers_to u.number t) as (λ _. Bool) [ true ↦ bound_test units k u | false ↦ false ])
+          (tops_of units)
+    ]
 
 abbrev pub is_movable : List (FileUnit Spot) → Top → Bool
 is_movable units t = not (bound_test units (length (tops_of units)) t)
@@ -121,11 +139,11 @@ pub record AreMovable (units : List (FileUnit Spot)) (flags : List Bool) : Type 
   pub len : length flags ≡ length (tops_of units)
   pub each : (t : Top) → In t (tops_of units) → slice_index_or flags t.number false ≡ is_movable units t
 
-abbrev pub in_scope : Scope → Top → Top → Bool
+abbrev pub in_scope : TopScope → Top → Top → Bool
 in_scope Together a b = true
 in_scope Apart a b = a.file == b.file
 
-abbrev pub alike_tops : Scope → List (FileUnit Spot) → Top → Top → Bool
+abbrev pub alike_tops : TopScope → List (FileUnit Spot) → Top → Top → Bool
 alike_tops scope units a b =
     elim (in_scope scope a b) as (λ _. Bool) [
       | true ↦ elim (look_test (tops_of units) (length (tops_of units)) a.number b.number) as (λ _. Bool) [
@@ -136,5 +154,5 @@ alike_tops scope units a b =
     ]
 
 -- whether the tops with these numbers are alike, and in one scope
-unfoldable pub alike_test : Scope → List (FileUnit Spot) → Test
+unfoldable pub alike_test : TopScope → List (FileUnit Spot) → Test
 alike_test scope units m n = on_tops (alike_tops scope units) (top_in (tops_of units) m) (top_in (tops_of units) n)

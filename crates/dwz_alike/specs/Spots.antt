@@ -50,14 +50,16 @@ pub record FileUnit (P : Type 0) : Type 0 where
 -- the places of entries with their names, by the path of what is above them and the index of the first
 unfoldable pub entry_spots : (List ℕ → Spot) → List ℕ → ℕ → Entries ℕ → List (ℕ × Spot)
 entry_spots name path i End = []
-entry_spots name path i (Entry e children next) = (e.at, name (i ∷ path)) ∷ entry_spots name (i ∷ path) 0 children ++ entry_spots name path (suc i) next
+entry_spots name path i (Entry e children next) = (e.at, name (i ∷ path)) ∷ entry_spots name (i ∷ path) 0 children
+    ++ entry_spots name path (suc i) next
 
 -- the same of what stands in the root of a compile unit or in a space of it, where the first top has that number
 unfoldable pub top_spots : ℕ → List ℕ → ℕ → ℕ → Entries ℕ → List (ℕ × Spot)
 top_spots unit path i n End = []
 top_spots unit path i n (Entry e children next) = elim (space_text e) as (λ _. List (ℕ × Spot)) [
   | None ↦ (e.at, Within n []) ∷ entry_spots (Within n) [] 0 children ++ top_spots unit path (suc i) (suc n) next
-  | Some text ↦ (e.at, SpaceAt unit (i ∷ path)) ∷ top_spots unit (i ∷ path) 0 n children ++ top_spots unit path (suc i) (n + tops_under children) next
+  | Some text ↦ (e.at, SpaceAt unit (i ∷ path)) ∷ top_spots unit (i ∷ path) 0 n children
+      ++ top_spots unit path (suc i) (n + tops_under children) next
 ]
 
 -- a compile unit has tops and spaces
@@ -75,7 +77,8 @@ top_count Partial below = 0
 unfoldable pub spots_from : ℕ → ℕ → List (DwUnit ℕ) → List (ℕ × Spot)
 spots_from unit top [] = []
 spots_from unit top (u ∷ units) =
-    (u.at, UnitOf unit) ∷ (u.root.at, RootOf unit) ∷ below_spots unit top u.kind u.below ++ spots_from (suc unit) (top + top_count u.kind u.below) units
+    (u.at, UnitOf unit) ∷ (u.root.at, RootOf unit) ∷ below_spots unit top u.kind u.below
+    ++ spots_from (suc unit) (top + top_count u.kind u.below) units
 
 -- the name of a place
 unfoldable pub spot_in : List (ℕ × Spot) → ℕ → Spot
@@ -151,8 +154,10 @@ pub data Row : Type 0 where
 unfoldable pub row_in : ℕ → ℕ → Option ℤ → List SpaceName → ℕ → Entries Spot → Row
 row_in file unit language spaces n End = Nothing
 row_in file unit language spaces n (Entry e children next) = elim (space_text e) as (λ _. Row) [
-  | None ↦ ATop (record { file = file; unit = unit; language = language; spaces = spaces; number = n; node = e; below = children }) (row_in file unit language spaces (suc n) next)
-  | Some text ↦ ASpace e (row_in file unit language (spaces ++ name_of text e ∷ []) n children) (row_in file unit language spaces (n + tops_under children) next)
+  | None ↦ ATop (record { file = file; unit = unit; language = language; spaces = spaces; number = n; node = e; below = children })
+      (row_in file unit language spaces (suc n) next)
+  | Some text ↦ ASpace e (row_in file unit language (spaces ++ name_of text e ∷ []) n children)
+      (row_in file unit language spaces (n + tops_under children) next)
 ]
 
 abbrev pub row_below : ℕ → ℕ → ℕ → DwUnit Spot → Kind Spot → Row
@@ -189,7 +194,8 @@ tops_of units = tops_from 0 0 units
 
 abbrev pub Labelled : (List ℕ → Spot) → List ℕ → ℕ → Entries Spot → Type 0
 Labelled name path i End = Unit {0}
-Labelled name path i (Entry e children next) = (e.at ≡ name (i ∷ path)) × Labelled name (i ∷ path) 0 children × Labelled name path (suc i) next
+Labelled name path i (Entry e children next) = (e.at ≡ name (i ∷ path)) × Labelled name (i ∷ path) 0 children
+    × Labelled name path (suc i) next
 
 abbrev pub LabelledTop : Top → Type 0
 LabelledTop t = (t.node.at ≡ Within t.number []) × Labelled (Within t.number) [] 0 t.below
@@ -198,4 +204,5 @@ LabelledTop t = (t.node.at ≡ Within t.number []) × Labelled (Within t.number)
 abbrev pub LabelledSpaces : ℕ → List ℕ → ℕ → Row → Type 0
 LabelledSpaces unit path i Nothing = Unit {0}
 LabelledSpaces unit path i (ATop t next) = LabelledSpaces unit path (suc i) next
-LabelledSpaces unit path i (ASpace e inner next) = (e.at ≡ SpaceAt unit (i ∷ path)) × LabelledSpaces unit (i ∷ path) 0 inner × LabelledSpaces unit path (suc i) next
+LabelledSpaces unit path i (ASpace e inner next) = (e.at ≡ SpaceAt unit (i ∷ path)) × LabelledSpaces unit (i ∷ path) 0 inner
+    × LabelledSpaces unit path (suc i) next

@@ -2,7 +2,7 @@
 
 ghost use Rattle.std.specs.Prelude.{◌≡◌, ◌↔◌, ℕ, true, List, length};
 ghost use Rattle.dwz_docs.specs.Lists.{In};
-ghost use Rattle.dwz_alike.specs.Alike.{Alike, Bound, IsAlike, Look, Movable, Scope, refers_to};
+ghost use Rattle.dwz_alike.specs.Alike.{Alike, Bound, IsAlike, Look, Movable, TopScope, refers_to};
 ghost use Rattle.dwz_alike.specs.AlikeLaws.{AddressLaw};
 ghost use Rattle.dwz_alike.specs.Deciding.{alike_test, bound_test, is_movable, look_test};
 ghost use Rattle.dwz_alike.specs.Spots.{FileUnit, Spot, Top, tops_of};
@@ -20,10 +20,15 @@ ghost use Rattle.dwz_alike.specs.Targets.{targets_of};
 pub fn alike_laws()
     ensures address { AddressLaw }
     ensures targets { (t : Top) (n : ℕ) → In n (targets_of t) ↔ (refers_to n t ≡ true) }
-    ensures bound { (units : List (FileUnit Spot)) (t : Top) → In t (tops_of units) → (bound_test units (length (tops_of units)) t ≡ true) ↔ ((k : ℕ) × Bound units k t.number) }
-    ensures movable { (units : List (FileUnit Spot)) (t : Top) → In t (tops_of units) → (is_movable units t ≡ true) ↔ Movable units t.number }
-    ensures looks { (units : List (FileUnit Spot)) (k m n : ℕ) → Movable units m → Movable units n → (look_test (tops_of units) k m n ≡ true) ↔ Look (tops_of units) k m n }
-    ensures every { (units : List (FileUnit Spot)) (m n : ℕ) → Movable units m → Movable units n → Look (tops_of units) (length (tops_of units)) m n → (k : ℕ) → Look (tops_of units) k m n }
-    ensures decides { (scope : Scope) (units : List (FileUnit Spot)) → IsAlike scope units (alike_test scope units) }
-    ensures equal { (units : List (FileUnit Spot)) → ((n : ℕ) → Movable units n → Alike units n n) × ((m n : ℕ) → Alike units m n → Alike units n m) × ((l m n : ℕ) → Alike units l m → Alike units m n → Alike units l n) }
+    ensures bound { (units : List (FileUnit Spot)) (t : Top) → In t (tops_of units)
+        → (bound_test units (length (tops_of units)) t ≡ true) ↔ ((k : ℕ) × Bound units k t.number) }
+    ensures movable { (units : List (FileUnit Spot)) (t : Top) → In t (tops_of units)
+        → (is_movable units t ≡ true) ↔ Movable units t.number }
+    ensures looks { (units : List (FileUnit Spot)) (k m n : ℕ) → Movable units m → Movable units n
+        → (look_test (tops_of units) k m n ≡ true) ↔ Look (tops_of units) k m n }
+    ensures every { (units : List (FileUnit Spot)) (m n : ℕ) → Movable units m → Movable units n
+        → Look (tops_of units) (length (tops_of units)) m n → (k : ℕ) → Look (tops_of units) k m n }
+    ensures decides { (scope : TopScope) (units : List (FileUnit Spot)) → IsAlike scope units (alike_test scope units) }
+    ensures equal { (units : List (FileUnit Spot)) → ((n : ℕ) → Movable units n → Alike units n n)
+        × ((m n : ℕ) → Alike units m n → Alike units n m) × ((l m n : ℕ) → Alike units l m → Alike units m n → Alike units l n) }
 {}

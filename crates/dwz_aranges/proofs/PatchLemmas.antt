@@ -1,12 +1,13 @@
 -- What is written over a section, set by set.
-use Rattle.std.proofs.Common.{◌≡◌, ℕ, zero, suc, ◌+◌, ◌/◌, ◌%◌, ◌^◌, ◌<◌, ◌≤◌, List, [], ◌∷◌, length, drop, get_or, set, Result, Ok, Err, IsOkAnd, IfOk, refl, sym, ap, ◌∙◌, arith}
-use Rattle.std.specs.Int.{bytes_low_first, to_le_bytes, w32}
-use Rattle.std.proofs.Math.Nat.{div-div-eq-div-mul, div-one, pow-suc}
+use Rattle.std.proofs.Common.{◌≡◌, ℕ, zero, suc, ◌+◌, ◌<◌, ◌≤◌, List, [], ◌∷◌, length, drop, get_or, set, Result, Ok, Err, IsOkAnd, IfOk, refl, sym, ap, ◌∙◌, arith}
+use Rattle.std.specs.Int.{to_le_bytes, w32}
+use Rattle.std.proofs.Math.Nat.{div-one}
 use Rattle.std.proofs.lemmas.List.{drop_more, length-append, length-drop}
 use Rattle.dwz_model.specs.declared.fault.Fault.{Fault}
 use Rattle.dwz_bytes.specs.Input.{Input, input}
 use Rattle.dwz_bytes.specs.Reading.{◌>>=◌}
 use Rattle.dwz_bytes.specs.Spelling.{le_bytes}
+use Rattle.dwz_bytes.proofs.LowBytes.{low_first}
 use Rattle.dwz_meanings.specs.Patching.{with_units, written_at}
 use Rattle.dwz_meanings.specs.Ranges.{RangeSet, set_at, sets_at}
 use Rattle.dwz_meanings.specs.Sequences.{after_one, with_item}
@@ -17,18 +18,6 @@ use Rattle.dwz_aranges.specs.Views.{any_unit}
 use Rattle.dwz_aranges.proofs.WholeLemmas.{left_of, sets_begin, sets_end}
 
 -- ---- four bytes
-
-low_first : (k i n : ℕ) → bytes_low_first i k n ≡ le_bytes k (n / 256 ^ i)
-unfolding le_bytes
-low_first zero i n = refl
-low_first (suc k) zero n =
-    let one : n / 256 ^ 0 ≡ n = div-one n in
-    let rest : bytes_low_first 1 k n ≡ le_bytes k (n / 256) = low_first k 1 n in
-    rw (one, rest) refl
-low_first (suc k) (suc i) n =
-    let rest = low_first k (suc (suc i)) n in
-    let deeper : n / 256 ^ suc (suc i) ≡ n / 256 ^ suc i / 256 = ap (λ (m : ℕ). n / m) (pow-suc 256 (suc i)) ∙ sym (div-div-eq-div-mul n (256 ^ suc i) 256) in
-    ap (λ (bytes : List ℕ). n / 256 ^ suc i % 256 ∷ bytes) (rest ∙ ap (le_bytes k) deeper)
 
 one_by_one : (at a b c d : ℕ) (bytes : List ℕ) → set (set (set (set bytes at a) (at + 1) b) (at + 2) c) (at + 3) d ≡ written_at at (a ∷ b ∷ c ∷ d ∷ []) bytes
 unfolding written_at
@@ -49,7 +38,8 @@ four_written at n bytes new is =
     ∙ one_by_one at (get_or (le_bytes 4 n) 0 0) (get_or (le_bytes 4 n) 1 0) (get_or (le_bytes 4 n) 2 0) (get_or (le_bytes 4 n) 3 0) bytes
     ∙ ap (λ (w : List ℕ). written_at at w bytes) (sym (four_bytes n))
 
-one_unit : (set : RangeSet) (sets : List RangeSet) (n : ℕ) (numbers bytes : List ℕ) → with_units (set ∷ sets) (n ∷ numbers) bytes ≡ with_units sets numbers (written_at (set.at + 6) (le_bytes 4 n) bytes)
+one_unit : (set : RangeSet) (sets : List RangeSet) (n : ℕ) (numbers bytes : List ℕ)
+    → with_units (set ∷ sets) (n ∷ numbers) bytes ≡ with_units sets numbers (written_at (set.at + 6) (le_bytes 4 n) bytes)
 unfolding with_units
 one_unit set sets n numbers bytes = refl
 
@@ -111,7 +101,8 @@ module _ (section numbers out : List ℕ) (at index : ℕ) (h : IsLeft section n
   must_stand f is = let no : Ok (left section at) ≡ Err f = begins ∙ ap (λ (r : Result (RangeSet × Input) Fault). r >>= after_one (sets_at any_unit)) is in cc
 
   -- its number is written, and the others are left
-  pub one_less : (set : RangeSet) (behind : ℕ) (new : List ℕ) → set_at any_unit (input section at) ≡ Ok (set, input section behind) → new ≡ written_at (at + 6) (le_bytes 4 (get_or numbers index 0)) out → IsLeft section numbers new behind (index + 1)
+  pub one_less : (set : RangeSet) (behind : ℕ) (new : List ℕ) → set_at any_unit (input section at) ≡ Ok (set, input section behind)
+      → new ≡ written_at (at + 6) (le_bytes 4 (get_or numbers index 0)) out → IsLeft section numbers new behind (index + 1)
   one_less set behind new is written = by (sets_at any_unit (input section behind)) refl where
     first : Ok (left section at) ≡ (sets_at any_unit (input section behind) >>= with_item set)
     first = begins ∙ ap (λ (r : Result (RangeSet × Input) Fault). r >>= after_one (sets_at any_unit)) is

@@ -10,7 +10,7 @@ use Rattle.dwz_aranges.specs.Patching.{IsPatched}
 use Rattle.dwz_aranges.specs.Views.{any_unit}
 
 -- sets of some units are sets, whichever units there are
-of_any : (is_unit : ℕ → Bool) (sets : List RangeSet) (start : ℕ) (bytes : List ℕ) → SpellsSets is_unit sets start bytes → SpellsSets any_unit sets start bytes
+pub of_any : (is_unit : ℕ → Bool) (sets : List RangeSet) (start : ℕ) (bytes : List ℕ) → SpellsSets is_unit sets start bytes → SpellsSets any_unit sets start bytes
 of_any is_unit [] start bytes s = s
 of_any is_unit (set ∷ sets) start bytes s =
     let one = s.first in
@@ -22,7 +22,8 @@ of_any is_unit (set ∷ sets) start bytes s =
       parts = s.parts;
     }
 
-pub patched_means : (is_unit others : ℕ → Bool) (section numbers out : List ℕ) (sets : List RangeSet) → SpellsSets is_unit sets 0 section → length numbers ≡ length sets → AreUnits others numbers → IsPatched section numbers out → SpellsSets others (of_units sets numbers) 0 out
+pub patched_means : (is_unit others : ℕ → Bool) (section numbers out : List ℕ) (sets : List RangeSet) → SpellsSets is_unit sets 0 section → length numbers ≡ length sets → AreUnits others numbers
+    → IsPatched section numbers out → SpellsSets others (of_units sets numbers) 0 out
 patched_means is_unit others section numbers out sets s many are patched =
     let read : sets_at any_unit (input section 0) ≡ Ok sets = ((sets_agree any_unit (input section 0)).ok sets).1 (of_any is_unit sets 0 section s) in
     let same : out ≡ with_units sets numbers section = subst (λ (r : Result (List RangeSet) Fault). IfOk r (λ found. out ≡ with_units found numbers section)) read patched in

@@ -28,7 +28,8 @@ sets_begin i some = by i.rest refl where
   by [] same = absurd (let len = ap length same in omega (arith, len, some))
   by (b ∷ bytes) same =
       let whole : i ≡ input_of i.at (b ∷ bytes) = λ n. record { at = i.at; rest = same n } in
-      ap (sets_at any_unit) whole ∙ all_step (set_at any_unit) (SpellsSet any_unit) (IsSetFault any_unit) (set_reads any_unit) set_takes i.at b bytes ∙ ap (λ (j : Input). set_at any_unit j >>= after_one (sets_at any_unit)) (sym whole)
+      ap (sets_at any_unit) whole ∙ all_step (set_at any_unit) (SpellsSet any_unit) (IsSetFault any_unit) (set_reads any_unit) set_takes i.at b bytes
+      ∙ ap (λ (j : Input). set_at any_unit j >>= after_one (sets_at any_unit)) (sym whole)
 
 pub sets_end : (i : Input) → length i.rest ≡ 0 → sets_at any_unit i ≡ Ok []
 sets_end i none = by i.rest refl where
@@ -40,10 +41,11 @@ sets_end i none = by i.rest refl where
 
 -- a set was read
 pub goes_on : (xs : List RangeSet) (i j : Input) (set : RangeSet) → 0 < length i.rest → set_at any_unit i ≡ Ok (set, j) → sets_into xs i ≡ sets_into (xs ++ set ∷ []) j
-goes_on xs i j set some is = ap (λ (r : Result (List RangeSet) Fault). r >>= with_more xs) (sets_begin i some ∙ ap (λ (r : Result (RangeSet × Input) Fault). r >>= after_one (sets_at any_unit)) is) ∙ by (sets_at any_unit j) where
-  by : (r : Result (List RangeSet) Fault) → ((r >>= with_item set) >>= with_more xs) ≡ (r >>= with_more (xs ++ set ∷ []))
-  by (Ok ys) = ap (λ (w : List RangeSet). Ok w) (sym (append_assoc xs (set ∷ []) ys))
-  by (Err f) = refl
+goes_on xs i j set some is = ap (λ (r : Result (List RangeSet) Fault). r >>= with_more xs) (sets_begin i some ∙ ap (λ (r : Result (RangeSet × Input) Fault). r >>= after_one (sets_at any_unit)) is)
+    ∙ by (sets_at any_unit j) where
+      by : (r : Result (List RangeSet) Fault) → ((r >>= with_item set) >>= with_more xs) ≡ (r >>= with_more (xs ++ set ∷ []))
+      by (Ok ys) = ap (λ (w : List RangeSet). Ok w) (sym (append_assoc xs (set ∷ []) ys))
+      by (Err f) = refl
 
 -- none was read
 pub breaks_off : (xs : List RangeSet) (i : Input) (f : Fault) → 0 < length i.rest → set_at any_unit i ≡ Err f → sets_into xs i ≡ Err f

@@ -26,11 +26,13 @@ Finds section at (Some x) = IsSet section at x.0 x.1
 
 -- a set that stands for any unit, and whose unit is known
 abbrev pub Known : Type 0
-Known = (is_unit : ℕ → Bool) (i j : Input) (set : RangeSet) → set_at any_unit i ≡ Ok (set, j) → is_unit set.unit ≡ true → set_at is_unit i ≡ Ok (set, j)
+Known = (is_unit : ℕ → Bool) (i j : Input) (set : RangeSet) → set_at any_unit i ≡ Ok (set, j) → is_unit set.unit ≡ true
+    → set_at is_unit i ≡ Ok (set, j)
 
 -- one whose unit isn't
 abbrev pub Unknown : Type 0
-Unknown = (is_unit : ℕ → Bool) (i j : Input) (set : RangeSet) → set_at any_unit i ≡ Ok (set, j) → is_unit set.unit ≡ false → set_at is_unit i ≡ Err (bad_ranges i.at)
+Unknown = (is_unit : ℕ → Bool) (i j : Input) (set : RangeSet) → set_at any_unit i ≡ Ok (set, j) → is_unit set.unit ≡ false
+    → set_at is_unit i ≡ Err (bad_ranges i.at)
 
 -- none that stands, whichever unit
 abbrev pub NoSet : Type 0

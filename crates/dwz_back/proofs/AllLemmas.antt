@@ -1,15 +1,15 @@
 -- All files that read can be written, and read back together.
 use Rattle.std.proofs.Common.{◌≡◌, ℕ, suc, Bool, true, false, List, [], ◌∷◌, map, Option, Some, None, refl, sym, ap, subst, arith, inl, inr}
-use Rattle.dwz_docs.specs.Lists.{In}
+use Rattle.dwz_docs.specs.Lists.{Each, In}
 use Rattle.dwz_docs.specs.Trees.{End, Entry}
 use Rattle.dwz_meanings.specs.Documents.{Attr, Doc, DwUnit, Entries, Node, unit_map}
 use Rattle.dwz_docs.specs.Entries.{given}
 use Rattle.dwz_meanings.specs.Files.{around_of, debug_abbrev, debug_info, sources_of}
 use Rattle.dwz_meanings.specs.Meanings.{Common as CommonFile, Sources, texts_of}
-use Rattle.dwz_alike.specs.Alike.{IsAlike, Scope}
+use Rattle.dwz_alike.specs.Alike.{IsAlike, TopScope}
 use Rattle.dwz_alike.specs.Spots.{FileUnit, PartialOf, Spot, Top, file_numbers, in_file, named, named_files, spot_in, spots_from, units_of}
-use Rattle.dwz_seen.specs.Lists.{Each, Nth}
-use Rattle.dwz_seen.proofs.Members.{each_more, each_of, in_cases, nth_in}
+use Rattle.dwz_seen.specs.Lists.{Nth}
+use Rattle.dwz_seen.proofs.Members.{each_more, each_of, nth_in}
 use Rattle.dwz_moving.specs.Homes.{Common, Home, IsChoice, Rule}
 use Rattle.dwz_moving.specs.Moves.{line_attrs, line_in, names_path, plan, root_in_part}
 use Rattle.dwz_moving.specs.Plan.{PartialUnit}
@@ -29,13 +29,15 @@ use Rattle.dwz_writing.proofs.Renumbered.{room_renumbered}
 use Rattle.dwz_writing.proofs.Staying.{units_stay, units_too}
 use Rattle.dwz_docs.specs.Pruning.{new_number}
 use Rattle.dwz_docs.proofs.OffsetLemmas.{slots_again}
+use Rattle.dwz_docs.proofs.ListFacts.{in_cases}
 use Rattle.dwz_back.specs.Prunable.{IsPrunable}
 use Rattle.dwz_back.proofs.FewTexts.{read_few}
 use Rattle.dwz_writing.proofs.CarriedMaps.{unit_carried}
 use Rattle.dwz_back.specs.AllFiles.{AllBack, AreMade, AreOver, AreRead, CommonMade, CommonSays, ReadBack, SaysStill, given_if}
 use Rattle.dwz_back.proofs.CarriedRoots.{RootsCarried}
 use Rattle.dwz_back.specs.Back.{AreAtOld, CanWrite, IsPlacing, IsReady, SaysPlaced, WasReadFrom, run_of}
-use Rattle.dwz_back.specs.Files.{HasSections, Run, Stored, common_forms, file_forms, fitted, fitted_if, formed, lists_named, origin_in, paths, places, sections_of, sources, tells, tells_common, texts, uses}
+use Rattle.dwz_back.specs.Files.{HasSections, Run, Stored, common_forms, file_forms, fitted, fitted_if, formed, lists_named, origin_in, paths, places, sections_of, sources, tells, tells_common, texts}
+use Rattle.dwz_back.specs.Files.{uses}
 use Rattle.dwz_back.proofs.BasesLemmas.{out_bases}
 use Rattle.dwz_back.proofs.CommonLemmas.{common_within}
 use Rattle.dwz_back.proofs.FreeOperands.{UnitAsksNone, asks_operands, asks_room, home_asks}
@@ -55,7 +57,7 @@ use Rattle.dwz_back.proofs.SaysLemmas.{alone_back, common_back, file_back, range
 use Rattle.dwz_back.proofs.RangeLemmas.{named_at, stand_after}
 use Rattle.dwz_back.proofs.StillLists.{still_none}
 use Rattle.dwz_back.proofs.StillMeans.{units_there}
-use Rattle.dwz_back.proofs.StillPlaces.{back_old, back_place, back_placing}
+use Rattle.dwz_back.proofs.StillPlaces.{back_old, back_place, back_placing, number_nth}
 use Rattle.dwz_back.proofs.WithinLemmas.{within}
 
 -- ---- what was read in a file was read in some file
@@ -82,20 +84,20 @@ module _ {K : Type 0} (from : From) (origin : Bases) where
 -- ---- the units before
 
 -- the units of each file were read so
-abbrev WasRead : (ℕ → From) → FileUnit Spot → Type 0
+abbrev pub WasRead : (ℕ → From) → FileUnit Spot → Type 0
 WasRead from u = CarriedUnit (from u.file) (bases_in u.unit) u.unit
 
-file_carried : (from : ℕ → From) (file : ℕ) (f : ℕ → Spot) (some : List (DwUnit ℕ)) → Each (λ v. CarriedUnit (from file) (bases_in v) v) some → (u : FileUnit Spot)
+pub file_carried : (from : ℕ → From) (file : ℕ) (f : ℕ → Spot) (some : List (DwUnit ℕ)) → Each (λ v. CarriedUnit (from file) (bases_in v) v) some → (u : FileUnit Spot)
     → In u (map (in_file file) (map (unit_map f) some)) → WasRead from u
 file_carried from file f [] are u there = absurd there
 file_carried from file f (v ∷ some) are u (inl e) =
     subst (WasRead from) e (subst (λ (b : Bases). CarriedUnit (from file) b (unit_map f v)) (sym (bases_mapped f v)) (unit_carried (from file) (bases_in v) f v are.0))
 file_carried from file f (v ∷ some) are u (inr r) = file_carried from file f some are.1 u r
 
-abbrev Read : (ℕ → From) → ℕ → List (Doc ℕ) → Type 0
+abbrev pub Read : (ℕ → From) → ℕ → List (Doc ℕ) → Type 0
 Read from own docs = (file : ℕ) (doc : Doc ℕ) → Nth own docs file doc → Each (λ v. CarriedUnit (from file) (bases_in v) v) doc.units
 
-files_carried : (from : ℕ → From) (own unit top : ℕ) (docs : List (Doc ℕ)) → Read from own docs → (u : FileUnit Spot) → In u (named_files own unit top docs) → WasRead from u
+pub files_carried : (from : ℕ → From) (own unit top : ℕ) (docs : List (Doc ℕ)) → Read from own docs → (u : FileUnit Spot) → In u (named_files own unit top docs) → WasRead from u
 unfolding named_files
 files_carried from own unit top [] read u there = absurd there
 files_carried from own unit top (doc ∷ docs) read u there = elim (in_cases u (map (in_file own) (named unit top doc.units)) _ there) [
@@ -103,7 +105,7 @@ files_carried from own unit top (doc ∷ docs) read u there = elim (in_cases u (
   | inr b ↦ files_carried from (suc own) _ _ docs (λ file d nth. read file d (inr nth)) u b
 ]
 
-all_placed : (own : ℕ) (docs : List (Doc ℕ)) → ((file : ℕ) (doc : Doc ℕ) → Nth own docs file doc → ArePlaced doc.units) → Each (λ doc. ArePlaced doc.units) docs
+pub all_placed : (own : ℕ) (docs : List (Doc ℕ)) → ((file : ℕ) (doc : Doc ℕ) → Nth own docs file doc → ArePlaced doc.units) → Each (λ doc. ArePlaced doc.units) docs
 all_placed own [] read = tt
 all_placed own (doc ∷ docs) read = (read own doc (inl (refl, refl)), all_placed (suc own) docs (λ file d nth. read file d (inr nth)))
 
@@ -116,29 +118,29 @@ prunable_stays : (bytes : List ℕ) (units : List (DwUnit ℕ)) → Each (λ v. 
     → Each (λ v. CarriedUnit (StaysIn (sources_of bytes) (known_slots (sources_of bytes).offsets)) (bases_in v) v) units
 prunable_stays bytes units carried is =
     let places : is.places ≡ known_slots (sources_of bytes).offsets = sym (ap slots_or_none (slots_again (sources_of bytes).offsets is.places is.slots)) in
-    units_too (sources_of bytes) (known_slots (sources_of bytes).offsets) units carried (subst (λ (w : List ℕ). Each (UnitStays (texts_of (sources_of bytes)) (sources_of bytes).line w) units) places is.units)
+    units_too (sources_of bytes) (known_slots (sources_of bytes).offsets) units carried
+    (subst (λ (w : List ℕ). Each (UnitStays (texts_of (sources_of bytes)) (sources_of bytes).line w) units) places is.units)
 
 -- ---- the root of a partial unit of the common file
 
-common_root : (units : List (FileUnit Spot)) (origin : Bases) (part : PartialUnit) → part.home ≡ Common → Each (CarriedAttr OfAny origin) (line_attrs units part)
+pub common_root : (units : List (FileUnit Spot)) (origin : Bases) (part : PartialUnit) → part.home ≡ Common → Each (CarriedAttr OfAny origin) (line_attrs units part)
 unfolding line_attrs
 common_root units origin part home = by (names_path part) where
   by : (b : Bool) → Each (CarriedAttr OfAny origin) (elim b as (λ _. List (Attr Spot)) [ true ↦ line_in units part.home part.tops ∷ [] | false ↦ [] ])
-  by true = (subst (λ (h : Home). CarriedAttr OfAny origin (line_in units h part.tops)) (sym home) (inr (inr (record { name = refl; form = refl; place = 0; raw = refl; fits = omega arith; value = refl }))), tt)
+  by true = (
+    subst (λ (h : Home). CarriedAttr OfAny origin (line_in units h part.tops)) (sym home)
+        (inr (inr (record { name = refl; form = refl; place = 0; raw = refl; fits = omega arith; value = refl }))),
+    tt,
+  )
   by false = tt
 
-common_roots : (rule : Rule) (units : List (FileUnit Spot)) (files : List ℕ) → RootsCarried OfAny (plan rule units files) units Common
+pub common_roots : (rule : Rule) (units : List (FileUnit Spot)) (files : List ℕ) → RootsCarried OfAny (plan rule units files) units Common
 common_roots rule units files n part nth home =
     let m = plan rule units files in
-    subst (λ (o : Option PartialUnit). Each (CarriedAttr OfAny (origin_in m units (PartialOf n))) (root_in_part units o)) (sym (part_found 0 m.parts n n part nth (omega arith))) (common_root units (origin_in m units (PartialOf n)) part home)
+    subst (λ (o : Option PartialUnit). Each (CarriedAttr OfAny (origin_in m units (PartialOf n))) (root_in_part units o)) (sym (part_found 0 m.parts n n part nth (omega arith)))
+    (common_root units (origin_in m units (PartialOf n)) part home)
 
 -- ---- location lists
-
-doc_at : (own : ℕ) (docs : List (Doc ℕ)) (file : ℕ) → In file (file_numbers own docs) → (doc : Doc ℕ) × Nth own docs file doc
-unfolding file_numbers
-doc_at own [] file there = absurd there
-doc_at own (doc ∷ docs) file (inl e) = (doc, inl (e, refl))
-doc_at own (doc ∷ docs) file (inr r) = (let o = doc_at (suc own) docs file r in (o.0, inr o.1))
 
 none_named : NoneShared []
 unfolding operands_in_lists
@@ -146,7 +148,7 @@ none_named place shared = shared.1
 
 -- ---- all files
 
-module _ (scope : Scope) (docs : List (Doc ℕ)) (input : Stored) (are : AreRead input docs) (rule : Rule) (is : IsAlike scope (units_of docs) rule.alike) (choice : IsChoice (units_of docs) rule)
+module _ (scope : TopScope) (docs : List (Doc ℕ)) (input : Stored) (are : AreRead input docs) (rule : Rule) (is : IsAlike scope (units_of docs) rule.alike) (choice : IsChoice (units_of docs) rule)
     (over : AreOver (run_of rule docs input)) where
   abbrev r : Run
   r = run_of rule docs input
@@ -205,7 +207,7 @@ module _ (scope : Scope) (docs : List (Doc ℕ)) (input : Stored) (are : AreRead
 
   -- no list of a file shares a byte with an operand of another
   file_lists : (file : ℕ) → In file r.files → NoneShared (lists_named r file)
-  file_lists file there = (let o = doc_at 0 docs file there in (are file o.0 o.1).reads.lists)
+  file_lists file there = (let o = number_nth 0 docs file there in (are file o.0 o.1).reads.lists)
 
   file_bases : (file : ℕ) → Each (BasesStand (file_forms r file)) (out_units r.move r.units file)
   file_bases file = out_bases r file whole.old
@@ -280,10 +282,10 @@ module _ (scope : Scope) (docs : List (Doc ℕ)) (input : Stored) (are : AreRead
   can_write = record {
     apart = together.apart;
     file = file_ready;
-    few = λ file there. (let o = doc_at 0 docs file there in let read = are file o.0 o.1 in read_few read.limits (input.bytes file) (input.raw file) o.0 read.reads 3);
+    few = λ file there. (let o = number_nth 0 docs file there in let read = are file o.0 o.1 in read_few read.limits (input.bytes file) (input.raw file) o.0 read.reads 3);
     stay = λ file there changed prunes. file_stay file prunes;
     units = λ file there.
-        (let o = doc_at 0 docs file there in
+        (let o = number_nth 0 docs file there in
         stand_after r whole.old file (sources_of (input.bytes file)) _ o.0.units (are file o.0 o.1).reads.means (λ v v_in. named_at 0 0 0 docs file o.0 o.1 v v_in));
     common = record {
       carried = common_carried;
@@ -329,12 +331,14 @@ module _ (scope : Scope) (docs : List (Doc ℕ)) (input : Stored) (are : AreRead
     back_all : (common : Option (List ℕ)) → AreMade r output common → AllBack scope docs rule input output common g
     back_all common made =
         let given = given_if r g common (common_says common made.common) in
-        let says = λ (file : ℕ) (there : In file r.files) (changed : changes r.move r.units file ≡ true). file_says common made.common (common_says common made.common) file there changed (made.file file there changed)
+        let says = λ (file : ℕ) (there : In file r.files) (changed : changes r.move r.units file ≡ true). file_says common made.common (common_says common made.common) file there changed
+        (made.file file there changed)
         (made.file_fits file there changed) in
         record {
           common = common_says common made.common;
           file = says;
-          ranges = λ file there changed. ranges_back r can_write g ok given (output file) file there changed (made.file file there changed) (made.file_fits file there changed) (says file there changed);
+          ranges = λ file there changed. ranges_back r can_write g ok given (output file) file there changed (made.file file there changed) (made.file_fits file there changed)
+              (says file there changed);
           still = λ file doc nth. still_says given file doc nth;
           same = same_back scope docs rule placed is choice input g ok old;
         }

@@ -1,9 +1,9 @@
 -- The attributes of what is kept, and of what is new.
 use Rattle.std.proofs.Common.{◌≡◌, ℕ, Bool, true, false, List, [], ◌∷◌, map, refl, sym, subst, inl, inr}
-use Rattle.dwz_docs.specs.Lists.{In}
+use Rattle.dwz_docs.specs.Lists.{Each, In}
 use Rattle.dwz_docs.specs.Trees.{End, Entry}
 use Rattle.dwz_meanings.specs.Documents.{Attr, Compile, Entries, Kind, Node, OfType, Partial, attr_map, entries_map, language, node_map}
-use Rattle.dwz_seen.specs.Lists.{Each, Nth}
+use Rattle.dwz_seen.specs.Lists.{Nth}
 use Rattle.dwz_seen.proofs.Members.{in_map_from}
 use Rattle.dwz_alike.specs.Spots.{FileUnit, Spot, Top, row_of}
 use Rattle.dwz_alike.proofs.RowLemmas.{unit_row}

@@ -1,7 +1,8 @@
 -- An old unit that is kept says of slots and of a line table what it said.
 use Rattle.std.proofs.Common.{◌≡◌, ℕ, false, refl, sym, ap, subst, ◌∙◌, arith}
 use Rattle.dwz_meanings.specs.Documents.{Compile, Kind, OfType, Partial, kind_map}
-use Rattle.dwz_seen.specs.Lists.{Each, Nth}
+use Rattle.dwz_seen.specs.Lists.{Nth}
+use Rattle.dwz_docs.specs.Lists.{Each}
 use Rattle.dwz_seen.proofs.Members.{each_append, each_of}
 use Rattle.dwz_alike.specs.Spots.{FileUnit, Spot, row_of}
 use Rattle.dwz_moving.specs.Homes.{Local}

@@ -4,7 +4,8 @@ use Rattle.dwz_alike.specs.Spots.{FileUnit, PartialOf, Spot}
 use Rattle.dwz_moving.specs.Homes.{Home}
 use Rattle.dwz_moving.specs.Moves.{Move}
 use Rattle.dwz_moving.specs.Plan.{PartialUnit}
-use Rattle.dwz_seen.specs.Lists.{Each, Nth}
+use Rattle.dwz_seen.specs.Lists.{Nth}
+use Rattle.dwz_docs.specs.Lists.{Each}
 use Rattle.dwz_writing.specs.Carried.{CarriedAttr, From}
 use Rattle.dwz_back.specs.Files.{origin_in}
 

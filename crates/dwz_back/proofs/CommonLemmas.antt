@@ -1,14 +1,15 @@
 -- What is in the common file refers to what is in the common file.
 use Rattle.std.proofs.Common.{◌≡◌, ◌≢◌, ℕ, true, List, [], ◌∷◌, map, refl, sym, ap, subst, ◌∙◌, inl, inr}
 use Rattle.dwz_meanings.specs.Documents.{Attr, Compile, Doc, DwUnit, Entries, Kind, OfType, Partial, attr_map, language}
-use Rattle.dwz_docs.specs.Lists.{In}
+use Rattle.dwz_docs.specs.Lists.{Each, In}
 use Rattle.dwz_docs.specs.Trees.{End, Entry}
-use Rattle.dwz_seen.specs.Lists.{Each, Nth}
+use Rattle.dwz_docs.proofs.ListFacts.{in_cases, in_map}
+use Rattle.dwz_seen.specs.Lists.{Nth}
 use Rattle.dwz_seen.specs.Seen.{Named, Seen, all_seen, named_value, seen, seen_below, seen_map, seen_roots}
-use Rattle.dwz_seen.proofs.Members.{each_in, in_cases, in_map, in_map_from, nth_in}
+use Rattle.dwz_seen.proofs.Members.{each_in, in_map_from, nth_in}
 use Rattle.dwz_seen.proofs.SeenLemmas.{entry_seen, root_from, seen_from}
 use Rattle.dwz_seen.proofs.ShownLemmas.{attr_from}
-use Rattle.dwz_alike.specs.Alike.{IsAlike, Scope}
+use Rattle.dwz_alike.specs.Alike.{IsAlike, TopScope}
 use Rattle.dwz_alike.specs.Spots.{FileUnit, InType, RootOf, SpaceAt, Spot, Top, Within, name_list, row_of, tops_of, units_of}
 use Rattle.dwz_alike.proofs.AlikePer.{alike_per}
 use Rattle.dwz_alike.proofs.RowLemmas.{unit_row}
@@ -67,7 +68,8 @@ abbrev number_of : Spot → ℕ
 number_of (Within t path) = t
 number_of _ = 0
 
-module _ (scope : Scope) (units : List (FileUnit Spot)) (rule : Rule) (is : IsAlike scope units rule.alike) (choice : IsChoice units rule) (files : List ℕ) (old : AreOld units) (held : IsHeld units (plan rule units files)) where
+module _ (scope : TopScope) (units : List (FileUnit Spot)) (rule : Rule) (is : IsAlike scope units rule.alike) (choice : IsChoice units rule) (files : List ℕ) (old : AreOld units)
+    (held : IsHeld units (plan rule units files)) where
   abbrev m : Move
   m = plan rule units files
 
@@ -81,7 +83,8 @@ module _ (scope : Scope) (units : List (FileUnit Spot)) (rule : Rule) (is : IsAl
     seen_is : In d (raw_top top)
     number : top.number ≡ n
 
-  below_of : (i : ℕ) (u : FileUnit Spot) → Nth 0 units i u → (d : Seen Spot) → In d (seen u.unit.below) → (n : ℕ) (path : List ℕ) → d.at ≡ Within n path → (k : Kind Spot) → u.unit.kind ≡ k → SeenOf d n
+  below_of : (i : ℕ) (u : FileUnit Spot) → Nth 0 units i u → (d : Seen Spot) → In d (seen u.unit.below) → (n : ℕ) (path : List ℕ) → d.at ≡ Within n path → (k : Kind Spot) → u.unit.kind ≡ k
+      → SeenOf d n
   below_of i u nth d h n path at Compile kind =
       let r = unit_row units i u nth kind in
       let named = subst (λ (w : Kind Spot). IsNamedBelow i w (row_of units i) u.unit.below) kind (old.units_named i u nth).below in
@@ -158,12 +161,14 @@ module _ (scope : Scope) (units : List (FileUnit Spot)) (rule : Rule) (is : IsAl
       let inside = tree_seen f (m.rows h.number) End (name_list o.top) h.top h.has (seen_map f c) (subst (λ (w : List (Seen Spot)). In (seen_map f c) w) h.same mapped) in
       (seen_map f c, entry_seen (partial_units m Common 0 m.parts) (partial_unit m h.number) (seen_map f c) new inside, ap f at)
 
-  at_ref : (unit i j : ℕ) → file_of units i ≢ file_of units j → (q : Spot) → RefTo (λ k. Inside units unit k × (moves rule units k ≡ true)) q → RefTo (λ k. In i (users rule.alike units k)) q → RefTo (λ k. In j (users rule.alike units k)) q
+  at_ref : (unit i j : ℕ) → file_of units i ≢ file_of units j → (q : Spot) → RefTo (λ k. Inside units unit k × (moves rule units k ≡ true)) q → RefTo (λ k. In i (users rule.alike units k)) q
+      → RefTo (λ k. In j (users rule.alike units k)) q
       → (c : Seen Spot) → In c (all_seen (units_in units)) → c.at ≡ q → Stands (f q)
   at_ref unit i j ne (Within k path) mv a b c there at = target_there k path mv.1 i j a b ne c there at
   at_ref unit i j ne _ mv a b c there at = absurd mv
 
-  top_refs : (n : ℕ) (part : PartialUnit) → Nth 0 m.parts n part → part.home ≡ Common → (s : Top) → In s part.tops → (d : Seen Spot) → In d (raw_top s) → In d (all_seen (units_in units)) → (a : Named Spot) → In a d.attrs → (q : Spot) → In q a.value.refs
+  top_refs : (n : ℕ) (part : PartialUnit) → Nth 0 m.parts n part → part.home ≡ Common → (s : Top) → In s part.tops → (d : Seen Spot) → In d (raw_top s) → In d (all_seen (units_in units))
+      → (a : Named Spot) → In a d.attrs → (q : Spot) → In q a.value.refs
       → Stands (f q)
   top_refs n part nth common s in_part d d_in there a attr q ref =
       let b = ((part_of n part nth).tops s).0 in_part in
@@ -180,7 +185,8 @@ module _ (scope : Scope) (units : List (FileUnit Spot)) (rule : Rule) (is : IsAl
   none_in : (attrs : List (Named Spot)) → NameNone attrs → (a : Named Spot) → In a attrs → (q : Spot) → In q a.value.refs → ⊥
   none_in attrs none a attr q ref = subst (λ (w : List Spot). In q w) (each_in (λ b. b.value.refs ≡ []) a attrs none attr) ref
 
-  below_refs : (n : ℕ) (part : PartialUnit) → Nth 0 m.parts n part → part.home ≡ Common → (e : Seen Spot) → In e (seen (tree f (m.rows n) End)) → (a : Named Spot) (q : Spot) → In a e.attrs → In q a.value.refs → Stands q
+  below_refs : (n : ℕ) (part : PartialUnit) → Nth 0 m.parts n part → part.home ≡ Common → (e : Seen Spot) → In e (seen (tree f (m.rows n) End)) → (a : Named Spot) (q : Spot) → In a e.attrs
+      → In q a.value.refs → Stands q
   below_refs n part nth common e h a q attr ref = go (tree_origin f (m.rows n) End (held.kinds n part nth) e h) where
     go : TreeOrigin f (m.rows n) End e → Stands q
     go (OfATop names t has x) =
@@ -193,7 +199,8 @@ module _ (scope : Scope) (units : List (FileUnit Spot)) (rule : Rule) (is : IsAl
         let old_in = entry_seen (units_in units) u.unit.unit o.source (in_units 0 units t.unit u.unit u.nth) below in
         let from = attr_from f o.source.attrs a q (subst (λ (w : Seen Spot). In a w.attrs) (sym o.is) attr) ref in
         subst Stands from.image_is (top_refs n part nth common t in_part.0 o.source o.there old_in from.attr from.there from.place from.refs))
-    go (OfASpace names d has attrs) = absurd (none_in (map named_value (map (attr_map f) d.attrs)) (none_mapped f d.attrs (held.plain n part nth names d has)) a (subst (λ (w : List (Named Spot)). In a w) attrs attr) q ref)
+    go (OfASpace names d has attrs) = absurd (none_in (map named_value (map (attr_map f) d.attrs)) (none_mapped f d.attrs (held.plain n part nth names d has)) a
+        (subst (λ (w : List (Named Spot)). In a w) attrs attr) q ref)
     go (Behind x) = absurd (none_seen e x)
 
   pub common_refs : (e : Seen Spot) (a : Named Spot) (q : Spot) → In e (all_seen (common_units m)) → In a e.attrs → In q a.value.refs → Stands q
@@ -210,7 +217,7 @@ module _ (scope : Scope) (units : List (FileUnit Spot)) (rule : Rule) (is : IsAl
   ]
 
 -- each reference of the common file names an entry of it
-pub common_within : (scope : Scope) (docs : List (Doc ℕ)) (rule : Rule) → Each (λ doc. ArePlaced doc.units) docs → IsAlike scope (units_of docs) rule.alike → IsChoice (units_of docs) rule
+pub common_within : (scope : TopScope) (docs : List (Doc ℕ)) (rule : Rule) → Each (λ doc. ArePlaced doc.units) docs → IsAlike scope (units_of docs) rule.alike → IsChoice (units_of docs) rule
     → (input : Stored) → ClosedIn (tells_common (run_of rule docs input)) (common_units (run_of rule docs input).move)
 common_within scope docs rule placed is choice input e a k there attr ref =
     let r = run_of rule docs input in

@@ -1,15 +1,11 @@
 -- Sections of a file that is read are short.
-use Rattle.std.proofs.Common.{ℕ, ◌<◌, ◌≤◌, ◌^◌, List, length, drop, Option, Some, None, arith}
-use Rattle.std.proofs.lemmas.List.{length-drop, length-take}
+use Rattle.std.proofs.Common.{ℕ, ◌<◌, ◌^◌, List, length, arith}
 use Rattle.dwz_docs.specs.ElfNames.{sections_in}
-use Rattle.dwz_docs.specs.ElfReading.{bytes_in, section_range}
+use Rattle.dwz_docs.specs.ElfReading.{section_range}
 use Rattle.dwz_docs.specs.Units.{RawUnit}
+use Rattle.dwz_docs.proofs.RangeBytes.{bytes_short}
 use Rattle.dwz_meanings.specs.Documents.{Doc}
 use Rattle.dwz_meanings.specs.Files.{Limits, Reads, longest_file, section_of}
-
-bytes_short : (bytes : List ℕ) (range : Option (ℕ × ℕ)) → length (bytes_in bytes range) ≤ length bytes
-bytes_short bytes None = omega arith
-bytes_short bytes (Some range) = omega (arith, length-take range.1 (drop range.0 bytes), length-drop range.0 bytes)
 
 pub read_few : (l : Limits) (bytes : List ℕ) (raw : List RawUnit) (doc : Doc ℕ) → Reads l bytes raw doc → (code : ℕ) → length (section_of bytes code) < 2 ^ 32
 unfolding section_of longest_file

@@ -2,21 +2,23 @@
 use Rattle.std.proofs.Common.{◌≡◌, ℕ, Bool, true, false, List, [], ◌∷◌, ◌||◌, map, Option, Some, None, refl, sym, ap, subst, ◌∙◌, arith, inl, inr}
 use Rattle.std.specs.List.{list_any}
 use Rattle.dwz_bytes.specs.Spelling.{reach}
-use Rattle.dwz_docs.specs.Lists.{In, has}
+use Rattle.dwz_docs.specs.Lists.{Each, In, has}
 use Rattle.dwz_docs.specs.Trees.{End, Entry}
+use Rattle.dwz_docs.proofs.CaseFacts.{or_left, or_right}
 use Rattle.dwz_meanings.specs.declared.exprs.Operand.{Operand}
-use Rattle.dwz_meanings.specs.Documents.{Attr, DwUnit, Entries, Expr, Loc, Node, Plain, Sec, Value, attr_map, only, value_map}
+use Rattle.dwz_meanings.specs.Documents.{Attr, DwUnit, Entries, Expr, Loc, Node, Plain, Sec, Value, attr_map, first_named, only, value_map}
 use Rattle.dwz_meanings.specs.Exprs.{Expression, parts_from, parts_of}
-use Rattle.dwz_meanings.specs.Meanings.{Class, IsExpression, IsListBySlot, MeansAs, OfCommonEntry, OfConstant, OfExpression, OfInfoEntry, OfListIndex, OfOffset, OfTextBySlot, OfTextInLineStr, OfTextInStr, OfUnitEntry, class_in, class_of, class_rows, names_file, names_list, offset_of, targets}
-use Rattle.dwz_seen.specs.Lists.{Each, Nth}
+use Rattle.dwz_meanings.specs.Meanings.{Class, IsExpression, IsListBySlot, MeansAs, OfCommonEntry, OfConstant, OfExpression, OfInfoEntry, OfListIndex, OfOffset, OfTextBySlot, OfTextInLineStr}
+use Rattle.dwz_meanings.specs.Meanings.{OfTextInStr, OfUnitEntry, class_in, class_of, class_rows, names_file, names_list, offset_of, targets}
+use Rattle.dwz_seen.specs.Lists.{Nth}
 use Rattle.dwz_seen.proofs.Members.{each_in, each_more, each_of}
-use Rattle.dwz_alike.specs.Alike.{IsAlike, Movable, Scope, binding_forms, has_address, has_operand, holds_place, is_named, is_operand, leaves}
+use Rattle.dwz_alike.specs.Alike.{IsAlike, Movable, TopScope, binding_forms, has_address, has_operand, holds_place, is_named, is_operand, leaves}
 use Rattle.dwz_alike.specs.Spots.{FileUnit, PartialOf, Spot, Top, tops_of}
-use Rattle.dwz_alike.proofs.Targets.{free_attr, not_named, or_left, or_right}
+use Rattle.dwz_alike.proofs.Targets.{free_attr, not_named}
 use Rattle.dwz_moving.specs.Homes.{Common, Home, IsChoice, Local, Rule, Stay, is_home, moves}
 use Rattle.dwz_moving.specs.IsPlan.{Has, OfSpace, OfTop}
 use Rattle.dwz_moving.specs.Moves.{Move, first_unit, image_in, line_attrs, line_in, line_of, names_path, plan, root_in_part, root_of}
-use Rattle.dwz_meanings.specs.Documents.{first_named}
+use Rattle.dwz_meanings.proofs.DecideLemmas.{if_false}
 use Rattle.dwz_moving.specs.Plan.{PartialUnit}
 use Rattle.dwz_moving.proofs.RowParts.{part_is as part_row_is}
 use Rattle.dwz_moving.proofs.StandLemmas.{fair}
@@ -29,13 +31,14 @@ use Rattle.dwz_writing.specs.Bases.{Bases}
 use Rattle.dwz_writing.specs.Carried.{AttrOperands, CarriedAttr, CarriedEntries, CarriedUnit, ExprIn, From, OperandsStand, OperandsStandAs}
 use Rattle.dwz_writing.specs.Fitting.{EachAttr, HasRoom, HasRoomAs, OperandsHaveRoom, PlainHasRoom, UnitHasRoom}
 use Rattle.dwz_writing.specs.Meant.{OperandsIn, Own, Tells, own_of}
-use Rattle.dwz_writing.specs.Placing.{FileFit, Fit, Forms, Holder, InCommon, InFile, InUnit, CommonUnit, NewUnit, OldUnit, Reach, as_constant, as_file, as_line_text, as_slot, as_strp_if, as_text, fit, fit_as, fit_attr, fit_unit, fit_units, has_text, reach_of, ref_form, unit_fit, slot_number, with_form, with_keys}
+use Rattle.dwz_writing.specs.Placing.{FileFit, Fit, Forms, Holder, InCommon, InFile, InUnit, CommonUnit, NewUnit, OldUnit, Reach, as_constant, as_file, as_line_text, as_slot, as_strp_if, as_text, fit}
+use Rattle.dwz_writing.specs.Placing.{fit_as, fit_attr, fit_unit, fit_units, has_text, reach_of, ref_form, unit_fit, slot_number, with_form, with_keys}
 use Rattle.dwz_writing.specs.Writing.{Numbering, text_in}
 use Rattle.dwz_writing.proofs.Carrying.{import_class, no_list}
 use Rattle.dwz_writing.proofs.Chosen.{join_attrs, join_entries}
 use Rattle.dwz_seen.specs.Shown.{units_keys}
 use Rattle.dwz_writing.proofs.StoredClasses.{list_form, offset_class, offset_form}
-use Rattle.dwz_writing.proofs.ValuesMean.{not_so, so_not}
+use Rattle.dwz_writing.proofs.ValuesMean.{so_not}
 use Rattle.dwz_back.specs.Files.{origin_in}
 use Rattle.dwz_back.proofs.AttrLemmas.{new_attrs}
 use Rattle.dwz_back.proofs.HomeLemmas.{part_is, parts_from as found_part}
@@ -113,7 +116,7 @@ module _ {K : Type 0} (a : Attr K) where
     by OfOffset e =
         let w = came.was_read in
         let name : w.old.pair.name ≡ a.name = sym w.means.name ∙ sym (ap (λ (b : Attr K). b.name) w.same) in
-        let m = not_so (names_list w.old.pair.name) _ _ (ap names_list name ∙ none.offset e) (means OfOffset e) in
+        let m = if_false (names_list w.old.pair.name) _ _ (ap names_list name ∙ none.offset e) (means OfOffset e) in
         offset_free e (none.offset e) (offset_of w.old) (value ∙ ap (λ (v : Value ℕ). value_map w.name v) m)
     by OfListIndex e =
         let w = came.was_read in
@@ -225,7 +228,7 @@ no_space_list : names_list 0x03 ≡ false
 unfolding has
 no_space_list = refl
 
-module _ (scope : Scope) (units : List (FileUnit Spot)) (rule : Rule) (is : IsAlike scope units rule.alike) (choice : IsChoice units rule) where
+module _ (scope : TopScope) (units : List (FileUnit Spot)) (rule : Rule) (is : IsAlike scope units rule.alike) (choice : IsChoice units rule) where
   -- what moves is movable
   moving_free : (n : ℕ) → moves rule units n ≡ true → Movable units n
   moving_free n e = (is.decides n n (moves_self units rule (fair scope units rule is choice) n e)).first

@@ -4,7 +4,7 @@ use Rattle.dwz_meanings.specs.Documents.{DwUnit}
 use Rattle.dwz_docs.specs.Lists.{In}
 use Rattle.dwz_seen.specs.Lists.{Nth}
 use Rattle.dwz_seen.proofs.Members.{each_in, nth_in}
-use Rattle.dwz_alike.specs.Alike.{Apart, IsAlike, Scope}
+use Rattle.dwz_alike.specs.Alike.{Apart, IsAlike, TopScope}
 use Rattle.dwz_alike.specs.Spots.{FileUnit, Spot, Top}
 use Rattle.dwz_alike.proofs.AlikePer.{alike_per}
 use Rattle.dwz_moving.specs.Homes.{Common, Home, IsChoice, Local, Rule, home, is_home, moves, same_home, users}
@@ -64,7 +64,7 @@ none_is_nil (x ∷ xs) none = absurd (none x (inl refl))
 
 -- ---- homes
 
-module _ (scope : Scope) (units : List (FileUnit Spot)) (rule : Rule) (is : IsAlike scope units rule.alike) (choice : IsChoice units rule) (files : List ℕ) where
+module _ (scope : TopScope) (units : List (FileUnit Spot)) (rule : Rule) (is : IsAlike scope units rule.alike) (choice : IsChoice units rule) (files : List ℕ) where
   pub part_is : (n : ℕ) (part : PartialUnit) → Nth 0 (partials rule units files) n part → IsPart rule units part
   part_is n part nth = each_in (IsPart rule units) part (partials rule units files) (are_parts rule units files) (nth_in 0 (partials rule units files) n part nth)
 
@@ -75,12 +75,14 @@ module _ (scope : Scope) (units : List (FileUnit Spot)) (rule : Rule) (is : IsAl
       let at_home : home rule units t.number ≡ Local file = b.home ∙ local in
       let moved : moves rule units t.number ≡ true = ap is_home at_home in
       let fair : Fair units rule = record { per = alike_per scope units rule.alike is; choice = choice } in
-      let found : IsHome units (users rule.alike units t.number) (Local file) = subst (IsHome units (users rule.alike units t.number)) (sym (moving units rule t.number moved).at_home ∙ at_home) (home_is rule.alike units t.number) in
+      let found : IsHome units (users rule.alike units t.number) (Local file) = subst (IsHome units (users rule.alike units t.number)) (sym (moving units rule t.number moved).at_home ∙ at_home)
+      (home_is rule.alike units t.number) in
       let user = used rule.alike units t.number t b.there (moves_self units rule fair t.number moved) in
       sym (file_of_top units t b.there) ∙ found.5 t.unit user
 
 -- where each file is a scope, no partial unit is of the common file
-pub no_common : (units : List (FileUnit Spot)) (rule : Rule) → IsAlike Apart units rule.alike → (files : List ℕ) (m : Move) → m.parts ≡ partials rule units files → partial_units m Common 0 m.parts ≡ []
+pub no_common : (units : List (FileUnit Spot)) (rule : Rule) → IsAlike Apart units rule.alike → (files : List ℕ) (m : Move) → m.parts ≡ partials rule units files
+    → partial_units m Common 0 m.parts ≡ []
 no_common units rule is files m same = none_is_nil (partial_units m Common 0 m.parts) (λ v there.
     (let o = parts_from m Common 0 m.parts v there in
     let nth = subst (λ (ps : List PartialUnit). Nth 0 ps o.number o.part) same o.nth in

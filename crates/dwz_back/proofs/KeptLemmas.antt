@@ -1,11 +1,11 @@
 -- What was in a unit is in what is kept of it, but the tops that go.
 use Rattle.std.proofs.Common.{◌≡◌, ℕ, Bool, true, false, List, [], refl, sym, ap, subst, ◌∙◌, ◌⊎◌, inl, inr}
 use Rattle.dwz_docs.specs.Lists.{In}
+use Rattle.dwz_docs.proofs.ListFacts.{in_map}
 use Rattle.dwz_meanings.specs.Documents.{Compile, DwUnit, Entries, Kind, Node, OfType, Partial, entries_map, language}
 use Rattle.dwz_seen.specs.Lists.{Nth}
 use Rattle.dwz_seen.specs.Seen.{Seen, see, seen, seen_map}
 use Rattle.dwz_seen.specs.Shown.{keys}
-use Rattle.dwz_seen.proofs.Members.{in_map}
 use Rattle.dwz_seen.proofs.SeenLemmas.{seen_entries}
 use Rattle.dwz_seen.proofs.ShownLemmas.{seen_key}
 use Rattle.dwz_alike.specs.Spots.{FileUnit, Spot, Top, Within, row_of, row_tops}

@@ -4,15 +4,18 @@ use Rattle.std.proofs.lemmas.Bool.{or_cases}
 use Rattle.dwz_bytes.specs.Spelling.{reach}
 use Rattle.dwz_codes.specs.Forms.{form_rows}
 use Rattle.dwz_docs.specs.Entries.{RawAttr}
-use Rattle.dwz_docs.specs.Lists.{In}
+use Rattle.dwz_docs.specs.Lists.{Each, In}
 use Rattle.dwz_docs.specs.Trees.{End}
 use Rattle.dwz_docs.specs.Values.{SpellsShape, constant_of, shape_of}
 use Rattle.dwz_docs.proofs.WrittenLemmas.{fixed_less}
 use Rattle.dwz_meanings.specs.Documents.{Attr, File, Node, Plain, Sec, Value, attr_map, first_named, only, value_map}
-use Rattle.dwz_meanings.specs.Meanings.{Class, IfSo, IsFileBy, IsFileNumber, IsLocList, MeansAs, OfAddress, OfBlock, OfCommonEntry, OfCommonText, OfConstant, OfExpression, OfFlag, OfIndex, OfInfoEntry, OfListIndex, OfOffset, OfSignature, OfText, OfTextBySlot, OfTextInLineStr, OfTextInStr, OfUnitEntry, Scope, Unread, class_of, constant_value, names_file, names_list, number_of, offset_of, stmt_list}
-use Rattle.dwz_seen.specs.Lists.{Each, Nth}
+use Rattle.dwz_meanings.specs.Meanings.{Class, IfSo, IsFileBy, IsFileNumber, IsLocList, MeansAs, OfAddress, OfBlock, OfCommonEntry, OfCommonText, OfConstant, OfExpression, OfFlag, OfIndex}
+use Rattle.dwz_meanings.specs.Meanings.{OfInfoEntry, OfListIndex, OfOffset, OfSignature, OfText, OfTextBySlot, OfTextInLineStr, OfTextInStr, OfUnitEntry, Scope, Unread, class_of, constant_value}
+use Rattle.dwz_meanings.specs.Meanings.{names_file, names_list, number_of, offset_of, stmt_list}
+use Rattle.dwz_meanings.proofs.DecideLemmas.{if_false, if_true}
+use Rattle.dwz_seen.specs.Lists.{Nth}
 use Rattle.dwz_seen.proofs.Members.{any_false, any_from, each_in, nth_from}
-use Rattle.dwz_alike.specs.Alike.{IsAlike, Scope as InWhich, any_attr, any_entry, any_in}
+use Rattle.dwz_alike.specs.Alike.{IsAlike, TopScope, any_attr, any_entry, any_in}
 use Rattle.dwz_alike.specs.Spots.{FileUnit, PartialOf, Spot, Top, same_spot}
 use Rattle.dwz_alike.proofs.Targets.{entry_from, top_false}
 use Rattle.dwz_alike.proofs.Tops.{unit_of}
@@ -30,9 +33,8 @@ use Rattle.dwz_writing.specs.Bases.{Bases, bases_in, offset_in}
 use Rattle.dwz_writing.specs.Carried.{BasesStand, CarriedAttr, CarriedNode, CarriedUnit, FileStands, From, LineFor, NamesLines, NumbersFile}
 use Rattle.dwz_writing.specs.Fitting.{EachAttr}
 use Rattle.dwz_writing.specs.Placing.{CommonUnit, NewUnit}
-use Rattle.dwz_writing.proofs.Carrying.{import_class, no_list, so}
+use Rattle.dwz_writing.proofs.Carrying.{import_class, no_list}
 use Rattle.dwz_writing.proofs.StoredClasses.{offset_class}
-use Rattle.dwz_writing.proofs.ValuesMean.{not_so}
 use Rattle.dwz_back.proofs.CarriedRoots.{RootsCarried}
 use Rattle.dwz_back.specs.Files.{origin_in}
 use Rattle.dwz_back.proofs.AttrLemmas.{new_attrs}
@@ -89,7 +91,7 @@ module _ {P : Type 0} where
   offset_table s a v true h is = not_path v _ h.value refl is
   offset_table s a v false h is = not_path v _ h refl is
 
-  -- so its unit has a line table
+  -- if_true its unit has a line table
   table_of : (c : Class) (s : Scope P) (a : RawAttr) (v : Value P) → MeansAs c s a v → has_path v.plain ≡ true → HasTable s
   table_of OfAddress s a v h is = absurd (not_path v _ h refl is)
   table_of OfBlock s a v h is = absurd (not_path v _ h refl is)
@@ -132,7 +134,7 @@ module _ (from : From) (origin : Bases) (a : Attr Spot) where
       let form : w.old.pair.form ≡ a.form = sym w.means.form ∙ sym (ap (λ (b : Attr Spot). b.form) w.same) in
       let name : w.old.pair.name ≡ a.name = sym w.means.name ∙ sym (ap (λ (b : Attr Spot). b.name) w.same) in
       let means : MeansAs OfConstant w.scope w.old w.read.value = subst (λ (c : Class). MeansAs c w.scope w.old w.read.value) (ap class_of form ∙ numbers.0) w.means.value in
-      let file = so (names_file w.old.pair.name) _ _ (ap names_file name ∙ numbers.1) means in
+      let file = if_true (names_file w.old.pair.name) _ _ (ap names_file name ∙ numbers.1) means in
       sym (ap (λ (b : Bases). b.line) came.unit) ∙ no_table w.scope (stmt_list w.scope) (number_of w.old.raw) w.read.value file (sym (ap (λ (b : Attr Spot). has_path b.value.plain) w.same) ∙ none)
   none_table (inr (inl i)) numbers none = absurd (let z : OfConstant ≡ OfInfoEntry = sym numbers.0 ∙ ap class_of i.form ∙ import_class in cc)
   none_table (inr (inr l)) numbers none = absurd (let z : OfConstant ≡ OfOffset = sym numbers.0 ∙ ap class_of l.form ∙ offset_class in cc)
@@ -147,7 +149,7 @@ module _ (from : From) (origin : Bases) (a : Attr Spot) where
       let name : w.old.pair.name ≡ 0x10 = sym w.means.name ∙ sym (ap (λ (b : Attr Spot). b.name) w.same) ∙ named in
       let spelled = subst (λ (f : ℕ). SpellsShape (shape_of form_rows f) (constant_of w.old.pair) came.stored.bytes w.old.raw) form came.stored.spelled in
       let means : MeansAs OfOffset w.scope w.old w.read.value = subst (λ (c : Class). MeansAs c w.scope w.old w.read.value) (ap class_of form ∙ offset_class) w.means.value in
-      let value = not_so (names_list w.old.pair.name) _ _ (ap names_list name ∙ no_list) means in
+      let value = if_false (names_list w.old.pair.name) _ _ (ap names_list name ∙ no_list) means in
       let raw : number_of w.old.raw ≡ pos spelled.content = ap number_of spelled.value in
       let less = fixed_less 4 spelled.content came.stored.bytes came.stored.are_bytes spelled.spelled in
       record {
@@ -190,7 +192,7 @@ path_there tops t there is = elim (or_cases (any_attr path_attr t.node) (any_ent
       record { top = t; there = there; node = n.node; entry = inr n.there; attr = o.one; is_in = o.there; path = o.passes }
 ]
 
-module _ (from : From) (scope : InWhich) (units : List (FileUnit Spot)) (rule : Rule) (is : IsAlike scope units rule.alike) (choice : IsChoice units rule) (files : List ℕ)
+module _ (from : From) (scope : TopScope) (units : List (FileUnit Spot)) (rule : Rule) (is : IsAlike scope units rule.alike) (choice : IsChoice units rule) (files : List ℕ)
     (old : AreOld units) (held : IsHeld units (plan rule units files)) (Good : ℕ → Type 0)
     (are : (i : ℕ) (u : FileUnit Spot) → Nth 0 units i u → Good u.file → CarriedUnit from (bases_in u.unit) u.unit) where
   abbrev m : Move
@@ -210,7 +212,7 @@ module _ (from : From) (scope : InWhich) (units : List (FileUnit Spot)) (rule : 
     path_in : names_path part ≡ true → HasPath part.tops
     path_in paths = (let t = any_from (any_in (any_attr path_attr)) part.tops paths in path_there part.tops t.one t.there t.passes)
 
-    -- so the unit of its tops has a line table
+    -- if_true the unit of its tops has a line table
     table_in : (p : HasPath part.tops) → (place : ℕ) × (origin.line ≡ Some place)
     table_in p = path_table from origin p.attr (attr_carried p.top p.there p.node p.entry p.attr p.is_in) p.path
 

@@ -1,14 +1,12 @@
 -- In which file a name stands.
 use Rattle.std.proofs.Common.{◌≡◌, ℕ, Bool, true, false, List, [], ◌∷◌, ◌++◌, map, refl, sym, ap, subst, ◌∙◌}
 use Rattle.std.proofs.Math.Logic.{inl, inr}
-use Rattle.std.proofs.lemmas.List.{append_assoc}
-use Rattle.dwz_meanings.specs.Documents.{DwUnit}
-use Rattle.dwz_docs.specs.Lists.{In}
+use Rattle.dwz_docs.specs.Lists.{Each, In}
 use Rattle.dwz_alike.specs.Spots.{Spot, same_spot}
-use Rattle.dwz_seen.specs.Lists.{Each, NoneTwice}
-use Rattle.dwz_seen.specs.Shown.{unit_keys, units_keys}
-use Rattle.dwz_seen.proofs.Members.{in_left, in_map, in_right}
+use Rattle.dwz_seen.specs.Lists.{NoneTwice}
+use Rattle.dwz_seen.specs.Shown.{units_keys}
 use Rattle.dwz_same.specs.Units.{all_units, common_units, file_units, out_units}
+use Rattle.dwz_same.proofs.ApartUnits.{keys_joined}
 use Rattle.dwz_writing.specs.Meant.{all_entry_keys}
 use Rattle.dwz_writing.specs.Placing.{FileOut, file_in, files_keys, has_key}
 use Rattle.dwz_seen.proofs.OnceLemmas.{none_both, none_left, none_right}
@@ -16,24 +14,21 @@ use Rattle.dwz_writing.proofs.Chosen.{fit_units_all, fit_units_fixed, fit_units_
 use Rattle.dwz_writing.proofs.Renumbered.{renumbered_entry_keys, renumbered_fixed, renumbered_keys}
 use Rattle.dwz_writing.proofs.WriteLengths.{FixedUnit}
 use Rattle.dwz_docs.specs.Pruning.{new_number}
+use Rattle.dwz_docs.proofs.ListFacts.{in_left, in_map, in_right}
 use Rattle.dwz_writing.proofs.ChosenNames.{has_in}
 use Rattle.dwz_writing.proofs.Places.{IsSame}
 use Rattle.dwz_writing.proofs.SameLemmas.{spots_same}
 use Rattle.dwz_back.specs.Files.{Run, common_fitted, common_forms, common_out, file_forms, file_of_name, file_out, files_out, fitted, fitted_if, formed, sources, uses}
 
-pub keys_append : {K : Type 0} (xs ys : List (DwUnit K)) → units_keys (xs ++ ys) ≡ units_keys xs ++ units_keys ys
-unfolding units_keys
-keys_append [] ys = refl
-keys_append {K} (x ∷ xs) ys = ap (λ (w : List K). unit_keys x ++ w) (keys_append xs ys) ∙ sym (append_assoc (unit_keys x) (units_keys xs) (units_keys ys))
-
-in_file_keys : {K : Type 0} (files : List (FileOut K)) (f : FileOut K) (k : K) → In f files → In k (units_keys f.units) → In k (files_keys files)
+pub in_file_keys : {K : Type 0} (files : List (FileOut K)) (f : FileOut K) (k : K) → In f files → In k (units_keys f.units) → In k (files_keys files)
 unfolding files_keys
 in_file_keys [] f k there is = absurd there
 in_file_keys {K} (x ∷ files) f k (inl e) is = in_left k (units_keys x.units) (files_keys files) (subst (λ (y : FileOut K). In k (units_keys y.units)) (sym e) is)
 in_file_keys (x ∷ files) f k (inr r) is = in_right k (units_keys x.units) (files_keys files) (in_file_keys files f k r is)
 
 -- a name stands in the file that has it
-pub file_is : {K : Type 0} (same : K → K → Bool) → IsSame same → (files : List (FileOut K)) → NoneTwice (files_keys files) → (f : FileOut K) (k : K) → In f files → In k (units_keys f.units) → file_in same files k ≡ f.number
+pub file_is : {K : Type 0} (same : K → K → Bool) → IsSame same → (files : List (FileOut K)) → NoneTwice (files_keys files) → (f : FileOut K) (k : K) → In f files → In k (units_keys f.units)
+    → file_in same files k ≡ f.number
 unfolding files_keys file_in
 file_is same is [] once f k there key = absurd there
 file_is {K} same is (x ∷ files) once f k there key =
@@ -91,14 +86,14 @@ module _ (r : Run) where
   file_names (f ∷ files) =
       ap (λ (w : List Spot). w ++ files_keys (map (file_out r) files)) (fitted_names f)
       ∙ ap (λ (w : List Spot). units_keys (out_units r.move r.units f) ++ w) (file_names files)
-      ∙ sym (keys_append (out_units r.move r.units f) (file_units r.move r.units files))
+      ∙ sym (keys_joined (out_units r.move r.units f) (file_units r.move r.units files))
 
   pub run_names : files_keys (files_out r) ≡ units_keys (all_units r.move r.units r.files)
   unfolding files_keys
   run_names =
       ap (λ (w : List Spot). w ++ files_keys (map (file_out r) r.files)) common_names
       ∙ ap (λ (w : List Spot). units_keys (common_units r.move) ++ w) (file_names r.files)
-      ∙ sym (keys_append (common_units r.move) (file_units r.move r.units r.files))
+      ∙ sym (keys_joined (common_units r.move) (file_units r.move r.units r.files))
 
   pub run_once : NoneTwice (units_keys (all_units r.move r.units r.files)) → NoneTwice (files_keys (files_out r))
   run_once once = subst NoneTwice (sym run_names) once
@@ -119,7 +114,8 @@ module _ (r : Run) where
   pub not_common : NoneTwice (units_keys (all_units r.move r.units r.files)) → (file : ℕ) → In file r.files → (k : Spot) → In k (units_keys (common_fitted r)) → In k (units_keys (fitted r file)) → ⊥
   unfolding files_keys
   not_common once file there k common own =
-      none_both (units_keys (common_fitted r)) (files_keys (map (file_out r) r.files)) (run_once once) k common (in_file_keys (map (file_out r) r.files) (file_out r file) k (in_map (file_out r) file r.files there) own)
+      none_both (units_keys (common_fitted r)) (files_keys (map (file_out r) r.files)) (run_once once) k common
+      (in_file_keys (map (file_out r) r.files) (file_out r file) k (in_map (file_out r) file r.files there) own)
 
   pub fitted_entries : (file : ℕ) → all_entry_keys (fitted r file) ≡ all_entry_keys (out_units r.move r.units file)
   unfolding fitted formed

@@ -2,14 +2,14 @@
 use Rattle.std.proofs.Common.{◌≡◌, ℕ, suc, ◌+◌, ◌≤◌, Bool, true, false, List, [], ◌∷◌, ◌++◌, length, map, refl, sym, ap, subst, ◌∙◌, arith, inl, inr, eq-eqb, ne_eqb}
 use Rattle.dwz_model.specs.declared.place.Base.{Base}
 use Rattle.dwz_model.specs.declared.place.Base.TheVariants.{Unit as FromUnit, Info as FromInfo}
-use Rattle.dwz_docs.specs.Lists.{In}
+use Rattle.dwz_docs.specs.Lists.{Each, In}
 use Rattle.dwz_docs.specs.Units.{RawUnit}
+use Rattle.dwz_docs.proofs.ListFacts.{in_cases, in_left, in_map, in_right}
 use Rattle.dwz_meanings.specs.Documents.{Doc, DwUnit, unit_map}
 use Rattle.dwz_meanings.specs.Files.{sources_of}
 use Rattle.dwz_meanings.specs.Meanings.{Sources}
-use Rattle.dwz_seen.specs.Lists.{Each, Nth}
+use Rattle.dwz_seen.specs.Lists.{Nth}
 use Rattle.dwz_seen.proofs.MainLemmas.{keys_map}
-use Rattle.dwz_seen.proofs.Members.{in_cases, in_left, in_map, in_right}
 use Rattle.dwz_alike.specs.Spots.{FileUnit, Spot, in_file, named, named_files, spot_in, spots_from, tops_among}
 use Rattle.dwz_same.specs.After.{at_file, name_from}
 use Rattle.dwz_same.specs.Units.{units_at}
@@ -62,7 +62,7 @@ block_file file [] u there = absurd there
 block_file file (v ∷ units) u (inl e) = ap (λ (w : FileUnit Spot). w.file) (sym e)
 block_file file (v ∷ units) u (inr r) = block_file file units u r
 
-later_file : (own unit top : ℕ) (docs : List (Doc ℕ)) (u : FileUnit Spot) → In u (named_files own unit top docs) → own ≤ u.file
+pub later_file : (own unit top : ℕ) (docs : List (Doc ℕ)) (u : FileUnit Spot) → In u (named_files own unit top docs) → own ≤ u.file
 unfolding named_files
 later_file own unit top [] u there = absurd there
 later_file own unit top (doc ∷ docs) u there = elim (in_cases u (map (in_file own) (named unit top doc.units)) _ there) [

@@ -2,12 +2,12 @@
 use Rattle.std.proofs.Common.{◌≡◌, ◌↔◌, ℕ, Bool, true, false, List, [], ◌∷◌, refl, sym, subst, ◌∙◌, inl, inr}
 use Rattle.dwz_meanings.specs.Documents.{Doc}
 use Rattle.dwz_meanings.specs.Files.{Limits, Reads, debug_info}
-use Rattle.dwz_docs.specs.Lists.{In}
+use Rattle.dwz_docs.specs.Lists.{Each, In}
 use Rattle.dwz_docs.specs.Units.{RawUnit}
 use Rattle.dwz_docs.specs.Values.{AreBytes}
 use Rattle.dwz_alike.specs.Alike.{Apart, IsAlike}
 use Rattle.dwz_alike.specs.Spots.{file_numbers, units_of}
-use Rattle.dwz_seen.specs.Lists.{Each, Nth}
+use Rattle.dwz_seen.specs.Lists.{Nth}
 use Rattle.dwz_moving.specs.Homes.{IsChoice, Rule}
 use Rattle.dwz_same.specs.After.{ArePlaced}
 use Rattle.dwz_same.specs.Units.{changes, common_units}
@@ -37,7 +37,8 @@ is_first : (doc : Doc ℕ) → In 0 (file_numbers 0 (doc ∷ []))
 unfolding file_numbers
 is_first doc = inl refl
 
-module _ (l : Limits) (input : List ℕ) (raw : List RawUnit) (doc : Doc ℕ) (reads : Reads l input raw doc) (are : AreBytes (debug_info input)) (prunes : Bool) (prunable : (prunes ≡ true) ↔ IsPrunable input doc.units)
+module _ (l : Limits) (input : List ℕ) (raw : List RawUnit) (doc : Doc ℕ) (reads : Reads l input raw doc) (are : AreBytes (debug_info input)) (prunes : Bool)
+    (prunable : (prunes ≡ true) ↔ IsPrunable input doc.units)
     (rule : Rule) (is : IsAlike Apart (units_of (doc ∷ [])) rule.alike) (choice : IsChoice (units_of (doc ∷ [])) rule) (over : FileOver (one_run rule doc input raw prunes) 0) where
   abbrev docs : List (Doc ℕ)
   docs = doc ∷ []
@@ -52,7 +53,13 @@ module _ (l : Limits) (input : List ℕ) (raw : List RawUnit) (doc : Doc ℕ) (r
   placed = ((read_from l input raw doc reads are).placed, tt)
 
   are_read : AreRead stored docs
-  are_read file d (inl e) = record { limits = l; reads = subst (Reads l input raw) e.1 reads; are_bytes = are; prunable = subst (λ (w : Doc ℕ). (prunes ≡ true) ↔ IsPrunable input w.units) e.1 prunable }
+  are_read file d (inl e) = record {
+    limits = l;
+    reads = subst (Reads l input raw) e.1 reads;
+    are_bytes = are;
+    prunable = subst (λ (w : Doc ℕ). (prunes ≡ true) ↔ IsPrunable input w.units) e.1
+        prunable;
+  }
   are_read file d (inr x) = absurd x
 
   none_shared : common_units r.move ≡ []
@@ -68,7 +75,8 @@ module _ (l : Limits) (input : List ℕ) (raw : List RawUnit) (doc : Doc ℕ) (r
   pub one_back : changes r.move r.units 0 ≡ true → (out : List ℕ) → HasSections r 0 out → FitsSections (sections_of r 0) → OneBack doc rule input raw prunes out
   one_back changed out has small =
       let ok = written_places r can.apart in
-      let not_old : (file : ℕ) → In file r.files → changes r.move r.units file ≡ false → ⊥ = λ file there still. (let yes = subst (λ (f : ℕ). changes r.move r.units f ≡ true) (sym (first_file doc file there)) changed in let both : true ≡ false = sym yes ∙ still in cc) in
+      let not_old : (file : ℕ) → In file r.files → changes r.move r.units file ≡ false
+      → ⊥ = λ file there still. (let yes = subst (λ (f : ℕ). changes r.move r.units f ≡ true) (sym (first_file doc file there)) changed in let both : true ≡ false = sym yes ∙ still in cc) in
       record {
         says = alone_back r can (place_of r) ok out none_shared 0 (is_first doc) changed has small;
         same = same_back Apart docs rule placed is choice stored (place_of r) ok (record {

@@ -4,7 +4,7 @@ use Rattle.std.proofs.lemmas.Bool.{or_cases}
 use Rattle.std.proofs.lemmas.List.Folds.{list_any-append}
 use Rattle.std.specs.List.{list_any}
 use Rattle.dwz_model.specs.declared.place.Base.{Base}
-use Rattle.dwz_docs.specs.Lists.{In}
+use Rattle.dwz_docs.specs.Lists.{Each, In}
 use Rattle.dwz_docs.specs.Trees.{End, Entry}
 use Rattle.dwz_meanings.specs.declared.exprs.Operand.{Operand as AnOperand}
 use Rattle.dwz_meanings.specs.Documents.{Attr, DwUnit, Entries, Expr, Operand, Part, Plain, Same, attr_map, entries_map, unit_map}
@@ -13,7 +13,6 @@ use Rattle.dwz_meanings.specs.Meanings.{Class, IfSo, OfExpression, OfListIndex, 
 use Rattle.dwz_meanings.specs.Shared.{own_operands}
 use Rattle.dwz_alike.specs.Alike.{has_operand, is_operand, joined_parts}
 use Rattle.dwz_alike.proofs.Targets.{or_first, or_second}
-use Rattle.dwz_seen.specs.Lists.{Each}
 use Rattle.dwz_writing.specs.Carried.{AttrOperands, ExprIn, OperandsStand, OperandsStandAs}
 use Rattle.dwz_writing.specs.Fitting.{EachAttr}
 use Rattle.dwz_writing.specs.Meant.{ListSays, OperandIn, OperandsIn, Own, Tells, led_to, own_of}

@@ -3,12 +3,12 @@ use Rattle.std.proofs.Common.{◌≡◌, ℕ, zero, suc, ◌+◌, ◌<◌, ◌�
 use Rattle.dwz_docs.specs.Lists.{In}
 use Rattle.dwz_meanings.specs.Documents.{Attr, DwUnit, attr_map, first_named, unit_map}
 use Rattle.dwz_seen.specs.Lists.{EachPair, Nth}
-use Rattle.dwz_seen.proofs.Members.{each_in, each_of, nth_from, pair_append}
-use Rattle.dwz_alike.specs.Alike.{IsAlike, Scope}
-use Rattle.dwz_alike.specs.Spots.{FileUnit, PartialOf, Row, Spot, Top, row_below, row_tops, top_count, tops_from, tops_of}
+use Rattle.dwz_seen.proofs.Members.{each_in, nth_from}
+use Rattle.dwz_alike.specs.Alike.{IsAlike, TopScope}
+use Rattle.dwz_alike.specs.Spots.{FileUnit, PartialOf, Spot, Top, tops_of}
 use Rattle.dwz_alike.proofs.AlikePer.{alike_per}
-use Rattle.dwz_alike.proofs.RowLemmas.{from_row, row_here, top_of}
 use Rattle.dwz_alike.proofs.Tops.{tops_rise}
+use Rattle.dwz_alike.proofs.TopOrder.{InOrder, units_rise}
 use Rattle.dwz_moving.specs.Homes.{IsChoice, Rule, is_home, moves, rep, users}
 use Rattle.dwz_moving.specs.Moves.{Move, first_unit, plan}
 use Rattle.dwz_moving.specs.Plan.{PartialUnit, partials}
@@ -21,28 +21,7 @@ use Rattle.dwz_back.proofs.HomeLemmas.{part_is}
 
 -- ---- tops stand in the order of their units
 
-abbrev InOrder : Top → Top → Type 0
-InOrder a b = a.unit ≤ b.unit
-
-later_unit : (s n : ℕ) (units : List (FileUnit Spot)) (t : Top) → In t (tops_from s n units) → s ≤ t.unit
-later_unit s n units t h = let o = top_of s n units t h in nth_from s units t.unit o.unit o.nth
-
-here_unit : (s n : ℕ) (f : FileUnit Spot) (units : List (FileUnit Spot)) (t : Top) → In t (row_tops (row_below f.file s n f.unit f.unit.kind)) → t.unit ≡ s
-here_unit s n f units t h = (from_row s n (f ∷ units) s t (subst (λ (w : Row). In t (row_tops w)) (sym (row_here s n f units s refl)) h)).1
-
-one_unit : (s : ℕ) (tops : List Top) → ((t : Top) → In t tops → t.unit ≡ s) → EachPair InOrder tops
-one_unit s [] same = tt
-one_unit s (t ∷ tops) same = (each_of (InOrder t) tops (λ u is. omega (arith, same t (inl refl), same u (inr is))), one_unit s tops (λ u is. same u (inr is)))
-
-units_rise : (s n : ℕ) (units : List (FileUnit Spot)) → EachPair InOrder (tops_from s n units)
-unfolding tops_from
-units_rise s n [] = tt
-units_rise s n (f ∷ units) =
-    let m = n + top_count f.unit.kind f.unit.below in
-    pair_append InOrder (row_tops (row_below f.file s n f.unit f.unit.kind)) (tops_from (suc s) m units) (one_unit s (row_tops (row_below f.file s n f.unit f.unit.kind)) (here_unit s n f units)) (units_rise (suc s) m units)
-    (λ x y a b. omega (arith, here_unit s n f units x a, later_unit (suc s) m units y b))
-
-ordered : (tops : List Top) (a b : Top) → EachPair InOrder tops → EachPair (λ x y. x.number < y.number) tops → In a tops → In b tops → a.number ≤ b.number → a.unit ≤ b.unit
+pub ordered : (tops : List Top) (a b : Top) → EachPair InOrder tops → EachPair (λ x y. x.number < y.number) tops → In a tops → In b tops → a.number ≤ b.number → a.unit ≤ b.unit
 ordered [] a b o r p q le = absurd p
 ordered (t ∷ tops) a b o r (inl p) (inl q) le = omega (arith, ap (λ (w : Top). w.unit) (sym p ∙ q))
 ordered (t ∷ tops) a b o r (inl p) (inr q) le = subst (λ (w : Top). w.unit ≤ b.unit) p (each_in (InOrder t) b tops o.0 q)
@@ -64,18 +43,19 @@ first_mapped : {P Q : Type 0} (f : P → Q) (name : ℕ) (attrs : List (Attr P))
 unfolding first_named
 first_mapped f name [] = refl
 first_mapped f name (a ∷ attrs) = by (first_mapped f name attrs) (eqb a.name name) where
-  by : offset_in (first_named name (map (attr_map f) attrs)) ≡ offset_in (first_named name attrs) → (b : Bool) → offset_in (cond b (Some (attr_map f a)) (first_named name (map (attr_map f) attrs))) ≡ offset_in (cond b (Some a) (first_named name attrs))
+  by : offset_in (first_named name (map (attr_map f) attrs)) ≡ offset_in (first_named name attrs) → (b : Bool) → offset_in (cond b (Some (attr_map f a)) (first_named name (map (attr_map f) attrs)))
+      ≡ offset_in (cond b (Some a) (first_named name attrs))
   by rest true = refl
   by rest false = rest
 
 pub bases_mapped : {P Q : Type 0} (f : P → Q) (u : DwUnit P) → bases_in (unit_map f u) ≡ bases_in u
 bases_mapped f u = same_bases _ _ _ _ _ _ (first_mapped f 0x72 u.root.attrs) (first_mapped f 0x10 u.root.attrs) (first_mapped f 0x8c u.root.attrs)
 
-first_there : (tops : List Top) (t : Top) → In t tops → (x : Top) × In x tops × (x.unit ≡ first_unit tops)
+pub first_there : (tops : List Top) (t : Top) → In t tops → (x : Top) × In x tops × (x.unit ≡ first_unit tops)
 first_there [] t h = absurd h
 first_there (x ∷ tops) t h = (x, inl refl, refl)
 
-module _ (scope : Scope) (units : List (FileUnit Spot)) (rule : Rule) (is : IsAlike scope units rule.alike) (choice : IsChoice units rule) (files : List ℕ) where
+module _ (scope : TopScope) (units : List (FileUnit Spot)) (rule : Rule) (is : IsAlike scope units rule.alike) (choice : IsChoice units rule) (files : List ℕ) where
   abbrev m : Move
   m = plan rule units files
 

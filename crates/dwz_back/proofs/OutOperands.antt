@@ -3,13 +3,14 @@ use Rattle.std.proofs.Common.{◌≡◌, ◌⊎◌, ◌&&◌, ◌==◌, ℕ, Boo
 use Rattle.std.specs.List.{filter, list_any}
 use Rattle.dwz_model.specs.declared.place.Base.{Base}
 use Rattle.dwz_model.specs.declared.place.Base.TheVariants.{Unit as FromUnit, Info as FromInfo}
-use Rattle.dwz_docs.specs.Lists.{In}
+use Rattle.dwz_docs.specs.Lists.{Each, In}
+use Rattle.dwz_docs.proofs.ListFacts.{in_cases, in_left, in_right}
 use Rattle.dwz_meanings.specs.Documents.{Attr, DwUnit, Node, attr_map}
 use Rattle.dwz_meanings.specs.Meanings.{Class}
-use Rattle.dwz_seen.specs.Lists.{Each, Nth}
+use Rattle.dwz_seen.specs.Lists.{Nth}
 use Rattle.dwz_seen.specs.Seen.{Seen, see, seen}
-use Rattle.dwz_seen.proofs.Members.{any_true, each_append, each_in, each_more, each_of, each_split, in_cases, in_filter_from, in_left, in_map_from, in_nth, in_right, nth_in}
-use Rattle.dwz_alike.specs.Alike.{IsAlike, Scope, any_attr, any_entry, has_operand, is_in, names_in_unit, operand_names}
+use Rattle.dwz_seen.proofs.Members.{any_true, each_append, each_in, each_more, each_of, each_split, in_filter_from, in_map_from, in_nth, nth_in}
+use Rattle.dwz_alike.specs.Alike.{IsAlike, TopScope, any_attr, any_entry, has_operand, is_in, names_in_unit, operand_names}
 use Rattle.dwz_alike.specs.Spots.{FileUnit, Spot}
 use Rattle.dwz_alike.proofs.Targets.{entry_true, or_first, or_second}
 use Rattle.dwz_moving.specs.Homes.{IsChoice, Local, Rule}
@@ -39,7 +40,7 @@ unit_seen : (u : DwUnit Spot) (k : Spot) → In k (entry_keys u) → (d : Seen S
 unit_seen u k (inl e) = (see u.root u.below, inl refl, e)
 unit_seen u k (inr r) = (let o = key_seen u.below k r in (o.0, inr o.1, o.2))
 
-unit_with : (units : List (DwUnit Spot)) (k : Spot) → In k (all_entry_keys units) → (u : DwUnit Spot) × In u units × In k (entry_keys u)
+pub unit_with : (units : List (DwUnit Spot)) (k : Spot) → In k (all_entry_keys units) → (u : DwUnit Spot) × In u units × In k (entry_keys u)
 unfolding all_entry_keys
 unit_with [] k h = absurd h
 unit_with (u ∷ units) k h = elim (in_cases k (entry_keys u) (all_entry_keys units) h) [
@@ -47,13 +48,13 @@ unit_with (u ∷ units) k h = elim (in_cases k (entry_keys u) (all_entry_keys un
   | inr b ↦ (let o = unit_with units k b in (o.0, inr o.1, o.2))
 ]
 
-all_with : (units : List (DwUnit Spot)) (u : DwUnit Spot) (k : Spot) → In u units → In k (entry_keys u) → In k (all_entry_keys units)
+pub all_with : (units : List (DwUnit Spot)) (u : DwUnit Spot) (k : Spot) → In u units → In k (entry_keys u) → In k (all_entry_keys units)
 unfolding all_entry_keys
 all_with [] u k there h = absurd there
 all_with (v ∷ units) u k (inl e) h = in_left k (entry_keys v) (all_entry_keys units) (subst (λ (w : DwUnit Spot). In k (entry_keys w)) (sym e) h)
 all_with (v ∷ units) u k (inr r) h = in_right k (entry_keys v) (all_entry_keys units) (all_with units u k r h)
 
-module _ (scope : Scope) (units : List (FileUnit Spot)) (rule : Rule) (is : IsAlike scope units rule.alike) (choice : IsChoice units rule) (files : List ℕ) (old : AreOld units)
+module _ (scope : TopScope) (units : List (FileUnit Spot)) (rule : Rule) (is : IsAlike scope units rule.alike) (choice : IsChoice units rule) (files : List ℕ) (old : AreOld units)
     (held : IsHeld units (plan rule units files)) (file : ℕ) where
   abbrev m : Move
   m = plan rule units files
@@ -134,7 +135,8 @@ module _ (scope : Scope) (units : List (FileUnit Spot)) (rule : Rule) (is : IsAl
       kept_operands = (
         attrs_mapped (AttrOperands t own) f u.unit.root.attrs (λ a a_in. attr_there u.unit.root (inl refl) a a_in (each_in (AttrOperands before (own_of u.unit)) a u.unit.root.attrs read.0 a_in)),
         kept_attrs (AttrOperands t own) units m i u nth
-            (λ d there a a_in. attr_there d (inr there) a a_in (each_in (AttrOperands before (own_of u.unit)) a d.attrs (attrs_in (AttrOperands before (own_of u.unit)) u.unit.below read.1 d there) a_in))
+            (λ d there a a_in. attr_there d (inr there) a a_in (each_in (AttrOperands before (own_of u.unit)) a d.attrs (attrs_in (AttrOperands before (own_of u.unit)) u.unit.below read.1 d there)
+            a_in))
             (λ n. subst (λ (c : Class). OperandsStandAs c t own (import_attr n)) (sym import_class) tt),
       )
 

@@ -1,24 +1,23 @@
 -- The units after are carried, as those before are.
 use Rattle.std.proofs.Common.{◌≡◌, ℕ, Bool, true, false, List, [], map, refl, sym, ap, subst, ◌∙◌, arith, inl, inr}
 use Rattle.dwz_meanings.specs.Documents.{Compile, DwUnit, Entries, Kind, Node, OfType, Partial, kind_map, language}
-use Rattle.dwz_docs.specs.Lists.{In}
+use Rattle.dwz_docs.specs.Lists.{Each, In}
 use Rattle.dwz_docs.specs.Trees.{End, Entry}
-use Rattle.dwz_seen.specs.Lists.{Each, Nth}
+use Rattle.dwz_seen.specs.Lists.{Nth}
 use Rattle.dwz_seen.proofs.Members.{each_append, each_of, in_map_from}
 use Rattle.dwz_alike.specs.Spots.{FileUnit, PartialOf, PartialRoot, Spot, Top, row_of, tops_of}
 use Rattle.dwz_alike.proofs.RowLemmas.{unit_row}
 use Rattle.dwz_alike.proofs.Tops.{unit_of}
 use Rattle.dwz_moving.specs.IsPlan.{Has, OfSpace, OfTop}
-use Rattle.dwz_alike.specs.Alike.{IsAlike, Scope}
+use Rattle.dwz_alike.specs.Alike.{IsAlike, TopScope}
 use Rattle.dwz_moving.specs.Homes.{IsChoice, Local, Rule}
 use Rattle.dwz_moving.specs.Moves.{Move, image_in, plan}
-use Rattle.dwz_moving.proofs.RowParts.{part_is as part_row_is}
+use Rattle.dwz_moving.proofs.RowParts.{kept_is, part_is as part_row_is}
 use Rattle.dwz_same.proofs.HeldLemmas.{row_found}
 use Rattle.dwz_back.proofs.HomeLemmas.{kept_from, part_is, parts_from, top_file}
 use Rattle.dwz_back.proofs.SpaceLemmas.{NameCarried, space_carried, top_names}
 use Rattle.dwz_moving.specs.Plan.{PartialUnit, import_of, imports, kept_row}
 use Rattle.dwz_moving.proofs.KeptLemmas.{are_imports}
-use Rattle.dwz_moving.proofs.RowParts.{kept_is}
 use Rattle.dwz_same.specs.After.{AreOld, IsBelow, IsNamedBelow}
 use Rattle.dwz_same.specs.Held.{IsHeld}
 use Rattle.dwz_same.specs.Units.{changes, kept_below, kept_unit, kept_units, out_units, partial_unit, partial_units, tree}
@@ -60,7 +59,9 @@ module _ (from : From) (units : List (FileUnit Spot)) (m : Move) (old : AreOld u
       (below_node from (bases_in o.unit.unit) o.unit.unit.below (are t.unit o.unit o.nth (subst Good o.file_is good)).below d
       (top_below o.unit.file t.unit (language o.unit.unit) [] r.first (row_of units t.unit) o.unit.unit.below r.is t o.in_row d x))
 
-  pub new_carried : (n : ℕ) (part : PartialUnit) → Nth 0 m.parts n part → (origin : Bases) → Each (CarriedAttr from origin) (m.roots n) → ((names : List (List ℕ)) (d : Node Spot) → Has names (OfSpace d) (m.rows n) → CarriedNode from origin d) → ((t : Top) → In t part.tops → bases_at units t.unit ≡ origin) → ((names : List (List ℕ)) (t : Top) → In t (tops_of units) → In t part.tops → Good t.file)
+  pub new_carried : (n : ℕ) (part : PartialUnit) → Nth 0 m.parts n part → (origin : Bases) → Each (CarriedAttr from origin) (m.roots n)
+      → ((names : List (List ℕ)) (d : Node Spot) → Has names (OfSpace d) (m.rows n) → CarriedNode from origin d) → ((t : Top) → In t part.tops → bases_at units t.unit ≡ origin)
+      → ((names : List (List ℕ)) (t : Top) → In t (tops_of units) → In t part.tops → Good t.file)
       → ((names : List (List ℕ)) (t : Top) → Has names (OfTop t) (m.rows n) → In t part.tops) → CarriedUnit from origin (partial_unit m n)
   new_carried n part nth origin root spaces same good tops = record {
     kind = refl;
@@ -97,10 +98,12 @@ module _ (from : From) (units : List (FileUnit Spot)) (m : Move) (old : AreOld u
       go e (FromSpace names d has y) =
           (let r = unit_row units i u nth kind in
           let under = item_under u.file i (language u.unit) [] r.first (row_of units i) u.unit.below r.is names (OfSpace d) ((kept_is m.gone units i names (OfSpace d)).0 has).0 in
-          subst (CarriedNode from (bases_in u.unit)) (sym y) (node_carried from (bases_in u.unit) f d (below_node from (bases_in u.unit) u.unit.below (are i u nth good).below d (under_below names d u.unit.below under))))
+          subst (CarriedNode from (bases_in u.unit)) (sym y) (node_carried from (bases_in u.unit) f d
+          (below_node from (bases_in u.unit) u.unit.below (are i u nth good).below d (under_below names d u.unit.below under))))
       go e (FromLast z) = import_below (bases_in u.unit) i e z
 
-  below_carried : (i : ℕ) (u : FileUnit Spot) → Nth 0 units i u → Good u.file → (k : Kind Spot) → u.unit.kind ≡ k → (b : Bool) → CarriedEntries from (bases_in u.unit) (kept_below m units b i k u.unit.below)
+  below_carried : (i : ℕ) (u : FileUnit Spot) → Nth 0 units i u → Good u.file → (k : Kind Spot) → u.unit.kind ≡ k → (b : Bool)
+      → CarriedEntries from (bases_in u.unit) (kept_below m units b i k u.unit.below)
   below_carried i u nth good Compile e true = changed_below i u nth good e
   below_carried i u nth good Compile e false = entries_carried from (bases_in u.unit) f u.unit.below (are i u nth good).below
   below_carried i u nth good (OfType signature main) e true = entries_carried from (bases_in u.unit) f u.unit.below (are i u nth good).below
@@ -109,7 +112,8 @@ module _ (from : From) (units : List (FileUnit Spot)) (m : Move) (old : AreOld u
   below_carried i u nth good Partial e false = entries_carried from (bases_in u.unit) f u.unit.below (are i u nth good).below
 
   pub kept_carried : (i : ℕ) (u : FileUnit Spot) → Nth 0 units i u → Good u.file → (k : Kind Spot) → u.unit.kind ≡ k → CarriedUnit from (bases_in u.unit) (kept_unit m units i u)
-  kept_carried i u nth good (OfType signature main) e = subst (CarriedUnit from (bases_in u.unit)) (sym (type_kept units m old i u nth signature main e)) (unit_carried from (bases_in u.unit) f u.unit (are i u nth good))
+  kept_carried i u nth good (OfType signature main) e = subst (CarriedUnit from (bases_in u.unit)) (sym (type_kept units m old i u nth signature main e))
+      (unit_carried from (bases_in u.unit) f u.unit (are i u nth good))
   kept_carried i u nth good Partial e = absurd (subst (λ (w : Kind Spot). IsNamedBelow i w (row_of units i) u.unit.below) e (old.units_named i u nth).below)
   kept_carried i u nth good Compile e =
       let is = are i u nth good in
@@ -122,8 +126,9 @@ module _ (from : From) (units : List (FileUnit Spot)) (m : Move) (old : AreOld u
 
 -- ---- the spaces of a partial unit
 
-pub part_spaces : (from : From) (scope : Scope) (units : List (FileUnit Spot)) (rule : Rule) → (is : IsAlike scope units rule.alike) → (choice : IsChoice units rule) → (files : List ℕ)
-    → (n : ℕ) (part : PartialUnit) → Nth 0 (plan rule units files).parts n part → ((t : Top) → In t part.tops → (i : ℕ) (u : FileUnit Spot) → Nth 0 units i u → u.file ≡ t.file → CarriedUnit from (bases_in u.unit) u.unit)
+pub part_spaces : (from : From) (scope : TopScope) (units : List (FileUnit Spot)) (rule : Rule) → (is : IsAlike scope units rule.alike) → (choice : IsChoice units rule) → (files : List ℕ)
+    → (n : ℕ) (part : PartialUnit) → Nth 0 (plan rule units files).parts n part
+    → ((t : Top) → In t part.tops → (i : ℕ) (u : FileUnit Spot) → Nth 0 units i u → u.file ≡ t.file → CarriedUnit from (bases_in u.unit) u.unit)
     → (names : List (List ℕ)) (d : Node Spot) → Has names (OfSpace d) ((plan rule units files).rows n) → CarriedNode from (origin_in (plan rule units files) units (PartialOf n)) d
 part_spaces from scope units rule is choice files n part nth are names d has =
     let origin = origin_in (plan rule units files) units (PartialOf n) in
@@ -135,7 +140,8 @@ part_spaces from scope units rule is choice files n part nth are names d has =
 
 -- ---- the units of a file
 
-module _ (from : From) (scope : Scope) (units : List (FileUnit Spot)) (rule : Rule) (is : IsAlike scope units rule.alike) (choice : IsChoice units rule) (files : List ℕ) (old : AreOld units) (held : IsHeld units (plan rule units files)) (file : ℕ)
+module _ (from : From) (scope : TopScope) (units : List (FileUnit Spot)) (rule : Rule) (is : IsAlike scope units rule.alike) (choice : IsChoice units rule) (files : List ℕ) (old : AreOld units)
+    (held : IsHeld units (plan rule units files)) (file : ℕ)
     (are : (i : ℕ) (u : FileUnit Spot) → Nth 0 units i u → u.file ≡ file → CarriedUnit from (bases_in u.unit) u.unit) (own : RootsCarried from (plan rule units files) units (Local file)) where
   abbrev m : Move
   m = plan rule units files
@@ -150,7 +156,9 @@ module _ (from : From) (scope : Scope) (units : List (FileUnit Spot)) (rule : Ru
       let holds : (names : List (List ℕ)) (t : Top) → Has names (OfTop t) (m.rows o.number) → In t o.part.tops = λ names t has.
       (((part_row_is o.number o.part).tops_are names t).0 (subst (Has names (OfTop t)) (row_found rule units files o.number o.part o.nth) has)).0 in
       subst IsCarried o.is (new_carried from units m old held (λ x. x ≡ file) are o.number o.part o.nth (origin_in m units (PartialOf o.number)) (own o.number o.part o.nth o.home_is)
-      (part_spaces from scope units rule is choice files o.number o.part o.nth (λ t in_part i u nth of. are i u nth (of ∙ top_file scope units rule is choice files file o.number o.part o.nth o.home_is t in_part))) (part_origin scope units rule is choice files o.number o.part o.nth)
+      (part_spaces from scope units rule is choice files o.number o.part o.nth
+      (λ t in_part i u nth of. are i u nth (of ∙ top_file scope units rule is choice files file o.number o.part o.nth o.home_is t in_part)))
+      (part_origin scope units rule is choice files o.number o.part o.nth)
       (λ names t there in_part. top_file scope units rule is choice files file o.number o.part o.nth o.home_is t in_part) holds)
 
   old_carried : (v : DwUnit Spot) → In v (kept_units m units file 0 units) → IsCarried v
@@ -158,7 +166,8 @@ module _ (from : From) (scope : Scope) (units : List (FileUnit Spot)) (rule : Ru
       let o = kept_from m units file 0 units v there in
       let known : bases_in o.unit.unit ≡ origin_in m units o.unit.unit.at =
       sym (ap (origin_in m units) (old.units_named o.number o.unit o.nth).unit ∙ bases_found units 0 o.number o.number o.unit o.nth (omega arith)) in
-      subst IsCarried o.is (subst (λ (b : Bases). CarriedUnit from b (kept_unit m units o.number o.unit)) known (kept_carried from units m old held (λ x. x ≡ file) are o.number o.unit o.nth o.file_is o.unit.unit.kind refl))
+      subst IsCarried o.is (subst (λ (b : Bases). CarriedUnit from b (kept_unit m units o.number o.unit)) known
+      (kept_carried from units m old held (λ x. x ≡ file) are o.number o.unit o.nth o.file_is o.unit.unit.kind refl))
 
   -- they are carried, as those of the file before
   pub out_carried : Each IsCarried (out_units m units file)

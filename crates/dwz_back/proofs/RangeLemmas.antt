@@ -1,7 +1,7 @@
 -- Sets of address ranges are of the units that they were of, where these stand after.
-use Rattle.std.proofs.Common.{◌≡◌, ℕ, suc, ◌+◌, ◌<◌, ◌≤◌, ◌^◌, Bool, true, false, List, [], ◌∷◌, ◌++◌, length, map, Option, refl, sym, ap, subst, ◌∙◌, arith, inl, inr, eq-eqb, ne_eqb}
+use Rattle.std.proofs.Common.{◌≡◌, ℕ, suc, ◌+◌, ◌<◌, ◌^◌, Bool, true, false, List, [], ◌∷◌, ◌++◌, length, map, Option, refl, sym, ap, subst, ◌∙◌, arith, inl, inr, eq-eqb, ne_eqb}
 use Rattle.std.proofs.lemmas.List.{length-map}
-use Rattle.dwz_docs.specs.Lists.{In}
+use Rattle.dwz_docs.specs.Lists.{Each, In}
 use Rattle.dwz_docs.specs.Units.{CompileUnit, PartialUnit, RawKind, RawUnit, TypeUnit}
 use Rattle.dwz_meanings.specs.Documents.{Compile, Doc, DwUnit, Entries, Kind, OfType, Partial, kind_map, unit_map}
 use Rattle.dwz_meanings.specs.Files.{is_place_of, place_if_whole, unit_places}
@@ -10,10 +10,10 @@ use Rattle.dwz_meanings.specs.Patching.{AreUnits, of_units}
 use Rattle.dwz_meanings.specs.Ranges.{RangeSet, SpellsSets}
 use Rattle.dwz_meanings.proofs.MeaningLemmas.{has_in}
 use Rattle.dwz_meanings.proofs.PatchedSets.{sets_patched}
-use Rattle.dwz_seen.specs.Lists.{Each, Nth}
+use Rattle.dwz_seen.specs.Lists.{Nth}
 use Rattle.dwz_seen.specs.Seen.{IsPartial}
 use Rattle.dwz_seen.specs.Shown.{units_keys}
-use Rattle.dwz_seen.proofs.Members.{in_cases, in_has, in_left, in_map, in_nth, in_right}
+use Rattle.dwz_seen.proofs.Members.{in_has, in_nth, nth_from}
 use Rattle.dwz_alike.specs.Spots.{FileUnit, Row, Spot, in_file, named, named_files, row_of, spot_in, spots_from, tops_among}
 use Rattle.dwz_moving.specs.Homes.{Local}
 use Rattle.dwz_moving.specs.Moves.{image_in}
@@ -25,6 +25,7 @@ use Rattle.dwz_writing.specs.Writing.{Numbering}
 use Rattle.dwz_back.specs.Back.{AllStandAfter, around_in}
 use Rattle.dwz_back.specs.Files.{AreRanged, Run, file_forms, fitted, fitted_if, formed, name_after, places, sources, uses}
 use Rattle.dwz_docs.specs.Pruning.{new_number}
+use Rattle.dwz_docs.proofs.ListFacts.{in_cases, in_left, in_map, in_right}
 use Rattle.dwz_writing.specs.Pruned.{renumbered_unit, renumbered_units}
 use Rattle.dwz_back.proofs.ReadBuilt.{own}
 use Rattle.dwz_back.proofs.WithinLemmas.{kept_to}
@@ -73,11 +74,6 @@ block_at file f [] v h = absurd h
 block_at file f (w ∷ units) v (inl e) = record { unit = in_file file (unit_map f w); there = inl refl; of_file = refl; at = ap (λ (x : DwUnit ℕ). f x.at) e }
 block_at file f (w ∷ units) v (inr r) = (let o = block_at file f units v r in record { unit = o.unit; there = inr o.there; of_file = o.of_file; at = o.at })
 
-nth_later : {X : Type 0} (s : ℕ) (xs : List X) (n : ℕ) (x : X) → Nth s xs n x → s ≤ n
-nth_later s [] n x h = absurd h
-nth_later s (y ∷ xs) n x (inl e) = omega (arith, e.0)
-nth_later s (y ∷ xs) n x (inr r) = (let le = nth_later (suc s) xs n x r in omega (arith, le))
-
 pub named_at : (own unit top : ℕ) (docs : List (Doc ℕ)) (file : ℕ) (doc : Doc ℕ) → Nth own docs file doc → (v : DwUnit ℕ) → In v doc.units
     → NamedAt (named_files own unit top docs) file (name_from own unit top docs (at_file file v.at))
 unfolding named_files name_from
@@ -91,7 +87,7 @@ named_at own unit top (d ∷ docs) file doc (inl e) v there =
 named_at own unit top (d ∷ docs) file doc (inr r) v there =
     let f = spot_in (spots_from unit top d.units) in
     let rest = name_from (suc own) (unit + length d.units) (top + tops_among d.units) docs (at_file file v.at) in
-    let later = nth_later (suc own) docs file doc r in
+    let later = nth_from (suc own) docs file doc r in
     let o = named_at (suc own) (unit + length d.units) (top + tops_among d.units) docs file doc r v there in
     let is = ap (λ (b : Bool). elim b as (λ _. Spot) [ true ↦ f v.at | false ↦ rest ]) (ne_eqb own file (λ e. omega (arith, e, later))) in
     record { unit = o.unit; there = in_right o.unit (map (in_file own) (named unit top d.units)) _ o.there; of_file = o.of_file; at = o.at ∙ sym is }

@@ -47,7 +47,8 @@ module _ (c : UnitContext) (own : c.mode.forms ≡ own_forms) where
           first_bytes = b.first_bytes;
           first = b.first;
           second_bytes = b.second_bytes;
-          second = attrs_again is.decl.pairs e.attrs (start + length b.first_bytes) b.second_bytes (subst (λ (forms : ℕ → Bool → List RowView). SpellsAttrs (forms c.root_tag (p.depth == 1)) is.decl.pairs e.attrs (start + length b.first_bytes) b.second_bytes) own b.second);
+          second = attrs_again is.decl.pairs e.attrs (start + length b.first_bytes) b.second_bytes
+              (subst (λ (forms : ℕ → Bool → List RowView). SpellsAttrs (forms c.root_tag (p.depth == 1)) is.decl.pairs e.attrs (start + length b.first_bytes) b.second_bytes) own b.second);
           parts = b.parts;
         };
       }

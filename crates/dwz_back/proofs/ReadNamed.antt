@@ -1,7 +1,8 @@
 -- The operands of expressions and of location lists that are read name entries.
 use Rattle.std.proofs.Common.{ℕ, Bool, true, false, List, [], ◌∷◌, ◌++◌, sym, subst, cond, eqb}
 use Rattle.dwz_meanings.specs.declared.exprs.Operand.{Operand}
-use Rattle.dwz_meanings.specs.Exprs.{AnAddress, AreNamed, Counted, EntryOrGeneric, EntryUleb, Entry4, ExprContext, Field, Found, Holds, Inside, Located, LocatedBy, Names, Run, Signed, Sized, SpellsExpr, SpellsField, SpellsFields, Unsigned, expressions_in, joined}
+use Rattle.dwz_meanings.specs.Exprs.{AnAddress, AreNamed, Counted, EntryOrGeneric, EntryUleb, Entry4, ExprContext, Field, Found, Holds, Inside, Located, LocatedBy, Names, Run, Signed, Sized}
+use Rattle.dwz_meanings.specs.Exprs.{SpellsExpr, SpellsField, SpellsFields, Unsigned, expressions_in, joined}
 use Rattle.dwz_meanings.specs.LocLists.{EndsList, LocList, SpellsList, SpellsListEntry}
 use Rattle.dwz_meanings.specs.Sequences.{SpellsRow}
 use Rattle.dwz_meanings.specs.Shared.{operands_of}

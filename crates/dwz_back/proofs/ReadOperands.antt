@@ -4,26 +4,27 @@ use Rattle.std.proofs.lemmas.List.{map-append}
 use Rattle.dwz_model.specs.declared.place.Base.{Base}
 use Rattle.dwz_model.specs.declared.place.Base.TheVariants.{Unit as FromUnit, Info as FromInfo}
 use Rattle.dwz_docs.specs.Entries.{RawAttr, RawEntry}
-use Rattle.dwz_docs.specs.Lists.{In, has}
+use Rattle.dwz_docs.specs.Lists.{Each, In, has}
 use Rattle.dwz_docs.specs.Trees.{End, Entry, Forest}
 use Rattle.dwz_docs.specs.Units.{RawUnit}
 use Rattle.dwz_meanings.specs.declared.exprs.Operand.{Operand}
 use Rattle.dwz_meanings.specs.Documents.{Attr, DwUnit, Entries, Part, Value}
 use Rattle.dwz_meanings.specs.Exprs.{AreNamed, Expression, parts_from, parts_of}
-use Rattle.dwz_meanings.specs.Meanings.{Class, IfSo, IsExpression, IsListBySlot, IsLocList, MeanAttrs, MeanEntries, MeanUnits, MeansAs, MeansAttr, MeansUnit, OfExpression, OfListIndex, OfOffset, Scope, Sources, all_places, class_of, entries_for, expr_context, leads_to, loc_value, loclists_base, names_list, offset_of, places_of, scope_of, target_of, targets, without_siblings}
+use Rattle.dwz_meanings.specs.Meanings.{Class, IfSo, IsExpression, IsListBySlot, IsLocList, MeanAttrs, MeanEntries, MeanUnits, MeansAs, MeansAttr, MeansUnit, OfExpression, OfListIndex, OfOffset}
+use Rattle.dwz_meanings.specs.Meanings.{Scope, Sources, all_places, class_of, entries_for, expr_context, leads_to, loc_value, loclists_base, names_list, offset_of, places_of, scope_of, target_of}
+use Rattle.dwz_meanings.specs.Meanings.{targets, without_siblings}
 use Rattle.dwz_meanings.specs.NamedLists.{AnyEntryNames, AnyNames, AnyUnitNames, NamesAs, NamesList, lists_of_units}
 use Rattle.dwz_meanings.specs.Shared.{NamedList, operands_of, own_operands}
 use Rattle.dwz_meanings.proofs.MeaningLemmas.{has_in}
 use Rattle.dwz_meanings.proofs.NamedLemmas.{units_name}
+use Rattle.dwz_meanings.proofs.DecideLemmas.{if_true}
 use Rattle.dwz_alike.specs.Alike.{joined_parts}
-use Rattle.dwz_seen.specs.Lists.{Each}
 use Rattle.dwz_seen.specs.Shown.{keys}
 use Rattle.dwz_writing.specs.Bases.{Bases}
 use Rattle.dwz_writing.specs.Carried.{AttrOperands, ExprIn, OperandsStand, OperandsStandAs}
 use Rattle.dwz_writing.specs.Fitting.{EachAttr}
 use Rattle.dwz_writing.specs.Meant.{ListSays, OperandIn, OperandsIn, Own, Tells, all_entry_keys, by_base, entry_keys, led_to, own_of}
 use Rattle.dwz_writing.proofs.ReadAgain.{bases_read}
-use Rattle.dwz_writing.proofs.ValuesMean.{so_true}
 use Rattle.dwz_back.proofs.ReadBuilt.{own}
 use Rattle.dwz_back.proofs.ReadNamed.{expr_named, list_named}
 use Rattle.dwz_back.proofs.ReadPlaces.{entries_places}
@@ -116,7 +117,7 @@ module _ (t : Tells ℕ) (w : Own ℕ) (s : Scope ℕ) (knows : Knows t w s) whe
     offset_read : class_of r.pair.form ≡ OfOffset → (x : Bool) → names_list r.pair.name ≡ x → MeansAs OfOffset s r b.value → IfSo x (ListSays t w b) (Unit {0})
     offset_read e false names m = tt
     offset_read e true names m =
-        let is = so_true (names_list r.pair.name) _ _ names m in
+        let is = if_true (names_list r.pair.name) _ _ names m in
         let l : NamedList = record { unit = s.unit; from = offset_of r; slot = _; list = is.list } in
         let named : NamesList s r l = subst (λ (c : Class). NamesAs c s r l) (sym e) (names, record { unit = refl; from = refl; slot_is = refl; within = is.within; stands = is.stands }) in
         list_says r b means l refl named (into l named) is.value (named_in (offset_of r) b.value is)

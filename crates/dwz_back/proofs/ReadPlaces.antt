@@ -1,28 +1,33 @@
 -- The places of units that are read differ, and each reference there names an entry.
-use Rattle.std.proofs.Common.{◌≡◌, ℕ, suc, ◌+◌, ◌<◌, ◌≤◌, ◌⊎◌, ◌==◌, ◌&&◌, ◌||◌, Bool, true, false, List, [], ◌∷◌, ◌++◌, ℤ, Option, Some, None, length, map, refl, sym, ap, subst, ◌∙◌, arith, inl, inr, eqb-true}
+use Rattle.std.proofs.Common.{◌≡◌, ℕ, suc, ◌+◌, ◌<◌, ◌≤◌, ◌⊎◌, ◌==◌, ◌&&◌, ◌||◌, Bool, true, false, List, [], ◌∷◌, ◌++◌, ℤ, Option, Some, None, length, map, refl, sym, ap, subst, ◌∙◌, arith, inl, inr}
+use Rattle.std.proofs.Common.{eqb-true}
 use Rattle.std.proofs.lemmas.Bool.{and_parts, or_cases}
 use Rattle.std.proofs.lemmas.List.{length-append}
-use Rattle.dwz_bytes.specs.Spelling.{IsGroups}
+use Rattle.dwz_bytes.proofs.PaddedLemmas.{some_groups}
 use Rattle.dwz_meanings.specs.Documents.{Attr, Doc, DwUnit, Entries, Kind, Num, Plain, Sec, Value, only, ref}
 use Rattle.dwz_meanings.specs.Shared.{operands_of}
 use Rattle.dwz_back.proofs.ReadBuilt.{own, units_built}
 use Rattle.dwz_back.proofs.ReadNamed.{expr_named, list_named}
 use Rattle.dwz_docs.specs.Entries.{Mode, RawAttr, RawEntry, SpellsEntry, SpellsFront, UnitContext, given, root_position}
 use Rattle.dwz_meanings.specs.Files.{Limits, Reads, debug_abbrev, debug_info, sources_of}
-use Rattle.dwz_docs.specs.Lists.{In, has}
+use Rattle.dwz_docs.specs.Lists.{Each, In, has}
 use Rattle.dwz_model.specs.declared.place.Base.{Base}
 use Rattle.dwz_model.specs.declared.place.Base.TheVariants.{Unit as FromUnit, Info as FromInfo}
 use Rattle.dwz_meanings.specs.declared.exprs.Operand.{Operand}
 use Rattle.dwz_meanings.specs.Exprs.{AreNamed}
 use Rattle.dwz_meanings.proofs.MeaningLemmas.{has_in}
-use Rattle.dwz_meanings.specs.Meanings.{Around, Class, IsLocList, MeanAttrs, MeanEntries, MeanUnits, MeansAs, MeansKind, MeansUnit, OfAddress, OfBlock, OfCommonEntry, OfCommonText, OfConstant, OfExpression, OfFlag, OfIndex, OfInfoEntry, OfListIndex, OfOffset, OfSignature, OfText, OfTextBySlot, OfTextInLineStr, OfTextInStr, OfUnitEntry, Scope, Sources, IfSo, IsFileBy, Unread, all_places, class_of, entries_for, expr_context, kept_width, names_file, names_list, number_of, offset_of, places_in, places_of, scope_of, stmt_list, target_of, targets, without_siblings}
+use Rattle.dwz_meanings.specs.Meanings.{Around, Class, IsLocList, MeanAttrs, MeanEntries, MeanUnits, MeansAs, MeansKind, MeansUnit, OfAddress, OfBlock, OfCommonEntry, OfCommonText, OfConstant}
+use Rattle.dwz_meanings.specs.Meanings.{OfExpression, OfFlag, OfIndex, OfInfoEntry, OfListIndex, OfOffset, OfSignature, OfText, OfTextBySlot, OfTextInLineStr, OfTextInStr, OfUnitEntry, Scope, Sources}
+use Rattle.dwz_meanings.specs.Meanings.{IfSo, IsFileBy, Unread, all_places, class_of, entries_for, expr_context, kept_width, names_file, names_list, number_of, offset_of, places_in, places_of}
+use Rattle.dwz_meanings.specs.Meanings.{scope_of, stmt_list, target_of, targets, without_siblings}
 use Rattle.dwz_docs.specs.Trees.{End, Entry, Forest, IfChildren, Position, SpellsForest, behind, first_below}
 use Rattle.dwz_docs.specs.Units.{CompileUnit, PartialUnit, RawKind, RawUnit, SpellsTree, SpellsUnit, SpellsUnits, TypeUnit, entry_count, header_size, is_read, kind_by, unit_type}
 use Rattle.dwz_docs.specs.Values.{AreBytes}
-use Rattle.dwz_seen.specs.Lists.{Each, NoneTwice}
+use Rattle.dwz_docs.proofs.ListFacts.{in_cases, in_left, in_right}
+use Rattle.dwz_seen.specs.Lists.{NoneTwice}
 use Rattle.dwz_seen.specs.Seen.{Closed, IsPartial, Named, Seen, all_seen, named_value, see, seen, seen_below, seen_roots}
 use Rattle.dwz_seen.specs.Shown.{HaveMains, keys, unit_keys, units_keys}
-use Rattle.dwz_seen.proofs.Members.{each_in, in_cases, in_left, in_right}
+use Rattle.dwz_seen.proofs.Members.{each_in}
 use Rattle.dwz_seen.proofs.SeenLemmas.{entry_seen, root_from, root_seen, seen_from}
 use Rattle.dwz_same.specs.After.{ArePlaced}
 use Rattle.dwz_writing.specs.Carried.{CarriedUnit, From, OfFile}
@@ -61,19 +66,16 @@ rise_none a (n ∷ ns) c h = ((λ is. let le = rise_above (suc n) ns c n h.1 is 
 
 -- ---- the places of what is spelled
 
-groups_some : (bytes : List ℕ) → IsGroups bytes → 0 < length bytes
-groups_some [] h = absurd h
-groups_some (b ∷ bytes) h = omega arith
-
 entry_some : (c : UnitContext) (p : Position) (e : RawEntry) (start : ℕ) (bytes : List ℕ) → SpellsEntry c p e start bytes → 0 < length bytes
 entry_some c p e start bytes is =
-    let some = groups_some is.parts.first_bytes is.parts.first.spelled.groups in
+    let some = some_groups is.parts.first_bytes is.parts.first.spelled.groups in
     omega (arith, some, ap length is.parts.parts, length-append is.parts.first_bytes is.parts.second_bytes)
 
 abbrev SpellsIn : UnitContext → Forest RawEntry → Position → ℕ → List ℕ → Type 0
 SpellsIn c f p start bytes = SpellsForest (λ e. e.children) (SpellsFront c) f p start bytes
 
-children_rise : (c : UnitContext) (f : Forest RawEntry) → ((p : Position) (start : ℕ) (bytes : List ℕ) → SpellsIn c f p start bytes → RiseTo start (places_in f) (start + length bytes)) → (flag : Bool) (p : Position) (start : ℕ) (bytes : List ℕ)
+children_rise : (c : UnitContext) (f : Forest RawEntry) → ((p : Position) (start : ℕ) (bytes : List ℕ) → SpellsIn c f p start bytes → RiseTo start (places_in f) (start + length bytes))
+    → (flag : Bool) (p : Position) (start : ℕ) (bytes : List ℕ)
     → IfChildren flag f (SpellsIn c f p start bytes) bytes → RiseTo start (places_in f) (start + length bytes)
 unfolding places_in
 children_rise c f more true p start bytes h = more p start bytes h
@@ -88,7 +90,8 @@ forest_rises c (Entry e f g) p start bytes is =
     let some = entry_some c p e start is.first_bytes is.first in
     let inner = children_rise c f (λ q s w h. forest_rises c f q s w h) e.children (first_below p) (start + a) is.second_bytes is.second in
     let rest = forest_rises c g (behind p f) (start + a + b) is.third_bytes is.third in
-    let end : start + a + b + length is.third_bytes ≡ start + length bytes = omega (arith, ap length is.parts, length-append is.first_bytes (is.second_bytes ++ is.third_bytes), length-append is.second_bytes is.third_bytes) in
+    let end : start + a + b + length is.third_bytes ≡ start + length bytes =
+    omega (arith, ap length is.parts, length-append is.first_bytes (is.second_bytes ++ is.third_bytes), length-append is.second_bytes is.third_bytes) in
     let all = rise_append (start + a) (places_in f) (start + a + b) (places_in g) (start + a + b + length is.third_bytes) inner rest in (
       omega (arith, is.first.place),
       rise_lower (suc e.at) (start + a) (places_in f ++ places_in g) (start + length bytes) (omega (arith, some, is.first.place)) (subst (RiseTo (start + a) (places_in f ++ places_in g)) end all),
@@ -98,7 +101,8 @@ forest_rises c (Entry e f g) p start bytes is =
 abbrev raw_keys : RawUnit → List ℕ
 raw_keys u = u.at ∷ u.root.at ∷ places_in u.below
 
-tree_rises : (c : UnitContext) (before : ℕ) (root : RawEntry) (below : Forest RawEntry) (start : ℕ) (bytes : List ℕ) → SpellsTree c before root below start bytes → RiseTo start (root.at ∷ places_in below) (start + length bytes)
+tree_rises : (c : UnitContext) (before : ℕ) (root : RawEntry) (below : Forest RawEntry) (start : ℕ) (bytes : List ℕ) → SpellsTree c before root below start bytes
+    → RiseTo start (root.at ∷ places_in below) (start + length bytes)
 tree_rises c before root below start bytes is =
     let a = length is.first_bytes in
     let some = entry_some c (root_position before) root start is.first_bytes is.first in
@@ -118,21 +122,26 @@ unit_rises abbrevs mode before u start bytes is =
     let head = length is.header in
     let some : 0 < head = omega (arith, header_some u.kind, is.is_header.size) in
     let tree = tree_rises is.context before u.root u.below (start + head) is.tree is.is_tree in
-    let end : start + head + length is.tree ≤ start + length bytes = omega (arith, ap length is.parts, length-append is.header (is.tree ++ is.padding), length-append is.tree is.padding) in
-    (omega (arith, is.place), rise_lower (suc u.at) (start + head) (u.root.at ∷ places_in u.below) (start + length bytes) (omega (arith, some, is.place)) (rise_more (start + head) (u.root.at ∷ places_in u.below) (start + head + length is.tree) (start + length bytes) end tree))
+    let end : start + head + length is.tree ≤ start + length bytes = omega (arith, ap length is.parts, length-append is.header (is.tree ++ is.padding), length-append is.tree is.padding) in (
+      omega (arith, is.place),
+      rise_lower (suc u.at) (start + head) (u.root.at ∷ places_in u.below) (start + length bytes) (omega (arith, some, is.place))
+          (rise_more (start + head) (u.root.at ∷ places_in u.below) (start + head + length is.tree) (start + length bytes) end tree),
+    )
 
 all_raw_keys : List RawUnit → List ℕ
 all_raw_keys [] = []
 all_raw_keys (u ∷ units) = raw_keys u ++ all_raw_keys units
 
-units_rise : (abbrevs : List ℕ) (mode : Mode) (before : ℕ) (units : List RawUnit) (start : ℕ) (bytes : List ℕ) → SpellsUnits abbrevs mode before units start bytes → RiseTo start (all_raw_keys units) (start + length bytes)
+units_rise : (abbrevs : List ℕ) (mode : Mode) (before : ℕ) (units : List RawUnit) (start : ℕ) (bytes : List ℕ) → SpellsUnits abbrevs mode before units start bytes
+    → RiseTo start (all_raw_keys units) (start + length bytes)
 unfolding all_raw_keys
 units_rise abbrevs mode before [] start bytes is = omega arith
 units_rise abbrevs mode before (u ∷ units) start bytes is =
     let a = unit_rises abbrevs mode before u start is.first_bytes is.first in
     let b = units_rise abbrevs mode (before + entry_count u) units (start + length is.first_bytes) is.second_bytes is.second in
     let end : start + length is.first_bytes + length is.second_bytes ≡ start + length bytes = omega (arith, ap length is.parts, length-append is.first_bytes is.second_bytes) in
-    subst (RiseTo start (raw_keys u ++ all_raw_keys units)) end (rise_append start (raw_keys u) (start + length is.first_bytes) (all_raw_keys units) (start + length is.first_bytes + length is.second_bytes) a b)
+    subst (RiseTo start (raw_keys u ++ all_raw_keys units)) end (rise_append start (raw_keys u) (start + length is.first_bytes) (all_raw_keys units)
+    (start + length is.first_bytes + length is.second_bytes) a b)
 
 -- ---- the same places in what they mean
 
@@ -147,7 +156,8 @@ module _ (sources : Sources) (all : List ℕ) where
   unit_places : (u : RawUnit) (v : DwUnit ℕ) → MeansUnit (own sources all) u v → unit_keys v ≡ raw_keys u
   unfolding unit_keys
   unit_places u v h =
-      ap (λ (w : ℕ). w ∷ v.root.at ∷ keys v.below) h.place ∙ ap (λ (w : ℕ). u.at ∷ w ∷ keys v.below) h.root.place ∙ ap (λ (w : List ℕ). u.at ∷ u.root.at ∷ w) (entries_places (scope_of (own sources all) u) u.below v.below refl h.below)
+      ap (λ (w : ℕ). w ∷ v.root.at ∷ keys v.below) h.place ∙ ap (λ (w : ℕ). u.at ∷ w ∷ keys v.below) h.root.place
+      ∙ ap (λ (w : List ℕ). u.at ∷ u.root.at ∷ w) (entries_places (scope_of (own sources all) u) u.below v.below refl h.below)
 
   units_places : (raw : List RawUnit) (units : List (DwUnit ℕ)) → MeanUnits (own sources all) raw units → units_keys units ≡ all_raw_keys raw
   unfolding units_keys all_raw_keys
@@ -174,9 +184,11 @@ record SpelledIn (abbrevs : List ℕ) (mode : Mode) (u : RawUnit) : Type 0 where
   bytes : List ℕ
   spelled : SpellsUnit abbrevs mode before u start bytes
 
-spelled_in : (abbrevs : List ℕ) (mode : Mode) (before : ℕ) (raw : List RawUnit) (start : ℕ) (bytes : List ℕ) → SpellsUnits abbrevs mode before raw start bytes → (u : RawUnit) → In u raw → SpelledIn abbrevs mode u
+spelled_in : (abbrevs : List ℕ) (mode : Mode) (before : ℕ) (raw : List RawUnit) (start : ℕ) (bytes : List ℕ) → SpellsUnits abbrevs mode before raw start bytes → (u : RawUnit) → In u raw
+    → SpelledIn abbrevs mode u
 spelled_in abbrevs mode before [] start bytes is u h = absurd h
-spelled_in abbrevs mode before (w ∷ raw) start bytes is u (inl x) = record { before = before; start = start; bytes = is.first_bytes; spelled = subst (λ (y : RawUnit). SpellsUnit abbrevs mode before y start is.first_bytes) x is.first }
+spelled_in abbrevs mode before (w ∷ raw) start bytes is u (inl x) =
+    record { before = before; start = start; bytes = is.first_bytes; spelled = subst (λ (y : RawUnit). SpellsUnit abbrevs mode before y start is.first_bytes) x is.first }
 spelled_in abbrevs mode before (w ∷ raw) start bytes is u (inr r) = spelled_in abbrevs mode (before + entry_count w) raw (start + length is.first_bytes) is.second_bytes is.second u r
 
 -- ---- no partial units
@@ -233,7 +245,8 @@ file_known : (s : Scope ℕ) (o : Option ℕ) (number : ℤ) (v : Value ℕ) →
 file_known s None number v h p is = only_known s _ v h.1 p is
 file_known s (Some place) number v h p is = only_known s _ v h.value p is
 
-constant_known : (s : Scope ℕ) (a : RawAttr) (v : Value ℕ) (b : Bool) → IfSo b (IsFileBy (stmt_list s) s (number_of a.raw) v) (v ≡ only (Num (kept_width a.pair.name a.pair.form (offset_of a)) (number_of a.raw))) → (p : ℕ) → In p v.refs → Known s p
+constant_known : (s : Scope ℕ) (a : RawAttr) (v : Value ℕ) (b : Bool) → IfSo b (IsFileBy (stmt_list s) s (number_of a.raw) v)
+    (v ≡ only (Num (kept_width a.pair.name a.pair.form (offset_of a)) (number_of a.raw))) → (p : ℕ) → In p v.refs → Known s p
 constant_known s a v true h p is = file_known s (stmt_list s) (number_of a.raw) v h p is
 constant_known s a v false h p is = only_known s _ v h p is
 
@@ -289,13 +302,15 @@ key_seen (Entry e f g) p (inr r) = elim (in_cases p (keys f) (keys g) r) [
   | inr b ↦ (let o = key_seen g p b in (o.0, inr (in_right o.0 (seen f) (seen g) o.1), o.2))
 ]
 
-unit_stands : (sources : Sources) (all : List ℕ) (u : RawUnit) (v : DwUnit ℕ) → MeansUnit (own sources all) u v → (units : List (DwUnit ℕ)) → In v units → (p : ℕ) → In p (places_of u) → StandsAt units p
+unit_stands : (sources : Sources) (all : List ℕ) (u : RawUnit) (v : DwUnit ℕ) → MeansUnit (own sources all) u v → (units : List (DwUnit ℕ)) → In v units → (p : ℕ) → In p (places_of u)
+    → StandsAt units p
 unit_stands sources all u v h units there p (inl x) = (see v.root v.below, root_seen units v there, h.root.place ∙ x)
 unit_stands sources all u v h units there p (inr r) =
     let o = key_seen v.below p (subst (In p) (sym (entries_places (scope_of (own sources all) u) u.below v.below refl h.below)) r) in
     (o.0, entry_seen units v o.0 there o.1, o.2)
 
-place_stands : (sources : Sources) (all : List ℕ) (raw : List RawUnit) (units whole : List (DwUnit ℕ)) → MeanUnits (own sources all) raw units → ((v : DwUnit ℕ) → In v units → In v whole) → (p : ℕ) → In p (all_places raw) → StandsAt whole p
+place_stands : (sources : Sources) (all : List ℕ) (raw : List RawUnit) (units whole : List (DwUnit ℕ)) → MeanUnits (own sources all) raw units → ((v : DwUnit ℕ) → In v units → In v whole) → (p : ℕ)
+    → In p (all_places raw) → StandsAt whole p
 unfolding all_places
 place_stands sources all [] [] whole h into p is = absurd is
 place_stands sources all (u ∷ raw) (v ∷ units) whole h into p is = elim (in_cases p (places_of u) (all_places raw) is) [
@@ -356,7 +371,8 @@ units_main from units are = λ u there signature main e.
 
 pub read_from : (l : Limits) (input : List ℕ) (raw : List RawUnit) (doc : Doc ℕ) → Reads l input raw doc → AreBytes (debug_info input) → WasReadFrom (sources_of input) doc.units
 read_from l input raw doc reads are =
-    let carried = units_carried (debug_abbrev input) (given l.entries) refl (OfFile (sources_of input)) (own (sources_of input) (all_places raw)) (λ s a same. ap (λ (w : Around ℕ). w.sources) same) raw doc.units 0 0 (debug_info input)
+    let carried = units_carried (debug_abbrev input) (given l.entries) refl (OfFile (sources_of input)) (own (sources_of input) (all_places raw)) (λ s a same. ap (λ (w : Around ℕ). w.sources) same)
+    raw doc.units 0 0 (debug_info input)
     reads.spelled reads.means are (units_built (sources_of input) (all_places raw) raw doc.units reads.means) in
     record {
       placed = read_placed (debug_abbrev input) (debug_info input) (given l.entries) raw (sources_of input) doc.units reads.spelled reads.means refl

@@ -1,19 +1,20 @@
 -- What all files say is shown by the units after, and each name has one place.
-use Rattle.std.proofs.Common.{◌≡◌, ◌⊎◌, ℕ, suc, ◌+◌, ◌<◌, Bool, true, false, List, [], ◌∷◌, ◌++◌, length, map, refl, sym, ap, subst, ◌∙◌, arith, cond, eqb, pos}
+use Rattle.std.proofs.Common.{◌≡◌, ◌⊎◌, ℕ, suc, ◌+◌, ◌<◌, Bool, true, false, List, [], ◌∷◌, length, map, refl, sym, ap, subst, ◌∙◌, arith, cond, eqb, pos}
 use Rattle.std.proofs.Math.Logic.{inl, inr}
 use Rattle.dwz_meanings.specs.Documents.{Attr, Doc, DwUnit, Entries, Node}
-use Rattle.dwz_docs.specs.Lists.{In}
+use Rattle.dwz_docs.specs.Lists.{Each, In}
 use Rattle.dwz_docs.specs.Trees.{End, Entry}
-use Rattle.dwz_alike.specs.Alike.{IsAlike, Scope}
+use Rattle.dwz_alike.specs.Alike.{IsAlike, TopScope}
 use Rattle.dwz_alike.specs.Spots.{Spot, file_numbers, same_spot, units_of}
-use Rattle.dwz_seen.specs.Lists.{Each, Nth}
+use Rattle.dwz_seen.specs.Lists.{Nth}
 use Rattle.dwz_seen.specs.Seen.{Named, IsShown, named_map, named_value}
 use Rattle.dwz_seen.specs.Shown.{AreShown, OnePlace, UnitsShown, units_keys}
-use Rattle.dwz_seen.proofs.Members.{in_cases}
 use Rattle.dwz_moving.specs.Homes.{IsChoice, Rule}
 use Rattle.dwz_same.specs.After.{ArePlaced, FilesSame, Place, at_file}
 use Rattle.dwz_same.specs.Units.{all_units, changes, common_units, file_units, out_units}
 use Rattle.dwz_same.proofs.FileLemmas.{files_same}
+use Rattle.dwz_same.proofs.ApartUnits.{keys_joined}
+use Rattle.dwz_same.proofs.OldFiles.{shown_append}
 use Rattle.dwz_writing.specs.Meant.{placed_attr, placed_entries, placed_node, placed_units}
 use Rattle.dwz_writing.specs.Placing.{FileFit, Fit, fit, fit_attr, fit_node, fit_unit, fit_units, unit_fit, with_form, with_keys}
 use Rattle.dwz_writing.specs.Writing.{Numbering}
@@ -24,9 +25,10 @@ use Rattle.dwz_writing.proofs.SameLemmas.{spots_same}
 use Rattle.dwz_back.specs.Back.{AreAtOld, IsPlacing, SameBack, all_back, back_units, files_back, run_of}
 use Rattle.dwz_back.specs.Files.{Run, Stored, common_fitted, common_forms, common_out, file_forms, file_out, files_out, fitted, fitted_if, formed, places, sources, uses}
 use Rattle.dwz_docs.specs.Pruning.{new_number}
+use Rattle.dwz_docs.proofs.ListFacts.{in_cases}
 use Rattle.dwz_writing.specs.Pruned.{renumbered, renumbered_attr, renumbered_node, renumbered_unit, renumbered_units}
 use Rattle.dwz_bytes.specs.Spelling.{reach}
-use Rattle.dwz_back.proofs.NameLemmas.{common_names, common_there, file_there, fitted_fixed, fitted_names, keys_append, run_once}
+use Rattle.dwz_back.proofs.NameLemmas.{common_names, common_there, file_there, fitted_fixed, fitted_names, run_once}
 
 -- ---- forms and numbers aren't seen
 
@@ -81,19 +83,14 @@ module _ {K P : Type 0} (n : Numbering K) (g : K → P) (number : ℕ → ℕ) w
     units_again units some is.1,
   )
 
-shown_append : {P Q : Type 0} (g : P → Q) (a b : List (DwUnit P)) (c d : List (DwUnit Q)) → UnitsShown g a c → UnitsShown g b d → UnitsShown g (a ++ b) (c ++ d)
-shown_append g [] b [] d h k = k
-shown_append g [] b (y ∷ c) d h k = absurd h
-shown_append g (x ∷ a) b [] d h k = absurd h
-shown_append g (x ∷ a) b (y ∷ c) d h k = (h.0, shown_append g a b c d h.1 k)
-
 pub numbers_in : (s : ℕ) (docs : List (Doc ℕ)) (file : ℕ) → In file (file_numbers s docs) → file < s + length docs
 unfolding file_numbers
 numbers_in s [] file is = absurd is
 numbers_in s (doc ∷ docs) file (inl e) = omega (arith, e)
 numbers_in s (doc ∷ docs) file (inr r) = (let o = numbers_in (suc s) docs file r in omega (arith, o))
 
-module _ (scope : Scope) (docs : List (Doc ℕ)) (rule : Rule) (placed : Each (λ doc. ArePlaced doc.units) docs) (is : IsAlike scope (units_of docs) rule.alike) (choice : IsChoice (units_of docs) rule)
+module _ (scope : TopScope) (docs : List (Doc ℕ)) (rule : Rule) (placed : Each (λ doc. ArePlaced doc.units) docs) (is : IsAlike scope (units_of docs) rule.alike)
+    (choice : IsChoice (units_of docs) rule)
     (input : Stored) (g : Spot → Place) (ok : IsPlacing (run_of rule docs input) g) (old : AreAtOld (run_of rule docs input) g docs) where
   abbrev r : Run
   r = run_of rule docs input
@@ -124,7 +121,8 @@ module _ (scope : Scope) (docs : List (Doc ℕ)) (rule : Rule) (placed : Each (�
     by true e = written_shown file
     by false e = old.shown file doc nth e
 
-  files_shown : (s : ℕ) (some : List (Doc ℕ)) → ((file : ℕ) (doc : Doc ℕ) → Nth s some file doc → Nth 0 docs file doc) → UnitsShown g (file_units r.move r.units (file_numbers s some)) (files_back r g s some)
+  files_shown : (s : ℕ) (some : List (Doc ℕ)) → ((file : ℕ) (doc : Doc ℕ) → Nth s some file doc → Nth 0 docs file doc)
+      → UnitsShown g (file_units r.move r.units (file_numbers s some)) (files_back r g s some)
   unfolding file_units files_back file_numbers
   files_shown s [] into = tt
   files_shown s (doc ∷ some) into =
@@ -132,7 +130,8 @@ module _ (scope : Scope) (docs : List (Doc ℕ)) (rule : Rule) (placed : Each (�
       (file_shown s doc (into s doc (inl (refl, refl)))) (files_shown (suc s) some (λ file d nth. into file d (inr nth)))
 
   all_shown : UnitsShown g (all_units r.move r.units r.files) (all_back r g docs)
-  all_shown = shown_append g (common_units r.move) (file_units r.move r.units r.files) (placed_units n g (common_fitted r)) (files_back r g 0 docs) common_shown (files_shown 0 docs (λ file d nth. nth))
+  all_shown = shown_append g (common_units r.move) (file_units r.move r.units r.files) (placed_units n g (common_fitted r)) (files_back r g 0 docs) common_shown
+      (files_shown 0 docs (λ file d nth. nth))
 
   -- ---- each name has one place
 
@@ -145,16 +144,18 @@ module _ (scope : Scope) (docs : List (Doc ℕ)) (rule : Rule) (placed : Each (�
   name_files : (files : List ℕ) → ((f : ℕ) → In f files → In f r.files) → (k : Spot) → In k (units_keys (file_units r.move r.units files)) → NameIn k
   unfolding file_units units_keys
   name_files [] into k h = absurd h
-  name_files (f ∷ files) into k h = elim (in_cases k (units_keys (out_units r.move r.units f)) (units_keys (file_units r.move r.units files)) (subst (In k) (keys_append (out_units r.move r.units f) (file_units r.move r.units files)) h)) [
-    | inl a ↦ record { file = f; there = into f (inl refl); is_in = a }
-    | inr b ↦ name_files files (λ x there. into x (inr there)) k b
-  ]
+  name_files (f ∷ files) into k h = elim (in_cases k (units_keys (out_units r.move r.units f)) (units_keys (file_units r.move r.units files))
+      (subst (In k) (keys_joined (out_units r.move r.units f) (file_units r.move r.units files)) h)) [
+        | inl a ↦ record { file = f; there = into f (inl refl); is_in = a }
+        | inr b ↦ name_files files (λ x there. into x (inr there)) k b
+      ]
 
   name_in : (k : Spot) → In k (units_keys (all_units r.move r.units r.files)) → In k (units_keys (common_units r.move)) ⊎ NameIn k
-  name_in k h = elim (in_cases k (units_keys (common_units r.move)) (units_keys (file_units r.move r.units r.files)) (subst (In k) (keys_append (common_units r.move) (file_units r.move r.units r.files)) h)) [
-    | inl a ↦ inl a
-    | inr b ↦ inr (name_files r.files (λ f there. there) k b)
-  ]
+  name_in k h = elim (in_cases k (units_keys (common_units r.move)) (units_keys (file_units r.move r.units r.files))
+      (subst (In k) (keys_joined (common_units r.move) (file_units r.move r.units r.files)) h)) [
+        | inl a ↦ inl a
+        | inr b ↦ inr (name_files r.files (λ f there. there) k b)
+      ]
 
   common_place : (k : Spot) → In k (units_keys (common_units r.move)) → at_file r.common (n.place k) ≡ g k
   common_place k h = ok.common k (subst (In k) (sym (common_names r)) h)

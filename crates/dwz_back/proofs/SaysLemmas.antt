@@ -5,18 +5,17 @@ use Rattle.dwz_docs.specs.ElfBack.{IsBackFault}
 use Rattle.dwz_meanings.specs.Files.{debug_abbrev, debug_aranges, debug_info, is_place_of, sources_of}
 use Rattle.dwz_meanings.specs.Patching.{of_units}
 use Rattle.dwz_meanings.specs.Ranges.{RangeSet, SpellsSets}
-use Rattle.dwz_docs.specs.Lists.{In}
+use Rattle.dwz_docs.specs.Lists.{Each, In}
 use Rattle.dwz_docs.specs.Texts.{IsTextAt}
 use Rattle.std.proofs.lemmas.List.{length-append}
 use Rattle.dwz_meanings.specs.Meanings.{Common, Sources}
 use Rattle.dwz_docs.specs.Units.{SpellsUnits}
 use Rattle.dwz_alike.specs.Spots.{Spot, same_spot}
-use Rattle.dwz_seen.specs.Lists.{Each, NoneTwice}
+use Rattle.dwz_seen.specs.Lists.{NoneTwice}
 use Rattle.dwz_seen.specs.Shown.{unit_keys, units_keys}
 use Rattle.dwz_seen.specs.Seen.{IsPartial}
 use Rattle.dwz_seen.proofs.ShownLemmas.{unit_key}
 use Rattle.dwz_back.proofs.RangeLemmas.{place_back, ranged_spell, written_there}
-use Rattle.dwz_seen.proofs.Members.{in_map}
 use Rattle.dwz_same.specs.After.{Place, at_file}
 use Rattle.dwz_same.specs.Units.{all_units, changes, common_units, out_units}
 use Rattle.dwz_writing.specs.Carried.{OfAny, OfFile}
@@ -39,8 +38,10 @@ use Rattle.dwz_writing.proofs.UnitsSpelled.{units_len}
 use Rattle.dwz_writing.proofs.WriteLaws.{fits, is_roomy, means, spelled}
 use Rattle.dwz_back.specs.Back.{CanWrite, IsPlacing, RangesBack, SaysPlaced, around_in, given_by}
 use Rattle.dwz_meanings.specs.Shared.{ListOperand, NoneShared, operands_in_lists}
-use Rattle.dwz_back.specs.Files.{HasCommon, HasSections, Run, common_fitted, common_forms, common_out, common_sections, file_forms, file_out, files_out, fitted, fitted_if, formed, imports_common, name_after, OffsetsIf, paths, place_of, places, sections_of, shared, shared_if, sources, strs_if, tells, tells_common, texts, uses}
+use Rattle.dwz_back.specs.Files.{HasCommon, HasSections, Run, common_fitted, common_forms, common_out, common_sections, file_forms, file_out, files_out, fitted, fitted_if, formed, imports_common}
+use Rattle.dwz_back.specs.Files.{name_after, OffsetsIf, paths, place_of, places, sections_of, shared, shared_if, sources, strs_if, tells, tells_common, texts, uses}
 use Rattle.dwz_docs.specs.Pruning.{new_number}
+use Rattle.dwz_docs.proofs.ListFacts.{in_map}
 use Rattle.dwz_writing.specs.Pruned.{with_texts}
 use Rattle.dwz_writing.proofs.PrunedUnits.{units_pruned}
 use Rattle.dwz_writing.proofs.Renumbered.{renumbered_room}
@@ -60,7 +61,14 @@ at_key u = inl refl
 -- no text stands where there are no bytes
 no_text : (at : ℕ) (text : List ℕ) → IsTextAt [] at text → ⊥
 no_text at text stands =
-    omega (arith, ap length stands.parts, ap length stands.spelled.parts, length-append stands.before (stands.front ++ stands.after), length-append stands.front stands.after, length-append text (0 ∷ []))
+    omega (
+      arith,
+      ap length stands.parts,
+      ap length stands.spelled.parts,
+      length-append stands.before (stands.front ++ stands.after),
+      length-append stands.front stands.after,
+      length-append text (0 ∷ []),
+    )
 
 no_operands : (o : ListOperand) → In o (operands_in_lists []) → ⊥
 unfolding operands_in_lists
@@ -150,7 +158,8 @@ module _ (r : Run) (can : CanWrite r) (g : Spot → Place) (ok : IsPlacing r g) 
           whole = refl;
           partial = refl;
           forms = refl;
-          spelled = subst (λ (info : List ℕ). SpellsUnits (debug_abbrev bytes) mode 0 raw 0 info) (sym s.info) (subst (λ (abbrevs : List ℕ). SpellsUnits abbrevs mode 0 raw 0 (sections n units).info) (sym s.abbrevs) spells);
+          spelled = subst (λ (info : List ℕ). SpellsUnits (debug_abbrev bytes) mode 0 raw 0 info) (sym s.info)
+              (subst (λ (abbrevs : List ℕ). SpellsUnits abbrevs mode 0 raw 0 (sections n units).info) (sym s.abbrevs) spells);
           means = meant;
           ranges = record { sets = sets.0; spelled = sets.1 };
           lists = units_share_none n g (tables_of [] units) t (units_keys units) (around_in common number bytes raw) around (λ k there. entries_are_keys units k (subst (In k) s.all there)) units
@@ -165,7 +174,8 @@ module _ (r : Run) (can : CanWrite r) (g : Spot → Place) (ok : IsPlacing r g) 
   unfolding common_fitted
   common_good small few =
       let c = can.common in
-      units_good (common_forms r) spots_same OfAny (tells_common r) (common_units r.move) common_all (subst NoneTwice (common_names r) (file_once (files_out r) (run_once r can.apart) (common_out r) (common_there r))) c.carried c.closed (λ k is. absurd is) (
+      units_good (common_forms r) spots_same OfAny (tells_common r) (common_units r.move) common_all
+      (subst NoneTwice (common_names r) (file_once (files_out r) (run_once r can.apart) (common_out r) (common_there r))) c.carried c.closed (λ k is. absurd is) (
         small,
         record {
           strs = refl;
@@ -213,9 +223,19 @@ module _ (r : Run) (can : CanWrite r) (g : Spot → Place) (ok : IsPlacing r g) 
   formed_good file there changed few =
       let names = fitted_names r file in
       let c = can.file file there changed in
-      units_good (file_forms r file) spots_same (OfFile (sources r file)) (tells r file) (out_units r.move r.units file) (fitted_entries r file) (subst NoneTwice names (file_once (files_out r) (run_once r can.apart) (file_out r file) (file_there r file there))) c.carried c.closed
-      (λ k common own. not_common r can.apart file there k (entries_are_keys (common_fitted r) k common) (subst (In k) (sym names) own))
-      (can.few file there, λ s a is. record { strs = ap (λ (x : Sources). x.strs) (sym is); line_strs = ap (λ (x : Sources). x.line_strs) (sym is); offsets = ap (λ (x : Sources). x.offsets) (sym is); line = ap (λ (x : Sources). x.line) (sym is); slots = ap (λ (x : Sources). x.offsets) (sym is) }, record { strs = refl; few = few }) c.over.bases c.over.operands
+      units_good (file_forms r file) spots_same (OfFile (sources r file)) (tells r file) (out_units r.move r.units file) (fitted_entries r file)
+      (subst NoneTwice names (file_once (files_out r) (run_once r can.apart) (file_out r file) (file_there r file there))) c.carried c.closed
+      (λ k common own. not_common r can.apart file there k (entries_are_keys (common_fitted r) k common) (subst (In k) (sym names) own)) (
+        can.few file there,
+        λ s a is. record {
+          strs = ap (λ (x : Sources). x.strs) (sym is);
+          line_strs = ap (λ (x : Sources). x.line_strs) (sym is);
+          offsets = ap (λ (x : Sources). x.offsets) (sym is);
+          line = ap (λ (x : Sources). x.line) (sym is);
+          slots = ap (λ (x : Sources). x.offsets) (sym is);
+        },
+        record { strs = refl; few = few },
+      ) c.over.bases c.over.operands
 
   -- where the file is pruned its units say the same of what stays
   file_good : (file : ℕ) → In file r.files → changes r.move r.units file ≡ true → length (texts_bytes (shared r file)) < 2 ^ 32 → (offsets : List ℕ) → OffsetsIf (r.input.prunes file) r file offsets
@@ -251,27 +271,28 @@ module _ (r : Run) (can : CanWrite r) (g : Spot → Place) (ok : IsPlacing r g) 
       → ((k : Spot) → In k (all_entry_keys (common_fitted r)) → (c : Common Place) × (common ≡ Some c) × In (n.place k) c.entries × (c.place (n.place k) ≡ g k))
       → length (texts_bytes (shared r file)) < 2 ^ 32 → ((at : ℕ) (text : List ℕ) → IsTextAt (texts_bytes (shared r file)) at text → (c : Common Place) × (common ≡ Some c) × IsTextAt c.strs at text)
       → SaysPlaced r g common file out (fitted r file)
-  with_common common out file there changed has small few given few_texts texts_given = said_placed (with_texts (tells r file) (strs_if (r.input.prunes file) r file) (sources_of out).offsets) common file out (fitted r file) (record {
-    all = refl;
-    good = file_good file there changed few_texts (sources_of out).offsets has.offsets;
-    stands = file_stands file there;
-    elf = has.elf;
-    info = has.info;
-    abbrevs = has.abbrevs;
-    strs = has.strs;
-    line_strs = has.line_strs;
-    offsets = refl;
-    line = has.line;
-    common_strs = texts_given;
-    none_shared = (can.file file there changed).over.lists;
-    lists = record { number = has.lists.number; are = has.lists.are; patched = has.lists.patched };
-    ranges = λ others good. (_, file_ranged file there out has others good);
-    room = file_room file there changed;
-    small = small;
-    common_few = few;
-    own = ok.written file there changed;
-    given = given;
-  })
+  with_common common out file there changed has small few given few_texts texts_given = said_placed (with_texts (tells r file) (strs_if (r.input.prunes file) r file) (sources_of out).offsets) common
+      file out (fitted r file) (record {
+        all = refl;
+        good = file_good file there changed few_texts (sources_of out).offsets has.offsets;
+        stands = file_stands file there;
+        elf = has.elf;
+        info = has.info;
+        abbrevs = has.abbrevs;
+        strs = has.strs;
+        line_strs = has.line_strs;
+        offsets = refl;
+        line = has.line;
+        common_strs = texts_given;
+        none_shared = (can.file file there changed).over.lists;
+        lists = record { number = has.lists.number; are = has.lists.are; patched = has.lists.patched };
+        ranges = λ others good. (_, file_ranged file there out has others good);
+        room = file_room file there changed;
+        small = small;
+        common_few = few;
+        own = ok.written file there changed;
+        given = given;
+      })
 
   -- the texts that a file shares are those of the common file
   shared_few : (common : List ℕ) → HasCommon common (common_sections r) (texts r) (paths r) → (b : Bool) → length (texts_bytes (shared_if b (texts r))) < 2 ^ 32

@@ -1,13 +1,16 @@
 -- The spaces of a partial unit hold names that were read.
 use Rattle.std.proofs.Common.{◌≡◌, ℕ, ℤ, Bool, true, false, List, [], ◌∷◌, ◌++◌, ◌==◌, Option, Some, None, cond, eqb, eqb-true, refl, sym, ap, subst, ◌∙◌, arith, inl, inr}
 use Rattle.dwz_docs.specs.Entries.{RawAttr}
-use Rattle.dwz_docs.specs.Lists.{In}
+use Rattle.dwz_docs.specs.Lists.{Each, In}
 use Rattle.dwz_docs.specs.Trees.{End, Entry}
+use Rattle.dwz_docs.proofs.ListFacts.{in_cases}
 use Rattle.dwz_meanings.specs.Documents.{Attr, Entries, Node, File, Sec, Text, Value, first_named, language, only, value_map}
-use Rattle.dwz_meanings.specs.Meanings.{Class, IfSo, IsFileBy, IsLocList, MeansAs, OfAddress, OfBlock, OfCommonEntry, OfCommonText, OfConstant, OfExpression, OfFlag, OfIndex, OfInfoEntry, OfListIndex, OfOffset, OfSignature, OfText, OfTextBySlot, OfTextInLineStr, OfTextInStr, OfUnitEntry, Scope, Unread, class_of, constant_value, names_file, names_list, number_of, offset_of, stmt_list}
-use Rattle.dwz_seen.specs.Lists.{Each, Nth}
+use Rattle.dwz_meanings.specs.Meanings.{Class, IfSo, IsFileBy, IsLocList, MeansAs, OfAddress, OfBlock, OfCommonEntry, OfCommonText, OfConstant, OfExpression, OfFlag, OfIndex, OfInfoEntry, OfListIndex}
+use Rattle.dwz_meanings.specs.Meanings.{OfOffset, OfSignature, OfText, OfTextBySlot, OfTextInLineStr, OfTextInStr, OfUnitEntry, Scope, Unread, class_of, constant_value, names_file, names_list}
+use Rattle.dwz_meanings.specs.Meanings.{number_of, offset_of, stmt_list}
+use Rattle.dwz_seen.specs.Lists.{Nth}
 use Rattle.dwz_seen.specs.Spaces.{space_text, text_at, text_in}
-use Rattle.dwz_seen.proofs.Members.{each_append, each_in, in_cases}
+use Rattle.dwz_seen.proofs.Members.{each_append, each_in}
 use Rattle.dwz_alike.specs.Spots.{ASpace, ATop, FileUnit, Nothing, Row, SpaceName, Spot, Top, name_by, name_of, row_of, row_tops, tops_of}
 use Rattle.dwz_alike.proofs.RowLemmas.{RowIs, unit_row}
 use Rattle.dwz_alike.proofs.Tops.{unit_of}
@@ -33,7 +36,8 @@ module _ {P : Type 0} (text : List ℕ) where
   file_text s None number v h is = no_text v (only (File None)) h.1 refl is
   file_text s (Some place) number v h is = no_text v (only (File (Some h.path))) h.value refl is
 
-  constant_text : (s : Scope P) (a : RawAttr) (v : Value P) (b : Bool) → IfSo b (IsFileBy (stmt_list s) s (number_of a.raw) v) (v ≡ constant_value a) → text_in v.plain ≡ Some text → v ≡ only (Text text)
+  constant_text : (s : Scope P) (a : RawAttr) (v : Value P) (b : Bool) → IfSo b (IsFileBy (stmt_list s) s (number_of a.raw) v) (v ≡ constant_value a) → text_in v.plain ≡ Some text
+      → v ≡ only (Text text)
   constant_text s a v true h is = file_text s (stmt_list s) (number_of a.raw) v h is
   constant_text s a v false h is = no_text v (constant_value a) h refl is
 
@@ -102,7 +106,8 @@ module _ (from : From) (origin : Bases) where
         (subst (λ (v : Value Spot). CarriedAttr {K = Spot} from origin (record { name = a.name; form = a.form; raw = a.raw; value = v })) value c)
 
   module _ (file unit : ℕ) (tongue : Option ℤ) where
-    row_names : (spaces : List SpaceName) (n : ℕ) (row : Row) (f : Entries Spot) → RowIs file unit tongue spaces n row f → Each NameCarried spaces → CarriedEntries from origin f → (t : Top) → In t (row_tops row) → Each NameCarried t.spaces
+    row_names : (spaces : List SpaceName) (n : ℕ) (row : Row) (f : Entries Spot) → RowIs file unit tongue spaces n row f → Each NameCarried spaces → CarriedEntries from origin f → (t : Top)
+        → In t (row_tops row) → Each NameCarried t.spaces
     unfolding row_tops
     row_names spaces n Nothing f h names carried t is = absurd is
     row_names spaces n (ATop u row) (Entry e f g) h names carried t (inl x) = subst (λ (w : Top). Each NameCarried w.spaces) (h.1 ∙ x) names
@@ -115,7 +120,8 @@ module _ (from : From) (origin : Bases) where
     row_names spaces n (ASpace d inner row) End h names carried t is = absurd h
 
 -- the names of the spaces that a top stands in
-pub top_names : (from : From) (units : List (FileUnit Spot)) (t : Top) → In t (tops_of units) → ((i : ℕ) (u : FileUnit Spot) → Nth 0 units i u → u.file ≡ t.file → CarriedUnit from (bases_in u.unit) u.unit)
+pub top_names : (from : From) (units : List (FileUnit Spot)) (t : Top) → In t (tops_of units)
+    → ((i : ℕ) (u : FileUnit Spot) → Nth 0 units i u → u.file ≡ t.file → CarriedUnit from (bases_in u.unit) u.unit)
     → (s : SpaceName) → In s t.spaces → NameCarried from (bases_at units t.unit) s
 top_names from units t there are s is =
     let o = unit_of units t there in

@@ -11,7 +11,10 @@ use Rattle.dwz_meanings.specs.Documents.{Attr, DwUnit, Entries, Expr, File, Kind
 use Rattle.dwz_meanings.specs.Exprs.{ExprContext, SpellsExpr, parts_of}
 use Rattle.dwz_meanings.specs.LocLists.{SpellsList}
 use Rattle.dwz_meanings.specs.Sequences.{StandsFrom}
-use Rattle.dwz_meanings.specs.Meanings.{Around, Class, Common, IfSo, IsExpression, IsFileBy, IsLocList, IsTextIn, MeanAttrs, MeanEntries, MeanUnits, MeansAs, MeansKind, MeansNode, OfAddress, OfBlock, OfCommonEntry, OfCommonText, OfConstant, OfExpression, OfFlag, OfIndex, OfInfoEntry, OfListIndex, OfOffset, OfSignature, OfText, OfTextBySlot, OfTextInLineStr, OfTextInStr, OfUnitEntry, Scope, Unread, bytes_of, class_of, constant_value, content_at, entries_for, expr_context, leads_to, names_file, names_list, number_of, offset_of, scope_of, stmt_list, target_of, targets, without_siblings}
+use Rattle.dwz_meanings.specs.Meanings.{Around, Class, Common, IfSo, IsExpression, IsFileBy, IsLocList, IsTextIn, MeanAttrs, MeanEntries, MeanUnits, MeansAs, MeansKind, MeansNode, OfAddress, OfBlock}
+use Rattle.dwz_meanings.specs.Meanings.{OfCommonEntry, OfCommonText, OfConstant, OfExpression, OfFlag, OfIndex, OfInfoEntry, OfListIndex, OfOffset, OfSignature, OfText, OfTextBySlot, OfTextInLineStr}
+use Rattle.dwz_meanings.specs.Meanings.{OfTextInStr, OfUnitEntry, Scope, Unread, bytes_of, class_of, constant_value, content_at, entries_for, expr_context, leads_to, names_file, names_list, number_of}
+use Rattle.dwz_meanings.specs.Meanings.{offset_of, scope_of, stmt_list, target_of, targets, without_siblings}
 use Rattle.dwz_meanings.specs.Shared.{operands_of}
 
 -- the same sections, with other places, and beside a common file
@@ -67,11 +70,13 @@ module _ {P Q : Type 0} (f : P → Q) (common : Option (Common Q)) (s : Scope P)
   file_there None number v h = (h.0, only_there (File None) v h.1)
   file_there (Some place) number v h = record { table = h.table; stands = h.stands; path = h.path; is_path = h.is_path; value = only_there (File (Some h.path)) v h.value }
 
-  constant_there : (b : Bool) (a : RawAttr) (v : Value P) → IfSo b (IsFileBy (stmt_list s) s (number_of a.raw) v) (v ≡ constant_value a) → IfSo b (IsFileBy (stmt_list s) there (number_of a.raw) (value_map f v)) (value_map f v ≡ constant_value a)
+  constant_there : (b : Bool) (a : RawAttr) (v : Value P) → IfSo b (IsFileBy (stmt_list s) s (number_of a.raw) v) (v ≡ constant_value a)
+      → IfSo b (IsFileBy (stmt_list s) there (number_of a.raw) (value_map f v)) (value_map f v ≡ constant_value a)
   constant_there true a v h = file_there (stmt_list s) (number_of a.raw) v h
   constant_there false a v h = ap (λ (w : Value P). value_map f w) h
 
-  offset_there : (b : Bool) (a : RawAttr) (v : Value P) → IfSo b (IsLocList s (offset_of a) v) (v ≡ only (Sec (offset_of a))) → IfSo b (IsLocList there (offset_of a) (value_map f v)) (value_map f v ≡ only (Sec (offset_of a)))
+  offset_there : (b : Bool) (a : RawAttr) (v : Value P) → IfSo b (IsLocList s (offset_of a) v) (v ≡ only (Sec (offset_of a)))
+      → IfSo b (IsLocList there (offset_of a) (value_map f v)) (value_map f v ≡ only (Sec (offset_of a)))
   offset_there true a v h = list_there (offset_of a) v h
   offset_there false a v h = ap (λ (w : Value P). value_map f w) h
 
@@ -116,7 +121,8 @@ module _ {P Q : Type 0} (f : P → Q) (common : Option (Common Q)) (s : Scope P)
   kind_there PartialUnit m h = ap (kind_map f) h
   kind_there (TypeUnit signature type_offset) m h = (h.0, ap (kind_map f) h.1)
 
-pub units_there : {P Q : Type 0} (f : P → Q) (common : Option (Common Q)) (around : Around P) → around.common ≡ None → (raw : List RawUnit) (units : List (DwUnit P)) → MeanUnits around raw units → MeanUnits (beside f common around) raw (map (unit_map f) units)
+pub units_there : {P Q : Type 0} (f : P → Q) (common : Option (Common Q)) (around : Around P) → around.common ≡ None → (raw : List RawUnit) (units : List (DwUnit P)) → MeanUnits around raw units
+    → MeanUnits (beside f common around) raw (map (unit_map f) units)
 units_there f common around none [] [] h = tt
 units_there f common around none (u ∷ raw) (v ∷ units) h =
     let s = scope_of around u in (

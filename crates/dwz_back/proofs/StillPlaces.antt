@@ -1,16 +1,17 @@
 -- There are places for all names: those where names are written, and in a file of which nothing moves the old ones.
 use Rattle.std.proofs.Common.{◌≡◌, ℕ, suc, Bool, true, false, List, [], ◌∷◌, ◌==◌, ◌||◌, map, refl, sym, ap, subst, ◌∙◌, arith, inl, inr}
 use Rattle.std.proofs.lemmas.Bool.{eq-eqb, ne_eqb, or_left, or_right}
-use Rattle.dwz_docs.specs.Lists.{In}
+use Rattle.dwz_docs.specs.Lists.{Each, In}
 use Rattle.dwz_docs.specs.Trees.{End, Entry}
+use Rattle.dwz_docs.proofs.ListFacts.{in_left, in_right}
 use Rattle.dwz_meanings.specs.Documents.{Compile, Doc, DwUnit, Entries, Kind, Node, OfType, Partial, kind_map, unit_map}
-use Rattle.dwz_seen.specs.Lists.{Each, Nth}
+use Rattle.dwz_seen.specs.Lists.{Nth}
 use Rattle.dwz_seen.specs.Seen.{Closed, IsShown, Named, Seen, all_seen, named_map, named_value, see, seen, seen_below, seen_roots}
 use Rattle.dwz_seen.specs.Shown.{AreShown, HaveMains, OnePlace, UnitsShown, unit_keys, units_keys}
-use Rattle.dwz_seen.proofs.Members.{in_left, in_right, nth_from}
+use Rattle.dwz_seen.proofs.Members.{nth_from}
 use Rattle.dwz_seen.proofs.SeenLemmas.{root_in, seen_in}
 use Rattle.dwz_seen.proofs.ShownLemmas.{entry_key, map_shown, shown_then, unit_key}
-use Rattle.dwz_alike.specs.Alike.{IsAlike, Scope}
+use Rattle.dwz_alike.specs.Alike.{IsAlike, TopScope}
 use Rattle.dwz_alike.specs.Spots.{Spot, file_numbers, units_of}
 use Rattle.dwz_moving.specs.Homes.{IsChoice, Rule}
 use Rattle.dwz_same.specs.After.{ArePlaced, FilesSame, Place, StandsAt, at_file}
@@ -113,11 +114,13 @@ module _ (out : ℕ → List (DwUnit Spot)) (moves : ℕ → Bool) where
             | inl x ↦
                 (let here : (own == file) ≡ true = eq-eqb own file x.0 in
                 subst (λ (b : Bool). UnitsShown (choose b s.place (rest.place file)) (out file) doc.units × OnePlace (choose b s.place (rest.place file)) (out file)) (sym here)
-                (subst (λ (w : Doc ℕ). UnitsShown s.place (out file) w.units × OnePlace s.place (out file)) x.1 (subst (λ (n : ℕ). UnitsShown s.place (out n) d.units × OnePlace s.place (out n)) x.0 (s.shown, s.one))))
+                (subst (λ (w : Doc ℕ). UnitsShown s.place (out file) w.units × OnePlace s.place (out file)) x.1
+                (subst (λ (n : ℕ). UnitsShown s.place (out n) d.units × OnePlace s.place (out n)) x.0 (s.shown, s.one))))
             | inr r ↦
                 (let ne : own ≡ file → ⊥ = λ q. omega (arith, q, nth_from (suc own) docs file doc r) in
                 let later : (own == file) ≡ false = ne_eqb own file ne in
-                subst (λ (b : Bool). UnitsShown (choose b s.place (rest.place file)) (out file) doc.units × OnePlace (choose b s.place (rest.place file)) (out file)) (sym later) (rest.are file doc r still))
+                subst (λ (b : Bool). UnitsShown (choose b s.place (rest.place file)) (out file) doc.units × OnePlace (choose b s.place (rest.place file)) (out file)) (sym later)
+                (rest.are file doc r still))
           ];
         }
 
@@ -129,7 +132,7 @@ nth_number s [] file doc h = absurd h
 nth_number s (d ∷ docs) file doc (inl x) = inl x.0
 nth_number s (d ∷ docs) file doc (inr r) = inr (nth_number (suc s) docs file doc r)
 
-number_nth : (s : ℕ) (docs : List (Doc ℕ)) (file : ℕ) → In file (file_numbers s docs) → (doc : Doc ℕ) × Nth s docs file doc
+pub number_nth : (s : ℕ) (docs : List (Doc ℕ)) (file : ℕ) → In file (file_numbers s docs) → (doc : Doc ℕ) × Nth s docs file doc
 unfolding file_numbers
 number_nth s [] file h = absurd h
 number_nth s (d ∷ docs) file (inl e) = (d, inl (e, refl))
@@ -137,7 +140,8 @@ number_nth s (d ∷ docs) file (inr r) = (let o = number_nth (suc s) docs file r
 
 -- ---- the places
 
-module _ (scope : Scope) (docs : List (Doc ℕ)) (rule : Rule) (placed : Each (λ doc. ArePlaced doc.units) docs) (is : IsAlike scope (units_of docs) rule.alike) (choice : IsChoice (units_of docs) rule)
+module _ (scope : TopScope) (docs : List (Doc ℕ)) (rule : Rule) (placed : Each (λ doc. ArePlaced doc.units) docs) (is : IsAlike scope (units_of docs) rule.alike)
+    (choice : IsChoice (units_of docs) rule)
     (input : Stored) where
   abbrev r : Run
   r = run_of rule docs input

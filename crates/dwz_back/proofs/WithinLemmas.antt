@@ -2,15 +2,16 @@
 use Rattle.std.proofs.Common.{◌≡◌, ◌⊎◌, ℕ, suc, ◌+◌, length, Bool, true, false, List, [], ◌∷◌, ◌++◌, ◌==◌, map, refl, sym, ap, subst, ◌∙◌, arith, inl, inr, eq-eqb, eqb-true}
 use Rattle.std.proofs.lemmas.List.{append_assoc}
 use Rattle.dwz_meanings.specs.Documents.{Attr, Compile, Doc, DwUnit, Entries, Kind, Node, OfType, Partial, attr_map, entries_map, language}
-use Rattle.dwz_docs.specs.Lists.{In}
+use Rattle.dwz_docs.specs.Lists.{Each, In}
 use Rattle.dwz_docs.specs.Trees.{End, Entry}
-use Rattle.dwz_seen.specs.Lists.{Each, Nth}
+use Rattle.dwz_docs.proofs.ListFacts.{in_cases, in_left, in_map, in_right}
+use Rattle.dwz_seen.specs.Lists.{Nth}
 use Rattle.dwz_seen.specs.Seen.{Closed, Named, Seen, all_seen, named_map, named_value, see, seen, seen_below, seen_map, seen_roots}
-use Rattle.dwz_seen.proofs.Members.{each_in, in_cases, in_filter, in_filter_from, in_left, in_map, in_map_from, in_nth, in_right, nth_in}
+use Rattle.dwz_seen.proofs.Members.{each_in, in_filter, in_filter_from, in_map_from, in_nth, nth_in}
 use Rattle.dwz_seen.proofs.SeenLemmas.{entry_seen, names_map, root_from, root_seen, seen_entries, seen_from, seen_in}
 use Rattle.dwz_seen.proofs.ShownLemmas.{attr_from, closed_shown, map_shown}
 use Rattle.dwz_seen.specs.Spaces.{IsUnder}
-use Rattle.dwz_alike.specs.Alike.{IsAlike, Scope}
+use Rattle.dwz_alike.specs.Alike.{IsAlike, TopScope}
 use Rattle.dwz_alike.specs.Spots.{FileUnit, PartialRoot, Spot, Top, name_list, row_of, row_tops, tops_of, units_of, in_file, named, named_files, spot_in, spots_from, tops_among as tops_count}
 use Rattle.dwz_alike.proofs.RowLemmas.{unit_row}
 use Rattle.dwz_alike.proofs.Tops.{row_top, unit_of}
@@ -75,11 +76,15 @@ parts_to m h s (p ∷ parts) n part (inr r) e = by (same_home p.home h) (parts_t
   by true k = inr k
   by false k = k
 
-pub kept_to : (m : Move) (all : List (FileUnit Spot)) (file s : ℕ) (some : List (FileUnit Spot)) (i : ℕ) (u : FileUnit Spot) → Nth s some i u → u.file ≡ file → In (kept_unit m all i u) (kept_units m all file s some)
+pub kept_to : (m : Move) (all : List (FileUnit Spot)) (file s : ℕ) (some : List (FileUnit Spot)) (i : ℕ) (u : FileUnit Spot) → Nth s some i u → u.file ≡ file
+    → In (kept_unit m all i u) (kept_units m all file s some)
 unfolding kept_units
 kept_to m all file s [] i u nth e = absurd nth
 kept_to m all file s (w ∷ some) i u (inl x) e = here (w.file == file) (eq-eqb w.file file (ap (λ (y : FileUnit Spot). y.file) x.1 ∙ e)) where
-  here : (b : Bool) → b ≡ true → In (kept_unit m all i u) (elim b as (λ _. List (DwUnit Spot)) [ true ↦ kept_unit m all s w ∷ kept_units m all file (suc s) some | false ↦ kept_units m all file (suc s) some ])
+  here : (b : Bool) → b ≡ true → In (kept_unit m all i u) (elim b as (λ _. List (DwUnit Spot)) [
+    | true ↦ kept_unit m all s w ∷ kept_units m all file (suc s) some
+    | false ↦ kept_units m all file (suc s) some
+  ])
   here true q = inl (ap (λ (j : ℕ). kept_unit m all j w) x.0 ∙ ap (λ (y : FileUnit Spot). kept_unit m all i y) x.1)
   here false q = absurd cc
 kept_to m all file s (w ∷ some) i u (inr r) e = by (w.file == file) (kept_to m all file (suc s) some i u r e) where
@@ -88,7 +93,8 @@ kept_to m all file s (w ∷ some) i u (inr r) e = by (w.file == file) (kept_to m
   by true k = inr k
   by false k = k
 
-module _ (scope : Scope) (units : List (FileUnit Spot)) (rule : Rule) (is : IsAlike scope units rule.alike) (choice : IsChoice units rule) (files : List ℕ) (old : AreOld units) (held : IsHeld units (plan rule units files)) (file : ℕ) where
+module _ (scope : TopScope) (units : List (FileUnit Spot)) (rule : Rule) (is : IsAlike scope units rule.alike) (choice : IsChoice units rule) (files : List ℕ) (old : AreOld units)
+    (held : IsHeld units (plan rule units files)) (file : ℕ) where
   abbrev m : Move
   m = plan rule units files
 
@@ -119,7 +125,8 @@ module _ (scope : Scope) (units : List (FileUnit Spot)) (rule : Rule) (is : IsAl
   unfolding out_units common_units
   new_in n part nth i user e = by part.home refl (part_home n part nth) where
     by : (h : Home) → part.home ≡ h → IsHome units part.users h → In (partial_unit m n) outs
-    by Common p is_at = in_left (partial_unit m n) (partial_units m Common 0 m.parts) (partial_units m (Local file) 0 m.parts ++ kept_units m units file 0 units) (parts_to m Common 0 m.parts n part nth p)
+    by Common p is_at = in_left (partial_unit m n) (partial_units m Common 0 m.parts) (partial_units m (Local file) 0 m.parts ++ kept_units m units file 0 units)
+        (parts_to m Common 0 m.parts n part nth p)
     by (Local own) p is_at =
         (let same : own ≡ file = sym (is_at.5 i user) ∙ e in
         in_right (partial_unit m n) (partial_units m Common 0 m.parts) (partial_units m (Local file) 0 m.parts ++ kept_units m units file 0 units)
@@ -143,7 +150,8 @@ module _ (scope : Scope) (units : List (FileUnit Spot)) (rule : Rule) (is : IsAl
         let new = new_in o.number o.part o.nth t.unit o.user (ap (file_of units) own ∙ unit_file) in
         seen_in outs (partial_unit m o.number) e new (tree_seen f (m.rows o.number) End (name_list t) o.top o.has e (subst (λ (w : List (Seen Spot)). In e w) o.same h))
 
-    top_there : u.unit.kind ≡ Compile → (t : Top) → In t (row_tops (row_of units i)) → (b : Bool) → m.gone t.number ≡ b → changes m units u.file ≡ true → (e : Seen Spot) → In e (raw_top t) → In (seen_map f e) (seen_below outs)
+    top_there : u.unit.kind ≡ Compile → (t : Top) → In t (row_tops (row_of units i)) → (b : Bool) → m.gone t.number ≡ b → changes m units u.file ≡ true → (e : Seen Spot) → In e (raw_top t)
+        → In (seen_map f e) (seen_below outs)
     top_there kind t in_row true mv change e h =
         let own = row_top units i t in_row in
         moved_seen t own.0 own.1 mv (seen_map f e) (subst (λ (w : List (Seen Spot)). In (seen_map f e) w) (sym (seen_top_map f t)) (in_map (seen_map f) e (raw_top t) h))
@@ -226,7 +234,8 @@ module _ (scope : Scope) (units : List (FileUnit Spot)) (rule : Rule) (is : IsAl
 
     changed_origin : u.unit.kind ≡ Compile → (e : Seen Spot) → In e (seen (tree f (kept_row m.gone units i) (imports i 0 m.parts))) → Comes e
     changed_origin kind e h =
-        go (tree_origin f (kept_row m.gone units i) (imports i 0 m.parts) (kept_kinded m.gone units i (row_kinded u.file i (language u.unit) [] (unit_row units i u nth kind).first (row_of units i) u.unit.below (unit_row units i u nth kind).is)) e h)
+        go (tree_origin f (kept_row m.gone units i) (imports i 0 m.parts)
+        (kept_kinded m.gone units i (row_kinded u.file i (language u.unit) [] (unit_row units i u nth kind).first (row_of units i) u.unit.below (unit_row units i u nth kind).is)) e h)
       where
         go : TreeOrigin f (kept_row m.gone units i) (imports i 0 m.parts) e → Comes e
         go (OfATop names t has x) =
@@ -284,7 +293,8 @@ module _ (scope : Scope) (units : List (FileUnit Spot)) (rule : Rule) (is : IsAl
   import_ref i n a q (inr r) there = absurd r
 
   -- after, each names an entry of it, or of the common file
-  pub refs_stand : ClosedBefore → (e : Seen Spot) (a : Named Spot) (q : Spot) → In e (all_seen (out_units m units file)) → In a e.attrs → In q a.value.refs → (d : Seen Spot) × In d (all_seen outs) × (d.at ≡ q)
+  pub refs_stand : ClosedBefore → (e : Seen Spot) (a : Named Spot) (q : Spot) → In e (all_seen (out_units m units file)) → In a e.attrs → In q a.value.refs
+      → (d : Seen Spot) × In d (all_seen outs) × (d.at ≡ q)
   refs_stand closed e a q there attr ref = go (origin e there) where
     go : Comes e → Stands q
     go (OfOld d is_old attrs) =
@@ -331,7 +341,8 @@ module _ (scope : Scope) (units : List (FileUnit Spot)) (rule : Rule) (is : IsAl
     | inr b ↦ (let o = seen_from (units_at file units) d b in from_unit d o.unit o.there (inr o.is))
   ]
 
-  pub refs_within : Closed (units_at file units) → (e : Seen Spot) (a : Named Spot) (q : Spot) → In e (all_seen (out_units m units file)) → In a e.attrs → In q a.value.refs → In q (all_entry_keys (common_units m ++ out_units m units file))
+  pub refs_within : Closed (units_at file units) → (e : Seen Spot) (a : Named Spot) (q : Spot) → In e (all_seen (out_units m units file)) → In a e.attrs → In q a.value.refs
+      → In q (all_entry_keys (common_units m ++ out_units m units file))
   refs_within closed e a q there attr ref =
       let before : ClosedBefore = λ d b k is_old b_in k_in. (let c = closed d b k (to_seen d is_old) b_in k_in in (c.0, from_seen c.0 c.1, c.2)) in
       let o = refs_stand before e a q there attr ref in
@@ -366,16 +377,18 @@ closed_at file own unit top (doc ∷ docs) placed =
     let block = map (in_file own) (named unit top doc.units) in
     let rest = named_files (suc own) (unit + length doc.units) (top + tops_count doc.units) docs in
     subst (λ (w : List (DwUnit Spot)). Closed w) (sym (at_append file block rest))
-    (closed_append (units_at file block) (units_at file rest) (block_closed file own unit top doc placed.0) (closed_at file (suc own) (unit + length doc.units) (top + tops_count doc.units) docs placed.1))
+    (closed_append (units_at file block) (units_at file rest) (block_closed file own unit top doc placed.0)
+    (closed_at file (suc own) (unit + length doc.units) (top + tops_count doc.units) docs placed.1))
 
 -- each reference of a file names an entry of it, or of the common file
-pub within : (scope : Scope) (docs : List (Doc ℕ)) (rule : Rule) → Each (λ doc. ArePlaced doc.units) docs → IsAlike scope (units_of docs) rule.alike → IsChoice (units_of docs) rule
+pub within : (scope : TopScope) (docs : List (Doc ℕ)) (rule : Rule) → Each (λ doc. ArePlaced doc.units) docs → IsAlike scope (units_of docs) rule.alike → IsChoice (units_of docs) rule
     → (input : Stored) (file : ℕ) → ClosedIn (tells (run_of rule docs input) file) (out_units (run_of rule docs input).move (units_of docs) file)
 within scope docs rule placed is choice input file e a k there attr ref =
     let r = run_of rule docs input in
     let whole = replaced scope docs rule placed is choice in
     let found = refs_within scope (units_of docs) rule is choice r.files whole.old whole.held file (closed_at file 0 0 0 docs placed) e a k there attr ref in
-    elim (in_cases k (all_entry_keys (common_units r.move)) (all_entry_keys (out_units r.move r.units file)) (subst (In k) (entries_append (common_units r.move) (out_units r.move r.units file)) found)) [
+    elim (in_cases k (all_entry_keys (common_units r.move)) (all_entry_keys (out_units r.move r.units file))
+    (subst (In k) (entries_append (common_units r.move) (out_units r.move r.units file)) found)) [
       | inl common ↦ inr (subst (In k) (sym (common_entries r)) common)
       | inr own ↦ inl (subst (In k) (sym (fitted_entries r file)) own)
     ]

@@ -7,7 +7,7 @@ use Rattle.dwz_meanings.specs.Documents.{Doc, unit_map}
 use Rattle.dwz_meanings.specs.Meanings.{Common}
 use Rattle.dwz_meanings.specs.Files.{Limits, Reads, debug_info}
 use Rattle.dwz_seen.specs.Lists.{Nth}
-use Rattle.dwz_alike.specs.Alike.{IsAlike, Scope}
+use Rattle.dwz_alike.specs.Alike.{IsAlike, TopScope}
 use Rattle.dwz_alike.specs.Spots.{Spot, units_of}
 use Rattle.dwz_moving.specs.Homes.{IsChoice, Rule}
 use Rattle.dwz_same.specs.After.{Place, at_file}
@@ -59,7 +59,8 @@ given_if r g (Some bytes) says = Some (given_by r.common bytes says.raw)
 
 -- The common file says its units, at these places; with it, or without one, each file of which something moves says its own, and has its
 -- address ranges, and a file that stays as it was read says what it said. All files together say the same as what was read.
-pub record AllBack (scope : Scope) (docs : List (Doc ℕ)) (rule : Rule) (input : Stored) (output : ℕ → List ℕ) (common_bytes : Option (List ℕ))
+pub record AllBack (scope : TopScope) (docs : List (Doc ℕ)) (rule : Rule) (input : Stored) (output : ℕ → List ℕ)
+    (common_bytes : Option (List ℕ))
     (g : Spot → Place) : Type 0 where
   pub common : CommonSays (run_of rule docs input) g common_bytes
   pub file : (file : ℕ) → In file (run_of rule docs input).files → changes (run_of rule docs input).move (units_of docs) file ≡ true
@@ -73,7 +74,7 @@ pub record AllBack (scope : Scope) (docs : List (Doc ℕ)) (rule : Rule) (input 
   pub same : SameBack scope docs rule input g
 
 -- so it is at some places for names: those where they are written, and in files of which nothing moves the old ones
-pub record ReadBack (scope : Scope) (docs : List (Doc ℕ)) (rule : Rule) (input : Stored) (output : ℕ → List ℕ)
+pub record ReadBack (scope : TopScope) (docs : List (Doc ℕ)) (rule : Rule) (input : Stored) (output : ℕ → List ℕ)
     (common_bytes : Option (List ℕ)) : Type 0 where
   pub place : Spot → Place
   pub placing : IsPlacing (run_of rule docs input) place
@@ -83,14 +84,16 @@ pub record ReadBack (scope : Scope) (docs : List (Doc ℕ)) (rule : Rule) (input
 -- files that read can be written
 abbrev pub CanWriteLaw : Type 0
 CanWriteLaw =
-    (scope : Scope) (docs : List (Doc ℕ)) (input : Stored) → AreRead input docs → (rule : Rule) → IsAlike scope (units_of docs) rule.alike
+    (scope : TopScope) (docs : List (Doc ℕ)) (input : Stored) → AreRead input docs → (rule : Rule)
+    → IsAlike scope (units_of docs) rule.alike
     → IsChoice (units_of docs) rule
     → AreOver (run_of rule docs input) → CanWrite (run_of rule docs input)
 
 -- and what was made of them reads back as all that was read
 abbrev pub AllBackLaw : Type 0
 AllBackLaw =
-    (scope : Scope) (docs : List (Doc ℕ)) (input : Stored) → AreRead input docs → (rule : Rule) → IsAlike scope (units_of docs) rule.alike
+    (scope : TopScope) (docs : List (Doc ℕ)) (input : Stored) → AreRead input docs → (rule : Rule)
+    → IsAlike scope (units_of docs) rule.alike
     → IsChoice (units_of docs) rule
     → AreOver (run_of rule docs input) → (output : ℕ → List ℕ) (common : Option (List ℕ)) → AreMade (run_of rule docs input) output common
     → ReadBack scope docs rule input output common

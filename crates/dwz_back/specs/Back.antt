@@ -3,15 +3,16 @@ use Rattle.std.specs.Prelude.{◌≡◌, ◌↔◌, ℕ, suc, ◌<◌, ◌^◌, 
 use Rattle.dwz_meanings.specs.Documents.{Doc, DwUnit, unit_map}
 use Rattle.dwz_docs.specs.ElfBack.{IsBackFault}
 use Rattle.dwz_docs.specs.Entries.{Mode}
-use Rattle.dwz_meanings.specs.Files.{HaveGoodRanges, Limits, Reads, debug_abbrev, debug_aranges, debug_info, is_place_of, section_of, sources_of}
-use Rattle.dwz_docs.specs.Lists.{In}
+use Rattle.dwz_meanings.specs.Files.{HaveGoodRanges, Limits, Reads, debug_abbrev, debug_aranges, debug_info, is_place_of, section_of}
+use Rattle.dwz_meanings.specs.Files.{sources_of}
+use Rattle.dwz_docs.specs.Lists.{Each, In}
 use Rattle.dwz_meanings.specs.Meanings.{Around, Common, MeanUnits, Sources, all_places, texts_of}
 use Rattle.dwz_docs.specs.Units.{RawUnit, SpellsUnits}
 use Rattle.dwz_docs.specs.Values.{AreBytes}
-use Rattle.dwz_seen.specs.Lists.{Each, NoneTwice, Nth}
+use Rattle.dwz_seen.specs.Lists.{NoneTwice, Nth}
 use Rattle.dwz_seen.specs.Seen.{IsPartial, SameAlong}
 use Rattle.dwz_seen.specs.Shown.{OnePlace, UnitsShown, units_keys}
-use Rattle.dwz_alike.specs.Alike.{Apart, IsAlike, Scope}
+use Rattle.dwz_alike.specs.Alike.{Apart, IsAlike, TopScope}
 use Rattle.dwz_alike.specs.Spots.{Spot, file_numbers, units_of}
 use Rattle.dwz_moving.specs.Homes.{IsChoice, Rule, moves}
 use Rattle.dwz_moving.specs.Moves.{plan}
@@ -25,7 +26,8 @@ use Rattle.dwz_writing.specs.Fitting.{UnitHasRoom, back_forms}
 use Rattle.dwz_writing.specs.Meant.{Tells, all_entry_keys, placed_units}
 use Rattle.dwz_writing.specs.Placing.{FitsSections, Forms, fit_units}
 use Rattle.dwz_writing.specs.Writing.{Numbering}
-use Rattle.dwz_back.specs.Files.{HasCommon, HasSections, Run, Stored, common_fitted, common_forms, common_sections, file_forms, fitted, formed, name_after, paths, place_of, places, sections_of, sources, tells, tells_common, texts}
+use Rattle.dwz_back.specs.Files.{HasCommon, HasSections, Run, Stored, common_fitted, common_forms, common_sections, file_forms, fitted}
+use Rattle.dwz_back.specs.Files.{formed, name_after, paths, place_of, places, sections_of, sources, tells, tells_common, texts}
 use Rattle.dwz_writing.specs.Pruned.{UnitStays, known_slots}
 use Rattle.dwz_back.specs.Prunable.{IsPrunable}
 use Rattle.dwz_meanings.specs.NamedLists.{lists_of_units}
@@ -42,10 +44,11 @@ given_by number bytes raw = record { entries = all_places raw; place = at_file n
 abbrev pub around_in : Option (Common Place) → ℕ → List ℕ → List RawUnit → Around Place
 around_in common number bytes raw = record { sources = sources_of bytes; all = all_places raw; place = at_file number; common = common }
 
--- The file with a number has no fault of an ELF file that is read back; its units, of which some may be partial, with the forms that lead to a common
--- file, are spelled, and mean these. Each set of address ranges is of one of the units that aren't partial; and no location list shares
--- a byte with an operand of another. No limit on depth or on entries is asked of it.
-pub record SaysUnits (common : Option (Common Place)) (number : ℕ) (bytes : List ℕ) (raw : List RawUnit) (units : List (DwUnit Place)) : Type 0 where
+-- The file with a number has no fault of an ELF file that is read back; its units, of which some may be partial, with the forms that lead
+-- to a common file, are spelled, and mean these. Each set of address ranges is of one of the units that aren't partial; and no location
+-- list shares a byte with an operand of another. No limit on depth or on entries is asked of it.
+pub record SaysUnits (common : Option (Common Place)) (number : ℕ) (bytes : List ℕ) (raw : List RawUnit)
+    (units : List (DwUnit Place)) : Type 0 where
   pub elf : (f : _) → IsBackFault bytes f → ⊥
   pub mode : Mode
   pub whole : mode.whole ≡ true
@@ -92,7 +95,8 @@ AllStandAfter r file = (place : ℕ) → is_place_of (r.input.raw file) place �
 -- values of one that is prunable say the same where texts move
 pub record CanWrite (r : Run) : Type 0 where
   pub apart : NoneTwice (units_keys (all_units r.move r.units r.files))
-  pub file : (file : ℕ) → In file r.files → changes r.move r.units file ≡ true → IsReady (OfFile (sources r file)) (file_forms r file) (tells r file) (places r) (out_units r.move r.units file)
+  pub file : (file : ℕ) → In file r.files → changes r.move r.units file ≡ true
+      → IsReady (OfFile (sources r file)) (file_forms r file) (tells r file) (places r) (out_units r.move r.units file)
   pub few : (file : ℕ) → In file r.files → length (sources r file).strs < 2 ^ 32
   pub stay : (file : ℕ) → In file r.files → changes r.move r.units file ≡ true → r.input.prunes file ≡ true
       → Each (UnitStays (texts_of (sources r file)) (sources r file).line (known_slots (sources r file).offsets)) (formed r file)
@@ -102,10 +106,12 @@ pub record CanWrite (r : Run) : Type 0 where
 -- places for the names of a run: in the common file, and in each file of which something moves, those where they are written
 pub record IsPlacing (r : Run) (g : Spot → Place) : Type 0 where
   pub common : (k : Spot) → In k (units_keys (common_fitted r)) → at_file r.common ((places r).place k) ≡ g k
-  pub written : (file : ℕ) → In file r.files → changes r.move r.units file ≡ true → (k : Spot) → In k (units_keys (fitted r file)) → at_file file ((places r).place k) ≡ g k
+  pub written : (file : ℕ) → In file r.files → changes r.move r.units file ≡ true → (k : Spot) → In k (units_keys (fitted r file))
+      → at_file file ((places r).place k) ≡ g k
 
 -- the file says these units, at the places of their names, which are the places of all its entries
-pub record SaysPlaced (r : Run) (g : Spot → Place) (common : Option (Common Place)) (number : ℕ) (bytes : List ℕ) (units : List (DwUnit Spot)) : Type 0 where
+pub record SaysPlaced (r : Run) (g : Spot → Place) (common : Option (Common Place)) (number : ℕ) (bytes : List ℕ)
+    (units : List (DwUnit Spot)) : Type 0 where
   pub raw : List RawUnit
   pub says : SaysUnits common number bytes raw (placed_units (places r) g units)
   pub entries : all_places raw ≡ map (places r).place (all_entry_keys units)
@@ -126,7 +132,8 @@ CommonBackLaw =
 -- a file that was made so says its units, at their places, where it is read with the common file that was
 abbrev pub FileBackLaw : Type 0
 FileBackLaw =
-    (r : Run) (g : Spot → Place) (out common : List ℕ) → CanWrite r → IsPlacing r g → HasCommon common (common_sections r) (texts r) (paths r)
+    (r : Run) (g : Spot → Place) (out common : List ℕ) → CanWrite r → IsPlacing r g
+    → HasCommon common (common_sections r) (texts r) (paths r)
     → FitsSections (common_sections r) → (c : SaysPlaced r g None r.common common (common_fitted r))
     → (file : ℕ) → In file r.files → changes r.move r.units file ≡ true → HasSections r file out → FitsSections (sections_of r file)
     → SaysPlaced r g (Some (given_by r.common common c.raw)) file out (fitted r file)
@@ -179,20 +186,25 @@ all_back r g docs = placed_units (places r) g (common_fitted r) ++ files_back r 
 
 -- and in a file of which nothing moves they are those at which its units were read, one for each name
 pub record AreAtOld (r : Run) (g : Spot → Place) (docs : List (Doc ℕ)) : Type 0 where
-  pub shown : (file : ℕ) (doc : Doc ℕ) → Nth 0 docs file doc → changes r.move r.units file ≡ false → UnitsShown g (out_units r.move r.units file) (map (unit_map (at_file file)) doc.units)
-  pub file : (file : ℕ) → In file r.files → changes r.move r.units file ≡ false → (k : Spot) → In k (units_keys (out_units r.move r.units file)) → (g k).file ≡ file
+  pub shown : (file : ℕ) (doc : Doc ℕ) → Nth 0 docs file doc → changes r.move r.units file ≡ false
+      → UnitsShown g (out_units r.move r.units file) (map (unit_map (at_file file)) doc.units)
+  pub file : (file : ℕ) → In file r.files → changes r.move r.units file ≡ false → (k : Spot)
+      → In k (units_keys (out_units r.move r.units file)) → (g k).file ≡ file
   pub one : (file : ℕ) → In file r.files → changes r.move r.units file ≡ false → OnePlace g (out_units r.move r.units file)
 
 -- what all files say, the common one among them, is the same as what was read, along images; and entries share an image exactly where
 -- they move and nothing tells them apart
-pub record SameBack (scope : Scope) (docs : List (Doc ℕ)) (rule : Rule) (input : Stored) (g : Spot → Place) : Type 0 where
-  pub same : SameAlong (λ p. g (image rule (units_of docs) (name_in docs p))) (placed_from 0 docs) (all_back (run_of rule docs input) g docs)
+pub record SameBack (scope : TopScope) (docs : List (Doc ℕ)) (rule : Rule) (input : Stored) (g : Spot → Place) : Type 0 where
+  pub same : SameAlong (λ p. g (image rule (units_of docs) (name_in docs p))) (placed_from 0 docs)
+      (all_back (run_of rule docs input) g docs)
   pub alone : IsAlone (units_of docs) (λ s. g (image rule (units_of docs) s))
   pub images : OneImage scope (units_of docs) (λ n. moves rule (units_of docs) n ≡ true) (λ s. g (image rule (units_of docs) s))
 
 abbrev pub SameBackLaw : Type 0
 SameBackLaw =
-    (scope : Scope) (docs : List (Doc ℕ)) (rule : Rule) → Each (λ doc. ArePlaced doc.units) docs → IsAlike scope (units_of docs) rule.alike → IsChoice (units_of docs) rule
+    (scope : TopScope) (docs : List (Doc ℕ)) (rule : Rule) → Each (λ doc. ArePlaced doc.units) docs
+    → IsAlike scope (units_of docs) rule.alike
+    → IsChoice (units_of docs) rule
     → (input : Stored) (g : Spot → Place) → IsPlacing (run_of rule docs input) g → AreAtOld (run_of rule docs input) g docs
     → SameBack scope docs rule input g
 
@@ -212,14 +224,18 @@ ReadLaw =
 -- after, each reference of a file names an entry of it, or of the common file
 abbrev pub WithinLaw : Type 0
 WithinLaw =
-    (scope : Scope) (docs : List (Doc ℕ)) (rule : Rule) → Each (λ doc. ArePlaced doc.units) docs → IsAlike scope (units_of docs) rule.alike → IsChoice (units_of docs) rule
+    (scope : TopScope) (docs : List (Doc ℕ)) (rule : Rule) → Each (λ doc. ArePlaced doc.units) docs
+    → IsAlike scope (units_of docs) rule.alike
+    → IsChoice (units_of docs) rule
     → (input : Stored) (file : ℕ) → ClosedIn (tells (run_of rule docs input) file)
     (out_units (run_of rule docs input).move (units_of docs) file)
 
 -- and each of the common file an entry of that
 abbrev pub CommonWithinLaw : Type 0
 CommonWithinLaw =
-    (scope : Scope) (docs : List (Doc ℕ)) (rule : Rule) → Each (λ doc. ArePlaced doc.units) docs → IsAlike scope (units_of docs) rule.alike → IsChoice (units_of docs) rule
+    (scope : TopScope) (docs : List (Doc ℕ)) (rule : Rule) → Each (λ doc. ArePlaced doc.units) docs
+    → IsAlike scope (units_of docs) rule.alike
+    → IsChoice (units_of docs) rule
     → (input : Stored) → ClosedIn (tells_common (run_of rule docs input)) (common_units (run_of rule docs input).move)
 
 -- ---- one file by itself

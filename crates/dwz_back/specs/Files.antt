@@ -18,7 +18,8 @@ use Rattle.dwz_moving.specs.Plan.{PartialUnit}
 use Rattle.dwz_same.specs.After.{Place, at_file}
 use Rattle.dwz_same.specs.Units.{common_units, out_units}
 use Rattle.dwz_writing.specs.Bases.{Bases, bases_in, no_bases}
-use Rattle.dwz_writing.specs.Placing.{FileOut, Forms, UnitSections, file_in, fit_units, lines_bytes, numbering, paths_of, sections, texts_bytes, texts_of}
+use Rattle.dwz_writing.specs.Placing.{FileOut, Forms, UnitSections, file_in, fit_units, lines_bytes, numbering, paths_of, sections}
+use Rattle.dwz_writing.specs.Placing.{texts_bytes, texts_of}
 use Rattle.dwz_docs.specs.ElfLayout.{too_large}
 use Rattle.dwz_docs.specs.Pruning.{new_number, pruned}
 use Rattle.dwz_writing.specs.Pruned.{AreNewSlots, all_uses, renumbered_units, slot_after, known_slots}

@@ -4,13 +4,12 @@ use Rattle.std.specs.Prelude.{◌≡◌, ℕ, List, true, false, Some, codes}
 use Rattle.dwz_docs.specs.declared.elf.Header.{Header}
 use Rattle.dwz_docs.specs.ElfHeaders.{headers_in, is_there}
 use Rattle.dwz_docs.specs.ElfNames.{name_at, name_table}
-use Rattle.dwz_docs.specs.Lists.{In}
+use Rattle.dwz_docs.specs.Lists.{Each, In}
 use Rattle.dwz_docs.specs.OffsetTables.{AreSlots}
 use Rattle.dwz_lines.specs.Sections.{UsesStrp}
 use Rattle.dwz_meanings.specs.Documents.{DwUnit}
 use Rattle.dwz_meanings.specs.Files.{section_of, sources_of}
 use Rattle.dwz_meanings.specs.Meanings.{texts_of}
-use Rattle.dwz_seen.specs.Lists.{Each}
 use Rattle.dwz_writing.specs.Pruned.{UnitStays}
 
 -- a section with that name has a content in the file

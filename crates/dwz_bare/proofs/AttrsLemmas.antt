@@ -1,5 +1,5 @@
 -- The attributes of an entry, value by value.
-use Rattle.std.proofs.Common.{◌≡◌, ℕ, zero, suc, ◌+◌, ◌≤◌, List, [], ◌∷◌, ◌++◌, length, map, drop, Option, Some, None, Ok, slice_get, refl, sym, ap, subst, ◌∙◌, inl, inr, arith}
+use Rattle.std.proofs.Common.{◌≡◌, ℕ, suc, ◌+◌, ◌≤◌, List, [], ◌∷◌, ◌++◌, length, map, drop, Option, Some, None, Ok, slice_get, refl, sym, ap, subst, ◌∙◌, inl, inr, arith}
 use Rattle.std.proofs.lemmas.List.{append-nil, append_assoc, drop_all, length-map}
 use Rattle.dwz_alike.specs.Spots.{Spot}
 use Rattle.dwz_bare.specs.Plain.{KnowsLine}
@@ -11,16 +11,15 @@ use Rattle.dwz_docs.specs.Trees.{End, Entry, Forest, Position, behind, first_bel
 use Rattle.dwz_docs.specs.Entries.{root_position}
 use Rattle.dwz_docs.specs.Units.{RawUnit, entry_count}
 use Rattle.dwz_docs.proofs.PartLemmas.{bind_ok}
+use Rattle.dwz_docs.proofs.ListFacts.{drop_here, got_in, in_cases, in_left, in_right}
 use Rattle.dwz_flat.specs.Rows.{AreAttrsMeant}
 use Rattle.dwz_flat.proofs.StepLemmas.{no_value}
 use Rattle.dwz_label.specs.Labels.{attr_label, each_counted, number}
 use Rattle.dwz_meanings.specs.Documents.{Attr, attr_map}
 use Rattle.dwz_meanings.specs.LineTables.{FileTable}
 use Rattle.dwz_meanings.specs.Meanings.{Around, Scope, attr_with, attrs_meaning, meaning, scope_of, with_attr, without_siblings}
-use Rattle.dwz_resolve.proofs.RowLemmas.{drop_here}
 use Rattle.dwz_resolve.specs.Named.{attrs_refs, entries_of, preorder}
 use Rattle.dwz_resolve.specs.Parts.{HasLine}
-use Rattle.dwz_seen.proofs.Members.{in_cases, in_left, in_right}
 use Rattle.dwz_unit.specs.Rows.{EntryRow, rows_below, rows_from, rows_in, rows_of}
 
 -- ---- what is left
@@ -43,7 +42,8 @@ as_many s (a ∷ raw) attrs e =
     let l : length (attr_with a x.0 ∷ y.0) ≡ length attrs = ap (λ (w : List (Attr ℕ)). length w) z in
     omega (arith, l, as_many s raw y.0 y.1)
 
-pub left_all : (raw : List RawUnit) (s : Scope ℕ) (values : List RawAttr) (name : ℕ → Spot) (attrs : List (Attr ℕ)) (refs old out : List ℕ) (n : ℕ) → AreAttrsMeant raw s refs values attrs → n ≡ length (without_siblings values) → out ≡ old ++ number n
+pub left_all : (raw : List RawUnit) (s : Scope ℕ) (values : List RawAttr) (name : ℕ → Spot) (attrs : List (Attr ℕ)) (refs old out : List ℕ) (n : ℕ) → AreAttrsMeant raw s refs values attrs
+    → n ≡ length (without_siblings values) → out ≡ old ++ number n
     → AreLeft raw s values name attrs refs refs out (old ++ each_counted attr_label (map (attr_map name) attrs))
 left_all raw s values name attrs refs old out n h count is = record {
   left = attrs;
@@ -54,15 +54,18 @@ left_all raw s values name attrs refs old out n h count is = record {
   ends = refl;
 }
 
-pub left_more : (raw : List RawUnit) (s : Scope ℕ) (more values : List RawAttr) (name : ℕ → Spot) (attrs : List (Attr ℕ)) (refs mid others out new all : List ℕ) (h : AreLeft raw s more name attrs refs mid out all)
+pub left_more : (raw : List RawUnit) (s : Scope ℕ) (more values : List RawAttr) (name : ℕ → Spot) (attrs : List (Attr ℕ)) (refs mid others out new all : List ℕ)
+    (h : AreLeft raw s more name attrs refs mid out all)
     → TellsAttr raw s values name h.left mid others out new → AreLeft raw s values name attrs refs others new all
 left_more raw s more values name attrs refs mid others out new all h t = record { left = t.left; rest = t.rest; bytes = t.bytes ∙ h.bytes; ends = t.ends ∙ h.ends }
 
 -- what is left, as the next value and those behind it
-pub left_means : (raw : List RawUnit) (s : Scope ℕ) (refs : List ℕ) (values : List RawAttr) (j : ℕ) (a : RawAttr) (left : List (Attr ℕ)) → slice_get values j ≡ Some a → AreAttrsMeant raw s refs (drop j values) left → AreAttrsMeant raw s refs (a ∷ drop (j + 1) values) left
+pub left_means : (raw : List RawUnit) (s : Scope ℕ) (refs : List ℕ) (values : List RawAttr) (j : ℕ) (a : RawAttr) (left : List (Attr ℕ)) → slice_get values j ≡ Some a
+    → AreAttrsMeant raw s refs (drop j values) left → AreAttrsMeant raw s refs (a ∷ drop (j + 1) values) left
 left_means raw s refs values j a left is h = subst (λ (w : List RawAttr). AreAttrsMeant raw s refs w left) (drop_here values j a is) h
 
-pub left_none : (raw : List RawUnit) (s : Scope ℕ) (values : List RawAttr) (j : ℕ) (name : ℕ → Spot) (attrs : List (Attr ℕ)) (refs others out old : List ℕ) → length values ≤ j → AreLeft raw s (drop j values) name attrs refs others out (old ++ each_counted attr_label (map (attr_map name) attrs))
+pub left_none : (raw : List RawUnit) (s : Scope ℕ) (values : List RawAttr) (j : ℕ) (name : ℕ → Spot) (attrs : List (Attr ℕ)) (refs others out old : List ℕ) → length values ≤ j
+    → AreLeft raw s (drop j values) name attrs refs others out (old ++ each_counted attr_label (map (attr_map name) attrs))
     → TellsAttrs name attrs refs others old out
 left_none raw s values j name attrs refs others out old l h =
     let none = no_value raw s others h.left (subst (λ (w : List RawAttr). AreAttrsMeant raw s others w h.left) (drop_all j values l) h.rest) in
@@ -72,11 +75,6 @@ left_none raw s values j name attrs refs others out old l h =
     }
 
 -- ---- the unit of a row
-
-in_there : {X : Type 0} (xs : List X) (i : ℕ) (x : X) → slice_get xs i ≡ Some x → In x xs
-in_there [] i x e = absurd cc
-in_there (y ∷ xs) zero x e = inl (let z : y ≡ x = cc in z)
-in_there (y ∷ xs) (suc i) x e = inr (in_there xs i x e)
 
 below_in : (f : Forest RawEntry) (unit : ℕ) (p : Position) (row : EntryRow) → In row (rows_below f unit p) → (row.unit ≡ unit) × In row.entry (preorder f)
 unfolding rows_below preorder
@@ -111,7 +109,7 @@ from_in (u ∷ us) k before row h = elim (in_cases row (rows_in u k before) (row
 -- the entry is one of that unit
 pub entry_in : (raw : List RawUnit) (i n : ℕ) (row : EntryRow) (u : RawUnit) → slice_get (rows_of raw) i ≡ Some row → row.unit ≡ n → slice_get raw n ≡ Some u → In row.entry (entries_of u)
 entry_in raw i n row u found number is =
-    let r = from_in raw 0 0 row (in_there (rows_of raw) i row found) in
+    let r = from_in raw 0 0 row (got_in (rows_of raw) i row found) in
     let same : r.n ≡ n = omega (arith, r.number, number) in
     let both : Some r.u ≡ Some u = sym r.is_unit ∙ ap (λ (k : ℕ). slice_get raw k) same ∙ is in
     let one : r.u ≡ u = cc in
@@ -119,6 +117,7 @@ entry_in raw i n row u found number is =
 
 -- ---- the line table for a value
 
-pub line_for : (around : Around ℕ) (u : RawUnit) (tables : List FileTable) (number : Option ℕ) (e : RawEntry) (j : ℕ) (a : RawAttr) → HasLine around u tables number → In e (entries_of u) → slice_get e.attrs j ≡ Some a → KnowsLine (scope_of around u) a tables number
-line_for around u tables None e j a h in_unit is = λ so. h e a in_unit (in_there e.attrs j a is) so
+pub line_for : (around : Around ℕ) (u : RawUnit) (tables : List FileTable) (number : Option ℕ) (e : RawEntry) (j : ℕ) (a : RawAttr) → HasLine around u tables number → In e (entries_of u)
+    → slice_get e.attrs j ≡ Some a → KnowsLine (scope_of around u) a tables number
+line_for around u tables None e j a h in_unit is = λ so. h e a in_unit (got_in e.attrs j a is) so
 line_for around u tables (Some number) e j a h in_unit is = h

@@ -19,7 +19,8 @@ no_first : (s : Scope ℕ) (name : ℕ) (attrs : List (Attr ℕ)) → [] ≡ att
 unfolding first_named
 no_first s name attrs e = subst (λ (w : List (Attr ℕ)). FirstIs s None (first_named name w)) e tt
 
-one_first : (s : Scope ℕ) (name : ℕ) (a : RawAttr) (values : List RawAttr) (v : Value ℕ) (left : List (Attr ℕ)) → meaning s a ≡ Ok v → FirstIs s (first_raw name values) (first_named name left) → FirstIs s (first_raw name (a ∷ values)) (first_named name (attr_with a v ∷ left))
+one_first : (s : Scope ℕ) (name : ℕ) (a : RawAttr) (values : List RawAttr) (v : Value ℕ) (left : List (Attr ℕ)) → meaning s a ≡ Ok v → FirstIs s (first_raw name values) (first_named name left)
+    → FirstIs s (first_raw name (a ∷ values)) (first_named name (attr_with a v ∷ left))
 unfolding first_raw first_named
 one_first s name a values v left means more = go (a.pair.name == name) where
   go : (t : Bool) → FirstIs s (if t then Some a else first_raw name values) (if t then Some (attr_with a v) else first_named name left)
@@ -30,14 +31,17 @@ other_first : (name : ℕ) (a : RawAttr) (values : List RawAttr) → (a.pair.nam
 unfolding first_raw
 other_first name a values ne = ap (λ (b : Bool). if b then Some a else first_raw name values) (ne_eqb a.pair.name name ne)
 
-pub first_is : (s : Scope ℕ) (name : ℕ) → (0x01 ≡ name → ⊥) → (values : List RawAttr) (attrs : List (Attr ℕ)) → attrs_meaning s (without_siblings values) ≡ Ok attrs → FirstIs s (first_raw name values) (first_named name attrs)
+pub first_is : (s : Scope ℕ) (name : ℕ) → (0x01 ≡ name → ⊥) → (values : List RawAttr) (attrs : List (Attr ℕ)) → attrs_meaning s (without_siblings values) ≡ Ok attrs
+    → FirstIs s (first_raw name values) (first_named name attrs)
 unfolding attrs_meaning without_siblings first_raw
 first_is s name other [] attrs e = no_first s name attrs (let none : [] ≡ attrs = cc in none)
 first_is s name other (a ∷ values) attrs e = by (a.pair.name == 0x01) refl (first_is s name other values) where
-  by : (t : Bool) → (a.pair.name == 0x01) ≡ t → ((others : List (Attr ℕ)) → attrs_meaning s (without_siblings values) ≡ Ok others → FirstIs s (first_raw name values) (first_named name others)) → FirstIs s (first_raw name (a ∷ values)) (first_named name attrs)
+  by : (t : Bool) → (a.pair.name == 0x01) ≡ t → ((others : List (Attr ℕ)) → attrs_meaning s (without_siblings values) ≡ Ok others → FirstIs s (first_raw name values) (first_named name others))
+      → FirstIs s (first_raw name (a ∷ values)) (first_named name attrs)
   by true is more =
       let one = eqb-true a.pair.name 0x01 is in
-      subst (λ (w : Option RawAttr). FirstIs s w (first_named name attrs)) (sym (other_first name a values (λ same. other (sym one ∙ same)))) (more attrs (ap (attrs_meaning s) (sym (skipped a values one)) ∙ e))
+      subst (λ (w : Option RawAttr). FirstIs s w (first_named name attrs)) (sym (other_first name a values (λ same. other (sym one ∙ same))))
+      (more attrs (ap (attrs_meaning s) (sym (skipped a values one)) ∙ e))
   by false is more =
       let ne : a.pair.name ≡ 0x01 → ⊥ = λ same. let z : true ≡ false = sym (ap (λ (n : ℕ). n == 0x01) same) ∙ is in absurd cc in
       let o = ap (attrs_meaning s) (sym (taken a values ne)) ∙ e in

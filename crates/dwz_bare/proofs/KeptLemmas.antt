@@ -10,18 +10,18 @@ use Rattle.dwz_docs.specs.Entries.{RawAttr, attrs_at, in_entry, with_value}
 use Rattle.dwz_meanings.specs.Meanings.{without_siblings}
 use Rattle.dwz_docs.specs.Values.{value_at}
 use Rattle.dwz_docs.proofs.PartLemmas.{bind_ok, same_value}
-use Rattle.dwz_bare.proofs.ListFacts.{drop_at}
+use Rattle.dwz_docs.proofs.ListFacts.{drop_pairs}
 use Rattle.dwz_bare.specs.Words.{kept}
 use Rattle.dwz_model.specs.declared.place.Pair.{Pair}
 use Rattle.dwz_unit.specs.Values.{Reads}
 
 pub kept_one : (pairs : List Pair) (j : ℕ) (d : Pair) → j < length pairs → (get_or pairs j d).name ≢ 0x01 → kept (drop j pairs) ≡ suc (kept (drop (j + 1) pairs))
 unfolding kept
-kept_one pairs j d lt ne = ap kept (drop_at pairs j d lt) ∙ cond-false ((get_or pairs j d).name == 0x01) _ _ (ne_eqb (get_or pairs j d).name 0x01 ne)
+kept_one pairs j d lt ne = ap kept (drop_pairs pairs j d lt) ∙ cond-false ((get_or pairs j d).name == 0x01) _ _ (ne_eqb (get_or pairs j d).name 0x01 ne)
 
 pub kept_other : (pairs : List Pair) (j : ℕ) (d : Pair) → j < length pairs → (get_or pairs j d).name ≡ 0x01 → kept (drop j pairs) ≡ kept (drop (j + 1) pairs)
 unfolding kept
-kept_other pairs j d lt e = ap kept (drop_at pairs j d lt) ∙ cond-true ((get_or pairs j d).name == 0x01) _ _ (eq-eqb (get_or pairs j d).name 0x01 e)
+kept_other pairs j d lt e = ap kept (drop_pairs pairs j d lt) ∙ cond-true ((get_or pairs j d).name == 0x01) _ _ (eq-eqb (get_or pairs j d).name 0x01 e)
 
 pub kept_done : (pairs : List Pair) (j : ℕ) → length pairs ≤ j → kept (drop j pairs) ≡ 0
 unfolding kept
@@ -29,7 +29,8 @@ kept_done pairs j l = ap kept (drop_all j pairs l)
 
 -- ---- of the values that are read
 
-kept_step : (a : RawAttr) (pairs : List Pair) (attrs : List RawAttr) (b : Bool) → kept pairs ≡ length (without_siblings attrs) → (if b then kept pairs else suc (kept pairs)) ≡ length (if b then without_siblings attrs else (a ∷ without_siblings attrs))
+kept_step : (a : RawAttr) (pairs : List Pair) (attrs : List RawAttr) (b : Bool) → kept pairs ≡ length (without_siblings attrs)
+    → (if b then kept pairs else suc (kept pairs)) ≡ length (if b then without_siblings attrs else (a ∷ without_siblings attrs))
 kept_step a pairs attrs true e = e
 kept_step a pairs attrs false e = ap suc e
 

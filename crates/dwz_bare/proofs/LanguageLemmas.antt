@@ -9,7 +9,10 @@ use Rattle.dwz_docs.specs.Texts.{slot, text_at}
 use Rattle.dwz_docs.proofs.PartLemmas.{bind_ok}
 use Rattle.dwz_meanings.specs.Documents.{Attr, Node, Plain, Sec, Text, Value, first_named, number_in, number_of_attr, only, ref}
 use Rattle.dwz_meanings.specs.Exprs.{expr_at}
-use Rattle.dwz_meanings.specs.Meanings.{Class, Common, OfAddress, OfBlock, OfCommonEntry, OfCommonText, OfConstant, OfExpression, OfFlag, OfIndex, OfInfoEntry, OfListIndex, OfOffset, OfSignature, OfText, OfTextBySlot, OfTextInLineStr, OfTextInStr, OfUnitEntry, Scope, Unread, as_class, attr_with, bytes_of, common_entry, common_text, constant_value, content_at, expr_context, expr_said, expr_value, file_by, first_raw, has, list_by, list_from, list_meaning, loclists_base, meaning, names_file, names_list, node_meaning, number_of, offset_of, stmt_list, str_offsets_base, text_by, text_from, text_or}
+use Rattle.dwz_meanings.specs.Meanings.{Class, Common, OfAddress, OfBlock, OfCommonEntry, OfCommonText, OfConstant, OfExpression, OfFlag, OfIndex, OfInfoEntry, OfListIndex, OfOffset, OfSignature}
+use Rattle.dwz_meanings.specs.Meanings.{OfText, OfTextBySlot, OfTextInLineStr, OfTextInStr, OfUnitEntry, Scope, Unread, as_class, attr_with, bytes_of, common_entry, common_text, constant_value}
+use Rattle.dwz_meanings.specs.Meanings.{content_at, expr_context, expr_said, expr_value, file_by, first_raw, has, list_by, list_from, list_meaning, loclists_base, meaning, names_file, names_list}
+use Rattle.dwz_meanings.specs.Meanings.{node_meaning, number_of, offset_of, stmt_list, str_offsets_base, text_by, text_from, text_or}
 use Rattle.dwz_model.specs.declared.fault.Fault.{Fault}
 use Rattle.dwz_resolve.specs.Classes.{class_view}
 use Rattle.dwz_resolve.specs.declared.class.Class.{Class as ClassOfCode}
@@ -141,5 +144,6 @@ root_first s e d means = first_is s 0x13 (λ same. cc) e.attrs d.attrs (node_att
 pub no_language : (s : Scope ℕ) (e : RawEntry) (d : Node ℕ) → node_meaning s e ≡ Ok d → None ≡ first_raw 0x13 e.attrs → None ≡ number_of_attr (first_named 0x13 d.attrs)
 no_language s e d means none = sym (none_by s (first_named 0x13 d.attrs) (subst (λ (w : Option RawAttr). FirstIs s w (first_named 0x13 d.attrs)) (sym none) (root_first s e d means)))
 
-pub a_language : (s : Scope ℕ) (e : RawEntry) (d : Node ℕ) (a : RawAttr) → node_meaning s e ≡ Ok d → Some a ≡ first_raw 0x13 e.attrs → (v : Value ℕ) × (meaning s a ≡ Ok v) × (number_of_attr (first_named 0x13 d.attrs) ≡ number_in v.plain)
+pub a_language : (s : Scope ℕ) (e : RawEntry) (d : Node ℕ) (a : RawAttr) → node_meaning s e ≡ Ok d → Some a ≡ first_raw 0x13 e.attrs
+    → (v : Value ℕ) × (meaning s a ≡ Ok v) × (number_of_attr (first_named 0x13 d.attrs) ≡ number_in v.plain)
 a_language s e d a means some = one_by s a (first_named 0x13 d.attrs) (subst (λ (w : Option RawAttr). FirstIs s w (first_named 0x13 d.attrs)) (sym some) (root_first s e d means))

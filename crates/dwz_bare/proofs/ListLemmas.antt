@@ -42,7 +42,8 @@ asked_none c answer None x e = refl
 asked_none c answer (Some o) x e = absurd cc
 
 -- it was read, where its operands were asked for
-pub list_there : (s : Scope ℕ) (v : Value ℕ) (lists : List ℕ) (place : ℕ) (operands : List Operand) (l : LocList) → s.around.sources.lists ≡ lists → list_read s place ≡ Ok l → AreAsked lists place operands
+pub list_there : (s : Scope ℕ) (v : Value ℕ) (lists : List ℕ) (place : ℕ) (operands : List Operand) (l : LocList) → s.around.sources.lists ≡ lists → list_read s place ≡ Ok l
+    → AreAsked lists place operands
     → (read_from (list_at in_lists) lists place ≡ Ok l) × (first_unnamed (is_named s) operands ≡ None)
 list_there s v lists place operands l of_lists read are =
     let c = expr_context s 7 in
@@ -53,7 +54,8 @@ list_there s v lists place operands l of_lists read are =
     (asked_is c answer o l both, asked_none c answer o l both)
 
 -- a list that is refused means nothing
-pub list_refused : (s : Scope ℕ) (a : RawAttr) (v : Value ℕ) (lists : List ℕ) (place : ℕ) (operands : List Operand) (f : Fault) → s.around.sources.lists ≡ lists → list_meaning s a place ≡ Ok v → WalksInto lists place operands (Err (Refused f)) → ⊥
+pub list_refused : (s : Scope ℕ) (a : RawAttr) (v : Value ℕ) (lists : List ℕ) (place : ℕ) (operands : List Operand) (f : Fault) → s.around.sources.lists ≡ lists → list_meaning s a place ≡ Ok v
+    → WalksInto lists place operands (Err (Refused f)) → ⊥
 list_refused s a v lists place operands f of_lists means walks =
     let n = list_named s a v place means in
     let t = list_there s v lists place operands n.0 of_lists n.1 walks.1 in
@@ -64,11 +66,13 @@ list_refused s a v lists place operands f of_lists means walks =
 pub list_within : (s : Scope ℕ) (a : RawAttr) (v : Value ℕ) (lists : List ℕ) (place : ℕ) → s.around.sources.lists ≡ lists → list_meaning s a place ≡ Ok v → place < length lists
 list_within s a v lists place of_lists means =
     subst (λ (w : List ℕ). place < length w) of_lists (ltb-true place (length s.around.sources.lists) (so (nat_lt place (length s.around.sources.lists)) refl means)) where
-      so : (b : Bool) → nat_lt place (length s.around.sources.lists) ≡ b → (if b then (list_read s place >>= loc_said s) else Err (info_fault a.at BadList)) ≡ Ok v → nat_lt place (length s.around.sources.lists) ≡ true
+      so : (b : Bool) → nat_lt place (length s.around.sources.lists) ≡ b → (if b then (list_read s place >>= loc_said s) else Err (info_fault a.at BadList)) ≡ Ok v
+          → nat_lt place (length s.around.sources.lists) ≡ true
       so true is e = is
       so false is e = absurd cc
 
-pub list_told : (s : Scope ℕ) (a : RawAttr) (v : Value ℕ) (lists : List ℕ) (place : ℕ) (operands : List Operand) (end : ℕ) (old new : List ℕ) → s.around.sources.lists ≡ lists → list_meaning s a place ≡ Ok v → WalksInto lists place operands (Ok end)
+pub list_told : (s : Scope ℕ) (a : RawAttr) (v : Value ℕ) (lists : List ℕ) (place : ℕ) (operands : List Operand) (end : ℕ) (old new : List ℕ) → s.around.sources.lists ≡ lists
+    → list_meaning s a place ≡ Ok v → WalksInto lists place operands (Ok end)
     → ((l : LocList) → read_from (list_at in_lists) lists place ≡ Ok l → new ≡ old ++ plain_label (Loc (map parts_of l.exprs))) → TellsPlain s v operands old new Kept
 list_told s a v lists place operands end old new of_lists means walks written =
     let n = list_named s a v place means in

@@ -20,7 +20,8 @@ pub space_named : (raw : List RawUnit) (around : Around ℕ) (n e : ℕ) (x : Sp
 space_named raw around n e x h = sym (ap (λ (w : SpaceName). w.text) h.is_name ∙ name_text h.text (first_named 0x03 h.d.attrs))
 
 -- what it means in its unit
-pub space_means : (raw : List RawUnit) (around : Around ℕ) (n e : ℕ) (x : SpaceName) (u : RawUnit) (h : IsSpaceAt raw around n e x) → slice_get raw n ≡ Some u → node_meaning (scope_of around u) h.row.entry ≡ Ok h.d
+pub space_means : (raw : List RawUnit) (around : Around ℕ) (n e : ℕ) (x : SpaceName) (u : RawUnit) (h : IsSpaceAt raw around n e x) → slice_get raw n ≡ Some u
+    → node_meaning (scope_of around u) h.row.entry ≡ Ok h.d
 space_means raw around n e x u h is =
     let both : Some h.u ≡ Some u = sym h.is_unit ∙ is in
     let same : h.u ≡ u = cc in
@@ -43,7 +44,8 @@ pub record NamesLeft (raw : List RawUnit) (around : Around ℕ) (n : ℕ) (space
   pub are : AreSpacesAt raw around n names spaces
   pub bytes : out ++ names_label names ≡ all
 
-pub names_all : (raw : List RawUnit) (around : Around ℕ) (n : ℕ) (names : List SpaceName) (spaces old out : List ℕ) → AreSpacesAt raw around n names spaces → out ≡ old ++ number (length spaces) → NamesLeft raw around n spaces out (old ++ each_counted counted (map (λ x. x.text) names))
+pub names_all : (raw : List RawUnit) (around : Around ℕ) (n : ℕ) (names : List SpaceName) (spaces old out : List ℕ) → AreSpacesAt raw around n names spaces → out ≡ old ++ number (length spaces)
+    → NamesLeft raw around n spaces out (old ++ each_counted counted (map (λ x. x.text) names))
 names_all raw around n names spaces old out h is = record {
   names = names;
   are = h;
@@ -54,7 +56,8 @@ names_all raw around n names spaces old out h is = record {
 abbrev NameNext : List RawUnit → Around ℕ → ℕ → ℕ → List ℕ → List ℕ → List ℕ → Type 0
 NameNext raw around n e spaces out all = (x : SpaceName) × IsSpaceAt raw around n e x × ((new : List ℕ) → new ≡ out ++ counted x.text → NamesLeft raw around n spaces new all)
 
-of_names : (raw : List RawUnit) (around : Around ℕ) (n e : ℕ) (names : List SpaceName) (spaces out all : List ℕ) → AreSpacesAt raw around n names (e ∷ spaces) → out ++ names_label names ≡ all → NameNext raw around n e spaces out all
+of_names : (raw : List RawUnit) (around : Around ℕ) (n e : ℕ) (names : List SpaceName) (spaces out all : List ℕ) → AreSpacesAt raw around n names (e ∷ spaces) → out ++ names_label names ≡ all
+    → NameNext raw around n e spaces out all
 of_names raw around n e [] spaces out all h bytes = absurd h
 of_names raw around n e (x ∷ names) spaces out all h bytes = (
   x,

@@ -6,8 +6,11 @@ use Rattle.dwz_docs.specs.Entries.{RawAttr}
 use Rattle.dwz_docs.specs.Faults.{info_fault}
 use Rattle.dwz_docs.specs.Lists.{has}
 use Rattle.dwz_docs.specs.Texts.{slot, text_at}
-use Rattle.dwz_meanings.specs.Documents.{Addr, Block, Expr, File, Flag, Index, Loc, Num, Plain, Ref, Sec, Sig, Text, Value, only, ref}
-use Rattle.dwz_meanings.specs.Meanings.{Class, Common, OfAddress, OfBlock, OfCommonEntry, OfCommonText, OfConstant, OfExpression, OfFlag, OfIndex, OfInfoEntry, OfListIndex, OfOffset, OfSignature, OfText, OfTextBySlot, OfTextInLineStr, OfTextInStr, OfUnitEntry, Scope, Unread, as_class, class_of, common_entry, common_text, constant_value, file_by, is_zero, list_meaning, meaning, names_file, names_list, number_of, offset_of, path_by, path_or, row_of_table, stmt_list, str_offsets_base, text_by, text_from, text_or, texts_of}
+use Rattle.dwz_meanings.specs.Documents.{File, Plain, Ref, Sec, Text, Value, only, ref}
+use Rattle.dwz_meanings.specs.Meanings.{Class, Common, OfAddress, OfBlock, OfCommonEntry, OfCommonText, OfConstant, OfExpression, OfFlag, OfIndex, OfInfoEntry, OfListIndex, OfOffset, OfSignature}
+use Rattle.dwz_meanings.specs.Meanings.{OfText, OfTextBySlot, OfTextInLineStr, OfTextInStr, OfUnitEntry, Scope, Unread, as_class, class_of, common_entry, common_text, constant_value, file_by, is_zero}
+use Rattle.dwz_meanings.specs.Meanings.{list_meaning, meaning, names_file, names_list, number_of, offset_of, path_by, path_or, row_of_table, stmt_list, str_offsets_base, text_by, text_from, text_or}
+use Rattle.dwz_meanings.specs.Meanings.{texts_of}
 use Rattle.dwz_model.specs.declared.fault.Fault.{Fault}
 use Rattle.dwz_model.specs.declared.fault.Reason.TheVariants.{BadFile, BadReference}
 use Rattle.dwz_meanings.specs.LineTables.{file_table_at}
@@ -17,6 +20,7 @@ use Rattle.dwz_resolve.specs.declared.class.Class.{Class as ClassOfCode}
 use Rattle.dwz_resolve.specs.declared.class.Class.TheVariants as code
 use Rattle.dwz_resolve.specs.Named.{refs_beside, value_refs}
 use Rattle.dwz_resolve.specs.Parts.{numbers_file}
+use Rattle.dwz_resolve.proofs.PlainBeside.{none_beside}
 
 -- ---- values that name nothing
 
@@ -68,20 +72,6 @@ simple_refs OfIndex s a is none = of_only _
 simple_refs OfCommonEntry s a is none = of_common_entry a s.around.common none
 simple_refs OfCommonText s a is none = of_common_text a s.around.common
 simple_refs Unread s a is none = of_err _
-
-none_beside : (plain : Plain) → refs_beside {P = ℕ} plain [] ≡ []
-none_beside (Num width z) = refl
-none_beside (Flag b) = refl
-none_beside (Block bytes) = refl
-none_beside (Text text) = refl
-none_beside (File path) = refl
-none_beside Ref = refl
-none_beside (Sig n) = refl
-none_beside (Addr n) = refl
-none_beside (Index n) = refl
-none_beside (Sec n) = refl
-none_beside (Expr parts) = refl
-none_beside (Loc exprs) = refl
 
 pub simple_names : (k : Class) (s : Scope ℕ) (a : RawAttr) (v : Value ℕ) → is_simple k ≡ true → s.around.common ≡ None → as_class k s a ≡ Ok v → (value_refs v ≡ v.refs) × (length v.refs ≡ 0)
 simple_names k s a v is none e =
@@ -149,7 +139,8 @@ as_is s a v k kind is same e = ap (λ (w : Class). as_class w s a) (sym (ap clas
 pub is_class : (a : RawAttr) (k kind : ClassOfCode) → class_view k ≡ class_of a.pair.form → k ≡ kind → class_of a.pair.form ≡ class_view kind
 is_class a k kind is same = sym is ∙ ap class_view same
 
-pub simple_is : (k : ClassOfCode) → (k ≡ code.Constant → ⊥) → (k ≡ code.UnitEntry → ⊥) → (k ≡ code.InfoEntry → ⊥) → (k ≡ code.Offset → ⊥) → (k ≡ code.Expression → ⊥) → (k ≡ code.ListIndex → ⊥) → is_simple (class_view k) ≡ true
+pub simple_is : (k : ClassOfCode) → (k ≡ code.Constant → ⊥) → (k ≡ code.UnitEntry → ⊥) → (k ≡ code.InfoEntry → ⊥) → (k ≡ code.Offset → ⊥) → (k ≡ code.Expression → ⊥) → (k ≡ code.ListIndex → ⊥)
+    → is_simple (class_view k) ≡ true
 simple_is code.Address a b c d e f = refl
 simple_is code.Block a b c d e f = refl
 simple_is code.Constant a b c d e f = absurd (a refl)

@@ -16,7 +16,8 @@ use Rattle.dwz_meanings.specs.Meanings.{Scope, target_of, targets}
 abbrev named : Scope ℕ → (ℕ → Spot) → List Operand → List ℕ
 named s name operands = flat_map target_label (map name (targets s operands))
 
-pub next_operand : (s : Scope ℕ) (name : ℕ → Spot) (operands : List Operand) (k : ℕ) (o : Operand) (p : ℕ) (out new all : List ℕ) → drop k operands ≡ o ∷ drop (k + 1) operands → s.around.place (target_of s o) ≡ p → new ≡ out ++ target_label (name p)
+pub next_operand : (s : Scope ℕ) (name : ℕ → Spot) (operands : List Operand) (k : ℕ) (o : Operand) (p : ℕ) (out new all : List ℕ) → drop k operands ≡ o ∷ drop (k + 1) operands
+    → s.around.place (target_of s o) ≡ p → new ≡ out ++ target_label (name p)
     → out ++ named s name (drop k operands) ≡ all → new ++ named s name (drop (k + 1) operands) ≡ all
 next_operand s name operands k o p out new all here at is so =
     let rest = named s name (drop (k + 1) operands) in
@@ -32,7 +33,8 @@ pub each_named : (named : Operand → Bool) (operands : List Operand) (k : ℕ) 
 unfolding first_unnamed
 each_named named [] k d none lt = absurd (omega arith)
 each_named named (o ∷ operands) k d none lt = by (named o) refl none (λ rest j less. each_named named operands j d rest less) k lt where
-  by : (b : Bool) → named o ≡ b → (if b then first_unnamed named operands else Some o) ≡ None → (first_unnamed named operands ≡ None → (j : ℕ) → j < length operands → named (get_or operands j d) ≡ true)
+  by : (b : Bool) → named o ≡ b → (if b then first_unnamed named operands else Some o) ≡ None
+      → (first_unnamed named operands ≡ None → (j : ℕ) → j < length operands → named (get_or operands j d) ≡ true)
       → (j : ℕ) → j < length (o ∷ operands) → named (get_or (o ∷ operands) j d) ≡ true
   by true is rest more zero less = is
   by true is rest more (suc j) less = more rest j (omega (arith, less))
@@ -50,13 +52,15 @@ take_many raw numbers [] h = refl
 take_many raw [] (p ∷ places) h = absurd h
 take_many raw (i ∷ numbers) (p ∷ places) h = ap suc (take_many raw numbers places h.2)
 
-pub counted_targets : (name : ℕ → Spot) (places : List ℕ) (count : ℕ) (old one two : List ℕ) → length places ≡ count → one ≡ old ++ number count → two ≡ one ++ flat_map target_label (map name places) → two ≡ old ++ each_counted target_label (map name places)
+pub counted_targets : (name : ℕ → Spot) (places : List ℕ) (count : ℕ) (old one two : List ℕ) → length places ≡ count → one ≡ old ++ number count → two ≡ one ++ flat_map target_label (map name places)
+    → two ≡ old ++ each_counted target_label (map name places)
 counted_targets name places count old one two many is_one is_two =
     let rest = flat_map target_label (map name places) in
     is_two ∙ ap (λ (w : List ℕ). w ++ rest) (is_one ∙ ap (λ (n : ℕ). old ++ number n) (sym many ∙ sym (length-map places name))) ∙ append_assoc old (number (length (map name places))) rest
 
 -- the entries that operands name, behind their number
-pub counted_operands : (s : Scope ℕ) (name : ℕ → Spot) (places : List ℕ) (operands : List Operand) (old one two : List ℕ) → places ≡ targets s operands → one ≡ old ++ number (length operands) → two ≡ one ++ named s name operands → two ≡ old ++ each_counted target_label (map name places)
+pub counted_operands : (s : Scope ℕ) (name : ℕ → Spot) (places : List ℕ) (operands : List Operand) (old one two : List ℕ) → places ≡ targets s operands → one ≡ old ++ number (length operands)
+    → two ≡ one ++ named s name operands → two ≡ old ++ each_counted target_label (map name places)
 counted_operands s name places operands old one two are is_one is_two =
     let many : length (targets s operands) ≡ length operands = length-map operands (λ o. s.around.place (target_of s o)) in
     counted_targets name (targets s operands) (length operands) old one two many is_one is_two ∙ ap (λ (w : List ℕ). old ++ each_counted target_label (map name w)) (sym are)

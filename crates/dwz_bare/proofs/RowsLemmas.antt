@@ -9,11 +9,12 @@ use Rattle.dwz_flat.proofs.StepLemmas.{no_row, row}
 use Rattle.dwz_label.specs.Labels.{attr_label, each_counted, node_label, number}
 use Rattle.dwz_meanings.specs.Documents.{Node, attr_map, node_map}
 use Rattle.dwz_meanings.specs.Meanings.{Scope}
-use Rattle.dwz_resolve.specs.Resolved.{Each}
+use Rattle.dwz_docs.specs.Lists.{Each}
 use Rattle.dwz_unit.specs.Rows.{EntryRow}
 
 -- an entry: how many are below it, its tag, its attributes
-pub entry_told : (name : ℕ → Spot) (below tag : ℕ) (d : Node ℕ) (refs others old one two new : List ℕ) → one ≡ old ++ number below → two ≡ one ++ number tag → d.tag ≡ tag → TellsAttrs name d.attrs refs others two new → TellsEntry name below d refs others old new
+pub entry_told : (name : ℕ → Spot) (below tag : ℕ) (d : Node ℕ) (refs others old one two new : List ℕ) → one ≡ old ++ number below → two ≡ one ++ number tag → d.tag ≡ tag
+    → TellsAttrs name d.attrs refs others two new → TellsEntry name below d refs others old new
 entry_told name below tag d refs others old one two new is_one is_two tagged t =
     let said = each_counted attr_label (map (attr_map name) d.attrs) in
     record {
@@ -37,7 +38,8 @@ pub record RowNext (raw : List RawUnit) (s : Scope ℕ) (name : ℕ → Spot) (n
   pub entry : IsEntryMeant raw s i numbers row d
   pub more : (others new : List ℕ) → TellsEntry name (row.end - i - 1) d numbers others out new → RowsLeft raw s name n (i + 1) end others after new all
 
-from_row : (raw : List RawUnit) (s : Scope ℕ) (name : ℕ → Spot) (n i end : ℕ) (numbers : List ℕ) (after : List EntryRow) (out all : List ℕ) (rows : List EntryRow) (ds : List (Node ℕ)) (x : NextRow raw s i end numbers rows after ds) → Each (λ row. row.unit ≡ n) (x.row ∷ x.others)
+from_row : (raw : List RawUnit) (s : Scope ℕ) (name : ℕ → Spot) (n i end : ℕ) (numbers : List ℕ) (after : List EntryRow) (out all : List ℕ) (rows : List EntryRow) (ds : List (Node ℕ))
+    (x : NextRow raw s i end numbers rows after ds) → Each (λ row. row.unit ≡ n) (x.row ∷ x.others)
     → out ++ rows_label name i (x.row ∷ x.others) (x.d ∷ x.left) ≡ all → RowNext raw s name n i end numbers after out all
 unfolding rows_label
 from_row raw s name n i end numbers after out all rows ds x own bytes = record {
@@ -57,13 +59,15 @@ from_row raw s name n i end numbers after out all rows ds x own bytes = record {
   };
 }
 
-pub next : (raw : List RawUnit) (s : Scope ℕ) (name : ℕ → Spot) (n i end : ℕ) (numbers : List ℕ) (after : List EntryRow) (out all : List ℕ) → i < end → RowsLeft raw s name n i end numbers after out all → RowNext raw s name n i end numbers after out all
+pub next : (raw : List RawUnit) (s : Scope ℕ) (name : ℕ → Spot) (n i end : ℕ) (numbers : List ℕ) (after : List EntryRow) (out all : List ℕ) → i < end
+    → RowsLeft raw s name n i end numbers after out all → RowNext raw s name n i end numbers after out all
 next raw s name n i end numbers after out all lt h =
     let x = row raw s i end numbers h.rows after h.ds lt h.are in
     from_row raw s name n i end numbers after out all h.rows h.ds x (subst (λ (w : List EntryRow). Each (λ row. row.unit ≡ n) w) x.rows_are h.own)
     ((λ k. out ++ rows_label name i (sym x.rows_are k) (sym x.ds_are k)) ∙ h.bytes)
 
-pub done : (raw : List RawUnit) (s : Scope ℕ) (name : ℕ → Spot) (n i end : ℕ) (numbers : List ℕ) (after : List EntryRow) (out all : List ℕ) → end ≤ i → RowsLeft raw s name n i end numbers after out all → out ≡ all
+pub done : (raw : List RawUnit) (s : Scope ℕ) (name : ℕ → Spot) (n i end : ℕ) (numbers : List ℕ) (after : List EntryRow) (out all : List ℕ) → end ≤ i
+    → RowsLeft raw s name n i end numbers after out all → out ≡ all
 unfolding rows_label
 done raw s name n i end numbers after out all le h =
     let e = no_row raw s i end numbers h.rows after h.ds le h.are in

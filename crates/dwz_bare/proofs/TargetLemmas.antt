@@ -44,7 +44,8 @@ pub record AreLeft (raw : List RawUnit) (name : ℕ → Spot) (numbers : List �
 abbrev FirstLeft : List RawUnit → (ℕ → Spot) → ℕ → List ℕ → List ℕ → List ℕ → Type 0
 FirstLeft raw name i numbers out all = (p : ℕ) × (i < entries_in raw) × (place_at raw i ≡ p) × ((new : List ℕ) → new ≡ out ++ target_label (name p) → AreLeft raw name numbers new all)
 
-first_of : (raw : List RawUnit) (name : ℕ → Spot) (i : ℕ) (numbers places out all : List ℕ) → AreTargets raw (i ∷ numbers) places → length places ≡ length (i ∷ numbers) → out ++ flat_map target_label (map name places) ≡ all → FirstLeft raw name i numbers out all
+first_of : (raw : List RawUnit) (name : ℕ → Spot) (i : ℕ) (numbers places out all : List ℕ) → AreTargets raw (i ∷ numbers) places → length places ≡ length (i ∷ numbers)
+    → out ++ flat_map target_label (map name places) ≡ all → FirstLeft raw name i numbers out all
 first_of raw name i numbers [] out all h many bytes = absurd (omega (arith, many))
 first_of raw name i numbers (p ∷ places) out all h many bytes = (
   p,
@@ -58,7 +59,8 @@ first_of raw name i numbers (p ∷ places) out all h many bytes = (
   },
 )
 
-pub first_left : (raw : List RawUnit) (name : ℕ → Spot) (numbers : List ℕ) (i : ℕ) (others out all : List ℕ) → numbers ≡ i ∷ others → AreLeft raw name numbers out all → FirstLeft raw name i others out all
+pub first_left : (raw : List RawUnit) (name : ℕ → Spot) (numbers : List ℕ) (i : ℕ) (others out all : List ℕ) → numbers ≡ i ∷ others → AreLeft raw name numbers out all
+    → FirstLeft raw name i others out all
 first_left raw name numbers i others out all e h =
     first_of raw name i others h.places out all (subst (λ (w : List ℕ). AreTargets raw w h.places) e h.targets) (h.many ∙ ap (λ (w : List ℕ). length w) e) h.bytes
 
@@ -75,7 +77,8 @@ name_there raw name x i p k lt e = k.named i lt ∙ ap (λ (n : ℕ). Some (name
 
 -- ---- a path behind the number of its steps
 
-pub way_told : (s : Spot) (path shown other old a b c : List ℕ) → path ≡ path_in s → shown ≡ path → other ≡ path → a ≡ old ++ 1 ∷ [] → b ≡ a ++ number (length shown) → c ≡ b ++ flat_map number other → c ≡ old ++ 1 ∷ each_counted number (path_in s)
+pub way_told : (s : Spot) (path shown other old a b c : List ℕ) → path ≡ path_in s → shown ≡ path → other ≡ path → a ≡ old ++ 1 ∷ [] → b ≡ a ++ number (length shown) → c ≡ b ++ flat_map number other
+    → c ≡ old ++ 1 ∷ each_counted number (path_in s)
 way_told s path shown other old a b c is one two at_a at_b at_c =
     let steps = flat_map number (path_in s) in
     let count = number (length (path_in s)) in

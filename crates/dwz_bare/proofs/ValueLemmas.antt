@@ -12,14 +12,16 @@ use Rattle.dwz_meanings.specs.Documents.{Attr, value_map}
 use Rattle.dwz_meanings.specs.Meanings.{Scope}
 use Rattle.dwz_resolve.specs.Named.{attrs_refs, value_refs}
 
-pub skipped : (raw : List RawUnit) (s : Scope ℕ) (a : RawAttr) (values : List RawAttr) (name : ℕ → Spot) (attrs : List (Attr ℕ)) (refs old : List ℕ) → a.pair.name ≡ 0x01 → AreAttrsMeant raw s refs (a ∷ values) attrs → TellsAttr raw s values name attrs refs refs old old
+pub skipped : (raw : List RawUnit) (s : Scope ℕ) (a : RawAttr) (values : List RawAttr) (name : ℕ → Spot) (attrs : List (Attr ℕ)) (refs old : List ℕ) → a.pair.name ≡ 0x01
+    → AreAttrsMeant raw s refs (a ∷ values) attrs → TellsAttr raw s values name attrs refs refs old old
 skipped raw s a values name attrs refs old is h = record { left = attrs; rest = sibling raw s refs a values attrs is h; bytes = refl; ends = refl }
 
 -- one behind the other
 drop_both : (m n : ℕ) (xs ys : List ℕ) → ys ≡ drop m xs → drop n ys ≡ drop (m + n) xs
 drop_both m n xs ys e = ap (λ (w : List ℕ). drop n w) e ∙ drop-drop n m xs
 
-pub told : (raw : List RawUnit) (s : Scope ℕ) (a : RawAttr) (values : List RawAttr) (name : ℕ → Spot) (attrs : List (Attr ℕ)) (refs others old one new : List ℕ) (x : NextAttr raw s refs a values attrs) → one ≡ old ++ number a.pair.name → TellsValue name x.value refs others one new → TellsAttr raw s values name attrs refs others old new
+pub told : (raw : List RawUnit) (s : Scope ℕ) (a : RawAttr) (values : List RawAttr) (name : ℕ → Spot) (attrs : List (Attr ℕ)) (refs others old one new : List ℕ)
+    (x : NextAttr raw s refs a values attrs) → one ≡ old ++ number a.pair.name → TellsValue name x.value refs others one new → TellsAttr raw s values name attrs refs others old new
 told raw s a values name attrs refs others old one new x is t =
     let rest = attrs_label name x.left in
     let here = value_label (value_map name x.value) in

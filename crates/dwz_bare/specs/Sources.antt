@@ -49,7 +49,8 @@ abbrev pub attrs_label : (ℕ → Spot) → List (Attr ℕ) → List ℕ
 attrs_label name attrs = flat_map attr_label (map (attr_map name) attrs)
 
 -- one value was written, and those behind it are left
-pub record TellsAttr (raw : List RawUnit) (s : Scope ℕ) (values : List RawAttr) (name : ℕ → Spot) (attrs : List (Attr ℕ)) (refs others old new : List ℕ) : Type 0 where
+pub record TellsAttr (raw : List RawUnit) (s : Scope ℕ) (values : List RawAttr) (name : ℕ → Spot) (attrs : List (Attr ℕ))
+    (refs others old new : List ℕ) : Type 0 where
   pub left : List (Attr ℕ)
   pub rest : AreAttrsMeant raw s others values left
   pub bytes : new ++ attrs_label name left ≡ old ++ attrs_label name attrs

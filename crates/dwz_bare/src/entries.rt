@@ -7,7 +7,7 @@ ghost use Rattle.dwz_bare.specs.Words.{kept};
 ghost use Rattle.dwz_docs.specs.Units.{RawUnit, entries_in};
 ghost use Rattle.dwz_flat.specs.Rows.{AreRowsMeant, IsEntryMeant};
 ghost use Rattle.dwz_meanings.specs.Documents.{Node};
-ghost use Rattle.dwz_resolve.specs.Resolved.{Each};
+ghost use Rattle.dwz_docs.specs.Lists.{Each};
 ghost use Rattle.dwz_unit.specs.Rows.{EntryRow};
 
 use crate::source::{Scratch, Source};
@@ -46,7 +46,10 @@ fn put_values(
 ) -> Result<usize, NoMemory>
     requires ready { IsReady source.now here.now }
     requires row { i < entries_in (raw_of source.now) }
-    ensures { (u : RawUnit) (name : ℕ → Spot) (row : EntryRow) (d : Node ℕ) → KnowsUnit source.now here.now line u name → row.unit ≡ here.now.number → IsEntryMeant (raw_of source.now) (scope_at source.now u) i (drop next source.now.refs.now) row d → IfOk result (λ behind. TellsAttrs name d.attrs (drop next source.now.refs.now) (drop behind source.now.refs.now) out.old.items out.new.items) }
+    ensures { (u : RawUnit) (name : ℕ → Spot) (row : EntryRow) (d : Node ℕ) → KnowsUnit source.now here.now line u name
+        → row.unit ≡ here.now.number → IsEntryMeant (raw_of source.now) (scope_at source.now u) i (drop next source.now.refs.now) row d
+        → IfOk result (λ behind. TellsAttrs name d.attrs (drop next source.now.refs.now) (drop behind source.now.refs.now) out.old.items
+        out.new.items) }
 {
     let Values { pairs, mut cursor } = source.units.values(i);
     put_number(out, count_of(pairs) as u128)?;
@@ -71,7 +74,10 @@ fn put_entry(
 ) -> Result<usize, NoMemory>
     requires ready { IsReady source.now here.now }
     requires row { i < entries_in (raw_of source.now) }
-    ensures { (u : RawUnit) (name : ℕ → Spot) (row : EntryRow) (d : Node ℕ) → KnowsUnit source.now here.now line u name → row.unit ≡ here.now.number → IsEntryMeant (raw_of source.now) (scope_at source.now u) i (drop next source.now.refs.now) row d → IfOk result (λ behind. TellsEntry name (row.end - i - 1) d (drop next source.now.refs.now) (drop behind source.now.refs.now) out.old.items out.new.items) }
+    ensures { (u : RawUnit) (name : ℕ → Spot) (row : EntryRow) (d : Node ℕ) → KnowsUnit source.now here.now line u name
+        → row.unit ≡ here.now.number → IsEntryMeant (raw_of source.now) (scope_at source.now u) i (drop next source.now.refs.now) row d
+        → IfOk result (λ behind. TellsEntry name (row.end - i - 1) d (drop next source.now.refs.now) (drop behind source.now.refs.now)
+        out.old.items out.new.items) }
 {
     let entry = source.units.entry(i);
     put_number(out, entry.end.saturating_sub(i).saturating_sub(1) as u128)?;
@@ -94,7 +100,10 @@ pub fn put_rows(
 ) -> Result<(), NoMemory>
     requires ready { IsReady source.now here.now }
     requires rows { end ≤ entries_in (raw_of source.now) }
-    ensures { (u : RawUnit) (name : ℕ → Spot) (rows after : List EntryRow) (ds : List (Node ℕ)) → KnowsUnit source.now here.now line u name → Each (λ row. row.unit ≡ here.now.number) rows → AreRowsMeant (raw_of source.now) (scope_at source.now u) first end (drop next source.now.refs.now) rows after ds → OnOk result (out.new.items ≡ out.old.items ++ rows_label name first rows ds) }
+    ensures { (u : RawUnit) (name : ℕ → Spot) (rows after : List EntryRow) (ds : List (Node ℕ)) → KnowsUnit source.now here.now line u name
+        → Each (λ row. row.unit ≡ here.now.number) rows
+        → AreRowsMeant (raw_of source.now) (scope_at source.now u) first end (drop next source.now.refs.now) rows after ds
+        → OnOk result (out.new.items ≡ out.old.items ++ rows_label name first rows ds) }
 {
     let mut at = next;
     for i in first..end {

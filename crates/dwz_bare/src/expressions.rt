@@ -95,7 +95,8 @@ pub(crate) fn put_expr(
     bytes: &[u8],
     operands: &mut Vec<Operand>,
 ) -> Result<Named, NoMemory>
-    ensures { (s : Scope ℕ) (a : RawAttr) (v : Value ℕ) → a.end ≡ end → Meanings.bytes_of a.raw ≡ bytes.now → expr_meaning s a ≡ Ok v → IfOk result (λ named. TellsPlain s v operands.new.items out.old.items out.new.items named) }
+    ensures { (s : Scope ℕ) (a : RawAttr) (v : Value ℕ) → a.end ≡ end → Meanings.bytes_of a.raw ≡ bytes.now → expr_meaning s a ≡ Ok v
+        → IfOk result (λ named. TellsPlain s v operands.new.items out.old.items out.new.items named) }
 {
     let at = end.saturating_sub(bytes.len() as u64);
     operands.clear();

@@ -20,7 +20,8 @@ const LANGUAGE: u16 = 0x13;
 // The number that a value of that class is, of an attribute that numbers no file.
 #[tactic(auto, using(crate::proofs::LanguageLemmas::no_number))]
 fn number_as(class: Class, raw: &Raw) -> Option<i128>
-    ensures { (s : Scope ℕ) (a : RawAttrOfSpecs) (v : Value ℕ) → a.pair.name ≡ 0x13 → a.raw ≡ raw_view raw.now → as_class (class_view class) s a ≡ Ok v → result ≡ number_in v.plain }
+    ensures { (s : Scope ℕ) (a : RawAttrOfSpecs) (v : Value ℕ) → a.pair.name ≡ 0x13 → a.raw ≡ raw_view raw.now
+        → as_class (class_view class) s a ≡ Ok v → result ≡ number_in v.plain }
 {
     match class {
         Class::Constant => Some(number_of(raw)),
@@ -31,7 +32,8 @@ fn number_as(class: Class, raw: &Raw) -> Option<i128>
 /// The language of a unit, by the number of its root: what its first `DW_AT_language` says (DWARF 5, 3.1.1), where that is a number.
 pub fn language_of(units: &Units, root: u32) -> Option<i128>
     requires { root < entries_in (units_of units.now) }
-    ensures { (s : Scope ℕ) (row : EntryRow) (d : Node ℕ) → slice_get (rows_of (units_of units.now)) root ≡ Some row → node_meaning s row.entry ≡ Ok d → result ≡ number_of_attr (first_named 0x13 d.attrs) }
+    ensures { (s : Scope ℕ) (row : EntryRow) (d : Node ℕ) → slice_get (rows_of (units_of units.now)) root ≡ Some row
+        → node_meaning s row.entry ≡ Ok d → result ≡ number_of_attr (first_named 0x13 d.attrs) }
 {
     match first_attr(units, root, LANGUAGE) {
         None => None,

@@ -35,7 +35,8 @@ fn put_exprs(out: &mut Vec<u8>, exprs: &[Ops<'_>]) -> Result<(), NoMemory>
 // Appends that a value is the list at a place, which was read before.
 fn put_read(alloc: Global, out: &mut Vec<u8>, lists: &[u8], place: u64) -> Result<(), NoMemory>
     requires { place < length lists.now }
-    ensures { (l : LocList) → read_from (list_at in_lists) lists.now place ≡ Ok l → OnOk result (out.new.items ≡ out.old.items ++ plain_label (Loc (map parts_of l.exprs))) }
+    ensures { (l : LocList) → read_from (list_at in_lists) lists.now place ≡ Ok l
+        → OnOk result (out.new.items ≡ out.old.items ++ plain_label (Loc (map parts_of l.exprs))) }
 {
     match walk(alloc, lists, place) {
         Err(ReadErr::NoMemory) => Err(AllocError),
@@ -56,7 +57,8 @@ pub(crate) fn put_list_at(
     place: u128,
     operands: &mut Vec<Operand>,
 ) -> Result<Named, NoMemory>
-    ensures { (s : Scope ℕ) (a : RawAttr) (v : Value ℕ) → s.around.sources.lists ≡ lists.now → list_meaning s a place ≡ Ok v → IfOk result (λ named. TellsPlain s v operands.new.items out.old.items out.new.items named) }
+    ensures { (s : Scope ℕ) (a : RawAttr) (v : Value ℕ) → s.around.sources.lists ≡ lists.now → list_meaning s a place ≡ Ok v
+        → IfOk result (λ named. TellsPlain s v operands.new.items out.old.items out.new.items named) }
 {
     operands.clear();
     if place >= lists.len() as u128 {
@@ -81,7 +83,9 @@ pub(crate) fn put_list_by_slot(
     index: u128,
     operands: &mut Vec<Operand>,
 ) -> Result<Named, NoMemory>
-    ensures { (s : Scope ℕ) (a : RawAttr) (v : Value ℕ) → s.around.sources.lists ≡ lists.now → base ≡ loclists_base s → index ≡ Meanings.offset_of a → list_from s a base ≡ Ok v → IfOk result (λ named. TellsPlain s v operands.new.items out.old.items out.new.items named) }
+    ensures { (s : Scope ℕ) (a : RawAttr) (v : Value ℕ) → s.around.sources.lists ≡ lists.now → base ≡ loclists_base s
+        → index ≡ Meanings.offset_of a → list_from s a base ≡ Ok v
+        → IfOk result (λ named. TellsPlain s v operands.new.items out.old.items out.new.items named) }
 {
     let Some(base) = base else {
         return Ok(Named::Kept);

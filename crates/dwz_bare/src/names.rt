@@ -7,7 +7,8 @@ ghost use Rattle.dwz_index.specs.Chains.{AreSpacesAt};
 ghost use Rattle.dwz_label.specs.Labels.{counted, each_counted};
 ghost use Rattle.dwz_meanings.specs.Documents.{Node};
 ghost use Rattle.dwz_meanings.specs.Meanings.{node_meaning};
-ghost use Rattle.dwz_resolve.specs.Resolved.{Each, IsHere, around, scope_in};
+ghost use Rattle.dwz_resolve.specs.Resolved.{IsHere, around, scope_in};
+ghost use Rattle.dwz_docs.specs.Lists.{Each};
 ghost use Rattle.dwz_seen.specs.Spaces;
 ghost use Rattle.dwz_unit.specs.Rows.{EntryRow, rows_of, units_of};
 
@@ -26,7 +27,9 @@ fn put_name<'x>(
     entry: u32,
 ) -> Result<(), NoMemory>
     requires { entry < entries_in (units_of units.now) }
-    ensures { (u : RawUnit) (row : EntryRow) (d : Node ℕ) (text : List ℕ) → IsHere (units_of units.now) u here.now → slice_get (rows_of (units_of units.now)) entry ≡ Some row → node_meaning (scope_in sections.now (units_of units.now) u) row.entry ≡ Ok d → Spaces.space_text d ≡ Some text → OnOk result (out.new.items ≡ out.old.items ++ counted text) }
+    ensures { (u : RawUnit) (row : EntryRow) (d : Node ℕ) (text : List ℕ) → IsHere (units_of units.now) u here.now
+        → slice_get (rows_of (units_of units.now)) entry ≡ Some row → node_meaning (scope_in sections.now (units_of units.now) u) row.entry
+        ≡ Ok d → Spaces.space_text d ≡ Some text → OnOk result (out.new.items ≡ out.old.items ++ counted text) }
 {
     let Some(text) = space_text(units, sections, here.offsets, entry) else {
         return Ok(());
@@ -44,7 +47,9 @@ pub(crate) fn put_names<'x>(
     spaces: &[u32],
 ) -> Result<(), NoMemory>
     requires { Each (λ i. i < entries_in (units_of units.now)) spaces.now }
-    ensures { (u : RawUnit) (names : List SpaceName) → IsHere (units_of units.now) u here.now → AreSpacesAt (units_of units.now) (around sections.now (units_of units.now)) here.now.number names spaces.now → OnOk result (out.new.items ≡ out.old.items ++ each_counted counted (map (λ x. x.text) names)) }
+    ensures { (u : RawUnit) (names : List SpaceName) → IsHere (units_of units.now) u here.now
+        → AreSpacesAt (units_of units.now) (around sections.now (units_of units.now)) here.now.number names spaces.now
+        → OnOk result (out.new.items ≡ out.old.items ++ each_counted counted (map (λ x. x.text) names)) }
 {
     put_number(out, spaces.len() as u128)?;
     for space in spaces {

@@ -35,7 +35,10 @@ fn put_alone(
     pair: &Pair,
     raw: &Raw,
 ) -> Result<Named, NoMemory>
-    ensures { (s : Scope ℕ) (at end : ℕ) (v : Value ℕ) (operands : List OperandOfSpecs) → is_simple (class_view class) ≡ true → s.around.sources ≡ sources_view sections.now → s.around.common ≡ None → base ≡ str_offsets_base s → as_class (class_view class) s (stored at end pair.now raw.now) ≡ Ok v → IfOk result (λ named. TellsPlain s v operands out.old.items out.new.items named) }
+    ensures { (s : Scope ℕ) (at end : ℕ) (v : Value ℕ) (operands : List OperandOfSpecs) → is_simple (class_view class) ≡ true
+        → s.around.sources ≡ sources_view sections.now → s.around.common ≡ None → base ≡ str_offsets_base s
+        → as_class (class_view class) s (stored at end pair.now raw.now) ≡ Ok v
+        → IfOk result (λ named. TellsPlain s v operands out.old.items out.new.items named) }
 {
     put_simple(out, class, sections, base, pair, raw)?;
     Ok(Named::Next(0))
@@ -50,7 +53,9 @@ fn put_constant(
     pair: &Pair,
     raw: &Raw,
 ) -> Result<Named, NoMemory>
-    ensures { (s : Scope ℕ) (at end : ℕ) (v : Value ℕ) (operands : List OperandOfSpecs) → Meanings.class_of pair.now.form ≡ OfConstant → KnowsLine s (stored at end pair.now raw.now) tables.now line → as_class OfConstant s (stored at end pair.now raw.now) ≡ Ok v → IfOk result (λ named. TellsPlain s v operands out.old.items out.new.items named) }
+    ensures { (s : Scope ℕ) (at end : ℕ) (v : Value ℕ) (operands : List OperandOfSpecs) → Meanings.class_of pair.now.form ≡ OfConstant
+        → KnowsLine s (stored at end pair.now raw.now) tables.now line → as_class OfConstant s (stored at end pair.now raw.now) ≡ Ok v
+        → IfOk result (λ named. TellsPlain s v operands out.old.items out.new.items named) }
 {
     if names_file(pair.name) {
         put_file_by(out, tables, line, raw)?;
@@ -74,7 +79,9 @@ fn put_offset_of(
     raw: &Raw,
     operands: &mut Vec<Operand>,
 ) -> Result<Named, NoMemory>
-    ensures { (s : Scope ℕ) (at end : ℕ) (v : Value ℕ) → s.around.sources ≡ sources_view sections.now → as_class OfOffset s (stored at end pair.now raw.now) ≡ Ok v → IfOk result (λ named. TellsPlain s v operands.new.items out.old.items out.new.items named) }
+    ensures { (s : Scope ℕ) (at end : ℕ) (v : Value ℕ) → s.around.sources ≡ sources_view sections.now
+        → as_class OfOffset s (stored at end pair.now raw.now) ≡ Ok v
+        → IfOk result (λ named. TellsPlain s v operands.new.items out.old.items out.new.items named) }
 {
     if names_list(pair.name) {
         return put_list_at(alloc, out, sections.lists, offset_of(raw), operands);
@@ -87,8 +94,10 @@ fn put_offset_of(
 #[inline(always)]
 #[tactic(auto, using(crate::proofs::PlainLemmas::unit_names, crate::proofs::PlainLemmas::info_names))]
 fn put_entry_of(out: &mut Vec<u8>) -> Result<Named, NoMemory>
-    ensures unit { (s : Scope ℕ) (a : RawAttr) (v : Value ℕ) (operands : List OperandOfSpecs) → as_class OfUnitEntry s a ≡ Ok v → IfOk result (λ named. TellsPlain s v operands out.old.items out.new.items named) }
-    ensures info { (s : Scope ℕ) (a : RawAttr) (v : Value ℕ) (operands : List OperandOfSpecs) → as_class OfInfoEntry s a ≡ Ok v → IfOk result (λ named. TellsPlain s v operands out.old.items out.new.items named) }
+    ensures unit { (s : Scope ℕ) (a : RawAttr) (v : Value ℕ) (operands : List OperandOfSpecs) → as_class OfUnitEntry s a ≡ Ok v
+        → IfOk result (λ named. TellsPlain s v operands out.old.items out.new.items named) }
+    ensures info { (s : Scope ℕ) (a : RawAttr) (v : Value ℕ) (operands : List OperandOfSpecs) → as_class OfInfoEntry s a ≡ Ok v
+        → IfOk result (λ named. TellsPlain s v operands out.old.items out.new.items named) }
 {
     put_ref(out)?;
     Ok(Named::Next(1))
@@ -108,7 +117,9 @@ pub fn put_plain(
     raw: &Raw,
     operands: &mut Vec<Operand>,
 ) -> Result<Named, NoMemory>
-    ensures { (s : Scope ℕ) (at : ℕ) (v : Value ℕ) → KnowsScope sections.now here.now s → KnowsLine s (stored at end pair.now raw.now) tables.now line → meaning s (stored at end pair.now raw.now) ≡ Ok v → IfOk result (λ named. TellsPlain s v operands.new.items out.old.items out.new.items named) }
+    ensures { (s : Scope ℕ) (at : ℕ) (v : Value ℕ) → KnowsScope sections.now here.now s
+        → KnowsLine s (stored at end pair.now raw.now) tables.now line → meaning s (stored at end pair.now raw.now) ≡ Ok v
+        → IfOk result (λ named. TellsPlain s v operands.new.items out.old.items out.new.items named) }
 {
     let class = class_of(pair.form);
     match class {

@@ -14,7 +14,8 @@ ghost use Rattle.dwz_meanings.specs.Exprs.{first_unnamed};
 ghost use Rattle.dwz_meanings.specs.Meanings.{Scope, target_of, targets};
 ghost use Rattle.dwz_resolve.specs.Named.{value_refs};
 ghost use Rattle.dwz_resolve.specs.Operands.{is_named};
-ghost use Rattle.dwz_resolve.specs.Resolved.{AreEntries, Each, IsHere, scope_in};
+ghost use Rattle.dwz_resolve.specs.Resolved.{AreEntries, IsHere, scope_in};
+ghost use Rattle.dwz_docs.specs.Lists.{Each};
 ghost use Rattle.dwz_unit.specs.Rows.{units_of};
 
 use crate::named::Named;
@@ -36,7 +37,9 @@ fn put_next(
     path: &mut Vec<u32>,
 ) -> Result<(), NoMemory>
     requires { Each (λ i. i < length index.now.steps) refs.now }
-    ensures { (raw : List RawUnit) (name : ℕ → Spot) (places : List ℕ) → KnowsNames raw name index.now → AreTargets raw (drop next refs.now) places → length places ≡ count → OnOk result (out.new.items ≡ out.old.items ++ each_counted target_label (map name places)) }
+    ensures { (raw : List RawUnit) (name : ℕ → Spot) (places : List ℕ) → KnowsNames raw name index.now
+        → AreTargets raw (drop next refs.now) places → length places ≡ count
+        → OnOk result (out.new.items ≡ out.old.items ++ each_counted target_label (map name places)) }
 {
     put_number(out, count as u128)?;
     put_targets(out, index, part(refs, next, count), path)?;
@@ -55,7 +58,10 @@ fn put_named(
 ) -> Result<(), NoMemory>
     requires here { here.now.end ≤ entries_in (units_of units.now) }
     requires steps { length index.now.steps ≡ entries_in (units_of units.now) }
-    ensures { (u : RawUnit) (name : ℕ → Spot) → IsHere (units_of units.now) u here.now → KnowsNames (units_of units.now) name index.now → is_named (scope_in sections.now (units_of units.now) u) operand.now ≡ true → OnOk result (out.new.items ≡ out.old.items ++ target_label (name (target_of (scope_in sections.now (units_of units.now) u) operand.now))) }
+    ensures { (u : RawUnit) (name : ℕ → Spot) → IsHere (units_of units.now) u here.now → KnowsNames (units_of units.now) name index.now
+        → is_named (scope_in sections.now (units_of units.now) u) operand.now ≡ true
+        → OnOk result (out.new.items ≡ out.old.items
+        ++ target_label (name (target_of (scope_in sections.now (units_of units.now) u) operand.now))) }
 {
     match entry_of(units, sections, here, operand) {
         Some(entry) => put_target(out, index, entry, path),
@@ -75,7 +81,10 @@ fn put_operands(
 ) -> Result<(), NoMemory>
     requires here { here.now.end ≤ entries_in (units_of units.now) }
     requires steps { length index.now.steps ≡ entries_in (units_of units.now) }
-    ensures { (u : RawUnit) (name : ℕ → Spot) → IsHere (units_of units.now) u here.now → KnowsNames (units_of units.now) name index.now → first_unnamed (is_named (scope_in sections.now (units_of units.now) u)) operands.now ≡ None → OnOk result (out.new.items ≡ out.old.items ++ flat_map target_label (map name (targets (scope_in sections.now (units_of units.now) u) operands.now))) }
+    ensures { (u : RawUnit) (name : ℕ → Spot) → IsHere (units_of units.now) u here.now → KnowsNames (units_of units.now) name index.now
+        → first_unnamed (is_named (scope_in sections.now (units_of units.now) u)) operands.now ≡ None
+        → OnOk result (out.new.items ≡ out.old.items
+        ++ flat_map target_label (map name (targets (scope_in sections.now (units_of units.now) u) operands.now))) }
 {
     for operand in operands {
         put_named(out, units, sections, index, here, operand, path)?;
@@ -99,7 +108,10 @@ pub(crate) fn put_refs(
     requires here { here.now.end ≤ entries_in (units_of units.now) }
     requires steps { length index.now.steps ≡ entries_in (units_of units.now) }
     requires refs { AreEntries (units_of units.now) refs.now }
-    ensures { (u : RawUnit) (name : ℕ → Spot) (v : Value ℕ) → IsHere (units_of units.now) u here.now → KnowsNames (units_of units.now) name index.now → NamesSo (scope_in sections.now (units_of units.now) u) v operands.now named → AreTargets (units_of units.now) (drop next refs.now) (value_refs v) → OnOk result (out.new.items ≡ out.old.items ++ each_counted target_label (map name v.refs)) }
+    ensures { (u : RawUnit) (name : ℕ → Spot) (v : Value ℕ) → IsHere (units_of units.now) u here.now
+        → KnowsNames (units_of units.now) name index.now → NamesSo (scope_in sections.now (units_of units.now) u) v operands.now named
+        → AreTargets (units_of units.now) (drop next refs.now) (value_refs v)
+        → OnOk result (out.new.items ≡ out.old.items ++ each_counted target_label (map name v.refs)) }
 {
     match named {
         Named::Next(count) => put_next(out, index, refs, next, count, path),
@@ -114,7 +126,8 @@ pub(crate) fn put_refs(
 /// Where the references go on behind those that a value names.
 #[inline(always)]
 pub(crate) fn behind_refs(refs: &[u32], next: usize, named: Named) -> usize
-    ensures { (s : Scope ℕ) (v : Value ℕ) (operands : List OperandOfSpecs) → NamesSo s v operands named → drop result refs.now ≡ drop (length (value_refs v)) (drop next refs.now) }
+    ensures { (s : Scope ℕ) (v : Value ℕ) (operands : List OperandOfSpecs) → NamesSo s v operands named
+        → drop result refs.now ≡ drop (length (value_refs v)) (drop next refs.now) }
 {
     match named {
         Named::Next(count) => behind(refs, next, count),

@@ -25,7 +25,9 @@ pub(crate) fn put_simple(
     pair: &Pair,
     raw: &Raw,
 ) -> Result<(), NoMemory>
-    ensures { (s : Scope ℕ) (at end : ℕ) (v : Value ℕ) → is_simple (class_view class) ≡ true → s.around.sources ≡ sources_view sections.now → s.around.common ≡ None → base ≡ str_offsets_base s → as_class (class_view class) s (stored at end pair.now raw.now) ≡ Ok v → OnOk result (out.new.items ≡ out.old.items ++ plain_label v.plain) }
+    ensures { (s : Scope ℕ) (at end : ℕ) (v : Value ℕ) → is_simple (class_view class) ≡ true → s.around.sources ≡ sources_view sections.now
+        → s.around.common ≡ None → base ≡ str_offsets_base s → as_class (class_view class) s (stored at end pair.now raw.now) ≡ Ok v
+        → OnOk result (out.new.items ≡ out.old.items ++ plain_label v.plain) }
 {
     let offset = offset_of(raw);
     match class {

@@ -9,7 +9,7 @@ ghost use Rattle.dwz_flat.specs.Rows.{AreTargets};
 ghost use Rattle.dwz_index.specs.Index.{IsIndex};
 ghost use Rattle.dwz_index.specs.Names.{path_in};
 ghost use Rattle.dwz_label.specs.Labels.{each_counted, number, target_label};
-ghost use Rattle.dwz_resolve.specs.Resolved.{Each};
+ghost use Rattle.dwz_docs.specs.Lists.{Each};
 
 use dwz_index::Index;
 use dwz_label::put_number;
@@ -33,7 +33,8 @@ fn put_way(
     path: &mut Vec<u32>,
 ) -> Result<(), NoMemory>
     requires { entry < length index.now.steps }
-    ensures { (names : List Spot) (s : Spot) → IsIndex names index.now → slice_get names entry ≡ Some s → OnOk result (out.new.items ≡ out.old.items ++ 1 ∷ each_counted number (path_in s)) }
+    ensures { (names : List Spot) (s : Spot) → IsIndex names index.now → slice_get names entry ≡ Some s
+        → OnOk result (out.new.items ≡ out.old.items ++ 1 ∷ each_counted number (path_in s)) }
 {
     path.clear();
     index.put_path(entry, path)?;
@@ -51,7 +52,8 @@ pub fn put_target(
     path: &mut Vec<u32>,
 ) -> Result<(), NoMemory>
     requires { entry < length index.now.steps }
-    ensures { (names : List Spot) (s : Spot) → IsIndex names index.now → slice_get names entry ≡ Some s → OnOk result (out.new.items ≡ out.old.items ++ target_label s) }
+    ensures { (names : List Spot) (s : Spot) → IsIndex names index.now → slice_get names entry ≡ Some s
+        → OnOk result (out.new.items ≡ out.old.items ++ target_label s) }
 {
     match index.top_of(entry) {
         None => {
@@ -70,7 +72,8 @@ pub(crate) fn put_targets(
     path: &mut Vec<u32>,
 ) -> Result<(), NoMemory>
     requires { Each (λ i. i < length index.now.steps) entries.now }
-    ensures { (raw : List RawUnit) (name : ℕ → Spot) (places : List ℕ) → KnowsNames raw name index.now → AreTargets raw entries.now places → length places ≡ length entries.now → OnOk result (out.new.items ≡ out.old.items ++ flat_map target_label (map name places)) }
+    ensures { (raw : List RawUnit) (name : ℕ → Spot) (places : List ℕ) → KnowsNames raw name index.now → AreTargets raw entries.now places
+        → length places ≡ length entries.now → OnOk result (out.new.items ≡ out.old.items ++ flat_map target_label (map name places)) }
 {
     for entry in entries {
         put_target(out, index, *entry, path)?;

@@ -21,7 +21,8 @@ use dwz_resolve::{Sections, slot, text_in};
 /// Appends that a value is the text at an offset of a section, which is there.
 #[inline(always)]
 pub(crate) fn put_text_at(out: &mut Vec<u8>, section: &[u8], offset: u128) -> Result<(), NoMemory>
-    ensures { (text : List ℕ) → Texts.text_at section.now offset ≡ Some text → OnOk result (out.new.items ≡ out.old.items ++ plain_label (Text text)) }
+    ensures { (text : List ℕ) → Texts.text_at section.now offset ≡ Some text
+        → OnOk result (out.new.items ≡ out.old.items ++ plain_label (Text text)) }
 {
     match text_in(section, offset) {
         None => Ok(()),
@@ -36,7 +37,9 @@ pub(crate) fn put_text_by_slot(
     base: Option<u32>,
     index: u128,
 ) -> Result<(), NoMemory>
-    ensures { (at offset : ℕ) (text : List ℕ) → base ≡ Some at → Texts.slot sections.now.offsets.now at index ≡ Some offset → Texts.text_at sections.now.strs.bytes.now offset ≡ Some text → OnOk result (out.new.items ≡ out.old.items ++ plain_label (Text text)) }
+    ensures { (at offset : ℕ) (text : List ℕ) → base ≡ Some at → Texts.slot sections.now.offsets.now at index ≡ Some offset
+        → Texts.text_at sections.now.strs.bytes.now offset ≡ Some text
+        → OnOk result (out.new.items ≡ out.old.items ++ plain_label (Text text)) }
 {
     let Some(base) = base else {
         return Ok(());
@@ -61,7 +64,8 @@ fn row_of(number: i128) -> u64
 // Appends that a value is the file with a number, which the table has.
 #[inline(always)]
 fn put_path(out: &mut Vec<u8>, table: &FileTable, number: i128) -> Result<(), NoMemory>
-    ensures { (path : List ℕ) → path_by table.now number ≡ Some path → OnOk result (out.new.items ≡ out.old.items ++ plain_label (File (Some path))) }
+    ensures { (path : List ℕ) → path_by table.now number ≡ Some path
+        → OnOk result (out.new.items ≡ out.old.items ++ plain_label (File (Some path))) }
 {
     match table.path(row_of(number)) {
         None => Ok(()),
@@ -77,7 +81,8 @@ fn put_path_in(
     table: usize,
     number: i128,
 ) -> Result<(), NoMemory>
-    ensures { (t : Paths) (path : List ℕ) → slice_get tables.now table ≡ Some t → path_by t number ≡ Some path → OnOk result (out.new.items ≡ out.old.items ++ plain_label (File (Some path))) }
+    ensures { (t : Paths) (path : List ℕ) → slice_get tables.now table ≡ Some t → path_by t number ≡ Some path
+        → OnOk result (out.new.items ≡ out.old.items ++ plain_label (File (Some path))) }
 {
     if table >= tables.len() {
         return Ok(());
@@ -92,7 +97,8 @@ pub(crate) fn put_file_by(
     line: Option<usize>,
     raw: &Raw,
 ) -> Result<(), NoMemory>
-    ensures { (s : Scope ℕ) (a : RawAttr) (v : Value ℕ) → numbers_file a ≡ true → a.raw ≡ raw_view raw.now → KnowsLine s a tables.now line → file_by (stmt_list s) s a ≡ Ok v → OnOk result (out.new.items ≡ out.old.items ++ plain_label v.plain) }
+    ensures { (s : Scope ℕ) (a : RawAttr) (v : Value ℕ) → numbers_file a ≡ true → a.raw ≡ raw_view raw.now → KnowsLine s a tables.now line
+        → file_by (stmt_list s) s a ≡ Ok v → OnOk result (out.new.items ≡ out.old.items ++ plain_label v.plain) }
 {
     match line {
         None => put_no_file(out),

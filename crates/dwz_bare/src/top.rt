@@ -9,7 +9,7 @@ ghost use Rattle.dwz_flat.specs.Rows.{AreTargets, nodes, nodes_refs};
 ghost use Rattle.dwz_flat.specs.Tops.{HasTop};
 ghost use Rattle.dwz_index.specs.Chains.{AreSpacesAt};
 ghost use Rattle.dwz_label.specs.Labels.{label_of};
-ghost use Rattle.dwz_resolve.specs.Resolved.{Each};
+ghost use Rattle.dwz_docs.specs.Lists.{Each};
 ghost use Rattle.dwz_unit.specs.Rows.{rows_of};
 
 use crate::entries::put_rows;
@@ -37,7 +37,12 @@ pub fn put_top(
     requires ready { IsReady source.now here.now }
     requires rows { end ≤ entries_in (raw_of source.now) }
     requires spaces { Each (λ i. i < entries_in (raw_of source.now)) spaces.now }
-    ensures { (u : RawUnit) (name : ℕ → Spot) (depth : ℕ) (t : Top) (h : HasTop (scope_at source.now u) name (rows_of (raw_of source.now)) here.now.number depth t.spaces t) → KnowsUnit source.now here.now line u name → t.language ≡ language → AreSpacesAt (raw_of source.now) (around_at source.now) here.now.number t.spaces spaces.now → h.p.before ≡ first → first + size (Entry h.e h.c End) ≡ end → AreTargets (raw_of source.now) (drop next source.now.refs.now) (nodes_refs (nodes (Entry h.d h.g End))) → OnOk result (out.new.items ≡ out.old.items ++ label_of t) }
+    ensures { (u : RawUnit) (name : ℕ → Spot) (depth : ℕ) (t : Top)
+        (h : HasTop (scope_at source.now u) name (rows_of (raw_of source.now)) here.now.number depth t.spaces t)
+        → KnowsUnit source.now here.now line u name → t.language ≡ language
+        → AreSpacesAt (raw_of source.now) (around_at source.now) here.now.number t.spaces spaces.now → h.p.before ≡ first
+        → first + size (Entry h.e h.c End) ≡ end → AreTargets (raw_of source.now) (drop next source.now.refs.now)
+        (nodes_refs (nodes (Entry h.d h.g End))) → OnOk result (out.new.items ≡ out.old.items ++ label_of t) }
 {
     put_language(out, language)?;
     put_names(out, source.units, source.sections, here, spaces)?;

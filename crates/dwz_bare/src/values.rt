@@ -34,7 +34,12 @@ fn put_value(
     scratch: &mut Scratch,
 ) -> Result<usize, NoMemory>
     requires { IsReady source.now here.now }
-    ensures { (u : RawUnit) (name : ℕ → Spot) (at : ℕ) (v : Value ℕ) → KnowsUnit source.now here.now line u name → KnowsLine (scope_at source.now u) (stored at end pair.now raw.now) source.now.tables.now line → meaning (scope_at source.now u) (stored at end pair.now raw.now) ≡ Ok v → AreTargets (raw_of source.now) (drop next source.now.refs.now) (value_refs v) → IfOk result (λ behind. TellsValue name v (drop next source.now.refs.now) (drop behind source.now.refs.now) out.old.items out.new.items) }
+    ensures { (u : RawUnit) (name : ℕ → Spot) (at : ℕ) (v : Value ℕ) → KnowsUnit source.now here.now line u name
+        → KnowsLine (scope_at source.now u) (stored at end pair.now raw.now) source.now.tables.now line
+        → meaning (scope_at source.now u) (stored at end pair.now raw.now) ≡ Ok v
+        → AreTargets (raw_of source.now) (drop next source.now.refs.now) (value_refs v)
+        → IfOk result (λ behind. TellsValue name v (drop next source.now.refs.now) (drop behind source.now.refs.now) out.old.items
+        out.new.items) }
 {
     let named = put_plain(
         source.alloc,
@@ -79,7 +84,13 @@ pub(crate) fn put_attr(
     scratch: &mut Scratch,
 ) -> Result<usize, NoMemory>
     requires { IsReady source.now here.now }
-    ensures { (u : RawUnit) (name : ℕ → Spot) (at : ℕ) (values : List RawAttr) (attrs : List (Attr ℕ)) → KnowsUnit source.now here.now line u name → KnowsLine (scope_at source.now u) (stored at end pair.now raw.now) source.now.tables.now line → AreAttrsMeant (raw_of source.now) (scope_at source.now u) (drop next source.now.refs.now) (stored at end pair.now raw.now ∷ values) attrs → IfOk result (λ behind. TellsAttr (raw_of source.now) (scope_at source.now u) values name attrs (drop next source.now.refs.now) (drop behind source.now.refs.now) out.old.items out.new.items) }
+    ensures { (u : RawUnit) (name : ℕ → Spot) (at : ℕ) (values : List RawAttr) (attrs : List (Attr ℕ))
+        → KnowsUnit source.now here.now line u name
+        → KnowsLine (scope_at source.now u) (stored at end pair.now raw.now) source.now.tables.now line
+        → AreAttrsMeant (raw_of source.now) (scope_at source.now u) (drop next source.now.refs.now)
+        (stored at end pair.now raw.now ∷ values) attrs
+        → IfOk result (λ behind. TellsAttr (raw_of source.now) (scope_at source.now u) values name attrs (drop next source.now.refs.now)
+        (drop behind source.now.refs.now) out.old.items out.new.items) }
 {
     if pair.name == SIBLING {
         return Ok(next);

@@ -12,11 +12,11 @@ use Rattle.dwz_bytes.specs.Reading.{groups_at, leb_at, uleb_at}
 use Rattle.dwz_bytes.specs.Laws.{Again, Found, IsCutShort, IsRead, IsShortAt, IsWideAt, One}
 use Rattle.dwz_bytes.proofs.GroupLemmas.{AreGroupsOf, bind_ok, bind_err, chosen, groups_again, groups_found, groups_short, groups_wide, short_groups, wide_groups}
 
-drop-front : (front rest : List ℕ) → drop (length front) (front ++ rest) ≡ rest
+pub drop-front : (front rest : List ℕ) → drop (length front) (front ++ rest) ≡ rest
 drop-front [] rest = refl
 drop-front (x ∷ front) rest = drop-front front rest
 
-take-front : (front rest : List ℕ) → take (length front) (front ++ rest) ≡ front
+pub take-front : (front rest : List ℕ) → take (length front) (front ++ rest) ≡ front
 take-front [] rest = refl
 take-front (x ∷ front) rest = ap (λ (w : List ℕ). x ∷ w) (take-front front rest)
 
@@ -43,15 +43,20 @@ abbrev input_or : {X : Type 0} → Input → Result (X × Input) ByteErr → Inp
 input_or d (Ok p) = p.1
 input_or d (Err e) = d
 
-found_front : {X : Type 0} (worth : List ℕ → X) (fits : X → Bool) (i j : Input) (x : X) (front : List ℕ) → AreGroupsOf 10 i.rest front → made worth fits i front ≡ Ok (x, j) → IsRead (SpellsLeb worth fits) i j x
+found_front : {X : Type 0} (worth : List ℕ → X) (fits : X → Bool) (i j : Input) (x : X) (front : List ℕ) → AreGroupsOf 10 i.rest front → made worth fits i front ≡ Ok (x, j)
+    → IsRead (SpellsLeb worth fits) i j x
 found_front {X} worth fits i j x front t e =
     elim (chosen (fits (worth front)) (Ok (worth front, past (length front) i)) (Err (Wide i.at)) (Ok (x, j)) e) [
       | inl p ↦
           let value : worth front ≡ x = ap (value_or x) p.1 in
           let to : past (length front) i ≡ j = ap (input_or j) p.1 in
           let behind : drop (length front) i.rest ≡ t.rest = ap (drop (length front)) t.parts ∙ drop-front front t.rest in
-          let left : j.rest ≡ t.rest = ap (λ (k : Input). k.rest) (sym to) ∙ behind in
-          (front, record { groups = t.groups; len = t.len; value = sym value; in_range = subst (λ (y : X). fits y ≡ true) value p.0 }, t.parts ∙ ap (λ (w : List ℕ). front ++ w) (sym left), ap (λ (k : Input). k.at) (sym to))
+          let left : j.rest ≡ t.rest = ap (λ (k : Input). k.rest) (sym to) ∙ behind in (
+            front,
+            record { groups = t.groups; len = t.len; value = sym value; in_range = subst (λ (y : X). fits y ≡ true) value p.0 },
+            t.parts ∙ ap (λ (w : List ℕ). front ++ w) (sym left),
+            ap (λ (k : Input). k.at) (sym to),
+          )
       | inr p ↦ absurd cc
     ]
 
@@ -104,10 +109,12 @@ leb_wide {X} worth fits i at = (
 pub leb_fails : {X : Type 0} (worth : List ℕ → X) (fits : X → Bool) (i : Input) (e : ByteErr) → groups_at i.at 10 i.rest ≡ Err e → leb_at worth fits i ≡ Err e
 leb_fails worth fits i e h = rw h refl
 
-pub leb_is_wide : {X : Type 0} (worth : List ℕ → X) (fits : X → Bool) (i : Input) (front : List ℕ) → groups_at i.at 10 i.rest ≡ Ok front → fits (worth front) ≡ false → leb_at worth fits i ≡ Err (Wide i.at)
+pub leb_is_wide : {X : Type 0} (worth : List ℕ → X) (fits : X → Bool) (i : Input) (front : List ℕ) → groups_at i.at 10 i.rest ≡ Ok front → fits (worth front) ≡ false
+    → leb_at worth fits i ≡ Err (Wide i.at)
 leb_is_wide worth fits i front h big = rw (h, big) refl
 
-pub leb_is : {X : Type 0} (worth : List ℕ → X) (fits : X → Bool) (i : Input) (len : ℕ) (x : X) → groups_at i.at 10 i.rest ≡ Ok (take len i.rest) → len ≤ length i.rest → x ≡ worth (take len i.rest) → fits x ≡ true → leb_at worth fits i ≡ Ok (x, past len i)
+pub leb_is : {X : Type 0} (worth : List ℕ → X) (fits : X → Bool) (i : Input) (len : ℕ) (x : X) → groups_at i.at 10 i.rest ≡ Ok (take len i.rest) → len ≤ length i.rest → x ≡ worth (take len i.rest)
+    → fits x ≡ true → leb_at worth fits i ≡ Ok (x, past len i)
 leb_is {X} worth fits i len x h within value in_range =
     let test : fits (worth (take len i.rest)) ≡ true = subst (λ (y : X). fits y ≡ true) value in_range in
     let same : length (take len i.rest) ≡ len = grind (arith, common_steps) in
@@ -119,4 +126,5 @@ unfolding uleb_at
 one_byte bytes at within low =
     let cut : drop at bytes ≡ get_or bytes at 0 ∷ drop (at + 1) bytes = drop_more bytes at 0 within in
     let value : get_or bytes at 0 ≡ get_or bytes at 0 % 128 + 128 * 0 = omega arith in
-    rw cut (leb_again groups_value fits_u64 at (get_or bytes at 0) (get_or bytes at 0 ∷ []) (drop (at + 1) bytes) (record { groups = low; len = omega arith; value = value; in_range = lt-ltb _ _ (omega arith) }))
+    rw cut (leb_again groups_value fits_u64 at (get_or bytes at 0) (get_or bytes at 0 ∷ []) (drop (at + 1) bytes)
+    (record { groups = low; len = omega arith; value = value; in_range = lt-ltb _ _ (omega arith) }))

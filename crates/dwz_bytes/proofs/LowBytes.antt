@@ -4,7 +4,7 @@ use Rattle.std.specs.Int.{bytes_low_first, to_le_bytes, w64}
 use Rattle.std.proofs.Math.Nat.{div-div-eq-div-mul, div-one, pow-suc}
 use Rattle.dwz_bytes.specs.Spelling.{le_bytes}
 
-low_first : (k i n : ℕ) → bytes_low_first i k n ≡ le_bytes k (n / 256 ^ i)
+pub low_first : (k i n : ℕ) → bytes_low_first i k n ≡ le_bytes k (n / 256 ^ i)
 unfolding le_bytes
 low_first zero i n = refl
 low_first (suc k) zero n =
@@ -16,7 +16,7 @@ low_first (suc k) (suc i) n =
     let deeper : n / 256 ^ suc (suc i) ≡ n / 256 ^ suc i / 256 = ap (λ (m : ℕ). n / m) (pow-suc 256 (suc i)) ∙ sym (div-div-eq-div-mul n (256 ^ suc i) 256) in
     ap (λ (bytes : List ℕ). n / 256 ^ suc i % 256 ∷ bytes) (rest ∙ ap (le_bytes k) deeper)
 
-take_le : (k m n : ℕ) → take k (le_bytes (k + m) n) ≡ le_bytes k n
+pub take_le : (k m n : ℕ) → take k (le_bytes (k + m) n) ≡ le_bytes k n
 unfolding le_bytes
 take_le zero m n = refl
 take_le (suc k) m n = let next : suc k + m ≡ suc (k + m) = omega arith in rw next (ap (λ (bytes : List ℕ). n % 256 ∷ bytes) (take_le k m (n / 256)))

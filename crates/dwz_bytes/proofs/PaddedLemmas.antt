@@ -1,5 +1,6 @@
 -- Numbers written in groups.
-use Rattle.std.proofs.Common.{◌≡◌, ℕ, zero, suc, ◌+◌, ◌*◌, ◌/◌, ◌%◌, ◌^◌, ◌<◌, ◌≤◌, ◌-◌, List, [], ◌∷◌, ◌++◌, length, take, set, refl, sym, subst, ◌∙◌, ◌⊎◌, arith, append_assoc, append-nil}
+use Rattle.std.proofs.Common.{◌≡◌, ℕ, zero, suc, ◌+◌, ◌*◌, ◌/◌, ◌%◌, ◌^◌, ◌<◌, ◌≤◌, ◌-◌, List, [], ◌∷◌, ◌++◌, length, take, set, refl, sym, subst, ◌∙◌, ◌⊎◌, arith, append_assoc, append-nil, Bool}
+use Rattle.std.proofs.Common.{cond, true, false, eqb, eqb-true}
 use Rattle.std.proofs.lemmas.Bool.{le-ltb, lt-ltb, cases_lt}
 use Rattle.std.proofs.Math.Logic.{inl, inr}
 use Rattle.std.proofs.lemmas.Grind.{common_steps}
@@ -200,3 +201,18 @@ uleb_small n lt =
     let count : group_count n ≡ suc zero = only_one 9 n lt in
     let low : n % 128 ≡ n = omega arith in
     rw (count, low) refl
+
+abbrev pub group_of : Bool → ℕ → ℕ
+group_of last rest = cond last (rest % 128) (rest % 128 + 128)
+
+pub padded_first : (left rest : ℕ) → 0 < left → padded left rest ≡ group_of (eqb left 1) rest ∷ padded (left - 1) (rest / 128)
+unfolding padded
+padded_first zero rest lt = absurd (omega (arith, lt))
+padded_first (suc zero) rest lt = refl
+padded_first (suc (suc k)) rest lt =
+    let one : suc (suc k) - 1 ≡ suc k = omega arith in
+    let no : eqb (suc (suc k)) 1 ≡ false = other (eqb (suc (suc k)) 1) refl in
+    sym (λ i. group_of (no i) rest ∷ padded (one i) (rest / 128)) where
+      other : (b : Bool) → eqb (suc (suc k)) 1 ≡ b → b ≡ false
+      other true e = absurd (let same = eqb-true (suc (suc k)) 1 e in omega (arith, same))
+      other false e = refl

@@ -105,7 +105,8 @@ low_reach bytes g found reach is low e =
     let value : reach ≡ groups_value (take g.len bytes) = e ∙ is.value in
     rw (low_value (take g.len bytes) last) (ap pos value)
 
-pub high_reach : (bytes : List ℕ) (g : Groups) (found : Result (List ℕ) ByteErr) (reach : ℕ) → AreFirst bytes g found → 64 ≤ g.last → reach ≡ g.scale - g.value - 1 → negsuc reach ≡ signed_value (take g.len bytes)
+pub high_reach : (bytes : List ℕ) (g : Groups) (found : Result (List ℕ) ByteErr) (reach : ℕ) → AreFirst bytes g found → 64 ≤ g.last → reach ≡ g.scale - g.value - 1
+    → negsuc reach ≡ signed_value (take g.len bytes)
 high_reach bytes g found reach is high e =
     let last : 64 ≤ last_of (take g.len bytes) = omega (arith, is.last) in
     let within = is.within in

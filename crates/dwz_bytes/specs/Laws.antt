@@ -37,7 +37,8 @@ Found {X} Spells read = (i j : Input) (x : X) → read i ≡ Ok (x, j) → IsRea
 
 -- each number that is spelled is read, whatever follows it
 abbrev pub Again : {X : Type 0} → (List ℕ → X → Type 0) → (Input → Result (X × Input) ByteErr) → Type 0
-Again {X} Spells read = (at : ℕ) (x : X) (front rest : List ℕ) → Spells front x → read (record { at = at; rest = front ++ rest }) ≡ Ok (x, record { at = at + length front; rest = rest })
+Again {X} Spells read = (at : ℕ) (x : X) (front rest : List ℕ) → Spells front x → read (record { at = at; rest = front ++ rest })
+    ≡ Ok (x, record { at = at + length front; rest = rest })
 
 -- no spelling begins another, and none spells two numbers
 abbrev pub One : {X : Type 0} → (List ℕ → X → Type 0) → Type 0
@@ -49,4 +50,5 @@ IsShortAt Cut read = (i : Input) (at : ℕ) → (read i ≡ Err (Short at)) ↔ 
 
 -- reading meets a number that is too wide exactly where it has more than ten bytes or too many bits
 abbrev pub IsWideAt : {X : Type 0} → (List ℕ → X) → (X → Bool) → (Input → Result (X × Input) ByteErr) → Type 0
-IsWideAt worth fits read = (i : Input) (at : ℕ) → (read i ≡ Err (Wide at)) ↔ ((at ≡ i.at) × (IsTooLong i.rest ⊎ HasTooManyBits worth fits i.rest))
+IsWideAt worth fits read = (i : Input) (at : ℕ) → (read i ≡ Err (Wide at)) ↔
+    ((at ≡ i.at) × (IsTooLong i.rest ⊎ HasTooManyBits worth fits i.rest))

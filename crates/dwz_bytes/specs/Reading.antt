@@ -12,7 +12,7 @@ abbrev pub ◌>>=◌ : {A B E : Type 0} → Result A E → (A → Result B E) �
 (Err e) >>= f = Err e
 
 -- What a call on a cursor returned and left is what reading gives. After an error the cursor stands where it was.
-abbrev pub Gives : {X Y : Type 0} → (X → Y) → Input → Input → Result X ByteErr → Result (Y × Input) ByteErr → Type 0
+abbrev pub Gives : {X Y E : Type 0} → (X → Y) → Input → Input → Result X E → Result (Y × Input) E → Type 0
 Gives view old new (Ok x) read = read ≡ Ok (view x, new)
 Gives view old new (Err e) read = (read ≡ Err e) × (new ≡ old)
 

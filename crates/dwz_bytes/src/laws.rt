@@ -3,7 +3,8 @@
 ghost use Rattle.std.specs.Prelude.{◌≡◌, ℕ, ℤ, ◌≤◌, ◌<◌, ◌^◌, true, List, length};
 ghost use Rattle.dwz_bytes.specs.Laws.{Again, Found, IsCutShort, IsShortAt, IsWideAt, One};
 ghost use Rattle.dwz_bytes.specs.Reading.{fixed_at, sleb_at, uleb_at};
-ghost use Rattle.dwz_bytes.specs.Spelling.{SpellsFixed, SpellsSleb, SpellsUleb, fits_i64, fits_u64, groups_value, le_bytes, padded, signed_value, sleb, uleb};
+ghost use Rattle.dwz_bytes.specs.Spelling.{SpellsFixed, SpellsSleb, SpellsUleb, fits_i64, fits_u64, groups_value, le_bytes, padded};
+ghost use Rattle.dwz_bytes.specs.Spelling.{signed_value, sleb, uleb};
 
 /// Numbers of a fixed width: what is read is spelled, what is spelled is read whatever follows, no spelling begins
 /// another, what is written is spelled, and it is Short exactly where fewer bytes are left.

@@ -12,6 +12,3 @@ pub use cursor::Cursor;
 pub use error::ByteErr;
 pub use laws::{fixed_laws, sleb_laws, uleb_laws};
 pub use writing::{put_fixed, put_padded, put_sleb, put_uleb};
-
-#[cfg(test)]
-mod tests;

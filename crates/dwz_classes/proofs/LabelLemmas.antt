@@ -1,17 +1,16 @@
 -- Labels that were written one by one are those of all tops that may move, each at its top's number.
-use Rattle.std.proofs.Common.{◌≡◌, ℕ, suc, ◌+◌, Bool, true, false, List, [], ◌∷◌, length, map, Some, slice_get, refl, sym, ap, subst, ◌∙◌, inl, inr, arith}
+use Rattle.std.proofs.Common.{◌≡◌, ℕ, Bool, true, false, List, [], length, map, Some, slice_get, ap, subst, ◌∙◌, arith}
 use Rattle.std.specs.Prelude.{slice_index_or}
 use Rattle.std.specs.List.{range_with_len}
 use Rattle.std.proofs.lemmas.Bool.{cond-true}
 use Rattle.std.proofs.lemmas.List.FromFn.{get_or-map-range_with_len, length-map-range_with_len}
-use Rattle.dwz_across.proofs.ListGets.{got_map}
 use Rattle.dwz_alike.specs.Spots.{Top, tops_of, units_of}
 use Rattle.dwz_alike.proofs.AlikeBound.{movable_decides}
-use Rattle.dwz_alike.proofs.TopNumbers.{Numbered, tops_numbers}
+use Rattle.dwz_alike.proofs.TopNumbers.{at_number, tops_numbers}
 use Rattle.dwz_classes.specs.Run.{Asked, labels_of, movable_label, movable_labels}
 use Rattle.dwz_classes.specs.Shown.{ShowTargets}
-use Rattle.dwz_classes.proofs.TopLemmas.{got_or}
 use Rattle.dwz_docs.specs.Lists.{In}
+use Rattle.dwz_docs.proofs.ListFacts.{got_index_or, got_map}
 use Rattle.dwz_graph.specs.Files.{docs_of}
 use Rattle.dwz_label.specs.Labels.{label_of}
 use Rattle.dwz_label.specs.Shown.{AreShown, nth_label}
@@ -30,17 +29,12 @@ all_many contents movable = length-map-range_with_len (movable_label contents mo
 
 -- ---- by numbers
 
-at_number : (n : ℕ) (tops : List Top) → Numbered n tops → (t : Top) → In t tops → (k : ℕ) × (slice_get tops k ≡ Some t) × (t.number ≡ n + k)
-at_number n [] h t there = absurd there
-at_number n (x ∷ tops) h t (inl e) = (0, ap (λ (w : Top). Some w) e, (let first = h.0 in let same : x.number ≡ t.number = ap (λ (w : Top). w.number) e in omega arith))
-at_number n (x ∷ tops) h t (inr later) = (let r = at_number (suc n) tops h.1 t later in (suc r.0, r.1, (let at = r.2 in omega arith)))
-
 label_at : (contents : List (List ℕ)) (t : Top) → In t (tops_of (units_of (docs_of contents))) → nth_label (labels_of contents) t.number ≡ label_of t
 label_at contents t there =
     let tops = tops_of (units_of (docs_of contents)) in
     let r = at_number 0 tops (tops_numbers (units_of (docs_of contents))) t there in
     let at : r.0 ≡ t.number = (let e = r.2 in omega arith) in
-    got_or (labels_of contents) t.number (label_of t) [] (got_map label_of tops t.number t (subst (λ (k : ℕ). slice_get tops k ≡ Some t) at r.1))
+    got_index_or (labels_of contents) t.number (label_of t) [] (got_map label_of tops t.number t (subst (λ (k : ℕ). slice_get tops k ≡ Some t) at r.1))
 
 -- of a top that may move its label
 movable_at : (contents : List (List ℕ)) (movable : List Bool) (t : Top) → In t (tops_of (units_of (docs_of contents))) → slice_index_or movable t.number false ≡ true

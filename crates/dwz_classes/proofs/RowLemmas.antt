@@ -4,10 +4,10 @@ use Rattle.std.proofs.lemmas.Bool.{cases_lt}
 use Rattle.std.proofs.lemmas.List.{append-nil, append_assoc, length-append}
 use Rattle.dwz_across.specs.Across.{starts_at, starts_from}
 use Rattle.dwz_across.proofs.FileCounts.{are_many, starts_are}
-use Rattle.dwz_across.proofs.ListGets.{get_there, got_below, same_got}
 use Rattle.dwz_classes.specs.declared.unit.UnitRow.{UnitRow}
 use Rattle.dwz_classes.specs.Unit.{AddsRows, HasRow, HaveRows, IsUnitRow}
 use Rattle.dwz_docs.specs.Units.{RawUnit}
+use Rattle.dwz_docs.proofs.ListFacts.{got_below, got_there, same_got}
 use Rattle.dwz_graph.specs.declared.file.File.{File}
 use Rattle.dwz_graph.specs.Files.{AreKept, docs_of}
 use Rattle.dwz_index.specs.declared.index.Starts.{Starts}
@@ -48,7 +48,8 @@ pub none_yet : (contents : List (List ℕ)) (files : List File) (indexes : List 
 unfolding starts_from
 none_yet contents files indexes rows e = record { many = ap (λ (w : List UnitRow). length w) e; are = λ file f x lt. absurd (omega arith) }
 
-pub file_more : (contents : List (List ℕ)) (files : List File) (indexes : List Index) (k : ℕ) (f : File) (rows new : List UnitRow) → AreKept contents files → AreIndexes (docs_of contents) indexes → slice_get files k ≡ Some f → RowsTo contents files indexes k rows
+pub file_more : (contents : List (List ℕ)) (files : List File) (indexes : List Index) (k : ℕ) (f : File) (rows new : List UnitRow) → AreKept contents files → AreIndexes (docs_of contents) indexes
+    → slice_get files k ≡ Some f → RowsTo contents files indexes k rows
     → AddsRows (raw_units f.units) (length (raw_units f.units)) rows new → RowsTo contents files indexes (k + 1) new
 file_more contents files indexes k f rows new kept indexed got h adds = record {
   many = (
@@ -67,20 +68,23 @@ file_more contents files indexes k f rows new kept indexed got h adds = record {
   within = let m = are_many contents files indexes kept indexed in let a = m.0 in let b = m.1 in let below = got_below files k f got in omega arith
 
   x : (y : Index) × (slice_get indexes k ≡ Some y)
-  x = get_there indexes k within
+  x = got_there indexes k within
 
   st : (x.0.starts ≡ starts_at (docs_of contents) indexes k) × (next_starts x.0 (length raw) ≡ starts_at (docs_of contents) indexes (k + 1))
   st = starts_are contents files indexes k f x.0 kept indexed got x.1
 
-  older : (file : ℕ) (g : File) (y : Index) → file < k → slice_get files file ≡ Some g → slice_get indexes file ≡ Some y → (n : ℕ) → n < length (raw_units g.units) → HasRow (raw_units g.units) new n (y.starts.unit + n)
-  older file g y less p q n lt = subst (λ (w : List UnitRow). HasRow (raw_units g.units) w n (y.starts.unit + n)) (sym adds.is) (row_front (raw_units g.units) rows adds.more n (y.starts.unit + n) (h.are file g y less p q n lt))
+  older : (file : ℕ) (g : File) (y : Index) → file < k → slice_get files file ≡ Some g → slice_get indexes file ≡ Some y → (n : ℕ) → n < length (raw_units g.units)
+      → HasRow (raw_units g.units) new n (y.starts.unit + n)
+  older file g y less p q n lt = subst (λ (w : List UnitRow). HasRow (raw_units g.units) w n (y.starts.unit + n)) (sym adds.is)
+      (row_front (raw_units g.units) rows adds.more n (y.starts.unit + n) (h.are file g y less p q n lt))
 
   own : (n : ℕ) → n < length raw → HasRow raw new n (x.0.starts.unit + n)
   own n lt =
       let at : x.0.starts.unit + n ≡ length rows + n = (let a = h.many in let b = ap (λ (w : Starts). w.unit) st.0 in omega arith) in
       subst (λ (w : List UnitRow). HasRow raw w n (x.0.starts.unit + n)) (sym adds.is) (row_behind raw rows adds.more n n (x.0.starts.unit + n) at (adds.each n lt))
 
-  newest : (file : ℕ) (g : File) (y : Index) → file ≡ k → slice_get files file ≡ Some g → slice_get indexes file ≡ Some y → (n : ℕ) → n < length (raw_units g.units) → HasRow (raw_units g.units) new n (y.starts.unit + n)
+  newest : (file : ℕ) (g : File) (y : Index) → file ≡ k → slice_get files file ≡ Some g → slice_get indexes file ≡ Some y → (n : ℕ) → n < length (raw_units g.units)
+      → HasRow (raw_units g.units) new n (y.starts.unit + n)
   newest file g y last p q =
       let p' : slice_get files k ≡ Some g = ap (slice_get files) (sym last) ∙ p in
       let q' : slice_get indexes k ≡ Some y = ap (slice_get indexes) (sym last) ∙ q in

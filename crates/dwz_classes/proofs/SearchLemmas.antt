@@ -1,11 +1,11 @@
 -- The file of a top is found by halving: it begins at or before the top, and the next one begins behind it.
 use Rattle.std.proofs.Common.{◌≡◌, ℕ, ◌+◌, ◌^◌, ◌<◌, ◌≤◌, List, length, Some, slice_get, sym, ap, ◌∙◌, ⊎_elim, subst, arith}
 use Rattle.std.proofs.lemmas.Bool.{cases_lt}
+use Rattle.dwz_docs.proofs.ListFacts.{got_there}
 use Rattle.dwz_alike.specs.Spots.{tops_of, units_of}
 use Rattle.dwz_across.specs.Across.{starts_at, starts_from}
 use Rattle.dwz_across.proofs.FileCounts.{all_ends, are_many, starts_are}
 use Rattle.dwz_across.proofs.FileRoom.{tops_small}
-use Rattle.dwz_across.proofs.ListGets.{get_there}
 use Rattle.dwz_classes.specs.Run.{IsInFile}
 use Rattle.dwz_graph.specs.declared.file.File.{File}
 use Rattle.dwz_graph.specs.Files.{AreKept, docs_of}
@@ -20,7 +20,8 @@ pub record Between (contents : List (List ℕ)) (indexes : List Index) (n low hi
   pub from : (starts_at (docs_of contents) indexes low).top ≤ n
   pub to : n < (starts_at (docs_of contents) indexes high).top
 
-pub all_between : (contents : List (List ℕ)) (indexes : List Index) (n : ℕ) → AreIndexes (docs_of contents) indexes → n < length (tops_of (units_of (docs_of contents))) → Between contents indexes n 0 (length indexes)
+pub all_between : (contents : List (List ℕ)) (indexes : List Index) (n : ℕ) → AreIndexes (docs_of contents) indexes → n < length (tops_of (units_of (docs_of contents)))
+    → Between contents indexes n 0 (length indexes)
 unfolding starts_from
 all_between contents indexes n indexed lt =
     let e = all_ends contents indexes indexed in
@@ -38,18 +39,20 @@ all_between contents indexes n indexed lt =
 
 module _ (contents : List (List ℕ)) (files : List File) (indexes : List Index) (kept : AreKept contents files) (indexed : AreIndexes (docs_of contents) indexes) where
   file_there : (k : ℕ) → k < length indexes → (f : File) × (slice_get files k ≡ Some f)
-  file_there k lt = get_there files k (let m = are_many contents files indexes kept indexed in let a = m.0 in let b = m.1 in omega arith)
+  file_there k lt = got_there files k (let m = are_many contents files indexes kept indexed in let a = m.0 in let b = m.1 in omega arith)
 
   begins : (k : ℕ) (x : Index) → k < length indexes → slice_get indexes k ≡ Some x → x.starts ≡ starts_at (docs_of contents) indexes k
   begins k x lt got = let f = file_there k lt in (starts_are contents files indexes k f.0 x kept indexed f.1 got).0
 
-  pub upper : (n low high middle : ℕ) (x : Index) → Between contents indexes n low high → low < middle → middle < high → slice_get indexes middle ≡ Some x → x.starts.top ≤ n → Between contents indexes n middle high
+  pub upper : (n low high middle : ℕ) (x : Index) → Between contents indexes n low high → low < middle → middle < high → slice_get indexes middle ≡ Some x → x.starts.top ≤ n
+      → Between contents indexes n middle high
   upper n low high middle x h more less got le =
       let within = h.within in
       let at = ap (λ (w : Starts). w.top) (begins middle x (omega arith) got) in
       record { some = less; within = h.within; from = omega arith; to = h.to }
 
-  pub lower : (n low high middle : ℕ) (x : Index) → Between contents indexes n low high → low < middle → middle < high → slice_get indexes middle ≡ Some x → n < x.starts.top → Between contents indexes n low middle
+  pub lower : (n low high middle : ℕ) (x : Index) → Between contents indexes n low high → low < middle → middle < high → slice_get indexes middle ≡ Some x → n < x.starts.top
+      → Between contents indexes n low middle
   lower n low high middle x h more less got lt =
       let within = h.within in
       let at = ap (λ (w : Starts). w.top) (begins middle x (omega arith) got) in
@@ -58,7 +61,7 @@ module _ (contents : List (List ℕ)) (files : List File) (indexes : List Index)
   pub one_left : (n low high : ℕ) → Between contents indexes n low high → high ≡ low + 1 → IsInFile files indexes low n
   one_left n low high h last =
       let within = h.within in
-      let x = get_there indexes low (omega arith) in
+      let x = got_there indexes low (omega arith) in
       let f = file_there low (omega arith) in
       let st = starts_are contents files indexes low f.0 x.0 kept indexed f.1 x.1 in
       let own = ap (λ (w : Starts). w.top) st.0 in
@@ -74,7 +77,8 @@ unfolding starts_from
 no_tops contents indexes indexed none = sym (ap (λ (k : ℕ). (starts_at (docs_of contents) indexes k).top) none) ∙ (all_ends contents indexes indexed).1
 
 -- the last file ends with them
-pub last_tops : (contents : List (List ℕ)) (files : List File) (indexes : List Index) (k : ℕ) (x : Index) → AreKept contents files → AreIndexes (docs_of contents) indexes → k + 1 ≡ length indexes → slice_get indexes k ≡ Some x
+pub last_tops : (contents : List (List ℕ)) (files : List File) (indexes : List Index) (k : ℕ) (x : Index) → AreKept contents files → AreIndexes (docs_of contents) indexes → k + 1 ≡ length indexes
+    → slice_get indexes k ≡ Some x
     → (x.starts.top + length x.tops ≡ length (tops_of (units_of (docs_of contents)))) × (x.starts.top + length x.tops ≤ 2 ^ 29)
 last_tops contents files indexes k x kept indexed last got =
     let f = file_there contents files indexes kept indexed k (omega arith) in

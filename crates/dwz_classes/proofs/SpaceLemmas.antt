@@ -1,7 +1,7 @@
 -- The spaces around a top, from one outward.
 use Rattle.std.proofs.Common.{◌≡◌, ℕ, zero, suc, ◌+◌, ◌-◌, ◌<◌, ◌≤◌, List, [], ◌∷◌, ◌++◌, length, get_or, Some, None, slice_get, refl, sym, ap, subst, ◌∙◌, arith}
 use Rattle.std.proofs.lemmas.List.{append-nil, append_assoc}
-use Rattle.dwz_across.proofs.ListGets.{got_below}
+use Rattle.dwz_docs.proofs.ListFacts.{got_below}
 use Rattle.dwz_classes.specs.Spaces.{IsBefore}
 use Rattle.dwz_index.specs.declared.index.SpaceEntry.{SpaceEntry}
 use Rattle.dwz_index.specs.Chains.{IsOut}
@@ -60,7 +60,8 @@ next_of first spaces at x (e ∷ rest) b are =
 pub outer_less : (first : ℕ) (spaces : List SpaceEntry) (at : ℕ) (x : SpaceEntry) (done all : List ℕ) → IsBefore first spaces at (Some x) → OutLeft first spaces at done all → x.outer < at
 outer_less first spaces at x done all b h = (next_of first spaces at x h.rest b h.are).less
 
-pub one_more : (first : ℕ) (spaces : List SpaceEntry) (at : ℕ) (x : SpaceEntry) (done new all : List ℕ) → IsBefore first spaces at (Some x) → OutLeft first spaces at done all → new ≡ done ++ x.entry ∷ [] → OutLeft first spaces x.outer new all
+pub one_more : (first : ℕ) (spaces : List SpaceEntry) (at : ℕ) (x : SpaceEntry) (done new all : List ℕ) → IsBefore first spaces at (Some x) → OutLeft first spaces at done all
+    → new ≡ done ++ x.entry ∷ [] → OutLeft first spaces x.outer new all
 one_more first spaces at x done new all b h e =
     let n = next_of first spaces at x h.rest b h.are in
     record {

@@ -1,12 +1,11 @@
 -- Where a top stands in its file: what its label is written from.
-use Rattle.std.proofs.Common.{◌≡◌, ℕ, zero, suc, ◌+◌, ◌-◌, ◌<◌, ◌≤◌, List, [], ◌∷◌, ◌++◌, length, drop, Some, slice_get, Ok, refl, sym, ap, subst, ◌∙◌, arith}
-use Rattle.std.specs.Prelude.{reverse, slice_index, slice_index_or}
+use Rattle.std.proofs.Common.{◌≡◌, ℕ, ◌+◌, ◌-◌, ◌<◌, ◌≤◌, List, [], ◌∷◌, ◌++◌, length, drop, Some, slice_get, Ok, refl, sym, ap, subst, ◌∙◌, arith}
+use Rattle.std.specs.Prelude.{reverse, slice_index}
 use Rattle.std.proofs.lemmas.List.{length-map, reverse-append, reverse-reverse}
 use Rattle.dwz_across.specs.Across.{IsFileAmong, name_at}
 use Rattle.dwz_across.specs.AcrossLaws.{GivesTop}
 use Rattle.dwz_across.proofs.FileEntries.{gives_top, names_entries}
 use Rattle.dwz_across.proofs.FileWalk.{is_among}
-use Rattle.dwz_across.proofs.ListGets.{get_there, got_below, got_map, same_got}
 use Rattle.dwz_alike.specs.Spots.{SpaceName, Spot, Top, tops_of, units_of}
 use Rattle.dwz_bare.specs.Targets.{KnowsNames}
 use Rattle.dwz_classes.specs.declared.run.Run.{Run}
@@ -15,6 +14,7 @@ use Rattle.dwz_classes.specs.Run.{AreReady, IsInFile, IsRun, IsTopIn, labels_of}
 use Rattle.dwz_classes.specs.Unit.{IsUnitRow}
 use Rattle.dwz_docs.specs.Trees.{End, Entry, size}
 use Rattle.dwz_docs.specs.Units.{RawUnit, entries_in}
+use Rattle.dwz_docs.proofs.ListFacts.{got_below, got_index_or, got_map, got_there, same_got}
 use Rattle.dwz_flat.specs.Rows.{AreTargets, nodes, nodes_refs}
 use Rattle.dwz_flat.specs.Tops.{HasTop}
 use Rattle.dwz_graph.specs.declared.file.File.{File}
@@ -31,7 +31,8 @@ use Rattle.dwz_meanings.specs.Documents.{Doc}
 use Rattle.dwz_meanings.specs.Files.{around_of}
 use Rattle.dwz_meanings.specs.Meanings.{Around, Sources, alone, scope_of, unit_meaning}
 use Rattle.dwz_resolve.specs.Parts.{HasLine}
-use Rattle.dwz_resolve.specs.Resolved.{Each, around}
+use Rattle.dwz_resolve.specs.Resolved.{around}
+use Rattle.dwz_docs.specs.Lists.{Each}
 use Rattle.dwz_resolve.proofs.RowLemmas.{rows-length}
 use Rattle.dwz_scan.specs.Known.{KnowsRefs, StandsAt, tops_of_refs}
 use Rattle.dwz_scan.proofs.FileSteps.{rows_meant}
@@ -41,7 +42,8 @@ use Rattle.dwz_unit.specs.Rows.{entry_shown, rows_of, shown_entries, units_of as
 -- ---- spaces
 
 -- the same the other way round
-snoc_spaces : (raw : List RawUnit) (a : Around ℕ) (n : ℕ) (names : List SpaceName) (entries : List ℕ) (name : SpaceName) (e : ℕ) → AreSpacesAt raw a n names entries → AreSpacesAt raw a n (name ∷ []) (e ∷ []) → AreSpacesAt raw a n (names ++ name ∷ []) (entries ++ e ∷ [])
+snoc_spaces : (raw : List RawUnit) (a : Around ℕ) (n : ℕ) (names : List SpaceName) (entries : List ℕ) (name : SpaceName) (e : ℕ) → AreSpacesAt raw a n names entries
+    → AreSpacesAt raw a n (name ∷ []) (e ∷ []) → AreSpacesAt raw a n (names ++ name ∷ []) (entries ++ e ∷ [])
 snoc_spaces raw a n [] [] name e h one = one
 snoc_spaces raw a n [] (k ∷ entries) name e h one = absurd h
 snoc_spaces raw a n (x ∷ names) [] name e h one = absurd h
@@ -70,11 +72,6 @@ pub record TopAt (a : Around ℕ) (raw : List RawUnit) (name : ℕ → Spot) (u 
   pub from : has.p.before ≡ first
   pub to : first + size (Entry has.e has.c End) ≡ end
   pub targets : AreTargets raw refs (nodes_refs (nodes (Entry has.d has.g End)))
-
-pub got_or : {X : Type 0} (xs : List X) (i : ℕ) (x d : X) → slice_get xs i ≡ Some x → slice_index_or xs i d ≡ x
-got_or [] i x d e = absurd cc
-got_or (y ∷ xs) zero x d e = cc
-got_or (y ∷ xs) (suc i) x d e = got_or xs i x d e
 
 module _ (contents : List (List ℕ)) (file : ℕ) (bytes : List ℕ) (f : File) (x : Index) (is : IsFileAmong contents file bytes f x) where
   abbrev raw : List RawUnit
@@ -126,7 +123,7 @@ module _ (contents : List (List ℕ)) (file : ℕ) (bytes : List ℕ) (f : File)
         let low = entry_there in
         let many : length (shown_entries raw) ≡ length (rows_of raw) = length-map (rows_of raw) entry_shown in
         let all = rows-length raw in
-        let r = get_there (shown_entries raw) e.entry (omega arith) in
+        let r = got_there (shown_entries raw) e.entry (omega arith) in
         let h = (gives.top_is.stands r.0 r.1).stands in
         (h.n, got_below raw h.n h.u h.is_unit, sym gives.top_is.unit ∙ h.number)
 
@@ -178,7 +175,8 @@ module _ (contents : List (List ℕ)) (file : ℕ) (bytes : List ℕ) (f : File)
           has = stands.stands.top;
           from = stands.from;
           to = (let to = stands.to in omega arith);
-          targets = (rows_meant (around_of bytes raw) raw name f.resolved.refs.items f.resolved.starts.items (tops_of_refs name raw f.resolved.refs.items) knows doc.units file x.starts.unit t e.entry r.end stands).targets;
+          targets = (rows_meant (around_of bytes raw) raw name f.resolved.refs.items f.resolved.starts.items (tops_of_refs name raw f.resolved.refs.items) knows doc.units file x.starts.unit t e.entry
+              r.end stands).targets;
         }
 
         pub top_at : TopAt a raw name unit.u row.here.number t e.entry r.end refs
@@ -198,7 +196,7 @@ module _ (contents : List (List ℕ)) (file : ℕ) (bytes : List ℕ) (f : File)
 
     -- the label with its number
     pub label_is : nth_label (labels_of contents) (x.starts.top + k) ≡ label_of t
-    label_is = got_or (labels_of contents) (x.starts.top + k) (label_of t) [] (got_map label_of (tops_of (units_of (docs_of contents))) (x.starts.top + k) t gives.top_is.there)
+    label_is = got_index_or (labels_of contents) (x.starts.top + k) (label_of t) [] (got_map label_of (tops_of (units_of (docs_of contents))) (x.starts.top + k) t gives.top_is.there)
 
 -- ---- what is known where the label of a top is written
 
@@ -209,7 +207,8 @@ pub record Known (r : Run) (file : ℕ) (f : File) (x : Index) (e : TopEntry) (r
   pub entry : slice_get x.tops k ≡ Some e
   pub unit : IsUnitRow (raw_units f.units) (e.unit - x.starts.unit) row
 
-pub known : (r : Run) (file : ℕ) (f : File) (x : Index) (e : TopEntry) (row : UnitRow) → IsRun r → slice_get r.files.now file ≡ Some f → slice_get r.indexes.now file ≡ Some x → IsTopIn r.files.now r.indexes.now file e row → Known r file f x e row
+pub known : (r : Run) (file : ℕ) (f : File) (x : Index) (e : TopEntry) (row : UnitRow) → IsRun r → slice_get r.files.now file ≡ Some f → slice_get r.indexes.now file ≡ Some x
+    → IsTopIn r.files.now r.indexes.now file e row → Known r file f x e row
 known r file f x e row run got index h =
     let fe : h.f ≡ f = same_got r.files.now file h.f f h.got got in
     let xe : h.x ≡ x = same_got r.indexes.now file h.x x h.index index in
@@ -234,7 +233,8 @@ pub record Found (r : Run) (file n : ℕ) (e : TopEntry) : Type 0 where
   pub one : m < length (raw_units f.units)
   pub unit : e.unit ≡ x.starts.unit + m
 
-pub found : (r : Run) (file n : ℕ) (e : TopEntry) → IsRun r → IsInFile r.files.now r.indexes.now file n → ((x : Index) → slice_get r.indexes.now file ≡ Some x → slice_get x.tops (n - x.starts.top) ≡ Some e) → Found r file n e
+pub found : (r : Run) (file n : ℕ) (e : TopEntry) → IsRun r → IsInFile r.files.now r.indexes.now file n
+    → ((x : Index) → slice_get r.indexes.now file ≡ Some x → slice_get x.tops (n - x.starts.top) ≡ Some e) → Found r file n e
 found r file n e run h entry =
     let there = is_among r.graph.now r.files.now r.indexes.now file h.f h.x run.kept run.indexed h.got h.index in
     let own = entry h.x h.index in
@@ -254,13 +254,15 @@ with_row r file n e row h is = record {
 }
 
 -- which stands in the rows of all units
-pub kept_row : (r : Run) (rows : List UnitRow) (file n : ℕ) (e : TopEntry) (ready : AreReady r rows) (h : Found r file n e) → (row : UnitRow) × (slice_get rows e.unit ≡ Some row) × IsUnitRow (raw_units h.f.units) h.m row
+pub kept_row : (r : Run) (rows : List UnitRow) (file n : ℕ) (e : TopEntry) (ready : AreReady r rows) (h : Found r file n e) → (row : UnitRow) × (slice_get rows e.unit ≡ Some row)
+    × IsUnitRow (raw_units h.f.units) h.m row
 kept_row r rows file n e ready h =
     let own = ready.rows_are file h.f h.x (got_below r.files.now file h.f h.got) h.got h.index h.m h.one in
     (own.row, ap (slice_get rows) h.unit ∙ own.got, own.is)
 
 -- the same, by the file and the index that were looked up
-pub own_unit : (r : Run) (file n : ℕ) (e : TopEntry) (h : Found r file n e) (f : File) (x : Index) (first : ℕ) → slice_get r.files.now file ≡ Some f → slice_get r.indexes.now file ≡ Some x → first ≡ x.starts.unit
+pub own_unit : (r : Run) (file n : ℕ) (e : TopEntry) (h : Found r file n e) (f : File) (x : Index) (first : ℕ) → slice_get r.files.now file ≡ Some f → slice_get r.indexes.now file ≡ Some x
+    → first ≡ x.starts.unit
     → (first ≤ e.unit) × (e.unit - first < length (raw_units f.units)) × ((row : UnitRow) → IsUnitRow (raw_units f.units) (e.unit - first) row → IsUnitRow (raw_units h.f.units) h.m row)
 own_unit r file n e h f x first got index is =
     let fe : f ≡ h.f = same_got r.files.now file f h.f got h.got in

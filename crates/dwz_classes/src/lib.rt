@@ -6,12 +6,10 @@ mod numbered;
 mod run;
 mod search;
 mod spaces;
-#[cfg(test)]
-mod tests;
 mod top;
 mod tops;
 mod unit;
 mod writer;
 
 pub use classes::least;
-pub use tops::{label, labels};
+pub use tops::{count_tops, label, labels};

@@ -8,7 +8,7 @@ ghost use Rattle.dwz_indexes.specs.Indexed.{AreIndexes};
 ghost use Rattle.dwz_label.specs.Shown.{nth_label};
 
 use crate::run::{file_at, index_at, run_of};
-use crate::search::{entry_of, file_of};
+use crate::search::{entry_of, file_of, top_count};
 use crate::top::{Room, put_top_of};
 use crate::unit::unit_row;
 use crate::writer::TopLabels;
@@ -18,6 +18,14 @@ use dwz_label::{Labels, labels_by};
 use dwz_model::{Blob, NoMemory};
 use std::alloc::Global;
 use std::thread::Threads;
+
+/// How many tops all files have.
+pub fn count_tops(alloc: Global, graph: &Graph, indexes: &[Index]) -> usize
+    requires { AreIndexes (docs_of graph.now) indexes.now }
+    ensures { result ≡ length (tops_of (units_of (docs_of graph.now))) }
+{
+    top_count(&run_of(alloc, graph, indexes))
+}
 
 /// The label of the top with a number among those of all files: bytes that are equal for two tops exactly if the languages of their units,
 /// the names of the spaces that they stand in, and their bare trees are.

@@ -1,6 +1,7 @@
 -- The forms of attribute values (DWARF 5, 7.5.6), with the layout of what each one occupies.
 use Rattle.std.specs.Prelude.{List, [], ◌∷◌, codes}
-use Rattle.dwz_codes.specs.declared.shape.Shape.TheVariants.{Nothing, Refused, Fixed1, Fixed2, Fixed3, Fixed4, Fixed8, Fixed16, Uleb, Sleb, ZeroEnded, Block1, Block2, Block4, BlockUleb, Address}
+use Rattle.dwz_codes.specs.declared.shape.Shape.TheVariants.{Nothing, Refused, Fixed1, Fixed2, Fixed3, Fixed4, Fixed8, Fixed16, Uleb, Sleb}
+use Rattle.dwz_codes.specs.declared.shape.Shape.TheVariants.{ZeroEnded, Block1, Block2, Block4, BlockUleb, Address}
 use Rattle.dwz_codes.specs.Rows.{RowView, row}
 
 unfoldable pub form_rows : List RowView

@@ -1,6 +1,7 @@
 -- The kinds of entries of a location list (DWARF 5, 7.7.3), with what follows the kind byte. Kind 9 is a GNU extension.
 use Rattle.std.specs.Prelude.{List, [], ◌∷◌, codes}
-use Rattle.dwz_codes.specs.declared.shape.Shape.TheVariants.{Nothing, Uleb, UlebUleb, Address, NestedExpr, UlebUlebExpr, AddressAddressExpr, AddressUlebExpr}
+use Rattle.dwz_codes.specs.declared.shape.Shape.TheVariants.{Nothing, Uleb, UlebUleb, Address, NestedExpr, UlebUlebExpr, AddressAddressExpr}
+use Rattle.dwz_codes.specs.declared.shape.Shape.TheVariants.{AddressUlebExpr}
 use Rattle.dwz_codes.specs.Rows.{RowView, row}
 
 unfoldable pub list_kind_rows : List RowView

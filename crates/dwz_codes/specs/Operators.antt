@@ -1,6 +1,9 @@
 -- The operators of expressions (DWARF 5, 7.7.1), with the layout of their operands. Four of them are GNU extensions in the user range.
 use Rattle.std.specs.Prelude.{List, [], ◌∷◌, codes}
-use Rattle.dwz_codes.specs.declared.shape.Shape.TheVariants.{Nothing, Refused, Fixed1, Fixed2, Fixed4, Fixed8, Uleb, Sleb, UlebSleb, UlebUleb, BlockUleb, Address, AddressIndex, NestedExpr, UnitEntry4, InfoEntry4, InfoEntry4Sleb, UlebEntryConst, RegisterUlebEntry, SizeUlebEntry, UlebEntryOrGeneric}
+use Rattle.dwz_codes.specs.declared.shape.Shape.TheVariants.{Nothing, Refused, Fixed1, Fixed2, Fixed4, Fixed8, Uleb, Sleb, UlebSleb}
+use Rattle.dwz_codes.specs.declared.shape.Shape.TheVariants.{UlebUleb, BlockUleb, Address, AddressIndex, NestedExpr, UnitEntry4, InfoEntry4}
+use Rattle.dwz_codes.specs.declared.shape.Shape.TheVariants.{InfoEntry4Sleb, UlebEntryConst, RegisterUlebEntry, SizeUlebEntry}
+use Rattle.dwz_codes.specs.declared.shape.Shape.TheVariants.{UlebEntryOrGeneric}
 use Rattle.dwz_codes.specs.Rows.{RowView, row}
 
 unfoldable pub operator_rows : List RowView

@@ -8,10 +8,7 @@ mod shape;
 mod tables;
 
 pub use codes::Codes;
-pub use laws::table_laws;
+pub use laws::{name_laws, table_laws};
 pub use row::Row;
 pub use shape::Shape;
 pub use tables::{attribute_names, forms, list_kinds, operators, tag_names};
-
-#[cfg(test)]
-mod tests;

@@ -2,11 +2,11 @@
 -- and path that they name is among them.
 use Rattle.std.proofs.Common.{◌≡◌, ℕ, ◌+◌, Bool, true, false, List, [], ◌∷◌, cond, length, map, None, Option, Some, slice_get, refl, sym, ap, subst, ◌∙◌, inl, inr, arith}
 use Rattle.dwz_docs.specs.Lists.{In}
+use Rattle.dwz_docs.proofs.ListFacts.{got_in, got_map, in_left, in_right}
 use Rattle.dwz_meanings.specs.Documents.{Attr, DwUnit, Node}
 use Rattle.dwz_meanings.specs.Meanings.{Class, OfTextBySlot, OfTextInLineStr, OfTextInStr, class_of, names_file, scope_of}
 use Rattle.dwz_meanings.specs.Files.{around_of}
 use Rattle.dwz_seen.specs.Spaces.{space_text}
-use Rattle.dwz_seen.proofs.Members.{in_left, in_right}
 use Rattle.dwz_alike.specs.Spots.{Spot, name_by, name_of}
 use Rattle.dwz_layout.specs.declared.order.Item.{Item}
 use Rattle.dwz_layout.specs.declared.order.What.{What}
@@ -15,7 +15,6 @@ use Rattle.dwz_same.specs.Units.{common_units}
 use Rattle.dwz_unit.specs.Rows.{EntryRow, units_of as raw_units}
 use Rattle.dwz_graph.specs.declared.file.File.{File}
 use Rattle.dwz_index.specs.Index.{Index}
-use Rattle.dwz_across.proofs.ListGets.{got_in, got_map}
 use Rattle.dwz_writing.specs.Placing.{CommonUnit, Fit, has_text}
 use Rattle.dwz_back.specs.Files.{paths, texts}
 use Rattle.dwz_places.specs.declared.known.Known.{Known}

@@ -3,9 +3,11 @@ use Rattle.std.proofs.Common.{◌≡◌, ℕ, ◌+◌, Bool, true, List, [], ◌
 use Rattle.std.specs.List.{flat_map}
 use Rattle.std.specs.Option.{option_map_or}
 use Rattle.std.specs.Prelude.{slice_index, slice_index_or}
+use Rattle.std.proofs.lemmas.Option.{get_or_from_slice_get}
 use Rattle.dwz_docs.specs.Entries.{RawAttr}
 use Rattle.dwz_docs.specs.Lists.{In}
 use Rattle.dwz_docs.specs.Units.{RawUnit}
+use Rattle.dwz_docs.proofs.ListFacts.{got_below, got_map, got_there}
 use Rattle.dwz_meanings.specs.Documents.{Attr, DwUnit, Node, node_map}
 use Rattle.dwz_meanings.specs.Files.{around_of}
 use Rattle.dwz_meanings.specs.LineTables.{FileTable}
@@ -19,7 +21,6 @@ use Rattle.dwz_resolve.specs.Parts.{HasLine}
 use Rattle.dwz_graph.specs.declared.file.File.{File}
 use Rattle.dwz_index.specs.Index.{Index}
 use Rattle.dwz_across.proofs.FileCounts.{are_many}
-use Rattle.dwz_across.proofs.ListGets.{get_there, got_below, got_index, got_map}
 use Rattle.dwz_bare.proofs.AttrsLemmas.{entry_in}
 use Rattle.dwz_known.specs.Images.{starts_from}
 use Rattle.dwz_writing.specs.Placing.{file_number, has_text}
@@ -97,7 +98,7 @@ module _ (f : Facts) (t : TextsAt) (sharing : List Bool) (before k : Known) (fac
         let none : 0 + stands.from ≡ stands.from = omega arith in
         ap (λ (w : Firsts). w.file) (firsts_kept f.files (texts (run f)) P sharing before k has (files_many f t sharing before k facts listed has) (row n i))
         ∙ ap (λ (w : Option FileRows). (option_map_or (λ (u : FileRows). slice_index_or u.firsts.items i no_firsts) w no_firsts).file) at.rows_are
-        ∙ ap (λ (w : Firsts). w.file) (got_index at.rows_there.firsts.items i own no_firsts (at.listed.firsts i stands.b stands.is))
+        ∙ ap (λ (w : Firsts). w.file) (get_or_from_slice_get at.rows_there.firsts.items i own no_firsts (at.listed.firsts i stands.b stands.is))
         ∙ stands.count ∙ none
 
     -- the line table of its unit
@@ -105,10 +106,10 @@ module _ (f : Facts) (t : TextsAt) (sharing : List Bool) (before k : Known) (fac
     line =
         let many = h.read.read.lines.many in
         let low = got_below raw r.unit read.unit read.is_unit in
-        get_there x.resolved.lines.items r.unit (omega arith)
+        got_there x.resolved.lines.items r.unit (omega arith)
 
     line_is : line_of x r.unit ≡ line.0
-    line_is = got_index x.resolved.lines.items r.unit line.0 _ line.1
+    line_is = get_or_from_slice_get x.resolved.lines.items r.unit line.0 _ line.1
 
     paths_given : origin_paths f.files (OfRow (row n i)) ≡ flat_map (path_read tables line.0) r.entry.attrs
     paths_given =
@@ -138,7 +139,7 @@ module _ (f : Facts) (t : TextsAt) (sharing : List Bool) (before k : Known) (fac
         → (j : ℕ) (a : Attr Spot) → slice_get (files_in attrs) j ≡ Some a → file_at k n (stands.from + j) ≡ file_number P a.value.plain
     number_is there j a e =
         number_with f.files (texts (run f)) P sharing before k has (files_many f t sharing before k facts listed has) n x h.file (stands.from + j)
-        ∙ got_index (numbers_in_file P x) (stands.from + j) (number_meant P a) 0
+        ∙ get_or_from_slice_get (numbers_in_file P x) (stands.from + j) (number_meant P a) 0
         (stands.stand j (number_meant P a)
         (ap (λ (w : List ℕ). slice_get w j) (numbers there) ∙ got_map (number_meant P) (files_in attrs) j a e))
 

@@ -7,12 +7,13 @@ use Rattle.std.proofs.lemmas.List.Concat.{flat_map-cons}
 use Rattle.std.proofs.lemmas.List.Sums.{length-filter}
 use Rattle.dwz_docs.specs.Entries.{RawAttr}
 use Rattle.dwz_docs.specs.Lists.{In}
+use Rattle.dwz_docs.proofs.ListFacts.{get_first}
 use Rattle.dwz_meanings.specs.Documents.{Attr, Value, attr_map}
 use Rattle.dwz_meanings.specs.LineTables.{FileTable}
 use Rattle.dwz_meanings.specs.Meanings.{Class, OfConstant, Scope, attr_with, class_of, meaning, names_file, number_of}
 use Rattle.dwz_alike.specs.Spots.{Spot}
 use Rattle.dwz_unit.specs.Rows.{EntryRow}
-use Rattle.dwz_index.proofs.TopLemmas.{get_first, get_later}
+use Rattle.dwz_index.proofs.TopLemmas.{get_later}
 use Rattle.dwz_bare.specs.Plain.{KnowsLine}
 use Rattle.dwz_known.specs.declared.firsts.Before.{Before}
 use Rattle.dwz_known.specs.Befores.{befores_from, behind, file_count, is_constant, is_pair_file}

@@ -6,10 +6,11 @@ use Rattle.std.proofs.lemmas.List.Concat.{flat_map-cons}
 use Rattle.std.proofs.lemmas.List.Sums.{length-filter}
 use Rattle.dwz_docs.specs.Entries.{RawAttr}
 use Rattle.dwz_docs.specs.Units.{RawUnit}
+use Rattle.dwz_docs.proofs.ListFacts.{get_first}
 use Rattle.dwz_meanings.specs.Documents.{Attr}
 use Rattle.dwz_meanings.specs.Meanings.{Class, OfTextBySlot, OfTextInLineStr, OfTextInStr, Sources, class_of, offset_of}
 use Rattle.dwz_unit.specs.Rows.{EntryRow}
-use Rattle.dwz_index.proofs.TopLemmas.{get_first, get_later}
+use Rattle.dwz_index.proofs.TopLemmas.{get_later}
 use Rattle.dwz_known.specs.declared.firsts.Before.{Before}
 use Rattle.dwz_known.specs.Befores.{befores_from, behind, is_pair_placed, text_count}
 use Rattle.dwz_known.specs.Befores as known

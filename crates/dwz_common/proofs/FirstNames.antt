@@ -4,10 +4,9 @@ use Rattle.std.proofs.lemmas.Bool.{eqb-false}
 use Rattle.dwz_bytes.specs.Reading.{◌>>=◌}
 use Rattle.dwz_docs.specs.Entries.{RawAttr}
 use Rattle.dwz_docs.proofs.PartLemmas.{bind_ok}
-use Rattle.dwz_meanings.specs.Documents.{Attr, Node, Value, first_named}
+use Rattle.dwz_meanings.specs.Documents.{Attr, Value, first_named}
 use Rattle.dwz_meanings.specs.Meanings.{Scope, attr_with, attrs_meaning, first_raw, meaning, with_attr, without_siblings}
 use Rattle.dwz_flat.proofs.StepLemmas.{skipped, taken}
-use Rattle.dwz_seen.specs.Spaces.{space_text, text_at, text_in}
 
 -- the value that is stored, and what it means
 pub record HasFirst (s : Scope ℕ) (attrs : List RawAttr) (b : Attr ℕ) : Type 0 where
@@ -78,23 +77,3 @@ module _ (s : Scope ℕ) where
     go rest ds b means found false e =
         let other : a.pair.name ≡ 0x01 → ⊥ = eqb-false a.pair.name 0x01 e in
         one_found a attrs rest ds b (ap (attrs_meaning s) (sym (taken a attrs other)) ∙ means) found
-
--- ---- a space
-
--- the first name of a space, which is a text
-pub record HasName (d : Node ℕ) (text : List ℕ) : Type 0 where
-  pub b : Attr ℕ
-  pub found : first_named 0x03 d.attrs ≡ Some b
-  pub is : text_in b.value.plain ≡ Some text
-
-pub has_name : (d : Node ℕ) (text : List ℕ) → space_text d ≡ Some text → HasName d text
-unfolding space_text
-has_name d text e = go (eqb d.tag 0x39) e where
-  at : (o : Option (Attr ℕ)) → first_named 0x03 d.attrs ≡ o → text_at o ≡ Some text → HasName d text
-  at None f z = absurd (let w : None ≡ Some text = z in cc)
-  at (Some b) f z = record { b = b; found = f; is = z }
-
-  go : (t : Bool) → (elim t as (λ _. Option (List ℕ)) [ true ↦ text_at (first_named 0x03 d.attrs) | false ↦ None ]) ≡ Some text
-      → HasName d text
-  go true z = at (first_named 0x03 d.attrs) refl z
-  go false z = absurd (let w : None ≡ Some text = z in cc)

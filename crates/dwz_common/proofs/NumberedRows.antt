@@ -5,11 +5,11 @@ use Rattle.std.specs.Prelude.{nat_lt, slice_range}
 use Rattle.std.proofs.Math.Nat.{min-le_right}
 use Rattle.std.proofs.lemmas.Bool.{ltb-false, ltb-true}
 use Rattle.std.proofs.lemmas.List.{length-drop, length-take}
-use Rattle.dwz_docs.specs.Lists.{In}
-use Rattle.dwz_seen.specs.Lists.{Each}
+use Rattle.dwz_docs.specs.Lists.{Each, In}
 use Rattle.dwz_unit.specs.Rows.{EntryRow}
 use Rattle.dwz_index.specs.Index.{Index}
 use Rattle.dwz_known.specs.Images.{starts_from}
+use Rattle.dwz_known.proofs.StartLemmas.{starts_low}
 use Rattle.dwz_places.specs.declared.known.Known.{Known}
 use Rattle.dwz_places.specs.declared.known.Row.{Row}
 use Rattle.dwz_places.specs.declared.walk.Origin.{Origin}
@@ -19,12 +19,6 @@ use Rattle.dwz_places.specs.Entries.{row_slots, slots_below, tree_slots}
 use Rattle.dwz_places.specs.Known.{row_at, rows_in}
 
 -- ---- numbers of entries of files
-
-starts_low : (c : ℕ) (indexes : List Index) (j s : ℕ) → slice_get (starts_from c indexes) j ≡ Some s → c ≤ s
-unfolding starts_from
-starts_low c [] j s e = absurd cc
-starts_low c (x ∷ indexes) zero s e = let same : c ≡ s = cc in omega arith
-starts_low c (x ∷ indexes) (suc j) s e = let le = starts_low (c + length x.steps) indexes j s e in omega arith
 
 behind_file : (c : ℕ) (indexes : List Index) (a b : ℕ) (x : Index) (s t : ℕ) → a < b → slice_get indexes a ≡ Some x
     → slice_get (starts_from c indexes) a ≡ Some s → slice_get (starts_from c indexes) b ≡ Some t → s + length x.steps ≤ t

@@ -5,18 +5,19 @@ use Rattle.std.specs.List.{filter, flat_map}
 use Rattle.std.specs.Option.{option_map_or}
 use Rattle.std.specs.Prelude.{slice_index_or}
 use Rattle.std.proofs.lemmas.List.Concat.{flat_map-cons}
+use Rattle.std.proofs.lemmas.Option.{get_or_from_slice_get}
 use Rattle.dwz_docs.specs.Entries.{RawAttr}
 use Rattle.dwz_docs.specs.Units.{RawUnit}
+use Rattle.dwz_docs.proofs.ListFacts.{got_below, got_there}
 use Rattle.dwz_meanings.specs.Documents.{Node}
 use Rattle.dwz_meanings.specs.Files.{around_of}
 use Rattle.dwz_meanings.specs.Meanings.{Around, first_raw}
-use Rattle.dwz_seen.specs.Lists.{Each}
+use Rattle.dwz_docs.specs.Lists.{Each}
 use Rattle.dwz_seen.proofs.Members.{each_append}
 use Rattle.dwz_alike.specs.Spots.{name_of}
 use Rattle.dwz_unit.specs.Rows.{EntryRow, rows_of, units_of as raw_units}
 use Rattle.dwz_graph.specs.declared.file.File.{File}
 use Rattle.dwz_index.specs.Index.{Index}
-use Rattle.dwz_across.proofs.ListGets.{get_there, got_below, got_index}
 use Rattle.dwz_known.specs.Befores.{is_pair_placed}
 use Rattle.dwz_known.specs.Images.{starts_from}
 use Rattle.dwz_writing.specs.Placing.{has_text, text_place}
@@ -105,10 +106,10 @@ module _ (f : Facts) (t : TextsAt) (sharing : List Bool) (before k : Known) (fac
       let own = stand.spaces.each space n i h.read.limits bytes raw h.read.read.doc r entry h.read.there read.found in
       let low = got_below (space_entries 0 f.indexes) space (entry_row n i) entry in
       let many = listed.many_commons in
-      let common = get_there t.commons space (omega (arith, low, many)) in
+      let common = got_there t.commons space (omega (arith, low, many)) in
       let row : SpaceRow = record { row = entry_row n i; text = row_name around raw r; common = common.0 } in
       let at : space_at before space ≡ row =
-      got_index before.spaces.items space row no_space
+      get_or_from_slice_get before.spaces.items space row no_space
       (ap (λ (l : List SpaceRow). slice_get l space) listed.spaces
       ∙ space_row (space_entries 0 f.indexes) t.spaces t.commons space (entry_row n i) (row_name around raw r) common.0 entry own common.1) in
       subst (λ (w : SpaceRow). NotPooled w.text) (sym at)

@@ -1,13 +1,14 @@
 -- An entry that is written in a unit of the common file is one of a top that the unit holds, so a unit of the common file owns it.
 use Rattle.std.proofs.Common.{◌≡◌, ℕ, suc, ◌+◌, ◌<◌, ◌==◌, Bool, true, false, List, [], ◌∷◌, length, map, Option, Some, slice_get, refl, sym, ap, subst, ◌∙◌, inl, inr, eqb-true, arith}
-use Rattle.dwz_docs.specs.Lists.{In}
+use Rattle.dwz_docs.specs.Lists.{Each, In}
 use Rattle.dwz_docs.specs.Trees.{End}
 use Rattle.dwz_docs.specs.Units.{entries_in}
+use Rattle.dwz_docs.proofs.ListFacts.{drop_first, get_first, got_below, in_map, same_got}
 use Rattle.dwz_meanings.specs.Documents.{Node}
 use Rattle.dwz_meanings.specs.Meanings.{IfSo}
-use Rattle.dwz_seen.specs.Lists.{Each, Nth}
+use Rattle.dwz_seen.specs.Lists.{Nth}
 use Rattle.dwz_seen.specs.Shown.{keys, unit_keys}
-use Rattle.dwz_seen.proofs.Members.{each_append, each_in, each_more, in_map, nth_one}
+use Rattle.dwz_seen.proofs.Members.{each_append, each_in, each_more, nth_one}
 use Rattle.dwz_alike.specs.Spots.{FileUnit, Spot, Top, Within, file_numbers, name_list, same_spot}
 use Rattle.dwz_alike.proofs.Tops.{one_top}
 use Rattle.dwz_layout.specs.declared.order.Item.{Item}
@@ -27,12 +28,9 @@ use Rattle.dwz_same.proofs.HeldLemmas.{row_found}
 use Rattle.dwz_same.proofs.OldFiles.{files_old}
 use Rattle.dwz_unit.specs.Rows.{EntryRow, rows_below, rows_of, units_of as raw_units}
 use Rattle.dwz_resolve.proofs.RowLemmas.{rows-length}
-use Rattle.dwz_flat.proofs.StepLemmas.{first_of}
 use Rattle.dwz_graph.specs.declared.file.File.{File}
 use Rattle.dwz_index.specs.Index.{Index}
-use Rattle.dwz_index.proofs.TopLemmas.{get_first}
 use Rattle.dwz_across.proofs.FileEntries.{all_entries}
-use Rattle.dwz_across.proofs.ListGets.{got_below, same_got}
 use Rattle.dwz_known.specs.Images.{starts_from}
 use Rattle.dwz_known.specs.Names.{all_names}
 use Rattle.dwz_known.specs.Owners.{StandsIn, files_written}
@@ -136,7 +134,7 @@ module _ (f : Facts) (t : TextsAt) (k : Known) (facts : AreFacts f) (listed : Ar
         let read = top_read f facts t k listed n from.read.x from.read.index o y own.there (of_file y is) in
         let slots = tree_slots k depth (top_row k y.number) in
         let within = tree_within f k n from.read.x from.read.index o rows_are depth y (labelled f facts y own.there) read in
-        let at = first_of (rows_of (raw_units from.read.x.units)) read.p.before _ _ read.stand in
+        let at = drop_first (rows_of (raw_units from.read.x.units)) read.p.before _ _ read.stand in
         let lt = got_below (rows_of (raw_units from.read.x.units)) read.p.before _ at.0 in
         let many = ap (λ (w : List EntryRow). length w) rows_are in
         let inside = subst (λ (r : Row). Each (λ (s : Slot). InFile n (length (rows_in k n)) s.origin) (tree_slots k depth r)) (sym read.row_is)

@@ -1,5 +1,5 @@
 -- The path of a file by its number in a line table, and entries of files that aren't there.
-use Rattle.std.proofs.Common.{◌≡◌, ℕ, zero, suc, ◌<◌, ◌≤◌, ◌^◌, true, List, [], ◌∷◌, length, Option, None, Some, pos, negsuc, slice_get, refl, sym, ap, ◌∙◌, arith}
+use Rattle.std.proofs.Common.{◌≡◌, ℕ, ◌<◌, ◌≤◌, ◌^◌, true, List, [], length, Option, None, Some, pos, negsuc, slice_get, sym, ap, ◌∙◌, arith}
 use Rattle.std.specs.Prelude.{ℤ}
 use Rattle.std.specs.Option.{option_map_or}
 use lib.Signed.{lt_z}
@@ -11,14 +11,9 @@ use Rattle.dwz_unit.specs.Rows.{EntryRow, rows_of, units_of}
 use Rattle.dwz_graph.specs.declared.file.File.{File}
 use Rattle.dwz_places.specs.declared.known.Row.{Row}
 use Rattle.dwz_resolve.proofs.RowLemmas.{rows-length}
+use Rattle.dwz_resolve.proofs.FileSteps.{none_behind}
 use Rattle.dwz_docs.specs.Units.{entries_in}
 use Rattle.dwz_common.specs.Paths.{paths_at, row_paths}
-
-none_behind : (paths : List (List ℕ)) (n : ℕ) → length paths ≤ n → nth_path paths n ≡ None
-unfolding nth_path
-none_behind [] n le = refl
-none_behind (p ∷ paths) zero le = absurd (omega arith)
-none_behind (p ∷ paths) (suc n) le = none_behind paths n (omega arith)
 
 -- no table has as many files
 pub past_all : (t : FileTable) (z : ℤ) → lt_z (pos 18446744073709551615) z ≡ true → length t.paths < 2 ^ 63

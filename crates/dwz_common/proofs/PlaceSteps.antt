@@ -3,12 +3,12 @@ use Rattle.std.proofs.Common.{◌≡◌, ℕ, zero, suc, List, [], ◌∷◌, ma
 use Rattle.std.specs.Global.{Vec}
 use Rattle.std.specs.Option.{option_map, option_map_or}
 use Rattle.std.proofs.lemmas.Option.{slice_get-map}
+use Rattle.dwz_docs.proofs.ListFacts.{same_got}
 use Rattle.dwz_meanings.specs.Files.{Limits, limits_after, no_files_before, sources_of}
 use Rattle.dwz_resolve.specs.Resolved.{sources_view}
 use Rattle.dwz_unit.specs.Rows.{EntryRow, rows_of, units_of}
 use Rattle.dwz_graph.specs.declared.file.File.{File}
 use Rattle.dwz_graph.specs.Files.{AreKept, AreRead}
-use Rattle.dwz_across.proofs.ListGets.{same_got}
 use Rattle.dwz_places.specs.declared.known.FileRows.{FileRows}
 use Rattle.dwz_places.specs.declared.known.Known.{Known}
 use Rattle.dwz_places.specs.declared.known.Row.{Row}

@@ -6,11 +6,11 @@ use Rattle.std.specs.List.{flat_map}
 use Rattle.std.proofs.lemmas.Bool.{ltb-false, ltb-true}
 use Rattle.std.proofs.lemmas.List.{append-nil, append_assoc, length-append, length-map, map-append, take_all}
 use Rattle.std.proofs.lemmas.List.Concat.{flat_map-cons}
+use Rattle.dwz_docs.proofs.ListFacts.{get_first, got_below, same_got}
 use Rattle.dwz_unit.specs.Rows.{EntryRow}
 use Rattle.dwz_graph.specs.declared.file.File.{File}
 use Rattle.dwz_resolve.proofs.RowLemmas.{take_here}
-use Rattle.dwz_index.proofs.TopLemmas.{get_first, get_later}
-use Rattle.dwz_across.proofs.ListGets.{got_below, same_got}
+use Rattle.dwz_index.proofs.TopLemmas.{get_later}
 use Rattle.dwz_places.specs.declared.known.Known.{Known}
 use Rattle.dwz_places.specs.declared.known.TextAt.{TextAt}
 use Rattle.dwz_places.specs.Known.{text_at}

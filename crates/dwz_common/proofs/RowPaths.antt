@@ -2,9 +2,11 @@
 use Rattle.std.proofs.Common.{◌≡◌, ℕ, List, [], Option, None, Some, slice_get, refl, sym, ap, subst, ◌∙◌, arith}
 use Rattle.std.specs.List.{flat_map}
 use Rattle.std.specs.Option.{option_map_or}
+use Rattle.std.proofs.lemmas.Option.{get_or_from_slice_get}
 use Rattle.dwz_docs.specs.Entries.{RawAttr}
 use Rattle.dwz_docs.specs.Lists.{In}
 use Rattle.dwz_docs.specs.Units.{RawUnit}
+use Rattle.dwz_docs.proofs.ListFacts.{got_below, got_there}
 use Rattle.dwz_meanings.specs.Documents.{Node, node_map}
 use Rattle.dwz_meanings.specs.Files.{around_of}
 use Rattle.dwz_meanings.specs.LineTables.{FileTable}
@@ -16,7 +18,6 @@ use Rattle.dwz_resolve.specs.Named.{entries_of}
 use Rattle.dwz_resolve.specs.Parts.{HasLine}
 use Rattle.dwz_graph.specs.declared.file.File.{File}
 use Rattle.dwz_index.specs.Index.{Index}
-use Rattle.dwz_across.proofs.ListGets.{get_there, got_below, got_index}
 use Rattle.dwz_bare.specs.Plain.{KnowsLine}
 use Rattle.dwz_bare.proofs.AttrsLemmas.{entry_in}
 use Rattle.dwz_places.specs.declared.known.Known.{Known}
@@ -50,10 +51,10 @@ module _ (f : Facts) (n : ℕ) (bytes : List ℕ) (x : File) (index : Index) (h 
       let s : Scope ℕ = scope_of (around_of bytes raw) read.unit in
       let many = lines.many in
       let low = got_below raw r.unit read.unit read.is_unit in
-      let line = get_there x.resolved.lines.items r.unit (omega arith) in
+      let line = got_there x.resolved.lines.items r.unit (omega arith) in
       let has = lines.line r.unit read.unit line.0 read.is_unit line.1 in
       let there = entry_in raw i r.unit r read.unit read.found refl read.is_unit in
-      let own : line_of x r.unit ≡ line.0 = got_index x.resolved.lines.items r.unit line.0 _ line.1 in
+      let own : line_of x r.unit ≡ line.0 = get_or_from_slice_get x.resolved.lines.items r.unit line.0 _ line.1 in
       ap (λ (o : Option File). option_map_or
       (λ (w : File). option_map_or (row_paths w) (slice_get (rows_of (raw_units w.units)) i) []) o []) h.file
       ∙ ap (λ (o : Option EntryRow). option_map_or (row_paths x) o []) read.found

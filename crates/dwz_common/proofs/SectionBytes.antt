@@ -2,10 +2,11 @@
 -- those that come with them.
 use Rattle.std.proofs.Common.{◌≡◌, ℕ, zero, suc, ◌+◌, ◌<◌, ◌≤◌, List, [], ◌∷◌, ◌++◌, length, drop, take, take_all, get_or, None, Some, slice_get, refl, sym, ap, ◌∙◌, append_assoc, arith}
 use Rattle.std.proofs.lemmas.List.{append-nil, at_drop_all, at_drop_more, length-append}
+use Rattle.std.proofs.lemmas.Option.{get_or_from_slice_get}
 use Rattle.dwz_bytes.specs.Spelling.{uleb}
 use Rattle.dwz_docs.specs.TextRows.{text_section}
+use Rattle.dwz_docs.proofs.ListFacts.{got_below, got_there}
 use Rattle.dwz_meanings.specs.LinesWritten.{file_formats, header_written, one_directory, rows_bytes, standard, with_row_0}
-use Rattle.dwz_across.proofs.ListGets.{get_there, got_below, got_index}
 use Rattle.dwz_lines.proofs.WriteLemmas.{header_len}
 use Rattle.dwz_writing.specs.Placing.{texts_bytes}
 
@@ -22,7 +23,7 @@ unfolding texts_bytes
 one_text ts k t is =
     let more : texts_bytes (drop k ts) ≡ get_or ts k t ++ 0 ∷ texts_bytes (drop (k + 1) ts) =
     at_drop_more texts_bytes ts k t (got_below ts k t is) in
-    more ∙ ap (λ (w : List ℕ). w ++ 0 ∷ texts_bytes (drop (k + 1) ts)) (got_index ts k t t is)
+    more ∙ ap (λ (w : List ℕ). w ++ 0 ∷ texts_bytes (drop (k + 1) ts)) (get_or_from_slice_get ts k t t is)
 
 -- the next text is written
 pub next_text : (own ts : List (List ℕ)) (k : ℕ) (t out now put : List ℕ) → own ≡ ts → Some t ≡ slice_get own k
@@ -38,7 +39,7 @@ next_text own ts k t out now put same got first second so_far =
 -- there is one
 pub is_there : (own : List (List ℕ)) (k count : ℕ) → count ≡ length own → k < count → None ≡ slice_get own k → ⊥
 is_there own k count many lt none =
-    let there = get_there own k (omega (arith, many, lt)) in
+    let there = got_there own k (omega (arith, many, lt)) in
     let is = there.1 in
     cc
 

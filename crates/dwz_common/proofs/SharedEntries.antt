@@ -2,7 +2,9 @@
 use Rattle.std.proofs.Common.{◌≡◌, ℕ, zero, suc, ◌+◌, Bool, true, false, List, [], ◌∷◌, length, map, None, Option, Some, slice_get, refl, sym, ap, subst, ◌∙◌, arith}
 use Rattle.std.specs.Option.{option_map_or}
 use Rattle.std.specs.Prelude.{slice_index, slice_index_or}
+use Rattle.std.proofs.lemmas.Option.{get_or_from_slice_get}
 use Rattle.dwz_docs.specs.Units.{RawUnit}
+use Rattle.dwz_docs.proofs.ListFacts.{got_map}
 use Rattle.dwz_meanings.specs.Documents.{Attr, Node, node_map}
 use Rattle.dwz_meanings.specs.Meanings.{Class, OfConstant, OfTextBySlot, OfTextInLineStr, OfTextInStr, class_of, names_file}
 use Rattle.dwz_resolve.specs.Resolved.{sources_view}
@@ -11,7 +13,6 @@ use Rattle.dwz_alike.specs.Spots.{Spot, name_of}
 use Rattle.dwz_unit.specs.Rows.{EntryRow, rows_of, units_of as raw_units}
 use Rattle.dwz_graph.specs.declared.file.File.{File}
 use Rattle.dwz_index.specs.Index.{Index}
-use Rattle.dwz_across.proofs.ListGets.{got_index, got_map}
 use Rattle.dwz_known.specs.Images.{starts_from}
 use Rattle.dwz_writing.specs.Placing.{CommonUnit, Fit, Holder, NewUnit, OldUnit, as_constant, as_file, fit_as}
 use Rattle.dwz_back.specs.Files.{paths, shared_if, texts}
@@ -113,7 +114,7 @@ module _ (f : Facts) (t : TextsAt) (sharing : List Bool) (before k : Known) (fac
           let own = firsts_from (slice_index x.resolved.starts.items i) stands.b in
           let none : 0 + stands.from ≡ stands.from = omega arith in
           ap (λ (w : Option FileRows). (option_map_or (λ (u : FileRows). slice_index_or u.firsts.items i no_firsts) w no_firsts).text) at.rows_are
-          ∙ ap (λ (w : Firsts). w.text) (got_index at.rows_there.firsts.items i own no_firsts (at.listed.firsts i stands.b stands.is))
+          ∙ ap (λ (w : Firsts). w.text) (get_or_from_slice_get at.rows_there.firsts.items i own no_firsts (at.listed.firsts i stands.b stands.is))
           ∙ stands.count ∙ none
 
       pub first_now : (firsts_at k F i).text ≡ stands.from
@@ -136,7 +137,7 @@ module _ (f : Facts) (t : TextsAt) (sharing : List Bool) (before k : Known) (fac
           let here : 0 + i ≡ i = omega arith in
           let place : 0 + m ≡ m = omega arith in
           text_with f.files T (paths (run f)) sharing before k has files_many n x h.file m
-          ∙ got_index (file_places shares T before n x) m
+          ∙ get_or_from_slice_get (file_places shares T before n x) m
           (placed_text (in_common_file before n (0 + i)) shares T (meant a) (text_at before n (0 + m))) no_text
           (stands.stand j (meant a) (ap (λ (w : List (List ℕ)). slice_get w j) stored ∙ got_map meant (texts_in attrs) j a e))
           ∙ (λ q. placed_text (in_common_file before n (here q)) shares T (meant a) (text_at before n (place q)))
@@ -156,7 +157,7 @@ module _ (f : Facts) (t : TextsAt) (sharing : List Bool) (before k : Known) (fac
           record { space = g.space; is = ap (λ (w : List SpaceRow). slice_get w space) listed.spaces ∙ g.is; row_is = g.row_is }
 
       pub space_before : space_at before space ≡ space_there.space
-      space_before = got_index before.spaces.items space space_there.space no_space space_there.is
+      space_before = get_or_from_slice_get before.spaces.items space space_there.space no_space space_there.is
 
       names : name_at f.files space_there.space.row ≡ text_said (name_attr (name_of text d))
       names =
@@ -176,7 +177,7 @@ module _ (f : Facts) (t : TextsAt) (sharing : List Bool) (before k : Known) (fac
           let place = space_placed f.files (texts (run f)) sharing in
           let file : s.row.file ≡ n = ap (λ (w : Row). w.file) space_there.row_is in
           ap (λ (w : List SpaceRow). slice_index_or w space no_space) has.spaces_are
-          ∙ got_index (map place before.spaces.items) space (place s) no_space (got_map place before.spaces.items space s space_there.is)
+          ∙ get_or_from_slice_get (map place before.spaces.items) space (place s) no_space (got_map place before.spaces.items space s space_there.is)
           ∙ (λ q. let w : SpaceRow = record {
             row = s.row;
             text = name_place false (shares_in sharing (file q)) (texts (run f)) (names q) s.text;

@@ -1,10 +1,10 @@
 -- The texts that an entry stores, and those that it gives by the lists, are those that it means; so is the name of a space.
-use Rattle.std.proofs.Common.{◌≡◌, ℕ, zero, suc, List, [], ◌∷◌, Option, Some, slice_get, sym, ap, ◌∙◌, arith}
+use Rattle.std.proofs.Common.{◌≡◌, ℕ, List, [], Option, Some, slice_get, sym, ap, ◌∙◌, arith}
 use Rattle.std.specs.List.{flat_map}
 use Rattle.std.specs.Option.{option_and_then, option_map_or}
 use Rattle.dwz_docs.specs.Units.{RawUnit}
-use Rattle.dwz_meanings.specs.Documents.{Attr, Doc, Node, Text, attr_map, node_map, only}
-use Rattle.dwz_meanings.specs.Files.{Limits, around_of, limits_after, no_files_before, sources_of}
+use Rattle.dwz_meanings.specs.Documents.{Attr, Node, Text, attr_map, node_map, only}
+use Rattle.dwz_meanings.specs.Files.{around_of, no_files_before, sources_of}
 use Rattle.dwz_meanings.specs.Meanings.{Scope, Sources, attr_with, class_of, scope_of, str_offsets_base}
 use Rattle.dwz_seen.proofs.Members.{each_of}
 use Rattle.dwz_seen.specs.Spaces.{space_text}
@@ -13,7 +13,6 @@ use Rattle.dwz_alike.specs.Spots.{Spot, name_by, name_of}
 use Rattle.dwz_flat.proofs.TreeLemmas.{node_attrs}
 use Rattle.dwz_unit.specs.Rows.{EntryRow, Source, rows_of, units_of as raw_units}
 use Rattle.dwz_graph.specs.declared.file.File.{File}
-use Rattle.dwz_graph.specs.Files.{HasFile as StandsThere}
 use Rattle.dwz_index.specs.Index.{Index}
 use Rattle.dwz_known.specs.Images.{starts_from}
 use Rattle.dwz_places.specs.declared.known.FileRows.{FileRows}
@@ -23,13 +22,15 @@ use Rattle.dwz_places.specs.declared.walk.Origin.TheVariants.{Chained, Read as O
 use Rattle.dwz_places.specs.Entries.{row}
 use Rattle.dwz_places.specs.Known.{row_at, rows_in, space_at}
 use Rattle.dwz_fitted.specs.Knows.{IsRead, name_attr}
+use Rattle.dwz_fitted.proofs.NameFits.{has_name}
 use Rattle.dwz_laid.specs.Facts.{Facts, HasFile, file_read}
 use Rattle.dwz_laid.specs.Listed.{AreListed, TextsAt}
 use Rattle.dwz_laid.proofs.Walks.{RowsAt, rows_at}
+use Rattle.dwz_laid.proofs.FilesFound.{bytes_there}
 use Rattle.dwz_common.specs.Gathered.{text_said}
 use Rattle.dwz_common.specs.Stored.{by_row, name_read, origin_texts, row_name, row_texts, slots_base, slots_base_at, text_read, units_in}
 use Rattle.dwz_common.proofs.AttrsSay.{attrs_say}
-use Rattle.dwz_common.proofs.FirstNames.{first_found, has_name}
+use Rattle.dwz_common.proofs.FirstNames.{first_found}
 use Rattle.dwz_common.proofs.ValueTexts.{plain_text, sibling_none, text_same, value_gives}
 
 module _ (f : Facts) (n : ℕ) (bytes : List ℕ) (x : File) (i : ℕ) (r : EntryRow) (d : Node ℕ)
@@ -71,12 +72,6 @@ module _ (f : Facts) (n : ℕ) (bytes : List ℕ) (x : File) (i : ℕ) (r : Entr
       ∙ ap text_said same
 
 -- ---- in the lists
-
-bytes_there : (l : Limits) (contents : List (List ℕ)) (i : ℕ) (m : Limits) (b : List ℕ) (raw : List RawUnit) (doc : Doc ℕ)
-    → StandsThere l contents i m b raw doc → slice_get contents i ≡ Some b
-bytes_there l [] i m b raw doc h = absurd h
-bytes_there l (x ∷ contents) zero m b raw doc h = ap (λ (w : List ℕ). Some w) h.1
-bytes_there l (x ∷ contents) (suc i) m b raw doc h = bytes_there (limits_after l x h.0) contents i m b raw doc h.3
 
 module _ (f : Facts) (t : TextsAt) (k : Known) (listed : AreListed f t k) (n : ℕ) (bytes : List ℕ) (x : File) (index : Index)
     (h : HasFile f n bytes x index) where

@@ -3,7 +3,7 @@ use Rattle.std.proofs.Common.{◌≡◌, ℕ, ◌+◌, ◌<◌, ◌≤◌, List,
 use Rattle.std.specs.List.{flat_map}
 use Rattle.std.proofs.lemmas.List.{drop_all, take_all}
 use Rattle.std.proofs.lemmas.Option.{slice_get-get_or}
-use Rattle.dwz_resolve.proofs.RowLemmas.{drop_here}
+use Rattle.dwz_docs.proofs.ListFacts.{drop_here}
 use Rattle.dwz_texts.proofs.TextSteps.{flat_more}
 use Rattle.dwz_places.specs.declared.known.Known.{Known}
 use Rattle.dwz_places.specs.declared.order.UnitItems.{UnitItems}

@@ -3,7 +3,7 @@ use Rattle.std.proofs.Common.{◌≡◌, ℕ, Bool, true, false, List, [], ◌�
 use Rattle.std.specs.List.{flat_map}
 use Rattle.std.proofs.lemmas.List.Concat.{flat_map-cons}
 use Rattle.dwz_docs.specs.Lists.{In}
-use Rattle.dwz_seen.proofs.Members.{in_left, in_right}
+use Rattle.dwz_docs.proofs.ListFacts.{in_left, in_right}
 use Rattle.dwz_alike.specs.Spots.{same_numbers}
 use Rattle.dwz_alike.proofs.SpotLemmas.{numbers_same}
 use Rattle.dwz_writing.specs.Placing.{add_unless, has_text, with_text}

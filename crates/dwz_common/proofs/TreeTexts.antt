@@ -3,21 +3,21 @@ use Rattle.std.proofs.Common.{◌≡◌, ℕ, suc, ◌+◌, ◌-◌, List, [], �
 use Rattle.std.specs.List.{flat_map}
 use Rattle.std.specs.Option.{option_map_or}
 use Rattle.std.specs.Prelude.{slice_range}
-use Rattle.std.proofs.lemmas.List.{append-nil, append_assoc}
+use Rattle.std.proofs.lemmas.List.{append_assoc}
 use Rattle.std.proofs.lemmas.List.Concat.{flat_map-append}
 use Rattle.std.proofs.Math.Seq.{take-append_seam}
 use Rattle.dwz_docs.specs.Entries.{RawEntry}
 use Rattle.dwz_docs.specs.Trees.{End, Entry, Forest, Position, behind, first_below}
 use Rattle.dwz_docs.specs.Units.{RawUnit}
+use Rattle.dwz_docs.proofs.ListFacts.{drop_first}
 use Rattle.dwz_meanings.specs.Documents.{Attr, Entries, Node, entries_map, node_map}
 use Rattle.dwz_meanings.specs.Meanings.{entries_meaning, scope_of}
 use Rattle.dwz_alike.specs.Spots.{Spot}
-use Rattle.dwz_flat.proofs.StepLemmas.{first_of}
 use Rattle.dwz_flat.proofs.TopThere.{left_behind}
 use Rattle.dwz_flat.proofs.TreeLemmas.{no_more, parts}
 use Rattle.dwz_layout.specs.Lines.{Line, line, lines}
-use Rattle.dwz_resolve.proofs.RowLemmas.{below-length}
 use Rattle.dwz_unit.specs.Rows.{EntryRow, rows_below, rows_of}
+use Rattle.dwz_unit.proofs.RowLemmas.{shown-length}
 use Rattle.dwz_places.specs.declared.known.Known.{Known}
 use Rattle.dwz_places.specs.declared.known.Row.{Row}
 use Rattle.dwz_places.specs.declared.walk.Origin.{Origin}
@@ -26,25 +26,10 @@ use Rattle.dwz_places.specs.declared.walk.Slot.{Slot}
 use Rattle.dwz_places.specs.Entries.{row, row_slots, slot, slots_below, tree_slots}
 use Rattle.dwz_places.specs.Known.{row_at, rows_in}
 use Rattle.dwz_fitted.specs.Knows.{FileRead, IsRead, ShowsTree}
+use Rattle.dwz_fitted.proofs.RowFits.{row_slots-append}
+use Rattle.dwz_laid.proofs.TopNames.{first_row}
 use Rattle.dwz_common.specs.Gathered.{lines_said}
 use Rattle.dwz_common.specs.Stored.{slots_give}
-
-row_slots-append : (file depth base i : ℕ) (xs ys : List EntryRow)
-    → row_slots file depth base i (xs ++ ys) ≡ row_slots file depth base i xs ++ row_slots file depth base (i + length xs) ys
-unfolding row_slots
-row_slots-append file depth base i [] ys = ap (λ (n : ℕ). row_slots file depth base n ys) (let e : i ≡ i + 0 = omega arith in e)
-row_slots-append file depth base i (x ∷ xs) ys =
-    let e : suc i + length xs ≡ i + length (x ∷ xs) = omega arith in
-    ap (λ (w : List Slot). slot (depth + (x.depth - base)) (OfRow (row file i)) ∷ w) (row_slots-append file depth base (suc i) xs ys
-    ∙ ap (λ (n : ℕ). row_slots file depth base (suc i) xs ++ row_slots file depth base n ys) e)
-
-first_row : (e : RawEntry) (c : Forest RawEntry) (un : ℕ) (p : Position)
-    → rows_below (Entry e c End) un p
-    ≡ record { entry = e; unit = un; depth = p.depth; end = (behind p c).before } ∷ rows_below c un (first_below p)
-unfolding rows_below
-first_row e c un p =
-    (let r : EntryRow = record { entry = e; unit = un; depth = p.depth; end = (behind p c).before } in
-    ap (λ (w : List EntryRow). r ∷ w) (append-nil (rows_below c un (first_below p))))
 
 module _ (give : Origin → List (List ℕ)) (said : Attr Spot → List (List ℕ)) (k : Known) (f : FileRead)
     (file : rows_in k f.number ≡ rows_of f.raw)
@@ -69,10 +54,10 @@ module _ (give : Origin → List (List ℕ)) (said : Attr Spot → List (List �
         let r : EntryRow = record { entry = e; unit = un; depth = p.depth; end = (behind p c).before } in
         let inside = rows_below c un (first_below p) in
         let others = rows_below n un (behind p c) in
-        let at = first_of (rows_of f.raw) p.before r ((inside ++ others) ++ rest) found in
+        let at = drop_first (rows_of f.raw) p.before r ((inside ++ others) ++ rest) found in
         let read : IsRead f p.before r x.d = record { unit = u; found = at.0; is_unit = is_unit; means = x.node } in
         let below : drop (first_below p).before (rows_of f.raw) ≡ inside ++ (others ++ rest) = at.1 ∙ append_assoc inside others rest in
-        let many = below-length c un (first_below p) in
+        let many = shown-length c un (first_below p) in
         let later = left_behind (rows_of f.raw) (first_below p).before (behind p c).before inside (others ++ rest) below
         (omega (arith, many)) in
         let one : suc p.before ≡ (first_below p).before = omega arith in
@@ -102,7 +87,7 @@ module _ (give : Origin → List (List ℕ)) (said : Attr Spot → List (List �
       let inside = rows_below t.c t.number (first_below p) in
       let stand : drop p.before (rows_of f.raw) ≡ x ∷ (inside ++ t.behind) =
       t.stand ∙ ap (λ (w : List EntryRow). w ++ t.behind) (first_row t.e t.c t.number p) in
-      let at = first_of (rows_of f.raw) p.before x (inside ++ t.behind) stand in
+      let at = drop_first (rows_of f.raw) p.before x (inside ++ t.behind) stand in
       let s = scope_of f.around t.unit in
       let y = parts s t.e t.c End (Entry t.d t.g End) t.means in
       let whole : Entry y.d y.below y.next ≡ Entry t.d t.g End = y.is in
@@ -110,7 +95,7 @@ module _ (give : Origin → List (List ℕ)) (said : Attr Spot → List (List �
       let g_is : y.below ≡ t.g = cc in
       let read : IsRead f p.before x y.d = record { unit = t.unit; found = at.0; is_unit = t.is_unit; means = y.node } in
       let there : row_at k top ≡ Some x = ap (λ (w : List EntryRow). slice_get w p.before) file ∙ at.0 in
-      let many = below-length t.c t.number (first_below p) in
+      let many = shown-length t.c t.number (first_below p) in
       let one : (first_below p).before ≡ suc p.before = omega arith in
       let count : (behind p t.c).before - suc p.before ≡ length inside = omega (arith, many) in
       let range : slice_range (rows_in k f.number) (suc p.before) (behind p t.c).before ≡ inside =

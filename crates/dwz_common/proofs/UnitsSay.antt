@@ -1,6 +1,7 @@
 -- What is written of the common file gives what its units say: one by one among the partial units of the plan.
 use Rattle.std.proofs.Common.{◌≡◌, ℕ, suc, ◌<◌, ◌==◌, Bool, true, false, List, [], ◌∷◌, ◌++◌, length, map, refl, sym, ap, subst, ◌∙◌, inl, inr, arith, eq-eqb}
 use Rattle.std.proofs.lemmas.Bool.{ne_eqb}
+use Rattle.dwz_docs.proofs.ListFacts.{got_below}
 use Rattle.dwz_meanings.specs.Documents.{Attr, DwUnit}
 use Rattle.dwz_meanings.specs.Meanings.{IfSo}
 use Rattle.dwz_seen.specs.Lists.{Nth}
@@ -14,7 +15,6 @@ use Rattle.dwz_plan.specs.Shows.{shown_part}
 use Rattle.dwz_plan.proofs.BridgeLemmas.{file_numbers_are}
 use Rattle.dwz_same.specs.Units.{common_units, partial_unit, partial_units}
 use Rattle.dwz_across.proofs.FileCounts.{are_many}
-use Rattle.dwz_across.proofs.ListGets.{got_below}
 use Rattle.dwz_laid.proofs.PartUnits.{part_is}
 use Rattle.dwz_order.specs.Orders.{First}
 use Rattle.dwz_ordered.specs.declared.orders.Settled.{Settled}

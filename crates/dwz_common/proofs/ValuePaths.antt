@@ -7,7 +7,9 @@ use Rattle.dwz_model.specs.declared.fault.Fault.{Fault}
 use Rattle.dwz_model.specs.declared.fault.Reason.TheVariants.{BadFile}
 use Rattle.dwz_meanings.specs.Documents.{File, Sec, Value, only}
 use Rattle.dwz_meanings.specs.LineTables.{FileTable}
-use Rattle.dwz_meanings.specs.Meanings.{Class, IfSo, IsLocList, MeansAs, OfAddress, OfBlock, OfCommonEntry, OfCommonText, OfConstant, OfExpression, OfFlag, OfIndex, OfInfoEntry, OfListIndex, OfOffset, OfSignature, OfText, OfTextBySlot, OfTextInLineStr, OfTextInStr, OfUnitEntry, Scope, Unread, attr_with, class_of, constant_value, file_by, is_zero, meaning, names_file, names_list, number_of, offset_of, path_or, row_of_table, stmt_list}
+use Rattle.dwz_meanings.specs.Meanings.{Class, IfSo, IsLocList, MeansAs, OfAddress, OfBlock, OfCommonEntry, OfCommonText, OfConstant, OfExpression, OfFlag, OfIndex, OfInfoEntry, OfListIndex, OfOffset}
+use Rattle.dwz_meanings.specs.Meanings.{OfSignature, OfText, OfTextBySlot, OfTextInLineStr, OfTextInStr, OfUnitEntry, Scope, Unread, class_of, constant_value, file_by, is_zero, meaning}
+use Rattle.dwz_meanings.specs.Meanings.{names_file, names_list, number_of, offset_of, path_or, row_of_table, stmt_list}
 use Rattle.dwz_meanings.specs.Meanings as meanings
 use Rattle.dwz_meanings.proofs.MeaningLemmas.{value_agrees}
 use Rattle.dwz_bytes.specs.Reading.{◌>>=◌}

@@ -4,12 +4,12 @@ use Rattle.std.specs.Global.{Vec}
 use Rattle.std.specs.Option.{option_map_or}
 use Rattle.std.specs.Prelude.{slice_index, slice_index_or, slice_range}
 use Rattle.std.proofs.lemmas.List.{length-map}
+use Rattle.dwz_docs.proofs.ListFacts.{got_below, got_map, got_there, same_got}
 use Rattle.dwz_layout.specs.declared.order.Item.{Item}
 use Rattle.dwz_layout.specs.declared.order.What.{What}
 use Rattle.dwz_layout.specs.declared.order.What.TheVariants.{Import, InChain, Root, Space, Top, Whole}
 use Rattle.dwz_unit.specs.Rows.{EntryRow, rows_of, units_of}
 use Rattle.dwz_graph.specs.declared.file.File.{File}
-use Rattle.dwz_across.proofs.ListGets.{get_there, got_below, got_map, same_got}
 use Rattle.dwz_places.specs.declared.known.FileRows.{FileRows}
 use Rattle.dwz_places.specs.declared.known.Known.{Known}
 use Rattle.dwz_places.specs.declared.known.Row.{Row}
@@ -134,7 +134,7 @@ module _ (files : List File) (texts paths : List (List ℕ)) (sharing : _) (befo
     placed : (t : Vec TextAt) × (slice_get h.places n ≡ Some t) × (t.items ≡ file_places (shares_in sharing n) texts before n x)
     placed =
         let lt = got_below files n x at in
-        let t = get_there h.places n (let p = places_many in omega arith) in (
+        let t = got_there h.places n (let p = places_many in omega arith) in (
           t.0,
           t.1,
           same_got (map shown_texts h.places) n t.0.items (file_places (shares_in sharing n) texts before n x)
@@ -144,7 +144,7 @@ module _ (files : List File) (texts paths : List (List ℕ)) (sharing : _) (befo
     numbered : (m : Vec ℕ) × (slice_get h.numbers n ≡ Some m) × (m.items ≡ numbers_in_file paths x)
     numbered =
         let lt = got_below files n x at in
-        let m = get_there h.numbers n (let p = numbers_many in omega arith) in (
+        let m = got_there h.numbers n (let p = numbers_many in omega arith) in (
           m.0,
           m.1,
           same_got (map shown_numbers h.numbers) n m.0.items (numbers_in_file paths x)
@@ -155,7 +155,7 @@ module _ (files : List File) (texts paths : List (List ℕ)) (sharing : _) (befo
     own : (r : FileRows) × (slice_get k.files.items n ≡ Some (record r { texts = placed.0; files = numbered.0 }))
     own =
         let lt = got_below files n x at in
-        let r = get_there before.files.items n (omega arith) in (
+        let r = got_there before.files.items n (omega arith) in (
           r.0,
           ap (λ (w : List FileRows). slice_get w n) h.files_are
               ∙ files_got before.files.items h.places h.numbers n r.0 placed.0 numbered.0 r.1 placed.1 numbered.1,

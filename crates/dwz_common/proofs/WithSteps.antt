@@ -1,8 +1,6 @@
 -- Files get their texts and numbers one after the other, and lists that get them are of the same files.
-use Rattle.std.proofs.Common.{◌≡◌, ℕ, zero, suc, ◌<◌, List, [], ◌∷◌, ◌++◌, length, refl, sym, ap, ◌∙◌, arith}
+use Rattle.std.proofs.Common.{◌≡◌, ℕ, List, [], ◌∷◌, ◌++◌, length, refl, sym, ap, ◌∙◌, arith}
 use Rattle.std.specs.Global.{Vec}
-use Rattle.std.specs.Prelude.{◌↔◌, IsSome, Option, None, Some}
-use Rattle.std.proofs.lemmas.Bool.{false≢true}
 use Rattle.std.proofs.lemmas.List.{append-nil, append_assoc}
 use Rattle.dwz_places.specs.declared.known.FileRows.{FileRows}
 use Rattle.dwz_places.specs.declared.known.TextAt.{TextAt}
@@ -52,8 +50,3 @@ module _ (left : List FileRows) (texts : List (Vec TextAt)) (numbers : List (Vec
 
   pub out_of_numbers : length numbers ≡ 0 → made ≡ whole
   out_of_numbers none = ended (no_numbers left texts numbers none)
-
-pub none_left : {X : Type 0} (o : Option X) (n : ℕ) → (IsSome o ↔ (0 < n)) → ((x : X) → o ≡ Some x → ⊥) → n ≡ 0
-none_left None zero h out = refl
-none_left None (suc n) h out = absurd (false≢true (h.1 (omega arith)))
-none_left (Some x) n h out = absurd (out x refl)

@@ -3,7 +3,7 @@
 use Rattle.std.specs.Prelude.{◌≡◌, ℕ, Bool, true, false, List, Some, slice_get}
 use Rattle.dwz_meanings.specs.Documents.{Node, node_map}
 use Rattle.dwz_meanings.specs.Meanings.{class_of}
-use Rattle.dwz_seen.specs.Lists.{Each}
+use Rattle.dwz_docs.specs.Lists.{Each}
 use Rattle.dwz_seen.specs.Spaces.{space_text}
 use Rattle.dwz_alike.specs.Spots.{name_of}
 use Rattle.dwz_unit.specs.Rows.{EntryRow}

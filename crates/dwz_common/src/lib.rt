@@ -25,6 +25,3 @@ pub use pool::Pool;
 pub use shared::place_text;
 pub use spaces::shared_names;
 pub use texts::common_texts;
-
-#[cfg(test)]
-mod tests;

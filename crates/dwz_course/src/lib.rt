@@ -18,6 +18,3 @@ pub use output::{Output, Puts};
 pub use running::run_course;
 pub use status::Status;
 pub use stops::stop_laws;
-
-#[cfg(test)]
-mod tests;

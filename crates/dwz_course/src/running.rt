@@ -44,8 +44,10 @@ where
     A: Fn(Global, &Options, &[Vec<u8>]) -> Result<Output, GraphErr>,
     requires callable { A.IsAlwaysCallable answer.now }
     requires answers { (a : _) (o : _) (c : _) (r : _) → A.post answer.now a o c r → IsAnswer (W.gives o.now (map (λ v. v.items) c.now)) r }
-    ensures ends { Ends W.makes W.gives (bytes_of words.now) (F.told files.old) (F.told files.new) (C.shown console.old) (C.shown console.new) result }
-    ensures complete { Complete W.makes W.gives (bytes_of words.now) (F.told files.old) (F.told files.new) (C.shown console.old) (C.shown console.new) result }
+    ensures ends { Ends W.makes W.gives (bytes_of words.now) (F.told files.old) (F.told files.new) (C.shown console.old)
+        (C.shown console.new) result }
+    ensures complete { Complete W.makes W.gives (bytes_of words.now) (F.told files.old) (F.told files.new) (C.shown console.old)
+        (C.shown console.new) result }
     ensures refuses { Refuses W.makes W.gives (bytes_of words.now) (F.told files.old) (F.told files.new) result }
     ensures demo { LeavesFiles (bytes_of words.now) (F.told files.old) (F.told files.new) }
     ensures reads { KeepsLastRead result (F.told files.old) (F.told files.new) }

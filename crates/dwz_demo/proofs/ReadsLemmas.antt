@@ -1,8 +1,6 @@
 -- A file of a demonstration reads: it is an ELF file without a fault, and its abbreviation table declares what it should.
-use Rattle.std.proofs.Common.{◌≡◌, ◌≢◌, ℕ, zero, suc, ◌^◌, ◌<◌, ◌≤◌, List, [], ◌∷◌, refl, sym, ap, ◌∙◌, arith}
-use Rattle.std.specs.Prelude.{All, AllPairs, Bool, true, false, ◌&&◌, bit_and, codes, eqb, not, None, Ok}
-use Rattle.std.specs.List.{list_all}
-use Rattle.std.proofs.lemmas.Bool.{eqb-false}
+use Rattle.std.proofs.Common.{◌≡◌, ◌≢◌, ℕ, zero, suc, ◌^◌, ◌<◌, ◌≤◌, List, refl, sym, ap, ◌∙◌, arith}
+use Rattle.std.specs.Prelude.{All, AllPairs, bit_and, codes, None, Ok}
 use Rattle.dwz_bytes.specs.Reading.{groups_at, uleb_at}
 use Rattle.dwz_docs.specs.Abbrevs.{declaration_at, pair_at, table_at, table_bytes}
 use Rattle.dwz_docs.specs.ElfReading.{elf_fault, first_in}
@@ -11,20 +9,12 @@ use Rattle.dwz_docs.specs.Lists.{items_at, items_from}
 use Rattle.dwz_docs.specs.PlainFile.{AreKnown, FitsPlain, PlainSection, index_fault, plain_sections}
 use Rattle.dwz_docs.specs.Texts.{NoZero}
 use Rattle.dwz_docs.proofs.PlainFaults.{faults_are}
+use Rattle.dwz_docs.proofs.PlainReads.{no_zero_in}
 use Rattle.dwz_demo.specs.declared.unit.TheConstants.{ABBREVS}
 use Rattle.dwz_demo.specs.Demo.{demo_file, demo_info, demo_sections, demo_table}
 use Rattle.dwz_demo.proofs.GivenLemmas.{info_section, table_section}
 use Rattle.dwz_demo.proofs.LengthLemmas.{small_file}
 use Rattle.dwz_demo.proofs.UnitLemmas.{abbrevs_written}
-
--- a name without zero bytes, by a test
-no_zero_in : (name : List ℕ) → list_all (λ (b : ℕ). not (eqb b 0)) name ≡ true → NoZero name
-no_zero_in [] e = tt
-no_zero_in (b ∷ name) e = go (eqb b 0) refl (no_zero_in name) e where
-  go : (t : Bool) → eqb b 0 ≡ t → (list_all (λ (x : ℕ). not (eqb x 0)) name ≡ true → NoZero name)
-      → (not t && list_all (λ (x : ℕ). not (eqb x 0)) name) ≡ true → NoZero (b ∷ name)
-  go true is rest e = absurd cc
-  go false is rest e = (eqb-false b 0 is, rest e)
 
 -- what holds of the two sections holds of all
 both : (P : PlainSection → Type 0) (n first : ℕ) → P (info_section (demo_info n first))

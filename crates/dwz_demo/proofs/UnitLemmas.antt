@@ -1,9 +1,10 @@
 -- A unit is its constant bytes with two numbers between them, and the units of a file come one behind the other.
-use Rattle.std.proofs.Common.{◌≡◌, ℕ, zero, suc, ◌+◌, List, [], ◌∷◌, ◌++◌, refl, sym, ap, ◌∙◌, arith, append_assoc, append-nil}
+use Rattle.std.proofs.Common.{◌≡◌, ℕ, suc, ◌+◌, List, [], ◌∷◌, ◌++◌, refl, sym, ap, ◌∙◌, arith, append_assoc, append-nil}
 use Rattle.std.specs.List.{flat_map, range_with_len}
 use Rattle.std.proofs.lemmas.Grind.{flat_map-append}
 use Rattle.dwz_bytes.specs.Spelling.{groups_in, le_bytes, padded}
 use Rattle.dwz_docs.specs.Abbrevs.{pairs_bytes, table_bytes}
+use Rattle.dwz_docs.proofs.ListFacts.{numbers_more}
 use Rattle.dwz_demo.specs.declared.unit.TheConstants.{ABBREVS, FRONT, NAMED}
 use Rattle.dwz_demo.specs.Demo.{demo_info, demo_table, unit_bytes}
 
@@ -28,17 +29,11 @@ unit_joined own shared out a b c d e first second third fourth fifth =
 
 -- ---- the units of a file
 
-range_more : (a n : ℕ) → range_with_len a (suc n) ≡ range_with_len a n ++ (a + n) ∷ []
-range_more a zero = let e : a ≡ a + 0 = omega arith in ap (λ (k : ℕ). k ∷ []) e
-range_more a (suc n) =
-    let e : a + 1 + n ≡ a + suc n = omega arith in
-    ap (λ (xs : List ℕ). a ∷ xs) (range_more (a + 1) n ∙ ap (λ (k : ℕ). range_with_len (a + 1) n ++ k ∷ []) e)
-
 range_next : (n : ℕ) → range_with_len 0 (n + 1) ≡ range_with_len 0 n ++ n ∷ []
 range_next n =
     let next : n + 1 ≡ suc n = omega arith in
     let none : 0 + n ≡ n = omega arith in
-    rw next (range_more 0 n ∙ ap (λ (k : ℕ). range_with_len 0 n ++ k ∷ []) none)
+    rw next (numbers_more 0 n ∙ ap (λ (k : ℕ). range_with_len 0 n ++ k ∷ []) none)
 
 units_more : (n first : ℕ) → demo_info (n + 1) first ≡ demo_info n first ++ unit_bytes (first + n) n
 units_more n first =

@@ -7,6 +7,3 @@ mod unit;
 
 pub use demo::make_files;
 pub use laws::{length_laws, reading_laws};
-
-#[cfg(test)]
-mod tests;

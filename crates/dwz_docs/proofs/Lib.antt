@@ -27,3 +27,9 @@ mod ModeRows
 pub mod FitLemmas
 pub mod OrderLemmas
 pub mod CodeLemmas
+pub mod ListFacts
+pub mod CaseFacts
+pub mod RangeBytes
+pub mod PlacedLemmas
+pub mod NumberRowLemmas
+pub mod AttrPairs

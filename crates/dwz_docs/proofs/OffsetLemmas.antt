@@ -1,17 +1,16 @@
 -- String offsets tables: contributions are read front by front.
-use Rattle.std.proofs.Common.{◌≡◌, ℕ, zero, suc, ◌+◌, ◌-◌, ◌*◌, ◌/◌, ◌%◌, ◌<◌, ◌≤◌, Bool, true, false, cond, ◌&&◌, eqb, leb, List, [], ◌∷◌, ◌++◌, length, take, drop, Option, Some, None, refl, sym, ap, subst, ◌∙◌, inl, inr, arith, append_assoc, length-append, length-take, length-drop}
+use Rattle.std.proofs.Common.{◌≡◌, ℕ, zero, suc, ◌+◌, ◌-◌, ◌*◌, ◌/◌, ◌%◌, ◌<◌, ◌≤◌, Bool, true, cond, ◌&&◌, eqb, leb, List, [], ◌∷◌, ◌++◌, length, take, drop, Option, Some, None, refl, sym, ap, subst}
+use Rattle.std.proofs.Common.{◌∙◌, inl, inr, arith, append_assoc, length-append, length-take, length-drop}
 use Rattle.std.specs.Option.{option_map}
 use Rattle.std.proofs.lemmas.Bool.{eq-eqb, eqb-true, le-leb, leb-true}
 use Rattle.std.proofs.lemmas.List.{drop-drop, take-append-drop}
 use Rattle.dwz_bytes.specs.Spelling.{le_value}
+use Rattle.dwz_bytes.proofs.GroupLemmas.{chosen}
+use Rattle.dwz_bytes.proofs.LebLemmas.{drop-front, take-front}
 use Rattle.dwz_docs.specs.OffsetTables.{AreSlots, SpellContributions, SpellsContribution, count_at, counts_in, is_contribution, size_at, slot_places, slots_in}
-use Rattle.dwz_docs.proofs.PartLemmas.{chosen, drop-front, take-front}
+use Rattle.dwz_docs.proofs.AbbrevLemmas.{and_true}
 
 -- ---- one contribution
-
-both : (a b : Bool) → (a && b) ≡ true → (a ≡ true) × (b ≡ true)
-both true b e = (refl, e)
-both false b e = absurd cc
 
 -- what the test says
 pub record Whole (bytes : List ℕ) : Type 0 where
@@ -25,10 +24,10 @@ pub record Whole (bytes : List ℕ) : Type 0 where
 pub whole : (bytes : List ℕ) → is_contribution bytes ≡ true → Whole bytes
 unfolding is_contribution count_at
 whole bytes e =
-    let a = both (leb 8 (length bytes)) _ e in
-    let b = both (eqb (le_value (take 2 (drop 4 bytes))) 5) _ a.1 in
-    let d = both (leb 4 (size_at bytes)) _ b.1 in
-    let f = both (eqb (size_at bytes % 4) 0) _ d.1 in
+    let a = and_true (leb 8 (length bytes)) _ e in
+    let b = and_true (eqb (le_value (take 2 (drop 4 bytes))) 5) _ a.1 in
+    let d = and_true (leb 4 (size_at bytes)) _ b.1 in
+    let f = and_true (eqb (size_at bytes % 4) 0) _ d.1 in
     let low = leb-true 4 (size_at bytes) d.0 in
     let fours = eqb-true (size_at bytes % 4) 0 f.0 in
     record {
@@ -46,7 +45,7 @@ pub record Fronted (bytes : List ℕ) : Type 0 where
   pub spelled : SpellsContribution front (count_at bytes)
   pub parts : bytes ≡ front ++ drop (8 + 4 * count_at bytes) bytes
 
-five_parts : (a v p s r : List ℕ) → a ++ (v ++ (p ++ (s ++ r))) ≡ (a ++ (v ++ (p ++ s))) ++ r
+pub five_parts : (a v p s r : List ℕ) → a ++ (v ++ (p ++ (s ++ r))) ≡ (a ++ (v ++ (p ++ s))) ++ r
 five_parts a v p s r = simp append_assoc
 
 pub fronted : (bytes : List ℕ) → is_contribution bytes ≡ true → Fronted bytes
@@ -159,7 +158,8 @@ counts_found (suc most) (b ∷ rest) counts e =
           let f = fronted bytes p.0 in
           let m = mapped (count_at bytes) (counts_in most (drop (8 + 4 * count_at bytes) bytes)) counts p.1 in
           let others = counts_found most (drop (8 + 4 * count_at bytes) bytes) m.0 m.1 in
-          let whole_row : SpellContributions (count_at bytes ∷ m.0) bytes = record { front = f.front; first = f.spelled; back = drop (8 + 4 * count_at bytes) bytes; second = others; parts = f.parts } in
+          let whole_row : SpellContributions (count_at bytes ∷ m.0) bytes =
+          record { front = f.front; first = f.spelled; back = drop (8 + 4 * count_at bytes) bytes; second = others; parts = f.parts } in
           subst (λ (cs : List ℕ). SpellContributions cs bytes) (sym m.2) whole_row
       | inr p ↦ absurd cc
     ]

@@ -1,5 +1,6 @@
 -- A file of the plain layout has no fault but that a section has the name of an index.
-use Rattle.std.proofs.Common.{◌≡◌, ◌≢◌, ◌⊎◌, ℕ, suc, ◌+◌, ◌*◌, ◌<◌, ◌≤◌, Bool, true, false, ◌&&◌, ◌||◌, not, eqb, ltb, List, [], ◌∷◌, ◌++◌, length, get_or, All, AllPairs, Any, Option, Some, None, refl, sym, ap, ◌∙◌, inl, inr, arith, append_assoc, append-nil, length-append, codes}
+use Rattle.std.proofs.Common.{◌≡◌, ◌≢◌, ◌⊎◌, ℕ, suc, ◌+◌, ◌*◌, ◌<◌, ◌≤◌, Bool, true, false, ◌&&◌, ◌||◌, not, eqb, ltb, List, [], ◌∷◌, ◌++◌, length, get_or, All, AllPairs, Any, Option, Some, None}
+use Rattle.std.proofs.Common.{refl, sym, ap, ◌∙◌, inl, inr, arith, append_assoc, append-nil, length-append, codes}
 use Rattle.std.specs.Prelude.{bit_and}
 use Rattle.std.specs.Int.{is_power_of_two}
 use Rattle.std.specs.List.{list_any}
@@ -13,7 +14,8 @@ use Rattle.dwz_docs.specs.ElfFaults.{identification}
 use Rattle.dwz_docs.specs.ElfHeaders.{file_header}
 use Rattle.dwz_docs.specs.ElfNames.{code_of, known_name, names_header, sections_in}
 use Rattle.dwz_docs.specs.ElfReading.{◌or◌, elf_fault, fault_if, field_fault, first_in, first_other, has_code, header_fault, identification_fault, missing_fault, names_fault, unkept_fault, wrong_byte}
-use Rattle.dwz_docs.specs.PlainFile.{AreKnown, FitsPlain, PlainSection, index_fault, plain_contents, plain_fields, plain_file, plain_headers_at, plain_names, plain_names_at, plain_sections, section_names, section_read, sections_read}
+use Rattle.dwz_docs.specs.PlainFile.{AreKnown, FitsPlain, PlainSection, index_fault, plain_contents, plain_fields, plain_file, plain_headers_at, plain_names, plain_names_at, plain_sections}
+use Rattle.dwz_docs.specs.PlainFile.{section_names, section_read, sections_read}
 use Rattle.dwz_docs.proofs.PlainLemmas.{headers_behind, length_plain}
 use Rattle.dwz_docs.proofs.PlainReads.{fields_read, names_header_is, parts, sections_are}
 
@@ -61,11 +63,13 @@ header_fine len index place name flags at size text before low within other fres
       go false = apart
 
 -- has_code of a section with bytes
-with_one : (c place name flags at size : ℕ) (text : List ℕ) (before : List Section) → list_any (has_code c) (before ++ section_read place name 1 flags at size 1 text ∷ []) ≡ (list_any (has_code c) before || eqb (code_of text) c)
-with_one c place name flags at size text before = list_any-append (has_code c) before (section_read place name 1 flags at size 1 text ∷ []) ∙ ap (λ (b : Bool). list_any (has_code c) before || b) (or_false (eqb (code_of text) c)) where
-  or_false : (b : Bool) → (b || false) ≡ b
-  or_false true = refl
-  or_false false = refl
+with_one : (c place name flags at size : ℕ) (text : List ℕ) (before : List Section) → list_any (has_code c) (before ++ section_read place name 1 flags at size 1 text ∷ [])
+    ≡ (list_any (has_code c) before || eqb (code_of text) c)
+with_one c place name flags at size text before = list_any-append (has_code c) before (section_read place name 1 flags at size 1 text ∷ []) ∙ ap (λ (b : Bool). list_any (has_code c) before || b)
+    (or_false (eqb (code_of text) c)) where
+      or_false : (b : Bool) → (b || false) ≡ b
+      or_false true = refl
+      or_false false = refl
 
 same_fresh : (used others : ℕ → Bool) → ((c : ℕ) → used c ≡ others c) → (sections : List PlainSection) → Fresh used sections → Fresh others sections
 same_fresh used others same [] f = tt
@@ -74,7 +78,8 @@ same_fresh used others same (s ∷ sections) f = (
   same_fresh (λ c. used c || eqb (code_of s.name) c) (λ c. others c || eqb (code_of s.name) c) (λ c. ap (λ (b : Bool). b || eqb (code_of s.name) c) (same c)) sections f.1,
 )
 
-headers_fine : (len index : ℕ) (before tail : List Section) (place name at : ℕ) (sections : List PlainSection) → 64 ≤ at → at + length (plain_contents sections) ≤ len → length before + length sections ≤ index
+headers_fine : (len index : ℕ) (before tail : List Section) (place name at : ℕ) (sections : List PlainSection) → 64 ≤ at → at + length (plain_contents sections) ≤ len
+    → length before + length sections ≤ index
     → Fresh (λ c. list_any (has_code c) before) sections → first_in (header_fault len index) (before ++ sections_read place name at sections) tail ≡ None
     → first_in (header_fault len index) before (sections_read place name at sections ++ tail) ≡ None
 unfolding first_in
@@ -88,7 +93,8 @@ headers_fine len index before tail place name at (s ∷ sections) low within les
     sym (append_assoc before (one ∷ []) (sections_read (place + 64) (name + (length s.name + 1)) (at + length s.bytes) sections)) in
     let others = headers_fine len index (before ++ one ∷ []) tail (place + 64) (name + (length s.name + 1)) (at + length s.bytes) sections (omega (arith, low)) (omega (arith, within, bytes_len))
     (omega (arith, less, length-append before (one ∷ [])))
-    (same_fresh (λ c. list_any (has_code c) before || eqb (code_of s.name) c) (λ c. list_any (has_code c) (before ++ one ∷ [])) (λ c. sym (with_one c place name s.flags at (length s.bytes) s.name before)) sections fresh.1)
+    (same_fresh (λ c. list_any (has_code c) before || eqb (code_of s.name) c) (λ c. list_any (has_code c) (before ++ one ∷ []))
+    (λ c. sym (with_one c place name s.flags at (length s.bytes) s.name before)) sections fresh.1)
     (ap (λ (b : List Section). first_in (header_fault len index) b tail) (sym regrouped) ∙ last) in
     none_or (header_fault len index before one) _ here others
 
@@ -107,12 +113,14 @@ fresh_of used (s ∷ sections) apart each = (
         → (code_of (get_or sections k d).name ≡ 0) ⊎ ((used (code_of (get_or sections k d).name) || eqb (code_of s.name) (code_of (get_or sections k d).name)) ≡ false)
     other k d lt (inl none) differ = inl none
     other k d lt (inr unused) differ = go (eqb (code_of (get_or sections k d).name) 0) refl where
-      go : (b : Bool) → eqb (code_of (get_or sections k d).name) 0 ≡ b → (code_of (get_or sections k d).name ≡ 0) ⊎ ((used (code_of (get_or sections k d).name) || eqb (code_of s.name) (code_of (get_or sections k d).name)) ≡ false)
+      go : (b : Bool) → eqb (code_of (get_or sections k d).name) 0 ≡ b
+          → (code_of (get_or sections k d).name ≡ 0) ⊎ ((used (code_of (get_or sections k d).name) || eqb (code_of s.name) (code_of (get_or sections k d).name)) ≡ false)
       go true e = inl (eqb-true (code_of (get_or sections k d).name) 0 e)
       go false e =
           let some = eqb-false (code_of (get_or sections k d).name) 0 e in
           inr (or_from (used (code_of (get_or sections k d).name)) (eqb (code_of s.name) (code_of (get_or sections k d).name)) unused
-          (ne_eqb (code_of s.name) (code_of (get_or sections k d).name) (λ (same : code_of s.name ≡ code_of (get_or sections k d).name). differ (λ (zero_code : code_of s.name ≡ 0). some (sym same ∙ zero_code)) same)))
+          (ne_eqb (code_of s.name) (code_of (get_or sections k d).name)
+          (λ (same : code_of s.name ≡ code_of (get_or sections k d).name). differ (λ (zero_code : code_of s.name ≡ 0). some (sym same ∙ zero_code)) same)))
 
 -- ---- sections that can't be kept, or read
 
@@ -144,7 +152,8 @@ kept_all all before others tail place name at [] plain last = last before others
 kept_all all before others tail place name at (s ∷ sections) plain last =
     let one = section_read place name 1 s.flags at (length s.bytes) 1 s.name in
     let here = kept_one all place name 1 s.flags at (length s.bytes) s.name (inl refl) (plain 0 s (omega arith)) in
-    let rest = kept_all all (before ++ one ∷ []) (others ++ one ∷ []) tail (place + 64) (name + (length s.name + 1)) (at + length s.bytes) sections (λ k d lt. plain (suc k) d (omega (arith, lt))) last in
+    let rest = kept_all all (before ++ one ∷ []) (others ++ one ∷ []) tail (place + 64) (name + (length s.name + 1)) (at + length s.bytes) sections (λ k d lt. plain (suc k) d (omega (arith, lt)))
+    last in
     (λ j. here j or rest j)
 
 -- ---- sections that have to be there
@@ -153,9 +162,11 @@ codes_there : (c place name at : ℕ) (sections : List PlainSection) → list_an
 codes_there c place name at [] = refl
 codes_there c place name at (s ∷ sections) = ap (λ (b : Bool). eqb (code_of s.name) c || b) (codes_there c (place + 64) (name + (length s.name + 1)) (at + length s.bytes) sections)
 
-there : (c place name at : ℕ) (first last : Section) (sections : List PlainSection) → Any (λ s. code_of s.name ≡ c) sections → list_any (has_code c) (first ∷ (sections_read place name at sections ++ last ∷ [])) ≡ true
+there : (c place name at : ℕ) (first last : Section) (sections : List PlainSection) → Any (λ s. code_of s.name ≡ c) sections
+    → list_any (has_code c) (first ∷ (sections_read place name at sections ++ last ∷ [])) ≡ true
 there c place name at first last sections any =
-    let found : list_any (λ (s : PlainSection). eqb (code_of s.name) c) sections ≡ true = list_any-from_Any (λ (s : PlainSection). eqb (code_of s.name) c) sections (any.0, any.1, any.2, any.3, eq-eqb (code_of any.1.name) c any.4) in
+    let found : list_any (λ (s : PlainSection). eqb (code_of s.name) c) sections ≡ true = list_any-from_Any (λ (s : PlainSection). eqb (code_of s.name) c) sections
+    (any.0, any.1, any.2, any.3, eq-eqb (code_of any.1.name) c any.4) in
     let middle : list_any (has_code c) (sections_read place name at sections ++ last ∷ []) ≡ true =
     list_any-append (has_code c) (sections_read place name at sections) (last ∷ []) ∙ ap (λ (b : Bool). b || list_any (has_code c) (last ∷ [])) (codes_there c place name at sections ∙ found) in
     ap (λ (b : Bool). has_code c first || b) middle ∙ or_true (has_code c first)
@@ -178,7 +189,8 @@ module _ (machine flags : ℕ) (sections : List PlainSection) (fits : FitsPlain 
   len = length_plain machine flags sections
 
   abbrev last_section : Section
-  last_section = section_read (plain_headers_at sections + 64 + 64 * length sections) (1 + length (section_names sections)) 3 0 (plain_names_at sections) (length (plain_names sections)) 1 (codes ".shstrtab")
+  last_section = section_read (plain_headers_at sections + 64 + 64 * length sections) (1 + length (section_names sections)) 3 0 (plain_names_at sections) (length (plain_names sections)) 1
+      (codes ".shstrtab")
 
   abbrev null_section : Section
   null_section = section_read (plain_headers_at sections) 0 0 0 0 0 0 []
@@ -233,7 +245,8 @@ module _ (machine flags : ℕ) (sections : List PlainSection) (fits : FitsPlain 
       let all = plain_sections sections in
       let null_kept : unkept_fault all null_section ≡ None = null_fine all in
       let last : (b c : List Section) → first_in (λ x. unkept_fault all) b (last_section ∷ []) ≡ first_in index_of c (last_section ∷ []) = λ b c.
-      (λ j. kept_one all (plain_headers_at sections + 64 + 64 * length sections) (1 + length (section_names sections)) 3 0 (plain_names_at sections) (length (plain_names sections)) (codes ".shstrtab") (inr refl) refl j or None) in
+      (λ j. kept_one all (plain_headers_at sections + 64 + 64 * length sections) (1 + length (section_names sections)) 3 0 (plain_names_at sections) (length (plain_names sections)) (codes ".shstrtab")
+      (inr refl) refl j or None) in
       let others = kept_all all (null_section ∷ []) (null_section ∷ []) (last_section ∷ []) (plain_headers_at sections + 64) 1 64 sections known.uncompressed last in
       (λ j. null_kept j or others j)
 

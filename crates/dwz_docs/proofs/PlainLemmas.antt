@@ -4,7 +4,8 @@ use Rattle.std.proofs.lemmas.List.{length-replicate}
 use Rattle.dwz_bytes.specs.Spelling.{le_bytes}
 use Rattle.dwz_docs.specs.ElfFaults.{identification}
 use Rattle.dwz_docs.specs.ElfLayout.{numbers}
-use Rattle.dwz_docs.specs.PlainFile.{PlainSection, file_fields, names_header_bytes, plain_contents, plain_end, plain_file, plain_front, plain_headers, plain_headers_at, plain_names, plain_names_at, section_fields, section_names}
+use Rattle.dwz_docs.specs.PlainFile.{PlainSection, file_fields, names_header_bytes, plain_contents, plain_end, plain_file, plain_front, plain_headers, plain_headers_at, plain_names, plain_names_at}
+use Rattle.dwz_docs.specs.PlainFile.{section_fields, section_names}
 
 pub length_number : (k n : ℕ) → length (le_bytes k n) ≡ k
 unfolding le_bytes

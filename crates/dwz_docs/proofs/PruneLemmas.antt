@@ -1,10 +1,11 @@
 -- What stays of a section of texts: the bytes of a range all stay, so a text that is used moves as a whole.
-use Rattle.std.proofs.Common.{◌≡◌, ℕ, suc, ◌+◌, ◌<◌, ◌≤◌, Bool, true, false, cond, ◌&&◌, List, [], ◌∷◌, ◌++◌, length, take, Option, Some, None, IsSome, Contains, refl, sym, ap, ◌∙◌, arith, length-append}
+use Rattle.std.proofs.Common.{◌≡◌, ℕ, suc, ◌+◌, ◌<◌, ◌≤◌, Bool, true, false, cond, ◌&&◌, List, [], ◌∷◌, ◌++◌, length, take, Option, Some, None, IsSome, Contains, refl, sym, ap, ◌∙◌, arith}
+use Rattle.std.proofs.Common.{length-append}
 use Rattle.std.proofs.lemmas.Bool.{false≢true, le-leb, lt-ltb}
 use Rattle.std.proofs.lemmas.List.Folds.{list_any-from_Any}
+use Rattle.dwz_bytes.proofs.LebLemmas.{take-front}
 use Rattle.dwz_docs.specs.Pruning.{bytes_kept, ended_length, is_in_range, is_kept, new_number, pruned, range_end}
 use Rattle.dwz_docs.specs.Texts.{IsTextAt, text_at}
-use Rattle.dwz_docs.proofs.PartLemmas.{take-front}
 use Rattle.dwz_docs.proofs.TextLemmas.{here_text, text_here}
 
 -- ---- bytes that are kept
@@ -14,7 +15,8 @@ unfolding bytes_kept
 kept-append keep at [] ys = ap (λ (n : ℕ). bytes_kept keep n ys) (omega arith)
 kept-append keep at (x ∷ xs) ys = go (keep at) (kept-append keep (at + 1) xs ys ∙ ap (λ (n : ℕ). bytes_kept keep (at + 1) xs ++ bytes_kept keep n ys) (omega arith)) where
   go : (b : Bool) → bytes_kept keep (at + 1) (xs ++ ys) ≡ bytes_kept keep (at + 1) xs ++ bytes_kept keep (at + suc (length xs)) ys
-      → cond b (x ∷ bytes_kept keep (at + 1) (xs ++ ys)) (bytes_kept keep (at + 1) (xs ++ ys)) ≡ cond b (x ∷ bytes_kept keep (at + 1) xs) (bytes_kept keep (at + 1) xs) ++ bytes_kept keep (at + suc (length xs)) ys
+      → cond b (x ∷ bytes_kept keep (at + 1) (xs ++ ys)) (bytes_kept keep (at + 1) (xs ++ ys)) ≡ cond b (x ∷ bytes_kept keep (at + 1) xs) (bytes_kept keep (at + 1) xs)
+      ++ bytes_kept keep (at + suc (length xs)) ys
   go true rest = ap (λ (w : List ℕ). x ∷ w) rest
   go false rest = rest
 
@@ -73,7 +75,8 @@ text_stays section uses used c some =
     ap (bytes_kept keep 0) here.parts ∙ kept-append keep 0 here.before (here.front ++ here.after)
     ∙ ap (λ (n : ℕ). bytes_kept keep 0 here.before ++ bytes_kept keep n (here.front ++ here.after)) place
     ∙ ap (λ (w : List ℕ). bytes_kept keep 0 here.before ++ w) (kept-append keep used here.front here.after ∙ ap (λ (w : List ℕ). w ++ bytes_kept keep (used + length here.front) here.after) whole) in
-    let front : take used section ≡ here.before = ap (λ (n : ℕ). take n section) (sym here.length_before) ∙ ap (take (length here.before)) here.parts ∙ take-front here.before (here.front ++ here.after) in
+    let front : take used section ≡ here.before = ap (λ (n : ℕ). take n section) (sym here.length_before) ∙ ap (take (length here.before)) here.parts
+    ∙ take-front here.before (here.front ++ here.after) in
     let moved : IsTextAt (pruned section uses) (new_number section uses used) text = record {
       before = bytes_kept keep 0 here.before;
       front = here.front;
@@ -83,3 +86,10 @@ text_stays section uses used c some =
       parts = parts;
     } in
     here_text (pruned section uses) text (new_number section uses used) moved ∙ sym t.1
+
+pub same_kept : (keep other : ℕ → Bool) → ((k : ℕ) → keep k ≡ other k) → (at : ℕ) (bytes : List ℕ) → bytes_kept keep at bytes ≡ bytes_kept other at bytes
+unfolding bytes_kept
+same_kept keep other each at [] = refl
+same_kept keep other each at (b ∷ bytes) =
+    ap (λ (w : List ℕ). cond (keep at) (b ∷ w) w) (same_kept keep other each (at + 1) bytes) ∙ ap (λ (t : Bool). cond t (b ∷ bytes_kept other (at + 1) bytes) (bytes_kept other (at + 1) bytes))
+    (each at)

@@ -7,10 +7,10 @@ use Rattle.dwz_bytes.specs.Reading.{fixed_at, uleb_at}
 use Rattle.dwz_bytes.specs.Spelling.{SpellsFixed, SpellsUleb, le_bytes, uleb}
 use Rattle.dwz_bytes.proofs.FixedLemmas.{fixed_written}
 use Rattle.dwz_bytes.proofs.PaddedLemmas.{uleb_spells}
+use Rattle.dwz_bytes.proofs.GroupLemmas.{chosen}
 use Rattle.dwz_docs.specs.declared.supplementary.Sup.{Sup}
 use Rattle.dwz_docs.specs.Supplementary.{SpellsSup, flag_byte, flag_read, name_read, read_sup, sum_read, sup_bytes, version_read}
 use Rattle.dwz_docs.specs.Texts.{NoZero, SpellsText, zero_ended_at}
-use Rattle.dwz_docs.proofs.PartLemmas.{chosen}
 use Rattle.dwz_docs.proofs.ReadLemmas.{fixed_reads, text_reads, uleb_reads}
 
 -- ---- what is written is spelled
@@ -34,7 +34,8 @@ sum_again s at len is =
     ap (sum_read s.supplementary s.name) (uleb_reads.again at (length s.sum) len s.sum is)
     ∙ ap (λ (b : Bool). cond b (Some s) None) (eq-eqb (length s.sum) (length s.sum) refl)
 
-name_again : (s : Sup) (at : ℕ) (name len : List ℕ) → SpellsText name s.name → SpellsUleb len (length s.sum) → name_read s.supplementary (zero_ended_at (record { at = at; rest = name ++ (len ++ s.sum) })) ≡ Some s
+name_again : (s : Sup) (at : ℕ) (name len : List ℕ) → SpellsText name s.name → SpellsUleb len (length s.sum)
+    → name_read s.supplementary (zero_ended_at (record { at = at; rest = name ++ (len ++ s.sum) })) ≡ Some s
 name_again s at name len named is =
     ap (name_read s.supplementary) (text_reads.again at s.name name (len ++ s.sum) named) ∙ sum_again s (at + length name) len is
 

@@ -4,17 +4,17 @@ use Rattle.std.specs.Prelude.{◌≡◌, ◌⊎◌, ℕ, List, true, false, Some
 use Rattle.dwz_model.specs.declared.fault.Fault.{Fault}
 use Rattle.dwz_model.specs.declared.fault.Reason.TheVariants.{Index, SectionTable}
 use Rattle.dwz_docs.specs.declared.elf.Section.{Section}
-use Rattle.dwz_docs.specs.ElfFaults.{IsElfFault, Row}
+use Rattle.dwz_docs.specs.ElfFaults.{IsElfFault, FaultRow}
 use Rattle.dwz_docs.specs.ElfHeaders.{file_header, has_relocations, is_there}
 use Rattle.dwz_docs.specs.ElfNames.{sections_in}
 
 -- one section header more
 abbrev pub HasOneMore : List ℕ → Fault → Type 0
-HasOneMore bytes = Row ((file_header bytes).headers ≡ 65279) SectionTable 60
+HasOneMore bytes = FaultRow ((file_header bytes).headers ≡ 65279) SectionTable 60
 
 -- the section is `.debug_sup`, and holds no relocations
 abbrev pub IsSupThere : Section → Fault → Type 0
-IsSupThere s = Row ((is_there s.header ≡ true) × (s.name.code ≡ 9) × (has_relocations s.header ≡ false)) Index s.header.at
+IsSupThere s = FaultRow ((is_there s.header ≡ true) × (s.name.code ≡ 9) × (has_relocations s.header ≡ false)) Index s.header.at
 
 -- what may be in a file that is read back
 abbrev pub IsAllowed : List ℕ → Fault → Type 0

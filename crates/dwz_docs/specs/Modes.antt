@@ -1,5 +1,5 @@
 -- How files are read besides those that are given: files that were written, and the supplementary file that they share (DWARF 5, 7.3.6).
-use Rattle.std.specs.Prelude.{ℕ, Bool, true, false, List, [], ◌∷◌, ◌++◌, ◌==◌, ◌&&◌, not, if◌then◌else◌}
+use Rattle.std.specs.Prelude.{ℕ, Bool, true, false, List, [], ◌∷◌, ◌==◌, not, if◌then◌else◌}
 use Rattle.std.specs.List.{filter}
 use Rattle.dwz_codes.specs.Forms.{form_rows}
 use Rattle.dwz_codes.specs.Rows.{RowView}
@@ -26,10 +26,12 @@ written entries depth = record { entries = entries; depth = depth; whole = true;
 -- ---- the supplementary file by itself
 
 -- Its entries say nothing of where they stand in a program, and their references lead to their own unit (ref4) or section (ref_addr):
--- block2, block4, data2, data4, data8, string, block, block1, data1, flag, sdata, strp, udata, ref_addr, ref4, exprloc, flag_present, data16, ref_sig8, implicit_const
+-- block2, block4, data2, data4, data8, string, block, block1, data1, flag, sdata, strp, udata, ref_addr, ref4, exprloc, flag_present,
+-- data16, ref_sig8, implicit_const
 abbrev pub shared_forms : List ℕ
 shared_forms =
-    0x03 ∷ 0x04 ∷ 0x05 ∷ 0x06 ∷ 0x07 ∷ 0x08 ∷ 0x09 ∷ 0x0a ∷ 0x0b ∷ 0x0c ∷ 0x0d ∷ 0x0e ∷ 0x0f ∷ 0x10 ∷ 0x13 ∷ 0x18 ∷ 0x19 ∷ 0x1e ∷ 0x20 ∷ 0x21 ∷ []
+    0x03 ∷ 0x04 ∷ 0x05 ∷ 0x06 ∷ 0x07 ∷ 0x08 ∷ 0x09 ∷ 0x0a ∷ 0x0b ∷ 0x0c ∷ 0x0d ∷ 0x0e ∷ 0x0f ∷ 0x10 ∷ 0x13 ∷ 0x18 ∷ 0x19 ∷ 0x1e ∷ 0x20
+    ∷ 0x21 ∷ []
 
 -- a root may name a line table besides, by sec_offset
 abbrev pub common_forms : ℕ → Bool → List RowView

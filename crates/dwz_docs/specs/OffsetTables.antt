@@ -1,5 +1,6 @@
 -- String offsets tables (DWARF 5, 7.26): where their slots are.
-use Rattle.std.specs.Prelude.{◌≡◌, ℕ, zero, suc, ◌+◌, ◌-◌, ◌*◌, ◌/◌, ◌%◌, List, [], ◌∷◌, ◌++◌, length, take, drop, Bool, ◌==◌, ◌&&◌, nat_le, if◌then◌else◌, Option, Some, None}
+use Rattle.std.specs.Prelude.{◌≡◌, ℕ, zero, suc, ◌+◌, ◌-◌, ◌*◌, ◌/◌, ◌%◌, List, [], ◌∷◌, ◌++◌, length, take, drop, Bool, ◌==◌, ◌&&◌, nat_le}
+use Rattle.std.specs.Prelude.{if◌then◌else◌, Option, Some, None}
 use Rattle.std.specs.Option.{option_map}
 use Rattle.dwz_bytes.specs.Spelling.{SpellsFixed, le_value}
 use Rattle.dwz_docs.specs.Parts.{Then}
@@ -62,7 +63,8 @@ counts_in most [] = Some []
 counts_in zero (b ∷ rest) = None
 counts_in (suc most) (b ∷ rest) =
     let bytes = b ∷ rest in
-    if is_contribution bytes then option_map (λ counts. count_at bytes ∷ counts) (counts_in most (drop (8 + 4 * count_at bytes) bytes)) else None
+    if is_contribution bytes then option_map (λ counts. count_at bytes ∷ counts) (counts_in most (drop (8 + 4 * count_at bytes) bytes)) else
+    None
 
 -- where the slots of a section are, if it is a row of contributions
 abbrev pub slots_in : List ℕ → Option (List ℕ)

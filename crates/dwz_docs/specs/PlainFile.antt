@@ -1,11 +1,12 @@
 -- ELF files of a plain layout (ELF-64 Object File Format): the file header, then the contents of the sections without gaps, the
 -- table of their names last, and then the section headers. And which sections the supplementary file has.
-use Rattle.std.specs.Prelude.{◌≡◌, ◌≢◌, ℕ, ◌+◌, ◌-◌, ◌*◌, ◌^◌, ◌<◌, ◌≤◌, bit_and, All, AllPairs, Any, List, [], ◌∷◌, ◌++◌, length, map, replicate, Option, Some, None, codes, true}
+use Rattle.std.specs.Prelude.{◌≡◌, ◌≢◌, ℕ, ◌+◌, ◌-◌, ◌*◌, ◌^◌, ◌<◌, ◌≤◌, bit_and, All, AllPairs, Any, List, [], ◌∷◌, ◌++◌, length, map}
+use Rattle.std.specs.Prelude.{replicate, Option, Some, None, codes, true}
 use Rattle.std.specs.Int.{next_multiple_of}
 use Rattle.std.specs.List.{flat_map}
 use Rattle.dwz_model.specs.declared.fault.Fault.{Fault}
 use Rattle.dwz_model.specs.declared.fault.Reason.TheVariants.{Index}
-use Rattle.dwz_model.specs.declared.sections.Sections.{Sections}
+use Rattle.dwz_model.specs.declared.sections.NewSections.{NewSections}
 use Rattle.dwz_docs.specs.declared.elf.FileHeader.{FileHeader}
 use Rattle.dwz_docs.specs.declared.elf.Section.{Section}
 use Rattle.dwz_docs.specs.ElfFaults.{identification}
@@ -56,7 +57,8 @@ plain_headers_at sections = next_multiple_of (plain_end sections) 8
 -- e_flags, e_ehsize, e_phentsize, e_phnum, e_shentsize, e_shnum, e_shstrndx.
 abbrev pub file_fields : ℕ → ℕ → ℕ → ℕ → List (ℕ × ℕ)
 file_fields machine flags headers_at count =
-    (2, 3) ∷ (2, machine) ∷ (4, 1) ∷ (8, 0) ∷ (8, 0) ∷ (8, headers_at) ∷ (4, flags) ∷ (2, 64) ∷ (2, 0) ∷ (2, 0) ∷ (2, 64) ∷ (2, count) ∷ (2, count - 1) ∷ []
+    (2, 3) ∷ (2, machine) ∷ (4, 1) ∷ (8, 0) ∷ (8, 0) ∷ (8, headers_at) ∷ (4, flags) ∷ (2, 64) ∷ (2, 0) ∷ (2, 0) ∷ (2, 64) ∷ (2, count)
+    ∷ (2, count - 1) ∷ []
 
 -- The fields of a section header: sh_name, sh_type, sh_flags, sh_addr, sh_offset, sh_size, sh_link, sh_info, sh_addralign,
 -- sh_entsize.
@@ -129,7 +131,8 @@ section_read place name kind flags at size align text = record {
 abbrev pub sections_read : ℕ → ℕ → ℕ → List PlainSection → List Section
 sections_read place name at [] = []
 sections_read place name at (s ∷ sections) =
-    section_read place name 1 s.flags at (length s.bytes) 1 s.name ∷ sections_read (place + 64) (name + (length s.name + 1)) (at + length s.bytes) sections
+    section_read place name 1 s.flags at (length s.bytes) 1 s.name ∷ sections_read (place + 64) (name + (length s.name + 1))
+    (at + length s.bytes) sections
 
 -- all sections, the null one first and the name table last
 abbrev pub plain_sections : List PlainSection → List Section
@@ -137,7 +140,8 @@ plain_sections sections =
     let headers_at = plain_headers_at sections in
     section_read headers_at 0 0 0 0 0 0 []
     ∷ (sections_read (headers_at + 64) 1 64 sections
-    ++ section_read (headers_at + 64 + 64 * length sections) (1 + length (section_names sections)) 3 0 (plain_names_at sections) (length (plain_names sections)) 1 (codes ".shstrtab") ∷ [])
+    ++ section_read (headers_at + 64 + 64 * length sections) (1 + length (section_names sections)) 3 0 (plain_names_at sections)
+    (length (plain_names sections)) 1 (codes ".shstrtab") ∷ [])
 
 -- their contents
 abbrev pub contents_read : List PlainSection → List (List ℕ)
@@ -171,7 +175,7 @@ if_there section None = []
 if_there section (Some bytes) = section bytes ∷ []
 
 -- the sections of the supplementary file: those that are there, in the order of their codes, and `.debug_sup` with that content
-abbrev pub sections_with : Sections → List ℕ → List PlainSection
+abbrev pub sections_with : NewSections → List ℕ → List PlainSection
 sections_with s sup =
     plain_section (codes ".debug_info") s.info
     ∷ plain_section (codes ".debug_abbrev") s.abbrev
@@ -183,5 +187,5 @@ sections_with s sup =
     ++ plain_section (codes ".debug_sup") sup ∷ [])))))
 
 -- the same, by the checksum: `.debug_sup` says that the file is the supplementary one, and names no other
-abbrev pub common_sections : Sections → List ℕ → List PlainSection
+abbrev pub common_sections : NewSections → List ℕ → List PlainSection
 common_sections s sum = sections_with s (sup_bytes (record { supplementary = true; name = []; sum = sum }))

@@ -6,5 +6,6 @@ ghost use Rattle.dwz_docs.specs.Texts.{text_at};
 
 /// Pruning: at the new number of a use the new section has the text that the old one has at the use.
 pub fn prune_laws()
-    ensures text { (section uses : List ℕ) (used : ℕ) → Contains uses used → IsSome (text_at section used) → text_at (pruned section uses) (new_number section uses used) ≡ text_at section used }
+    ensures text { (section uses : List ℕ) (used : ℕ) → Contains uses used → IsSome (text_at section used)
+        → text_at (pruned section uses) (new_number section uses used) ≡ text_at section used }
 {}

@@ -8,10 +8,14 @@ ghost use Rattle.dwz_docs.specs.Texts.{IsTextAt, NoZero};
 /// A text that is used keeps its number or gets the next, all others keep theirs, and still no two are equal. In the section
 /// of the texts each stands where it starts.
 pub fn text_row_laws()
-    ensures number { (texts : List (List ℕ)) (text : List ℕ) (n : ℕ) → AreDifferent texts → (number_of texts text ≡ Some n) ↔ (slice_get texts n ≡ Some text) }
+    ensures number { (texts : List (List ℕ)) (text : List ℕ) (n : ℕ) → AreDifferent texts
+        → (number_of texts text ≡ Some n) ↔ (slice_get texts n ≡ Some text) }
     ensures absent { (texts : List (List ℕ)) (text : List ℕ) → (number_of texts text ≡ None) ↔ ((n : ℕ) → slice_get texts n ≢ Some text) }
-    ensures used { (texts : List (List ℕ)) (text : List ℕ) → number_of (with_text texts text) text ≡ Some (unwrap_or (number_of texts text) (length texts)) }
-    ensures kept { (texts : List (List ℕ)) (text other : List ℕ) (n : ℕ) → number_of texts other ≡ Some n → number_of (with_text texts text) other ≡ Some n }
+    ensures used { (texts : List (List ℕ)) (text : List ℕ) → number_of (with_text texts text) text
+        ≡ Some (unwrap_or (number_of texts text) (length texts)) }
+    ensures kept { (texts : List (List ℕ)) (text other : List ℕ) (n : ℕ) → number_of texts other ≡ Some n
+        → number_of (with_text texts text) other ≡ Some n }
     ensures different { (texts : List (List ℕ)) (text : List ℕ) → AreDifferent texts → AreDifferent (with_text texts text) }
-    ensures start { (texts : List (List ℕ)) (text : List ℕ) (at : ℕ) → NoZero text → start_of texts text ≡ Some at → IsTextAt (text_section texts) at text }
+    ensures start { (texts : List (List ℕ)) (text : List ℕ) (at : ℕ) → NoZero text → start_of texts text ≡ Some at
+        → IsTextAt (text_section texts) at text }
 {}

@@ -1,6 +1,5 @@
 -- The section headers, one after another.
-use Rattle.std.proofs.Common.{◌≡◌, ℕ, zero, suc, ◌+◌, ◌-◌, ◌*◌, ◌<◌, ◌≤◌, List, [], ◌∷◌, ◌++◌, refl, sym, ap, ◌∙◌, append_assoc, arith}
-use Rattle.std.proofs.lemmas.Grind.{common_steps}
+use Rattle.std.proofs.Common.{◌≡◌, ℕ, suc, ◌+◌, ◌-◌, ◌*◌, ◌<◌, ◌≤◌, List, [], ◌∷◌, ◌++◌, refl, sym, ap, ◌∙◌, append_assoc, arith}
 use Rattle.dwz_docs.specs.declared.elf.Header.{Header}
 use Rattle.dwz_docs.specs.ElfHeaders.{header_at, headers_from}
 
@@ -12,7 +11,8 @@ pub one_more : (bytes : List ℕ) (at n m : ℕ) → n ≡ m + 1 → headers_fro
 unfolding headers_from
 one_more bytes at n m is = let e : n ≡ suc m = omega (arith, is) in rw e refl
 
-pub pushed : (bytes : List ℕ) (first index count : ℕ) (h : Header) (old new all : List Header) → new ≡ old ++ h ∷ [] → h ≡ header_at bytes (first + 64 * index) → index < count → old ++ headers_from bytes (first + 64 * index) (count - index) ≡ all → new ++ headers_from bytes (first + 64 * (index + 1)) (count - (index + 1)) ≡ all
+pub pushed : (bytes : List ℕ) (first index count : ℕ) (h : Header) (old new all : List Header) → new ≡ old ++ h ∷ [] → h ≡ header_at bytes (first + 64 * index) → index < count
+    → old ++ headers_from bytes (first + 64 * index) (count - index) ≡ all → new ++ headers_from bytes (first + 64 * (index + 1)) (count - (index + 1)) ≡ all
 pushed bytes first index count h old new all is_new is_h more so_far =
     let left = one_more bytes (first + 64 * index) (count - index) (count - (index + 1)) (omega arith) in
     let place : first + 64 * (index + 1) ≡ first + 64 * index + 64 = omega arith in

@@ -1,32 +1,30 @@
 -- Sections that are written again, one after another.
-use Rattle.std.proofs.Common.{◌≡◌, ℕ, zero, suc, ◌+◌, ◌-◌, ◌*◌, ◌%◌, ◌<◌, ◌≤◌, List, [], ◌∷◌, ◌++◌, length, take, drop, get_or, Option, Some, None, Bool, true, false, refl, sym, ap, subst, ◌∙◌, append_assoc, length-append, arith}
+use Rattle.std.proofs.Common.{◌≡◌, ℕ, ◌+◌, ◌-◌, ◌<◌, ◌≤◌, List, [], ◌∷◌, ◌++◌, length, take, drop, get_or, Some, None, Bool, true, false, refl, sym, ap, ◌∙◌}
+use Rattle.std.proofs.Common.{append_assoc, length-append, arith}
 use Rattle.std.specs.Int.{next_multiple_of}
-use Rattle.std.proofs.lemmas.List.{drop_all, drop_more, take_more}
+use Rattle.std.proofs.lemmas.List.{append-nil, drop_all, drop_more}
 use Rattle.std.proofs.lemmas.Grind.{common_steps}
-use Rattle.dwz_model.specs.declared.fault.Fault.{Fault}
 use Rattle.dwz_model.specs.declared.fault.Reason.TheVariants.{Layout}
-use Rattle.dwz_docs.specs.declared.elf.Header.{Header}
 use Rattle.dwz_docs.specs.declared.elf.Moved.{Moved}
 use Rattle.dwz_docs.specs.declared.elf.Section.{Section}
 use Rattle.dwz_docs.specs.ElfFaults.{file_fault}
 use Rattle.dwz_docs.specs.ElfLayout.{Changes, align_at, keep_end, inside_fault, is_inside, is_moving, moving, placed_end, placed_from, too_large}
 use Rattle.dwz_docs.specs.ElfReading.{ElfView}
+use Rattle.dwz_docs.proofs.PlacedLemmas.{placed_end-least}
 use Rattle.dwz_elf.specs.Places.{IsPlacedUpTo}
-
-append_nothing : {X : Type 0} (xs : List X) → xs ++ [] ≡ xs
-append_nothing [] = refl
-append_nothing (x ∷ xs) = ap (λ l. x ∷ l) (append_nothing xs)
 
 taken : (xs : List Section) (i : ℕ) → i < length xs → length (take i xs) ≡ i
 taken xs i less = grind (arith, common_steps)
 
-pub inside_some : (e : ElfView) (changes : Changes) (xs : List Section) (i : ℕ) (s : Section) (inside : Bool) → i < length xs → inside ≡ is_inside e changes i s → inside ≡ true → inside_fault e changes (take i xs) s ≡ Some (file_fault Layout s.header.at)
+pub inside_some : (e : ElfView) (changes : Changes) (xs : List Section) (i : ℕ) (s : Section) (inside : Bool) → i < length xs → inside ≡ is_inside e changes i s → inside ≡ true
+    → inside_fault e changes (take i xs) s ≡ Some (file_fault Layout s.header.at)
 unfolding inside_fault
 inside_some e changes xs i s inside less is holds =
     let test : is_inside e changes (length (take i xs)) s ≡ true = ap (λ n. is_inside e changes n s) (taken xs i less) ∙ (sym is ∙ holds) in
     rw test refl
 
-pub inside_none : (e : ElfView) (changes : Changes) (xs : List Section) (i : ℕ) (s : Section) (inside : Bool) → i < length xs → inside ≡ is_inside e changes i s → inside ≡ false → inside_fault e changes (take i xs) s ≡ None
+pub inside_none : (e : ElfView) (changes : Changes) (xs : List Section) (i : ℕ) (s : Section) (inside : Bool) → i < length xs → inside ≡ is_inside e changes i s → inside ≡ false
+    → inside_fault e changes (take i xs) s ≡ None
 unfolding inside_fault
 inside_none e changes xs i s inside less is holds =
     let test : is_inside e changes (length (take i xs)) s ≡ false = ap (λ n. is_inside e changes n s) (taken xs i less) ∙ (sym is ∙ holds) in
@@ -34,14 +32,16 @@ inside_none e changes xs i s inside less is holds =
 
 -- ---- which sections are written again
 
-pub one_moves : (keep : ℕ) (xs : List Section) (i : ℕ) (d : Section) (moves : Bool) (old new all : List (ℕ × ℕ)) → i < length xs → moves ≡ is_moving keep (get_or xs i d).header → moves ≡ true → new ≡ old ++ ((get_or xs i d).header.offset, i) ∷ [] → old ++ moving keep i (drop i xs) ≡ all → new ++ moving keep (i + 1) (drop (i + 1) xs) ≡ all
+pub one_moves : (keep : ℕ) (xs : List Section) (i : ℕ) (d : Section) (moves : Bool) (old new all : List (ℕ × ℕ)) → i < length xs → moves ≡ is_moving keep (get_or xs i d).header → moves ≡ true
+    → new ≡ old ++ ((get_or xs i d).header.offset, i) ∷ [] → old ++ moving keep i (drop i xs) ≡ all → new ++ moving keep (i + 1) (drop (i + 1) xs) ≡ all
 unfolding moving
 one_moves keep xs i d moves old new all less is holds is_new so_far =
     let test : is_moving keep (get_or xs i d).header ≡ true = sym is ∙ holds in
     let parts : moving keep i (drop i xs) ≡ ((get_or xs i d).header.offset, i) ∷ moving keep (i + 1) (drop (i + 1) xs) = rw (drop_more xs i d less, test) refl in
     rw (is_new, append_assoc, ← parts) so_far
 
-pub one_stays : (keep : ℕ) (xs : List Section) (i : ℕ) (d : Section) (moves : Bool) (old all : List (ℕ × ℕ)) → i < length xs → moves ≡ is_moving keep (get_or xs i d).header → moves ≡ false → old ++ moving keep i (drop i xs) ≡ all → old ++ moving keep (i + 1) (drop (i + 1) xs) ≡ all
+pub one_stays : (keep : ℕ) (xs : List Section) (i : ℕ) (d : Section) (moves : Bool) (old all : List (ℕ × ℕ)) → i < length xs → moves ≡ is_moving keep (get_or xs i d).header → moves ≡ false
+    → old ++ moving keep i (drop i xs) ≡ all → old ++ moving keep (i + 1) (drop (i + 1) xs) ≡ all
 unfolding moving
 one_stays keep xs i d moves old all less is holds so_far =
     let test : is_moving keep (get_or xs i d).header ≡ false = sym is ∙ holds in
@@ -52,7 +52,7 @@ pub all_looked_at : (keep : ℕ) (xs : List Section) (i : ℕ) (old all : List (
 unfolding moving
 all_looked_at keep xs i old all done so_far =
     let none : drop i xs ≡ [] = drop_all i xs done in
-    sym (append_nothing old) ∙ (rw none at so_far)
+    sym (append-nil old) ∙ (rw none at so_far)
 
 pub keep_least : (e : ElfView) → 64 ≤ keep_end e
 unfolding keep_end
@@ -60,41 +60,35 @@ keep_least e = omega arith
 
 -- ---- their places
 
-pub up_le : (start align : ℕ) → start ≤ next_multiple_of start align
-up_le start align = omega arith
-
-pub grows : (e : ElfView) (contents : ℕ → List ℕ) (start : ℕ) (order : List (ℕ × ℕ)) → start ≤ placed_end start (placed_from e contents start order)
-unfolding placed_from
-grows e contents start [] = omega arith
-grows e contents start (key ∷ order) =
-    let at = next_multiple_of start (align_at e key.1) in
-    let next = at + length (contents key.1) in
-    let here : start ≤ at = up_le start (align_at e key.1) in
-    let more : next ≤ placed_end next (placed_from e contents next order) = grows e contents next order in
-    omega (arith, here, more)
-
-pub too_far : (e : ElfView) (contents : ℕ → List ℕ) (keep : ℕ) (order : List (ℕ × ℕ)) (end : ℕ) (placed : List Moved) (i : ℕ) (d : ℕ × ℕ) (at size : ℕ) → IsPlacedUpTo e contents keep order end placed (drop i order) → i < length order → at ≡ next_multiple_of end (align_at e (get_or order i d).1) → size ≡ length (contents (get_or order i d).1) → too_large ≤ at + size → too_large ≤ placed_end keep (placed_from e contents keep order)
+pub too_far : (e : ElfView) (contents : ℕ → List ℕ) (keep : ℕ) (order : List (ℕ × ℕ)) (end : ℕ) (placed : List Moved) (i : ℕ) (d : ℕ × ℕ) (at size : ℕ)
+    → IsPlacedUpTo e contents keep order end placed (drop i order) → i < length order → at ≡ next_multiple_of end (align_at e (get_or order i d).1) → size ≡ length (contents (get_or order i d).1)
+    → too_large ≤ at + size → too_large ≤ placed_end keep (placed_from e contents keep order)
 unfolding placed_from
 too_far e contents keep order end placed i d at size so_far less is_at is_size large =
-    let more : at + size ≤ placed_end (at + size) (placed_from e contents (at + size) (drop (i + 1) order)) = grows e contents (at + size) (drop (i + 1) order) in
-    let step : placed_end end (placed_from e contents end (drop i order)) ≡ placed_end (at + size) (placed_from e contents (at + size) (drop (i + 1) order)) = rw (drop_more order i d less, is_at, is_size) refl in
+    let more : at + size ≤ placed_end (at + size) (placed_from e contents (at + size) (drop (i + 1) order)) = placed_end-least e contents (at + size) (drop (i + 1) order) in
+    let step : placed_end end (placed_from e contents end (drop i order)) ≡ placed_end (at + size) (placed_from e contents (at + size) (drop (i + 1) order)) =
+    rw (drop_more order i d less, is_at, is_size) refl in
     omega (arith, more, step, so_far.last, large)
 
-pub next_place : (e : ElfView) (contents : ℕ → List ℕ) (keep : ℕ) (order : List (ℕ × ℕ)) (end : ℕ) (placed new : List Moved) (i : ℕ) (d : ℕ × ℕ) (at size : ℕ) → IsPlacedUpTo e contents keep order end placed (drop i order) → i < length order → at ≡ next_multiple_of end (align_at e (get_or order i d).1) → size ≡ length (contents (get_or order i d).1) → at + size < too_large → new ≡ placed ++ record { index = (get_or order i d).1; at = at; size = size } ∷ [] → IsPlacedUpTo e contents keep order (at + size) new (drop (i + 1) order)
+pub next_place : (e : ElfView) (contents : ℕ → List ℕ) (keep : ℕ) (order : List (ℕ × ℕ)) (end : ℕ) (placed new : List Moved) (i : ℕ) (d : ℕ × ℕ) (at size : ℕ)
+    → IsPlacedUpTo e contents keep order end placed (drop i order) → i < length order → at ≡ next_multiple_of end (align_at e (get_or order i d).1) → size ≡ length (contents (get_or order i d).1)
+    → at + size < too_large → new ≡ placed ++ record { index = (get_or order i d).1; at = at; size = size } ∷ [] → IsPlacedUpTo e contents keep order (at + size) new (drop (i + 1) order)
 unfolding placed_from
 next_place e contents keep order end placed new i d at size so_far less is_at is_size small is_new =
-    let step : placed_from e contents end (drop i order) ≡ record { index = (get_or order i d).1; at = at; size = size } ∷ placed_from e contents (at + size) (drop (i + 1) order) = rw (drop_more order i d less, is_at, is_size) refl in
+    let step : placed_from e contents end (drop i order) ≡ record { index = (get_or order i d).1; at = at; size = size } ∷ placed_from e contents (at + size) (drop (i + 1) order) =
+    rw (drop_more order i d less, is_at, is_size) refl in
     record {
       places = rw (is_new, append_assoc, ← step) so_far.places;
       last = sym (ap (placed_end end) step) ∙ so_far.last;
       small = small;
     }
 
-pub all_placed : (e : ElfView) (contents : ℕ → List ℕ) (keep : ℕ) (order : List (ℕ × ℕ)) (end : ℕ) (placed : List Moved) (i : ℕ) → IsPlacedUpTo e contents keep order end placed (drop i order) → length order ≤ i → (placed ≡ placed_from e contents keep order) × (end ≡ placed_end keep (placed_from e contents keep order)) × (end < too_large)
+pub all_placed : (e : ElfView) (contents : ℕ → List ℕ) (keep : ℕ) (order : List (ℕ × ℕ)) (end : ℕ) (placed : List Moved) (i : ℕ) → IsPlacedUpTo e contents keep order end placed (drop i order)
+    → length order ≤ i → (placed ≡ placed_from e contents keep order) × (end ≡ placed_end keep (placed_from e contents keep order)) × (end < too_large)
 unfolding placed_from
 all_placed e contents keep order end placed i so_far done =
     let none : drop i order ≡ [] = drop_all i order done in
-    (sym (append_nothing placed) ∙ (rw none at so_far.places), (rw none at so_far.last), so_far.small)
+    (sym (append-nil placed) ∙ (rw none at so_far.places), (rw none at so_far.last), so_far.small)
 
 pub two_parts : (front back all : List ℕ) → front ++ back ≡ all → length front + length back ≡ length all
 two_parts front back all is = sym (length-append front back) ∙ ap length is

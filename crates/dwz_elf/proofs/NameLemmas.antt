@@ -1,5 +1,6 @@
 -- Names and the zero bytes that end them.
-use Rattle.std.proofs.Common.{◌≡◌, ◌≢◌, ℕ, zero, suc, ◌+◌, ◌-◌, ◌<◌, ◌≤◌, List, [], ◌∷◌, length, take, drop, get_or, Option, Some, None, Bool, true, false, ◌&&◌, eqb, refl, sym, ap, subst, ◌∙◌, arith, lit<, lit≤, length-drop}
+use Rattle.std.proofs.Common.{◌≡◌, ◌≢◌, ℕ, zero, suc, ◌+◌, ◌-◌, ◌<◌, ◌≤◌, List, [], ◌∷◌, length, take, drop, get_or, Option, Some, None, Bool, true, false, ◌&&◌, eqb, refl, sym, ap, subst, ◌∙◌, arith}
+use Rattle.std.proofs.Common.{lit<, lit≤, length-drop}
 use Rattle.std.specs.Prelude.{is_some, IfSome, nat_lt, nat_eq, codes, if◌then◌else◌}
 use Rattle.std.specs.Option.{option_map}
 use Rattle.std.specs.List.{list_any, starts_with}
@@ -9,7 +10,7 @@ use Rattle.std.proofs.lemmas.Bool.{ne_eqb, eq-eqb}
 use Rattle.std.proofs.lemmas.Bool.Decides.{nat_tests}
 use Rattle.std.proofs.lemmas.Grind.{common_steps}
 use Rattle.dwz_docs.specs.declared.elf.Section.{Section}
-use Rattle.dwz_docs.specs.ElfNames.{name_at, name_in, known_name, code_of, index_names, section_of}
+use Rattle.dwz_docs.specs.ElfNames.{name_at, name_in, known_name, code_of, index_names, section_named}
 use Rattle.dwz_elf.specs.Names.{IsNamesEnd, is_called}
 
 pub no_name : (bytes : List ℕ) → ((k : ℕ) → k < length bytes → get_or bytes k 0 ≢ 0) → name_in bytes ≡ None
@@ -138,7 +139,17 @@ Same m n = (p : List ℕ) → length p < 24 → bytes_eq m p ≡ bytes_eq n p
 same_code : (m n : List ℕ) → Same m n → code_of m ≡ code_of n
 unfolding Same
 same_code m n same =
-    rw (same (codes ".debug_info") (lit< tt), same (codes ".debug_abbrev") (lit< tt), same (codes ".debug_str") (lit< tt), same (codes ".debug_line_str") (lit< tt), same (codes ".debug_str_offsets") (lit< tt), same (codes ".debug_line") (lit< tt), same (codes ".debug_loclists") (lit< tt), same (codes ".debug_aranges") (lit< tt), same (codes ".debug_sup") (lit< tt)) refl
+    rw (
+      same (codes ".debug_info") (lit< tt),
+      same (codes ".debug_abbrev") (lit< tt),
+      same (codes ".debug_str") (lit< tt),
+      same (codes ".debug_line_str") (lit< tt),
+      same (codes ".debug_str_offsets") (lit< tt),
+      same (codes ".debug_line") (lit< tt),
+      same (codes ".debug_loclists") (lit< tt),
+      same (codes ".debug_aranges") (lit< tt),
+      same (codes ".debug_sup") (lit< tt),
+    ) refl
 
 -- texts that are all short
 AreShort : List (List ℕ) → Type 0
@@ -156,7 +167,8 @@ same_index : (m n : List ℕ) → Same m n → list_any (bytes_eq m) index_names
 unfolding AreShort
 same_index m n same = same_any m n same index_names (lit< tt, (lit< tt, (lit< tt, (lit< tt, (lit< tt, (lit< tt, (lit< tt, (lit< tt, (lit< tt, (lit< tt, (lit< tt, tt)))))))))))
 
-pub known : (name : Option (List ℕ)) (front : List ℕ) → is_some name ≡ true → IfSome name (λ n. front ≡ take 24 n) → record { ends = true; code = code_of front; is_debug = starts_with nat_eq front (codes ".debug_"); is_index = list_any (bytes_eq front) index_names } ≡ known_name name
+pub known : (name : Option (List ℕ)) (front : List ℕ) → is_some name ≡ true → IfSome name (λ n. front ≡ take 24 n)
+    → record { ends = true; code = code_of front; is_debug = starts_with nat_eq front (codes ".debug_"); is_index = list_any (bytes_eq front) index_names } ≡ known_name name
 unfolding Same
 known None front is first = absurd (cc)
 known (Some n) front is first =
@@ -166,13 +178,12 @@ known (Some n) front is first =
     let debug : take 7 front ≡ take 7 n = ap (take 7) first ∙ take_take 7 24 n (lit≤ tt) in
     rw (code, index, debug) refl
 
-pub whole_rest : (table : List ℕ) (at : ℕ) → take (length table - at) (drop at table) ≡ drop at table
-whole_rest table at = grind (arith, common_steps)
-
 at_name : (table : List ℕ) (end at : ℕ) → IsNamesEnd table end → at < end → is_some (name_at table at) ≡ true
 at_name table end at ends less = ends.ends at ∙ lt_true at end less
 
-pub named : (table rest front : List ℕ) (end at code : ℕ) (debug index : Bool) → rest ≡ drop at table → IsNamesEnd table end → at < end → IfSome (name_in rest) (λ n. front ≡ take 24 n) → code ≡ code_of front → debug ≡ starts_with nat_eq front (codes ".debug_") → index ≡ list_any (bytes_eq front) index_names → record { ends = true; code = code; is_debug = debug; is_index = index } ≡ known_name (name_at table at)
+pub named : (table rest front : List ℕ) (end at code : ℕ) (debug index : Bool) → rest ≡ drop at table → IsNamesEnd table end → at < end → IfSome (name_in rest) (λ n. front ≡ take 24 n)
+    → code ≡ code_of front → debug ≡ starts_with nat_eq front (codes ".debug_") → index ≡ list_any (bytes_eq front) index_names
+    → record { ends = true; code = code; is_debug = debug; is_index = index } ≡ known_name (name_at table at)
 named table rest front end at code debug index is ends less first code_is debug_is index_is =
     let found : IfSome (name_at table at) (λ n. front ≡ take 24 n) = subst (λ (r : List ℕ). IfSome (name_in r) (λ n. front ≡ take 24 n)) is first in
     rw (code_is, debug_is, index_is) (known (name_at table at) front (at_name table end at ends less) found)
@@ -184,7 +195,8 @@ pub no_rest : (table name : List ℕ) (at : ℕ) → drop at table ≡ [] → fa
 unfolding name_in
 no_rest table name at none = ap (λ (bytes : List ℕ). is_called name (name_in bytes)) (sym none)
 
-called_as : (found : Option (List ℕ)) (name front : List ℕ) (ends : Bool) → ends ≡ (known_name found).ends → IfSome found (λ n. front ≡ take 24 n) → length name < 24 → (ends && bytes_eq front name) ≡ is_called name found
+called_as : (found : Option (List ℕ)) (name front : List ℕ) (ends : Bool) → ends ≡ (known_name found).ends → IfSome found (λ n. front ≡ take 24 n) → length name < 24
+    → (ends && bytes_eq front name) ≡ is_called name found
 called_as None name front ends is first less = ap (λ (b : Bool). b && bytes_eq front name) is
 called_as (Some n) name front ends is first less = ap (λ (b : Bool). b && bytes_eq front name) is ∙ ap (λ (m : List ℕ). bytes_eq m name) first ∙ short_same name n 24 less
 
@@ -192,9 +204,10 @@ not_ended_as : (found : Option (List ℕ)) (name : List ℕ) → (known_name fou
 not_ended_as None name none = refl
 not_ended_as (Some n) name none = absurd cc
 
-pub not_ended : (table name : List ℕ) (s : Section) → s ≡ section_of table s.header → s.name.ends ≡ false → false ≡ is_called name (name_at table s.header.name)
+pub not_ended : (table name : List ℕ) (s : Section) → s ≡ section_named table s.header → s.name.ends ≡ false → false ≡ is_called name (name_at table s.header.name)
 not_ended table name s is none = not_ended_as (name_at table s.header.name) name (sym (ap (λ (x : Section). x.name.ends) is) ∙ none)
 
-pub called : (table rest name front : List ℕ) (s : Section) → s ≡ section_of table s.header → rest ≡ drop s.header.name table → IfSome (name_in rest) (λ n. front ≡ take 24 n) → length name < 24 → (s.name.ends && bytes_eq front name) ≡ is_called name (name_at table s.header.name)
+pub called : (table rest name front : List ℕ) (s : Section) → s ≡ section_named table s.header → rest ≡ drop s.header.name table → IfSome (name_in rest) (λ n. front ≡ take 24 n) → length name < 24
+    → (s.name.ends && bytes_eq front name) ≡ is_called name (name_at table s.header.name)
 called table rest name front s is same first less =
     called_as (name_at table s.header.name) name front s.name.ends (ap (λ (x : Section). x.name.ends) is) (subst (λ (r : List ℕ). IfSome (name_in r) (λ n. front ≡ take 24 n)) same first) less

@@ -1,17 +1,14 @@
 -- Bytes that are written one after another.
-use Rattle.std.proofs.Common.{◌≡◌, ℕ, zero, suc, ◌+◌, ◌-◌, ◌*◌, ◌/◌, ◌%◌, ◌<◌, ◌≤◌, List, [], ◌∷◌, ◌++◌, length, take, drop, get_or, replicate, Option, Some, None, refl, sym, ap, ◌∙◌, append_assoc, length-append, length-take, arith}
-use Rattle.std.proofs.lemmas.List.{drop_all, drop_more, length-replicate}
+use Rattle.std.proofs.Common.{◌≡◌, ℕ, zero, suc, ◌+◌, ◌-◌, ◌/◌, ◌%◌, ◌<◌, ◌≤◌, List, [], ◌∷◌, ◌++◌, length, take, drop, get_or, replicate, Option, Some, None, refl, sym, ap, ◌∙◌, append_assoc}
+use Rattle.std.proofs.Common.{length-append, length-take, arith}
+use Rattle.std.proofs.lemmas.List.{append-nil, drop_all, drop_more, length-replicate}
 use Rattle.std.specs.Prelude.{slice_get}
 use Rattle.dwz_bytes.specs.Spelling.{le_bytes}
 use Rattle.dwz_docs.specs.declared.elf.Moved.{Moved}
 use Rattle.dwz_docs.specs.declared.elf.Section.{Section}
-use Rattle.dwz_docs.specs.ElfLayout.{kept, moved_header, moved_in, names_size, new_headers, numbers, over, spread, sup_fields, sup_header}
+use Rattle.dwz_docs.specs.ElfLayout.{kept, moved_header, moved_in, names_size, new_headers, numbers, spread, sup_fields, sup_header}
 use Rattle.dwz_docs.specs.ElfReading.{ElfView}
 use Rattle.dwz_elf.specs.Places.{AreByIndex}
-
-append_nothing : {X : Type 0} (xs : List X) → xs ++ [] ≡ xs
-append_nothing [] = refl
-append_nothing (x ∷ xs) = ap (λ l. x ∷ l) (append_nothing xs)
 
 more_digits : (k m n : ℕ) → k ≡ m + 1 → le_bytes k n ≡ n % 256 ∷ le_bytes m (n / 256)
 unfolding le_bytes
@@ -29,15 +26,7 @@ digit width i rest old new all less is so_far =
 pub digits : (width i rest : ℕ) (old all : List ℕ) → width ≤ i → old ++ le_bytes (width - i) rest ≡ all → old ≡ all
 digits width i rest old all done so_far =
     let left = no_digits (width - i) rest (omega (arith, done)) in
-    sym (append_nothing old) ∙ (rw left at so_far)
-
-more_zeros : (k m : ℕ) → k ≡ m + 1 → replicate {A = ℕ} k 0 ≡ 0 ∷ replicate {A = ℕ} m 0
-more_zeros k m is = let e : k ≡ suc m = omega (arith, is) in rw e refl
-
-pub one_zero : (count i : ℕ) (old new all : List ℕ) → i < count → new ≡ old ++ 0 ∷ [] → old ++ replicate (count - i) 0 ≡ all → new ++ replicate (count - (i + 1)) 0 ≡ all
-one_zero count i old new all less is so_far =
-    let left = more_zeros (count - i) (count - (i + 1)) (omega (arith, less)) in
-    rw (is, append_assoc, ← left) so_far
+    sym (append-nil old) ∙ (rw left at so_far)
 
 pub length_of_number : (k n : ℕ) → length (le_bytes k n) ≡ k
 unfolding le_bytes
@@ -56,26 +45,32 @@ header_moved old a b c d out m first second third fourth =
     let back : drop (24 + length (le_bytes 8 m.at ++ le_bytes 8 m.size)) old ≡ drop 40 old = ap (λ n. drop n old) len in
     all ∙ (five out (take 24 old) (le_bytes 8 m.at) (le_bytes 8 m.size) (drop 40 old) ∙ ap (λ tail. out ++ (take 24 old ++ ((le_bytes 8 m.at ++ le_bytes 8 m.size) ++ tail))) (sym back))
 
-pub moved_end : (old front back a b c d out : List ℕ) (m : Moved) (place : Option Moved) → place ≡ Some m → front ≡ take 24 old → back ≡ drop 40 old → a ≡ out ++ front → b ≡ a ++ le_bytes 8 m.at → c ≡ b ++ le_bytes 8 m.size → d ≡ c ++ back → d ≡ out ++ moved_header old place
+pub moved_end : (old front back a b c d out : List ℕ) (m : Moved) (place : Option Moved) → place ≡ Some m → front ≡ take 24 old → back ≡ drop 40 old → a ≡ out ++ front → b ≡ a ++ le_bytes 8 m.at
+    → c ≡ b ++ le_bytes 8 m.size → d ≡ c ++ back → d ≡ out ++ moved_header old place
 moved_end old front back a b c d out m place is front_is back_is first second third fourth =
     rw is (header_moved old a b c d out m (rw front_is at first) second third (rw back_is at fourth))
 
-pub one_header : (input : List ℕ) (moved : List Moved) (places : List (Option Moved)) (xs : List Section) (i : ℕ) (d : Section) (old new header all : List ℕ) → AreByIndex (length xs) moved places → i < length xs → header ≡ take 64 (drop (get_or xs i d).header.at input) → new ≡ old ++ moved_header header (get_or places i None) → old ++ new_headers input moved i (drop i xs) ≡ all → new ++ new_headers input moved (i + 1) (drop (i + 1) xs) ≡ all
+pub one_header : (input : List ℕ) (moved : List Moved) (places : List (Option Moved)) (xs : List Section) (i : ℕ) (d : Section) (old new header all : List ℕ) → AreByIndex (length xs) moved places
+    → i < length xs → header ≡ take 64 (drop (get_or xs i d).header.at input) → new ≡ old ++ moved_header header (get_or places i None) → old ++ new_headers input moved i (drop i xs) ≡ all
+    → new ++ new_headers input moved (i + 1) (drop (i + 1) xs) ≡ all
 unfolding new_headers
 one_header input moved places xs i d old new header all by_index less is_header is so_far =
     let place : get_or places i None ≡ moved_in moved i = by_index.each i less in
-    let parts : new_headers input moved i (drop i xs) ≡ moved_header header (get_or places i None) ++ new_headers input moved (i + 1) (drop (i + 1) xs) = rw (drop_more xs i d less, place, is_header) refl in
+    let parts : new_headers input moved i (drop i xs) ≡ moved_header header (get_or places i None) ++ new_headers input moved (i + 1) (drop (i + 1) xs) =
+    rw (drop_more xs i d less, place, is_header) refl in
     rw (is, append_assoc, ← parts) so_far
 
 pub all_headers : (input : List ℕ) (moved : List Moved) (xs : List Section) (i : ℕ) (old all : List ℕ) → length xs ≤ i → old ++ new_headers input moved i (drop i xs) ≡ all → old ≡ all
 unfolding new_headers
 all_headers input moved xs i old all done so_far =
     let none : drop i xs ≡ [] = drop_all i xs done in
-    sym (append_nothing old) ∙ (rw none at so_far)
+    sym (append-nil old) ∙ (rw none at so_far)
 
 -- ---- sections
 
-pub one_section : (contents : ℕ → List ℕ) (xs : List Moved) (i end gap : ℕ) (d : Moved) (front back old a b c all : List ℕ) → i < length xs → gap ≡ (get_or xs i d).at - end → front ++ back ≡ contents (get_or xs i d).index → a ≡ old ++ replicate gap 0 → b ≡ a ++ front → c ≡ b ++ back → old ++ spread contents end (drop i xs) ≡ all → c ++ spread contents ((get_or xs i d).at + (get_or xs i d).size) (drop (i + 1) xs) ≡ all
+pub one_section : (contents : ℕ → List ℕ) (xs : List Moved) (i end gap : ℕ) (d : Moved) (front back old a b c all : List ℕ) → i < length xs → gap ≡ (get_or xs i d).at - end
+    → front ++ back ≡ contents (get_or xs i d).index → a ≡ old ++ replicate gap 0 → b ≡ a ++ front → c ≡ b ++ back → old ++ spread contents end (drop i xs) ≡ all
+    → c ++ spread contents ((get_or xs i d).at + (get_or xs i d).size) (drop (i + 1) xs) ≡ all
 unfolding spread
 one_section contents xs i end gap d front back old a b c all less is_gap is_content first second third so_far =
     let rest = spread contents ((get_or xs i d).at + (get_or xs i d).size) (drop (i + 1) xs) in
@@ -87,7 +82,7 @@ pub all_sections : (contents : ℕ → List ℕ) (xs : List Moved) (i end : ℕ)
 unfolding spread
 all_sections contents xs i end old all done so_far =
     let none : drop i xs ≡ [] = drop_all i xs done in
-    sym (append_nothing old) ∙ (rw none at so_far)
+    sym (append-nil old) ∙ (rw none at so_far)
 
 pub length_number : (width value : ℕ) (old new : List ℕ) → new ≡ old ++ le_bytes width value → length new ≡ length old + width
 length_number width value old new is = ap length is ∙ (length-append old (le_bytes width value) ∙ ap (λ n. length old + n) (length_of_number width value))
@@ -97,19 +92,8 @@ length_kept keep input old new is = ap length is ∙ simp (length-append, length
 
 -- ---- numbers
 
-pub one_number : (fields : List (ℕ × ℕ)) (i : ℕ) (d : ℕ × ℕ) (old new all : List ℕ) → i < length fields → new ≡ old ++ le_bytes (get_or fields i d).0 (get_or fields i d).1 → old ++ numbers (drop i fields) ≡ all → new ++ numbers (drop (i + 1) fields) ≡ all
-unfolding numbers
-one_number fields i d old new all less is so_far =
-    let parts : numbers (drop i fields) ≡ le_bytes (get_or fields i d).0 (get_or fields i d).1 ++ numbers (drop (i + 1) fields) = rw (drop_more fields i d less) refl in
-    rw (is, append_assoc, ← parts) so_far
-
-pub all_numbers : (fields : List (ℕ × ℕ)) (i : ℕ) (old all : List ℕ) → length fields ≤ i → old ++ numbers (drop i fields) ≡ all → old ≡ all
-unfolding numbers
-all_numbers fields i old all done so_far =
-    let none : drop i fields ≡ [] = drop_all i fields done in
-    sym (append_nothing old) ∙ (rw none at so_far)
-
-pub sup_written : (e : ElfView) (at name size : ℕ) (added : Option (List ℕ)) (sup out new : List ℕ) → added ≡ Some sup → name ≡ names_size (slice_get e.sections e.file.names) → size ≡ length sup → new ≡ out ++ numbers (sup_fields name at size) → new ≡ out ++ sup_header e at added
+pub sup_written : (e : ElfView) (at name size : ℕ) (added : Option (List ℕ)) (sup out new : List ℕ) → added ≡ Some sup → name ≡ names_size (slice_get e.sections e.file.names) → size ≡ length sup
+    → new ≡ out ++ numbers (sup_fields name at size) → new ≡ out ++ sup_header e at added
 unfolding sup_header
 sup_written e at name size added sup out new is name_is size_is written =
     rw (is, ← name_is, ← size_is) written

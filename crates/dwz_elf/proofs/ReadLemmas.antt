@@ -1,13 +1,11 @@
 -- The faults of the front of a file, and then those of its section headers.
-use Rattle.std.proofs.Common.{◌≡◌, ◌↔◌, ◌≤◌, ◌^◌, ℕ, Bool, List, length, Option, Some, None, refl, sym, ap, subst, ◌∙◌, arith}
-use Rattle.std.specs.Prelude.{All, IsTrue}
+use Rattle.std.proofs.Common.{◌≡◌, ℕ, List, length, Option, Some, None, refl, sym, ◌∙◌}
 use Rattle.dwz_model.specs.declared.fault.Fault.{Fault}
 use Rattle.dwz_docs.specs.declared.elf.FileHeader.{FileHeader}
 use Rattle.dwz_docs.specs.declared.elf.Section.{Section}
 use Rattle.dwz_docs.specs.ElfHeaders.{file_header}
 use Rattle.dwz_docs.specs.ElfNames.{names_header, sections_in}
-use Rattle.dwz_docs.specs.ElfReading.{◌or◌, ElfView, elf_fault, elf_of, field_fault, identification_fault, names_fault}
-use Rattle.dwz_elf.specs.Plain.{IsPlain, IsPlainSection}
+use Rattle.dwz_docs.specs.ElfReading.{◌or◌, elf_fault, elf_of, field_fault, identification_fault, names_fault}
 use Rattle.dwz_elf.specs.Reads.{front_fault_of, rest_fault_of}
 
 or_or : (a b c d : Option Fault) → (a or (b or (c or d))) ≡ ((a or (b or c)) or d)
@@ -18,29 +16,19 @@ or_or None None c d = refl
 parts : (bytes : List ℕ) → elf_fault bytes ≡ (front_fault_of bytes or rest_fault_of (length bytes) (file_header bytes).names (sections_in bytes))
 unfolding elf_fault front_fault_of rest_fault_of
 parts bytes =
-    or_or (identification_fault bytes) (field_fault (length bytes) (file_header bytes)) (names_fault (length bytes) (names_header bytes)) (rest_fault_of (length bytes) (file_header bytes).names (sections_in bytes))
+    or_or (identification_fault bytes) (field_fault (length bytes) (file_header bytes)) (names_fault (length bytes) (names_header bytes))
+    (rest_fault_of (length bytes) (file_header bytes).names (sections_in bytes))
 
 pub first_half : (bytes : List ℕ) (f : Fault) → Some f ≡ front_fault_of bytes → elf_fault bytes ≡ Some f
 first_half bytes f front = parts bytes ∙ (rw (← front) refl)
 
-pub second_half : (bytes : List ℕ) (rest : Option Fault) (len names : ℕ) (file : FileHeader) (sections : List Section) → None ≡ front_fault_of bytes → rest ≡ rest_fault_of len names sections → len ≡ length bytes → names ≡ file.names → file ≡ file_header bytes → sections ≡ sections_in bytes → elf_fault bytes ≡ rest
+pub second_half : (bytes : List ℕ) (rest : Option Fault) (len names : ℕ) (file : FileHeader) (sections : List Section) → None ≡ front_fault_of bytes → rest ≡ rest_fault_of len names sections
+    → len ≡ length bytes → names ≡ file.names → file ≡ file_header bytes → sections ≡ sections_in bytes → elf_fault bytes ≡ rest
 second_half bytes rest len names file sections front is len_is names_is file_is sections_is =
     let same : rest_fault_of len names sections ≡ rest_fault_of (length bytes) (file_header bytes).names (sections_in bytes) = cc in
     parts bytes ∙ ((rw (← front) (sym same)) ∙ sym is)
 
-pub whole_view : (bytes : List ℕ) (file : FileHeader) (sections : List Section) → file ≡ file_header bytes → sections ≡ sections_in bytes → record { length = length bytes; file = file; sections = sections } ≡ elf_of bytes
+pub whole_view : (bytes : List ℕ) (file : FileHeader) (sections : List Section) → file ≡ file_header bytes → sections ≡ sections_in bytes
+    → record { length = length bytes; file = file; sections = sections } ≡ elf_of bytes
 unfolding elf_of
 whole_view bytes file sections file_is sections_is = cc
-
-pub plain_file : (e : ElfView) (len : ℕ) (file : FileHeader) (sections slice : List Section) (test : Bool) → record { length = len; file = file; sections = sections } ≡ e → len ≤ 2 ^ 24 → file.program_headers ≡ 0 → slice ≡ sections → (IsTrue test ↔ All IsPlainSection slice) → IsTrue test ↔ IsPlain e
-plain_file e len file sections slice test is few none same tells =
-    let len_is : len ≡ e.length = cc in
-    let file_is : file ≡ e.file = cc in
-    let sections_are : slice ≡ e.sections = cc in (
-      λ holds. record {
-        length = omega (arith, few, len_is);
-        programs = ap (λ f. f.program_headers) (sym file_is) ∙ none;
-        sections = subst (λ (xs : List Section). All IsPlainSection xs) sections_are (tells.0 holds);
-      },
-      λ plain. tells.1 (subst (λ (xs : List Section). All IsPlainSection xs) (sym sections_are) plain.sections),
-    )

@@ -1,18 +1,19 @@
 -- What a call answered, beside what the definitions say.
-use Rattle.std.specs.Prelude.{◌≡◌, ℕ, ◌+◌, ◌*◌, ◌<◌, ◌≤◌, List, [], length, Option, Some, None, Result, Ok, Err}
+use Rattle.std.specs.Prelude.{◌≡◌, ℕ, ◌<◌, ◌≤◌, List, [], length, Option, Some, None, Result, Ok, Err}
 use Rattle.dwz_model.specs.declared.fault.Fault.{Fault}
 use Rattle.dwz_model.specs.declared.fault.ReadErr.{ReadErr}
 use Rattle.dwz_model.specs.declared.fault.ReadErr.TheVariants.{Refused, NoMemory}
 use Rattle.dwz_docs.specs.declared.elf.Section.{Section}
-use Rattle.dwz_docs.specs.ElfReading.{◌or◌, field_fault, first_in, header_fault, identification_fault, missing_fault, names_fault, unkept_fault}
+use Rattle.dwz_docs.specs.ElfReading.{◌or◌, field_fault, first_in, header_fault, identification_fault, missing_fault, names_fault}
+use Rattle.dwz_docs.specs.ElfReading.{unkept_fault}
 use Rattle.dwz_docs.specs.ElfHeaders.{end_of, file_header, headers_end}
 use Rattle.dwz_docs.specs.ElfNames.{names_header}
 
 -- It was made where there is no fault, and then it is the value. A refusal is the fault. Want of memory is always an answer.
-abbrev pub Gives : {X : Type 0} → Result X ReadErr → Option Fault → X → Type 0
-Gives (Ok x) fault value = (fault ≡ None) × (x ≡ value)
-Gives (Err (Refused f)) fault value = fault ≡ Some f
-Gives (Err NoMemory) fault value = Unit {0}
+abbrev pub GivesOrRefuses : {X : Type 0} → Result X ReadErr → Option Fault → X → Type 0
+GivesOrRefuses (Ok x) fault value = (fault ≡ None) × (x ≡ value)
+GivesOrRefuses (Err (Refused f)) fault value = fault ≡ Some f
+GivesOrRefuses (Err NoMemory) fault value = Unit {0}
 
 -- the file holds its header, its section headers and its name table whole
 pub record IsWhole (bytes : List ℕ) : Type 0 where
@@ -23,7 +24,9 @@ pub record IsWhole (bytes : List ℕ) : Type 0 where
 
 -- the first fault of the file header and of the name table, and that of the section headers
 unfoldable pub front_fault_of : List ℕ → Option Fault
-front_fault_of bytes = identification_fault bytes or (field_fault (length bytes) (file_header bytes) or names_fault (length bytes) (names_header bytes))
+front_fault_of bytes = identification_fault bytes
+    or (field_fault (length bytes) (file_header bytes) or names_fault (length bytes) (names_header bytes))
 
 unfoldable pub rest_fault_of : ℕ → ℕ → List Section → Option Fault
-rest_fault_of len names sections = first_in (header_fault len names) [] sections or (first_in (λ before. unkept_fault sections) [] sections or missing_fault sections)
+rest_fault_of len names sections = first_in (header_fault len names) [] sections
+    or (first_in (λ before. unkept_fault sections) [] sections or missing_fault sections)

@@ -1,27 +1,23 @@
 //! A file's sections.
 
-ghost use Rattle.std.specs.Prelude.{◌≡◌, ◌≤◌, ◌<◌, ◌↔◌, All, Err, IsTrue, IfNone, IfOk, List, None, Some, length, map, drop, take};
+ghost use Rattle.std.specs.Prelude.{◌≡◌, ◌≤◌, ◌<◌, Err, IfNone, IfOk, List, None, Some, length, map, drop, take};
 ghost use Rattle.std.specs.List.{list_any};
 ghost use Rattle.dwz_docs.specs.ElfHeaders;
 ghost use Rattle.dwz_docs.specs.ElfNames;
 ghost use Rattle.dwz_docs.specs.declared.elf.Header.{Header};
 ghost use Rattle.dwz_docs.specs.ElfReading.{bytes_in, elf_fault, elf_of, range_in, section_range};
 ghost use Rattle.dwz_elf.specs.Names.{is_there_called};
-ghost use Rattle.dwz_elf.specs.Plain.{IsPlain, IsPlainSection};
-ghost use Rattle.dwz_elf.specs.Reads.{Gives, IsWhole, front_fault_of, rest_fault_of};
+ghost use Rattle.dwz_elf.specs.Reads.{GivesOrRefuses, IsWhole, front_fault_of, rest_fault_of};
 ghost use Rattle.dwz_model.specs.declared.fault.Fault.{Fault};
 ghost use Rattle.dwz_model.specs.declared.fault.ReadErr.TheVariants.{Refused};
 
 use crate::fault;
-use crate::header::{file_header, header_at, headers_from, is_loaded, is_there};
+use crate::header::{file_header, header_at, headers_from, is_there};
 use crate::name::{has_name, names_end, section_of};
 use dwz_docs::{FileHeader, Header, Section};
 use dwz_model::{Fault, NoMemory, ReadErr};
 use std::alloc::Global;
 use std::marker::Model;
-
-// The longest file that is plain.
-const LONGEST_PLAIN: usize = 1 << 24;
 
 /// The sections of an ELF64 file.
 #[derive(Drop)]
@@ -68,7 +64,7 @@ fn names_header(bytes: &[u8], file: &FileHeader) -> Header
 
 // The sections with those headers.
 fn named(alloc: Global, table: &[u8], headers: &[Header]) -> Result<Vec<Section>, NoMemory>
-    ensures { IfOk result (λ sections. sections.items ≡ map (ElfNames.section_of table.now) headers.now) }
+    ensures { IfOk result (λ sections. sections.items ≡ map (ElfNames.section_named table.now) headers.now) }
 {
     let end = names_end(table);
     headers
@@ -123,7 +119,7 @@ impl Elf {
     /// All places are counted from the first byte of the file. The faults of the identification, of the file header and of
     /// the name table come before any memory is taken.
     pub fn read(alloc: Global, bytes: &[u8]) -> Result<Elf, ReadErr>
-        ensures gives { Gives result (elf_fault bytes.now) (elf_of bytes.now) }
+        ensures gives { GivesOrRefuses result (elf_fault bytes.now) (elf_of bytes.now) }
         ensures at_once { (f : Fault) → front_fault_of bytes.now ≡ Some f → result ≡ Err (Refused f) }
     {
         if let Some(fault) = front_fault(bytes) {
@@ -177,7 +173,8 @@ impl Elf {
     /// Whether a section with that name has a content in the file that the sections were read from. The name is short.
     pub fn has_section(&self, file: &[u8], name: &[u8]) -> bool
         requires { length name.now < 24 }
-        ensures { self.now ≡ elf_of file.now → elf_fault file.now ≡ None → result ≡ list_any (is_there_called (ElfNames.name_table file.now) name.now) (ElfHeaders.headers_in file.now) }
+        ensures { self.now ≡ elf_of file.now → elf_fault file.now ≡ None
+            → result ≡ list_any (is_there_called (ElfNames.name_table file.now) name.now) (ElfHeaders.headers_in file.now) }
     {
         let Some(names) = self.sections.get(self.file.names as usize) else {
             return false;
@@ -196,18 +193,6 @@ impl Elf {
         ensures { result.now ≡ self.now.sections }
     {
         &self.sections
-    }
-
-    /// Whether the file is one of those that are handled as long as the tool is being built: it has at most 2^24 bytes, no
-    /// program headers, no section with `SHF_ALLOC`, and of the sections whose names begin `.debug_` only `.debug_info`
-    /// and `.debug_abbrev` are there.
-    pub fn is_plain(&self) -> bool
-        ensures { IsTrue result ↔ IsPlain self.now }
-    {
-        if self.len > LONGEST_PLAIN || self.file.program_headers != 0 {
-            return false;
-        }
-        are_plain(&self.sections)
     }
 }
 
@@ -231,22 +216,6 @@ fn run_of(bytes: &[u8], size: u64) -> &[u8]
     } else {
         bytes
     }
-}
-
-// Whether each section is plain.
-fn are_plain(sections: &[Section]) -> bool
-    ensures { IsTrue result ↔ All IsPlainSection sections.now }
-{
-    sections.iter().all(is_plain_section)
-}
-
-// Whether the section isn't loaded, and is none of debug information but those that are handled.
-fn is_plain_section(section: &Section) -> bool
-    ensures { IsTrue result ↔ IsPlainSection section.now }
-{
-    let name = &section.name;
-    !is_loaded(&section.header)
-        && (!is_there(&section.header) || !name.is_debug || name.code == 1 || name.code == 2)
 }
 
 // The range of the section with a code.
@@ -275,7 +244,8 @@ fn first_range(sections: &[Section], code: u8) -> Option<(u64, u64)>
 // Whether a section has a content, and that name, which is short. The names of all stand in the table.
 fn any_called(table: &[u8], sections: &[Section], name: &[u8]) -> bool
     requires { length name.now < 24 }
-    ensures { (headers : List Header) → sections.now ≡ map (ElfNames.section_of table.now) headers → result ≡ list_any (is_there_called table.now name.now) headers }
+    ensures { (headers : List Header) → sections.now ≡ map (ElfNames.section_named table.now) headers
+        → result ≡ list_any (is_there_called table.now name.now) headers }
 {
     for section in sections {
         if is_there(&section.header) && has_name(table, section, name) {

@@ -120,7 +120,7 @@ fn name_of(table: &[u8], end: usize, at: usize) -> Name
 /// A section header, with what the name says that it refers to. `end` is the end of the last name.
 pub(crate) fn section_of(table: &[u8], end: usize, header: &Header) -> Section
     requires { IsNamesEnd table.now end }
-    ensures { result ≡ ElfNames.section_of table.now header.now }
+    ensures { result ≡ ElfNames.section_named table.now header.now }
 {
     Section {
         header: *header,
@@ -131,7 +131,8 @@ pub(crate) fn section_of(table: &[u8], end: usize, header: &Header) -> Section
 /// Whether a section has that name, which is short. The table is the one that its header refers to.
 pub(crate) fn has_name(table: &[u8], section: &Section, name: &[u8]) -> bool
     requires { length name.now < 24 }
-    ensures { section.now ≡ ElfNames.section_of table.now section.now.header → result ≡ is_called name.now (ElfNames.name_at table.now section.now.header.name) }
+    ensures { section.now ≡ ElfNames.section_named table.now section.now.header
+        → result ≡ is_called name.now (ElfNames.name_at table.now section.now.header.name) }
 {
     let Some(rest) = table.get(section.header.name as usize..) else {
         return false;

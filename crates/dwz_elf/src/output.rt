@@ -94,7 +94,8 @@ fn put_sections(
     keep: u64,
     moved: &[Moved],
 ) -> Result<(), NoMemory>
-    ensures { OnOk result (out.new.items ≡ out.old.items ++ ElfLayout.spread (ElfLayout.content_at elf.now (changes_of edits.now) input.now) keep moved.now) }
+    ensures { OnOk result (out.new.items ≡ out.old.items ++ ElfLayout.spread (ElfLayout.content_at elf.now (changes_of edits.now) input.now)
+        keep moved.now) }
 {
     let mut end = keep as u128;
     for section in moved {

@@ -5,14 +5,15 @@ use Rattle.dwz_bytes.specs.Input.{Input}
 use Rattle.dwz_bytes.specs.Reading.{◌>>=◌}
 use Rattle.dwz_codes.specs.Operators.{operator_rows}
 use Rattle.dwz_meanings.specs.declared.exprs.Operand.{Operand}
-use Rattle.dwz_meanings.specs.Exprs.{ExprContext, Expression, Field, Found, InsideReader, any_operands, bad_expr, expr_within, expression_of, expression_with, fields_at, fields_of, first_unnamed, joined, named_in, op_at, op_by, op_in, operands_in, unless_unnamed}
+use Rattle.dwz_meanings.specs.Exprs.{ExprContext, Expression, Field, Found, InsideReader, any_operands, bad_expr, expr_within, expression_of, expression_with, fields_at, fields_of, first_unnamed}
+use Rattle.dwz_meanings.specs.Exprs.{joined, named_in, op_at, op_by, op_in, operands_in, unless_unnamed}
 use Rattle.dwz_meanings.specs.Sequences.{after_one, all_at, all_from, with_item}
 use Rattle.dwz_docs.specs.Units.{is_empty}
 use Rattle.dwz_docs.specs.Values.{shape_of}
 use Rattle.dwz_docs.proofs.PartLemmas.{bind_ok}
 use Rattle.dwz_meanings.proofs.SequenceLemmas.{input_of}
+use Rattle.dwz_meanings.proofs.StandLemmas.{operands_both}
 use Rattle.dwz_expr.specs.FirstFault.{asked, unless_one}
-use Rattle.dwz_expr.proofs.GatherLemmas.{operands_append}
 
 -- ---- lookups
 
@@ -24,7 +25,8 @@ first_append : (names : Operand → Bool) (a b : List Operand) → first_unnamed
 unfolding first_unnamed
 first_append names [] b = refl
 first_append names (o ∷ a) b = by (names o) (first_append names a b) where
-  by : (t : Bool) → first_unnamed names (a ++ b) ≡ first_or (first_unnamed names a) (first_unnamed names b) → cond t (first_unnamed names (a ++ b)) (Some o) ≡ first_or (cond t (first_unnamed names a) (Some o)) (first_unnamed names b)
+  by : (t : Bool) → first_unnamed names (a ++ b) ≡ first_or (first_unnamed names a) (first_unnamed names b)
+      → cond t (first_unnamed names (a ++ b)) (Some o) ≡ first_or (cond t (first_unnamed names a) (Some o)) (first_unnamed names b)
   by true others = others
   by false others = refl
 
@@ -83,10 +85,11 @@ op_looked_up c inner i x is = by i.rest is where
   by [] e = absurd cc
   by (code ∷ rest) e = laid_by code rest (fields_of (shape_of operator_rows code)) e
 
-first_joined : (c : ExprContext) (founds : List Found) (ops : List (List Found)) → first_unnamed c.names (operands_in founds) ≡ None → first_unnamed c.names (operands_in (joined ops)) ≡ None → first_unnamed c.names (operands_in (joined (founds ∷ ops))) ≡ None
+first_joined : (c : ExprContext) (founds : List Found) (ops : List (List Found)) → first_unnamed c.names (operands_in founds) ≡ None → first_unnamed c.names (operands_in (joined ops)) ≡ None
+    → first_unnamed c.names (operands_in (joined (founds ∷ ops))) ≡ None
 unfolding joined
 first_joined c founds ops one others =
-    ap (first_unnamed c.names) (operands_append founds (joined ops))
+    ap (first_unnamed c.names) (operands_both founds (joined ops))
     ∙ first_append c.names (operands_in founds) (operands_in (joined ops))
     ∙ ap (λ (o : Option Operand). first_or o (first_unnamed c.names (operands_in (joined ops)))) one
     ∙ others
@@ -111,7 +114,8 @@ all_looked_up c inner (suc n) i ops is = by (λ j others e. all_looked_up c inne
   no_operands : okay [] ≡ okay ops → first_unnamed c.names (operands_in (joined ops)) ≡ None
   no_operands e = none_unnamed c ops (same_okay [] ops e)
 
-  rest_of : ((j : Input) (others : List (List Found)) → all_from (op_at c inner) n j ≡ Ok others → first_unnamed c.names (operands_in (joined others)) ≡ None) → (x : List Found × Input) → op_at c inner i ≡ Ok x → (all_from (op_at c inner) n x.1 >>= with_item x.0) ≡ Ok ops → first_unnamed c.names (operands_in (joined ops)) ≡ None
+  rest_of : ((j : Input) (others : List (List Found)) → all_from (op_at c inner) n j ≡ Ok others → first_unnamed c.names (operands_in (joined others)) ≡ None) → (x : List Found × Input)
+      → op_at c inner i ≡ Ok x → (all_from (op_at c inner) n x.1 >>= with_item x.0) ≡ Ok ops → first_unnamed c.names (operands_in (joined ops)) ≡ None
   rest_of looked x one e =
       let b = bind_ok (all_from (op_at c inner) n x.1) (with_item x.0) ops e in
       let same = same_okay (x.0 ∷ b.0) ops b.2 in

@@ -9,39 +9,27 @@ use Rattle.dwz_bytes.specs.declared.error.ByteErr.{ByteErr}
 use Rattle.dwz_bytes.specs.Input.{Input}
 use Rattle.dwz_bytes.specs.Reading.{◌>>=◌, fixed_at, sleb_at, take_at, uleb_at}
 use Rattle.dwz_meanings.specs.declared.exprs.Operand.{Operand}
-use Rattle.dwz_meanings.specs.Exprs.{AnAddress, Counted, Entry4, EntryOrGeneric, EntryUleb, Field, Found, Holds, Inside, InsideReader, Located, LocatedBy, Names, Run, Signed, Sized, Unsigned, an_address, an_operand, an_operand_or_generic, field_at, fields_at, has_address, nothing, operands_in, or_fault, seen_piece}
+use Rattle.dwz_meanings.specs.Exprs.{AnAddress, Counted, Entry4, EntryOrGeneric, EntryUleb, Field, Found, Inside, InsideReader, Located, LocatedBy, Names, Run, Signed, Sized, Unsigned, an_address}
+use Rattle.dwz_meanings.specs.Exprs.{an_operand, an_operand_or_generic, field_at, fields_at, has_address, nothing, operands_in, or_fault, seen_piece}
 use Rattle.dwz_meanings.specs.Sequences.{then_make, then_read}
+use Rattle.dwz_meanings.proofs.FoundLemmas.{address_append}
+use Rattle.dwz_meanings.proofs.StandLemmas.{operands_both}
 use Rattle.dwz_docs.specs.Values.{block_at}
+use Rattle.dwz_docs.proofs.CaseFacts.{or_assoc}
 use Rattle.dwz_expr.specs.Gathering.{Gathered, field_into, fields_into, gather, located, run_of, unchanged, with_operand, with_some, as_operand, operand_of}
 
 -- ---- what is gathered in turn
-
-pub operands_append : (a b : List Found) → operands_in (a ++ b) ≡ operands_in a ++ operands_in b
-unfolding operands_in
-operands_append [] b = refl
-operands_append (Names o ∷ a) b = ap (λ (w : List Operand). o ∷ w) (operands_append a b)
-operands_append (AnAddress ∷ a) b = operands_append a b
-operands_append (Holds e ∷ a) b = ap (λ (w : List Operand). e.operands ++ w) (operands_append a b) ∙ sym (append_assoc e.operands (operands_in a) (operands_in b))
-
-or_assoc : (a b c : Bool) → (a || (b || c)) ≡ ((a || b) || c)
-or_assoc true b c = refl
-or_assoc false b c = refl
 
 pub or_false : (a : Bool) → (a || false) ≡ a
 or_false true = refl
 or_false false = refl
 
-address_append : (a b : List Found) → has_address (a ++ b) ≡ (has_address a || has_address b)
-unfolding has_address
-address_append [] b = refl
-address_append (Names o ∷ a) b = address_append a b
-address_append (AnAddress ∷ a) b = refl
-address_append (Holds e ∷ a) b = ap (λ (t : Bool). e.address || t) (address_append a b) ∙ or_assoc e.address (has_address a) (has_address b)
-
 pub gather_append : (g : Gathered) (a b : List Found) → gather g (a ++ b) ≡ gather (gather g a) b
 gather_append g a b =
-    let operands : g.operands ++ operands_in (a ++ b) ≡ (g.operands ++ operands_in a) ++ operands_in b = ap (λ (w : List Operand). g.operands ++ w) (operands_append a b) ∙ sym (append_assoc g.operands (operands_in a) (operands_in b)) in
-    let address : (g.address || has_address (a ++ b)) ≡ ((g.address || has_address a) || has_address b) = ap (λ (t : Bool). g.address || t) (address_append a b) ∙ or_assoc g.address (has_address a) (has_address b) in
+    let operands : g.operands ++ operands_in (a ++ b) ≡ (g.operands ++ operands_in a) ++ operands_in b = ap (λ (w : List Operand). g.operands ++ w) (operands_both a b)
+    ∙ sym (append_assoc g.operands (operands_in a) (operands_in b)) in
+    let address : (g.address || has_address (a ++ b)) ≡ ((g.address || has_address a) || has_address b) = ap (λ (t : Bool). g.address || t) (address_append a b)
+    ∙ or_assoc g.address (has_address a) (has_address b) in
     λ n. record { operands = operands n; address = address n }
 
 pub gather_none : (g : Gathered) → gather g [] ≡ g
@@ -71,7 +59,8 @@ bind_assoc (Ok x) f h = refl
 bind_assoc (Err e) f h = refl
 
 -- what reads bytes, and what it holds
-piece_into : {X : Type 0} (r : Result (X × Input) Fault) (seen : ℕ → ℕ → X → List Found) (at : ℕ) (g : Gathered) (h : X × Input → Result (Gathered × Input) Fault) → ((x : X × Input) → into g (seen at (x.1.at - at) x.0, x.1) ≡ h x) → ((r >>= seen_piece seen at) >>= into g) ≡ (r >>= h)
+piece_into : {X : Type 0} (r : Result (X × Input) Fault) (seen : ℕ → ℕ → X → List Found) (at : ℕ) (g : Gathered) (h : X × Input → Result (Gathered × Input) Fault)
+    → ((x : X × Input) → into g (seen at (x.1.at - at) x.0, x.1) ≡ h x) → ((r >>= seen_piece seen at) >>= into g) ≡ (r >>= h)
 piece_into (Ok x) seen at g h same = same x
 piece_into (Err f) seen at g h same = refl
 
@@ -90,7 +79,8 @@ operand_held : (g : Gathered) (o : Operand) (j : Input) → into g (Names o ∷ 
 unfolding operands_in has_address
 operand_held g o j = let address = or_false g.address in λ n. Ok (record { operands = g.operands ++ o ∷ []; address = address n }, j)
 
-operand_into : (uleb : Bool) (base : Base) (r : Result (ℕ × Input) Fault) (at : ℕ) (g : Gathered) → ((r >>= seen_piece (an_operand uleb base) at) >>= into g) ≡ ((r >>= as_operand uleb base at) >>= with_operand g)
+operand_into : (uleb : Bool) (base : Base) (r : Result (ℕ × Input) Fault) (at : ℕ) (g : Gathered) → ((r >>= seen_piece (an_operand uleb base) at) >>= into g)
+    ≡ ((r >>= as_operand uleb base at) >>= with_operand g)
 operand_into uleb base (Ok x) at g = operand_held g _ x.1
 operand_into uleb base (Err f) at g = refl
 
@@ -106,7 +96,8 @@ or_block bad read i = by (read i) where
   by (Ok x) = refl
   by (Err e) = refl
 
-block_into : (bad : Fault) (read : Input → Result (ℕ × Input) ByteErr) (i : Input) (g : Gathered) → ((or_fault bad (block_at read i) >>= seen_piece nothing i.at) >>= into g) ≡ ((or_fault bad (read i) >>= run_of bad) >>= unchanged g)
+block_into : (bad : Fault) (read : Input → Result (ℕ × Input) ByteErr) (i : Input) (g : Gathered) → ((or_fault bad (block_at read i) >>= seen_piece nothing i.at) >>= into g)
+    ≡ ((or_fault bad (read i) >>= run_of bad) >>= unchanged g)
 block_into bad read i g =
     piece_into (or_fault bad (block_at read i)) nothing i.at g (unchanged g) (λ x. none_held g x.1)
     ∙ ap (λ (r : Result (List ℕ × Input) Fault). r >>= unchanged g) (or_block bad read i)

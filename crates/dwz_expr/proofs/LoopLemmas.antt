@@ -1,5 +1,6 @@
 -- One turn of the loop over operators, in each context.
-use Rattle.std.proofs.Common.{◌≡◌, ◌⊎◌, ℕ, Bool, true, false, eqb, ◌+◌, ◌<◌, List, [], ◌∷◌, ◌++◌, length, Option, Some, None, Result, Ok, Err, refl, sym, ap, subst, ◌∙◌, inl, inr, arith, drop, append_assoc}
+use Rattle.std.proofs.Common.{◌≡◌, ℕ, Bool, true, false, eqb, ◌+◌, ◌<◌, List, [], ◌∷◌, ◌++◌, length, Option, Some, None, Result, Ok, Err, refl, sym, ap, subst, ◌∙◌, inl, inr, arith, drop}
+use Rattle.std.proofs.Common.{append_assoc}
 use Rattle.std.specs.Prelude.{◌||◌}
 use Rattle.std.specs.List.{list_all}
 use Rattle.std.proofs.lemmas.Bool.{and_parts}
@@ -12,10 +13,12 @@ use Rattle.dwz_model.specs.declared.fault.ReadErr.TheVariants.{NoMemory, Refused
 use Rattle.dwz_bytes.specs.Input.{Input}
 use Rattle.dwz_docs.specs.Faults.{Fails}
 use Rattle.dwz_bytes.specs.Reading.{◌>>=◌, fixed_at, take_at}
-use Rattle.dwz_bytes.specs.Spelling.{SpellsFixed}
+use Rattle.dwz_bytes.proofs.GroupLemmas.{chosen}
 use Rattle.dwz_codes.specs.Operators.{operator_rows}
 use Rattle.dwz_codes.specs.declared.shape.Shape.{Shape}
-use Rattle.dwz_codes.specs.declared.shape.Shape.TheVariants.{Nothing, Fixed1, Fixed2, Fixed4, Fixed8, Uleb, Sleb, UlebSleb, UlebUleb, BlockUleb, Address, AddressIndex, NestedExpr, UnitEntry4, InfoEntry4, InfoEntry4Sleb, UlebEntryConst, RegisterUlebEntry, SizeUlebEntry, UlebEntryOrGeneric, UlebUlebExpr, AddressAddressExpr, AddressUlebExpr}
+use Rattle.dwz_codes.specs.declared.shape.Shape.TheVariants.{Nothing, Fixed1, Fixed2, Fixed4, Fixed8, Uleb, Sleb, UlebSleb, UlebUleb, BlockUleb, Address, AddressIndex, NestedExpr, UnitEntry4}
+use Rattle.dwz_codes.specs.declared.shape.Shape.TheVariants.{InfoEntry4, InfoEntry4Sleb, UlebEntryConst, RegisterUlebEntry, SizeUlebEntry, UlebEntryOrGeneric, UlebUlebExpr, AddressAddressExpr}
+use Rattle.dwz_codes.specs.declared.shape.Shape.TheVariants.{AddressUlebExpr}
 use Rattle.dwz_meanings.specs.Exprs.{ExprContext, Field, Found, IsFaultWithin, SpellsWithin, any_operands, bad_expr, expr_within, fields_of, op_at, or_fault, unsupported}
 use Rattle.dwz_meanings.specs.declared.exprs.Operand.{Operand}
 use Rattle.dwz_model.specs.declared.fault.Reason.TheVariants.{BadExpr, UnsupportedOp}
@@ -23,9 +26,11 @@ use Rattle.dwz_codes.specs.Rows.{RowView, row_of}
 use Rattle.dwz_docs.specs.Values.{shape_in, shape_of}
 use Rattle.dwz_meanings.proofs.ExprLemmas.{op_reads, op_takes, within_reads}
 use Rattle.dwz_meanings.proofs.FieldLemmas.{bytes_agree}
-use Rattle.dwz_docs.proofs.PartLemmas.{bind_ok, chosen}
+use Rattle.dwz_docs.proofs.PartLemmas.{bind_ok}
 use Rattle.dwz_docs.proofs.ReadLemmas.{fixed_reads, run_reads}
+use Rattle.dwz_docs.proofs.AbbrevLemmas.{byte_of}
 use Rattle.dwz_meanings.proofs.SequenceLemmas.{input_of}
+use Rattle.dwz_meanings.proofs.FileLemmas.{or_true}
 use Rattle.dwz_expr.specs.Flat.{HasNoExpression}
 use Rattle.dwz_expr.specs.FirstFault.{asked}
 use Rattle.dwz_expr.specs.Gathering.{Gathered, Grows, InEach, added, fields_into, gather, gathered, nested_into, op_into, ops_into}
@@ -39,15 +44,10 @@ pub record IsCode (i : Input) (code : ℕ) (j : Input) : Type 0 where
   pub rest : i.rest ≡ code ∷ j.rest
   pub at : j.at ≡ i.at + 1
 
-one_byte : (front : List ℕ) (n : ℕ) → SpellsFixed 1 front n → front ≡ n ∷ []
-one_byte [] n s = absurd (let len = s.len in omega (arith, len))
-one_byte (b ∷ []) n s = let same : b ≡ n = (let value = s.value in omega (arith, value)) in ap (λ (m : ℕ). m ∷ []) same
-one_byte (b ∷ d ∷ front) n s = absurd (let len = s.len in omega (arith, len))
-
 pub code_read : (bad : Fault) (i : Input) (code : ℕ) (j : Input) → or_fault bad (fixed_at 1 i) ≡ Ok (code, j) → IsCode i code j
 code_read bad i code j is =
     let t = ((bytes_agree (fixed_reads 1) bad i).ok (code, j)).0 is in
-    let byte = one_byte t.front code t.spelled in
+    let byte = byte_of t.front code t.spelled in
     record { rest = t.parts ∙ ap (λ (w : List ℕ). w ++ j.rest) byte; at = t.place ∙ ap (λ (w : List ℕ). i.at + length w) byte }
 
 -- ---- which fields are flat
@@ -112,7 +112,7 @@ nested_shape : (shape : Shape) → is_nested shape ≡ true → shape ≡ Nested
 nested_shape NestedExpr e = refl
 nested_shape _ e = absurd cc
 
-row_holds : (p : RowView → Bool) (rows : List RowView) (code : ℕ) (r : RowView) → list_all p rows ≡ true → row_of rows code ≡ Some r → p r ≡ true
+pub row_holds : (p : RowView → Bool) (rows : List RowView) (code : ℕ) (r : RowView) → list_all p rows ≡ true → row_of rows code ≡ Some r → p r ≡ true
 row_holds p [] code r all is = absurd cc
 row_holds p (s ∷ rows) code r all is =
     let both = and_parts (p s) (list_all p rows) all in
@@ -121,17 +121,13 @@ row_holds p (s ∷ rows) code r all is =
       | inr h ↦ row_holds p rows code r both.1 h.1
     ]
 
-or_split : (a b : Bool) → (a || b) ≡ true → (a ≡ true) ⊎ (b ≡ true)
-or_split true b e = inl refl
-or_split false b e = inr e
-
 pub other_shapes : (code : ℕ) → (shape_of operator_rows code ≡ NestedExpr → ⊥) → HasNoExpression (shape_of operator_rows code)
 other_shapes code other = by (row_of operator_rows code) refl where
   by : (o : Option RowView) → row_of operator_rows code ≡ o → HasNoExpression (shape_of operator_rows code)
   by None none = subst HasNoExpression (sym (ap shape_in none)) tt
   by (Some r) some =
       let same : shape_of operator_rows code ≡ r.shape = ap shape_in some in
-      elim (or_split (is_flat r.shape) (is_nested r.shape) (row_holds is_operator operator_rows code r operators_are some)) [
+      elim (or_true (is_flat r.shape) (is_nested r.shape) (row_holds is_operator operator_rows code r operators_are some)) [
         | inl flat ↦ subst HasNoExpression (sym same) (flat_shape r.shape flat)
         | inr nested ↦ absurd (other (same ∙ nested_shape r.shape nested))
       ]
@@ -177,7 +173,8 @@ pub record Leaves (at : ℕ) (bytes : List ℕ) (j : Input) : Type 0 where
   pub end : j.at + length j.rest ≡ at + length bytes
   pub fewer : length j.rest < length bytes
 
-pub leaves : (c : ExprContext) (k : ℕ) (g h : Gathered) (at code : ℕ) (rest : List ℕ) (j : Input) → (op_at c (expr_within c k) (input_of at (code ∷ rest)) >>= into g) ≡ Ok (h, j) → Leaves at (code ∷ rest) j
+pub leaves : (c : ExprContext) (k : ℕ) (g h : Gathered) (at code : ℕ) (rest : List ℕ) (j : Input) → (op_at c (expr_within c k) (input_of at (code ∷ rest)) >>= into g) ≡ Ok (h, j)
+    → Leaves at (code ∷ rest) j
 leaves c k g h at code rest j is =
     let b = bind_ok (op_at c (expr_within c k) (input_of at (code ∷ rest))) (into g) (h, j) is in
     let x = b.0 in
@@ -224,7 +221,8 @@ pub more_grow : (pre ops new own : List Operand) → Grows pre ops → new ≡ o
 more_grow pre ops new own grows is =
     is ∙ ap (λ (w : List Operand). w ++ own) grows ∙ append_assoc pre (added pre ops) own ∙ ap (λ (w : List Operand). pre ++ w) (sym (more_added pre ops new own grows is))
 
-module _ (section k : ℕ) (a0 : Bool) (i0 : Input) (pre ops : List Operand) (a : Bool) (i j : Input) (code : ℕ) (is_code : IsCode i code j) (grows : Grows pre ops) (keeps : Keeps section k a0 i0 pre ops a i) where
+module _ (section k : ℕ) (a0 : Bool) (i0 : Input) (pre ops : List Operand) (a : Bool) (i j : Input) (code : ℕ) (is_code : IsCode i code j) (grows : Grows pre ops)
+    (keeps : Keeps section k a0 i0 pre ops a i) where
   whole : i ≡ input_of i.at (code ∷ j.rest)
   whole = let rest = is_code.rest in λ n. record { at = i.at; rest = rest n }
 
@@ -255,7 +253,8 @@ module _ (section k : ℕ) (a0 : Bool) (i0 : Input) (pre ops : List Operand) (a 
         fewer = omega (arith, left.fewer, rest);
       }
 
-  halts : (new own1 : List Operand) (f : Fault) → new ≡ ops ++ own1 → ((c : ExprContext) → c.section ≡ section → (op_here c >>= into (gathered [] a)) ≡ asked c own1 (Err f)) → Halt section k a0 i0 pre new f
+  halts : (new own1 : List Operand) (f : Fault) → new ≡ ops ++ own1 → ((c : ExprContext) → c.section ≡ section → (op_here c >>= into (gathered [] a)) ≡ asked c own1 (Err f))
+      → Halt section k a0 i0 pre new f
   halts new own1 f is each =
       let more = more_added pre ops new own1 grows is in
       record {
@@ -267,12 +266,14 @@ module _ (section k : ℕ) (a0 : Bool) (i0 : Input) (pre ops : List Operand) (a 
     laid_flat : (shape ≡ NestedExpr → ⊥) → (fields : List Field) → fields_of (shape_of operator_rows code) ≡ Some fields → AreFlat fields
     laid_flat other fields laid = flat_fields (shape_of operator_rows code) fields (other_shapes code (λ nested. other (is_shape ∙ nested))) laid
 
-    moved : (own : List Operand) → op_into section i.at code (fields_of (shape_of operator_rows code)) (gathered own a) (input_of (i.at + 1) j.rest) ≡ op_into section at code (fields_of shape) (gathered own a) j
+    moved : (own : List Operand) → op_into section i.at code (fields_of (shape_of operator_rows code)) (gathered own a) (input_of (i.at + 1) j.rest)
+        ≡ op_into section at code (fields_of shape) (gathered own a) j
     moved own =
         ap (op_into section i.at code (fields_of (shape_of operator_rows code)) (gathered own a)) behind_is
         ∙ sym (ap (λ (n : ℕ). op_into section n code (fields_of shape) (gathered own a) j) here ∙ ap (λ (s : Shape). op_into section i.at code (fields_of s) (gathered own a) j) is_shape)
 
-    pub flat_turn : (shape ≡ NestedExpr → ⊥) → (new : List Operand) (b : Bool) (m : Input) → op_into section at code (fields_of shape) (gathered ops a) j ≡ Ok (gathered new b, m) → Turn section k a0 i0 pre new b i m
+    pub flat_turn : (shape ≡ NestedExpr → ⊥) → (new : List Operand) (b : Bool) (m : Input) → op_into section at code (fields_of shape) (gathered ops a) j ≡ Ok (gathered new b, m)
+        → Turn section k a0 i0 pre new b i m
     flat_turn other new b m ok =
         let laid = fields_of (shape_of operator_rows code) in
         let read = op_into section i.at code (fields_of (shape_of operator_rows code)) (gathered [] a) (input_of (i.at + 1) j.rest) in
@@ -300,11 +301,13 @@ module _ (section k : ℕ) (a0 : Bool) (i0 : Input) (pre ops : List Operand) (a 
         ∙ ap (nested_into c k (bad_expr c i.at) (gathered [] a)) behind_is
         ∙ ap (λ (n : ℕ). nested_into c k (bad_expr c n) (gathered [] a) j) (sym here)
 
-    pub nested_turn : shape ≡ NestedExpr → (new : List Operand) (b : Bool) (m : Input) → Grows ops new → InEach section (λ c. nested_into c k (bad_expr c at) (gathered [] a) j) (added ops new) (Ok (gathered (added ops new) b, m))
+    pub nested_turn : shape ≡ NestedExpr → (new : List Operand) (b : Bool) (m : Input) → Grows ops new
+        → InEach section (λ c. nested_into c k (bad_expr c at) (gathered [] a) j) (added ops new) (Ok (gathered (added ops new) b, m))
         → Turn section k a0 i0 pre new b i m
     nested_turn nested new b m more each = goes new (added ops new) b m more (λ c e. nested_is nested c ∙ each c e)
 
-    pub nested_halt : shape ≡ NestedExpr → (new : List Operand) (f : Fault) → Grows ops new → InEach section (λ c. nested_into c k (bad_expr c at) (gathered [] a) j) (added ops new) (Err f) → Halt section k a0 i0 pre new f
+    pub nested_halt : shape ≡ NestedExpr → (new : List Operand) (f : Fault) → Grows ops new → InEach section (λ c. nested_into c k (bad_expr c at) (gathered [] a) j) (added ops new) (Err f)
+        → Halt section k a0 i0 pre new f
     nested_halt nested new f more each = halts new (added ops new) f more (λ c e. nested_is nested c ∙ each c e)
 
 -- no bytes are left

@@ -14,7 +14,8 @@ abbrev pub shifted : {X : Type 0} → ℕ → Result (X × Input) Fault → Resu
 shifted start (Ok x) = Ok (x.0, shift start x.1)
 shifted start (Err f) = Err f
 
-shift_read : {X : Type 0} {Spells : List ℕ → X → Type 0} {IsCut IsBig : List ℕ → Type 0} {read : Input → Result (X × Input) ByteErr} → Reads Spells IsCut IsBig read → (bad : Fault) (start : ℕ) (i : Input)
+shift_read : {X : Type 0} {Spells : List ℕ → X → Type 0} {IsCut IsBig : List ℕ → Type 0} {read : Input → Result (X × Input) ByteErr} → Reads Spells IsCut IsBig read
+    → (bad : Fault) (start : ℕ) (i : Input)
     → or_fault bad (read (shift start i)) ≡ shifted start (or_fault bad (read i))
 shift_read {X} {Spells} {IsCut} {IsBig} {read} r bad start i = by (or_fault bad (read i)) refl where
   by : (o : Result (X × Input) Fault) → or_fault bad (read i) ≡ o → or_fault bad (read (shift start i)) ≡ shifted start o
@@ -40,10 +41,12 @@ take_shifts n = shift_read (run_reads n)
 -- ---- after a call on a cursor
 
 -- a call that gave a number or bytes, or an error in whose place there is one fault
-pub answered : {X : Type 0} (read shifted_read : Result (X × Input) ByteErr) (start : ℕ) (bad : Fault) (x : X) (new : Input) → or_fault bad shifted_read ≡ shifted start (or_fault bad read) → read ≡ Ok (x, new) → or_fault bad shifted_read ≡ Ok (x, shift start new)
+pub answered : {X : Type 0} (read shifted_read : Result (X × Input) ByteErr) (start : ℕ) (bad : Fault) (x : X) (new : Input) → or_fault bad shifted_read ≡ shifted start (or_fault bad read)
+    → read ≡ Ok (x, new) → or_fault bad shifted_read ≡ Ok (x, shift start new)
 answered {X} read shifted_read start bad x new same is = same ∙ ap (λ (r : Result (X × Input) ByteErr). shifted start (or_fault bad r)) is
 
-pub failed : {X : Type 0} (read shifted_read : Result (X × Input) ByteErr) (start : ℕ) (bad : Fault) (e : ByteErr) → or_fault bad shifted_read ≡ shifted start (or_fault bad read) → read ≡ Err e → or_fault bad shifted_read ≡ Err bad
+pub failed : {X : Type 0} (read shifted_read : Result (X × Input) ByteErr) (start : ℕ) (bad : Fault) (e : ByteErr) → or_fault bad shifted_read ≡ shifted start (or_fault bad read) → read ≡ Err e
+    → or_fault bad shifted_read ≡ Err bad
 failed {X} read shifted_read start bad e same is = same ∙ ap (λ (r : Result (X × Input) ByteErr). shifted start (or_fault bad r)) is
 
 -- a LEB128 number has ten bytes at most

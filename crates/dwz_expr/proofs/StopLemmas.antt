@@ -29,7 +29,8 @@ module _ (section k : ℕ) (a0 : Bool) (i0 : Input) (pre ops new : List Operand)
   flat_grows same grows = same ∙ grows ∙ ap (λ (w : List Operand). pre ++ added pre w) (sym same)
 
   -- at one with an expression
-  pub nested_stops : {Y : Type 0} (read : ExprContext → Result Y Fault) (e : ReadErr) → Stopped section read (added ops new) e → ((f : Fault) → InEach section read (added ops new) (Err f) → Halt section k a0 i0 pre new f)
+  pub nested_stops : {Y : Type 0} (read : ExprContext → Result Y Fault) (e : ReadErr) → Stopped section read (added ops new) e
+      → ((f : Fault) → InEach section read (added ops new) (Err f) → Halt section k a0 i0 pre new f)
       → Stopped section (λ c. ops_into c k (gathered [] a0) i0) (added pre new) e
   nested_stops {Y} read NoMemory gathers halt = tt
   nested_stops {Y} read (Refused f) gathers halt = (halt f gathers).stops
@@ -62,7 +63,8 @@ module _ (section k at : ℕ) (a : Bool) (i : Input) (ops : List Operand) (bad :
     content_stops (Refused f) fails =
         none_looked_up f (λ c e. counted c e ∙ ap (λ (r : Result (List ℕ × Input) Fault). r >>= content_into c k (bad_expr c at) (gathered [] a) j.at) fails)
 
-    pub depth_stops : k ≡ 0 → (content : List ℕ) (m : Input) → or_fault bad (take_at n j) ≡ Ok (content, m) → InEach section (λ c. nested_into c k (bad_expr c at) (gathered [] a) i) (added ops ops) (Err bad)
+    pub depth_stops : k ≡ 0 → (content : List ℕ) (m : Input) → or_fault bad (take_at n j) ≡ Ok (content, m)
+        → InEach section (λ c. nested_into c k (bad_expr c at) (gathered [] a) i) (added ops ops) (Err bad)
     depth_stops zero_left content m taken =
         none_looked_up bad (λ c e.
         counted c e
@@ -76,5 +78,6 @@ pub into_fails : (section : ℕ) (i : Input) (operands : List Operand) (e : Read
 into_fails section i operands NoMemory is = tt
 into_fails section i operands (Refused f) is = (where_any section i operands (Err f) is, are_asked section i operands (Err f) is)
 
-pub into_gives : (section : ℕ) (i : Input) (operands : List Operand) (address : Bool) → InEach section (λ c. ops_into c 8 (gathered [] false) i) operands (Ok (gathered operands address)) → ReadsInto section i operands (Ok address)
+pub into_gives : (section : ℕ) (i : Input) (operands : List Operand) (address : Bool) → InEach section (λ c. ops_into c 8 (gathered [] false) i) operands (Ok (gathered operands address))
+    → ReadsInto section i operands (Ok address)
 into_gives section i operands address is = (where_any section i operands (Ok (gathered operands address)) is, are_asked section i operands (Ok (gathered operands address)) is)

@@ -24,7 +24,8 @@ AreAsked section i operands = (c : ExprContext) → c.section ≡ section → ex
 -- are looked up before
 abbrev pub ReadsInto : ℕ → Input → List Operand → Result Bool ReadErr → Type 0
 ReadsInto section i operands (Ok address) =
-    (expr_at (any_operands section) i ≡ Ok (record { at = i.at; bytes = i.rest; operands = operands; address = address })) × AreAsked section i operands
+    (expr_at (any_operands section) i ≡ Ok (record { at = i.at; bytes = i.rest; operands = operands; address = address }))
+    × AreAsked section i operands
 ReadsInto section i operands (Err NoMemory) = Unit {0}
 ReadsInto section i operands (Err (Refused f)) = (expr_at (any_operands section) i ≡ Err f) × AreAsked section i operands
 
@@ -36,4 +37,5 @@ AllNamed = (section : ℕ) (i : Input) (operands : List Operand) → AreAsked se
 -- where one doesn't, and those before it do
 abbrev pub OneUnnamed : Type 0
 OneUnnamed = (section : ℕ) (i : Input) (operands : List Operand) → AreAsked section i operands
-    → (c : ExprContext) → c.section ≡ section → (o : Operand) → first_unnamed c.names operands ≡ Some o → expr_at c i ≡ Err (bad_operand c o.at)
+    → (c : ExprContext) → c.section ≡ section → (o : Operand) → first_unnamed c.names operands ≡ Some o
+    → expr_at c i ≡ Err (bad_operand c o.at)

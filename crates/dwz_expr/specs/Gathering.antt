@@ -1,5 +1,6 @@
 -- What reading an expression gathers, step by step. An inner definition: proofs show that it gives what `expr_at` does.
-use Rattle.std.specs.Prelude.{◌≡◌, ℕ, zero, suc, ◌+◌, ◌-◌, Bool, true, false, List, [], ◌∷◌, ◌++◌, length, drop, Option, Some, None, Result, Ok, Err, ◌==◌, ◌||◌, if◌then◌else◌}
+use Rattle.std.specs.Prelude.{◌≡◌, ℕ, zero, suc, ◌+◌, ◌-◌, Bool, true, false, List, [], ◌∷◌, ◌++◌, length, drop, Option, Some, None, Result}
+use Rattle.std.specs.Prelude.{Ok, Err, ◌==◌, ◌||◌, if◌then◌else◌}
 use Rattle.dwz_model.specs.declared.fault.Fault.{Fault}
 use Rattle.dwz_model.specs.declared.fault.ReadErr.{ReadErr}
 use Rattle.dwz_model.specs.declared.fault.ReadErr.TheVariants.{NoMemory, Refused}
@@ -8,7 +9,9 @@ use Rattle.dwz_model.specs.declared.place.Base.TheVariants.{Unit as FromUnit}
 use Rattle.dwz_bytes.specs.Input.{Input}
 use Rattle.dwz_bytes.specs.Reading.{◌>>=◌, fixed_at, sleb_at, take_at, uleb_at}
 use Rattle.dwz_meanings.specs.declared.exprs.Operand.{Operand}
-use Rattle.dwz_meanings.specs.Exprs.{Counted, Entry4, EntryOrGeneric, EntryUleb, ExprContext, Field, Found, Inside, Located, LocatedBy, Run, Signed, Sized, Unsigned, any_operands, bad_expr, expr_within, has_address, joined, op_at, operands_in, or_fault, unsupported}
+use Rattle.dwz_meanings.specs.Exprs.{Counted, Entry4, EntryOrGeneric, EntryUleb, ExprContext, Field, Found, Inside, Located, LocatedBy, Run}
+use Rattle.dwz_meanings.specs.Exprs.{Signed, Sized, Unsigned, any_operands, bad_expr, expr_within, has_address, joined, op_at, operands_in}
+use Rattle.dwz_meanings.specs.Exprs.{or_fault, unsupported}
 use Rattle.dwz_meanings.specs.Sequences.{all_at}
 use Rattle.dwz_expr.specs.FirstFault.{asked}
 

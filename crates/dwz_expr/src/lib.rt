@@ -10,6 +10,3 @@ mod shapes;
 pub use dwz_meanings::Operand;
 pub use laws::first_fault_laws;
 pub use reading::{Ops, read_into};
-
-#[cfg(test)]
-mod tests;

@@ -5,7 +5,8 @@ ghost use Rattle.dwz_model.specs.declared.fault.ReadErr.TheVariants.{Refused};
 ghost use Rattle.dwz_model.specs.declared.place.Base.TheVariants.{Unit as FromUnit, Info as FromInfo};
 ghost use Rattle.dwz_meanings.specs.Exprs.{Entry4, EntryOrGeneric, EntryUleb, any_operands, bad_expr, fields_of, unsupported};
 ghost use Rattle.dwz_docs.specs.Faults.{AnswersAt};
-ghost use Rattle.dwz_expr.specs.Gathering.{Gathers, Grows, added, counted_at, field_into, fields_into, gathered, nested_into, op_into, operand4_at, operand_uleb_at, ops_into, shift, sized_at};
+ghost use Rattle.dwz_expr.specs.Gathering.{Gathers, Grows, added, counted_at, field_into, fields_into, gathered, nested_into, op_into};
+ghost use Rattle.dwz_expr.specs.Gathering.{operand4_at, operand_uleb_at, ops_into, shift, sized_at};
 ghost use Rattle.dwz_expr.specs.Flat.{HasNoExpression};
 
 use crate::fields::{byte, eight, four, run, sleb, uleb};
@@ -112,7 +113,8 @@ fn operand_or_generic(
     address: bool,
 ) -> Result<(), ReadErr>
     requires { start + (cursor.old.at + length cursor.old.rest) < 2 ^ 64 }
-    ensures answer { AnswersAt (λ _. gathered operands.new.items address) (shift start cursor.new) result (field_into bad EntryOrGeneric (gathered operands.old.items address) (shift start cursor.old)) }
+    ensures answer { AnswersAt (λ _. gathered operands.new.items address) (shift start cursor.new) result
+        (field_into bad EntryOrGeneric (gathered operands.old.items address) (shift start cursor.old)) }
     ensures kept { OnErr result (operands.new.items ≡ operands.old.items) }
 {
     let _address = address;
@@ -147,7 +149,8 @@ fn fields(
 ) -> Result<(), ReadErr>
     requires flat { HasNoExpression shape }
     requires short { start + (cursor.old.at + length cursor.old.rest) < 2 ^ 64 }
-    ensures answer { AnswersAt (λ _. gathered operands.new.items address.new) (shift start cursor.new) result (op_into section at code (fields_of shape) (gathered operands.old.items address.old) (shift start cursor.old)) }
+    ensures answer { AnswersAt (λ _. gathered operands.new.items address.new) (shift start cursor.new) result
+        (op_into section at code (fields_of shape) (gathered operands.old.items address.old) (shift start cursor.old)) }
     ensures kept { OnErr result (operands.new.items ≡ operands.old.items) }
 {
     let bad = bad_at(section, at);
@@ -265,7 +268,11 @@ fn nested(
     address: &mut bool,
 ) -> Result<(), ReadErr>
     requires short { start + (cursor.old.at + length cursor.old.rest) < 2 ^ 64 }
-    ensures answer { Gathers section (λ c. nested_into c alone (bad_expr c at) (gathered [] address.old) (shift start cursor.old)) (added operands.old.items operands.new.items) (gathered (added operands.old.items operands.new.items) address.new, shift start cursor.new) result }
+    ensures answer { Gathers section (λ c. nested_into c alone (bad_expr c at) (gathered [] address.old) (shift start cursor.old))
+        (added operands.old.items operands.new.items) (
+          gathered (added operands.old.items operands.new.items) address.new,
+          shift start cursor.new,
+        ) result }
     ensures grows { Grows operands.old.items operands.new.items }
 {
     let bad = bad_at(section, at);
@@ -289,7 +296,8 @@ pub(crate) fn all(
     address: &mut bool,
 ) -> Result<(), ReadErr>
     requires short { start + length bytes.now < 2 ^ 64 }
-    ensures answer { Gathers section (λ c. ops_into c inside (gathered [] address.old) (record { at = start; rest = bytes.now })) (added operands.old.items operands.new.items) (gathered (added operands.old.items operands.new.items) address.new) result }
+    ensures answer { Gathers section (λ c. ops_into c inside (gathered [] address.old) (record { at = start; rest = bytes.now }))
+        (added operands.old.items operands.new.items) (gathered (added operands.old.items operands.new.items) address.new) result }
     ensures grows { Grows operands.old.items operands.new.items }
 {
     let mut cursor = Cursor::new(bytes, 0);

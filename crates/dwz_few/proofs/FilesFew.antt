@@ -5,6 +5,7 @@ use Rattle.std.proofs.lemmas.List.{length-append}
 use Rattle.dwz_docs.specs.Units.{entries_in}
 use Rattle.dwz_meanings.specs.Documents.{Doc}
 use Rattle.dwz_meanings.specs.Files.{Limits, files_meaning, limits_after, most_entries, no_files_before}
+use Rattle.dwz_meanings.proofs.UnitMeans.{no_files}
 use Rattle.dwz_alike.specs.Spots.{tops_among, tops_of, units_of}
 use Rattle.dwz_graph.specs.declared.file.File.{File}
 use Rattle.dwz_graph.specs.Files.{AreKept, AreRead, IsRead, docs_of}
@@ -19,6 +20,7 @@ use Rattle.dwz_unit.specs.Rows.{units_of as raw_units}
 use Rattle.dwz_across.specs.Across.{starts_from as numbers_from}
 use Rattle.dwz_across.proofs.FileCounts.{all_ends}
 use Rattle.dwz_across.proofs.FileWalk.{first_doc}
+use Rattle.dwz_across.proofs.FileRoom.{no_doc}
 use Rattle.dwz_known.specs.Images.{entry_count, starts_from}
 use Rattle.dwz_known.specs.Names.{all_names, names_of_files}
 use Rattle.dwz_few.specs.Few.{HaveSmallNumbers, HasSmallNumbers, entries_in_files}
@@ -40,11 +42,8 @@ pub all_few : (contents : List (List ℕ)) (files : List File) → AreKept conte
 unfolding most_entries
 all_few contents files kept = entries_few no_files_before 0 contents files kept.end kept.are
 
-no_files : (l : Limits) (n : ℕ) (docs : List (Doc ℕ)) → files_meaning l n [] ≡ Ok docs → [] ≡ docs
-unfolding files_meaning
-no_files l n docs e = cc
-
-names_counted : (l : Limits) (n unit top : ℕ) (contents : List (List ℕ)) (files : List File) (left : Limits) (docs : List (Doc ℕ)) → AreRead l n contents files left → files_meaning l n contents ≡ Ok docs
+names_counted : (l : Limits) (n unit top : ℕ) (contents : List (List ℕ)) (files : List File) (left : Limits) (docs : List (Doc ℕ)) → AreRead l n contents files left
+    → files_meaning l n contents ≡ Ok docs
     → length (names_of_files unit top docs) ≡ entries_in_files files
 unfolding entries_in_files names_of_files
 names_counted l n unit top [] [] left docs h m = ap (λ (w : List (Doc ℕ)). length (names_of_files unit top w)) (sym (no_files l n docs m))
@@ -80,7 +79,8 @@ record First (most : ℕ) (l : Limits) (n : ℕ) (b : List ℕ) (contents : List
   here : Fits most s start (entries_in (raw_units y.units))
   behind : Fits most (starts_behind s d x) (start + length x.steps) (limits_after l b (raw_units y.units)).entries
 
-first_fits : (most : ℕ) (l : Limits) (n : ℕ) (b : List ℕ) (contents : List (List ℕ)) (y : File) (s : Starts) (d : Doc ℕ) (docs : List (Doc ℕ)) (x : Index) (start : ℕ) → IsRead l n b y → files_meaning l n (b ∷ contents) ≡ Ok (d ∷ docs)
+first_fits : (most : ℕ) (l : Limits) (n : ℕ) (b : List ℕ) (contents : List (List ℕ)) (y : File) (s : Starts) (d : Doc ℕ) (docs : List (Doc ℕ)) (x : Index) (start : ℕ) → IsRead l n b y
+    → files_meaning l n (b ∷ contents) ≡ Ok (d ∷ docs)
     → IsIndexOf s d x → Fits most s start l.entries → First most l n b contents y s d docs x start
 first_fits most l n b contents y s d docs x start h m is fits =
     let r = first_doc l n b contents y (d ∷ docs) h m in
@@ -104,13 +104,11 @@ first_fits most l n b contents y s d docs x start h m is fits =
       behind = record { units = omega arith; tops = omega arith; spaces = omega arith; entries = omega arith };
     }
 
-no_doc : (l : Limits) (n : ℕ) (d : Doc ℕ) (docs : List (Doc ℕ)) → files_meaning l n [] ≡ Ok (d ∷ docs) → ⊥
-unfolding files_meaning
-no_doc l n d docs e = cc
-
 -- of the file with a number
-file_fits : (most : ℕ) (l : Limits) (n : ℕ) (contents : List (List ℕ)) (files : List File) (left : Limits) (docs : List (Doc ℕ)) (indexes : List Index) (s end : Starts) (start : ℕ) → AreRead l n contents files left → files_meaning l n contents ≡ Ok docs
-    → AreIndexed s docs indexes end → Fits most s start l.entries → (k at : ℕ) (f : File) (x : Index) → slice_get files k ≡ Some f → slice_get indexes k ≡ Some x → slice_get (starts_from start indexes) k ≡ Some at
+file_fits : (most : ℕ) (l : Limits) (n : ℕ) (contents : List (List ℕ)) (files : List File) (left : Limits) (docs : List (Doc ℕ)) (indexes : List Index) (s end : Starts) (start : ℕ)
+    → AreRead l n contents files left → files_meaning l n contents ≡ Ok docs
+    → AreIndexed s docs indexes end → Fits most s start l.entries → (k at : ℕ) (f : File) (x : Index) → slice_get files k ≡ Some f → slice_get indexes k ≡ Some x
+    → slice_get (starts_from start indexes) k ≡ Some at
     → Fits most x.starts at (entries_in (raw_units f.units)) × (length (raw_units f.units) ≤ entries_in (raw_units f.units))
 unfolding starts_from
 file_fits most l n contents [] left docs indexes s end start h m is fits k at f x p q e = absurd cc
@@ -123,15 +121,20 @@ file_fits most l n (b ∷ contents) (y ∷ files) left (d ∷ docs) (z ∷ index
     let x_is : z ≡ x = cc in
     let at_is : start ≡ at = cc in
     let from : s ≡ z.starts = sym is.0.tops.starts_are in
-    let begin : Fits most x.starts start (entries_in (raw_units y.units)) = subst (λ (w : Starts). Fits most w start (entries_in (raw_units y.units))) (from ∙ ap (λ (w : Index). w.starts) x_is) r.here in
-    let counted : Fits most x.starts at (entries_in (raw_units y.units)) = subst (λ (w : ℕ). Fits most x.starts w (entries_in (raw_units y.units))) at_is begin in
-    (subst (λ (w : File). Fits most x.starts at (entries_in (raw_units w.units))) f_is counted, subst (λ (w : File). length (raw_units w.units) ≤ entries_in (raw_units w.units)) f_is r.counted.raw_units)
+    let begin : Fits most x.starts start (entries_in (raw_units y.units)) = subst (λ (w : Starts). Fits most w start (entries_in (raw_units y.units))) (from ∙ ap (λ (w : Index). w.starts) x_is)
+    r.here in
+    let counted : Fits most x.starts at (entries_in (raw_units y.units)) = subst (λ (w : ℕ). Fits most x.starts w (entries_in (raw_units y.units))) at_is begin in (
+      subst (λ (w : File). Fits most x.starts at (entries_in (raw_units w.units))) f_is counted,
+      subst (λ (w : File). length (raw_units w.units) ≤ entries_in (raw_units w.units)) f_is
+          r.counted.raw_units,
+    )
 file_fits most l n (b ∷ contents) (y ∷ files) left (d ∷ docs) (z ∷ indexes) s end start h m is fits (suc k) at f x p q e =
     let r = first_fits most l n b contents y s d docs z start h.0 m is.0 fits in
     file_fits most (limits_after l b (raw_units y.units)) (suc n) contents files left docs indexes (starts_behind s d z) end (start + length z.steps) h.1 r.rest is.1 r.behind k at f x p q e
 
 -- and behind so many files
-starts_fit : (most : ℕ) (l : Limits) (n : ℕ) (contents : List (List ℕ)) (files : List File) (left : Limits) (docs : List (Doc ℕ)) (indexes : List Index) (s end : Starts) (start : ℕ) → AreRead l n contents files left → files_meaning l n contents ≡ Ok docs
+starts_fit : (most : ℕ) (l : Limits) (n : ℕ) (contents : List (List ℕ)) (files : List File) (left : Limits) (docs : List (Doc ℕ)) (indexes : List Index) (s end : Starts) (start : ℕ)
+    → AreRead l n contents files left → files_meaning l n contents ≡ Ok docs
     → AreIndexed s docs indexes end → Fits most s start l.entries → Fits most end (start + entry_count indexes) 0
 unfolding entry_count
 starts_fit most l n contents files left [] [] s end start h m is fits =
@@ -158,7 +161,8 @@ pub file_small : (contents : List (List ℕ)) (files : List File) (indexes : Lis
     → slice_get files file ≡ Some f → slice_get indexes file ≡ Some x → slice_get (starts_from 0 indexes) file ≡ Some start
     → HasSmallNumbers x.starts start (entries_in (raw_units f.units)) × (length (raw_units f.units) ≤ entries_in (raw_units f.units))
 file_small contents files indexes file start f x kept is p q e =
-    let r = file_fits (2 ^ 24) no_files_before 0 contents files kept.end (docs_of contents) indexes first_starts is.end 0 kept.are (files_read contents files kept.end kept.are) is.are begins file start f x p q e in
+    let r = file_fits (2 ^ 24) no_files_before 0 contents files kept.end (docs_of contents) indexes first_starts is.end 0 kept.are (files_read contents files kept.end kept.are) is.are begins file
+    start f x p q e in
     let fits = r.0 in
     (record { units = fits.units; tops = fits.tops; spaces = fits.spaces; entries = fits.entries }, r.1)
 

@@ -1,16 +1,16 @@
 -- A file has no more units, tops and spaces than entries, and its index as many steps.
-use Rattle.std.proofs.Common.{◌≡◌, ℕ, suc, ◌+◌, ◌≤◌, Bool, true, false, List, [], ◌∷◌, length, map, Ok, refl, sym, ap, ◌∙◌, arith}
+use Rattle.std.proofs.Common.{◌≡◌, ℕ, suc, ◌+◌, ◌≤◌, Bool, true, false, List, [], ◌∷◌, length, map, Ok, sym, ap, ◌∙◌, arith}
 use Rattle.std.proofs.lemmas.List.{length-append, length-map}
-use Rattle.dwz_docs.specs.Entries.{RawEntry}
 use Rattle.dwz_docs.specs.Trees.{End, Entry, Forest, size}
 use Rattle.dwz_docs.specs.Units.{RawUnit, entries_in}
-use Rattle.dwz_meanings.specs.Documents.{Compile, Doc, DwUnit, Entries, Kind, OfType, Partial}
+use Rattle.dwz_meanings.specs.Documents.{Compile, Doc, DwUnit, Kind, OfType, Partial}
 use Rattle.dwz_meanings.specs.Files.{Limits, around_of, debug_abbrev, debug_info, file_meaning}
 use Rattle.dwz_docs.specs.Entries.{given}
-use Rattle.dwz_meanings.specs.Meanings.{Around, MeanEntries, MeanUnits, Scope, scope_of}
+use Rattle.dwz_unit.proofs.ShownLemmas.{units_few as few_units}
+use Rattle.dwz_meanings.specs.Meanings.{Around, MeanUnits, scope_of}
 use Rattle.dwz_meanings.proofs.FileLemmas.{file_agrees}
 use Rattle.dwz_alike.specs.Spots.{Spot, spot_in, spots_from, tops_among}
-use Rattle.dwz_across.proofs.FileRoom.{tops_few}
+use Rattle.dwz_across.proofs.FileRoom.{size_same, tops_few}
 use Rattle.dwz_index.specs.declared.index.SpaceEntry.{SpaceEntry}
 use Rattle.dwz_index.specs.declared.index.Starts.{Starts}
 use Rattle.dwz_index.specs.Index.{Index}
@@ -18,7 +18,6 @@ use Rattle.dwz_index.specs.Names.{names_from}
 use Rattle.dwz_index.specs.Steps.{all_spaces, below_root, is_space, space_entries, spaces_by, starts_behind}
 use Rattle.dwz_index.proofs.AmongLemmas.{spaces_many}
 use Rattle.dwz_index.proofs.NameLemmas.{all_named}
-use Rattle.dwz_index.proofs.UnitBuilding.{units_few as few_units}
 use Rattle.dwz_indexes.specs.Indexed.{IsIndexOf}
 use Rattle.dwz_indexes.proofs.RoomLemmas.{many_units}
 use Rattle.dwz_resolve.specs.Resolved.{places}
@@ -29,7 +28,8 @@ under_few : {E : Type 0} (space : E → Bool) (f : Forest E) → spaces_by space
 unfolding spaces_by
 under_few space End = omega arith
 under_few {E} space (Entry e c n) = by (space e) (under_few space c) (under_few space n) where
-  by : (b : Bool) → spaces_by space c ≤ size c → spaces_by space n ≤ size n → (elim b as (λ _. ℕ) [ false ↦ spaces_by space n | true ↦ suc (spaces_by space c + spaces_by space n) ]) ≤ size c + size n + 1
+  by : (b : Bool) → spaces_by space c ≤ size c → spaces_by space n ≤ size n → (elim b as (λ _. ℕ) [ false ↦ spaces_by space n | true ↦ suc (spaces_by space c + spaces_by space n) ]) ≤ size c + size n
+      + 1
   by false p q = omega arith
   by true p q = omega arith
 
@@ -40,13 +40,8 @@ below_few k first u = by u.kind where
   by (OfType signature main) = omega arith
   by Partial = omega arith
 
-size_same : (s : Scope ℕ) (f : Forest RawEntry) (g : Entries ℕ) → MeanEntries s f g → size g ≡ size f
-size_same s End End h = refl
-size_same s End (Entry d c n) h = absurd h
-size_same s (Entry e c n) End h = absurd h
-size_same s (Entry e c n) (Entry d c' n') h = (let a = size_same s c c' h.1 in let b = size_same s n n' h.2 in omega arith)
-
-spaces_few : (around : Around ℕ) (raw : List RawUnit) (said : List (DwUnit ℕ)) (s : Starts) (first : ℕ) → MeanUnits around raw said → length (all_spaces is_space s first (map below_root said)) ≤ entries_in raw
+spaces_few : (around : Around ℕ) (raw : List RawUnit) (said : List (DwUnit ℕ)) (s : Starts) (first : ℕ) → MeanUnits around raw said
+    → length (all_spaces is_space s first (map below_root said)) ≤ entries_in raw
 unfolding all_spaces entries_in
 spaces_few around [] [] s first h = omega arith
 spaces_few around [] (v ∷ said) s first h = absurd h

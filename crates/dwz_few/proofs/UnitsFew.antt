@@ -5,15 +5,18 @@ use Rattle.dwz_docs.specs.Trees.{End, Entry, Forest, IfChildren, Position, Spell
 use Rattle.dwz_docs.specs.Units.{RawUnit, SpellsUnit, SpellsUnits, entries_in, entry_count}
 
 module _ (c : UnitContext) where
-  if_few : (b : Bool) (f : Forest RawEntry) (bytes : List ℕ) (Spelled : Type 0) (n : ℕ) → IfChildren b f Spelled bytes → n ≤ c.mode.entries → (Spelled → n + size f ≤ c.mode.entries) → n + size f ≤ c.mode.entries
+  if_few : (b : Bool) (f : Forest RawEntry) (bytes : List ℕ) (Spelled : Type 0) (n : ℕ) → IfChildren b f Spelled bytes → n ≤ c.mode.entries → (Spelled → n + size f ≤ c.mode.entries)
+      → n + size f ≤ c.mode.entries
   if_few true f bytes Spelled n is le few = few is
   if_few false f bytes Spelled n is le few = subst (λ (g : Forest RawEntry). n + size g ≤ c.mode.entries) (sym is.0) (omega arith)
 
-  list_few : (f : Forest RawEntry) (p : Position) (start : ℕ) (bytes : List ℕ) → SpellsForest (λ e. e.children) (SpellsFront c) f p start bytes → p.before ≤ c.mode.entries → p.before + size f ≤ c.mode.entries
+  list_few : (f : Forest RawEntry) (p : Position) (start : ℕ) (bytes : List ℕ) → SpellsForest (λ e. e.children) (SpellsFront c) f p start bytes → p.before ≤ c.mode.entries
+      → p.before + size f ≤ c.mode.entries
   list_few End p start bytes is le = omega arith
   list_few (Entry e children next) p start bytes is le =
       let room = is.first.stands.room in
-      let below = if_few e.children children is.second_bytes _ (p.before + 1) is.second (omega arith) (λ q. list_few children (first_below p) (start + length is.first_bytes) is.second_bytes q (omega arith)) in
+      let below = if_few e.children children is.second_bytes _ (p.before + 1) is.second (omega arith)
+      (λ q. list_few children (first_below p) (start + length is.first_bytes) is.second_bytes q (omega arith)) in
       let after = list_few next (behind p children) (start + length is.first_bytes + length is.second_bytes) is.third_bytes is.third (omega arith) in
       omega arith
 
@@ -26,7 +29,8 @@ unit_few abbrevs mode before u start bytes is =
     let same = ap (λ (m : Mode). m.entries) is.is_context.same_mode in
     omega arith
 
-units_few_from : (abbrevs : List ℕ) (mode : Mode) (before : ℕ) (raw : List RawUnit) (start : ℕ) (bytes : List ℕ) → SpellsUnits abbrevs mode before raw start bytes → before ≤ mode.entries → before + entries_in raw ≤ mode.entries
+units_few_from : (abbrevs : List ℕ) (mode : Mode) (before : ℕ) (raw : List RawUnit) (start : ℕ) (bytes : List ℕ) → SpellsUnits abbrevs mode before raw start bytes → before ≤ mode.entries
+    → before + entries_in raw ≤ mode.entries
 unfolding entries_in
 units_few_from abbrevs mode before [] start bytes is le = omega arith
 units_few_from abbrevs mode before (u ∷ raw) start bytes is le =

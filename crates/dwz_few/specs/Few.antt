@@ -35,7 +35,8 @@ pub record HasSmallNumbers (s : Starts) (start count : ℕ) : Type 0 where
 -- as many as each file has entries; it has no more units
 abbrev pub FileLaw : Type 0
 FileLaw =
-    (contents : List (List ℕ)) (files : List File) (indexes : List Index) (file start : ℕ) (f : File) (x : Index) → AreKept contents files → AreIndexes (docs_of contents) indexes
+    (contents : List (List ℕ)) (files : List File) (indexes : List Index) (file start : ℕ) (f : File) (x : Index) → AreKept contents files
+    → AreIndexes (docs_of contents) indexes
     → slice_get files file ≡ Some f → slice_get indexes file ≡ Some x → slice_get (starts_from 0 indexes) file ≡ Some start
     → HasSmallNumbers x.starts start (entries_in (raw_units f.units)) × (length (raw_units f.units) ≤ entries_in (raw_units f.units))
 

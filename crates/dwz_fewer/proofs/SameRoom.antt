@@ -4,7 +4,7 @@ use Rattle.dwz_alike.specs.Alike.{joined_parts}
 use Rattle.dwz_docs.specs.Trees.{End, Entry}
 use Rattle.dwz_meanings.specs.Documents.{Attr, DwUnit, Entries, Expr, Loc, Operand, Part, Plain, Same}
 use Rattle.dwz_meanings.specs.Meanings.{Class, OfExpression, OfListIndex, OfOffset, class_of}
-use Rattle.dwz_seen.specs.Lists.{Each}
+use Rattle.dwz_docs.specs.Lists.{Each}
 use Rattle.dwz_writing.specs.Fitting.{EachAttr, FitsWidth, HasRoom, HasRoomAs, OperandsHaveRoom, PlainHasRoom, UnitHasRoom}
 use Rattle.dwz_writing.specs.Writing.{Numbering, base_place}
 use Rattle.dwz_fewer.proofs.SameSections.{At, RefsAt, UnitAt}

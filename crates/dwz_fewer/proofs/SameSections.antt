@@ -1,18 +1,19 @@
 -- What is written of units depends on the places of their names and of what they name alone.
 use Rattle.std.proofs.Common.{◌≡◌, ℕ, ◌+◌, ◌-◌, List, [], ◌∷◌, ◌++◌, length, map, pos, refl, ap, ◌∙◌, inl, inr}
 use Rattle.dwz_bytes.specs.Spelling.{le_bytes}
-use Rattle.dwz_docs.specs.Lists.{In}
+use Rattle.dwz_docs.specs.Lists.{Each, In}
 use Rattle.dwz_docs.specs.Trees.{End, Entry}
 use Rattle.dwz_docs.specs.Values.{Bytes, Number, Raw, value_bytes}
+use Rattle.dwz_docs.proofs.ListFacts.{in_left, in_right}
 use Rattle.dwz_meanings.specs.Documents.{Attr, Compile, DwUnit, Entries, Expr, Kind, Node, OfType, Operand, Part, Partial, Plain, Same}
 use Rattle.dwz_meanings.specs.Meanings.{Class, OfCommonEntry, OfExpression, OfInfoEntry, OfUnitEntry, class_of}
 use Rattle.dwz_meanings.specs.Patching.{number_bytes}
-use Rattle.dwz_seen.specs.Lists.{Each}
 use Rattle.dwz_seen.specs.Seen.{Named, Seen, all_seen, named_value, see, seen, seen_below, seen_roots}
-use Rattle.dwz_seen.proofs.Members.{each_of, in_left, in_right}
+use Rattle.dwz_seen.proofs.Members.{each_of}
 use Rattle.dwz_writing.specs.Fitting.{EachAttr}
 use Rattle.dwz_writing.specs.Placing.{sections}
-use Rattle.dwz_writing.specs.Writing.{Numbering, Shape, attrs_bytes, base_place, code_bytes, code_in, expr_bytes, first_place, header_size, if_any, joined, kind_bytes, node_bytes, parts_bytes, shape_of, spelled, stored, stored_as, table_of, table_offset, tables_of, tree_bytes, type_of, unit_bytes, units_bytes}
+use Rattle.dwz_writing.specs.Writing.{Numbering, Shape, attrs_bytes, base_place, code_bytes, code_in, expr_bytes, first_place, header_size, if_any, joined, kind_bytes, node_bytes, parts_bytes}
+use Rattle.dwz_writing.specs.Writing.{shape_of, spelled, stored, stored_as, table_of, table_offset, tables_of, tree_bytes, type_of, unit_bytes, units_bytes}
 use Rattle.dwz_fewer.specs.Fewer.{AgreeOn, NameOnly}
 
 module _ {K : Type 0} (m n : Numbering K) where

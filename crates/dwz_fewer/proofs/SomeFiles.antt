@@ -1,14 +1,14 @@
 -- Names and places of some files: each pair of a name and its place is one of those of all files.
 use Rattle.std.proofs.Common.{◌≡◌, ℕ, Bool, true, false, List, [], ◌∷◌, ◌++◌, cond, map, refl, sym, ap, subst, ◌∙◌, inl, inr}
-use Rattle.std.proofs.lemmas.List.{map-append}
 use Rattle.std.specs.List.{filter}
 use Rattle.dwz_docs.specs.Lists.{In}
+use Rattle.dwz_docs.proofs.ListFacts.{in_cases, in_left, in_right}
 use Rattle.dwz_seen.specs.Lists.{NoneTwice}
 use Rattle.dwz_seen.specs.Shown.{units_keys}
-use Rattle.dwz_seen.proofs.Members.{each_in, in_cases, in_left, in_right}
+use Rattle.dwz_seen.proofs.Members.{each_in}
 use Rattle.dwz_seen.proofs.OnceLemmas.{none_append, none_both, none_left, none_right}
 use Rattle.dwz_writing.specs.Placing.{FileOut, files_keys, files_placed, number_in, units_placed}
-use Rattle.dwz_writing.proofs.Places.{IsSame, firsts, number_agrees, units_placed_keys}
+use Rattle.dwz_writing.proofs.Places.{IsSame, files_placed_keys, firsts, number_agrees}
 use Rattle.dwz_fewer.specs.Fewer.{AreSome}
 
 -- ---- some of a list
@@ -61,18 +61,7 @@ some_once {K} (g ∷ all) (f ∷ some) (inl s) once =
     subst (λ (h : FileOut K). NoneTwice (units_keys h.units ++ files_keys some)) s.0 here
 some_once (g ∷ all) (f ∷ some) (inr s) once = some_once all (f ∷ some) s (none_right (units_keys g.units) (files_keys all) once)
 
-pub keys_in : {K : Type 0} (all : List (FileOut K)) (f : FileOut K) (k : K) → In f all → In k (units_keys f.units) → In k (files_keys all)
-unfolding files_keys
-keys_in [] f k there is = absurd there
-keys_in {K} (g ∷ all) f k (inl e) is = in_left k (units_keys g.units) (files_keys all) (subst (λ (h : FileOut K). In k (units_keys h.units)) (sym e) is)
-keys_in (g ∷ all) f k (inr r) is = in_right k (units_keys g.units) (files_keys all) (keys_in all f k r is)
-
 -- ---- places
-
-firsts_placed : {K : Type 0} (files : List (FileOut K)) → firsts (files_placed files) ≡ files_keys files
-unfolding files_placed files_keys
-firsts_placed [] = refl
-firsts_placed (f ∷ files) = rw (map-append (λ p. p.0) (units_placed 0 f.units) (files_placed files), units_placed_keys f.units 0, firsts_placed files) refl
 
 placed_in : {K : Type 0} (all : List (FileOut K)) (f : FileOut K) (p : K × ℕ) → In f all → In p (units_placed 0 f.units) → In p (files_placed all)
 unfolding files_placed
@@ -101,7 +90,7 @@ module _ {K : Type 0} (same : K → K → Bool) (is : IsSame same) where
   pub some_number : (all some : List (FileOut K)) → ((f : FileOut K) → In f some → In f all) → NoneTwice (files_keys all) → (k : K) → In k (files_keys some)
       → number_in same (files_placed some) k ≡ number_in same (files_placed all) k
   some_number all some into once k key =
-      let there = number_there (files_placed some) k (subst (In k) (sym (firsts_placed some)) key) in
-      let agrees = number_agrees same is (files_placed all) (subst NoneTwice (sym (firsts_placed all)) once) in
+      let there = number_there (files_placed some) k (subst (In k) (sym (files_placed_keys some)) key) in
+      let agrees = number_agrees same is (files_placed all) (subst NoneTwice (sym (files_placed_keys all)) once) in
       let pair : K × ℕ = (k, number_in same (files_placed some) k) in
       sym (each_in (λ p. number_in same (files_placed all) p.0 ≡ p.1) pair (files_placed all) agrees (placed_among all some into pair there))

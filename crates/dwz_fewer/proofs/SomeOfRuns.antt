@@ -1,19 +1,20 @@
 -- What files of a run name is in the same file or in the common one.
 use Rattle.std.proofs.Common.{◌≡◌, ℕ, Bool, true, false, List, [], ◌∷◌, map, refl, sym, ap, subst, ◌∙◌, inl, inr}
-use Rattle.dwz_docs.specs.Lists.{In}
+use Rattle.dwz_docs.specs.Lists.{Each, In}
 use Rattle.dwz_docs.specs.Pruning.{new_number}
+use Rattle.dwz_docs.proofs.ListFacts.{in_left, in_map, in_right}
 use Rattle.dwz_meanings.specs.Documents.{Doc, DwUnit, OfType}
-use Rattle.dwz_alike.specs.Alike.{IsAlike, Scope}
+use Rattle.dwz_alike.specs.Alike.{IsAlike, TopScope}
 use Rattle.dwz_alike.specs.Spots.{Spot, file_numbers, same_spot, units_of}
-use Rattle.dwz_seen.specs.Lists.{Each, NoneTwice}
+use Rattle.dwz_seen.specs.Lists.{NoneTwice}
 use Rattle.dwz_seen.specs.Seen.{all_seen}
 use Rattle.dwz_seen.specs.Shown.{HaveMains, unit_keys, units_keys}
-use Rattle.dwz_seen.proofs.Members.{From, in_left, in_map, in_map_from, in_right}
+use Rattle.dwz_seen.proofs.Members.{From, in_map_from}
 use Rattle.dwz_moving.specs.Homes.{IsChoice, Rule}
 use Rattle.dwz_same.specs.After.{ArePlaced, FilesSame}
 use Rattle.dwz_same.specs.Units.{all_units, common_units, file_units, out_units}
 use Rattle.dwz_same.proofs.FileLemmas.{files_same}
-use Rattle.dwz_writing.specs.Meant.{all_entry_keys, entry_keys}
+use Rattle.dwz_writing.specs.Meant.{all_entry_keys}
 use Rattle.dwz_writing.specs.Fitting.{UnitHasRoom}
 use Rattle.dwz_writing.specs.Placing.{FileOut, files_keys, sections}
 use Rattle.dwz_writing.proofs.Rising.{entries_are_keys}
@@ -21,14 +22,15 @@ use Rattle.dwz_writing.proofs.SameLemmas.{spots_same}
 use Rattle.dwz_back.specs.Back.{run_of}
 use Rattle.dwz_back.specs.Files.{Run, Stored, common_fitted, common_forms, common_out, file_forms, file_out, files_out, fitted, fitted_if, formed, places, sources, uses}
 use Rattle.dwz_back.proofs.CommonLemmas.{common_within}
-use Rattle.dwz_back.proofs.NameLemmas.{common_names, fitted_names, run_once}
+use Rattle.dwz_back.proofs.NameLemmas.{common_names, fitted_names, in_file_keys, run_once}
 use Rattle.dwz_back.proofs.WithinLemmas.{within}
+use Rattle.dwz_back.proofs.OutOperands.{all_with}
 use Rattle.dwz_fewer.specs.Fewer.{AgreeOn, AreSome, NameOnly}
 use Rattle.dwz_fewer.specs.Runs.{some_out, some_places}
 use Rattle.dwz_fewer.proofs.SameRoom.{same_room}
 use Rattle.dwz_fewer.proofs.SameSections.{UnitAt, all_at, same_sections}
 use Rattle.dwz_fewer.proofs.SeenFitted.{fit_kinds, fit_seen, new_kinds, new_seen}
-use Rattle.dwz_fewer.proofs.SomeFiles.{keys_in, some_in, some_map, some_number, some_once}
+use Rattle.dwz_fewer.proofs.SomeFiles.{some_in, some_map, some_number, some_once}
 
 -- ---- some of a run
 
@@ -76,23 +78,18 @@ module _ (r : Run) where
   out_in (n ∷ files) file u (inl e) is = in_left u (out_units r.move r.units n) (file_units r.move r.units files) (subst (λ (m : ℕ). In u (out_units r.move r.units m)) (sym e) is)
   out_in (n ∷ files) file u (inr later) is = in_right u (out_units r.move r.units n) (file_units r.move r.units files) (out_in files file u later is)
 
-entries_in : (units : List (DwUnit Spot)) (u : DwUnit Spot) (k : Spot) → In u units → In k (entry_keys u) → In k (all_entry_keys units)
-unfolding all_entry_keys
-entries_in [] u k there is = absurd there
-entries_in (v ∷ units) u k (inl e) is = in_left k (entry_keys v) (all_entry_keys units) (subst (λ (w : DwUnit Spot). In k (entry_keys w)) (sym e) is)
-entries_in (v ∷ units) u k (inr r) is = in_right k (entry_keys v) (all_entry_keys units) (entries_in units u k r is)
-
 -- the types of units with the kinds of others are entries of these
 mains_by : (units outs : List (DwUnit Spot)) → map (λ u. u.kind) units ≡ map (λ u. u.kind) outs → HaveMains outs
     → (u : DwUnit Spot) (signature : ℕ) (main : Spot) → In u units → u.kind ≡ OfType signature main → In main (units_keys outs)
 mains_by units outs same mains u signature main there is =
     let k : In u.kind (map (λ v. v.kind) outs) = subst (In u.kind) same (in_map (λ (v : DwUnit Spot). v.kind) u units there) in
     let o : From (λ (v : DwUnit Spot). v.kind) outs u.kind = in_map_from (λ (v : DwUnit Spot). v.kind) u.kind outs k in
-    entries_are_keys outs main (entries_in outs o.source main o.there (mains o.source o.there signature main (o.is ∙ is)))
+    entries_are_keys outs main (all_with outs o.source main o.there (mains o.source o.there signature main (o.is ∙ is)))
 
 -- ---- files that were read
 
-module _ (scope : Scope) (docs : List (Doc ℕ)) (rule : Rule) (placed : Each (λ doc. ArePlaced doc.units) docs) (is : IsAlike scope (units_of docs) rule.alike) (choice : IsChoice (units_of docs) rule)
+module _ (scope : TopScope) (docs : List (Doc ℕ)) (rule : Rule) (placed : Each (λ doc. ArePlaced doc.units) docs) (is : IsAlike scope (units_of docs) rule.alike)
+    (choice : IsChoice (units_of docs) rule)
     (input : Stored) (some : List ℕ) (are : AreSome some (file_numbers 0 docs)) where
   abbrev r : Run
   r = run_of rule docs input
@@ -104,7 +101,7 @@ module _ (scope : Scope) (docs : List (Doc ℕ)) (rule : Rule) (placed : Each (�
   names = files_keys (some_out r some)
 
   in_common : (k : Spot) → In k (all_entry_keys (common_fitted r)) → In k names
-  in_common k there = keys_in (some_out r some) (common_out r) k (inl refl) (entries_are_keys (common_fitted r) k there)
+  in_common k there = in_file_keys (some_out r some) (common_out r) k (inl refl) (entries_are_keys (common_fitted r) k there)
 
   common_only : NameOnly names (common_fitted r)
   common_only = record {
@@ -112,7 +109,7 @@ module _ (scope : Scope) (docs : List (Doc ℕ)) (rule : Rule) (placed : Each (�
       | inl own ↦ in_common k own
       | inr none ↦ absurd none
     ];
-    mains = λ u signature main there kind. keys_in (some_out r some) (common_out r) main (inl refl) (subst (In main) (sym (common_names r))
+    mains = λ u signature main there kind. in_file_keys (some_out r some) (common_out r) main (inl refl) (subst (In main) (sym (common_names r))
         (mains_by (common_fitted r) (common_units r.move) (common_kinds r)
         (λ v v_in. together.mains v (in_left v (common_units r.move) (file_units r.move r.units r.files) v_in)) u signature main there kind));
   }
@@ -122,10 +119,10 @@ module _ (scope : Scope) (docs : List (Doc ℕ)) (rule : Rule) (placed : Each (�
       let there : In (file_out r file) (some_out r some) = inr (in_map (file_out r) file some file_in) in
       record {
         refs = λ e a k seen attr ref. elim (within scope docs rule placed is choice input file e a k (subst (In e) (fitted_seen r file) seen) attr ref) [
-          | inl own ↦ keys_in (some_out r some) (file_out r file) k there (entries_are_keys (fitted r file) k own)
+          | inl own ↦ in_file_keys (some_out r some) (file_out r file) k there (entries_are_keys (fitted r file) k own)
           | inr common ↦ in_common k common
         ];
-        mains = λ u signature main u_in kind. keys_in (some_out r some) (file_out r file) main there (subst (In main) (sym (fitted_names r file))
+        mains = λ u signature main u_in kind. in_file_keys (some_out r some) (file_out r file) main there (subst (In main) (sym (fitted_names r file))
             (mains_by (fitted r file) (out_units r.move r.units file) (fitted_kinds r file)
             (λ v v_in. together.mains v (in_right v (common_units r.move) (file_units r.move r.units r.files)
             (out_in r r.files file v (some_in r.files some are file file_in) v_in))) u signature main u_in kind));
@@ -145,7 +142,8 @@ module _ (scope : Scope) (docs : List (Doc ℕ)) (rule : Rule) (placed : Each (�
 
   at_places : (f : FileOut Spot) → In f (some_out r some) → Each (UnitAt (some_places r some) (places r)) f.units
   at_places f there =
-      all_at (some_places r some) (places r) names f.units (places_in_run r some are together.apart) (λ u u_in. keys_in (some_out r some) f u.at there (unit_in f.units u u_in)) (some_name f there)
+      all_at (some_places r some) (places r) names f.units (places_in_run r some are together.apart) (λ u u_in. in_file_keys (some_out r some) f u.at there (unit_in f.units u u_in))
+      (some_name f there)
 
   pub some_sections : (f : FileOut Spot) → In f (some_out r some) → sections (some_places r some) f.units ≡ sections (places r) f.units
   some_sections f there = same_sections (some_places r some) (places r) f.units (at_places f there)

@@ -2,9 +2,9 @@
 use Rattle.std.specs.Prelude.{◌≡◌, ◌⊎◌, ℕ, Bool, List, [], ◌∷◌}
 use Rattle.std.specs.List.{filter}
 use Rattle.dwz_meanings.specs.Documents.{DwUnit, OfType}
-use Rattle.dwz_docs.specs.Lists.{In}
+use Rattle.dwz_docs.specs.Lists.{Each, In}
 use Rattle.dwz_alike.specs.Spots.{Spot, same_spot}
-use Rattle.dwz_seen.specs.Lists.{Each, NoneTwice}
+use Rattle.dwz_seen.specs.Lists.{NoneTwice}
 use Rattle.dwz_seen.specs.Seen.{Named, Seen, all_seen}
 use Rattle.dwz_writing.specs.Fitting.{UnitHasRoom}
 use Rattle.dwz_writing.specs.Placing.{FileOut, files_keys, numbering, sections}

@@ -1,10 +1,10 @@
 -- Some of the files of a run.
 use Rattle.std.specs.Prelude.{◌≡◌, ℕ, List, ◌∷◌, map}
 use Rattle.dwz_meanings.specs.Documents.{Doc}
-use Rattle.dwz_docs.specs.Lists.{In}
-use Rattle.dwz_alike.specs.Alike.{IsAlike, Scope}
+use Rattle.dwz_docs.specs.Lists.{Each, In}
+use Rattle.dwz_alike.specs.Alike.{IsAlike, TopScope}
 use Rattle.dwz_alike.specs.Spots.{Spot, file_numbers, same_spot, units_of}
-use Rattle.dwz_seen.specs.Lists.{Each, NoneTwice}
+use Rattle.dwz_seen.specs.Lists.{NoneTwice}
 use Rattle.dwz_seen.specs.Shown.{units_keys}
 use Rattle.dwz_moving.specs.Homes.{IsChoice, Rule}
 use Rattle.dwz_same.specs.After.{ArePlaced}
@@ -43,7 +43,7 @@ PlacesInRunLaw =
 -- what these files and the common one name stands in one of them
 abbrev pub NamesInRunLaw : Type 0
 NamesInRunLaw =
-    (scope : Scope) (docs : List (Doc ℕ)) (rule : Rule) → Each (λ doc. ArePlaced doc.units) docs
+    (scope : TopScope) (docs : List (Doc ℕ)) (rule : Rule) → Each (λ doc. ArePlaced doc.units) docs
     → IsAlike scope (units_of docs) rule.alike → IsChoice (units_of docs) rule
     → (input : Stored) (some : List ℕ) → AreSome some (file_numbers 0 docs)
     → (f : FileOut Spot) → In f (some_out (run_of rule docs input) some)
@@ -52,7 +52,7 @@ NamesInRunLaw =
 -- so each has the sections that it has among all files
 abbrev pub SectionsInRunLaw : Type 0
 SectionsInRunLaw =
-    (scope : Scope) (docs : List (Doc ℕ)) (rule : Rule) → Each (λ doc. ArePlaced doc.units) docs
+    (scope : TopScope) (docs : List (Doc ℕ)) (rule : Rule) → Each (λ doc. ArePlaced doc.units) docs
     → IsAlike scope (units_of docs) rule.alike → IsChoice (units_of docs) rule
     → (input : Stored) (some : List ℕ) → AreSome some (file_numbers 0 docs)
     → (f : FileOut Spot) → In f (some_out (run_of rule docs input) some)
@@ -61,7 +61,7 @@ SectionsInRunLaw =
 -- and operands that have room there have it among all files
 abbrev pub RoomInRunLaw : Type 0
 RoomInRunLaw =
-    (scope : Scope) (docs : List (Doc ℕ)) (rule : Rule) → Each (λ doc. ArePlaced doc.units) docs
+    (scope : TopScope) (docs : List (Doc ℕ)) (rule : Rule) → Each (λ doc. ArePlaced doc.units) docs
     → IsAlike scope (units_of docs) rule.alike → IsChoice (units_of docs) rule
     → (input : Stored) (some : List ℕ) → AreSome some (file_numbers 0 docs)
     → (f : FileOut Spot) → In f (some_out (run_of rule docs input) some)

@@ -1,21 +1,19 @@
 -- What is written of an entry that was read is what the definition of forms says of what it means: value by value.
-use Rattle.std.proofs.Common.{◌≡◌, ℕ, ◌+◌, Bool, true, false, List, [], ◌∷◌, ◌++◌, length, map, Ok, Option, Some, None, slice_get, refl, sym, ap, subst, ◌∙◌, cond, eqb, eqb-true, eq-eqb}
+use Rattle.std.proofs.Common.{◌≡◌, ℕ, ◌+◌, Bool, true, false, List, [], ◌∷◌, ◌++◌, map, Ok, Option, Some, None, slice_get, refl, sym, ap, subst, ◌∙◌, cond, eqb, eqb-true, eq-eqb}
 use Rattle.std.specs.Option.{option_map_or}
-use Rattle.std.specs.List.{flat_map}
 use Rattle.std.proofs.lemmas.Bool.{eqb-false}
 use Rattle.std.proofs.lemmas.List.{map-append}
 use Rattle.dwz_bytes.specs.Reading.{◌>>=◌}
 use Rattle.dwz_docs.specs.Entries.{RawAttr}
 use Rattle.dwz_docs.proofs.PartLemmas.{bind_ok}
-use Rattle.dwz_meanings.specs.Documents.{Attr, Node, Value, attr_map, node_map}
-use Rattle.dwz_meanings.specs.Meanings.{Scope, attr_with, attrs_meaning, class_of, meaning, names_file, scope_of, with_attr, without_siblings}
+use Rattle.dwz_meanings.specs.Documents.{Attr, Node, attr_map, node_map}
+use Rattle.dwz_meanings.specs.Meanings.{Scope, attr_with, attrs_meaning, meaning, names_file, scope_of, with_attr, without_siblings}
 use Rattle.dwz_alike.specs.Spots.{Spot}
-use Rattle.dwz_flat.specs.Rows.{node_refs}
 use Rattle.dwz_flat.proofs.StepLemmas.{skipped, taken}
 use Rattle.dwz_flat.proofs.TreeLemmas.{node_attrs}
-use Rattle.dwz_resolve.specs.Named.{attrs_refs, value_refs}
-use Rattle.dwz_seen.specs.Lists.{Each}
-use Rattle.dwz_unit.specs.Rows.{EntryRow, rows_of}
+use Rattle.dwz_resolve.specs.Named.{attrs_refs}
+use Rattle.dwz_docs.specs.Lists.{Each}
+use Rattle.dwz_unit.specs.Rows.{EntryRow}
 use Rattle.dwz_writing.specs.Carried.{IsStored}
 use Rattle.dwz_writing.specs.Placing.{Fit, Holder}
 use Rattle.dwz_places.specs.declared.known.Firsts.{Firsts}

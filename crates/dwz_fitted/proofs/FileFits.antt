@@ -1,5 +1,5 @@
 -- What is written of files is what the definition of forms says: unit by unit, file by file.
-use Rattle.std.proofs.Common.{◌≡◌, ℕ, suc, ◌+◌, List, [], ◌∷◌, Option, None, Some, length, map, refl, sym, ap, subst}
+use Rattle.std.proofs.Common.{◌≡◌, ℕ, suc, ◌+◌, List, [], ◌∷◌, None, Some, length, map, refl, sym, ap, subst}
 use Rattle.dwz_meanings.specs.Documents.{DwUnit}
 use Rattle.dwz_alike.specs.Spots.{Spot}
 use Rattle.dwz_seen.specs.Shown.{units_keys}

@@ -1,18 +1,20 @@
 -- What is written of the name of a space of a chain is what the definition of forms says.
-use Rattle.std.proofs.Common.{◌≡◌, ◌≢◌, ℕ, ℤ, ◌+◌, Bool, true, false, List, [], ◌∷◌, map, pos, Ok, Option, Some, None, slice_get, refl, sym, ap, subst, ◌∙◌, cond, eqb, eqb-true, ne_eqb}
+use Rattle.std.proofs.Common.{◌≡◌, ℕ, Bool, true, false, List, [], ◌∷◌, map, pos, Ok, Option, Some, None, slice_get, refl, sym, ap, subst, ◌∙◌, cond, eqb, eqb-true}
 use Rattle.std.specs.Option.{option_map_or}
 use Rattle.std.proofs.lemmas.Bool.{eqb-false}
 use Rattle.dwz_bytes.specs.Reading.{◌>>=◌}
 use Rattle.dwz_docs.specs.Entries.{RawAttr}
-use Rattle.dwz_docs.specs.Values.{Bytes, Number, Raw}
+use Rattle.dwz_docs.specs.Values.{Bytes, Number}
 use Rattle.dwz_docs.proofs.PartLemmas.{bind_ok}
-use Rattle.dwz_meanings.specs.Documents.{Attr, File, Node, Sec, Text, Value, attr_map, first_named, only}
-use Rattle.dwz_meanings.specs.Meanings.{Class, IfSo, IsFileBy, IsLocList, MeansAs, OfAddress, OfBlock, OfCommonEntry, OfCommonText, OfConstant, OfExpression, OfFlag, OfIndex, OfInfoEntry, OfListIndex, OfOffset, OfSignature, OfText, OfTextBySlot, OfTextInLineStr, OfTextInStr, OfUnitEntry, Scope, Unread, attr_with, attrs_meaning, bytes_of, class_of, constant_value, meaning, names_file, names_list, number_of, offset_of, scope_of, stmt_list, with_attr, without_siblings}
+use Rattle.dwz_meanings.specs.Documents.{Attr, File, Node, Sec, Text, Value, first_named, only}
+use Rattle.dwz_meanings.specs.Meanings.{Class, IfSo, IsFileBy, IsLocList, MeansAs, OfAddress, OfBlock, OfCommonEntry, OfCommonText, OfConstant, OfExpression, OfFlag, OfIndex, OfInfoEntry, OfListIndex}
+use Rattle.dwz_meanings.specs.Meanings.{OfOffset, OfSignature, OfText, OfTextBySlot, OfTextInLineStr, OfTextInStr, OfUnitEntry, Scope, Unread, attr_with, attrs_meaning, bytes_of, class_of}
+use Rattle.dwz_meanings.specs.Meanings.{constant_value, meaning, names_file, names_list, number_of, offset_of, scope_of, stmt_list, with_attr, without_siblings}
 use Rattle.dwz_meanings.proofs.MeaningLemmas.{value_agrees}
 use Rattle.dwz_alike.specs.Spots.{Spot, name_by as name_by_of, name_of}
 use Rattle.dwz_flat.proofs.StepLemmas.{skipped, taken}
 use Rattle.dwz_flat.proofs.TreeLemmas.{node_attrs}
-use Rattle.dwz_seen.specs.Lists.{Each}
+use Rattle.dwz_docs.specs.Lists.{Each}
 use Rattle.dwz_seen.specs.Spaces.{space_text, text_at, text_in}
 use Rattle.dwz_unit.specs.Rows.{EntryRow}
 use Rattle.dwz_writing.specs.Carried.{IsStored}
@@ -23,8 +25,8 @@ use Rattle.dwz_places.specs.declared.known.Row.{Row}
 use Rattle.dwz_places.specs.declared.known.SpaceRow.{SpaceRow}
 use Rattle.dwz_places.specs.declared.known.TextAt.{TextAt}
 use Rattle.dwz_places.specs.declared.ways.Way.{Way}
-use Rattle.dwz_places.specs.declared.ways.Way.TheVariants.{AsRead, AsText, KeepsText}
-use Rattle.dwz_places.specs.Attributes.{OutAttr, name_attrs, name_by, space_attrs, text_attr}
+use Rattle.dwz_places.specs.declared.ways.Way.TheVariants.{AsText}
+use Rattle.dwz_places.specs.Attributes.{OutAttr, name_attrs, name_by, space_attrs}
 use Rattle.dwz_places.specs.Entries.{row}
 use Rattle.dwz_places.specs.Known.{row_at, text_held}
 use Rattle.dwz_places.specs.Ways.{way_of}
@@ -197,12 +199,12 @@ module _ (h : Holder) (t : TextAt) (s : Scope ℕ) where
 -- ---- a space
 
 -- the first name of a space, which is a text
-record HasName (d : Node ℕ) (text : List ℕ) : Type 0 where
-  b : Attr ℕ
-  found : first_named 0x03 d.attrs ≡ Some b
-  is : text_in b.value.plain ≡ Some text
+pub record HasName (d : Node ℕ) (text : List ℕ) : Type 0 where
+  pub b : Attr ℕ
+  pub found : first_named 0x03 d.attrs ≡ Some b
+  pub is : text_in b.value.plain ≡ Some text
 
-has_name : (d : Node ℕ) (text : List ℕ) → space_text d ≡ Some text → HasName d text
+pub has_name : (d : Node ℕ) (text : List ℕ) → space_text d ≡ Some text → HasName d text
 unfolding space_text
 has_name d text e = go (eqb d.tag 0x39) e where
   at : (o : Option (Attr ℕ)) → first_named 0x03 d.attrs ≡ o → text_at o ≡ Some text → HasName d text

@@ -1,23 +1,22 @@
 -- What is written of an entry with all below it is what the definition of forms says: by induction over the tree, row by row.
-use Rattle.std.proofs.Common.{◌≡◌, ℕ, suc, ◌+◌, ◌-◌, ◌≤◌, List, [], ◌∷◌, ◌++◌, length, map, take, drop, Ok, Option, Some, None, slice_get, refl, sym, ap, subst, ◌∙◌, arith}
+use Rattle.std.proofs.Common.{◌≡◌, ℕ, suc, ◌+◌, ◌-◌, ◌≤◌, List, [], ◌∷◌, ◌++◌, length, map, take, drop, Ok, Option, Some, slice_get, refl, sym, ap, subst, ◌∙◌, arith}
 use Rattle.std.specs.Option.{option_map_or}
 use Rattle.std.specs.Prelude.{slice_range}
 use Rattle.std.proofs.lemmas.List.{append-nil, append_assoc, map-append}
 use Rattle.std.proofs.Math.Seq.{take-append_seam}
 use Rattle.dwz_docs.specs.Entries.{RawEntry}
-use Rattle.dwz_docs.specs.Trees.{End, Entry, Forest, Position, behind, first_below, size}
+use Rattle.dwz_docs.specs.Trees.{End, Entry, Forest, Position, behind, first_below}
 use Rattle.dwz_docs.specs.Units.{RawUnit}
+use Rattle.dwz_docs.proofs.ListFacts.{drop_first}
 use Rattle.dwz_meanings.specs.Documents.{Entries, Node, entries_map, node_map}
 use Rattle.dwz_meanings.specs.Meanings.{entries_meaning, scope_of}
 use Rattle.dwz_alike.specs.Spots.{Spot}
-use Rattle.dwz_flat.proofs.StepLemmas.{first_of}
 use Rattle.dwz_flat.proofs.TopThere.{left_behind}
 use Rattle.dwz_flat.proofs.TreeLemmas.{no_more, parts}
 use Rattle.dwz_layout.specs.Lines.{Line, line, lines}
-use Rattle.dwz_resolve.proofs.RowLemmas.{below-length}
-use Rattle.dwz_seen.specs.Lists.{Each}
 use Rattle.dwz_seen.proofs.Members.{each_split}
 use Rattle.dwz_unit.specs.Rows.{EntryRow, rows_below, rows_of}
+use Rattle.dwz_unit.proofs.RowLemmas.{shown-length}
 use Rattle.dwz_writing.specs.Placing.{Fit, Holder}
 use Rattle.dwz_places.specs.declared.known.Known.{Known}
 use Rattle.dwz_places.specs.declared.known.Row.{Row}
@@ -30,7 +29,7 @@ use Rattle.dwz_pages.specs.Shown.{HeldLine, Keys, line_held, slot_held}
 use Rattle.dwz_fitted.specs.Knows.{FileRead, IsRead, KnowsFile, KnowsOrigin, KnowsRow, KnowsSlots, NewNumbers, ShowsRow, ShowsTree, given_line}
 use Rattle.dwz_fitted.proofs.EntryFits.{row_there, slot_fits}
 
-row_slots-append : (file depth base i : ℕ) (xs ys : List EntryRow) → row_slots file depth base i (xs ++ ys) ≡ row_slots file depth base i xs ++ row_slots file depth base (i + length xs) ys
+pub row_slots-append : (file depth base i : ℕ) (xs ys : List EntryRow) → row_slots file depth base i (xs ++ ys) ≡ row_slots file depth base i xs ++ row_slots file depth base (i + length xs) ys
 unfolding row_slots
 row_slots-append file depth base i [] ys = ap (λ (n : ℕ). row_slots file depth base n ys) (let e : i ≡ i + 0 = omega arith in e)
 row_slots-append file depth base i (x ∷ xs) ys =
@@ -72,10 +71,10 @@ module _ (keys : Keys Spot) (k : Known) (f : FileRead) (here : Here) (ft : Fit S
         let inside = rows_below c un (first_below p) in
         let others = rows_below n un (behind p c) in
         let deep = depth + (p.depth - base) in
-        let at = first_of (rows_of f.raw) p.before r ((inside ++ others) ++ rest) found in
+        let at = drop_first (rows_of f.raw) p.before r ((inside ++ others) ++ rest) found in
         let read : IsRead f p.before r x.d = record { unit = u; found = at.0; is_unit = is_unit; means = x.node } in
         let below : drop (first_below p).before (rows_of f.raw) ≡ inside ++ (others ++ rest) = at.1 ∙ append_assoc inside others rest in
-        let many = below-length c un (first_below p) in
+        let many = shown-length c un (first_below p) in
         let later = left_behind (rows_of f.raw) (first_below p).before (behind p c).before inside (others ++ rest) below (omega (arith, many)) in
         let one : suc p.before ≡ (first_below p).before = omega arith in
         let two : suc p.before + length inside ≡ (behind p c).before = omega (arith, many) in
@@ -108,7 +107,7 @@ module _ (keys : Keys Spot) (k : Known) (f : FileRead) (here : Here) (ft : Fit S
       let x : EntryRow = record { entry = t.e; unit = t.number; depth = p.depth; end = (behind p t.c).before } in
       let inside = rows_below t.c t.number (first_below p) in
       let stand : drop p.before (rows_of f.raw) ≡ x ∷ (inside ++ t.behind) = t.stand ∙ ap (λ (w : List EntryRow). w ++ t.behind) (first_row t.e t.c t.number p) in
-      let at = first_of (rows_of f.raw) p.before x (inside ++ t.behind) stand in
+      let at = drop_first (rows_of f.raw) p.before x (inside ++ t.behind) stand in
       let s = scope_of f.around t.unit in
       let y = parts s t.e t.c End (Entry t.d t.g End) t.means in
       let whole : Entry y.d y.below y.next ≡ Entry t.d t.g End = y.is in
@@ -116,7 +115,7 @@ module _ (keys : Keys Spot) (k : Known) (f : FileRead) (here : Here) (ft : Fit S
       let g_is : y.below ≡ t.g = cc in
       let read : IsRead f p.before x y.d = record { unit = t.unit; found = at.0; is_unit = t.is_unit; means = y.node } in
       let there : row_at k top ≡ Some x = row_there keys k f here ft rn h here_is fit_is p.before x y.d file read in
-      let many = below-length t.c t.number (first_below p) in
+      let many = shown-length t.c t.number (first_below p) in
       let one : (first_below p).before ≡ suc p.before = omega arith in
       let count : (behind p t.c).before - suc p.before ≡ length inside = omega (arith, many) in
       let range : slice_range (rows_in k f.number) (suc p.before) (behind p t.c).before ≡ inside =

@@ -1,31 +1,24 @@
 -- The values of the rows of units that bytes spell are stored there: declaration by declaration, entry by entry, unit by unit.
-use Rattle.std.proofs.Common.{◌≡◌, ℕ, zero, suc, ◌+◌, ◌∙◌, Bool, true, false, List, [], ◌∷◌, ◌++◌, ◌==◌, length, None, Some, slice_get, refl, sym, subst, cond, eqb}
+use Rattle.std.proofs.Common.{◌≡◌, ℕ, zero, suc, ◌+◌, ◌∙◌, Bool, true, false, List, [], ◌∷◌, ◌++◌, ◌==◌, length, Some, slice_get, refl, sym, subst, cond, eqb}
 use Rattle.std.proofs.lemmas.Bool.{eqb-false}
 use Rattle.dwz_codes.specs.Forms.{form_rows}
 use Rattle.dwz_codes.specs.Rows.{RowView}
-use Rattle.dwz_docs.specs.Abbrevs.{Declaration, EndsPairs, EndsTable, IsDeclared, IsPair, SpellsPair, SpellsTable, find_decl}
+use Rattle.dwz_docs.specs.Abbrevs.{Declaration, EndsTable, IsDeclared, SpellsTable, find_decl}
 use Rattle.dwz_docs.specs.Entries.{Mode, RawAttr, RawEntry, SpellsAttrs, SpellsEntry, SpellsFront, UnitContext, own_forms}
-use Rattle.dwz_docs.specs.Lists.{SpellsItems}
+use Rattle.dwz_docs.specs.Lists.{Each, SpellsItems}
 use Rattle.dwz_docs.specs.Trees.{End, Entry, Forest, IfChildren, Position, SpellsForest, behind, first_below}
 use Rattle.dwz_docs.specs.Units.{RawUnit, SpellsUnit, SpellsUnits}
 use Rattle.dwz_docs.specs.Values.{AreBytes, SpellsValue}
 use Rattle.dwz_docs.proofs.WrittenLemmas.{front_bytes}
 use Rattle.dwz_meanings.specs.Meanings.{without_siblings}
+use Rattle.dwz_meanings.proofs.StandLemmas.{bytes_right}
 use Rattle.dwz_model.specs.declared.place.Pair.{Pair}
-use Rattle.dwz_seen.specs.Lists.{Each}
 use Rattle.dwz_seen.proofs.Members.{each_append}
 use Rattle.dwz_unit.specs.Rows.{EntryRow, rows_below, rows_from, rows_in, rows_of}
 use Rattle.dwz_writing.specs.Carried.{IsStored}
-use Rattle.dwz_writing.proofs.ReadAgain.{back_bytes}
+use Rattle.dwz_writing.proofs.ReadAgain.{HasPair, have_pairs}
 
 -- ---- declarations
-
-abbrev HasPair : Pair → Type 0
-HasPair pair = (bytes : List ℕ) × SpellsPair bytes pair
-
-have_pairs : (pairs earlier : List Pair) (bytes : List ℕ) → SpellsItems IsPair EndsPairs earlier pairs bytes → Each HasPair pairs
-have_pairs [] earlier bytes is = tt
-have_pairs (p ∷ pairs) earlier bytes is = ((is.front, is.first), have_pairs pairs (earlier ++ p ∷ []) is.back is.second)
 
 found_pairs : (table earlier : List Declaration) (bytes : List ℕ) (code : ℕ) (d : Declaration) → SpellsItems IsDeclared EndsTable earlier table bytes → find_decl table code ≡ Some d
     → Each HasPair d.pairs
@@ -57,7 +50,7 @@ are_stored (p ∷ pairs) (a ∷ attrs) start bytes is have are =
     let same = is.first.same in
     stored_if a (without_siblings attrs) (eqb a.pair.name 0x01) refl (subst HasPair (sym same) have.0) is.first_bytes (front_bytes is.first_bytes is.second_bytes all)
     (subst (λ (q : Pair). SpellsValue form_rows q is.first_bytes a.raw) (sym same) is.first.value)
-    (are_stored pairs attrs (start + length is.first_bytes) is.second_bytes is.second have.1 (back_bytes is.first_bytes is.second_bytes all))
+    (are_stored pairs attrs (start + length is.first_bytes) is.second_bytes is.second have.1 (bytes_right is.first_bytes is.second_bytes all))
 
 -- ---- entries
 
@@ -72,7 +65,7 @@ module _ (c : UnitContext) (forms : c.mode.forms ≡ own_forms) (table_bytes : L
       let pairs = found_pairs c.table [] table_bytes code.code is.decl table code.declared in
       let all = subst AreBytes parts.parts are in
       let values = subst (λ (f : ℕ → Bool → List RowView). SpellsAttrs (f c.root_tag (p.depth == 1)) is.decl.pairs e.attrs (start + length parts.first_bytes) parts.second_bytes) forms parts.second in
-      are_stored is.decl.pairs e.attrs (start + length parts.first_bytes) parts.second_bytes values pairs (back_bytes parts.first_bytes parts.second_bytes all)
+      are_stored is.decl.pairs e.attrs (start + length parts.first_bytes) parts.second_bytes values pairs (bytes_right parts.first_bytes parts.second_bytes all)
 
   if_stored : (flag : Bool) (f : Forest RawEntry) (unit : ℕ) (q : Position) (b : List ℕ) (Spelled : Type 0) → IfChildren flag f Spelled b → (Spelled → Each RowStored (rows_below f unit q))
       → Each RowStored (rows_below f unit q)
@@ -86,12 +79,12 @@ module _ (c : UnitContext) (forms : c.mode.forms ≡ own_forms) (table_bytes : L
   forest_stored End unit q p start bytes is are = tt
   forest_stored (Entry e children next) unit q p start bytes is are =
       let all = subst AreBytes is.parts are in
-      let rest = back_bytes is.first_bytes (is.second_bytes ++ is.third_bytes) all in (
+      let rest = bytes_right is.first_bytes (is.second_bytes ++ is.third_bytes) all in (
         entry_stored p e start is.first_bytes is.first (front_bytes is.first_bytes _ all),
         each_append RowStored (rows_below children unit (first_below q)) (rows_below next unit (behind q children))
             (if_stored e.children children unit (first_below q) is.second_bytes _ is.second (λ s. forest_stored children unit (first_below q) _ _ is.second_bytes s (front_bytes is.second_bytes
             is.third_bytes rest)))
-            (forest_stored next unit (behind q children) _ _ is.third_bytes is.third (back_bytes is.second_bytes is.third_bytes rest)),
+            (forest_stored next unit (behind q children) _ _ is.third_bytes is.third (bytes_right is.second_bytes is.third_bytes rest)),
       )
 
 -- ---- units
@@ -104,13 +97,13 @@ module _ (abbrevs : List ℕ) (mode : Mode) (forms : mode.forms ≡ own_forms) w
       let its = is.is_context in
       let same_forms : c.mode.forms ≡ own_forms = (λ i. (let m : Mode = its.same_mode i in m.forms)) ∙ forms in
       let parts = subst AreBytes is.parts are in
-      let tree = front_bytes is.tree is.padding (back_bytes is.header (is.tree ++ is.padding) parts) in
+      let tree = front_bytes is.tree is.padding (bytes_right is.header (is.tree ++ is.padding) parts) in
       let t = is.is_tree in
       let in_tree = subst AreBytes t.parts tree in (
         entry_stored c same_forms its.stands.front its.stands.spelled _ u.root _ t.first_bytes t.first (front_bytes t.first_bytes t.second_bytes in_tree),
         each_append RowStored (rows_below u.below number _) []
             (if_stored c same_forms its.stands.front its.stands.spelled u.root.children u.below number _ t.second_bytes _ t.second
-            (λ s. forest_stored c same_forms its.stands.front its.stands.spelled u.below number _ _ _ t.second_bytes s (back_bytes t.first_bytes t.second_bytes in_tree)))
+            (λ s. forest_stored c same_forms its.stands.front its.stands.spelled u.below number _ _ _ t.second_bytes s (bytes_right t.first_bytes t.second_bytes in_tree)))
             tt,
       )
 
@@ -121,7 +114,7 @@ module _ (abbrevs : List ℕ) (mode : Mode) (forms : mode.forms ≡ own_forms) w
       let parts = subst AreBytes is.parts are in
       each_append RowStored (rows_in u number at) (rows_from raw (number + 1) _)
       (unit_stored u number at before start is.first_bytes is.first (front_bytes is.first_bytes is.second_bytes parts))
-      (units_stored raw (number + 1) _ _ _ is.second_bytes is.second (back_bytes is.first_bytes is.second_bytes parts))
+      (units_stored raw (number + 1) _ _ _ is.second_bytes is.second (bytes_right is.first_bytes is.second_bytes parts))
 
 each_at : (rows : List EntryRow) (i : ℕ) (r : EntryRow) → Each RowStored rows → slice_get rows i ≡ Some r → RowStored r
 each_at [] zero r all e = absurd cc

@@ -1,21 +1,17 @@
 -- What a file stores of a value: its name, form and constant, and a number or bytes, as the class of its form has it.
-use Rattle.std.proofs.Common.{◌≡◌, ℕ, ℤ, pos, Bool, true, false, List, [], refl, sym, ap, subst, ◌∙◌, cond, eqb, eqb-true}
+use Rattle.std.proofs.Common.{◌≡◌, ℤ, pos, Bool, true, false, [], refl, sym, ap, ◌∙◌, cond, eqb, eqb-true}
 use Rattle.std.specs.Prelude.{MatchBool}
 use Rattle.std.proofs.Math.Logic.{inl, inr}
 use Rattle.dwz_bytes.specs.Spelling.{SpellsSleb}
-use Rattle.dwz_codes.specs.Forms.{form_rows}
 use Rattle.dwz_docs.specs.Entries.{RawAttr}
-use Rattle.dwz_docs.specs.Values.{Bytes, Number, Raw, SpellsShape, SpellsValue, constant_of, shape_of, written_rows}
+use Rattle.dwz_docs.specs.Values.{Bytes, Number, SpellsValue, constant_of, shape_of, written_rows}
 use Rattle.dwz_docs.proofs.WrittenLemmas.{same_shape}
 use Rattle.dwz_meanings.specs.Meanings.{Class, bytes_of, class_of, class_rows, number_of}
 use Rattle.dwz_model.specs.declared.place.Pair.{Pair}
 use Rattle.dwz_writing.specs.Carried.{IsStored}
 use Rattle.dwz_writing.proofs.StoredClasses.{class_agrees, is_bytes, is_number, rows_agree, stores_bytes}
+use Rattle.dwz_writing.proofs.Carrying.{implicit_is}
 use Rattle.dwz_fitted.proofs.FormWays.{is_read}
-
-implicit_is : (form : ℕ) (number : ℤ) (bytes : List ℕ) (raw : Raw) → form ≡ 0x21 → SpellsShape (shape_of written_rows form) number bytes raw → raw ≡ Number number
-unfolding form_rows
-implicit_is form number bytes raw e is = (let is' = subst (λ (f : ℕ). SpellsShape (shape_of written_rows f) number bytes raw) e is in is'.value)
 
 module _ (a : RawAttr) (stored : IsStored a) where
   spelled_there : SpellsValue written_rows a.pair stored.bytes a.raw

@@ -1,11 +1,10 @@
 -- What is written of a unit is what the definition of forms says: item by item.
-use Rattle.std.proofs.Common.{◌≡◌, ◌⊎◌, ℕ, suc, ◌+◌, ◌-◌, Bool, true, false, List, [], ◌∷◌, ◌++◌, ◌==◌, map, pos, Option, Some, None, refl, sym, ap, subst, ◌∙◌, inl, inr}
+use Rattle.std.proofs.Common.{◌≡◌, ℕ, suc, ◌+◌, ◌-◌, Bool, true, false, List, [], ◌∷◌, ◌++◌, map, pos, Option, Some, None, refl, sym, ap, subst, ◌∙◌, inl, inr}
 use Rattle.std.proofs.lemmas.List.{map-append}
 use Rattle.dwz_docs.specs.Trees.{End, Entry}
 use Rattle.dwz_docs.specs.Values.{Number}
 use Rattle.dwz_meanings.specs.Documents.{Attr, Compile as CompileKind, DwUnit, Entries, Kind, Node, OfType as TypeKind, Partial as PartialKind, Plain, ref}
 use Rattle.dwz_meanings.specs.Meanings.{Class, OfInfoEntry, OfOffset, class_in, class_of, class_rows}
-use Rattle.dwz_alike.specs.Deciding.{same_bool}
 use Rattle.dwz_alike.specs.Spots.{Spot, name_of}
 use Rattle.dwz_layout.specs.declared.order.Item.{Item}
 use Rattle.dwz_layout.specs.declared.order.What.{What}
@@ -13,11 +12,11 @@ use Rattle.dwz_layout.specs.declared.order.What.TheVariants.{Import, InChain, Ro
 use Rattle.dwz_layout.specs.Lines.{Line, line, lines, unit_lines}
 use Rattle.dwz_layout.specs.Order.{Names, ShowsUnit as ShowsOrder, order_lines, what_lines}
 use Rattle.dwz_moving.specs.Moves.{line_attr}
-use Rattle.dwz_seen.specs.Lists.{Each}
+use Rattle.dwz_docs.specs.Lists.{Each}
 use Rattle.dwz_seen.proofs.Members.{each_split}
 use Rattle.dwz_seen.specs.Spaces.{space_text}
 use Rattle.dwz_unit.specs.Rows.{EntryRow}
-use Rattle.dwz_writing.specs.Placing.{CommonUnit, FileFit, Fit, Holder, NewUnit, OldUnit, as_read, fit, fit_as, fit_attr, fit_node, holder_of, has_key, reach_by, ref_form, unit_fit}
+use Rattle.dwz_writing.specs.Placing.{FileFit, Fit, Holder, as_read, fit, fit_as, fit_attr, fit_node, holder_of, has_key, reach_by, ref_form, unit_fit}
 use Rattle.dwz_writing.specs.Pruned.{renumbered, renumbered_attr, renumbered_node}
 use Rattle.dwz_places.specs.declared.known.Known.{Known}
 use Rattle.dwz_places.specs.declared.known.Row.{Row}
@@ -33,7 +32,8 @@ use Rattle.dwz_places.specs.Entries.{items_slots, root_of, row, slot, tree_slots
 use Rattle.dwz_places.specs.Known.{number_of, space_at, text_held, top_row, unit_of_part}
 use Rattle.dwz_pages.specs.Shown.{HasRow, HeldAttr, HeldLine, IsRow, Key, Keys, ShowsUnit, Value, SortShows, attr_held, held_of, line_held, slot_held}
 use Rattle.dwz_fitted.specs.Fitted.{given_unit}
-use Rattle.dwz_fitted.specs.Knows.{FileRead, IsRead, IsText, KnowsFile, KnowsIn, KnowsOrigin, KnowsSlots, KnowsUnit, NewNumbers, OfSome, ShowsChained, ShowsImport, ShowsLine, ShowsRoot, ShowsRow, ShowsTree, ShowsWhat, ShowsWhole, Writes, given_attr, given_line, given_node, name_attr}
+use Rattle.dwz_fitted.specs.Knows.{FileRead, IsRead, IsText, KnowsFile, KnowsIn, KnowsOrigin, KnowsSlots, KnowsUnit, NewNumbers, OfSome, ShowsChained, ShowsImport, ShowsLine, ShowsRoot, ShowsRow}
+use Rattle.dwz_fitted.specs.Knows.{ShowsTree, ShowsWhat, ShowsWhole, Writes, given_attr, given_line, given_node, name_attr}
 use Rattle.dwz_fitted.proofs.NameFits.{space_fits}
 use Rattle.dwz_fitted.proofs.RowFits.{row_fits, tree_fits}
 use Rattle.dwz_fitted.proofs.ValueFits.{entry_held, other_given, reference_form}
@@ -236,7 +236,7 @@ root_given : (keys : Keys Spot) (ff : FileFit Spot) (rn : NewNumbers) (here : �
 root_given keys ff None here u e = e
 root_given keys ff (Some number) here u e = e
 
-same_holder : (keys : Keys Spot) (b : Bool) (sort : Sort) (kind : Kind Spot) → SortShows keys sort kind → holder_of b kind ≡ holder_by b sort
+pub same_holder : (keys : Keys Spot) (b : Bool) (sort : Sort) (kind : Kind Spot) → SortShows keys sort kind → holder_of b kind ≡ holder_by b sort
 same_holder keys true sort kind shows = refl
 same_holder keys false (Compile root) CompileKind shows = refl
 same_holder keys false (Compile root) (TypeKind signature main) shows = absurd shows

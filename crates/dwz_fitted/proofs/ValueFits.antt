@@ -5,16 +5,18 @@ use Rattle.dwz_bytes.specs.Spelling.{reach}
 use Rattle.dwz_docs.specs.Entries.{RawAttr}
 use Rattle.dwz_docs.specs.Values.{Bytes, Number, Raw}
 use Rattle.dwz_meanings.specs.declared.exprs.Operand.{Operand}
-use Rattle.dwz_meanings.specs.Documents.{Attr, Expr, Part, Plain, Sec, Value, attr_map, only, ref}
-use Rattle.dwz_meanings.specs.Exprs.{Expression, any_operands, expr_at, parts_of}
-use Rattle.dwz_meanings.specs.Meanings.{Class, IfSo, IsExpression, IsFileBy, IsLocList, MeansAs, OfAddress, OfBlock, OfCommonEntry, OfCommonText, OfConstant, OfExpression, OfFlag, OfIndex, OfInfoEntry, OfListIndex, OfOffset, OfSignature, OfText, OfTextBySlot, OfTextInLineStr, OfTextInStr, OfUnitEntry, Scope, Unread, attr_with, bytes_of, class_in, class_of, class_rows, constant_value, content_at, expr_context, meaning, names_file, names_list, number_of, offset_of, stmt_list, target_of, targets}
+use Rattle.dwz_meanings.specs.Documents.{Attr, Expr, Part, Sec, Value, attr_map, only, ref}
+use Rattle.dwz_meanings.specs.Exprs.{parts_of}
+use Rattle.dwz_meanings.specs.Meanings.{Class, IfSo, IsExpression, IsFileBy, IsLocList, MeansAs, OfAddress, OfBlock, OfCommonEntry, OfCommonText, OfConstant, OfExpression, OfFlag, OfIndex}
+use Rattle.dwz_meanings.specs.Meanings.{OfInfoEntry, OfListIndex, OfOffset, OfSignature, OfText, OfTextBySlot, OfTextInLineStr, OfTextInStr, OfUnitEntry, Scope, Unread, attr_with, bytes_of, class_in}
+use Rattle.dwz_meanings.specs.Meanings.{class_of, class_rows, constant_value, content_at, expr_context, meaning, names_file, names_list, number_of, offset_of, stmt_list, target_of, targets}
 use Rattle.dwz_meanings.proofs.MeaningLemmas.{value_agrees}
 use Rattle.dwz_model.specs.declared.place.Pair.{Pair}
-use Rattle.dwz_alike.specs.Deciding.{same_bool}
 use Rattle.dwz_alike.specs.Spots.{Spot}
 use Rattle.dwz_resolve.specs.Named.{value_refs}
 use Rattle.dwz_writing.specs.Carried.{IsStored}
-use Rattle.dwz_writing.specs.Placing.{Chosen, CommonUnit, Fit, Holder, InCommon, InFile, InUnit, NewUnit, OldUnit, Reach, as_constant, as_entry, as_file, as_read, as_line_text, as_slot, file_number, fit_as, fit_attr, has_key, reach_by, reach_of, ref_form, with_form, zeros}
+use Rattle.dwz_writing.specs.Placing.{Chosen, CommonUnit, Fit, Holder, InCommon, InFile, InUnit, NewUnit, OldUnit, Reach, as_constant, as_entry, as_file, as_read, as_line_text, as_slot, file_number}
+use Rattle.dwz_writing.specs.Placing.{fit_as, fit_attr, has_key, reach_by, reach_of, ref_form, with_form}
 use Rattle.dwz_writing.specs.Writing.{block_in, pair_of, text_in}
 use Rattle.dwz_writing.proofs.StoredClasses.{expression_form, stores_bytes}
 use Rattle.dwz_places.specs.declared.known.Firsts.{Firsts}
@@ -23,13 +25,14 @@ use Rattle.dwz_places.specs.declared.known.TextAt.{TextAt}
 use Rattle.dwz_places.specs.declared.known.TextAt.TheVariants.{Own, Pooled, Shared}
 use Rattle.dwz_places.specs.declared.ways.Way.{Way}
 use Rattle.dwz_places.specs.declared.ways.Way.TheVariants.{AsEntry, AsExpression, AsFile, AsRead, AsText, KeepsText}
-use Rattle.dwz_places.specs.Attributes.{Here, OutAttr, after, after_by, entry_attr, expr_attr, expr_parts, file_attr, form_to, is_common, operand_count, out_attr, out_by, parts_or, plain_pair, read_attr, references_from, text_attr}
+use Rattle.dwz_places.specs.Attributes.{Here, after, after_by, expr_parts, form_to, operand_count, out_attr, out_by, parts_or, plain_pair}
+use Rattle.dwz_places.specs.Attributes.{read_attr, references_from}
 use Rattle.dwz_places.specs.Known.{file_at, owner_of, reference_at, text_at}
 use Rattle.dwz_places.specs.Ways.{if_file, way_of}
 use Rattle.dwz_places.proofs.PartLemmas.{count_from}
 use Rattle.dwz_pages.specs.Shown.{Held, HeldAttr, Key, Keys, Parts, Value as ValueHeld, attr_held, held_as, held_of}
 use Rattle.dwz_fitted.specs.Knows.{EachFrom, FileRead, IsNamed, IsReached, IsText, NewNumbers, chosen_of, given_attr, is_placed, numbers_by, renumbered_if, text_chosen}
-use Rattle.dwz_fitted.proofs.FormWays.{class_way, is_file, is_read, line_way, number_way, slot_way, way_is, way_of_class}
+use Rattle.dwz_fitted.proofs.FormWays.{is_file, is_read, line_way, number_way, slot_way, way_is, way_of_class}
 use Rattle.dwz_fitted.proofs.StoredLemmas.{raw_bytes, raw_number, same_pair}
 use Rattle.dwz_fitted.proofs.WeakerLemmas.{read_any}
 

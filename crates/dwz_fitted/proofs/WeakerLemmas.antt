@@ -1,7 +1,8 @@
 -- An expression whose operands name entries is one where nothing is asked of operands: what is asked of them is dropped, level by level.
 use Rattle.std.proofs.Common.{◌≡◌, ℕ, zero, suc, true, List, [], ◌∷◌, Ok, refl}
 use Rattle.dwz_meanings.specs.declared.exprs.Operand.{Operand}
-use Rattle.dwz_meanings.specs.Exprs.{AreNamed, Counted, Entry4, EntryOrGeneric, EntryUleb, ExprContext, Expression, Field, Found, Inside, Located, LocatedBy, Run, Signed, Sized, SpellsExpr, SpellsField, SpellsFields, SpellsOp, SpellsWithin, Unsigned, any_operands, expr_at, most_inside, operands_in}
+use Rattle.dwz_meanings.specs.Exprs.{AreNamed, Counted, Entry4, EntryOrGeneric, EntryUleb, ExprContext, Expression, Field, Found, Inside, Located, LocatedBy, Run, Signed, Sized, SpellsExpr}
+use Rattle.dwz_meanings.specs.Exprs.{SpellsField, SpellsFields, SpellsOp, SpellsWithin, Unsigned, any_operands, expr_at, most_inside, operands_in}
 use Rattle.dwz_meanings.specs.Sequences.{Spelling, SpellsAll}
 use Rattle.dwz_meanings.proofs.ExprLemmas.{expr_agrees}
 

@@ -1,10 +1,10 @@
 -- What is written of units is what the definition of forms says.
-use Rattle.std.specs.Prelude.{◌≡◌, ℕ, suc, ◌+◌, List, [], ◌∷◌, Option, None, Some, length, map, slice_get}
+use Rattle.std.specs.Prelude.{◌≡◌, ℕ, suc, ◌+◌, List, [], ◌∷◌, None, Some, length, map, slice_get}
 use Rattle.dwz_docs.specs.Entries.{Mode, own_forms}
 use Rattle.dwz_docs.specs.Units.{RawUnit, SpellsUnits}
 use Rattle.dwz_docs.specs.Values.{AreBytes}
 use Rattle.dwz_meanings.specs.Meanings.{without_siblings}
-use Rattle.dwz_seen.specs.Lists.{Each}
+use Rattle.dwz_docs.specs.Lists.{Each}
 use Rattle.dwz_seen.specs.Shown.{units_keys}
 use Rattle.dwz_writing.specs.Carried.{IsStored}
 use Rattle.dwz_meanings.specs.Documents.{DwUnit, Entries, Node, entries_map, node_map}

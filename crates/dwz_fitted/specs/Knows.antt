@@ -1,5 +1,6 @@
 -- What the lists of `Known` have to show of the files that were read, and of a unit that is written, once entries have names.
-use Rattle.std.specs.Prelude.{◌≡◌, ◌⊎◌, ℕ, pos, ◌+◌, ◌-◌, Bool, true, false, List, [], ◌∷◌, ◌++◌, Ok, Option, Some, None, ◌==◌, drop, map, slice_get}
+use Rattle.std.specs.Prelude.{◌≡◌, ◌⊎◌, ℕ, pos, ◌+◌, ◌-◌, Bool, true, false, List, [], ◌∷◌, ◌++◌, Ok, Option, Some, None, ◌==◌, drop, map}
+use Rattle.std.specs.Prelude.{slice_get}
 use Rattle.std.specs.List.{filter}
 use Rattle.dwz_docs.specs.Entries.{RawEntry}
 use Rattle.dwz_docs.specs.Trees.{End, Entry, Forest, Position}
@@ -9,12 +10,13 @@ use Rattle.dwz_layout.specs.declared.order.What.TheVariants.{Import, InChain, Ro
 use Rattle.dwz_layout.specs.Lines.{Line, line}
 use Rattle.dwz_layout.specs.Order.{Names}
 use Rattle.dwz_meanings.specs.Documents.{Attr, Entries, Node, Plain, Text, entries_map, node_map, only, ref}
-use Rattle.dwz_meanings.specs.Meanings.{Around, Class, OfConstant, OfTextBySlot, OfTextInLineStr, OfTextInStr, class_of, entries_meaning, names_file, node_meaning, scope_of, without_siblings}
+use Rattle.dwz_meanings.specs.Meanings.{Around, Class, OfConstant, OfTextBySlot, OfTextInLineStr, OfTextInStr, class_of, entries_meaning}
+use Rattle.dwz_meanings.specs.Meanings.{names_file, node_meaning, scope_of, without_siblings}
 use Rattle.dwz_alike.specs.Deciding.{same_bool}
 use Rattle.dwz_alike.specs.Spots.{SpaceName, Spot, name_of}
 use Rattle.dwz_flat.specs.Rows.{node_refs}
 use Rattle.dwz_moving.specs.Moves.{line_attr}
-use Rattle.dwz_seen.specs.Lists.{Each}
+use Rattle.dwz_docs.specs.Lists.{Each}
 use Rattle.dwz_seen.specs.Spaces.{space_text}
 use Rattle.dwz_unit.specs.Rows.{EntryRow, rows_below, rows_of}
 use Rattle.dwz_writing.specs.Carried.{IsStored}
@@ -34,7 +36,8 @@ use Rattle.dwz_places.specs.declared.walk.Slot.{Slot}
 use Rattle.dwz_places.specs.declared.ways.Way.TheVariants.{AsText}
 use Rattle.dwz_places.specs.Attributes.{is_common, plain_pair, text_form, text_offset}
 use Rattle.dwz_places.specs.Entries.{items_slots, row}
-use Rattle.dwz_places.specs.Known.{file_at, firsts_of, number_of, owner_of, reference_at, rows_in, space_at, text_at, text_held, top_row, unit_of_part}
+use Rattle.dwz_places.specs.Known.{file_at, firsts_of, number_of, owner_of, reference_at, rows_in, space_at, text_at, text_held, top_row}
+use Rattle.dwz_places.specs.Known.{unit_of_part}
 use Rattle.dwz_places.specs.Ways.{way_of}
 use Rattle.dwz_pages.specs.Shown.{HasRow, Keys}
 

@@ -8,16 +8,15 @@ use Rattle.dwz_docs.specs.Lists.{In}
 use Rattle.dwz_docs.specs.Trees.{behind, first_below}
 use Rattle.dwz_docs.specs.Units.{RawUnit, entry_count}
 use Rattle.dwz_docs.proofs.PartLemmas.{bind_ok}
-use Rattle.dwz_seen.proofs.Members.{in_cases}
+use Rattle.dwz_docs.proofs.ListFacts.{drop_first, in_cases}
 use Rattle.dwz_alike.specs.Spots.{Spot, Top, in_file, named, row_below, row_in, row_tops, spot_in, spots_from, top_count, tops_from}
 use Rattle.dwz_alike.proofs.RowLemmas.{row_is, row_unit}
 use Rattle.dwz_flat.specs.Tops.{HasTop, HasTopOfFile}
-use Rattle.dwz_flat.proofs.StepLemmas.{first_of}
 use Rattle.dwz_flat.proofs.TopThere.{has_language, has_top, left_behind}
 use Rattle.dwz_meanings.specs.Documents.{Attr, Compile, DwUnit, Entries, Kind, OfType, Partial, attr_map, entries_map, first_named, kind_map, language, number_of_attr, unit_map}
 use Rattle.dwz_meanings.specs.Meanings.{Around, entries_meaning, kind_meaning, node_meaning, scope_of, unit_meaning, unit_with, units_meaning, with_units}
-use Rattle.dwz_resolve.proofs.RowLemmas.{in-length}
 use Rattle.dwz_unit.specs.Rows.{EntryRow, rows_below, rows_from, rows_in, rows_of}
+use Rattle.dwz_unit.proofs.ShownLemmas.{rows_in-length}
 
 -- ---- what a unit means
 
@@ -55,7 +54,8 @@ number_same : (name : ℕ → Spot) (attrs : List (Attr ℕ)) → number_of_attr
 unfolding first_named
 number_same name [] = refl
 number_same name (a ∷ attrs) = go (number_same name attrs) (a.name == 0x13) where
-  go : number_of_attr (first_named 0x13 (map (attr_map name) attrs)) ≡ number_of_attr (first_named 0x13 attrs) → (b : Bool) → number_of_attr (if b then Some (attr_map name a) else first_named 0x13 (map (attr_map name) attrs)) ≡ number_of_attr (if b then Some a else first_named 0x13 attrs)
+  go : number_of_attr (first_named 0x13 (map (attr_map name) attrs)) ≡ number_of_attr (first_named 0x13 attrs) → (b : Bool)
+      → number_of_attr (if b then Some (attr_map name a) else first_named 0x13 (map (attr_map name) attrs)) ≡ number_of_attr (if b then Some a else first_named 0x13 attrs)
   go more true = refl
   go more false = more
 
@@ -64,18 +64,20 @@ language_same name v = number_same name v.root.attrs
 
 -- ---- the rows of a unit
 
-below_root : (u : RawUnit) (k before : ℕ) (rows rest : List EntryRow) → drop before rows ≡ rows_in u k before ++ rest → drop (first_below (root_position before)).before rows ≡ rows_below u.below k (first_below (root_position before)) ++ rest
+below_root : (u : RawUnit) (k before : ℕ) (rows rest : List EntryRow) → drop before rows ≡ rows_in u k before ++ rest → drop (first_below (root_position before)).before rows
+    ≡ rows_below u.below k (first_below (root_position before)) ++ rest
 unfolding rows_below
 below_root u k before rows rest h =
     let p = root_position before in
     let row : EntryRow = record { entry = u.root; unit = k; depth = p.depth; end = (behind p u.below).before } in
-    let f = first_of rows before row ((rows_below u.below k (first_below p) ++ []) ++ rest) h in
+    let f = drop_first rows before row ((rows_below u.below k (first_below p) ++ []) ++ rest) h in
     f.1 ∙ ap (λ (w : List EntryRow). w ++ rest) (append-nil (rows_below u.below k (first_below p)))
 
 -- ---- unit by unit
 
 module _ (around : Around ℕ) (name : ℕ → Spot) (raw : List RawUnit) (units : List (DwUnit ℕ)) (file first : ℕ) where
-  in_unit : (u : RawUnit) (v : DwUnit ℕ) (n m top before : ℕ) (rest : List EntryRow) (t : Top) → slice_get raw n ≡ Some u → slice_get units n ≡ Some v → unit_meaning around u ≡ Ok v → m ≡ first + n → drop before (rows_of raw) ≡ rows_in u n before ++ rest
+  in_unit : (u : RawUnit) (v : DwUnit ℕ) (n m top before : ℕ) (rest : List EntryRow) (t : Top) → slice_get raw n ≡ Some u → slice_get units n ≡ Some v → unit_meaning around u ≡ Ok v → m ≡ first + n
+      → drop before (rows_of raw) ≡ rows_in u n before ++ rest
       → (kind : Kind ℕ) → In t (row_tops (row_below file m top (unit_map name v) (kind_map name kind))) → HasTopOfFile around name raw units file first t
   unfolding row_tops
   in_unit u v n m top before rest t is_unit is_meant means number rows Compile is =
@@ -98,7 +100,8 @@ module _ (around : Around ℕ) (name : ℕ → Spot) (raw : List RawUnit) (units
   in_unit u v n m top before rest t is_unit is_meant means number rows (OfType signature main) is = absurd is
   in_unit u v n m top before rest t is_unit is_meant means number rows Partial is = absurd is
 
-  from_unit : (us : List RawUnit) (vs : List (DwUnit ℕ)) (n m top before : ℕ) (t : Top) → units_meaning around us ≡ Ok vs → drop n raw ≡ us → drop n units ≡ vs → m ≡ first + n → drop before (rows_of raw) ≡ rows_from us n before
+  from_unit : (us : List RawUnit) (vs : List (DwUnit ℕ)) (n m top before : ℕ) (t : Top) → units_meaning around us ≡ Ok vs → drop n raw ≡ us → drop n units ≡ vs → m ≡ first + n
+      → drop before (rows_of raw) ≡ rows_from us n before
       → In t (tops_from m top (map (in_file file) (map (unit_map name) vs))) → HasTopOfFile around name raw units file first t
   unfolding tops_from rows_from
   from_unit [] vs n m top before t means at_raw at_units number rows is =
@@ -106,15 +109,18 @@ module _ (around : Around ℕ) (name : ℕ → Spot) (raw : List RawUnit) (units
   from_unit (u ∷ us) vs n m top before t means at_raw at_units number rows is =
       let x = first_unit around u us vs means in
       let v = x.v in
-      let fu = first_of raw n u us at_raw in
-      let fv = first_of units n v x.others (at_units ∙ sym x.is) in
+      let fu = drop_first raw n u us at_raw in
+      let fv = drop_first units n v x.others (at_units ∙ sym x.is) in
       let rest = rows_from us (n + 1) (before + entry_count u) in
       let both = subst (λ (w : List (DwUnit ℕ)). In t (tops_from m top (map (in_file file) (map (unit_map name) w)))) (sym x.is) is in
-      elim (in_cases t (row_tops (row_below file m top (unit_map name v) (kind_map name v.kind))) (tops_from (suc m) (top + top_count (kind_map name v.kind) (entries_map name v.below)) (map (in_file file) (map (unit_map name) x.others))) both) [
+      elim (in_cases t (row_tops (row_below file m top (unit_map name v) (kind_map name v.kind)))
+      (tops_from (suc m) (top + top_count (kind_map name v.kind) (entries_map name v.below)) (map (in_file file) (map (unit_map name) x.others))) both) [
         | inl a ↦ in_unit u v n m top before rest t fu.0 fv.0 x.means number rows v.kind a
-        | inr b ↦ from_unit us x.others (n + 1) (suc m) (top + top_count (kind_map name v.kind) (entries_map name v.below)) (before + entry_count u) t x.rest fu.1 fv.1 (omega (arith, number)) (left_behind (rows_of raw) before (before + entry_count u) (rows_in u n before) rest rows (ap (λ (k : ℕ). before + k) (in-length u n before))) b
+        | inr b ↦ from_unit us x.others (n + 1) (suc m) (top + top_count (kind_map name v.kind) (entries_map name v.below)) (before + entry_count u) t x.rest fu.1 fv.1 (omega (arith, number))
+            (left_behind (rows_of raw) before (before + entry_count u) (rows_in u n before) rest rows (ap (λ (k : ℕ). before + k) (rows_in-length u n before))) b
       ]
 
-pub file_top : (around : Around ℕ) (raw : List RawUnit) (units : List (DwUnit ℕ)) (file unit top : ℕ) (t : Top) → units_meaning around raw ≡ Ok units → In t (tops_from unit top (map (in_file file) (named unit top units))) → HasTopOfFile around (spot_in (spots_from unit top units)) raw units file unit t
+pub file_top : (around : Around ℕ) (raw : List RawUnit) (units : List (DwUnit ℕ)) (file unit top : ℕ) (t : Top) → units_meaning around raw ≡ Ok units
+    → In t (tops_from unit top (map (in_file file) (named unit top units))) → HasTopOfFile around (spot_in (spots_from unit top units)) raw units file unit t
 file_top around raw units file unit top t means is =
     from_unit around (spot_in (spots_from unit top units)) raw units file unit raw units 0 unit top 0 t means refl refl (omega arith) refl is

@@ -1,10 +1,11 @@
 -- What is known of values and rows is known of those behind the first, with the numbers behind those that the first names.
-use Rattle.std.proofs.Common.{◌≡◌, ℕ, zero, suc, ◌+◌, ◌<◌, ◌≤◌, List, [], ◌∷◌, ◌++◌, length, drop, Some, slice_get, refl, sym, ap, subst, ◌∙◌, arith, ne_eqb, eq-eqb}
+use Rattle.std.proofs.Common.{◌≡◌, ℕ, ◌+◌, ◌<◌, ◌≤◌, List, [], ◌∷◌, ◌++◌, length, drop, refl, sym, ap, subst, ◌∙◌, arith, ne_eqb, eq-eqb}
 use Rattle.std.specs.Prelude.{if◌then◌else◌, Bool}
 use Rattle.dwz_bytes.specs.Reading.{◌>>=◌}
 use Rattle.dwz_docs.specs.Entries.{RawAttr}
 use Rattle.dwz_docs.specs.Units.{RawUnit}
 use Rattle.dwz_docs.proofs.PartLemmas.{bind_ok}
+use Rattle.dwz_docs.proofs.ListFacts.{drop_first}
 use Rattle.dwz_flat.specs.Rows.{AreAttrsMeant, AreRowsMeant, AreTargets, IsEntryMeant, NextAttr, NextRow, RowsMean, node_refs, nodes_refs}
 use Rattle.dwz_flat.proofs.TreeLemmas.{node_attrs}
 use Rattle.dwz_meanings.specs.Documents.{Attr, Node}
@@ -34,13 +35,15 @@ pub taken : (a : RawAttr) (values : List RawAttr) → (a.pair.name ≡ 0x01 → 
 unfolding without_siblings
 taken a values ne = ap (λ (b : Bool). if b then without_siblings values else a ∷ without_siblings values) (ne_eqb a.pair.name 0x01 ne)
 
-pub sibling : (raw : List RawUnit) (s : Scope ℕ) (numbers : List ℕ) (a : RawAttr) (values : List RawAttr) (attrs : List (Attr ℕ)) → a.pair.name ≡ 0x01 → AreAttrsMeant raw s numbers (a ∷ values) attrs → AreAttrsMeant raw s numbers values attrs
+pub sibling : (raw : List RawUnit) (s : Scope ℕ) (numbers : List ℕ) (a : RawAttr) (values : List RawAttr) (attrs : List (Attr ℕ)) → a.pair.name ≡ 0x01 → AreAttrsMeant raw s numbers (a ∷ values) attrs
+    → AreAttrsMeant raw s numbers values attrs
 sibling raw s numbers a values attrs e h = record {
   means = ap (attrs_meaning s) (sym (skipped a values e)) ∙ h.means;
   targets = h.targets;
 }
 
-pub value : (raw : List RawUnit) (s : Scope ℕ) (numbers : List ℕ) (a : RawAttr) (values : List RawAttr) (attrs : List (Attr ℕ)) → (a.pair.name ≡ 0x01 → ⊥) → AreAttrsMeant raw s numbers (a ∷ values) attrs → NextAttr raw s numbers a values attrs
+pub value : (raw : List RawUnit) (s : Scope ℕ) (numbers : List ℕ) (a : RawAttr) (values : List RawAttr) (attrs : List (Attr ℕ)) → (a.pair.name ≡ 0x01 → ⊥)
+    → AreAttrsMeant raw s numbers (a ∷ values) attrs → NextAttr raw s numbers a values attrs
 unfolding attrs_meaning
 value raw s numbers a values attrs ne h =
     let e = ap (attrs_meaning s) (sym (taken a values ne)) ∙ h.means in
@@ -66,20 +69,12 @@ entry raw s i numbers row d h = record { means = (node_attrs s row.entry d h.mea
 
 -- ---- rows
 
-pub first_of : {X : Type 0} (xs : List X) (i : ℕ) (x : X) (rest : List X) → drop i xs ≡ x ∷ rest → (slice_get xs i ≡ Some x) × (drop (i + 1) xs ≡ rest)
-first_of [] zero x rest e = absurd cc
-first_of [] (suc i) x rest e = absurd cc
-first_of {X} (y ∷ xs) zero x rest e = (let same : y ≡ x = cc in ap (λ (w : X). Some w) same, cc)
-first_of {X} (y ∷ xs) (suc i) x rest e =
-    let r = first_of xs i x rest e in
-    let one : suc i + 1 ≡ suc (i + 1) = omega arith in
-    (r.0, ap (λ (n : ℕ). drop n (y ∷ xs)) one ∙ r.1)
-
-next_row : (raw : List RawUnit) (s : Scope ℕ) (i end : ℕ) (numbers : List ℕ) (rows after : List EntryRow) (ds : List (Node ℕ)) → i < end → drop i (rows_of raw) ≡ rows ++ after → i + length rows ≡ end → RowsMean s rows ds → AreTargets raw numbers (nodes_refs ds) → NextRow raw s i end numbers rows after ds
+next_row : (raw : List RawUnit) (s : Scope ℕ) (i end : ℕ) (numbers : List ℕ) (rows after : List EntryRow) (ds : List (Node ℕ)) → i < end → drop i (rows_of raw) ≡ rows ++ after → i + length rows ≡ end
+    → RowsMean s rows ds → AreTargets raw numbers (nodes_refs ds) → NextRow raw s i end numbers rows after ds
 next_row raw s i end numbers [] after ds lt found count means targets = absurd (omega (arith, lt, count))
 next_row raw s i end numbers (row ∷ rows) after [] lt found count means targets = absurd means
 next_row raw s i end numbers (row ∷ rows) after (d ∷ ds) lt found count means targets =
-    let f = first_of (rows_of raw) i row (rows ++ after) found in
+    let f = drop_first (rows_of raw) i row (rows ++ after) found in
     record {
       row = row;
       others = rows;
@@ -96,7 +91,8 @@ next_row raw s i end numbers (row ∷ rows) after (d ∷ ds) lt found count mean
       };
     }
 
-pub row : (raw : List RawUnit) (s : Scope ℕ) (i end : ℕ) (numbers : List ℕ) (rows after : List EntryRow) (ds : List (Node ℕ)) → i < end → AreRowsMeant raw s i end numbers rows after ds → NextRow raw s i end numbers rows after ds
+pub row : (raw : List RawUnit) (s : Scope ℕ) (i end : ℕ) (numbers : List ℕ) (rows after : List EntryRow) (ds : List (Node ℕ)) → i < end → AreRowsMeant raw s i end numbers rows after ds
+    → NextRow raw s i end numbers rows after ds
 row raw s i end numbers rows after ds lt h = next_row raw s i end numbers rows after ds lt h.found h.count h.means h.targets
 
 no_row_in : (s : Scope ℕ) (i end : ℕ) (rows : List EntryRow) (ds : List (Node ℕ)) → end ≤ i → i + length rows ≡ end → RowsMean s rows ds → (rows ≡ []) × (ds ≡ [])
@@ -104,5 +100,6 @@ no_row_in s i end [] [] le count means = (refl, refl)
 no_row_in s i end [] (d ∷ ds) le count means = absurd means
 no_row_in s i end (row ∷ rows) ds le count means = absurd (omega (arith, le, count))
 
-pub no_row : (raw : List RawUnit) (s : Scope ℕ) (i end : ℕ) (numbers : List ℕ) (rows after : List EntryRow) (ds : List (Node ℕ)) → end ≤ i → AreRowsMeant raw s i end numbers rows after ds → (rows ≡ []) × (ds ≡ [])
+pub no_row : (raw : List RawUnit) (s : Scope ℕ) (i end : ℕ) (numbers : List ℕ) (rows after : List EntryRow) (ds : List (Node ℕ)) → end ≤ i → AreRowsMeant raw s i end numbers rows after ds
+    → (rows ≡ []) × (ds ≡ [])
 no_row raw s i end numbers rows after ds le h = no_row_in s i end rows ds le h.count h.means

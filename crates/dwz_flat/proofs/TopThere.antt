@@ -6,20 +6,20 @@ use Rattle.dwz_bytes.specs.Reading.{◌>>=◌}
 use Rattle.dwz_docs.specs.Entries.{RawEntry}
 use Rattle.dwz_docs.specs.Lists.{In}
 use Rattle.dwz_docs.specs.Trees.{End, Entry, Forest, Position, behind, first_below, size}
+use Rattle.dwz_docs.proofs.ListFacts.{drop_first, in_cases}
 use Rattle.dwz_seen.specs.Spaces.{space_text, tops_under}
-use Rattle.dwz_seen.proofs.Members.{in_cases}
 use Rattle.dwz_seen.proofs.SpaceLemmas.{text_map}
 use Rattle.dwz_alike.specs.Spots.{ASpace, ATop, Nothing, Row, SpaceName, Spot, Top, name_by, name_of, row_in, row_tops}
 use Rattle.dwz_alike.proofs.RowLemmas.{RowIs, row_is}
 use Rattle.dwz_flat.specs.Tops.{AreSpaceRows, HasTop}
-use Rattle.dwz_flat.proofs.StepLemmas.{first_of}
 use Rattle.dwz_flat.proofs.TreeLemmas.{Parts, no_more, parts}
 use Rattle.dwz_meanings.specs.Documents.{Attr, Entries, Node, attr_map, entries_map, first_named, node_map}
 use Rattle.dwz_meanings.specs.Meanings.{Scope, entries_meaning, node_meaning, with_next}
-use Rattle.dwz_resolve.proofs.RowLemmas.{below-length}
 use Rattle.dwz_unit.specs.Rows.{EntryRow, rows_below}
+use Rattle.dwz_unit.proofs.RowLemmas.{shown-length}
 
-alone_means : (s : Scope ℕ) (e : RawEntry) (c : Forest RawEntry) (d : Node ℕ) (g : Entries ℕ) → node_meaning s e ≡ Ok d → entries_meaning s c ≡ Ok g → entries_meaning s (Entry e c End) ≡ Ok (Entry d g End)
+pub alone_means : (s : Scope ℕ) (e : RawEntry) (c : Forest RawEntry) (d : Node ℕ) (g : Entries ℕ) → node_meaning s e ≡ Ok d → entries_meaning s c ≡ Ok g
+    → entries_meaning s (Entry e c End) ≡ Ok (Entry d g End)
 unfolding entries_meaning
 alone_means s e c d g one below = λ i. one i >>= λ d'. below i >>= λ g'. Ok End >>= with_next d' g'
 
@@ -32,15 +32,16 @@ alone_rows e c n unit p =
 -- what is left behind some of the first items
 pub left_behind : {X : Type 0} (xs : List X) (i j : ℕ) (front rest : List X) → drop i xs ≡ front ++ rest → i + length front ≡ j → drop j xs ≡ rest
 left_behind xs i j [] rest e n = ap (λ (k : ℕ). drop k xs) (let z : j ≡ i = omega (arith, n) in z) ∙ e
-left_behind xs i j (x ∷ front) rest e n = left_behind xs (i + 1) j front rest (first_of xs i x (front ++ rest) e).1 (omega (arith, n))
+left_behind xs i j (x ∷ front) rest e n = left_behind xs (i + 1) j front rest (drop_first xs i x (front ++ rest) e).1 (omega (arith, n))
 
 -- ---- the name of a space
 
-named_same : (text : List ℕ) (name : ℕ → Spot) (attrs : List (Attr ℕ)) → name_by text (first_named 0x03 (map (attr_map name) attrs)) ≡ name_by text (first_named 0x03 attrs)
+pub named_same : (text : List ℕ) (name : ℕ → Spot) (attrs : List (Attr ℕ)) → name_by text (first_named 0x03 (map (attr_map name) attrs)) ≡ name_by text (first_named 0x03 attrs)
 unfolding first_named
 named_same text name [] = refl
 named_same text name (a ∷ attrs) = go (named_same text name attrs) (a.name == 0x03) where
-  go : name_by text (first_named 0x03 (map (attr_map name) attrs)) ≡ name_by text (first_named 0x03 attrs) → (b : Bool) → name_by text (if b then Some (attr_map name a) else first_named 0x03 (map (attr_map name) attrs)) ≡ name_by text (if b then Some a else first_named 0x03 attrs)
+  go : name_by text (first_named 0x03 (map (attr_map name) attrs)) ≡ name_by text (first_named 0x03 attrs) → (b : Bool)
+      → name_by text (if b then Some (attr_map name a) else first_named 0x03 (map (attr_map name) attrs)) ≡ name_by text (if b then Some a else first_named 0x03 attrs)
   go more true = refl
   go more false = more
 
@@ -65,23 +66,25 @@ record Split (rows : List EntryRow) (e : RawEntry) (c k : Forest RawEntry) (unit
   pub below : drop (first_below from).before rows ≡ rows_below c unit (first_below from) ++ (rows_below k unit (behind from c) ++ after)
   pub later : drop (behind from c).before rows ≡ rows_below k unit (behind from c) ++ after
 
-split : (rows : List EntryRow) (e : RawEntry) (c k : Forest RawEntry) (unit : ℕ) (from : Position) (after : List EntryRow) → drop from.before rows ≡ rows_below (Entry e c k) unit from ++ after → Split rows e c k unit from after
+split : (rows : List EntryRow) (e : RawEntry) (c k : Forest RawEntry) (unit : ℕ) (from : Position) (after : List EntryRow) → drop from.before rows ≡ rows_below (Entry e c k) unit from ++ after
+    → Split rows e c k unit from after
 unfolding rows_below
 split rows e c k unit from after h =
     let row : EntryRow = record { entry = e; unit = unit; depth = from.depth; end = (behind from c).before } in
     let inside = rows_below c unit (first_below from) in
     let others = rows_below k unit (behind from c) in
-    let f = first_of rows from.before row ((inside ++ others) ++ after) h in
+    let f = drop_first rows from.before row ((inside ++ others) ++ after) h in
     let below = f.1 ∙ append_assoc inside others after in
     record {
       row = row;
       is = refl;
       found = f.0;
       below = below;
-      later = left_behind rows (from.before + 1) (behind from c).before inside (others ++ after) below (omega (arith, below-length c unit (first_below from)));
+      later = left_behind rows (from.before + 1) (behind from c).before inside (others ++ after) below (omega (arith, shown-length c unit (first_below from)));
     }
 
-here : (s : Scope ℕ) (name : ℕ → Spot) (rows : List EntryRow) (e : RawEntry) (c k : Forest RawEntry) (g : Entries ℕ) (x : Parts s e c k g) (unit : ℕ) (outer : List SpaceName) (from : Position) (after : List EntryRow) (t : Top) → drop from.before rows ≡ rows_below (Entry e c k) unit from ++ after
+here : (s : Scope ℕ) (name : ℕ → Spot) (rows : List EntryRow) (e : RawEntry) (c k : Forest RawEntry) (g : Entries ℕ) (x : Parts s e c k g) (unit : ℕ) (outer : List SpaceName) (from : Position)
+    (after : List EntryRow) (t : Top) → drop from.before rows ≡ rows_below (Entry e c k) unit from ++ after
     → t.spaces ≡ outer → t.node ≡ node_map name x.d → t.below ≡ entries_map name x.below → Stands s name rows unit from.depth outer from.before (from.before + size (Entry e c k)) t
 here s name rows e c k g x unit outer from after t h spaces node below = record {
   inner = [];
@@ -106,7 +109,8 @@ here s name rows e c k g x unit outer from after t h spaces node below = record 
 }
 
 later : (s : Scope ℕ) (name : ℕ → Spot) (rows : List EntryRow) (e : RawEntry) (c k : Forest RawEntry) (unit : ℕ) (outer : List SpaceName) (from : Position) (t : Top)
-    → Stands s name rows unit (behind from c).depth outer (behind from c).before ((behind from c).before + size k) t → Stands s name rows unit from.depth outer from.before (from.before + size (Entry e c k)) t
+    → Stands s name rows unit (behind from c).depth outer (behind from c).before ((behind from c).before + size k) t
+    → Stands s name rows unit from.depth outer from.before (from.before + size (Entry e c k)) t
 later s name rows e c k unit outer from t r = record {
   inner = r.inner;
   spaces = r.spaces;
@@ -115,8 +119,10 @@ later s name rows e c k unit outer from t r = record {
   to = omega (arith, r.to);
 }
 
-inside : (s : Scope ℕ) (name : ℕ → Spot) (rows : List EntryRow) (e : RawEntry) (c k : Forest RawEntry) (g : Entries ℕ) (x : Parts s e c k g) (unit : ℕ) (outer : List SpaceName) (from : Position) (after : List EntryRow) (t : Top) (text : List ℕ) → Split rows e c k unit from after → space_text x.d ≡ Some text
-    → Stands s name rows unit (first_below from).depth (outer ++ name_of text (node_map name x.d) ∷ []) (first_below from).before ((first_below from).before + size c) t → Stands s name rows unit from.depth outer from.before (from.before + size (Entry e c k)) t
+inside : (s : Scope ℕ) (name : ℕ → Spot) (rows : List EntryRow) (e : RawEntry) (c k : Forest RawEntry) (g : Entries ℕ) (x : Parts s e c k g) (unit : ℕ) (outer : List SpaceName) (from : Position)
+    (after : List EntryRow) (t : Top) (text : List ℕ) → Split rows e c k unit from after → space_text x.d ≡ Some text
+    → Stands s name rows unit (first_below from).depth (outer ++ name_of text (node_map name x.d) ∷ []) (first_below from).before ((first_below from).before + size c) t
+    → Stands s name rows unit from.depth outer from.before (from.before + size (Entry e c k)) t
 inside s name rows e c k g x unit outer from after t text h is r =
     let own = name_of text (node_map name x.d) in
     let one : from.depth + 1 ≡ suc from.depth = omega arith in
@@ -158,10 +164,14 @@ inside s name rows e c k g x unit outer from after t text h is r =
     }
 
 module _ (s : Scope ℕ) (name : ℕ → Spot) (rows : List EntryRow) (file number unit : ℕ) (language : Option ℤ) where
-  by_parts : (e : RawEntry) (c k : Forest RawEntry) (g : Entries ℕ) (x : Parts s e c k g) (r : Row) (outer : List SpaceName) (n : ℕ) (from : Position) (after : List EntryRow) (t : Top) → drop from.before rows ≡ rows_below (Entry e c k) unit from ++ after
-      → ((own : SpaceName) (r' : Row) → RowIs file number language (outer ++ own ∷ []) n r' (entries_map name x.below) → In t (row_tops r') → Stands s name rows unit (first_below from).depth (outer ++ own ∷ []) (first_below from).before ((first_below from).before + size c) t)
-      → ((n' : ℕ) (r' : Row) → RowIs file number language outer n' r' (entries_map name x.next) → In t (row_tops r') → Stands s name rows unit (behind from c).depth outer (behind from c).before ((behind from c).before + size k) t)
-      → RowIs file number language outer n r (Entry (node_map name x.d) (entries_map name x.below) (entries_map name x.next)) → In t (row_tops r) → Stands s name rows unit from.depth outer from.before (from.before + size (Entry e c k)) t
+  by_parts : (e : RawEntry) (c k : Forest RawEntry) (g : Entries ℕ) (x : Parts s e c k g) (r : Row) (outer : List SpaceName) (n : ℕ) (from : Position) (after : List EntryRow) (t : Top)
+      → drop from.before rows ≡ rows_below (Entry e c k) unit from ++ after
+      → ((own : SpaceName) (r' : Row) → RowIs file number language (outer ++ own ∷ []) n r' (entries_map name x.below) → In t (row_tops r')
+      → Stands s name rows unit (first_below from).depth (outer ++ own ∷ []) (first_below from).before ((first_below from).before + size c) t)
+      → ((n' : ℕ) (r' : Row) → RowIs file number language outer n' r' (entries_map name x.next) → In t (row_tops r')
+      → Stands s name rows unit (behind from c).depth outer (behind from c).before ((behind from c).before + size k) t)
+      → RowIs file number language outer n r (Entry (node_map name x.d) (entries_map name x.below) (entries_map name x.next)) → In t (row_tops r)
+      → Stands s name rows unit from.depth outer from.before (from.before + size (Entry e c k)) t
   unfolding row_tops
   by_parts e c k g x Nothing outer n from after t h deeper further is in_row = absurd is
   by_parts e c k g x (ATop u row) outer n from after t h deeper further is (inl same) =
@@ -181,7 +191,8 @@ module _ (s : Scope ℕ) (name : ℕ → Spot) (rows : List EntryRow) (file numb
   none (ATop u row) outer n t is in_row = is
   none (ASpace q inner row) outer n t is in_row = is
 
-  stands : (f : Forest RawEntry) (g : Entries ℕ) (r : Row) (outer : List SpaceName) (n : ℕ) (from : Position) (after : List EntryRow) (t : Top) → entries_meaning s f ≡ Ok g → RowIs file number language outer n r (entries_map name g) → drop from.before rows ≡ rows_below f unit from ++ after
+  stands : (f : Forest RawEntry) (g : Entries ℕ) (r : Row) (outer : List SpaceName) (n : ℕ) (from : Position) (after : List EntryRow) (t : Top) → entries_meaning s f ≡ Ok g
+      → RowIs file number language outer n r (entries_map name g) → drop from.before rows ≡ rows_below f unit from ++ after
       → In t (row_tops r) → Stands s name rows unit from.depth outer from.before (from.before + size f) t
   unfolding entries_map
   stands End g r outer n from after t means is h in_row =
@@ -194,7 +205,8 @@ module _ (s : Scope ℕ) (name : ℕ → Spot) (rows : List EntryRow) (file numb
       (λ n' r' is' in'. stands k x.next r' outer n' (behind from c) after t x.of_next is' z.later in')
       (subst (λ (w : Entries ℕ). RowIs file number language outer n r (entries_map name w)) (sym x.is) is) in_row
 
-  pub has_top : (f : Forest RawEntry) (g : Entries ℕ) (n : ℕ) (outer : List SpaceName) (from : Position) (after : List EntryRow) (t : Top) → entries_meaning s f ≡ Ok g → drop from.before rows ≡ rows_below f unit from ++ after
+  pub has_top : (f : Forest RawEntry) (g : Entries ℕ) (n : ℕ) (outer : List SpaceName) (from : Position) (after : List EntryRow) (t : Top) → entries_meaning s f ≡ Ok g
+      → drop from.before rows ≡ rows_below f unit from ++ after
       → In t (row_tops (row_in file number language outer n (entries_map name g))) → (inner : List SpaceName) × (t.spaces ≡ outer ++ inner) × HasTop s name rows unit from.depth inner t
   has_top f g n outer from after t means h in_row =
       let r = stands f g (row_in file number language outer n (entries_map name g)) outer n from after t means (row_is file number language outer n (entries_map name g)) h in_row in
@@ -214,4 +226,5 @@ module _ (s : Scope ℕ) (name : ℕ → Spot) (rows : List EntryRow) (file numb
   ]
 
   pub has_language : (g : Entries ℕ) (n : ℕ) (outer : List SpaceName) (t : Top) → In t (row_tops (row_in file number language outer n (entries_map name g))) → t.language ≡ language
-  has_language g n outer t in_row = row_language (row_in file number language outer n (entries_map name g)) (entries_map name g) outer n t (row_is file number language outer n (entries_map name g)) in_row
+  has_language g n outer t in_row = row_language (row_in file number language outer n (entries_map name g)) (entries_map name g) outer n t (row_is file number language outer n (entries_map name g))
+      in_row

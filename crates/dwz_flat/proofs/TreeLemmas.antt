@@ -76,8 +76,11 @@ unfolding rows_below nodes
 tree_means s End g unit p h = subst (λ (w : Entries ℕ). RowsMean s [] (nodes w)) (no_more s g h) tt
 tree_means s (Entry e c n) g unit p h =
     let x = parts s e c n g h in
-    subst (λ (w : Entries ℕ). RowsMean s (rows_below (Entry e c n) unit p) (nodes w)) x.is
-    (x.node, mean_append s (rows_below c unit (first_below p)) (rows_below n unit (behind p c)) (nodes x.below) (nodes x.next) (tree_means s c x.below unit (first_below p) x.of_below) (tree_means s n x.next unit (behind p c) x.of_next))
+    subst (λ (w : Entries ℕ). RowsMean s (rows_below (Entry e c n) unit p) (nodes w)) x.is (
+      x.node,
+      mean_append s (rows_below c unit (first_below p)) (rows_below n unit (behind p c)) (nodes x.below) (nodes x.next) (tree_means s c x.below unit (first_below p) x.of_below)
+          (tree_means s n x.next unit (behind p c) x.of_next),
+    )
 
 pub tree_refs : (g : Entries ℕ) → nodes_refs (nodes g) ≡ entries_refs g
 unfolding nodes entries_refs

@@ -46,7 +46,8 @@ AreNamed names (i ∷ numbers) (s ∷ spots) = (slice_get names i ≡ Some s) ×
 -- ---- what is known: of the values of an entry that are left, of an entry, of entries one behind the other
 
 -- These values mean the attributes, and the numbers begin with those of what these name.
-pub record AreAttrsMeant (raw : List RawUnit) (s : Scope ℕ) (numbers : List ℕ) (values : List RawAttr) (attrs : List (Attr ℕ)) : Type 0 where
+pub record AreAttrsMeant (raw : List RawUnit) (s : Scope ℕ) (numbers : List ℕ) (values : List RawAttr) (attrs : List (Attr ℕ)) : Type
+    0 where
   pub means : attrs_meaning s (without_siblings values) ≡ Ok attrs
   pub targets : AreTargets raw numbers (attrs_refs attrs)
 
@@ -63,7 +64,8 @@ RowsMean s (row ∷ rows) (d ∷ ds) = (node_meaning s row.entry ≡ Ok d) × Ro
 RowsMean s _ _ = ⊥
 
 -- The entries from number i to before `end` mean these, and the numbers begin with those of what these name.
-pub record AreRowsMeant (raw : List RawUnit) (s : Scope ℕ) (i end : ℕ) (numbers : List ℕ) (rows after : List EntryRow) (ds : List (Node ℕ)) : Type 0 where
+pub record AreRowsMeant (raw : List RawUnit) (s : Scope ℕ) (i end : ℕ) (numbers : List ℕ) (rows after : List EntryRow)
+    (ds : List (Node ℕ)) : Type 0 where
   pub found : drop i (rows_of raw) ≡ rows ++ after
   pub count : i + length rows ≡ end
   pub means : RowsMean s rows ds
@@ -72,7 +74,8 @@ pub record AreRowsMeant (raw : List RawUnit) (s : Scope ℕ) (i end : ℕ) (numb
 -- ---- and what one step leaves
 
 -- The first value means an attribute, and the numbers begin with those of what it names. Behind these are those of the values behind it.
-pub record NextAttr (raw : List RawUnit) (s : Scope ℕ) (numbers : List ℕ) (a : RawAttr) (values : List RawAttr) (attrs : List (Attr ℕ)) : Type 0 where
+pub record NextAttr (raw : List RawUnit) (s : Scope ℕ) (numbers : List ℕ) (a : RawAttr) (values : List RawAttr)
+    (attrs : List (Attr ℕ)) : Type 0 where
   pub value : Value ℕ
   pub left : List (Attr ℕ)
   pub means : meaning s a ≡ Ok value
@@ -81,7 +84,8 @@ pub record NextAttr (raw : List RawUnit) (s : Scope ℕ) (numbers : List ℕ) (a
   pub rest : AreAttrsMeant raw s (drop (length (value_refs value)) numbers) values left
 
 -- The same of the first row and those behind it.
-pub record NextRow (raw : List RawUnit) (s : Scope ℕ) (i end : ℕ) (numbers : List ℕ) (rows after : List EntryRow) (ds : List (Node ℕ)) : Type 0 where
+pub record NextRow (raw : List RawUnit) (s : Scope ℕ) (i end : ℕ) (numbers : List ℕ) (rows after : List EntryRow)
+    (ds : List (Node ℕ)) : Type 0 where
   pub row : EntryRow
   pub others : List EntryRow
   pub d : Node ℕ

@@ -47,7 +47,8 @@ pub record HasTop (s : Scope ℕ) (name : ℕ → Spot) (rows : List EntryRow) (
 
 -- Of the units of the file with a number, the first of which has that number among those of all files, the one that a top is of, and the
 -- top's rows.
-pub record HasTopOfFile (around : Around ℕ) (name : ℕ → Spot) (raw : List RawUnit) (units : List (DwUnit ℕ)) (file first : ℕ) (t : Top) : Type 0 where
+pub record HasTopOfFile (around : Around ℕ) (name : ℕ → Spot) (raw : List RawUnit) (units : List (DwUnit ℕ)) (file first : ℕ)
+    (t : Top) : Type 0 where
   pub n : ℕ
   pub u : RawUnit
   pub v : DwUnit ℕ

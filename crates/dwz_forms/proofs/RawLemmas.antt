@@ -16,7 +16,8 @@ use Rattle.dwz_forms.proofs.NumberLemmas.{length-number_bytes, length-run_bytes,
 module _ (form : ℕ) (raw : RawOfCode) (z : ℤ) (shape : Shape) (range : SFits w128 z) (raw_is : raw ≡ code.Number z) (shape_is : shape ≡ shape_of written_rows form) where
   pub number_fits : HasSpelling form (raw_view raw) → FitsNumber shape (to_z w128 (of_z w128 z))
   number_fits h =
-      subst (FitsNumber shape) (sym (to_z-of_z w128 z range)) (subst (λ (s : Shape). FitsNumber s z) (sym shape_is) (spelled_fits form z (subst (λ (r : RawOfCode). HasSpelling form (raw_view r)) raw_is h)))
+      subst (FitsNumber shape) (sym (to_z-of_z w128 z range)) (subst (λ (s : Shape). FitsNumber s z) (sym shape_is)
+      (spelled_fits form z (subst (λ (r : RawOfCode). HasSpelling form (raw_view r)) raw_is h)))
 
   -- the bytes of the number, as it is passed on
   pub number_is : number_bytes shape (to_z w128 (of_z w128 z)) ≡ value_bytes form (raw_view raw)

@@ -2,7 +2,8 @@
 use Rattle.std.specs.Prelude.{ℕ, ℤ, ◌+◌, ◌*◌, List, length}
 use Rattle.dwz_bytes.specs.Spelling.{group_count, reach}
 use Rattle.dwz_codes.specs.declared.shape.Shape.{Shape}
-use Rattle.dwz_codes.specs.declared.shape.Shape.TheVariants.{Fixed1, Fixed2, Fixed3, Fixed4, Fixed8, Fixed16, Uleb, Sleb, ZeroEnded, Block1, Block2, Block4, BlockUleb, Address}
+use Rattle.dwz_codes.specs.declared.shape.Shape.TheVariants.{Fixed1, Fixed2, Fixed3, Fixed4, Fixed8, Fixed16, Uleb, Sleb, ZeroEnded, Block1}
+use Rattle.dwz_codes.specs.declared.shape.Shape.TheVariants.{Block2, Block4, BlockUleb, Address}
 
 abbrev pub number_len : Shape → ℤ → ℕ
 number_len Fixed1 z = 1

@@ -6,8 +6,6 @@ mod numbers;
 mod raw;
 mod reading;
 mod shapes;
-#[cfg(test)]
-mod tests;
 mod writing;
 
 pub use raw::Raw;

@@ -2,10 +2,10 @@
 
 ghost use Rattle.std.specs.Prelude.{◌≡◌, ◌<◌, length, take, IfOk, IfSome};
 ghost use Rattle.std.specs.Option.{option_map};
-ghost use Rattle.dwz_bytes.specs.Reading.{fixed_at};
+ghost use Rattle.dwz_bytes.specs.Reading.{Gives, fixed_at};
 ghost use Rattle.dwz_bytes.specs.Spelling.{le_value};
 ghost use Rattle.dwz_codes.specs.Forms.{form_rows};
-ghost use Rattle.dwz_docs.specs.Parts.{Gives, Leaves};
+ghost use Rattle.dwz_docs.specs.Parts.{Leaves};
 ghost use Rattle.dwz_docs.specs.Texts.{text_in, zero_ended_at};
 ghost use Rattle.dwz_docs.specs.Values;
 ghost use Rattle.dwz_docs.specs.Values.{HasSpelling};

@@ -1,10 +1,10 @@
 -- The partial units of all tops with a home are groups.
-use Rattle.std.proofs.Common.{◌≡◌, ℕ, zero, suc, ◌+◌, ◌==◌, ◌&&◌, Bool, true, false, List, [], ◌∷◌, Some, refl, sym, subst, ◌∙◌, inl, inr, arith}
-use Rattle.std.specs.Prelude.{slice_get}
+use Rattle.std.proofs.Common.{◌≡◌, ℕ, ◌+◌, ◌==◌, ◌&&◌, Bool, true, false, List, refl, sym, subst, ◌∙◌, inl, inr, arith}
 use Rattle.std.specs.List.{filter}
 use Rattle.dwz_docs.specs.Lists.{In}
-use Rattle.dwz_seen.specs.Lists.{Nth, Rising}
-use Rattle.dwz_seen.proofs.Members.{each_in, in_cases, nth_in, nth_pair}
+use Rattle.dwz_docs.proofs.ListFacts.{in_cases}
+use Rattle.dwz_seen.specs.Lists.{Rising}
+use Rattle.dwz_seen.proofs.Members.{each_in, filter_same, nth_in, nth_of, nth_pair}
 use Rattle.dwz_alike.specs.Deciding.{Test}
 use Rattle.dwz_alike.specs.Spots.{FileUnit, Spot, Top, same_numbers, tops_of}
 use Rattle.dwz_moving.specs.Gain.{in_group}
@@ -13,12 +13,7 @@ use Rattle.dwz_moving.specs.IsPlan.{IsPart}
 use Rattle.dwz_moving.specs.Plan.{PartialUnit, local_partials, partial_with, partials, partials_at, representatives, stands_for, users_of}
 use Rattle.dwz_moving.proofs.PlanLemmas.{are_parts, at_home, file_from, parts_differ}
 use Rattle.dwz_gain.specs.Groups.{AreApart, HoldsGroup}
-use Rattle.dwz_gain.proofs.FilterLemmas.{filter_both, filter_like}
-
-nth_of : {X : Type 0} (s : ℕ) (xs : List X) (g : ℕ) (x : X) → slice_get xs g ≡ Some x → Nth s xs (s + g) x
-nth_of s [] g x e = absurd cc
-nth_of s (y ∷ xs) zero x e = inl (omega arith, cc)
-nth_of {X} s (y ∷ xs) (suc g) x e = inr (let n : suc s + g ≡ s + suc g = omega arith in subst (λ (k : ℕ). Nth (suc s) xs k x) n (nth_of (suc s) xs g x e))
+use Rattle.dwz_gain.proofs.FilterLemmas.{filter_both}
 
 regroup : (a b c : Bool) → ((a && b) && c) ≡ ((a && c) && b)
 regroup true true true = refl
@@ -38,7 +33,8 @@ module _ (alike : Test) (units : List (FileUnit Spot)) where
   unfolding representatives home
   tops_at h us =
       filter_both (stands_for all units h) (λ t. same_numbers (users_of alike units t) us) (tops_of units)
-      ∙ filter_like (λ t. stands_for all units h t && same_numbers (users_of alike units t) us) (own (partial_with all units h us)) (tops_of units) (λ t. regroup (same_home (candidate alike units t.number) h) (rep alike units t.number == t.number) (same_numbers (users_of alike units t) us))
+      ∙ filter_same (λ t. stands_for all units h t && same_numbers (users_of alike units t) us) (own (partial_with all units h us)) (tops_of units)
+      (λ t. regroup (same_home (candidate alike units t.number) h) (rep alike units t.number == t.number) (same_numbers (users_of alike units t) us))
 
   tops_are : (files : List ℕ) (part : PartialUnit) → In part (partials all units files) → part.tops ≡ filter (own part) (tops_of units)
   unfolding partials
@@ -63,6 +59,7 @@ module _ (alike : Test) (units : List (FileUnit Spot)) where
       record {
         each = λ g part e. holds files part (nth_in 0 parts (0 + g) part (nth_of 0 parts g part e));
         once = λ g h part other e f home users. (
-            let n = nth_pair (λ (p q : PartialUnit). p.home ≡ q.home → p.users ≡ q.users → ⊥) 0 parts (0 + g) (0 + h) part other (parts_differ all units files rises) (nth_of 0 parts g part e) (nth_of 0 parts h other f) (λ d. d home users) (λ d. d (sym home) (sym users)) in
+            let n = nth_pair (λ (p q : PartialUnit). p.home ≡ q.home → p.users ≡ q.users → ⊥) 0 parts (0 + g) (0 + h) part other (parts_differ all units files rises) (nth_of 0 parts g part e)
+            (nth_of 0 parts h other f) (λ d. d home users) (λ d. d (sym home) (sym users)) in
             omega (arith, n));
       }

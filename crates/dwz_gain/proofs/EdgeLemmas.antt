@@ -1,13 +1,10 @@
 -- Edges between groups, and lists by keys.
-use Rattle.std.proofs.Common.{◌≡◌, ℕ, zero, suc, ◌<◌, All, Bool, true, false, List, [], ◌∷◌, Option, Some, None, length, map, cond, refl, sym, ap, subst, ◌∙◌, inl, inr, ⊎_elim, arith}
-use Rattle.std.specs.Prelude.{filter, ◌==◌}
-use Rattle.std.proofs.lemmas.Bool.{cases_Bool, eq-eqb, eqb-true}
-use Rattle.std.proofs.lemmas.List.FromFn.{get_or-map-range_with_len, length-map-range_with_len}
+use Rattle.std.proofs.Common.{◌≡◌, ℕ, zero, suc, ◌<◌, All, List, [], ◌∷◌, Option, Some, None, length, refl, sym, ap, subst, ◌∙◌, inl, inr, ⊎_elim, arith}
 use Rattle.std.proofs.lemmas.List.Elements.{All-head, All-tail}
 use Rattle.dwz_docs.specs.Lists.{In}
+use Rattle.dwz_docs.proofs.ListFacts.{in_cases, in_left, in_right}
 use Rattle.dwz_groups.specs.declared.groups.Pair.{Pair}
-use Rattle.dwz_groups.specs.Groups.{grouped, values_at}
-use Rattle.dwz_seen.proofs.Members.{in_cases, in_left, in_right}
+use Rattle.dwz_groups.specs.Groups.{grouped}
 use Rattle.dwz_gain.specs.Gaining.{AreNumbers, edge, edge_to, edges_at, edges_from, edges_to, group_at}
 use Rattle.dwz_spread.specs.Spreading.{AreInside, sources_of}
 use Rattle.dwz_spread.proofs.PairLemmas.{each_pair, grouped_edge, grouped_length}
@@ -58,16 +55,20 @@ unfolding edges_from
 from_edges groups [] targets g h i = absurd i
 from_edges groups (f ∷ froms) [] g h i = absurd i
 from_edges groups (f ∷ froms) (ts ∷ targets) g h i = ⊎_elim
-    (λ (j : In (edge g h) (edges_to groups f ts)). let r = to_edges groups g h f ts j in let o : Joined groups (f ∷ froms) (ts ∷ targets) g h = record { i = 0; low = omega arith; from = r.0; into = r.1 } in o)
-    (λ (j : In (edge g h) (edges_from groups froms targets)). let r = from_edges groups froms targets g h j in let l = r.low in let o : Joined groups (f ∷ froms) (ts ∷ targets) g h = record { i = suc r.i; low = omega arith; from = r.from; into = r.into } in o)
+    (λ (j : In (edge g h) (edges_to groups f ts)). let r = to_edges groups g h f ts j in let o : Joined groups (f ∷ froms) (ts ∷ targets) g h =
+    record { i = 0; low = omega arith; from = r.0; into = r.1 } in o)
+    (λ (j : In (edge g h) (edges_from groups froms targets)). let r = from_edges groups froms targets g h j in let l = r.low in let o : Joined groups (f ∷ froms) (ts ∷ targets) g h =
+    record { i = suc r.i; low = omega arith; from = r.from; into = r.into } in o)
     (in_cases (edge g h) (edges_to groups f ts) (edges_from groups froms targets) i)
 
-pub edges_there : (groups froms : List (Option ℕ)) (targets : List (List ℕ)) (g h i u : ℕ) → i < length froms → i < length targets → group_at froms i ≡ Some g → In u (sources_of targets i) → group_at groups u ≡ Some h → In (edge g h) (edges_from groups froms targets)
+pub edges_there : (groups froms : List (Option ℕ)) (targets : List (List ℕ)) (g h i u : ℕ) → i < length froms → i < length targets → group_at froms i ≡ Some g → In u (sources_of targets i)
+    → group_at groups u ≡ Some h → In (edge g h) (edges_from groups froms targets)
 unfolding edges_from
 edges_there groups [] targets g h i u l m e is f = absurd (omega arith)
 edges_there groups (x ∷ froms) [] g h i u l m e is f = absurd (omega arith)
 edges_there groups (x ∷ froms) (ts ∷ targets) g h zero u l m e is f = in_left (edge g h) (edges_to groups x ts) (edges_from groups froms targets) (edges_is groups g h u x ts e is f)
-edges_there groups (x ∷ froms) (ts ∷ targets) g h (suc i) u l m e is f = in_right (edge g h) (edges_to groups x ts) (edges_from groups froms targets) (edges_there groups froms targets g h i u (omega arith) (omega arith) e is f)
+edges_there groups (x ∷ froms) (ts ∷ targets) g h (suc i) u l m e is f = in_right (edge g h) (edges_to groups x ts) (edges_from groups froms targets)
+    (edges_there groups froms targets g h i u (omega arith) (omega arith) e is f)
 
 -- ---- edges are between numbers below n
 
@@ -80,7 +81,8 @@ numbers_low n g zero (o ∷ groups) h e = number_low n g o (All-head (AreNumbers
 numbers_low n g (suc i) (o ∷ groups) h e = numbers_low n g i groups (All-tail (AreNumbers n) o groups h) e
 
 pub edge_keys : (n : ℕ) (groups : List (Option ℕ)) (targets : List (List ℕ)) → All (AreNumbers n) groups → All (λ p. p.key < n) (edges_from groups groups targets)
-edge_keys n groups targets h = each_pair (λ p. p.key < n) (edges_from groups groups targets) (λ p i. let r = from_edges groups groups targets p.key p.value i in numbers_low n p.key r.i groups h r.from)
+edge_keys n groups targets h = each_pair (λ p. p.key < n) (edges_from groups groups targets)
+    (λ p i. let r = from_edges groups groups targets p.key p.value i in numbers_low n p.key r.i groups h r.from)
 
 pub edges_inside : (n : ℕ) (groups : List (Option ℕ)) (targets : List (List ℕ)) → All (AreNumbers n) groups → AreInside (grouped n (edges_from groups groups targets))
 edges_inside n groups targets h m k i =

@@ -1,8 +1,10 @@
 -- What is marked is what gains.
-use Rattle.std.proofs.Common.{◌≡◌, ◌↔◌, ◌⊎◌, ℕ, zero, suc, ◌+◌, ◌<◌, ◌≤◌, ◌==◌, ◌&&◌, Bool, true, false, List, [], ◌∷◌, map, Option, Some, None, filter, length, get_or, refl, sym, ap, subst, ◌∙◌, inl, inr, ⊎_elim, arith}
+use Rattle.std.proofs.Common.{◌≡◌, ◌↔◌, ◌⊎◌, ℕ, zero, suc, ◌+◌, ◌<◌, ◌≤◌, ◌==◌, ◌&&◌, Bool, true, false, List, [], ◌∷◌, map, Option, Some, None, filter, length, get_or, refl, sym, ap, subst, ◌∙◌, inl}
+use Rattle.std.proofs.Common.{inr, ⊎_elim, arith}
 use Rattle.std.specs.Prelude.{slice_get}
 use Rattle.std.proofs.lemmas.Bool.Decides.{Decides-ltb}
 use Rattle.dwz_docs.specs.Lists.{In}
+use Rattle.dwz_docs.proofs.ListFacts.{got_below}
 use Rattle.dwz_alike.specs.Deciding.{Test}
 use Rattle.dwz_alike.specs.Spots.{FileUnit, Spot, Top, tops_of}
 use Rattle.dwz_alike.proofs.TopNumbers.{number_below, top_at, tops_numbers}
@@ -51,17 +53,13 @@ seed_at [] ws g part e = absurd cc
 seed_at (p ∷ groups) ws zero part e = ap (seed ws) (some_is p part e)
 seed_at (p ∷ groups) ws (suc g) part e = seed_at groups ws g part e
 
-group_low : {X : Type 0} (xs : List X) (g : ℕ) (x : X) → slice_get xs g ≡ Some x → g < length xs
-group_low [] g x e = absurd cc
-group_low (y ∷ xs) zero x e = omega arith
-group_low (y ∷ xs) (suc g) x e = let l = group_low xs g x e in omega arith
-
 top_low : (of_tops : List (Option ℕ)) (n g : ℕ) → group_at of_tops n ≡ Some g → n < length of_tops
 top_low [] n g e = absurd cc
 top_low (o ∷ of_tops) zero g e = omega arith
 top_low (o ∷ of_tops) (suc n) g e = let l = top_low of_tops n g e in omega arith
 
-module _ (alike : Test) (units : List (FileUnit Spot)) (groups : List PartialUnit) (of_tops : List (Option ℕ)) (ws : List ℕ) (targets : List (List ℕ)) (are : AreGroups alike units groups of_tops) (shown : ShowGains alike units ws targets) where
+module _ (alike : Test) (units : List (FileUnit Spot)) (groups : List PartialUnit) (of_tops : List (Option ℕ)) (ws : List ℕ) (targets : List (List ℕ)) (are : AreGroups alike units groups of_tops)
+    (shown : ShowGains alike units ws targets) where
   abbrev tops : List Top
   tops = tops_of units
 
@@ -85,9 +83,11 @@ module _ (alike : Test) (units : List (FileUnit Spot)) (groups : List PartialUni
   seed_is g part e =
       let own : Top → Bool = λ t. in_group alike units part.home part.users t && rep alike units t.number == t.number in
       let held : part.tops ≡ filter own tops = (are.apart.each g part e).tops in
-      let weight : IsWeight (weight_of ws (numbers part.tops)) (weights part.tops) = weights_are ws part.tops (λ t i. shown.weights t (in_filter_from own t tops (subst (λ (ts : List Top). In t ts) held i)).0) in
+      let weight : IsWeight (weight_of ws (numbers part.tops)) (weights part.tops) =
+      weights_are ws part.tops (λ t i. shown.weights t (in_filter_from own t tops (subst (λ (ts : List Top). In t ts) held i)).0) in
       let same : get_or begin g false ≡ gains_alone (length part.users) (weights (filter own tops)) =
-      seed_at groups ws g part e ∙ test_same (length part.users) (weight_of ws (numbers part.tops)) (weights part.tops) weight ∙ ap (λ (ts : List Top). gains_alone (length part.users) (weights ts)) held in
+      seed_at groups ws g part e ∙ test_same (length part.users) (weight_of ws (numbers part.tops)) (weights part.tops) weight ∙ ap (λ (ts : List Top). gains_alone (length part.users) (weights ts))
+      held in
       let d = Decides-ltb (spent part.users) (saved alike units part.home part.users) in
       (λ m. d.0 (sym same ∙ m), λ l. same ∙ d.1 l)
 
@@ -137,7 +137,8 @@ module _ (alike : Test) (units : List (FileUnit Spot)) (groups : List PartialUni
       let into = of_group u g b.1 (ap (group_at of_tops) b.2 ∙ r.into.2) in
       let same : into.0 ≡ part = some_is into.0 part (sym into.1 ∙ e) in
       let home : is_home (cand t) ≡ true = ap is_home from.2 ∙ (are.apart.each m from.0 from.1).home in
-      let named : In u.number (sources_of targets t.number) = subst (λ (n : ℕ). In n (sources_of targets t.number)) (sym b.2) (subst (λ (n : ℕ). In r.into.0 (sources_of targets n)) (sym a.2) r.into.1) in
+      let named : In u.number (sources_of targets t.number) = subst (λ (n : ℕ). In n (sources_of targets t.number)) (sym b.2)
+      (subst (λ (n : ℕ). In r.into.0 (sources_of targets n)) (sym a.2) r.into.1) in
       let refers : RefersInto alike units t part.home part.users = record {
         there = a.1;
         home = home;
@@ -168,7 +169,11 @@ module _ (alike : Test) (units : List (FileUnit Spot)) (groups : List PartialUni
       let len = are.len in
       let many = shown.len in
       let there = edges_there of_tops of_tops targets m g t.number u.number (omega arith) (omega arith) from.is ((shown.targets t r.there r.home u.number).1 r.refers) at in
-      inr (m, edge_grouped (length groups) m g edges (group_low groups m from.group.0 from.group.1) there, from_gain k m from.group.0 from.group.1 (gains_of k t from.group.0.home from.group.0.users from.group.2 from.group.3 h.2))
+      inr (
+        m,
+        edge_grouped (length groups) m g edges (got_below groups m from.group.0 from.group.1) there,
+        from_gain k m from.group.0 from.group.1 (gains_of k t from.group.0.home from.group.0.users from.group.2 from.group.3 h.2),
+      )
 
   pub marked : (marks : List Bool) → IsSpread sources begin marks → (g : ℕ) (part : PartialUnit) → slice_get groups g ≡ Some part → IsMarked marks g ↔ (part_gains alike units part ≡ true)
   unfolding gains_test

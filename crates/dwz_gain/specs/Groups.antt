@@ -1,5 +1,6 @@
 -- Rows that show the tops of units in their groups, and what gains there.
-use Rattle.std.specs.Prelude.{◌≡◌, ◌↔◌, ◌⊎◌, ℕ, ◌≤◌, ◌==◌, ◌&&◌, true, List, [], Option, Some, None, filter, length, slice_get, slice_index_or}
+use Rattle.std.specs.Prelude.{◌≡◌, ◌↔◌, ◌⊎◌, ℕ, ◌≤◌, ◌==◌, ◌&&◌, true, List, [], Option, Some, None, filter, length, slice_get}
+use Rattle.std.specs.Prelude.{slice_index_or}
 use Rattle.dwz_docs.specs.Lists.{In}
 use Rattle.dwz_alike.specs.Alike.{refers_to}
 use Rattle.dwz_alike.specs.Deciding.{Test}
@@ -12,7 +13,8 @@ use Rattle.dwz_gain.specs.Gaining.{group_at, weight_at}
 -- the number of the group with the top's home and users; none where it has no home
 abbrev pub IsGroup : Test → List (FileUnit Spot) → List PartialUnit → Option ℕ → ℕ → Type 0
 IsGroup alike units groups None n = candidate alike units n ≡ Stay
-IsGroup alike units groups (Some g) n = (part : PartialUnit) × (slice_get groups g ≡ Some part) × (candidate alike units n ≡ part.home) × (users alike units n ≡ part.users)
+IsGroup alike units groups (Some g) n = (part : PartialUnit) × (slice_get groups g ≡ Some part) × (candidate alike units n ≡ part.home)
+    × (users alike units n ≡ part.users)
 
 -- a group has a home and just the representatives with that home and its users
 pub record HoldsGroup (alike : Test) (units : List (FileUnit Spot)) (part : PartialUnit) : Type 0 where
@@ -23,7 +25,8 @@ pub record HoldsGroup (alike : Test) (units : List (FileUnit Spot)) (part : Part
 -- these are groups, each once
 pub record AreApart (alike : Test) (units : List (FileUnit Spot)) (groups : List PartialUnit) : Type 0 where
   pub each : (g : ℕ) (part : PartialUnit) → slice_get groups g ≡ Some part → HoldsGroup alike units part
-  pub once : (g h : ℕ) (part other : PartialUnit) → slice_get groups g ≡ Some part → slice_get groups h ≡ Some other → part.home ≡ other.home → part.users ≡ other.users → g ≡ h
+  pub once : (g h : ℕ) (part other : PartialUnit) → slice_get groups g ≡ Some part → slice_get groups h ≡ Some other
+      → part.home ≡ other.home → part.users ≡ other.users → g ≡ h
 
 -- and the group of each top
 pub record AreGroups (alike : Test) (units : List (FileUnit Spot)) (groups : List PartialUnit) (of_tops : List (Option ℕ)) : Type 0 where
@@ -39,4 +42,5 @@ IsWeight weight exact = (weight ≡ exact) ⊎ ((64 ≤ weight) × (64 ≤ exact
 pub record ShowGains (alike : Test) (units : List (FileUnit Spot)) (ws : List ℕ) (refs : List (List ℕ)) : Type 0 where
   pub len : length refs ≡ length (tops_of units)
   pub weights : (t : Top) → In t (tops_of units) → IsWeight (weight_at ws t.number) (top_weight t)
-  pub targets : (t : Top) → In t (tops_of units) → is_home (candidate alike units t.number) ≡ true → (n : ℕ) → In n (slice_index_or refs t.number []) ↔ (refers_to n t ≡ true)
+  pub targets : (t : Top) → In t (tops_of units) → is_home (candidate alike units t.number) ≡ true → (n : ℕ)
+      → In n (slice_index_or refs t.number []) ↔ (refers_to n t ≡ true)

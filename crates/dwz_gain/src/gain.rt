@@ -110,7 +110,8 @@ pub fn gaining(
     requires groups { All (AreNumbers (length seeds.now)) groups.now }
     requires len { length groups.now ≡ length targets.now }
     requires targets { All (λ ts. All (λ t. t < length groups.now) ts) targets.now }
-    ensures { IfOk result (λ marks. IsSpread (grouped (length seeds.now) (edges_from groups.now groups.now targets.now)) seeds.now marks.items) }
+    ensures { IfOk result (λ marks. IsSpread (grouped (length seeds.now) (edges_from groups.now groups.now targets.now)) seeds.now
+        marks.items) }
 {
     let edges = edges_of(alloc, groups, targets)?;
     let into = group(alloc, seeds.len(), edges.as_slice())?;

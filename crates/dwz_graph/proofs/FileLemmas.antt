@@ -1,7 +1,6 @@
 -- A file is read step by step: its length, its sections, its machine, its units, and what these mean.
-use Rattle.std.proofs.Common.{eqb, not, ◌≡◌, ℕ, ◌<◌, ◌≤◌, ◌^◌, Bool, true, false, List, length, drop, Option, Some, None, Result, Ok, Err, refl, sym, ap, subst, ◌∙◌, inl, inr, ltb, ◌||◌, arith}
+use Rattle.std.proofs.Common.{eqb, not, ◌≡◌, ℕ, ◌<◌, ◌≤◌, ◌^◌, Bool, true, false, List, length, Option, Some, None, Result, Ok, Err, refl, sym, ap, subst, ◌∙◌, inl, inr, ltb, arith}
 use Rattle.std.proofs.lemmas.Bool.{cases_Bool, cases_lt, eqb-true, false≢true, lt-ltb}
-use Rattle.std.proofs.lemmas.List.{length-drop, length-take}
 use Rattle.dwz_model.specs.declared.fault.Fault.{Fault}
 use Rattle.dwz_model.specs.declared.fault.ReadErr.{ReadErr}
 use Rattle.dwz_model.specs.declared.fault.ReadErr.TheVariants.{NoMemory, Refused}
@@ -13,21 +12,24 @@ use Rattle.dwz_docs.specs.ElfFaults.{file_fault}
 use Rattle.dwz_docs.specs.ElfReading.{ElfView, bytes_in, elf_fault, elf_of, section_range}
 use Rattle.dwz_docs.specs.Entries.{given, unless_so}
 use Rattle.dwz_docs.specs.Faults.{Fails}
-use Rattle.dwz_meanings.specs.Files.{IsForMachine, IsNotTooLong, Limits, around_of, debug_abbrev, debug_aranges, debug_info, doc_with, lists_said, sets_said, units_said, ends_at, file_meaning, is_other_machine, is_too_long, longest_file, machine_at, machine_of, section_of, sources_of}
+use Rattle.dwz_meanings.specs.Files.{IsForMachine, IsNotTooLong, Limits, around_of, debug_abbrev, debug_aranges, debug_info, doc_with, lists_said, sets_said, units_said, ends_at, file_meaning}
+use Rattle.dwz_meanings.specs.Files.{is_other_machine, is_too_long, longest_file, machine_at, machine_of, section_of, sources_of, no_files_before}
 use Rattle.dwz_meanings.specs.Meanings.{Sources, alone, units_meaning}
 use Rattle.dwz_meanings.specs.NamedLists.{lists_of_units}
 use Rattle.dwz_meanings.specs.Ranges.{RangeSet}
 use Rattle.dwz_meanings.specs.Shared.{AreRows, ListOperand}
 use Rattle.dwz_resolve.specs.Said.{behind_sets, behind_units, kept, said}
 use Rattle.dwz_docs.specs.Units.{RawUnit, units_at}
-use Rattle.dwz_elf.specs.Reads.{Gives}
+use Rattle.dwz_docs.proofs.CaseFacts.{or_left, or_right}
+use Rattle.dwz_docs.proofs.RangeBytes.{bytes_short as in_bytes}
+use Rattle.dwz_elf.specs.Reads.{GivesOrRefuses}
 use Rattle.dwz_resolve.specs.Named.{map_ok, units_refs}
-
-abbrev after_units : List ℕ → List RawUnit → Result (List RawUnit × Doc ℕ) Fault
-after_units bytes units = units_said bytes units
+use Rattle.dwz_graph.specs.declared.file.File.{File}
+use Rattle.dwz_graph.specs.Files.{AreKept}
+use Rattle.dwz_graph.proofs.GraphLemmas.{as_many}
 
 abbrev after_machine : Limits → List ℕ → Unit {0} → Result (List RawUnit × Doc ℕ) Fault
-after_machine l bytes machine = units_at (debug_abbrev bytes) (given l.entries) 0 (input (debug_info bytes) 0) >>= after_units bytes
+after_machine l bytes machine = units_at (debug_abbrev bytes) (given l.entries) 0 (input (debug_info bytes) 0) >>= units_said bytes
 
 abbrev after_elf : Limits → List ℕ → Unit {0} → Result (List RawUnit × Doc ℕ) Fault
 after_elf l bytes elf = unless_so (is_other_machine l.machine (machine_of bytes)) (file_fault Machine machine_at) >>= after_machine l bytes
@@ -43,14 +45,15 @@ sized : (l : Limits) (bytes : List ℕ) → is_too_long l bytes ≡ false → fi
 unfolding file_meaning
 sized l bytes e = ap (λ (b : Bool). unless_so b (file_fault FileSize 0) >>= after_size l bytes) e
 
-pub elf_fails : (e : ReadErr) (l : Limits) (bytes : List ℕ) (elf : ElfView) → is_too_long l bytes ≡ false → Gives (Err e) (elf_fault bytes) elf → Fails e (file_meaning l bytes)
+pub elf_fails : (e : ReadErr) (l : Limits) (bytes : List ℕ) (elf : ElfView) → is_too_long l bytes ≡ false → GivesOrRefuses (Err e) (elf_fault bytes) elf → Fails e (file_meaning l bytes)
 elf_fails NoMemory l bytes elf size is = tt
 elf_fails (Refused f) l bytes elf size is = sized l bytes size ∙ ap (λ (o : Option Fault). ends_at o >>= after_elf l bytes) is
 
 elf_reads : (l : Limits) (bytes : List ℕ) → is_too_long l bytes ≡ false → elf_fault bytes ≡ None → file_meaning l bytes ≡ after_elf l bytes tt
 elf_reads l bytes size none = sized l bytes size ∙ ap (λ (o : Option Fault). ends_at o >>= after_elf l bytes) none
 
-pub other_machine : (l : Limits) (bytes : List ℕ) → is_too_long l bytes ≡ false → elf_fault bytes ≡ None → is_other_machine l.machine (machine_of bytes) ≡ true → file_meaning l bytes ≡ Err (file_fault Machine machine_at)
+pub other_machine : (l : Limits) (bytes : List ℕ) → is_too_long l bytes ≡ false → elf_fault bytes ≡ None → is_other_machine l.machine (machine_of bytes) ≡ true
+    → file_meaning l bytes ≡ Err (file_fault Machine machine_at)
 other_machine l bytes size none e = elf_reads l bytes size none ∙ ap (λ (b : Bool). unless_so b (file_fault Machine machine_at) >>= after_machine l bytes) e
 
 -- up to the machine nothing is wrong
@@ -67,16 +70,18 @@ pub content_is : (bytes shown : List ℕ) (elf : ElfView) (code : ℕ) → elf �
 unfolding section_of elf_of
 content_is bytes shown elf code is e = e ∙ ap (λ (v : ElfView). bytes_in bytes (section_range v.sections code)) is
 
-same_units : (l : Limits) (bytes info abbrevs : List ℕ) → info ≡ debug_info bytes → abbrevs ≡ debug_abbrev bytes → units_at (debug_abbrev bytes) (given l.entries) 0 (input (debug_info bytes) 0) ≡ units_at abbrevs (given l.entries) 0 (input info 0)
+same_units : (l : Limits) (bytes info abbrevs : List ℕ) → info ≡ debug_info bytes → abbrevs ≡ debug_abbrev bytes → units_at (debug_abbrev bytes) (given l.entries) 0 (input (debug_info bytes) 0)
+    ≡ units_at abbrevs (given l.entries) 0 (input info 0)
 same_units l bytes info abbrevs e f = (λ i. units_at (sym f i) (given l.entries) 0 (input (sym e i) 0))
 
 pub units_fail : (e : ReadErr) (l : Limits) (bytes info abbrevs : List ℕ) → IsGood l bytes → info ≡ debug_info bytes → abbrevs ≡ debug_abbrev bytes
     → Fails e (units_at abbrevs (given l.entries) 0 (input info 0)) → Fails e (file_meaning l bytes)
 units_fail NoMemory l bytes info abbrevs g e f is = tt
-units_fail (Refused x) l bytes info abbrevs g e f is = good_reads l bytes g ∙ ap (λ (r : Result (List RawUnit) Fault). r >>= after_units bytes) (same_units l bytes info abbrevs e f ∙ is)
+units_fail (Refused x) l bytes info abbrevs g e f is = good_reads l bytes g ∙ ap (λ (r : Result (List RawUnit) Fault). r >>= units_said bytes) (same_units l bytes info abbrevs e f ∙ is)
 
-units_read : (l : Limits) (bytes info abbrevs : List ℕ) (raw : List RawUnit) → IsGood l bytes → info ≡ debug_info bytes → abbrevs ≡ debug_abbrev bytes → units_at abbrevs (given l.entries) 0 (input info 0) ≡ Ok raw → file_meaning l bytes ≡ after_units bytes raw
-units_read l bytes info abbrevs raw g e f is = good_reads l bytes g ∙ ap (λ (r : Result (List RawUnit) Fault). r >>= after_units bytes) (same_units l bytes info abbrevs e f ∙ is)
+units_read : (l : Limits) (bytes info abbrevs : List ℕ) (raw : List RawUnit) → IsGood l bytes → info ≡ debug_info bytes → abbrevs ≡ debug_abbrev bytes
+    → units_at abbrevs (given l.entries) 0 (input info 0) ≡ Ok raw → file_meaning l bytes ≡ units_said bytes raw
+units_read l bytes info abbrevs raw g e f is = good_reads l bytes g ∙ ap (λ (r : Result (List RawUnit) Fault). r >>= units_said bytes) (same_units l bytes info abbrevs e f ∙ is)
 
 -- what the units of the file say, or the first fault
 abbrev said_of : List ℕ → List RawUnit → Result (List (DwUnit ℕ)) Fault
@@ -88,11 +93,13 @@ said_same bytes raw = by (units_meaning (around_of bytes raw) raw) where
   last units (Ok good) = refl
   last units (Err f) = refl
 
-  middle : (units : List (DwUnit ℕ)) (r : Result (List RangeSet) Fault) → (r >>= λ sets. lists_said bytes raw >>= λ good. doc_with bytes raw units) ≡ ((r >>= behind_sets (around_of bytes raw) raw units) >>= doc_with bytes raw)
+  middle : (units : List (DwUnit ℕ)) (r : Result (List RangeSet) Fault) → (r >>= λ sets. lists_said bytes raw >>= λ good. doc_with bytes raw units)
+      ≡ ((r >>= behind_sets (around_of bytes raw) raw units) >>= doc_with bytes raw)
   middle units (Ok sets) = last units (lists_said bytes raw)
   middle units (Err f) = refl
 
-  by : (r : Result (List (DwUnit ℕ)) Fault) → (r >>= λ units. sets_said bytes raw >>= λ sets. lists_said bytes raw >>= λ good. doc_with bytes raw units) ≡ ((r >>= behind_units (around_of bytes raw) raw (debug_aranges bytes)) >>= doc_with bytes raw)
+  by : (r : Result (List (DwUnit ℕ)) Fault) → (r >>= λ units. sets_said bytes raw >>= λ sets. lists_said bytes raw >>= λ good. doc_with bytes raw units)
+      ≡ ((r >>= behind_units (around_of bytes raw) raw (debug_aranges bytes)) >>= doc_with bytes raw)
   by (Ok units) = middle units (sets_said bytes raw)
   by (Err f) = refl
 
@@ -101,7 +108,8 @@ map_fails NoMemory bytes raw r is = tt
 map_fails (Refused f) bytes raw (Ok units) is = absurd cc
 map_fails (Refused f) bytes raw (Err g) is = let same : g ≡ f = cc in ap (λ (x : Fault). Err x) same
 
-pub named_fail : (e : ReadErr) (l : Limits) (bytes info abbrevs : List ℕ) (sources : Sources) (aranges : List ℕ) (raw : List RawUnit) → IsGood l bytes → info ≡ debug_info bytes → abbrevs ≡ debug_abbrev bytes → sources ≡ sources_of bytes → aranges ≡ debug_aranges bytes
+pub named_fail : (e : ReadErr) (l : Limits) (bytes info abbrevs : List ℕ) (sources : Sources) (aranges : List ℕ) (raw : List RawUnit) → IsGood l bytes → info ≡ debug_info bytes
+    → abbrevs ≡ debug_abbrev bytes → sources ≡ sources_of bytes → aranges ≡ debug_aranges bytes
     → units_at abbrevs (given l.entries) 0 (input info 0) ≡ Ok raw → Fails e (map_ok units_refs (said (alone sources raw) raw aranges)) → Fails e (file_meaning l bytes)
 named_fail e l bytes info abbrevs sources aranges raw g i a s r is bad =
     subst (λ (q : Result (List RawUnit × Doc ℕ) Fault). Fails e q) (sym (units_read l bytes info abbrevs raw g i a is ∙ said_same bytes raw))
@@ -115,17 +123,20 @@ pub record HasDoc (l : Limits) (bytes : List ℕ) (raw : List RawUnit) (named : 
   pub means : file_meaning l bytes ≡ Ok (raw, doc)
   pub refs : units_refs doc.units ≡ named
 
-doc_there : (bytes : List ℕ) (raw : List RawUnit) (named : List ℕ) (r : Result (List (DwUnit ℕ)) Fault) → map_ok units_refs r ≡ Ok named → (doc : Doc ℕ) × ((r >>= doc_with bytes raw) ≡ Ok (raw, doc)) × (units_refs doc.units ≡ named)
+doc_there : (bytes : List ℕ) (raw : List RawUnit) (named : List ℕ) (r : Result (List (DwUnit ℕ)) Fault) → map_ok units_refs r ≡ Ok named → (doc : Doc ℕ) × ((r >>= doc_with bytes raw) ≡ Ok (raw, doc))
+    × (units_refs doc.units ≡ named)
 doc_there bytes raw named (Ok units) e = (record { machine = machine_of bytes; units = units }, refl, (let same : units_refs units ≡ named = cc in same))
 doc_there bytes raw named (Err f) e = absurd cc
 
-pub has_doc : (l : Limits) (bytes info abbrevs : List ℕ) (sources : Sources) (aranges : List ℕ) (raw : List RawUnit) (named : List ℕ) → IsGood l bytes → info ≡ debug_info bytes → abbrevs ≡ debug_abbrev bytes → sources ≡ sources_of bytes → aranges ≡ debug_aranges bytes
+pub has_doc : (l : Limits) (bytes info abbrevs : List ℕ) (sources : Sources) (aranges : List ℕ) (raw : List RawUnit) (named : List ℕ) → IsGood l bytes → info ≡ debug_info bytes
+    → abbrevs ≡ debug_abbrev bytes → sources ≡ sources_of bytes → aranges ≡ debug_aranges bytes
     → units_at abbrevs (given l.entries) 0 (input info 0) ≡ Ok raw → map_ok units_refs (said (alone sources raw) raw aranges) ≡ Ok named → HasDoc l bytes raw named
 has_doc l bytes info abbrevs sources aranges raw named g i a s r is good =
     let d = doc_there bytes raw named (said_of bytes raw) ((λ k. map_ok units_refs (said (alone (sym s k) raw) raw (sym r k))) ∙ good) in
     record { doc = d.0; means = units_read l bytes info abbrevs raw g i a is ∙ said_same bytes raw ∙ d.1; refs = d.2 }
 
-pub same_rows : (bytes : List ℕ) (sources : Sources) (raw : List RawUnit) (rows : List ListOperand) → sources ≡ sources_of bytes → AreRows (lists_of_units (alone sources raw) raw) rows → AreRows (lists_of_units (around_of bytes raw) raw) rows
+pub same_rows : (bytes : List ℕ) (sources : Sources) (raw : List RawUnit) (rows : List ListOperand) → sources ≡ sources_of bytes → AreRows (lists_of_units (alone sources raw) raw) rows
+    → AreRows (lists_of_units (around_of bytes raw) raw) rows
 same_rows bytes sources raw rows s h = subst (λ (x : Sources). AreRows (lists_of_units (alone x raw) raw) rows) s h
 
 pub machine_is : (bytes : List ℕ) (elf : ElfView) (m : ℕ) → elf ≡ elf_of bytes → m ≡ elf.file.machine → m ≡ machine_of bytes
@@ -135,18 +146,10 @@ machine_is bytes elf m is e = e ∙ ap (λ (v : ElfView). v.file.machine) is
 not_above : (m n : ℕ) → ltb m n ≡ false → n ≤ m
 not_above m n e = elim (cases_lt m n) [ inl lt ↦ absurd (false≢true (sym e ∙ lt-ltb m n lt)) | inr ge ↦ ge ]
 
-first_false : (a b : Bool) → (a || b) ≡ false → a ≡ false
-first_false true b e = absurd (false≢true (sym e))
-first_false false b e = refl
-
-second_false : (a b : Bool) → (a || b) ≡ false → b ≡ false
-second_false true b e = absurd (false≢true (sym e))
-second_false false b e = e
-
 pub not_too_long : (l : Limits) (bytes : List ℕ) → is_too_long l bytes ≡ false → IsNotTooLong l bytes
 not_too_long l bytes e = record {
-  file = not_above longest_file (length bytes) (first_false (ltb longest_file (length bytes)) (ltb l.bytes (length bytes)) e);
-  files = not_above l.bytes (length bytes) (second_false (ltb longest_file (length bytes)) (ltb l.bytes (length bytes)) e);
+  file = not_above longest_file (length bytes) (or_left (ltb longest_file (length bytes)) (ltb l.bytes (length bytes)) e);
+  files = not_above l.bytes (length bytes) (or_right (ltb longest_file (length bytes)) (ltb l.bytes (length bytes)) e);
 }
 
 pub for_machine : (other : Option ℕ) (machine : ℕ) → is_other_machine other machine ≡ false → IsForMachine other machine
@@ -158,11 +161,7 @@ for_machine (Some other) machine e = elim (cases_Bool (eqb machine other)) [
 
 pub fits_file : (l : Limits) (bytes : List ℕ) → is_too_long l bytes ≡ false → length bytes ≤ 2 ^ 28
 unfolding longest_file
-fits_file l bytes e = not_above (2 ^ 28) (length bytes) (first_false (ltb (2 ^ 28) (length bytes)) (ltb l.bytes (length bytes)) e)
-
-pub in_bytes : (bytes : List ℕ) (o : Option (ℕ × ℕ)) → length (bytes_in bytes o) ≤ length bytes
-in_bytes bytes None = omega arith
-in_bytes bytes (Some r) = omega (arith, length-take r.1 (drop r.0 bytes), length-drop r.0 bytes)
+fits_file l bytes e = not_above (2 ^ 28) (length bytes) (or_left (ltb (2 ^ 28) (length bytes)) (ltb l.bytes (length bytes)) e)
 
 pub bytes_short : (l : Limits) (bytes : List ℕ) → is_too_long l bytes ≡ false → length bytes < 2 ^ 32
 bytes_short l bytes f = let fits = fits_file l bytes f in omega arith
@@ -172,3 +171,6 @@ range_short bytes shown o e few = let within = in_bytes bytes o in let len = ap 
 
 pub content_short : (l : Limits) (bytes shown : List ℕ) (o : Option (ℕ × ℕ)) → shown ≡ bytes_in bytes o → is_too_long l bytes ≡ false → length shown < 2 ^ 32
 content_short l bytes shown o e f = range_short bytes shown o e (bytes_short l bytes f)
+
+pub files_few : (contents : List (List ℕ)) (files : List File) → AreKept contents files → length files ≡ length contents
+files_few contents files kept = as_many no_files_before 0 contents files kept.end kept.are

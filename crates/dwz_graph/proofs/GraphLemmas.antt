@@ -1,5 +1,5 @@
 -- Files are read one after the other.
-use Rattle.std.proofs.Common.{◌<◌, get_or, slice_get, zero}
+use Rattle.std.proofs.Common.{slice_get, zero}
 use Rattle.std.proofs.Common.{◌≡◌, ℕ, suc, ◌+◌, ◌-◌, List, [], ◌∷◌, ◌++◌, length, Some, None, Result, Ok, Err, refl, sym, ap, subst, ◌∙◌, arith}
 use Rattle.std.proofs.lemmas.List.{append-nil}
 use Rattle.dwz_model.specs.declared.fault.Fault.{Fault}
@@ -33,7 +33,8 @@ one_before : (doc : Doc ℕ) (docs : List (Doc ℕ)) (r : Result (List (Doc ℕ)
 one_before doc docs (Ok others) = refl
 one_before doc docs (Err e) = refl
 
-pub step : (l : Limits) (n : ℕ) (b : List ℕ) (raw : List RawUnit) (doc : Doc ℕ) (rest : List (List ℕ)) → file_meaning l b ≡ Ok (raw, doc) → files_meaning l n (b ∷ rest) ≡ (files_meaning (limits_after l b raw) (suc n) rest >>= with_doc doc)
+pub step : (l : Limits) (n : ℕ) (b : List ℕ) (raw : List RawUnit) (doc : Doc ℕ) (rest : List (List ℕ)) → file_meaning l b ≡ Ok (raw, doc)
+    → files_meaning l n (b ∷ rest) ≡ (files_meaning (limits_after l b raw) (suc n) rest >>= with_doc doc)
 unfolding files_meaning
 step l n b raw doc rest e = ap (λ (r : Result (List RawUnit × Doc ℕ) Fault). in_file n r >>= λ x. files_meaning (limits_after l b x.0) (suc n) rest >>= with_doc x.1) e
 
@@ -57,8 +58,12 @@ goes l n (b ∷ xs) (f ∷ fs) end h =
           ∙ ap (λ (k : ℕ). after_docs (r.doc ∷ rest.docs) (files_meaning end k ys)) e);
     }
 
-pub are_more : (l : Limits) (n : ℕ) (xs : List (List ℕ)) (fs : List File) (end next : Limits) (b : List ℕ) (f : File) → AreRead l n xs fs end → IsRead end (n + length xs) b f → limits_after end b (units_of f.units) ≡ next → AreRead l n (xs ++ b ∷ []) (fs ++ f ∷ []) next
-are_more l n [] [] end next b f h r e = (subst (λ (m : Limits). IsRead m n b f) (sym h) (subst (λ (k : ℕ). IsRead end k b f) (let none : n + 0 ≡ n = omega arith in none) r), ap (λ (m : Limits). limits_after m b (units_of f.units)) h ∙ e)
+pub are_more : (l : Limits) (n : ℕ) (xs : List (List ℕ)) (fs : List File) (end next : Limits) (b : List ℕ) (f : File) → AreRead l n xs fs end → IsRead end (n + length xs) b f
+    → limits_after end b (units_of f.units) ≡ next → AreRead l n (xs ++ b ∷ []) (fs ++ f ∷ []) next
+are_more l n [] [] end next b f h r e = (
+  subst (λ (m : Limits). IsRead m n b f) (sym h) (subst (λ (k : ℕ). IsRead end k b f) (let none : n + 0 ≡ n = omega arith in none) r),
+  ap (λ (m : Limits). limits_after m b (units_of f.units)) h ∙ e,
+)
 are_more l n [] (g ∷ fs) end next b f h r e = absurd h
 are_more l n (x ∷ xs) [] end next b f h r e = absurd h
 are_more l n (x ∷ xs) (g ∷ fs) end next b f h r e =
@@ -79,11 +84,13 @@ pub files_read : (xs : List (List ℕ)) (fs : List File) (end : Limits) → AreR
 unfolding docs_of
 files_read xs fs end h = let r = all_read no_files_before xs fs end h in or_same (files_meaning no_files_before 0 xs) r.0 r.1
 
-bad_step : (l : Limits) (n : ℕ) (b : List ℕ) (f : Fault) (rest : List (List ℕ)) → file_meaning l b ≡ Err f → files_meaning l n (b ∷ rest) ≡ Err (record { file = n; section = f.section; at = f.at; reason = f.reason })
+bad_step : (l : Limits) (n : ℕ) (b : List ℕ) (f : Fault) (rest : List (List ℕ)) → file_meaning l b ≡ Err f
+    → files_meaning l n (b ∷ rest) ≡ Err (record { file = n; section = f.section; at = f.at; reason = f.reason })
 unfolding files_meaning
 bad_step l n b f rest e = ap (λ (r : Result (List RawUnit × Doc ℕ) Fault). in_file n r >>= λ x. files_meaning (limits_after l b x.0) (suc n) rest >>= with_doc x.1) e
 
-pub files_fail : (e : ReadErr) (all xs : List (List ℕ)) (fs : List File) (end : Limits) (n : ℕ) (b : List ℕ) (rest : List (List ℕ)) → all ≡ xs ++ b ∷ rest → length xs ≡ n → AreRead no_files_before 0 xs fs end → Fails e (file_meaning end b) → FilesFail (refused_file n e) (files_meaning no_files_before 0 all)
+pub files_fail : (e : ReadErr) (all xs : List (List ℕ)) (fs : List File) (end : Limits) (n : ℕ) (b : List ℕ) (rest : List (List ℕ)) → all ≡ xs ++ b ∷ rest → length xs ≡ n
+    → AreRead no_files_before 0 xs fs end → Fails e (file_meaning end b) → FilesFail (refused_file n e) (files_meaning no_files_before 0 all)
 files_fail NoMemory all xs fs end n b rest is many h bad = tt
 files_fail (Refused f) all xs fs end n b rest is many h bad =
     let g = goes no_files_before 0 xs fs end h in
@@ -112,7 +119,8 @@ pub record IsFileThere (l : Limits) (number : ℕ) (xs : List (List ℕ)) (i : �
   pub read : IsRead limits number b f
   pub there : HasFile l xs i limits b (units_of f.units) read.doc
 
-pub file_there : (l : Limits) (n : ℕ) (xs : List (List ℕ)) (fs : List File) (end : Limits) (i number : ℕ) (b : List ℕ) (f : File) → number ≡ n + i → AreRead l n xs fs end → slice_get xs i ≡ Some b → slice_get fs i ≡ Some f → IsFileThere l number xs i b f
+pub file_there : (l : Limits) (n : ℕ) (xs : List (List ℕ)) (fs : List File) (end : Limits) (i number : ℕ) (b : List ℕ) (f : File) → number ≡ n + i → AreRead l n xs fs end → slice_get xs i ≡ Some b
+    → slice_get fs i ≡ Some f → IsFileThere l number xs i b f
 file_there l n [] fs end i number b f at h e g = absurd cc
 file_there l n (x ∷ xs) [] end i number b f at h e g = absurd h
 file_there l n (x ∷ xs) (y ∷ fs) end zero number b f at h e g =
@@ -134,7 +142,8 @@ unfolding units_in
 one_meaning r a b s t e f = ap (units_in a) (sym e ∙ f)
 
 -- a file has just one meaning
-pub same_raw : (l : Limits) (xs : List (List ℕ)) (i : ℕ) (m n : Limits) (b d : List ℕ) (raw other : List RawUnit) (doc said : Doc ℕ) → HasFile l xs i m b raw doc → HasFile l xs i n d other said → (b ≡ d) × (raw ≡ other)
+pub same_raw : (l : Limits) (xs : List (List ℕ)) (i : ℕ) (m n : Limits) (b d : List ℕ) (raw other : List RawUnit) (doc said : Doc ℕ) → HasFile l xs i m b raw doc → HasFile l xs i n d other said
+    → (b ≡ d) × (raw ≡ other)
 same_raw l [] i m n b d raw other doc said h k = absurd h
 same_raw l (x ∷ xs) zero m n b d raw other doc said h k = (sym h.1 ∙ k.1, one_meaning (file_meaning l x) raw other doc said h.2 k.2)
 same_raw l (x ∷ xs) (suc i) m n b d raw other doc said h k =
@@ -145,8 +154,3 @@ pub content_of : (l : Limits) (xs : List (List ℕ)) (i : ℕ) (m : Limits) (b :
 content_of l [] i m b raw doc h = absurd h
 content_of l (x ∷ xs) zero m b raw doc h = ap (λ (w : List ℕ). Some w) h.1
 content_of l (x ∷ xs) (suc i) m b raw doc h = content_of (limits_after l x h.0) xs i m b raw doc h.3
-
-pub found_at : {X : Type 0} (xs : List X) (k : ℕ) (x : X) → k < length xs → x ≡ get_or xs k x → slice_get xs k ≡ Some x
-found_at [] k x l e = absurd (omega arith)
-found_at {X} (y ∷ xs) zero x l e = ap (λ (w : X). Some w) (sym e)
-found_at (y ∷ xs) (suc k) x l e = found_at xs k x (omega arith) e

@@ -8,7 +8,8 @@ use Rattle.dwz_model.specs.declared.fault.Refusal.{Refusal}
 use Rattle.dwz_meanings.specs.Documents.{Doc}
 use Rattle.dwz_docs.specs.ElfReading.{elf_of}
 use Rattle.dwz_docs.specs.Faults.{Fails}
-use Rattle.dwz_meanings.specs.Files.{Limits, around_of, debug_aranges, debug_info, file_meaning, files_meaning, limits_after, no_files_before, sources_of}
+use Rattle.dwz_meanings.specs.Files.{Limits, around_of, debug_aranges, debug_info, file_meaning, files_meaning, limits_after}
+use Rattle.dwz_meanings.specs.Files.{no_files_before, sources_of}
 use Rattle.dwz_docs.specs.Units.{RawUnit, entries_in}
 use Rattle.dwz_meanings.specs.NamedLists.{lists_of_units}
 use Rattle.dwz_meanings.specs.Shared.{AreRows}
@@ -23,16 +24,19 @@ use Rattle.dwz_unit.specs.Rows.{units_of}
 abbrev pub limits_view : Left → Limits
 limits_view l = record { bytes = l.bytes; entries = l.entries; machine = l.machine }
 
--- The file with that number says what a document does. Its units are kept, the numbers of the entries that its references name, those of each entry in a
--- part of their own, and the line tables whose files are numbered.
+-- The file with that number says what a document does. Its units are kept, the numbers of the entries that its references name, those of
+-- each entry in a part of their own, and the line tables whose files are numbered.
 pub record IsRead (l : Limits) (number : ℕ) (bytes : List ℕ) (f : File) : Type 0 where
   pub doc : Doc ℕ
   pub means : file_meaning l bytes ≡ Ok (units_of f.units, doc)
   pub named : units_refs doc.units ≡ map (place_at (units_of f.units)) f.resolved.refs.items
   pub within : AreEntries (units_of f.units) f.resolved.refs.items
-  pub parts : AreParted (around_of bytes (units_of f.units)) (units_of f.units) (entries_in (units_of f.units)) f.resolved.refs.items f.resolved.starts.items
-  pub lines : HaveLines (around_of bytes (units_of f.units)) (units_of f.units) (length (units_of f.units)) f.resolved.tables.items f.resolved.lines.items
-  pub operands : AreRows (lists_of_units (around_of bytes (units_of f.units)) (units_of f.units)) (map (operand_view (units_of f.units)) f.resolved.operands.items)
+  pub parts : AreParted (around_of bytes (units_of f.units)) (units_of f.units) (entries_in (units_of f.units)) f.resolved.refs.items
+      f.resolved.starts.items
+  pub lines : HaveLines (around_of bytes (units_of f.units)) (units_of f.units) (length (units_of f.units)) f.resolved.tables.items
+      f.resolved.lines.items
+  pub operands : AreRows (lists_of_units (around_of bytes (units_of f.units)) (units_of f.units))
+      (map (operand_view (units_of f.units)) f.resolved.operands.items)
   pub of_file : AreOfFile (units_of f.units) number f.resolved.operands.items
   pub elf : f.elf ≡ elf_of bytes
   pub info : f.units.info ≡ debug_info bytes
@@ -46,7 +50,8 @@ ReadsFile l number bytes (Err e) = Fails e (file_meaning l bytes)
 -- each file, where the first has those limits and that number, and what is behind the last is left
 abbrev pub AreRead : Limits → ℕ → List (List ℕ) → List File → Limits → Type 0
 AreRead l number [] [] end = l ≡ end
-AreRead l number (bytes ∷ contents) (f ∷ files) end = IsRead l number bytes f × AreRead (limits_after l bytes (units_of f.units)) (suc number) contents files end
+AreRead l number (bytes ∷ contents) (f ∷ files) end = IsRead l number bytes f × AreRead (limits_after l bytes (units_of f.units))
+    (suc number) contents files end
 AreRead l number _ _ end = ⊥
 
 -- the files of a run
@@ -59,7 +64,8 @@ abbrev pub HasFile : Limits → List (List ℕ) → ℕ → Limits → List ℕ 
 HasFile l [] i m b raw doc = ⊥
 HasFile l (bytes ∷ contents) zero m b raw doc = (l ≡ m) × (bytes ≡ b) × (file_meaning l bytes ≡ Ok (raw, doc))
 HasFile l (bytes ∷ contents) (suc i) m b raw doc =
-    (units : List RawUnit) × (said : Doc ℕ) × (file_meaning l bytes ≡ Ok (units, said)) × HasFile (limits_after l bytes units) contents i m b raw doc
+    (units : List RawUnit) × (said : Doc ℕ) × (file_meaning l bytes ≡ Ok (units, said)) × HasFile (limits_after l bytes units) contents i m
+    b raw doc
 
 -- the file with that number, as it is kept
 pub record HasRead (contents : List (List ℕ)) (i : ℕ) (bytes : List ℕ) (f : File) : Type 0 where

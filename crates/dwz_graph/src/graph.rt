@@ -55,7 +55,8 @@ fn in_file(file: u32, error: ReadErr) -> GraphErr
 // What is left behind a file.
 #[inline(always)]
 fn behind(left: &Left, bytes: &[u8], file: &File<'_>) -> Left
-    ensures { file.now.elf ≡ elf_of bytes.now → limits_view result ≡ limits_after (limits_view left.now) bytes.now (units_of file.now.units) }
+    ensures { file.now.elf ≡ elf_of bytes.now → limits_view result ≡ limits_after (limits_view left.now) bytes.now
+        (units_of file.now.units) }
 {
     Left {
         bytes: left.bytes.saturating_sub(bytes.len()),
@@ -120,8 +121,11 @@ impl<'a> Graph<'a> {
     /// The operands of the location lists that attributes of the file with a number name, each once, in order of place.
     pub fn list_operands(&self, number: u32) -> &[ListOperand]
         requires { number < length self.now }
-        ensures rows { (l : Limits) (bytes : List ℕ) (raw : List RawUnit) (doc : Doc ℕ) → HasFile no_files_before self.now number l bytes raw doc → AreRows (lists_of_units (around_of bytes raw) raw) (map (operand_view raw) result.now) }
-        ensures of_file { (l : Limits) (bytes : List ℕ) (raw : List RawUnit) (doc : Doc ℕ) → HasFile no_files_before self.now number l bytes raw doc → AreOfFile raw number result.now }
+        ensures rows { (l : Limits) (bytes : List ℕ) (raw : List RawUnit) (doc : Doc ℕ)
+            → HasFile no_files_before self.now number l bytes raw doc
+            → AreRows (lists_of_units (around_of bytes raw) raw) (map (operand_view raw) result.now) }
+        ensures of_file { (l : Limits) (bytes : List ℕ) (raw : List RawUnit) (doc : Doc ℕ)
+            → HasFile no_files_before self.now number l bytes raw doc → AreOfFile raw number result.now }
     {
         &self.file(number).resolved.operands
     }

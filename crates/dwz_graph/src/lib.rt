@@ -4,8 +4,6 @@
 mod ahead;
 mod file;
 mod graph;
-#[cfg(test)]
-mod tests;
 
 pub use file::File;
 pub use graph::Graph;

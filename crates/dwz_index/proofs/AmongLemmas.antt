@@ -7,11 +7,13 @@ use Rattle.dwz_index.specs.declared.index.TopEntry.{TopEntry}
 use Rattle.dwz_index.specs.Steps.{space_entry, spaces_among, spaces_by, step, steps_among, steps_below, top_entry, tops_among, tops_by}
 
 module _ {E : Type 0} (space : E → Bool) (e : E) (c n : Forest E) where
-  pub steps_top : (top up i first : ℕ) → space e ≡ false → steps_among space top up i first (Entry e c n) ≡ step first 0 (suc top) ∷ (steps_below (suc top) first 0 (first + 1) c ++ steps_among space (suc top) up (suc i) (first + 1 + size c) n)
+  pub steps_top : (top up i first : ℕ) → space e ≡ false → steps_among space top up i first (Entry e c n) ≡ step first 0 (suc top)
+      ∷ (steps_below (suc top) first 0 (first + 1) c ++ steps_among space (suc top) up (suc i) (first + 1 + size c) n)
   unfolding steps_among
   steps_top top up i first h = rw (h, steps_among) refl
 
-  pub steps_space : (top up i first : ℕ) → space e ≡ true → steps_among space top up i first (Entry e c n) ≡ step up i 0 ∷ (steps_among space top first 0 (first + 1) c ++ steps_among space (top + tops_by space c) up (suc i) (first + 1 + size c) n)
+  pub steps_space : (top up i first : ℕ) → space e ≡ true → steps_among space top up i first (Entry e c n) ≡ step up i 0
+      ∷ (steps_among space top first 0 (first + 1) c ++ steps_among space (top + tops_by space c) up (suc i) (first + 1 + size c) n)
   unfolding steps_among
   steps_space top up i first h = rw (h, steps_among) refl
 
@@ -19,7 +21,8 @@ module _ {E : Type 0} (space : E → Bool) (e : E) (c n : Forest E) where
   unfolding tops_among
   tops_top unit inner k first h = rw (h, tops_among) refl
 
-  pub tops_space : (unit inner k first : ℕ) → space e ≡ true → tops_among space unit inner k first (Entry e c n) ≡ tops_among space unit (suc k) (suc k) (first + 1) c ++ tops_among space unit inner (suc k + spaces_by space c) (first + 1 + size c) n
+  pub tops_space : (unit inner k first : ℕ) → space e ≡ true → tops_among space unit inner k first (Entry e c n) ≡ tops_among space unit (suc k) (suc k) (first + 1) c
+      ++ tops_among space unit inner (suc k + spaces_by space c) (first + 1 + size c) n
   unfolding tops_among
   tops_space unit inner k first h = rw (h, tops_among) refl
 
@@ -27,7 +30,8 @@ module _ {E : Type 0} (space : E → Bool) (e : E) (c n : Forest E) where
   unfolding spaces_among
   spaces_top outer k first h = rw (h, spaces_among) refl
 
-  pub spaces_space : (outer k first : ℕ) → space e ≡ true → spaces_among space outer k first (Entry e c n) ≡ space_entry first outer ∷ (spaces_among space (suc k) (suc k) (first + 1) c ++ spaces_among space outer (suc k + spaces_by space c) (first + 1 + size c) n)
+  pub spaces_space : (outer k first : ℕ) → space e ≡ true → spaces_among space outer k first (Entry e c n) ≡ space_entry first outer
+      ∷ (spaces_among space (suc k) (suc k) (first + 1) c ++ spaces_among space outer (suc k + spaces_by space c) (first + 1 + size c) n)
   unfolding spaces_among
   spaces_space outer k first h = rw (h, spaces_among) refl
 

@@ -25,7 +25,8 @@ pub record Goes (raw : List RawUnit) (first end up top : ℕ) (old new : List St
 pub begins : (raw : List RawUnit) (first end up top : ℕ) (old : List Step) → HasList raw first end → Goes raw first end up top old old first 0
 begins raw first end up top old has = record { list = has; low = omega arith; rest = λ list is. record { left = list; is = is; steps = refl } }
 
-pub next_list : (raw : List RawUnit) (entry end : ℕ) (x : EntryOfCode) → HasList raw entry end → entry < end → slice_get (shown_entries raw) entry ≡ Some x → HasList raw (entry + 1) x.end × HasList raw x.end end × (entry < x.end) × (x.end ≤ end)
+pub next_list : (raw : List RawUnit) (entry end : ℕ) (x : EntryOfCode) → HasList raw entry end → entry < end → slice_get (shown_entries raw) entry ≡ Some x
+    → HasList raw (entry + 1) x.end × HasList raw x.end end × (entry < x.end) × (x.end ≤ end)
 next_list raw entry end x has lt shown =
     let s = some_entry raw entry end has lt in
     let n = list_next raw entry end x s.entry s.children s.next s.is shown in
@@ -33,8 +34,10 @@ next_list raw entry end x has lt shown =
     let b = n.next_are.ends in
     (record { list = s.children; is = n.children_are }, record { list = s.next; is = n.next_are }, omega arith, omega arith)
 
-pub goes_on : (raw : List RawUnit) (first end up top : ℕ) (old now pushed new : List Step) (entry index : ℕ) (x : EntryOfCode) → Goes raw first end up top old now entry index → entry < end → slice_get (shown_entries raw) entry ≡ Some x
-    → pushed ≡ now ++ step up index top ∷ [] → ((list : Forest RawEntry) → IsList raw (entry + 1) x.end list → new ≡ pushed ++ steps_below top entry 0 (entry + 1) list) → Goes raw first end up top old new x.end (index + 1)
+pub goes_on : (raw : List RawUnit) (first end up top : ℕ) (old now pushed new : List Step) (entry index : ℕ) (x : EntryOfCode) → Goes raw first end up top old now entry index → entry < end
+    → slice_get (shown_entries raw) entry ≡ Some x
+    → pushed ≡ now ++ step up index top ∷ [] → ((list : Forest RawEntry) → IsList raw (entry + 1) x.end list → new ≡ pushed ++ steps_below top entry 0 (entry + 1) list)
+    → Goes raw first end up top old new x.end (index + 1)
 unfolding steps_below
 goes_on raw first end up top old now pushed new entry index x g lt shown put below =
     let h = next_list raw entry end x g.list lt shown in
@@ -45,7 +48,8 @@ goes_on raw first end up top old now pushed new entry index x g lt shown put bel
       low = omega arith;
       rest = λ list is. (let l = g.rest list is in by list l.left l.is l.steps);
     } where
-      by : (list left : Forest RawEntry) → IsList raw entry end left → now ++ steps_below top up index entry left ≡ old ++ steps_below top up 0 first list → Left raw first end up top old new x.end (index + 1) list
+      by : (list left : Forest RawEntry) → IsList raw entry end left → now ++ steps_below top up index entry left ≡ old ++ steps_below top up 0 first list
+          → Left raw first end up top old new x.end (index + 1) list
       by list End is e = absurd (let z = is.ends in omega arith)
       by list (Entry d c n) is e =
           let r = list_next raw entry end x d c n is shown in
@@ -62,7 +66,8 @@ goes_on raw first end up top old now pushed new entry index x g lt shown put bel
                 ∙ e;
           }
 
-pub ends : (raw : List RawUnit) (first end up top : ℕ) (old new : List Step) (entry index : ℕ) → Goes raw first end up top old new entry index → end ≤ entry → (list : Forest RawEntry) → IsList raw first end list → new ≡ old ++ steps_below top up 0 first list
+pub ends : (raw : List RawUnit) (first end up top : ℕ) (old new : List Step) (entry index : ℕ) → Goes raw first end up top old new entry index → end ≤ entry → (list : Forest RawEntry)
+    → IsList raw first end list → new ≡ old ++ steps_below top up 0 first list
 unfolding steps_below
 ends raw first end up top old new entry index g le list is = (let l = g.rest list is in by l.left l.is l.steps) where
   by : (left : Forest RawEntry) → IsList raw entry end left → new ++ steps_below top up index entry left ≡ old ++ steps_below top up 0 first list → new ≡ old ++ steps_below top up 0 first list

@@ -14,3 +14,4 @@ pub mod TopLemmas
 pub mod TopUnits
 pub mod TextLemmas
 pub mod ChainLemmas
+pub mod RowUnits

@@ -48,7 +48,8 @@ pub few_list : (unit inner up i first : ℕ) (f : Forest RawEntry) (x : Index) �
 unfolding with_list
 few_list unit inner up i first End x h = few_more x first (first + 0) (omega arith) h
 few_list unit inner up i first (Entry e c n) x h =
-    go (few_list unit inner up (suc i) (first + 1 + size c) n (with_top unit inner first c x) (few_more (with_top unit inner first c x) (first + 1) (first + 1 + size c) (omega arith) (few_top unit inner first c x h)))
+    go (few_list unit inner up (suc i) (first + 1 + size c) n (with_top unit inner first c x)
+    (few_more (with_top unit inner first c x) (first + 1) (first + 1 + size c) (omega arith) (few_top unit inner first c x h)))
     (few_list unit inner up (suc i) (first + 1 + size c) n (with_list unit (space_behind x) first 0 (first + 1) c (with_space up i inner first x))
     (few_list unit (space_behind x) first 0 (first + 1) c (with_space up i inner first x) (few_space up i inner first x h)))
     (stored_space e)
@@ -101,7 +102,8 @@ pub record Goes (raw : List RawUnit) (first end unit inner up : ℕ) (old new : 
 pub begins : (raw : List RawUnit) (first end unit inner up : ℕ) (old : Index) → HasList raw first end → IsFew old first → Goes raw first end unit inner up old old first 0
 begins raw first end unit inner up old has few = record { list = has; low = omega arith; few = few; starts = refl; rest = λ list is. record { left = list; is = is; built = refl } }
 
-pub ends : (raw : List RawUnit) (first end unit inner up : ℕ) (old new : Index) (entry index : ℕ) → Goes raw first end unit inner up old new entry index → end ≤ entry → (list : Forest RawEntry) → IsList raw first end list → new ≡ with_list unit inner up 0 first list old
+pub ends : (raw : List RawUnit) (first end unit inner up : ℕ) (old new : Index) (entry index : ℕ) → Goes raw first end unit inner up old new entry index → end ≤ entry → (list : Forest RawEntry)
+    → IsList raw first end list → new ≡ with_list unit inner up 0 first list old
 unfolding with_list
 ends raw first end unit inner up old new entry index g le list is = (let l = g.rest list is in by l.left l.is l.built) where
   by : (left : Forest RawEntry) → IsList raw entry end left → with_list unit inner up index entry left new ≡ with_list unit inner up 0 first list old → new ≡ with_list unit inner up 0 first list old
@@ -109,11 +111,14 @@ ends raw first end unit inner up old new entry index g le list is = (let l = g.r
   by (Entry d c n) is e = absurd (let z = is.ends in omega arith)
 
 -- an entry is no space just where the test says so
-tested : (raw : List RawUnit) (entry end : ℕ) (x : EntryOfCode) (d : RawEntry) (c n : Forest RawEntry) (b t : Bool) → Next raw entry end x d c n → ((row : EntryRow) → slice_get (rows_of raw) entry ≡ Some row → b ≡ stored_space row.entry) → b ≡ t → t ≡ stored_space d
+tested : (raw : List RawUnit) (entry end : ℕ) (x : EntryOfCode) (d : RawEntry) (c n : Forest RawEntry) (b t : Bool) → Next raw entry end x d c n
+    → ((row : EntryRow) → slice_get (rows_of raw) entry ≡ Some row → b ≡ stored_space row.entry) → b ≡ t → t ≡ stored_space d
 tested raw entry end x d c n b t next says is = sym is ∙ says next.row next.found ∙ ap stored_space next.entry
 
-pub with_one_top : (raw : List RawUnit) (first end unit inner up : ℕ) (old now new : Index) (entry index : ℕ) (x : EntryOfCode) (b : Bool) → Goes raw first end unit inner up old now entry index → entry < end → slice_get (shown_entries raw) entry ≡ Some x
-    → ((row : EntryRow) → slice_get (rows_of raw) entry ≡ Some row → b ≡ stored_space row.entry) → b ≡ false → ((children : Forest RawEntry) → IsList raw (entry + 1) x.end children → new ≡ with_top unit inner entry children now) → Goes raw first end unit inner up old new x.end (index + 1)
+pub with_one_top : (raw : List RawUnit) (first end unit inner up : ℕ) (old now new : Index) (entry index : ℕ) (x : EntryOfCode) (b : Bool) → Goes raw first end unit inner up old now entry index
+    → entry < end → slice_get (shown_entries raw) entry ≡ Some x
+    → ((row : EntryRow) → slice_get (rows_of raw) entry ≡ Some row → b ≡ stored_space row.entry) → b ≡ false
+    → ((children : Forest RawEntry) → IsList raw (entry + 1) x.end children → new ≡ with_top unit inner entry children now) → Goes raw first end unit inner up old new x.end (index + 1)
 with_one_top raw first end unit inner up old now new entry index x b g lt shown says is made =
     let h = next_list raw entry end x g.list lt shown in
     let s = some_entry raw entry end g.list lt in
@@ -128,7 +133,8 @@ with_one_top raw first end unit inner up old now new entry index x b g lt shown 
       starts = ap (λ (w : Index). w.starts) same ∙ g.starts;
       rest = λ list are. (let l = g.rest list are in by list l.left l.is l.built);
     } where
-      by : (list left : Forest RawEntry) → IsList raw entry end left → with_list unit inner up index entry left now ≡ with_list unit inner up 0 first list old → Left raw first end unit inner up old new x.end (index + 1) list
+      by : (list left : Forest RawEntry) → IsList raw entry end left → with_list unit inner up index entry left now ≡ with_list unit inner up 0 first list old
+          → Left raw first end unit inner up old new x.end (index + 1) list
       by list End is e = absurd (let z = is.ends in omega arith)
       by list (Entry d c n) are e =
           let r = list_next raw entry end x d c n are shown in
@@ -136,12 +142,15 @@ with_one_top raw first end unit inner up old now new entry index x b g lt shown 
           record {
             left = n;
             is = r.next_are;
-            built = (λ k. with_list unit inner up (one k) (r.ends k) n (made c r.children_are k)) ∙ sym (list_top unit inner up index entry d c n now (tested raw entry end x d c n b false r says is)) ∙ e;
+            built = (λ k. with_list unit inner up (one k) (r.ends k) n (made c r.children_are k)) ∙ sym (list_top unit inner up index entry d c n now (tested raw entry end x d c n b false r says is))
+                ∙ e;
           }
 
-pub with_one_space : (raw : List RawUnit) (first end unit inner up : ℕ) (old now opened new : Index) (entry index space : ℕ) (x : EntryOfCode) (b : Bool) → Goes raw first end unit inner up old now entry index → entry < end → slice_get (shown_entries raw) entry ≡ Some x
+pub with_one_space : (raw : List RawUnit) (first end unit inner up : ℕ) (old now opened new : Index) (entry index space : ℕ) (x : EntryOfCode) (b : Bool)
+    → Goes raw first end unit inner up old now entry index → entry < end → slice_get (shown_entries raw) entry ≡ Some x
     → ((row : EntryRow) → slice_get (rows_of raw) entry ≡ Some row → b ≡ stored_space row.entry) → b ≡ true → opened ≡ with_space up index inner entry now → space ≡ space_behind now
-    → ((children : Forest RawEntry) → IsList raw (entry + 1) x.end children → new ≡ with_list unit space entry 0 (entry + 1) children opened) → Goes raw first end unit inner up old new x.end (index + 1)
+    → ((children : Forest RawEntry) → IsList raw (entry + 1) x.end children → new ≡ with_list unit space entry 0 (entry + 1) children opened)
+    → Goes raw first end unit inner up old new x.end (index + 1)
 with_one_space raw first end unit inner up old now opened new entry index space x b g lt shown says is open_is number made =
     let h = next_list raw entry end x g.list lt shown in
     let s = some_entry raw entry end g.list lt in
@@ -152,11 +161,13 @@ with_one_space raw first end unit inner up old now opened new entry index space 
     record {
       list = h.1;
       low = omega arith;
-      few = subst (λ (w : ℕ). IsFew new w) (sym n.ends) (subst (λ (w : Index). IsFew w (entry + 1 + size s.children)) (sym same) (few_list unit (space_behind now) entry 0 (entry + 1) s.children (with_space up index inner entry now) (few_space up index inner entry now g.few)));
+      few = subst (λ (w : ℕ). IsFew new w) (sym n.ends) (subst (λ (w : Index). IsFew w (entry + 1 + size s.children)) (sym same)
+          (few_list unit (space_behind now) entry 0 (entry + 1) s.children (with_space up index inner entry now) (few_space up index inner entry now g.few)));
       starts = ap (λ (w : Index). w.starts) same ∙ starts_kept unit (space_behind now) entry 0 (entry + 1) s.children (with_space up index inner entry now) ∙ g.starts;
       rest = λ list are. (let l = g.rest list are in by list l.left l.is l.built);
     } where
-      by : (list left : Forest RawEntry) → IsList raw entry end left → with_list unit inner up index entry left now ≡ with_list unit inner up 0 first list old → Left raw first end unit inner up old new x.end (index + 1) list
+      by : (list left : Forest RawEntry) → IsList raw entry end left → with_list unit inner up index entry left now ≡ with_list unit inner up 0 first list old
+          → Left raw first end unit inner up old new x.end (index + 1) list
       by list End is e = absurd (let z = is.ends in omega arith)
       by list (Entry d c n) are e =
           let r = list_next raw entry end x d c n are shown in
@@ -198,7 +209,8 @@ list_long unit inner up i first (Entry e c n) x =
     b : Index
     b = with_list unit inner up (suc i) (first + 1 + size c) n inside
 
-    go : length a.steps ≡ length (with_top unit inner first c x).steps + size n → length b.steps ≡ length inside.steps + size n → length inside.steps ≡ length (with_space up i inner first x).steps + size c → (s : Bool)
+    go : length a.steps ≡ length (with_top unit inner first c x).steps + size n → length b.steps ≡ length inside.steps + size n → length inside.steps ≡ length (with_space up i inner first x).steps
+        + size c → (s : Bool)
         → length (elim s as (λ _. Index) [ false ↦ a | true ↦ b ]).steps ≡ length x.steps + (size c + size n + 1)
     go p q r false =
         let one = length-append x.steps (step first 0 top ∷ []) in

@@ -4,19 +4,12 @@ use Rattle.std.proofs.lemmas.List.{append_assoc, drop_all, drop_at, length-appen
 use Rattle.dwz_docs.specs.Entries.{RawEntry}
 use Rattle.dwz_docs.specs.Trees.{End, Entry, Forest, Position, behind, first_below, size}
 use Rattle.dwz_docs.specs.Units.{RawUnit, entries_in}
+use Rattle.dwz_docs.proofs.ListFacts.{drop_first}
 use Rattle.dwz_unit.specs.declared.rows.RawEntry.{RawEntry as EntryOfCode}
 use Rattle.dwz_unit.specs.Rows.{EntryRow, rows_below, rows_of, shown_entries}
-use Rattle.dwz_resolve.proofs.RowLemmas.{below-length, row_is, rows-length}
+use Rattle.dwz_unit.proofs.RowLemmas.{shown-length}
+use Rattle.dwz_resolve.proofs.RowLemmas.{row_is, rows-length}
 use Rattle.dwz_index.specs.Building.{HasList, IsList}
-
-pub drop_first : {X : Type 0} (xs : List X) (i : ℕ) (x : X) (rest : List X) → drop i xs ≡ x ∷ rest → (slice_get xs i ≡ Some x) × (drop (i + 1) xs ≡ rest)
-drop_first [] zero x rest e = absurd cc
-drop_first [] (suc i) x rest e = absurd cc
-drop_first (y ∷ xs) zero x rest e = (let same : y ≡ x = cc in ap Some same, cc)
-drop_first {X} (y ∷ xs) (suc i) x rest e =
-    let r = drop_first xs i x rest e in
-    let one : suc i + 1 ≡ suc (i + 1) = omega arith in
-    (r.0, ap (λ (n : ℕ). drop n (y ∷ xs)) one ∙ r.1)
 
 pub drop_more : {X : Type 0} (xs : List X) (i j : ℕ) → drop (i + j) xs ≡ drop j (drop i xs)
 drop_more xs zero j = let e : 0 + j ≡ j = omega arith in ap (λ (n : ℕ). drop n xs) e
@@ -32,7 +25,8 @@ pub record Next (raw : List RawUnit) (first end : ℕ) (x : EntryOfCode) (e : Ra
   pub found : slice_get (rows_of raw) first ≡ Some row
   pub entry : row.entry ≡ e
 
-pub list_next : (raw : List RawUnit) (first end : ℕ) (x : EntryOfCode) (e : RawEntry) (children next : Forest RawEntry) → IsList raw first end (Entry e children next) → slice_get (shown_entries raw) first ≡ Some x → Next raw first end x e children next
+pub list_next : (raw : List RawUnit) (first end : ℕ) (x : EntryOfCode) (e : RawEntry) (children next : Forest RawEntry) → IsList raw first end (Entry e children next)
+    → slice_get (shown_entries raw) first ≡ Some x → Next raw first end x e children next
 unfolding rows_below
 list_next raw first end x e children next is shown =
     let p : Position = record { before = first; depth = is.depth } in
@@ -40,7 +34,7 @@ list_next raw first end x e children next is shown =
     let below = rows_below children is.unit (first_below p) in
     let others = rows_below next is.unit (behind p children) in
     let d = drop_first (rows_of raw) first row ((below ++ others) ++ is.after) is.rows in
-    let len : length below ≡ size children = below-length children is.unit (first_below p) in
+    let len : length below ≡ size children = shown-length children is.unit (first_below p) in
     let to : x.end ≡ first + 1 + size children = sym (ap (λ (y : EntryOfCode). y.end) (row_is raw first x row shown d.0)) in
     let rest : drop (first + 1) (rows_of raw) ≡ below ++ (others ++ is.after) = d.1 ∙ append_assoc below others is.after in
     let behind_them : drop (first + 1 + size children) (rows_of raw) ≡ others ++ is.after =
@@ -76,7 +70,7 @@ within raw first end h lt =
     let p : Position = record { before = first; depth = is.depth } in
     let a = ap (λ (w : List EntryRow). length w) is.rows in
     let b = length-append (rows_below h.list is.unit p) is.after in
-    let d = below-length h.list is.unit p in
+    let d = shown-length h.list is.unit p in
     let all = rows-length raw in
     let left = length-drop first (rows_of raw) in
     omega arith

@@ -64,7 +64,8 @@ module _ (s : Scope ℕ) where
       let k = next_space x in
       let more : x.starts.top + length (x.tops ++ top_entry first unit inner ∷ []) ≡ suc top = one_more x.starts.top x.tops (top_entry first unit inner) in
       let len = means_size c c' h in
-      let steps : ((x.steps ++ step first 0 (suc top) ∷ []) ++ steps_below (suc top) first 0 (first + 1) c) ++ steps_among is_space (x.starts.top + length (x.tops ++ top_entry first unit inner ∷ [])) up (suc i) (first + 1 + size c) n'
+      let steps : ((x.steps ++ step first 0 (suc top) ∷ []) ++ steps_below (suc top) first 0 (first + 1) c) ++ steps_among is_space (x.starts.top + length (x.tops ++ top_entry first unit inner ∷ []))
+      up (suc i) (first + 1 + size c) n'
       ≡ x.steps ++ steps_among is_space top up i first (Entry d c' n')
       = (λ j. ((x.steps ++ step first 0 (suc top) ∷ []) ++ means_below (suc top) first 0 (first + 1) c c' h j) ++ steps_among is_space (more j) up (suc i) (first + 1 + len j) n')
       ∙ front x.steps (step first 0 (suc top)) (steps_below (suc top) first 0 (first + 1) c') (steps_among is_space (suc top) up (suc i) (first + 1 + size c') n')
@@ -89,18 +90,22 @@ module _ (s : Scope ℕ) where
       let inside_steps = steps_among is_space top first 0 (first + 1) c' in
       let inside_tops = tops_among is_space unit (suc k) (x.starts.space + length (x.spaces ++ opened ∷ [])) (first + 1) c' in
       let inside_spaces = spaces_among is_space (suc k) (x.starts.space + length (x.spaces ++ opened ∷ [])) (first + 1) c' in
-      let more_tops : x.starts.top + length (x.tops ++ inside_tops) ≡ top + tops_by is_space c' = many_more x.starts.top x.tops inside_tops (tops_by is_space c') (tops_many is_space unit (suc k) _ (first + 1) c') in
+      let more_tops : x.starts.top + length (x.tops ++ inside_tops) ≡ top + tops_by is_space c' = many_more x.starts.top x.tops inside_tops (tops_by is_space c')
+      (tops_many is_space unit (suc k) _ (first + 1) c') in
       let more_spaces : x.starts.space + length ((x.spaces ++ opened ∷ []) ++ inside_spaces) ≡ suc k + spaces_by is_space c' =
       many_more x.starts.space (x.spaces ++ opened ∷ []) inside_spaces (spaces_by is_space c') (spaces_many is_space (suc k) _ (first + 1) c') ∙ ap (λ (w : ℕ). w + spaces_by is_space c') one in
-      let steps : ((x.steps ++ step up i 0 ∷ []) ++ inside_steps) ++ steps_among is_space (x.starts.top + length (x.tops ++ inside_tops)) up (suc i) (first + 1 + size c) n' ≡ x.steps ++ steps_among is_space top up i first (Entry d c' n')
+      let steps : ((x.steps ++ step up i 0 ∷ []) ++ inside_steps) ++ steps_among is_space (x.starts.top + length (x.tops ++ inside_tops)) up (suc i) (first + 1 + size c) n' ≡ x.steps
+      ++ steps_among is_space top up i first (Entry d c' n')
       = (λ j. ((x.steps ++ step up i 0 ∷ []) ++ inside_steps) ++ steps_among is_space (more_tops j) up (suc i) (first + 1 + len j) n')
       ∙ front x.steps (step up i 0) inside_steps (steps_among is_space (top + tops_by is_space c') up (suc i) (first + 1 + size c') n')
       ∙ ap (λ (w : List Step). x.steps ++ w) (sym (steps_space is_space d c' n' top up i first is)) in
-      let tops : (x.tops ++ inside_tops) ++ tops_among is_space unit inner (x.starts.space + length ((x.spaces ++ opened ∷ []) ++ inside_spaces)) (first + 1 + size c) n' ≡ x.tops ++ tops_among is_space unit inner k first (Entry d c' n')
+      let tops : (x.tops ++ inside_tops) ++ tops_among is_space unit inner (x.starts.space + length ((x.spaces ++ opened ∷ []) ++ inside_spaces)) (first + 1 + size c) n' ≡ x.tops
+      ++ tops_among is_space unit inner k first (Entry d c' n')
       = append_assoc x.tops inside_tops _
       ∙ (λ j. x.tops ++ (tops_among is_space unit (suc k) (one j) (first + 1) c' ++ tops_among is_space unit inner (more_spaces j) (first + 1 + len j) n'))
       ∙ ap (λ (w : List TopEntry). x.tops ++ w) (sym (tops_space is_space d c' n' unit inner k first is)) in
-      let spaces : ((x.spaces ++ opened ∷ []) ++ inside_spaces) ++ spaces_among is_space inner (x.starts.space + length ((x.spaces ++ opened ∷ []) ++ inside_spaces)) (first + 1 + size c) n' ≡ x.spaces ++ spaces_among is_space inner k first (Entry d c' n')
+      let spaces : ((x.spaces ++ opened ∷ []) ++ inside_spaces) ++ spaces_among is_space inner (x.starts.space + length ((x.spaces ++ opened ∷ []) ++ inside_spaces)) (first + 1 + size c) n' ≡ x.spaces
+      ++ spaces_among is_space inner k first (Entry d c' n')
       = front x.spaces opened inside_spaces _
       ∙ (λ j. x.spaces ++ (opened ∷ (spaces_among is_space (suc k) (one j) (first + 1) c' ++ spaces_among is_space inner (more_spaces j) (first + 1 + len j) n')))
       ∙ ap (λ (w : List SpaceEntry). x.spaces ++ w) (sym (spaces_space is_space d c' n' inner k first is)) in

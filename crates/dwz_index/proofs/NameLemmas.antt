@@ -4,9 +4,10 @@ use Rattle.std.specs.Option.{option_map}
 use Rattle.std.proofs.lemmas.List.{map-append}
 use Rattle.std.proofs.lemmas.Option.{slice_get-get_or, slice_get-map}
 use Rattle.dwz_docs.specs.Entries.{RawEntry, given}
-use Rattle.dwz_docs.specs.Lists.{In}
+use Rattle.dwz_docs.specs.Lists.{Each, In}
 use Rattle.dwz_docs.specs.Trees.{End, Entry, Forest}
 use Rattle.dwz_docs.specs.Units.{RawUnit, entries_in}
+use Rattle.dwz_docs.proofs.ListFacts.{in_cases, in_left, in_right}
 use Rattle.dwz_meanings.specs.Documents.{Doc, DwUnit, Entries}
 use Rattle.dwz_meanings.specs.Files.{Limits, around_of, debug_abbrev, debug_info, file_meaning, sources_of}
 use Rattle.dwz_meanings.specs.Meanings.{MeanEntries, MeanUnits, Sources, all_places, alone, places_in, scope_of, units_meaning}
@@ -15,10 +16,10 @@ use Rattle.dwz_meanings.proofs.MeaningLemmas.{units_agree}
 use Rattle.dwz_resolve.specs.Resolved.{place_at, places}
 use Rattle.dwz_resolve.proofs.PlaceLemmas.{Ascend, places_are, places_many, unit_and_entries, units_and_entries_ascend}
 use Rattle.dwz_resolve.proofs.UnitStarts.{places_whole}
-use Rattle.dwz_seen.specs.Lists.{Each, NoneTwice}
+use Rattle.dwz_seen.specs.Lists.{NoneTwice}
 use Rattle.dwz_seen.specs.Seen.{IsPartial}
 use Rattle.dwz_seen.specs.Shown.{keys, unit_keys, units_keys}
-use Rattle.dwz_seen.proofs.Members.{each_in, in_cases, in_left, in_right}
+use Rattle.dwz_seen.proofs.Members.{each_in}
 use Rattle.dwz_alike.specs.Spots.{RootOf, Spot, below_spots, spot_in, spots_from, top_count}
 use Rattle.dwz_alike.proofs.NameLists.{below_firsts, firsts, firsts_append, spot_is, spots_firsts}
 use Rattle.dwz_index.specs.Names.{names_from}
@@ -69,7 +70,8 @@ module _ (sources : Sources) (raw : List RawUnit) where
       let rest = pairs (suc unit) (top + top_count v.kind v.below) said in
       ap (λ (w : List Spot). RootOf unit ∷ w) (map-append name_of own rest ∙ ap (λ (w : List Spot). map name_of own ++ w) (pairs_names (suc unit) (top + top_count v.kind v.below) said))
 
-  pairs_places : (unit top : ℕ) (units : List RawUnit) (said : List (DwUnit ℕ)) → MeanUnits (alone sources raw) units said → Each (λ v. IsPartial v.kind → ⊥) said → firsts (pairs unit top said) ≡ all_places units
+  pairs_places : (unit top : ℕ) (units : List RawUnit) (said : List (DwUnit ℕ)) → MeanUnits (alone sources raw) units said → Each (λ v. IsPartial v.kind → ⊥) said
+      → firsts (pairs unit top said) ≡ all_places units
   unfolding pairs firsts all_places
   pairs_places unit top [] [] h whole = refl
   pairs_places unit top [] (v ∷ said) h whole = absurd h
@@ -77,7 +79,8 @@ module _ (sources : Sources) (raw : List RawUnit) where
   pairs_places unit top (u ∷ units) (v ∷ said) h whole =
       let own = below_spots unit top v.kind v.below in
       let rest = pairs (suc unit) (top + top_count v.kind v.below) said in
-      (λ j. h.0.root.place j ∷ (firsts_append own rest ∙ (λ k. (below_firsts unit top v.kind v.below whole.0 ∙ below_keys u u.below v.below h.0.below) k ++ pairs_places (suc unit) (top + top_count v.kind v.below) units said h.1 whole.1 k)) j)
+      (λ j. h.0.root.place j ∷ (firsts_append own rest ∙ (λ k. (below_firsts unit top v.kind v.below whole.0 ∙ below_keys u u.below v.below h.0.below) k
+      ++ pairs_places (suc unit) (top + top_count v.kind v.below) units said h.1 whole.1 k)) j)
 
   pairs_in : (unit top : ℕ) (said : List (DwUnit ℕ)) (x : ℕ × Spot) → In x (pairs unit top said) → In x (spots_from unit top said)
   unfolding pairs spots_from
@@ -116,20 +119,23 @@ places_once l bytes raw doc e =
     let r = ((file_agrees l bytes).ok (raw, doc)).0 e in
     subst NoneTwice (sym (all_keys (sources_of bytes) raw raw doc.units r.means)) (stand_once l bytes raw doc e)
 
-pub all_named : (l : Limits) (bytes : List ℕ) (raw : List RawUnit) (doc : Doc ℕ) (unit top : ℕ) → file_meaning l bytes ≡ Ok (raw, doc) → map (spot_in (spots_from unit top doc.units)) (places raw) ≡ names_from unit top doc.units
+pub all_named : (l : Limits) (bytes : List ℕ) (raw : List RawUnit) (doc : Doc ℕ) (unit top : ℕ) → file_meaning l bytes ≡ Ok (raw, doc) → map (spot_in (spots_from unit top doc.units)) (places raw)
+    ≡ names_from unit top doc.units
 all_named l bytes raw doc unit top e =
     let r = ((file_agrees l bytes).ok (raw, doc)).0 e in
     let sources = sources_of bytes in
     let said = doc.units in
     let spots = spots_from unit top said in
     let whole = read_whole l bytes raw doc e in
-    let once : NoneTwice (firsts spots) = subst NoneTwice (sym (spots_firsts unit top said (λ v is. each_in (λ (w : DwUnit ℕ). IsPartial w.kind → ⊥) v said whole is))) (places_once l bytes raw doc e) in
+    let once : NoneTwice (firsts spots) = subst NoneTwice (sym (spots_firsts unit top said (λ v is. each_in (λ (w : DwUnit ℕ). IsPartial w.kind → ⊥) v said whole is)))
+    (places_once l bytes raw doc e) in
     let some = pairs sources raw unit top said in
     ap (map (spot_in spots)) (places_are raw ∙ sym (pairs_places sources raw unit top raw said r.means whole))
     ∙ named_all spots once some (pairs_in sources raw unit top said)
     ∙ pairs_names sources raw unit top said
 
-pub each_named : (l : Limits) (bytes : List ℕ) (raw : List RawUnit) (doc : Doc ℕ) (unit top i : ℕ) → file_meaning l bytes ≡ Ok (raw, doc) → i < entries_in raw → slice_get (names_from unit top doc.units) i ≡ Some (spot_in (spots_from unit top doc.units) (place_at raw i))
+pub each_named : (l : Limits) (bytes : List ℕ) (raw : List RawUnit) (doc : Doc ℕ) (unit top i : ℕ) → file_meaning l bytes ≡ Ok (raw, doc) → i < entries_in raw
+    → slice_get (names_from unit top doc.units) i ≡ Some (spot_in (spots_from unit top doc.units) (place_at raw i))
 each_named l bytes raw doc unit top i e lt =
     let name = spot_in (spots_from unit top doc.units) in
     let many = places_many raw in

@@ -3,6 +3,7 @@ use Rattle.std.proofs.Common.{◌≡◌, ℕ, suc, ◌+◌, ◌<◌, true, false
 use Rattle.std.proofs.lemmas.List.{append_assoc, drop_at, length-append, map-append}
 use Rattle.std.specs.Option.{is_some}
 use Rattle.dwz_docs.specs.Trees.{End, Entry, size}
+use Rattle.dwz_docs.proofs.ListFacts.{drop_first}
 use Rattle.dwz_meanings.specs.Documents.{Compile, DwUnit, Entries, Kind, OfType, Partial}
 use Rattle.dwz_seen.specs.Seen.{IsPartial}
 use Rattle.dwz_seen.specs.Spaces.{space_text, tops_under}
@@ -12,7 +13,7 @@ use Rattle.dwz_index.specs.declared.index.Step.{Step}
 use Rattle.dwz_index.specs.Index.{IsBelow, Shows, above}
 use Rattle.dwz_index.specs.Steps.{is_space, step, steps_among, steps_below, steps_of_list, below_root, is_compile, tops_by}
 use Rattle.dwz_index.proofs.AmongLemmas.{steps_space, steps_top}
-use Rattle.dwz_index.proofs.ListLemmas.{drop_first, drop_more}
+use Rattle.dwz_index.proofs.ListLemmas.{drop_more}
 
 -- ---- a part of the names, from a number on
 
@@ -61,7 +62,8 @@ record Family (names : List Spot) (top : ℕ) (name parent : List ℕ → Spot) 
   here : (i k : ℕ) (path : List ℕ) (x : Step) → x.top ≡ top → IsBelow names i x k (parent path) → Shows names i x (name (k ∷ path))
   down : (k : ℕ) (path : List ℕ) → parent (k ∷ path) ≡ name (k ∷ path)
 
-below_show : (names : List Spot) (top : ℕ) (name parent : List ℕ → Spot) → Family names top name parent → (path : List ℕ) (i up first : ℕ) (f : Entries ℕ) → slice_get names up ≡ Some (parent path) → up < first → At names first (map name_of (entry_spots name path i f))
+below_show : (names : List Spot) (top : ℕ) (name parent : List ℕ → Spot) → Family names top name parent → (path : List ℕ) (i up first : ℕ) (f : Entries ℕ) → slice_get names up ≡ Some (parent path)
+    → up < first → At names first (map name_of (entry_spots name path i f))
     → AllShow names first (steps_below top up i first f) (map name_of (entry_spots name path i f))
 unfolding entry_spots steps_below
 below_show names top name parent fam path i up first End is lt at = tt
@@ -94,7 +96,8 @@ unfolding tops_by tops_under
 counted End = refl
 counted (Entry e c n) = go (counted c) (counted n) (space_text e) where
   go : tops_by is_space c ≡ tops_under c → tops_by is_space n ≡ tops_under n → (o : Option (List ℕ))
-      → (elim (is_some o) as (λ _. ℕ) [ false ↦ suc (tops_by is_space n) | true ↦ tops_by is_space c + tops_by is_space n ]) ≡ (elim o as (λ _. ℕ) [ None ↦ suc (tops_under n) | Some text ↦ tops_under c + tops_under n ])
+      → (elim (is_some o) as (λ _. ℕ) [ false ↦ suc (tops_by is_space n) | true ↦ tops_by is_space c + tops_by is_space n ])
+      ≡ (elim o as (λ _. ℕ) [ None ↦ suc (tops_under n) | Some text ↦ tops_under c + tops_under n ])
   go p q None = ap suc q
   go p q (Some text) = (λ j. p j + q j)
 
@@ -109,7 +112,8 @@ many_tops unit path i n (Entry e c m) =
         let parts = ap (λ (w : List Spot). length w) (map-append name_of a b) in
         omega (arith, parts, length-append (map name_of a) (map name_of b), p, q)
 
-    go : length (map name_of (entry_spots (Within n) [] 0 c)) ≡ size c → length (map name_of (top_spots unit path (suc i) (suc n) m)) ≡ size m → length (map name_of (top_spots unit (i ∷ path) 0 n c)) ≡ size c → length (map name_of (top_spots unit path (suc i) (n + tops_under c) m)) ≡ size m → (o : Option (List ℕ))
+    go : length (map name_of (entry_spots (Within n) [] 0 c)) ≡ size c → length (map name_of (top_spots unit path (suc i) (suc n) m)) ≡ size m → length (map name_of (top_spots unit (i ∷ path) 0 n c))
+        ≡ size c → length (map name_of (top_spots unit path (suc i) (n + tops_under c) m)) ≡ size m → (o : Option (List ℕ))
         → length (map name_of (elim o as (λ _. List (ℕ × Spot)) [
           | None ↦ (e.at, Within n []) ∷ entry_spots (Within n) [] 0 c ++ top_spots unit path (suc i) (suc n) m
           | Some text ↦ (e.at, SpaceAt unit (i ∷ path)) ∷ top_spots unit (i ∷ path) 0 n c ++ top_spots unit path (suc i) (n + tops_under c) m
@@ -117,7 +121,8 @@ many_tops unit path i n (Entry e c m) =
     go p q r t None = both (entry_spots (Within n) [] 0 c) (top_spots unit path (suc i) (suc n) m) p q
     go p q r t (Some text) = both (top_spots unit (i ∷ path) 0 n c) (top_spots unit path (suc i) (n + tops_under c) m) r t
 
-among_show : (names : List Spot) (unit : ℕ) (path : List ℕ) (i n up first : ℕ) (f : Entries ℕ) → slice_get names up ≡ Some (above SpaceAt unit path) → up < first → At names first (map name_of (top_spots unit path i n f))
+among_show : (names : List Spot) (unit : ℕ) (path : List ℕ) (i n up first : ℕ) (f : Entries ℕ) → slice_get names up ≡ Some (above SpaceAt unit path) → up < first
+    → At names first (map name_of (top_spots unit path i n f))
     → AllShow names first (steps_among is_space n up i first f) (map name_of (top_spots unit path i n f))
 unfolding top_spots steps_among
 among_show names unit path i n up first End is lt at = tt
@@ -128,28 +133,36 @@ among_show names unit path i n up first (Entry e c m) is lt at =
     (space_text e) refl
   where
     joined : (s : Spot) (x : Step) (a b : List (ℕ × Spot)) (xs ys : List Step) → At names first (s ∷ map name_of (a ++ b)) → length (map name_of a) ≡ size c → Shows names first x s
-        → (At names (first + 1) (map name_of a) → AllShow names (first + 1) xs (map name_of a)) → (At names (first + 1 + size c) (map name_of b) → AllShow names (first + 1 + size c) ys (map name_of b))
+        → (At names (first + 1) (map name_of a) → AllShow names (first + 1) xs (map name_of a))
+        → (At names (first + 1 + size c) (map name_of b) → AllShow names (first + 1 + size c) ys (map name_of b))
         → AllShow names first (x ∷ (xs ++ ys)) (s ∷ map name_of (a ++ b))
     joined s x a b xs ys here many shows p q =
         let parts = map-append name_of a b in
         let rest : At names (first + 1) (map name_of a ++ map name_of b) = subst (At names (first + 1)) parts (at_here names first s (map name_of (a ++ b)) here).1 in (
           shows,
           subst (AllShow names (first + 1) (xs ++ ys)) (sym parts)
-              (show_append names (first + 1) (first + 1 + size c) xs ys (map name_of a) (map name_of b) (p (at_left names (first + 1) (map name_of a) (map name_of b) rest)) (ap (λ (k : ℕ). first + 1 + k) (sym many))
+              (show_append names (first + 1) (first + 1 + size c) xs ys (map name_of a) (map name_of b) (p (at_left names (first + 1) (map name_of a) (map name_of b) rest))
+              (ap (λ (k : ℕ). first + 1 + k) (sym many))
               (q (at_right names (first + 1) (size c) (map name_of a) (map name_of b) many rest))),
         )
 
-    by : (At names (first + 1 + size c) (map name_of (top_spots unit path (suc i) (suc n) m)) → AllShow names (first + 1 + size c) (steps_among is_space (suc n) up (suc i) (first + 1 + size c) m) (map name_of (top_spots unit path (suc i) (suc n) m)))
-        → (slice_get names first ≡ Some (SpaceAt unit (i ∷ path)) → At names (first + 1) (map name_of (top_spots unit (i ∷ path) 0 n c)) → AllShow names (first + 1) (steps_among is_space n first 0 (first + 1) c) (map name_of (top_spots unit (i ∷ path) 0 n c)))
-        → (At names (first + 1 + size c) (map name_of (top_spots unit path (suc i) (n + tops_under c) m)) → AllShow names (first + 1 + size c) (steps_among is_space (n + tops_under c) up (suc i) (first + 1 + size c) m) (map name_of (top_spots unit path (suc i) (n + tops_under c) m)))
+    by : (At names (first + 1 + size c) (map name_of (top_spots unit path (suc i) (suc n) m))
+        → AllShow names (first + 1 + size c) (steps_among is_space (suc n) up (suc i) (first + 1 + size c) m) (map name_of (top_spots unit path (suc i) (suc n) m)))
+        → (slice_get names first ≡ Some (SpaceAt unit (i ∷ path)) → At names (first + 1) (map name_of (top_spots unit (i ∷ path) 0 n c))
+        → AllShow names (first + 1) (steps_among is_space n first 0 (first + 1) c) (map name_of (top_spots unit (i ∷ path) 0 n c)))
+        → (At names (first + 1 + size c) (map name_of (top_spots unit path (suc i) (n + tops_under c) m))
+        → AllShow names (first + 1 + size c) (steps_among is_space (n + tops_under c) up (suc i) (first + 1 + size c) m) (map name_of (top_spots unit path (suc i) (n + tops_under c) m)))
         → (o : Option (List ℕ)) → space_text e ≡ o → AllShow names first (steps_among is_space n up i first (Entry e c m)) (map name_of (top_spots unit path i n (Entry e c m)))
     by p q r None h =
         let spots = spots_top unit path i n e c m h in
-        let here : At names first (Within n [] ∷ map name_of (entry_spots (Within n) [] 0 c ++ top_spots unit path (suc i) (suc n) m)) = subst (λ (w : List (ℕ × Spot)). At names first (map name_of w)) spots at in
+        let here : At names first (Within n [] ∷ map name_of (entry_spots (Within n) [] 0 c ++ top_spots unit path (suc i) (suc n) m)) = subst (λ (w : List (ℕ × Spot)). At names first (map name_of w))
+        spots at in
         let self = (at_here names first (Within n []) (map name_of (entry_spots (Within n) [] 0 c ++ top_spots unit path (suc i) (suc n) m)) here).0 in
         subst (λ (w : List (ℕ × Spot)). AllShow names first (steps_among is_space n up i first (Entry e c m)) (map name_of w)) (sym spots)
-        (subst (λ (w : List Step). AllShow names first w (Within n [] ∷ map name_of (entry_spots (Within n) [] 0 c ++ top_spots unit path (suc i) (suc n) m))) (sym (steps_top is_space e c m n up i first (ap is_some h)))
-        (joined (Within n []) (step first 0 (suc n)) (entry_spots (Within n) [] 0 c) (top_spots unit path (suc i) (suc n) m) (steps_below (suc n) first 0 (first + 1) c) (steps_among is_space (suc n) up (suc i) (first + 1 + size c) m)
+        (subst (λ (w : List Step). AllShow names first w (Within n [] ∷ map name_of (entry_spots (Within n) [] 0 c ++ top_spots unit path (suc i) (suc n) m)))
+        (sym (steps_top is_space e c m n up i first (ap is_some h)))
+        (joined (Within n []) (step first 0 (suc n)) (entry_spots (Within n) [] 0 c) (top_spots unit path (suc i) (suc n) m) (steps_below (suc n) first 0 (first + 1) c)
+        (steps_among is_space (suc n) up (suc i) (first + 1 + size c) m)
         here (many_names (Within n) [] 0 c) (refl, refl)
         (λ k. below_show names (suc n) (Within n) (Within n) (in_top names n) [] 0 first (first + 1) c self (omega arith) k) p))
     by p q r (Some text) h =
@@ -159,7 +172,8 @@ among_show names unit path i n up first (Entry e c m) is lt at =
         let here : At names first (SpaceAt unit (i ∷ path) ∷ map name_of (a ++ b)) = subst (λ (w : List (ℕ × Spot)). At names first (map name_of w)) spots at in
         let self = (at_here names first (SpaceAt unit (i ∷ path)) (map name_of (a ++ b)) here).0 in
         let more : n + tops_by is_space c ≡ n + tops_under c = ap (λ (k : ℕ). n + k) (counted c) in
-        let steps = steps_space is_space e c m n up i first (ap is_some h) ∙ (λ j. step up i 0 ∷ (steps_among is_space n first 0 (first + 1) c ++ steps_among is_space (more j) up (suc i) (first + 1 + size c) m)) in
+        let steps = steps_space is_space e c m n up i first (ap is_some h)
+        ∙ (λ j. step up i 0 ∷ (steps_among is_space n first 0 (first + 1) c ++ steps_among is_space (more j) up (suc i) (first + 1 + size c) m)) in
         subst (λ (w : List (ℕ × Spot)). AllShow names first (steps_among is_space n up i first (Entry e c m)) (map name_of w)) (sym spots)
         (subst (λ (w : List Step). AllShow names first w (SpaceAt unit (i ∷ path) ∷ map name_of (a ++ b))) (sym steps)
         (joined (SpaceAt unit (i ∷ path)) (step up i 0) a b (steps_among is_space n first 0 (first + 1) c) (steps_among is_space (n + tops_under c) up (suc i) (first + 1 + size c) m)
@@ -178,13 +192,15 @@ unit_many unit top u whole = by u.kind whole where
   by (OfType signature main) h = omega (arith, many_names (InType unit) [] 0 u.below)
   by Partial h = absurd (h tt)
 
-pub unit_shows : (names : List Spot) (unit top first : ℕ) (u : DwUnit ℕ) → (IsPartial u.kind → ⊥) → At names first (unit_names unit top u) → AllShow names first (steps_of_list is_space top first (below_root u)) (unit_names unit top u)
+pub unit_shows : (names : List Spot) (unit top first : ℕ) (u : DwUnit ℕ) → (IsPartial u.kind → ⊥) → At names first (unit_names unit top u)
+    → AllShow names first (steps_of_list is_space top first (below_root u)) (unit_names unit top u)
 unit_shows names unit top first u whole at =
     let here = at_here names first (RootOf unit) (map name_of (below_spots unit top u.kind u.below)) at in
     ((refl, refl), by u.kind whole here.0 here.1)
   where
     by : (k : Kind ℕ) → (IsPartial k → ⊥) → slice_get names first ≡ Some (RootOf unit) → At names (first + 1) (map name_of (below_spots unit top k u.below))
-        → AllShow names (first + 1) (elim (is_compile k) as (λ _. List Step) [ true ↦ steps_among is_space top first 0 (first + 1) u.below | false ↦ steps_below 0 first 0 (first + 1) u.below ]) (map name_of (below_spots unit top k u.below))
+        → AllShow names (first + 1) (elim (is_compile k) as (λ _. List Step) [ true ↦ steps_among is_space top first 0 (first + 1) u.below | false ↦ steps_below 0 first 0 (first + 1) u.below ])
+        (map name_of (below_spots unit top k u.below))
     by Compile h self rest = among_show names unit [] 0 top first (first + 1) u.below self (omega arith) rest
     by (OfType signature main) h self rest = below_show names 0 (InType unit) (above InType unit) (in_type names unit) [] 0 first (first + 1) u.below self (omega arith) rest
     by Partial h self rest = absurd (h tt)

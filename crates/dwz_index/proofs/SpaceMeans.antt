@@ -3,7 +3,9 @@ use Rattle.std.proofs.Common.{◌≡◌, ℕ, ℤ, Bool, true, false, List, [], 
 use Rattle.std.specs.Option.{is_some}
 use Rattle.dwz_docs.specs.Entries.{RawAttr, RawEntry}
 use Rattle.dwz_meanings.specs.Documents.{Attr, Node, Value, first_named}
-use Rattle.dwz_meanings.specs.Meanings.{Class, IfSo, IsFileBy, IsLocList, MeanAttrs, MeansAs, MeansNode, OfAddress, OfBlock, OfCommonEntry, OfCommonText, OfConstant, OfExpression, OfFlag, OfIndex, OfInfoEntry, OfListIndex, OfOffset, OfSignature, OfText, OfTextBySlot, OfTextInLineStr, OfTextInStr, OfUnitEntry, Scope, Unread, class_of, constant_value, first_raw, names_file, names_list, node_meaning, number_of, offset_of, stmt_list, without_siblings}
+use Rattle.dwz_meanings.specs.Meanings.{Class, IfSo, IsFileBy, IsLocList, MeanAttrs, MeansAs, MeansNode, OfAddress, OfBlock, OfCommonEntry, OfCommonText, OfConstant, OfExpression, OfFlag, OfIndex}
+use Rattle.dwz_meanings.specs.Meanings.{OfInfoEntry, OfListIndex, OfOffset, OfSignature, OfText, OfTextBySlot, OfTextInLineStr, OfTextInStr, OfUnitEntry, Scope, Unread, class_of, constant_value}
+use Rattle.dwz_meanings.specs.Meanings.{first_raw, names_file, names_list, node_meaning, number_of, offset_of, stmt_list, without_siblings}
 use Rattle.dwz_meanings.specs.Documents.{Sec, Text, only}
 use Rattle.dwz_meanings.proofs.MeaningLemmas.{node_agrees}
 use Rattle.dwz_seen.specs.Spaces.{space_text, text_at, text_in}
@@ -76,7 +78,8 @@ first_text s (a ∷ raw) attrs h = go (first_text s raw) (a.pair.name == 0x01) r
 pub space_means : (s : Scope ℕ) (e : RawEntry) (d : Node ℕ) → MeansNode s e d → stored_space e ≡ is_space d
 unfolding stored_space space_text
 space_means s e d h = by (e.tag == 0x39) ∙ ap (λ (n : ℕ). is_some (elim (n == 0x39) as (λ _. Option (List ℕ)) [ true ↦ text_at (first_named 0x03 d.attrs) | false ↦ None ])) (sym h.tag) where
-  by : (b : Bool) → (elim b as (λ _. Bool) [ true ↦ has_text (first_raw 0x03 e.attrs) | false ↦ false ]) ≡ is_some (elim b as (λ _. Option (List ℕ)) [ true ↦ text_at (first_named 0x03 d.attrs) | false ↦ None ])
+  by : (b : Bool) → (elim b as (λ _. Bool) [ true ↦ has_text (first_raw 0x03 e.attrs) | false ↦ false ])
+      ≡ is_some (elim b as (λ _. Option (List ℕ)) [ true ↦ text_at (first_named 0x03 d.attrs) | false ↦ None ])
   by true = first_text s e.attrs d.attrs h.attrs
   by false = refl
 
@@ -96,7 +99,8 @@ first_pair s (a ∷ raw) attrs b h e = go (λ attrs h e. first_pair s raw attrs 
   later : (n : ℕ) → a.pair.name ≡ n → (n == 0x03) ≡ false → IsNamed s raw b → IsNamed s (a ∷ raw) b
   later n is other r = record { attr = r.attr; first = ap (λ (t : Bool). cond t (Some a) (first_raw 0x03 raw)) (ap (λ (m : ℕ). m == 0x03) is ∙ other) ∙ r.first; means = r.means }
 
-  named : (d : Attr ℕ) (others : List (Attr ℕ)) → d.name ≡ a.pair.name → MeansAs (class_of a.pair.form) s a d.value → (first_named 0x03 others ≡ Some b → IsNamed s raw b) → (t : Bool) → (a.pair.name == 0x03) ≡ t → cond t (Some d) (first_named 0x03 others) ≡ Some b → IsNamed s (a ∷ raw) b
+  named : (d : Attr ℕ) (others : List (Attr ℕ)) → d.name ≡ a.pair.name → MeansAs (class_of a.pair.form) s a d.value → (first_named 0x03 others ≡ Some b → IsNamed s raw b) → (t : Bool)
+      → (a.pair.name == 0x03) ≡ t → cond t (Some d) (first_named 0x03 others) ≡ Some b → IsNamed s (a ∷ raw) b
   named d others same means rest true q e =
       let one : d ≡ b = cc in
       record { attr = a; first = ap (λ (t : Bool). cond t (Some a) (first_raw 0x03 raw)) q; means = subst (λ (w : Attr ℕ). MeansAs (class_of a.pair.form) s a w.value) one means }

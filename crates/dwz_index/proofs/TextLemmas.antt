@@ -21,7 +21,8 @@ pub record BySlot (sections : Sections) (base : Option ℕ) (index : ℕ) (text 
   pub slot_is : slot sections.offsets.now at index ≡ Some offset
   pub stands : text_at sections.strs.bytes.now offset ≡ Some text
 
-module _ (sections : Sections) (base : Option ℕ) (s : Scope ℕ) (own : IsOwn sections base s) (a : RawAttr) (v : Value ℕ) (text : List ℕ) (means : MeansValue s a v) (is : text_in v.plain ≡ Some text) where
+module _ (sections : Sections) (base : Option ℕ) (s : Scope ℕ) (own : IsOwn sections base s) (a : RawAttr) (v : Value ℕ) (text : List ℕ) (means : MeansValue s a v)
+    (is : text_in v.plain ≡ Some text) where
   of_class : (c : Class) → c ≡ class_of a.pair.form → MeansAs c s a v
   of_class c e = subst (λ (k : Class). MeansAs k s a v) (sym e) means
 

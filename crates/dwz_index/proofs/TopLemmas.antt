@@ -3,8 +3,9 @@ use Rattle.std.proofs.Common.{◌≡◌, ℕ, zero, suc, ◌+◌, ◌⊎◌, Lis
 use Rattle.std.specs.Option.{is_some}
 use Rattle.std.proofs.lemmas.List.{append-nil, length-append, map-append}
 use Rattle.dwz_docs.specs.Trees.{End, Entry, size}
+use Rattle.dwz_docs.proofs.ListFacts.{get_first}
 use Rattle.dwz_meanings.specs.Documents.{Compile, DwUnit, Entries, Kind, OfType, Partial}
-use Rattle.dwz_seen.specs.Lists.{Each}
+use Rattle.dwz_docs.specs.Lists.{Each}
 use Rattle.dwz_seen.specs.Seen.{IsPartial}
 use Rattle.dwz_seen.specs.Spaces.{space_text, tops_under}
 use Rattle.dwz_alike.specs.Spots.{InType, RootOf, SpaceAt, Spot, Within, below_spots, entry_spots, top_count, top_spots, tops_among as tops_in}
@@ -25,11 +26,6 @@ name_of x = x.1
 pub get_later : {X : Type 0} (xs ys : List X) (k : ℕ) (x : X) → slice_get ys k ≡ Some x → slice_get (xs ++ ys) (length xs + k) ≡ Some x
 get_later [] ys k x e = let n : 0 + k ≡ k = omega arith in ap (slice_get ys) n ∙ e
 get_later (z ∷ xs) ys k x e = let n : suc (length xs) + k ≡ suc (length xs + k) = omega arith in ap (slice_get (z ∷ (xs ++ ys))) n ∙ get_later xs ys k x e
-
-pub get_first : {X : Type 0} (xs ys : List X) (k : ℕ) (x : X) → slice_get xs k ≡ Some x → slice_get (xs ++ ys) k ≡ Some x
-get_first [] ys k x e = absurd cc
-get_first (z ∷ xs) ys zero x e = e
-get_first (z ∷ xs) ys (suc k) x e = get_first xs ys k x e
 
 pub get_cases : {X : Type 0} (xs ys : List X) (k : ℕ) (x : X) → slice_get (xs ++ ys) k ≡ Some x → (slice_get xs k ≡ Some x) ⊎ ((j : ℕ) × (k ≡ length xs + j) × (slice_get ys j ≡ Some x))
 get_cases [] ys k x e = inr (k, (let n : k ≡ 0 + k = omega arith in n), e)
@@ -80,7 +76,8 @@ moved : (n : ℕ) (tops : List TopEntry) (i i' m : ℕ) → i ≡ i' → IsTopAt
 moved n tops i i' m e h = subst (λ (k : ℕ). IsTopAt n tops k m) e h
 
 -- in a list whose first entry has that number
-among_found : (unit inner k : ℕ) (at : ℕ) (path : List ℕ) (i n first : ℕ) (f : Entries ℕ) (j m : ℕ) → slice_get (map name_of (top_spots at path i n f)) j ≡ Some (Within m []) → IsTopAt n (tops_among is_space unit inner k first f) (first + j) m
+among_found : (unit inner k : ℕ) (at : ℕ) (path : List ℕ) (i n first : ℕ) (f : Entries ℕ) (j m : ℕ) → slice_get (map name_of (top_spots at path i n f)) j ≡ Some (Within m [])
+    → IsTopAt n (tops_among is_space unit inner k first f) (first + j) m
 unfolding top_spots
 among_found unit inner k at path i n first End j m e = absurd cc
 among_found unit inner k at path i n first (Entry d c r) j m e =
@@ -97,8 +94,10 @@ among_found unit inner k at path i n first (Entry d c r) j m e =
 
     by : ((l : ℕ) → slice_get (map name_of (top (suc n))) l ≡ Some (Within m []) → IsTopAt (suc n) (tops_among is_space unit inner k (first + 1 + size c) r) (first + 1 + size c + l) m)
         → ((l : ℕ) → slice_get (map name_of inside) l ≡ Some (Within m []) → IsTopAt n (tops_among is_space unit (suc k) (suc k) (first + 1) c) (first + 1 + l) m)
-        → ((w l : ℕ) → slice_get (map name_of (top (n + tops_under c))) l ≡ Some (Within m []) → IsTopAt (n + tops_under c) (tops_among is_space unit inner w (first + 1 + size c) r) (first + 1 + size c + l) m)
-        → (j : ℕ) → slice_get (map name_of (top_spots at path i n (Entry d c r))) j ≡ Some (Within m []) → (o : Option (List ℕ)) → space_text d ≡ o → IsTopAt n (tops_among is_space unit inner k first (Entry d c r)) (first + j) m
+        → ((w l : ℕ) → slice_get (map name_of (top (n + tops_under c))) l ≡ Some (Within m [])
+        → IsTopAt (n + tops_under c) (tops_among is_space unit inner w (first + 1 + size c) r) (first + 1 + size c + l) m)
+        → (j : ℕ) → slice_get (map name_of (top_spots at path i n (Entry d c r))) j ≡ Some (Within m []) → (o : Option (List ℕ)) → space_text d ≡ o
+        → IsTopAt n (tops_among is_space unit inner k first (Entry d c r)) (first + j) m
     by p q s j e None h =
         subst (λ (w : List TopEntry). IsTopAt n w (first + j) m) (sym (tops_top is_space d c r unit inner k first (ap is_some h)))
         (go j (ap (λ (w : List (ℕ × Spot)). slice_get (map name_of w) j) (sym (spots_top at path i n d c r h)) ∙ e))
@@ -116,7 +115,8 @@ among_found unit inner k at path i n first (Entry d c r) j m e =
           | inr y ↦
               let many = many_names (Within n) [] 0 c in
               let at_j = y.1 in
-              moved n (top_entry first unit inner ∷ rest) (first + 1 + size c + y.0) (first + suc j) m (omega arith) (at_first first n (top_entry first unit inner) rest (first + 1 + size c + y.0) m (p y.0 y.2))
+              moved n (top_entry first unit inner ∷ rest) (first + 1 + size c + y.0) (first + suc j) m (omega arith)
+              (at_first first n (top_entry first unit inner) rest (first + 1 + size c + y.0) m (p y.0 y.2))
         ]
     by p q s j e (Some text) h =
         subst (λ (w : List TopEntry). IsTopAt n w (first + j) m) (sym (tops_space is_space d c r unit inner k first (ap is_some h)))
@@ -133,24 +133,26 @@ among_found unit inner k at path i n first (Entry d c r) j m e =
 
         go : (j : ℕ) → slice_get (SpaceAt at (i ∷ path) ∷ map name_of (inside ++ top (n + tops_under c))) j ≡ Some (Within m []) → IsTopAt n (a ++ b) (first + j) m
         go zero e = absurd cc
-        go (suc j) e = elim (get_cases (map name_of inside) (map name_of (top (n + tops_under c))) j (Within m []) (ap (λ (w : List Spot). slice_get w j) (sym (map-append name_of inside (top (n + tops_under c)))) ∙ e)) [
-          | inl x ↦ moved n (a ++ b) (first + 1 + j) (first + suc j) m (omega arith) (at_left n a b (first + 1 + j) m (q j x))
-          | inr y ↦
-              let many = many_tops at (i ∷ path) 0 n c in
-              let at_j = y.1 in
-              moved n (a ++ b) (first + 1 + size c + y.0) (first + suc j) m (omega arith)
-              (at_right n (tops_under c) a b (first + 1 + size c + y.0) m (tops_many is_space unit (suc k) (suc k) (first + 1) c ∙ counted c) (s next y.0 y.2))
-        ]
+        go (suc j) e = elim (get_cases (map name_of inside) (map name_of (top (n + tops_under c))) j (Within m [])
+            (ap (λ (w : List Spot). slice_get w j) (sym (map-append name_of inside (top (n + tops_under c)))) ∙ e)) [
+              | inl x ↦ moved n (a ++ b) (first + 1 + j) (first + suc j) m (omega arith) (at_left n a b (first + 1 + j) m (q j x))
+              | inr y ↦
+                  let many = many_tops at (i ∷ path) 0 n c in
+                  let at_j = y.1 in
+                  moved n (a ++ b) (first + 1 + size c + y.0) (first + suc j) m (omega arith)
+                  (at_right n (tops_under c) a b (first + 1 + size c + y.0) m (tops_many is_space unit (suc k) (suc k) (first + 1) c ∙ counted c) (s next y.0 y.2))
+            ]
 
 -- ---- unit by unit
 
-abbrev below_names : ℕ → ℕ → Kind ℕ → Entries ℕ → List Spot
+abbrev pub below_names : ℕ → ℕ → Kind ℕ → Entries ℕ → List Spot
 below_names unit top kind f = map name_of (below_spots unit top kind f)
 
 abbrev pub entries_of : ℕ → ℕ → ℕ → Kind ℕ → Entries ℕ → List TopEntry
 entries_of unit k first kind f = top_entries is_space unit k first (record { compile = is_compile kind; list = f })
 
-below_found : (unit k : ℕ) (at top first : ℕ) (kind : Kind ℕ) (f : Entries ℕ) (j m : ℕ) → slice_get (below_names at top kind f) j ≡ Some (Within m []) → IsTopAt top (entries_of unit k first kind f) (first + 1 + j) m
+below_found : (unit k : ℕ) (at top first : ℕ) (kind : Kind ℕ) (f : Entries ℕ) (j m : ℕ) → slice_get (below_names at top kind f) j ≡ Some (Within m [])
+    → IsTopAt top (entries_of unit k first kind f) (first + 1 + j) m
 below_found unit k at top first Compile f j m e = among_found unit 0 k at [] 0 top (first + 1) f j m e
 below_found unit k at top first (OfType signature main) f j m e = absurd (none_below (InType at) (type_goes at) [] 0 f j m e)
 below_found unit k at top first Partial f j m e = absurd cc
@@ -160,7 +162,7 @@ many_below unit k first Compile f = tops_many is_space unit 0 k (first + 1) f �
 many_below unit k first (OfType signature main) f = refl
 many_below unit k first Partial f = refl
 
-names_many : (at top : ℕ) (kind : Kind ℕ) (f : Entries ℕ) → (IsPartial kind → ⊥) → length (below_names at top kind f) ≡ size f
+pub names_many : (at top : ℕ) (kind : Kind ℕ) (f : Entries ℕ) → (IsPartial kind → ⊥) → length (below_names at top kind f) ≡ size f
 names_many at top Compile f h = many_tops at [] 0 top f
 names_many at top (OfType signature main) f h = many_names (InType at) [] 0 f
 names_many at top Partial f h = absurd (h tt)
@@ -172,7 +174,8 @@ counts_same v = by v.kind where
   by (OfType signature main) = refl
   by Partial = refl
 
-all_found : (s : Starts) (first : ℕ) (said : List (DwUnit ℕ)) → Each (λ v. IsPartial v.kind → ⊥) said → (j m : ℕ) → slice_get (names_from s.unit s.top said) j ≡ Some (Within m []) → IsTopAt s.top (all_tops is_space s first (map below_root said)) (first + j) m
+all_found : (s : Starts) (first : ℕ) (said : List (DwUnit ℕ)) → Each (λ v. IsPartial v.kind → ⊥) said → (j m : ℕ) → slice_get (names_from s.unit s.top said) j ≡ Some (Within m [])
+    → IsTopAt s.top (all_tops is_space s first (map below_root said)) (first + j) m
 unfolding names_from all_tops
 all_found s first [] whole j m e = absurd cc
 all_found s first (v ∷ said) whole zero m e = absurd cc
@@ -190,10 +193,12 @@ all_found s first (v ∷ said) whole (suc j) m e =
           let at_j = y.1 in
           let same = ap (λ (w : List Spot). slice_get w y.0) (λ i. names_from (one i) (s.top + count i) said) ∙ y.2 in
           moved s.top (a ++ b) (first + 1 + size v.below + y.0) (first + suc j) m (omega arith)
-          (at_right s.top (tops_of_list is_space (below_root v)) a b (first + 1 + size v.below + y.0) m (many_below s.unit s.space first v.kind v.below ∙ sym count) (all_found next (first + 1 + size v.below) said whole.1 y.0 m same))
+          (at_right s.top (tops_of_list is_space (below_root v)) a b (first + 1 + size v.below + y.0) m (many_below s.unit s.space first v.kind v.below ∙ sym count)
+          (all_found next (first + 1 + size v.below) said whole.1 y.0 m same))
     ]
 
-pub found : (s : Starts) (said : List (DwUnit ℕ)) → Each (λ v. IsPartial v.kind → ⊥) said → (i n : ℕ) → slice_get (names_from s.unit s.top said) i ≡ Some (Within n []) → IsTopAt s.top (all_tops is_space s 0 (map below_root said)) i n
+pub found : (s : Starts) (said : List (DwUnit ℕ)) → Each (λ v. IsPartial v.kind → ⊥) said → (i n : ℕ) → slice_get (names_from s.unit s.top said) i ≡ Some (Within n [])
+    → IsTopAt s.top (all_tops is_space s 0 (map below_root said)) i n
 found s said whole i n e = let same : 0 + i ≡ i = omega arith in moved s.top (all_tops is_space s 0 (map below_root said)) (0 + i) i n same (all_found s 0 said whole i n e)
 
 -- there are as many as the units have
@@ -225,7 +230,8 @@ named_at names n (y ∷ tops) h zero x e =
     ap (λ (w : TopEntry). slice_get names w.entry) (sym same) ∙ h.0 ∙ ap (λ (w : ℕ). Some (Within w [])) none
 named_at names n (y ∷ tops) h (suc k) x e = let one : suc n + k ≡ n + suc k = omega arith in named_at names (suc n) tops h.1 k x e ∙ ap (λ (w : ℕ). Some (Within w [])) one
 
-among_named : (names : List Spot) (unit inner k at : ℕ) (path : List ℕ) (i n first : ℕ) (f : Entries ℕ) → At names first (map name_of (top_spots at path i n f)) → AreNamed names n (tops_among is_space unit inner k first f)
+among_named : (names : List Spot) (unit inner k at : ℕ) (path : List ℕ) (i n first : ℕ) (f : Entries ℕ) → At names first (map name_of (top_spots at path i n f))
+    → AreNamed names n (tops_among is_space unit inner k first f)
 unfolding top_spots tops_among
 among_named names unit inner k at path i n first End here = tt
 among_named names unit inner k at path i n first (Entry d c r) here =
@@ -257,7 +263,8 @@ among_named names unit inner k at path i n first (Entry d c r) here =
         let a = tops_among is_space unit (suc k) (suc k) (first + 1) c in
         let b = tops_among is_space unit inner (suc k + spaces_by is_space c) (first + 1 + size c) r in
         subst (AreNamed names n) (sym (tops_space is_space d c r unit inner k first (ap is_some h)))
-        (named_append names n (n + tops_under c) a b (q (from_left names (first + 1) (map name_of inside) (map name_of (top (n + tops_under c))) x.1)) (ap (λ (w : ℕ). n + w) (sym (tops_many is_space unit (suc k) (suc k) (first + 1) c ∙ counted c)))
+        (named_append names n (n + tops_under c) a b (q (from_left names (first + 1) (map name_of inside) (map name_of (top (n + tops_under c))) x.1))
+        (ap (λ (w : ℕ). n + w) (sym (tops_many is_space unit (suc k) (suc k) (first + 1) c ∙ counted c)))
         (s (suc k + spaces_by is_space c) (from_right names (first + 1) (size c) (map name_of inside) (map name_of (top (n + tops_under c))) (many_tops at (i ∷ path) 0 n c) x.1)))
 
 below_named : (names : List Spot) (unit k at top first : ℕ) (kind : Kind ℕ) (f : Entries ℕ) → At names (first + 1) (below_names at top kind f) → AreNamed names top (entries_of unit k first kind f)
@@ -265,7 +272,8 @@ below_named names unit k at top first Compile f h = among_named names unit 0 k a
 below_named names unit k at top first (OfType signature main) f h = tt
 below_named names unit k at top first Partial f h = tt
 
-all_named : (names : List Spot) (s : Starts) (first : ℕ) (said : List (DwUnit ℕ)) → Each (λ v. IsPartial v.kind → ⊥) said → At names first (names_from s.unit s.top said) → AreNamed names s.top (all_tops is_space s first (map below_root said))
+all_named : (names : List Spot) (s : Starts) (first : ℕ) (said : List (DwUnit ℕ)) → Each (λ v. IsPartial v.kind → ⊥) said → At names first (names_from s.unit s.top said)
+    → AreNamed names s.top (all_tops is_space s first (map below_root said))
 unfolding names_from all_tops
 all_named names s first [] whole h = tt
 all_named names s first (v ∷ said) whole h =
@@ -277,11 +285,13 @@ all_named names s first (v ∷ said) whole h =
     let x = at_here names first (RootOf s.unit) (own ++ others) h in
     let rest = from_right names (first + 1) (size v.below) own others (names_many s.unit s.top v.kind v.below whole.0) x.1 in
     let a = entries_of s.unit s.space first v.kind v.below in
-    named_append names s.top next.top a (all_tops is_space next (first + 1 + size v.below) (map below_root said)) (below_named names s.unit s.space s.unit s.top first v.kind v.below (from_left names (first + 1) own others x.1))
+    named_append names s.top next.top a (all_tops is_space next (first + 1 + size v.below) (map below_root said))
+    (below_named names s.unit s.space s.unit s.top first v.kind v.below (from_left names (first + 1) own others x.1))
     (ap (λ (w : ℕ). s.top + w) (count ∙ sym (many_below s.unit s.space first v.kind v.below)))
     (all_named names next (first + 1 + size v.below) said whole.1 (subst (At names (first + 1 + size v.below)) (sym (λ i. names_from (one i) (s.top + count i) said)) rest))
 
-pub named : (s : Starts) (said : List (DwUnit ℕ)) → Each (λ v. IsPartial v.kind → ⊥) said → (k : ℕ) (x : TopEntry) → slice_get (all_tops is_space s 0 (map below_root said)) k ≡ Some x → slice_get (names_from s.unit s.top said) x.entry ≡ Some (Within (s.top + k) [])
+pub named : (s : Starts) (said : List (DwUnit ℕ)) → Each (λ v. IsPartial v.kind → ⊥) said → (k : ℕ) (x : TopEntry) → slice_get (all_tops is_space s 0 (map below_root said)) k ≡ Some x
+    → slice_get (names_from s.unit s.top said) x.entry ≡ Some (Within (s.top + k) [])
 named s said whole k x e =
     let names = names_from s.unit s.top said in
     named_at names s.top (all_tops is_space s 0 (map below_root said)) (all_named names s 0 said whole (record { after = []; rest = sym (append-nil names) })) k x e

@@ -1,9 +1,9 @@
 -- Tops by their numbers: the units that they are of.
-use Rattle.std.proofs.Common.{◌≡◌, ℕ, zero, suc, ◌+◌, ◌<◌, Bool, true, false, List, [], ◌∷◌, ◌++◌, length, map, Some, slice_get, refl, sym, ap, ◌∙◌, inl, inr, arith}
-use Rattle.dwz_docs.specs.Lists.{In}
+use Rattle.std.proofs.Common.{◌≡◌, ℕ, zero, suc, ◌+◌, Bool, true, false, List, [], ◌∷◌, ◌++◌, map, Some, slice_get, refl, sym, ap, ◌∙◌, inl, inr, arith}
 use Rattle.dwz_docs.specs.Trees.{End, Entry, size}
+use Rattle.dwz_docs.proofs.ListFacts.{got_below, got_in}
 use Rattle.dwz_meanings.specs.Documents.{Compile, DwUnit, Entries, Kind, OfType, Partial, unit_map}
-use Rattle.dwz_seen.specs.Lists.{Each}
+use Rattle.dwz_docs.specs.Lists.{Each}
 use Rattle.dwz_seen.proofs.Members.{each_append, each_in}
 use Rattle.dwz_alike.specs.Spots.{FileUnit, Spot, Top, in_file, row_below, row_tops, top_count, tops_from}
 use Rattle.dwz_alike.proofs.NameLists.{count_map}
@@ -21,7 +21,8 @@ among_unit : {E : Type 0} (space : E → Bool) (unit inner k first : ℕ) (f : _
 unfolding tops_among
 among_unit space unit inner k first End = tt
 among_unit space unit inner k first (Entry e c n) =
-    go (among_unit space unit inner k (first + 1 + size c) n) (among_unit space unit (suc k) (suc k) (first + 1) c) (among_unit space unit inner (suc k + spaces_by space c) (first + 1 + size c) n) (space e)
+    go (among_unit space unit inner k (first + 1 + size c) n) (among_unit space unit (suc k) (suc k) (first + 1) c) (among_unit space unit inner (suc k + spaces_by space c) (first + 1 + size c) n)
+    (space e)
   where
     a : List TopEntry
     a = tops_among space unit (suc k) (suc k) (first + 1) c
@@ -39,21 +40,12 @@ entries_unit unit k first Compile f = among_unit is_space unit 0 k (first + 1) f
 entries_unit unit k first (OfType signature main) f = tt
 entries_unit unit k first Partial f = tt
 
-get_in : {X : Type 0} (xs : List X) (k : ℕ) (x : X) → slice_get xs k ≡ Some x → In x xs
-get_in [] k x e = absurd cc
-get_in (y ∷ xs) zero x e = inl (let same : y ≡ x = cc in same)
-get_in (y ∷ xs) (suc k) x e = inr (get_in xs k x e)
-
-below_length_of : {X : Type 0} (xs : List X) (k : ℕ) (x : X) → slice_get xs k ≡ Some x → k < length xs
-below_length_of [] k x e = absurd cc
-below_length_of (y ∷ xs) zero x e = omega arith
-below_length_of (y ∷ xs) (suc k) x e = let r = below_length_of xs k x e in omega arith
-
 module _ (file : ℕ) (name : ℕ → Spot) where
   abbrev filed : List (DwUnit ℕ) → List (FileUnit Spot)
   filed units = map (in_file file) (map (unit_map name) units)
 
-  same_units : (s : Starts) (first : ℕ) (said : List (DwUnit ℕ)) (k : ℕ) (x : TopEntry) (t : Top) → slice_get (all_tops is_space s first (map below_root said)) k ≡ Some x → slice_get (tops_from s.unit s.top (filed said)) k ≡ Some t → x.unit ≡ t.unit
+  same_units : (s : Starts) (first : ℕ) (said : List (DwUnit ℕ)) (k : ℕ) (x : TopEntry) (t : Top) → slice_get (all_tops is_space s first (map below_root said)) k ≡ Some x
+      → slice_get (tops_from s.unit s.top (filed said)) k ≡ Some t → x.unit ≡ t.unit
   unfolding all_tops tops_from
   same_units s first [] k x t e f = absurd cc
   same_units s first (v ∷ said) k x t e f =
@@ -68,11 +60,11 @@ module _ (file : ℕ) (name : ℕ → Spot) where
       let top : s.top + top_count w.kind w.below ≡ next.top = ap (λ (n : ℕ). s.top + n) (count ∙ sym (counts_same v)) in
       elim (get_cases own (all_tops is_space next (first + 1 + size v.below) (map below_root said)) k x e) [
         | inl a ↦ (elim (get_cases tops (tops_from (suc s.unit) (s.top + top_count w.kind w.below) (filed said)) k t f) [
-          | inl b ↦ each_in (OfUnit s.unit) x own (entries_unit s.unit s.space first v.kind v.below) (get_in own k x a) ∙ sym (below_unit (in_file file w) s.unit s.top w.kind t (get_in tops k t b)).1
-          | inr b ↦ absurd (let lt = below_length_of own k x a in let far = b.1 in omega (arith, lt, far, many, long, count))
+          | inl b ↦ each_in (OfUnit s.unit) x own (entries_unit s.unit s.space first v.kind v.below) (got_in own k x a) ∙ sym (below_unit (in_file file w) s.unit s.top w.kind t (got_in tops k t b)).1
+          | inr b ↦ absurd (let lt = got_below own k x a in let far = b.1 in omega (arith, lt, far, many, long, count))
         ])
         | inr a ↦ (elim (get_cases tops (tops_from (suc s.unit) (s.top + top_count w.kind w.below) (filed said)) k t f) [
-          | inl b ↦ absurd (let lt = below_length_of tops k t b in let far = a.1 in omega (arith, lt, far, many, long, count))
+          | inl b ↦ absurd (let lt = got_below tops k t b in let far = a.1 in omega (arith, lt, far, many, long, count))
           | inr b ↦
               let i = a.1 in
               let j = b.1 in
@@ -82,11 +74,16 @@ module _ (file : ℕ) (name : ℕ → Spot) where
         ])
       ]
 
-numbered_at : (n : ℕ) (tops : List Top) → Numbered n tops → (k : ℕ) (t : Top) → slice_get tops k ≡ Some t → t.number ≡ n + k
+pub numbered_at : (n : ℕ) (tops : List Top) → Numbered n tops → (k : ℕ) (t : Top) → slice_get tops k ≡ Some t → t.number ≡ n + k
 numbered_at n [] h k t e = absurd cc
 numbered_at n (u ∷ tops) h zero t e = let same : u ≡ t = cc in let none : n ≡ n + 0 = omega arith in ap (λ (w : Top). w.number) (sym same) ∙ h.0 ∙ none
 numbered_at n (u ∷ tops) h (suc k) t e = let one : suc n + k ≡ n + suc k = omega arith in numbered_at (suc n) tops h.1 k t e ∙ one
 
-pub shows : (s : Starts) (said : List (DwUnit ℕ)) (file : ℕ) (name : ℕ → Spot) (k : ℕ) (x : TopEntry) (t : Top) → slice_get (all_tops is_space s 0 (map below_root said)) k ≡ Some x → slice_get (tops_from s.unit s.top (map (in_file file) (map (unit_map name) said))) k ≡ Some t
+pub shows : (s : Starts) (said : List (DwUnit ℕ)) (file : ℕ) (name : ℕ → Spot) (k : ℕ) (x : TopEntry) (t : Top) → slice_get (all_tops is_space s 0 (map below_root said)) k ≡ Some x
+    → slice_get (tops_from s.unit s.top (map (in_file file) (map (unit_map name) said))) k ≡ Some t
     → (x.unit ≡ t.unit) × (t.number ≡ s.top + k)
-shows s said file name k x t e f = (same_units file name s 0 said k x t e f, numbered_at s.top (tops_from s.unit s.top (map (in_file file) (map (unit_map name) said))) (from_numbered s.unit s.top (map (in_file file) (map (unit_map name) said))) k t f)
+shows s said file name k x t e f = (
+  same_units file name s 0 said k x t e f,
+  numbered_at s.top (tops_from s.unit s.top (map (in_file file) (map (unit_map name) said)))
+      (from_numbered s.unit s.top (map (in_file file) (map (unit_map name) said))) k t f,
+)

@@ -4,10 +4,10 @@ use Rattle.std.proofs.lemmas.List.{append-nil, drop_all, drop_at, length-append}
 use Rattle.dwz_docs.specs.Entries.{root_position}
 use Rattle.dwz_docs.specs.Trees.{Position, behind, first_below, size}
 use Rattle.dwz_docs.specs.Units.{CompileUnit, PartialUnit, RawKind, RawUnit, TypeUnit, entries_in, entry_count}
+use Rattle.dwz_docs.proofs.ListFacts.{drop_first, drop_here}
 use Rattle.dwz_unit.specs.declared.rows.RawEntry.{RawEntry as EntryOfCode}
 use Rattle.dwz_unit.specs.declared.rows.RawUnit.{RawUnit as UnitOfCode}
 use Rattle.dwz_unit.specs.Rows.{EntryRow, rows_below, rows_of, shown_entries, shown_from, shown_units, unit_shown}
-use Rattle.dwz_resolve.proofs.RowLemmas.{drop_here}
 use Rattle.dwz_resolve.proofs.UnitThere.{UnitThere, root_ends, same_unit, unit_ends, unit_there}
 use Rattle.dwz_index.specs.declared.index.SpaceEntry.{SpaceEntry}
 use Rattle.dwz_index.specs.declared.index.Starts.{Starts}
@@ -17,11 +17,11 @@ use Rattle.dwz_index.specs.Building.{HasList, IsFew, IsList, with_below, with_li
 use Rattle.dwz_index.specs.Index.{Index}
 use Rattle.dwz_index.specs.Steps.{step, steps_below}
 use Rattle.dwz_index.proofs.ListBuilding.{below_long, few_list, few_more, list_long, starts_kept}
-use Rattle.dwz_index.proofs.ListLemmas.{drop_first}
 
 -- ---- the list below a root
 
-list_there : (raw : List RawUnit) (n : ℕ) (x : UnitOfCode) (e : EntryOfCode) (t : UnitThere (rows_of raw) raw 0 n x) → slice_get (shown_entries raw) x.first ≡ Some e → IsList raw (x.first + 1) e.end t.u.below
+list_there : (raw : List RawUnit) (n : ℕ) (x : UnitOfCode) (e : EntryOfCode) (t : UnitThere (rows_of raw) raw 0 n x) → slice_get (shown_entries raw) x.first ≡ Some e
+    → IsList raw (x.first + 1) e.end t.u.below
 unfolding rows_below
 list_there raw n x e t shown =
     let p : Position = root_position x.first in
@@ -39,12 +39,14 @@ list_there raw n x e t shown =
       ends = omega arith;
     }
 
-pub unit_list : (raw : List RawUnit) (n : ℕ) (x : UnitOfCode) (e : EntryOfCode) (u : RawUnit) → slice_get (shown_units raw) n ≡ Some x → slice_get (shown_entries raw) x.first ≡ Some e → slice_get raw n ≡ Some u → IsList raw (x.first + 1) e.end u.below
+pub unit_list : (raw : List RawUnit) (n : ℕ) (x : UnitOfCode) (e : EntryOfCode) (u : RawUnit) → slice_get (shown_units raw) n ≡ Some x → slice_get (shown_entries raw) x.first ≡ Some e
+    → slice_get raw n ≡ Some u → IsList raw (x.first + 1) e.end u.below
 unit_list raw n x e u shown entry found =
     let t = unit_there raw n x shown in
     subst (λ (v : RawUnit). IsList raw (x.first + 1) e.end v.below) (same_unit raw n t.u u t.is_unit found) (list_there raw n x e t entry)
 
-pub some_list : (raw : List RawUnit) (n : ℕ) (x : UnitOfCode) (e : EntryOfCode) → slice_get (shown_units raw) n ≡ Some x → slice_get (shown_entries raw) x.first ≡ Some e → HasList raw (x.first + 1) e.end
+pub some_list : (raw : List RawUnit) (n : ℕ) (x : UnitOfCode) (e : EntryOfCode) → slice_get (shown_units raw) n ≡ Some x → slice_get (shown_entries raw) x.first ≡ Some e
+    → HasList raw (x.first + 1) e.end
 some_list raw n x e shown entry =
     let t = unit_there raw n x shown in
     record { list = t.u.below; is = list_there raw n x e t entry }
@@ -67,7 +69,7 @@ number_within raw n x shown = let r = number_from raw 0 n x shown in omega arith
 
 -- ---- the kind of a unit
 
-kind_is : (raw : List RawUnit) (n : ℕ) (x : UnitOfCode) (u : RawUnit) → slice_get (shown_units raw) n ≡ Some x → slice_get raw n ≡ Some u → unit_shown x.first u ≡ x
+pub kind_is : (raw : List RawUnit) (n : ℕ) (x : UnitOfCode) (u : RawUnit) → slice_get (shown_units raw) n ≡ Some x → slice_get raw n ≡ Some u → unit_shown x.first u ≡ x
 kind_is raw n x u shown found =
     let t = unit_there raw n x shown in
     subst (λ (v : RawUnit). unit_shown x.first v ≡ x) (same_unit raw n t.u u t.is_unit found) t.shown
@@ -75,14 +77,16 @@ kind_is raw n x u shown found =
 abbrev pub kind_in : UnitOfCode → ℕ
 kind_in x = x.kind
 
-pub below_compile : (raw : List RawUnit) (n : ℕ) (x : UnitOfCode) (u : RawUnit) (unit : ℕ) (w : Index) → slice_get (shown_units raw) n ≡ Some x → slice_get raw n ≡ Some u → x.kind ≡ 1 → with_list unit 0 x.first 0 (x.first + 1) u.below w ≡ with_below unit x.first u.kind u.below w
+pub below_compile : (raw : List RawUnit) (n : ℕ) (x : UnitOfCode) (u : RawUnit) (unit : ℕ) (w : Index) → slice_get (shown_units raw) n ≡ Some x → slice_get raw n ≡ Some u → x.kind ≡ 1
+    → with_list unit 0 x.first 0 (x.first + 1) u.below w ≡ with_below unit x.first u.kind u.below w
 below_compile raw n x u unit w shown found one = by u.kind (ap kind_in (kind_is raw n x u shown found) ∙ one) where
   by : (k : RawKind) → kind_in (unit_shown x.first (record u { kind = k })) ≡ 1 → with_list unit 0 x.first 0 (x.first + 1) u.below w ≡ with_below unit x.first k u.below w
   by CompileUnit e = refl
   by (TypeUnit signature type_offset) e = absurd (omega (arith, e))
   by PartialUnit e = absurd (omega (arith, e))
 
-pub below_type : (raw : List RawUnit) (n : ℕ) (x : UnitOfCode) (u : RawUnit) (unit : ℕ) (w : Index) → slice_get (shown_units raw) n ≡ Some x → slice_get raw n ≡ Some u → (x.kind ≡ 1 → ⊥) → with_steps (steps_below 0 x.first 0 (x.first + 1) u.below) w ≡ with_below unit x.first u.kind u.below w
+pub below_type : (raw : List RawUnit) (n : ℕ) (x : UnitOfCode) (u : RawUnit) (unit : ℕ) (w : Index) → slice_get (shown_units raw) n ≡ Some x → slice_get raw n ≡ Some u → (x.kind ≡ 1 → ⊥)
+    → with_steps (steps_below 0 x.first 0 (x.first + 1) u.below) w ≡ with_below unit x.first u.kind u.below w
 below_type raw n x u unit w shown found other = by u.kind (ap kind_in (kind_is raw n x u shown found)) where
   by : (k : RawKind) → kind_in (unit_shown x.first (record u { kind = k })) ≡ x.kind → with_steps (steps_below 0 x.first 0 (x.first + 1) u.below) w ≡ with_below unit x.first k u.below w
   by CompileUnit e = absurd (other (sym e))
@@ -100,7 +104,8 @@ few_unit unit first u x h = by u.kind where
   by CompileUnit =
       few_more (with_list unit 0 first 0 (first + 1) u.below opened) (first + 1 + size u.below) (first + entry_count u) (omega arith)
       (few_list unit 0 first 0 (first + 1) u.below opened (few_more opened first (first + 1) (omega arith) (record { tops = h.tops; spaces = h.spaces })))
-  by (TypeUnit signature type_offset) = few_more (with_steps (steps_below 0 first 0 (first + 1) u.below) opened) first (first + entry_count u) (omega arith) (record { tops = h.tops; spaces = h.spaces })
+  by (TypeUnit signature type_offset) = few_more (with_steps (steps_below 0 first 0 (first + 1) u.below) opened) first (first + entry_count u) (omega arith)
+      (record { tops = h.tops; spaces = h.spaces })
   by PartialUnit = few_more (with_steps (steps_below 0 first 0 (first + 1) u.below) opened) first (first + entry_count u) (omega arith) (record { tops = h.tops; spaces = h.spaces })
 
 unit_starts : (unit first : ℕ) (u : RawUnit) (x : Index) → (with_unit unit first u x).starts ≡ x.starts
@@ -141,7 +146,8 @@ next_unit raw n first x e shown =
     let t = unit_there raw n x shown in
     let here = drop_here raw n t.u t.is_unit in
     let there = drop_here (shown_units raw) n x shown in
-    let both : x ∷ drop (n + 1) (shown_units raw) ≡ unit_shown first t.u ∷ shown_from (drop (n + 1) raw) (first + entry_count t.u) = sym there ∙ e ∙ ap (λ (w : List RawUnit). shown_from w first) here in
+    let both : x ∷ drop (n + 1) (shown_units raw) ≡ unit_shown first t.u ∷ shown_from (drop (n + 1) raw) (first + entry_count t.u) = sym there ∙ e
+    ∙ ap (λ (w : List RawUnit). shown_from w first) here in
     let one : x ≡ unit_shown first t.u = cc in
     record { u = t.u; found = t.is_unit; at = ap (λ (w : UnitOfCode). w.first) one; shown = cc }
 
@@ -151,14 +157,16 @@ first_is raw old n x v g shown = let u = next_unit raw n g.first v g.shown shown
 abbrev unit_number : ℕ → Starts → ℕ
 unit_number n s = s.unit + n
 
-pub units_on : (raw : List RawUnit) (old : Index) (n : ℕ) (x new : Index) (v : UnitOfCode) → UnitsGo raw old n x → slice_get (shown_units raw) n ≡ Some v → ((u : RawUnit) → slice_get raw n ≡ Some u → new ≡ with_unit (x.starts.unit + n) v.first u x) → UnitsGo raw old (n + 1) new
+pub units_on : (raw : List RawUnit) (old : Index) (n : ℕ) (x new : Index) (v : UnitOfCode) → UnitsGo raw old n x → slice_get (shown_units raw) n ≡ Some v
+    → ((u : RawUnit) → slice_get raw n ≡ Some u → new ≡ with_unit (x.starts.unit + n) v.first u x) → UnitsGo raw old (n + 1) new
 unfolding with_units
 units_on raw old n x new v g shown made =
     let u = next_unit raw n g.first v g.shown shown in
     let first = g.first in
     let same : new ≡ with_unit (old.starts.unit + n) first u.u x = made u.u u.found ∙ (λ k. with_unit (unit_number n (g.starts k)) (u.at k) u.u x) in
     let more : old.starts.unit + (n + 1) ≡ old.starts.unit + n + 1 = omega arith in
-    let here : with_units (old.starts.unit + n) first (drop n raw) x ≡ with_units (old.starts.unit + n + 1) (first + entry_count u.u) (drop (n + 1) raw) (with_unit (old.starts.unit + n) first u.u x) = ap (λ (w : List RawUnit). with_units (old.starts.unit + n) first w x) (drop_here raw n u.u u.found) in
+    let here : with_units (old.starts.unit + n) first (drop n raw) x ≡ with_units (old.starts.unit + n + 1) (first + entry_count u.u) (drop (n + 1) raw) (with_unit (old.starts.unit + n) first u.u x) =
+    ap (λ (w : List RawUnit). with_units (old.starts.unit + n) first w x) (drop_here raw n u.u u.found) in
     record {
       first = first + entry_count u.u;
       shown = u.shown;
@@ -213,9 +221,3 @@ few_units unit first [] x h = few_more x first (first + 0) (omega arith) h
 few_units unit first (u ∷ raw) x h =
     let r = few_units (unit + 1) (first + entry_count u) raw (with_unit unit first u x) (few_unit unit first u x h) in
     few_more (with_units (unit + 1) (first + entry_count u) raw (with_unit unit first u x)) (first + entry_count u + entries_in raw) (first + (entry_count u + entries_in raw)) (omega arith) r
-
--- there are no more units than entries
-pub units_few : (raw : List RawUnit) → length raw ≤ entries_in raw
-unfolding entries_in
-units_few [] = omega arith
-units_few (u ∷ raw) = omega (arith, units_few raw)

@@ -3,11 +3,11 @@ use Rattle.std.proofs.Common.{◌≡◌, ℕ, zero, suc, ◌+◌, ◌≤◌, Boo
 use Rattle.std.proofs.lemmas.List.{append-nil, append_assoc, length-map}
 use Rattle.dwz_docs.specs.Trees.{size}
 use Rattle.dwz_docs.specs.Units.{CompileUnit, PartialUnit, RawKind, RawUnit, TypeUnit, entry_count}
-use Rattle.dwz_meanings.specs.Documents.{Compile, DwUnit, Kind, Node, OfType, Partial}
+use Rattle.dwz_meanings.specs.Documents.{DwUnit, Kind, Node}
 use Rattle.dwz_meanings.specs.Files.{place_if_whole, unit_places}
 use Rattle.dwz_meanings.specs.Meanings.{Around, MeanUnits, MeansKind, MeansUnit, Scope, scope_of}
 use Rattle.dwz_resolve.proofs.UnitStarts.{starts as places_of_units}
-use Rattle.dwz_seen.specs.Lists.{Each}
+use Rattle.dwz_docs.specs.Lists.{Each}
 use Rattle.dwz_seen.specs.Seen.{IsPartial}
 use Rattle.dwz_alike.specs.Spots.{Spot, top_count}
 use Rattle.dwz_index.specs.declared.index.Starts.{Starts}
@@ -15,10 +15,12 @@ use Rattle.dwz_index.specs.declared.index.Step.{Step}
 use Rattle.dwz_index.specs.Building.{nothing_yet, with_below, with_steps, with_unit, with_units}
 use Rattle.dwz_index.specs.Index.{HasTops, Index, IsIndex, Shows}
 use Rattle.dwz_index.specs.Names.{names_from}
-use Rattle.dwz_index.specs.Steps.{Below, all_spaces, all_steps, all_tops, below_root, is_compile, is_space, space_entries, spaces_of_list, starts_behind, step, steps_among, steps_below, steps_of_list, top_entries, tops_of_list}
+use Rattle.dwz_index.specs.Steps.{Below, all_spaces, all_steps, all_tops, below_root, is_compile, is_space, space_entries, spaces_of_list, starts_behind, step, steps_among, steps_below, steps_of_list}
+use Rattle.dwz_index.specs.Steps.{top_entries, tops_of_list}
 use Rattle.dwz_index.proofs.AmongLemmas.{spaces_many, tops_many}
 use Rattle.dwz_index.proofs.ListMeans.{list_means, many_more, means_below, means_size, next_space, next_top}
-use Rattle.dwz_index.proofs.ShowLemmas.{AllShow, At, at_left, at_right, counted, show_append, unit_many, unit_names, unit_shows}
+use Rattle.dwz_index.proofs.ShowLemmas.{AllShow, At, at_left, at_right, show_append, unit_many, unit_names, unit_shows}
+use Rattle.dwz_index.proofs.TopLemmas.{counts_same}
 
 -- ---- with what a unit adds
 
@@ -42,7 +44,8 @@ module _ (around : Around ℕ) where
     of_kind : Kind ℕ → Index
     of_kind kind = added unit first (record { compile = is_compile kind; list = v.below }) x
 
-    plain : with_steps (steps_below 0 first 0 (first + 1) u.below) (with_steps (root ∷ []) x) ≡ record { steps = x.steps ++ (root ∷ steps_below 0 first 0 (first + 1) v.below); tops = x.tops ++ []; spaces = x.spaces ++ []; starts = x.starts }
+    plain : with_steps (steps_below 0 first 0 (first + 1) u.below) (with_steps (root ∷ []) x)
+        ≡ record { steps = x.steps ++ (root ∷ steps_below 0 first 0 (first + 1) v.below); tops = x.tops ++ []; spaces = x.spaces ++ []; starts = x.starts }
     plain =
         let steps : (x.steps ++ root ∷ []) ++ steps_below 0 first 0 (first + 1) u.below ≡ x.steps ++ (root ∷ steps_below 0 first 0 (first + 1) v.below)
         = append_assoc x.steps (root ∷ []) (steps_below 0 first 0 (first + 1) u.below) ∙ ap (λ (w : List Step). x.steps ++ (root ∷ w)) (means_below s 0 first 0 (first + 1) u.below v.below h.below) in
@@ -102,8 +105,10 @@ module _ (around : Around ℕ) where
       let y = added unit first b x in
       let size_is = means_size (scope_of around u) u.below v.below h.0.below in
       let next : first + entry_count u ≡ first + 1 + size v.below = omega arith in
-      let top : next_top y ≡ next_top x + tops_of_list is_space b = many_more x.starts.top x.tops (top_entries is_space unit (next_space x) first b) (tops_of_list is_space b) (tops_number unit (next_space x) first b) in
-      let space : next_space y ≡ next_space x + spaces_of_list is_space b = many_more x.starts.space x.spaces (space_entries is_space (next_space x) first b) (spaces_of_list is_space b) (spaces_number (next_space x) first b) in
+      let top : next_top y ≡ next_top x + tops_of_list is_space b = many_more x.starts.top x.tops (top_entries is_space unit (next_space x) first b) (tops_of_list is_space b)
+      (tops_number unit (next_space x) first b) in
+      let space : next_space y ≡ next_space x + spaces_of_list is_space b = many_more x.starts.space x.spaces (space_entries is_space (next_space x) first b) (spaces_of_list is_space b)
+      (spaces_number (next_space x) first b) in
       let starts : starts_at (unit + 1) y ≡ starts_behind is_space (starts_at unit x) b = (λ j. record { unit = unit + 1; top = top j; space = space j }) in
       let rest = map below_root said in
       ap (with_units (unit + 1) (first + entry_count u) raw) (unit_means unit first u v x h.0)
@@ -175,14 +180,8 @@ module _ (around : Around ℕ) where
 abbrev AreWhole : List (DwUnit ℕ) → Type 0
 AreWhole said = Each (λ v. IsPartial v.kind → ⊥) said
 
-top_counted : (v : DwUnit ℕ) → tops_of_list is_space (below_root v) ≡ top_count v.kind v.below
-top_counted v = by v.kind where
-  by : (k : Kind ℕ) → tops_of_list is_space (record { compile = is_compile k; list = v.below }) ≡ top_count k v.below
-  by Compile = counted v.below
-  by (OfType signature main) = refl
-  by Partial = refl
-
-all_show : (names : List Spot) (s : Starts) (first : ℕ) (said : List (DwUnit ℕ)) → AreWhole said → At names first (names_from s.unit s.top said) → AllShow names first (all_steps is_space s first (map below_root said)) (names_from s.unit s.top said)
+all_show : (names : List Spot) (s : Starts) (first : ℕ) (said : List (DwUnit ℕ)) → AreWhole said → At names first (names_from s.unit s.top said)
+    → AllShow names first (all_steps is_space s first (map below_root said)) (names_from s.unit s.top said)
 unfolding names_from all_steps
 all_show names s first [] h at = tt
 all_show names s first (v ∷ said) h at =
@@ -190,7 +189,7 @@ all_show names s first (v ∷ said) h at =
     let others = names_from (suc s.unit) (s.top + top_count v.kind v.below) said in
     let next = starts_behind is_space s (below_root v) in
     let one : s.unit + 1 ≡ suc s.unit = omega arith in
-    let same : names_from next.unit next.top said ≡ others = (λ j. names_from (one j) (s.top + top_counted v j) said) in
+    let same : names_from next.unit next.top said ≡ others = (λ j. names_from (one j) (s.top + counts_same v j) said) in
     let many : length own ≡ 1 + size v.below = omega (arith, unit_many s.unit s.top v h.0) in
     let behind : first + (1 + size v.below) ≡ first + 1 + size v.below = omega arith in
     let rest : At names (first + 1 + size v.below) others = subst (λ (n : ℕ). At names n others) behind (at_right names first (1 + size v.below) own others many at) in
@@ -206,7 +205,8 @@ show_many names i [] (s ∷ part) h = absurd h
 show_many names i (x ∷ steps) [] h = absurd h
 show_many names i (x ∷ steps) (s ∷ part) h = ap suc (show_many names (i + 1) steps part h.1)
 
-show_at : (names : List Spot) (i : ℕ) (steps : List Step) (part : List Spot) → AllShow names i steps part → (k : ℕ) (x : Step) (s : Spot) → slice_get steps k ≡ Some x → slice_get part k ≡ Some s → Shows names (i + k) x s
+show_at : (names : List Spot) (i : ℕ) (steps : List Step) (part : List Spot) → AllShow names i steps part → (k : ℕ) (x : Step) (s : Spot) → slice_get steps k ≡ Some x → slice_get part k ≡ Some s
+    → Shows names (i + k) x s
 show_at names i [] [] h k x s e f = absurd cc
 show_at names i [] (t ∷ part) h k x s e f = absurd h
 show_at names i (y ∷ steps) [] h k x s e f = absurd h
@@ -222,7 +222,8 @@ show_at names i (y ∷ steps) (t ∷ part) h (suc k) x s e f =
 pub places_number : (raw : List RawUnit) → unit_places raw ≡ places_of_units raw → length (unit_places raw) ≡ length raw
 places_number raw is = ap (λ (w : List ℕ). length w) is ∙ length-map raw (λ (u : RawUnit). u.at)
 
-pub is_index : (around : Around ℕ) (s : Starts) (raw : List RawUnit) (said : List (DwUnit ℕ)) (x : Index) → unit_places raw ≡ places_of_units raw → MeanUnits around raw said → x ≡ with_units s.unit 0 raw (nothing_yet s) → IsIndex (names_from s.unit s.top said) x
+pub is_index : (around : Around ℕ) (s : Starts) (raw : List RawUnit) (said : List (DwUnit ℕ)) (x : Index) → unit_places raw ≡ places_of_units raw → MeanUnits around raw said
+    → x ≡ with_units s.unit 0 raw (nothing_yet s) → IsIndex (names_from s.unit s.top said) x
 is_index around s raw said x whole_is h e =
     let names = names_from s.unit s.top said in
     let same : x.steps ≡ all_steps is_space s 0 (map below_root said) = ap (λ (w : Index). w.steps) (e ∙ all_mean around s raw said h) in

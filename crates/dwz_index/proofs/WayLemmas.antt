@@ -91,7 +91,8 @@ up_one names at x (Import n j) h lt = absurd (let e = h.1 in omega arith)
 pub way_begins : (names : List Spot) (at : ℕ) (old : List ℕ) (s : Spot) → slice_get names at ≡ Some s → OnWay names at old old s
 way_begins names at old s found = record { here = s; found = found; path = refl }
 
-pub way_on : (names : List Spot) (index : Index) (at : ℕ) (x : Step) (out new old : List ℕ) (s : Spot) → IsIndex names index → slice_get index.steps at ≡ Some x → x.up < at → new ≡ out ++ x.index ∷ [] → OnWay names at out old s → OnWay names x.up new old s
+pub way_on : (names : List Spot) (index : Index) (at : ℕ) (x : Step) (out new old : List ℕ) (s : Spot) → IsIndex names index → slice_get index.steps at ≡ Some x → x.up < at → new ≡ out ++ x.index ∷ []
+    → OnWay names at out old s → OnWay names x.up new old s
 way_on names index at x out new old s is there lt put h =
     let u = up_one names at x h.here (is.each at x h.here there h.found) lt in
     record {
@@ -100,7 +101,8 @@ way_on names index at x out new old s is there lt put h =
       path = ap (λ (w : List ℕ). w ++ path_in u.above_it) put ∙ append_assoc out (x.index ∷ []) (path_in u.above_it) ∙ ap (λ (w : List ℕ). out ++ w) (sym u.path) ∙ h.path;
     }
 
-pub way_done : (names : List Spot) (index : Index) (at : ℕ) (x : Step) (out old : List ℕ) (s : Spot) → IsIndex names index → slice_get index.steps at ≡ Some x → at ≤ x.up → OnWay names at out old s → out ≡ old ++ path_in s
+pub way_done : (names : List Spot) (index : Index) (at : ℕ) (x : Step) (out old : List ℕ) (s : Spot) → IsIndex names index → slice_get index.steps at ≡ Some x → at ≤ x.up → OnWay names at out old s
+    → out ≡ old ++ path_in s
 way_done names index at x out old s is there le h =
     sym (append-nil out) ∙ ap (λ (w : List ℕ). out ++ w) (sym (way_ends names at x h.here (is.each at x h.here there h.found) le)) ∙ h.path
 

@@ -55,14 +55,16 @@ space_behind x = suc (x.starts.space + length x.spaces)
 
 -- with a space
 abbrev pub with_space : (up index outer first : ℕ) → Index → Index
-with_space up i outer first x = record { steps = x.steps ++ step up i 0 ∷ []; tops = x.tops; spaces = x.spaces ++ space_entry first outer ∷ []; starts = x.starts }
+with_space up i outer first x =
+    record { steps = x.steps ++ step up i 0 ∷ []; tops = x.tops; spaces = x.spaces ++ space_entry first outer ∷ []; starts = x.starts }
 
 -- with the entries of a list below the root of a compile unit, or below a space of it
 unfoldable pub with_list : (unit inner up index first : ℕ) → Forest RawEntry → Index → Index
 with_list unit inner up i first End x = x
 with_list unit inner up i first (Entry e children next) x = elim (stored_space e) as (λ _. Index) [
   | false ↦ with_list unit inner up (suc i) (first + 1 + size children) next (with_top unit inner first children x)
-  | true ↦ with_list unit inner up (suc i) (first + 1 + size children) next (with_list unit (space_behind x) first 0 (first + 1) children (with_space up i inner first x))
+  | true ↦ with_list unit inner up (suc i) (first + 1 + size children) next
+      (with_list unit (space_behind x) first 0 (first + 1) children (with_space up i inner first x))
 ]
 
 abbrev pub with_steps : List Step → Index → Index

@@ -10,11 +10,12 @@ use Rattle.dwz_index.specs.declared.index.SpaceEntry.{SpaceEntry}
 use Rattle.dwz_index.specs.declared.index.Starts.{Starts}
 use Rattle.dwz_index.specs.declared.index.TopEntry.{TopEntry}
 
--- out from the space before the number k, up to one in a root, the entries of these spaces, each space before the one that it is around; the
--- first space of all has that number
+-- out from the space before the number k, up to one in a root, the entries of these spaces, each space before the one that it is around;
+-- the first space of all has that number
 abbrev pub IsOut : ℕ → List SpaceEntry → ℕ → List ℕ → Type 0
 IsOut first spaces k [] = k ≡ 0
-IsOut first spaces k (e ∷ entries) = (j : ℕ) × (x : SpaceEntry) × (k ≡ suc (first + j)) × (slice_get spaces j ≡ Some x) × (x.entry ≡ e) × (x.outer < k) × IsOut first spaces x.outer entries
+IsOut first spaces k (e ∷ entries) = (j : ℕ) × (x : SpaceEntry) × (k ≡ suc (first + j)) × (slice_get spaces j ≡ Some x) × (x.entry ≡ e)
+    × (x.outer < k) × IsOut first spaces x.outer entries
 
 -- the entry with a number, in the unit with the number n, means a space with that name
 pub record IsSpaceAt (raw : List RawUnit) (around : Around ℕ) (n e : ℕ) (name : SpaceName) : Type 0 where
@@ -35,7 +36,8 @@ AreSpacesAt raw around n (name ∷ names) (e ∷ entries) = IsSpaceAt raw around
 AreSpacesAt raw around n _ _ = ⊥
 
 -- what is kept of a top leads to the spaces that the top stands in, in its unit, whose number in its file is n
-pub record LeadsOut (raw : List RawUnit) (around : Around ℕ) (starts : Starts) (spaces : List SpaceEntry) (x : TopEntry) (t : Top) : Type 0 where
+pub record LeadsOut (raw : List RawUnit) (around : Around ℕ) (starts : Starts) (spaces : List SpaceEntry) (x : TopEntry) (t : Top) : Type
+    0 where
   pub n : ℕ
   pub number : t.unit ≡ starts.unit + n
   pub entries : List ℕ

@@ -28,7 +28,8 @@ tops_in_file s file name units = tops_from s.unit s.top (map (in_file file) (map
 -- the entry with a number has the name of its place
 abbrev pub PlaceLaw : Type 0
 PlaceLaw =
-    (l : Limits) (bytes : List ℕ) (raw : List RawUnit) (doc : Doc ℕ) (unit top i : ℕ) → file_meaning l bytes ≡ Ok (raw, doc) → i < entries_in raw
+    (l : Limits) (bytes : List ℕ) (raw : List RawUnit) (doc : Doc ℕ) (unit top i : ℕ) → file_meaning l bytes ≡ Ok (raw, doc)
+    → i < entries_in raw
     → slice_get (names_from unit top doc.units) i ≡ Some (spot_in (spots_from unit top doc.units) (place_at raw i))
 
 -- what a file says is what its units mean
@@ -44,8 +45,10 @@ ManyLaw = (s : Starts) (units : List (DwUnit ℕ)) → length (tops_of_units s u
 -- each has the name of the top with its number
 abbrev pub NamedLaw : Type 0
 NamedLaw =
-    (l : Limits) (bytes : List ℕ) (raw : List RawUnit) (doc : Doc ℕ) (s : Starts) (k : ℕ) (x : TopEntry) → file_meaning l bytes ≡ Ok (raw, doc)
-    → slice_get (tops_of_units s doc.units) k ≡ Some x → slice_get (names_from s.unit s.top doc.units) x.entry ≡ Some (Within (s.top + k) [])
+    (l : Limits) (bytes : List ℕ) (raw : List RawUnit) (doc : Doc ℕ) (s : Starts) (k : ℕ) (x : TopEntry)
+    → file_meaning l bytes ≡ Ok (raw, doc)
+    → slice_get (tops_of_units s doc.units) k ≡ Some x → slice_get (names_from s.unit s.top doc.units) x.entry
+    ≡ Some (Within (s.top + k) [])
 
 -- each entry with such a name is one of them
 abbrev pub FoundLaw : Type 0
@@ -63,6 +66,8 @@ ShownLaw =
 -- and leads to the spaces that this top stands in
 abbrev pub SpacesLaw : Type 0
 SpacesLaw =
-    (l : Limits) (bytes : List ℕ) (raw : List RawUnit) (doc : Doc ℕ) (s : Starts) (file : ℕ) (name : ℕ → Spot) (k : ℕ) (x : TopEntry) (t : Top)
-    → file_meaning l bytes ≡ Ok (raw, doc) → slice_get (tops_of_units s doc.units) k ≡ Some x → slice_get (tops_in_file s file name doc.units) k ≡ Some t
+    (l : Limits) (bytes : List ℕ) (raw : List RawUnit) (doc : Doc ℕ) (s : Starts) (file : ℕ) (name : ℕ → Spot) (k : ℕ) (x : TopEntry)
+    (t : Top)
+    → file_meaning l bytes ≡ Ok (raw, doc) → slice_get (tops_of_units s doc.units) k ≡ Some x
+    → slice_get (tops_in_file s file name doc.units) k ≡ Some t
     → LeadsOut raw (around_of bytes raw) s (spaces_of_units s doc.units) x t

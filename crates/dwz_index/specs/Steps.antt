@@ -26,18 +26,26 @@ steps_below top up i first (Entry e children next) =
 -- how many entries are tops, and how many spaces, where the test is true of spaces
 unfoldable pub tops_by : {E : Type 0} → (E → Bool) → Forest E → ℕ
 tops_by space End = 0
-tops_by space (Entry e children next) = elim (space e) as (λ _. ℕ) [ false ↦ suc (tops_by space next) | true ↦ tops_by space children + tops_by space next ]
+tops_by space (Entry e children next) = elim (space e) as (λ _. ℕ) [
+  | false ↦ suc (tops_by space next)
+  | true ↦ tops_by space children + tops_by space next
+]
 
 unfoldable pub spaces_by : {E : Type 0} → (E → Bool) → Forest E → ℕ
 spaces_by space End = 0
-spaces_by space (Entry e children next) = elim (space e) as (λ _. ℕ) [ false ↦ spaces_by space next | true ↦ suc (spaces_by space children + spaces_by space next) ]
+spaces_by space (Entry e children next) = elim (space e) as (λ _. ℕ) [
+  | false ↦ spaces_by space next
+  | true ↦ suc (spaces_by space children + spaces_by space next)
+]
 
 -- of the entries below the root of a compile unit, or below a space of it: the first top has the number n. The way from a top ends there.
 unfoldable pub steps_among : {E : Type 0} → (E → Bool) → (n up index first : ℕ) → Forest E → List Step
 steps_among space n up i first End = []
 steps_among space n up i first (Entry e children next) = elim (space e) as (λ _. List Step) [
-  | false ↦ step first 0 (suc n) ∷ (steps_below (suc n) first 0 (first + 1) children ++ steps_among space (suc n) up (suc i) (first + 1 + size children) next)
-  | true ↦ step up i 0 ∷ (steps_among space n first 0 (first + 1) children ++ steps_among space (n + tops_by space children) up (suc i) (first + 1 + size children) next)
+  | false ↦ step first 0 (suc n) ∷ (steps_below (suc n) first 0 (first + 1) children ++ steps_among space (suc n) up (suc i)
+      (first + 1 + size children) next)
+  | true ↦ step up i 0 ∷ (steps_among space n first 0 (first + 1) children ++ steps_among space (n + tops_by space children) up (suc i)
+      (first + 1 + size children) next)
 ]
 
 -- ---- tops and spaces
@@ -53,7 +61,8 @@ unfoldable pub tops_among : {E : Type 0} → (E → Bool) → (unit inner next_s
 tops_among space unit inner k first End = []
 tops_among space unit inner k first (Entry e children next) = elim (space e) as (λ _. List TopEntry) [
   | false ↦ top_entry first unit inner ∷ tops_among space unit inner k (first + 1 + size children) next
-  | true ↦ tops_among space unit (suc k) (suc k) (first + 1) children ++ tops_among space unit inner (suc k + spaces_by space children) (first + 1 + size children) next
+  | true ↦ tops_among space unit (suc k) (suc k) (first + 1) children ++ tops_among space unit inner (suc k + spaces_by space children)
+      (first + 1 + size children) next
 ]
 
 -- the spaces there
@@ -61,7 +70,8 @@ unfoldable pub spaces_among : {E : Type 0} → (E → Bool) → (outer next_spac
 spaces_among space outer k first End = []
 spaces_among space outer k first (Entry e children next) = elim (space e) as (λ _. List SpaceEntry) [
   | false ↦ spaces_among space outer k (first + 1 + size children) next
-  | true ↦ space_entry first outer ∷ (spaces_among space (suc k) (suc k) (first + 1) children ++ spaces_among space outer (suc k + spaces_by space children) (first + 1 + size children) next)
+  | true ↦ space_entry first outer ∷ (spaces_among space (suc k) (suc k) (first + 1) children
+      ++ spaces_among space outer (suc k + spaces_by space children) (first + 1 + size children) next)
 ]
 
 -- ---- of all units
@@ -79,10 +89,16 @@ spaces_of_list space b = elim b.compile as (λ _. ℕ) [ true ↦ spaces_by spac
 
 abbrev pub steps_of_list : {E : Type 0} → (E → Bool) → (n first : ℕ) → Below E → List Step
 steps_of_list space n first b =
-    step first 0 0 ∷ elim b.compile as (λ _. List Step) [ true ↦ steps_among space n first 0 (first + 1) b.list | false ↦ steps_below 0 first 0 (first + 1) b.list ]
+    step first 0 0 ∷ elim b.compile as (λ _. List Step) [
+      | true ↦ steps_among space n first 0 (first + 1) b.list
+      | false ↦ steps_below 0 first 0 (first + 1) b.list
+    ]
 
 abbrev pub top_entries : {E : Type 0} → (E → Bool) → (unit next_space first : ℕ) → Below E → List TopEntry
-top_entries space unit k first b = elim b.compile as (λ _. List TopEntry) [ true ↦ tops_among space unit 0 k (first + 1) b.list | false ↦ [] ]
+top_entries space unit k first b = elim b.compile as (λ _. List TopEntry) [
+  | true ↦ tops_among space unit 0 k (first + 1) b.list
+  | false ↦ []
+]
 
 abbrev pub space_entries : {E : Type 0} → (E → Bool) → (next_space first : ℕ) → Below E → List SpaceEntry
 space_entries space k first b = elim b.compile as (λ _. List SpaceEntry) [ true ↦ spaces_among space 0 k (first + 1) b.list | false ↦ [] ]
@@ -93,15 +109,18 @@ starts_behind space s b = record { unit = s.unit + 1; top = s.top + tops_of_list
 
 unfoldable pub all_steps : {E : Type 0} → (E → Bool) → Starts → (first : ℕ) → List (Below E) → List Step
 all_steps space s first [] = []
-all_steps space s first (b ∷ bs) = steps_of_list space s.top first b ++ all_steps space (starts_behind space s b) (first + 1 + size b.list) bs
+all_steps space s first (b ∷ bs) = steps_of_list space s.top first b ++ all_steps space (starts_behind space s b) (first + 1 + size b.list)
+    bs
 
 unfoldable pub all_tops : {E : Type 0} → (E → Bool) → Starts → (first : ℕ) → List (Below E) → List TopEntry
 all_tops space s first [] = []
-all_tops space s first (b ∷ bs) = top_entries space s.unit s.space first b ++ all_tops space (starts_behind space s b) (first + 1 + size b.list) bs
+all_tops space s first (b ∷ bs) = top_entries space s.unit s.space first b ++ all_tops space (starts_behind space s b)
+    (first + 1 + size b.list) bs
 
 unfoldable pub all_spaces : {E : Type 0} → (E → Bool) → Starts → (first : ℕ) → List (Below E) → List SpaceEntry
 all_spaces space s first [] = []
-all_spaces space s first (b ∷ bs) = space_entries space s.space first b ++ all_spaces space (starts_behind space s b) (first + 1 + size b.list) bs
+all_spaces space s first (b ∷ bs) = space_entries space s.space first b ++ all_spaces space (starts_behind space s b)
+    (first + 1 + size b.list) bs
 
 -- ---- in documents
 

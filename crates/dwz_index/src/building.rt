@@ -4,7 +4,8 @@ ghost use Rattle.std.specs.Prelude.{◌≡◌, ◌+◌, ◌<◌, ◌++◌, Some,
 ghost use Rattle.dwz_docs.specs.Entries.{RawEntry};
 ghost use Rattle.dwz_docs.specs.Trees.{Forest};
 ghost use Rattle.dwz_docs.specs.Units.{RawUnit, entries_in};
-ghost use Rattle.dwz_index.specs.Building.{HasList, HasRoom, IsFew, IsList, space_behind, with_list, with_space, with_top, with_unit, with_units};
+ghost use Rattle.dwz_index.specs.Building.{HasList, HasRoom, IsFew, IsList, space_behind, with_list, with_space, with_top, with_unit};
+ghost use Rattle.dwz_index.specs.Building.{with_units};
 ghost use Rattle.dwz_index.specs.Steps.{steps_below};
 ghost use Rattle.dwz_unit.specs.Rows.{shown_units, units_of};
 
@@ -26,7 +27,8 @@ pub(crate) fn put_below(
     steps: &mut Vec<Step>,
 ) -> Result<(), NoMemory>
     requires { HasList (units_of units.now) first end }
-    ensures { (list : Forest RawEntry) → IsList (units_of units.now) first end list → OnOk result (steps.new.items ≡ steps.old.items ++ steps_below top up 0 first list) }
+    ensures { (list : Forest RawEntry) → IsList (units_of units.now) first end list
+        → OnOk result (steps.new.items ≡ steps.old.items ++ steps_below top up 0 first list) }
 {
     let mut entry = first;
     let mut index = 0;
@@ -54,7 +56,8 @@ impl Index {
         requires room { HasRoom self.old.starts (entries_in (units_of units.now)) }
         requires few { IsFew self.old entry }
         requires there { entry < entries_in (units_of units.now) }
-        ensures { (children : Forest RawEntry) → IsList (units_of units.now) (entry + 1) end children → OnOk result (self.new ≡ with_top unit inner entry children self.old) }
+        ensures { (children : Forest RawEntry) → IsList (units_of units.now) (entry + 1) end children
+            → OnOk result (self.new ≡ with_top unit inner entry children self.old) }
     {
         let top = self.starts.top + self.tops.len() as u32 + 1;
         self.tops.push(TopEntry { entry, unit, inner })?;
@@ -103,7 +106,8 @@ impl Index {
         requires rows { HasList (units_of units.now) first end }
         requires room { HasRoom self.old.starts (entries_in (units_of units.now)) }
         requires few { IsFew self.old first }
-        ensures { (list : Forest RawEntry) → IsList (units_of units.now) first end list → OnOk result (self.new ≡ with_list unit inner up 0 first list self.old) }
+        ensures { (list : Forest RawEntry) → IsList (units_of units.now) first end list
+            → OnOk result (self.new ≡ with_list unit inner up 0 first list self.old) }
     {
         let mut entry = first;
         let mut index = 0;
@@ -126,7 +130,8 @@ impl Index {
         requires shown { slice_get (shown_units (units_of units.now)) number ≡ Some unit.now }
         requires room { HasRoom self.old.starts (entries_in (units_of units.now)) }
         requires few { IsFew self.old unit.now.first }
-        ensures { (u : RawUnit) → slice_get (units_of units.now) number ≡ Some u → OnOk result (self.new ≡ with_unit (self.old.starts.unit + number) unit.now.first u self.old) }
+        ensures { (u : RawUnit) → slice_get (units_of units.now) number ≡ Some u
+            → OnOk result (self.new ≡ with_unit (self.old.starts.unit + number) unit.now.first u self.old) }
     {
         let root = unit.first;
         let end = units.entry(root).end;

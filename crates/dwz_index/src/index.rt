@@ -78,8 +78,10 @@ impl Index {
         requires room { HasRoom starts.now (entries_in (units_of units.now)) }
         ensures len { IfOk result (λ x. length x.steps ≡ entries_in (units_of units.now)) }
         ensures few { IfOk result (λ x. IsFew x (entries_in (units_of units.now))) }
-        ensures names { (around : Around ℕ) (said : List (DwUnit ℕ)) → units_meaning around (units_of units.now) ≡ Ok said → IfOk result (λ x. IsIndex (names_from starts.now.unit starts.now.top said) x) }
-        ensures tops { (around : Around ℕ) (said : List (DwUnit ℕ)) → units_meaning around (units_of units.now) ≡ Ok said → IfOk result (λ x. HasTops starts.now said x) }
+        ensures names { (around : Around ℕ) (said : List (DwUnit ℕ)) → units_meaning around (units_of units.now) ≡ Ok said
+            → IfOk result (λ x. IsIndex (names_from starts.now.unit starts.now.top said) x) }
+        ensures tops { (around : Around ℕ) (said : List (DwUnit ℕ)) → units_meaning around (units_of units.now) ≡ Ok said
+            → IfOk result (λ x. HasTops starts.now said x) }
     {
         let steps = Vec::with_capacity(alloc, units.entries() as usize)?;
         let mut index = Index {
@@ -118,7 +120,8 @@ impl Index {
     /// and a root have none.
     pub fn put_path(&self, entry: u32, path: &mut Vec<u32>) -> Result<(), NoMemory>
         requires { entry < length self.now.steps }
-        ensures { (names : List Spot) (s : Spot) → IsIndex names self.now → slice_get names entry ≡ Some s → OnOk result (path.new.items ≡ path.old.items ++ path_in s) }
+        ensures { (names : List Spot) (s : Spot) → IsIndex names self.now → slice_get names entry ≡ Some s
+            → OnOk result (path.new.items ≡ path.old.items ++ path_in s) }
     {
         let mut at = entry;
         loop {

@@ -40,7 +40,8 @@ fn is_text(class: Class) -> bool
 // Whether an entry has the name of a space.
 fn has_text_name(units: &Units, entry: u32) -> bool
     requires { entry < entries_in (units_of units.now) }
-    ensures { (row : EntryRow) → slice_get (rows_of (units_of units.now)) entry ≡ Some row → result ≡ Spaces.has_text (first_raw 0x03 row.entry.attrs) }
+    ensures { (row : EntryRow) → slice_get (rows_of (units_of units.now)) entry ≡ Some row
+        → result ≡ Spaces.has_text (first_raw 0x03 row.entry.attrs) }
 {
     match first_attr(units, entry, NAME) {
         Some(attr) => is_text(class_of(attr.pair.form)),
@@ -72,7 +73,8 @@ fn bytes_of<'a>(raw: &Raw<'a>) -> &'a [u8]
 
 // The text at the offset that is in a slot of `.debug_str_offsets` (DWARF 5, 7.26).
 fn text_by_slot<'a>(sections: &Sections<'a>, base: Option<u32>, index: u128) -> Option<&'a [u8]>
-    ensures { (at offset : ℕ) (text : List ℕ) → base ≡ Some at → Texts.slot sections.now.offsets.now at index ≡ Some offset → Texts.text_at sections.now.strs.bytes.now offset ≡ Some text → option_map (λ t. t.now) result ≡ Some text }
+    ensures { (at offset : ℕ) (text : List ℕ) → base ≡ Some at → Texts.slot sections.now.offsets.now at index ≡ Some offset
+        → Texts.text_at sections.now.strs.bytes.now offset ≡ Some text → option_map (λ t. t.now) result ≡ Some text }
 {
     let base = base?;
     let offset = slot(sections.offsets, base as u128, index)?;
@@ -81,7 +83,8 @@ fn text_by_slot<'a>(sections: &Sections<'a>, base: Option<u32>, index: u128) -> 
 
 // The text that a value is, where it is one.
 fn text_of<'a>(sections: &Sections<'a>, base: Option<u32>, attr: &RawAttr<'a>) -> Option<&'a [u8]>
-    ensures { (s : Scope ℕ) (v : Value ℕ) (text : List ℕ) → IsOwn sections.now base s → MeansValue s (attr_view attr.now) v → Seen.text_in v.plain ≡ Some text → option_map (λ t. t.now) result ≡ Some text }
+    ensures { (s : Scope ℕ) (v : Value ℕ) (text : List ℕ) → IsOwn sections.now base s → MeansValue s (attr_view attr.now) v
+        → Seen.text_in v.plain ≡ Some text → option_map (λ t. t.now) result ≡ Some text }
 {
     let offset = offset_of(&attr.raw);
     match class_of(attr.pair.form) {
@@ -101,7 +104,9 @@ pub fn space_text<'a>(
     entry: u32,
 ) -> Option<&'a [u8]>
     requires { entry < entries_in (units_of units.now) }
-    ensures { (s : Scope ℕ) (row : EntryRow) (d : Node ℕ) (text : List ℕ) → IsOwn sections.now base s → slice_get (rows_of (units_of units.now)) entry ≡ Some row → node_meaning s row.entry ≡ Ok d → Seen.space_text d ≡ Some text → option_map (λ t. t.now) result ≡ Some text }
+    ensures { (s : Scope ℕ) (row : EntryRow) (d : Node ℕ) (text : List ℕ) → IsOwn sections.now base s
+        → slice_get (rows_of (units_of units.now)) entry ≡ Some row → node_meaning s row.entry ≡ Ok d → Seen.space_text d ≡ Some text
+        → option_map (λ t. t.now) result ≡ Some text }
 {
     match first_attr(units, entry, NAME) {
         None => None,

@@ -11,6 +11,7 @@ use Rattle.dwz_graph.specs.declared.file.File.{File}
 use Rattle.dwz_graph.specs.Files.{AreKept, AreRead, docs_of, or_none}
 use Rattle.dwz_graph.proofs.GraphLemmas.{step}
 use Rattle.dwz_unit.specs.Rows.{units_of}
+use Rattle.dwz_unit.proofs.ShownLemmas.{units_few}
 use Rattle.dwz_index.specs.declared.index.Starts.{Starts}
 use Rattle.dwz_index.specs.declared.index.TopEntry.{TopEntry}
 use Rattle.dwz_index.specs.Building.{HasRoom, IsFew}
@@ -18,7 +19,6 @@ use Rattle.dwz_index.specs.Index.{HasTops, Index, IsIndex, next_starts}
 use Rattle.dwz_index.specs.Names.{names_from}
 use Rattle.dwz_index.proofs.NameLemmas.{means_units}
 use Rattle.dwz_index.proofs.TopLemmas.{many}
-use Rattle.dwz_index.proofs.UnitBuilding.{units_few}
 use Rattle.dwz_indexes.proofs.RoomLemmas.{entries_few, many_units}
 use Rattle.dwz_alike.specs.Spots.{tops_among}
 use Rattle.dwz_indexes.specs.Indexed.{AreIndexed, AreIndexes, IsIndexOf, first_starts, starts_behind}
@@ -59,7 +59,8 @@ docs_are contents files docs h = ap or_none (all_docs no_files_before 0 contents
 
 -- ---- file by file
 
-indexed_more : (s : Starts) (docs : List (Doc ℕ)) (xs : List Index) (m end : Starts) (doc : Doc ℕ) (x : Index) → AreIndexed s docs xs m → IsIndexOf m doc x → starts_behind m doc x ≡ end → AreIndexed s (docs ++ doc ∷ []) (xs ++ x ∷ []) end
+indexed_more : (s : Starts) (docs : List (Doc ℕ)) (xs : List Index) (m end : Starts) (doc : Doc ℕ) (x : Index) → AreIndexed s docs xs m → IsIndexOf m doc x → starts_behind m doc x ≡ end
+    → AreIndexed s (docs ++ doc ∷ []) (xs ++ x ∷ []) end
 indexed_more s [] [] m end doc x h is e = (subst (λ (w : Starts). IsIndexOf w doc x) (sym h) is, ap (λ (w : Starts). starts_behind w doc x) h ∙ e)
 indexed_more s [] (y ∷ xs) m end doc x h is e = absurd h
 indexed_more s (d ∷ docs) [] m end doc x h is e = absurd h
@@ -120,14 +121,18 @@ room_of s l bytes raw doc fits means =
     let c = fits.spaces in
     record { units = omega (arith, few.0, few.1); tops = omega (arith, few.0, few.1); spaces = omega (arith, few.0, few.1) }
 
-here : (contents : List (List ℕ)) (files : List File) (i : ℕ) (s : Starts) (xs : List Index) (f : File) (g : Going contents files i s xs) → i < length files → f ≡ get_or files i f → NextFile g.limits g.rest f (drop (suc i) files) g.left
+here : (contents : List (List ℕ)) (files : List File) (i : ℕ) (s : Starts) (xs : List Index) (f : File) (g : Going contents files i s xs) → i < length files → f ≡ get_or files i f
+    → NextFile g.limits g.rest f (drop (suc i) files) g.left
 here contents files i s xs f g lt is =
-    next_file g.limits g.rest f (drop (suc i) files) g.left (subst (λ (w : List File). AreDocs g.limits g.rest w g.left) (drop-cons files i f lt ∙ ap (λ (w : File). w ∷ drop (suc i) files) (sym is)) g.are)
+    next_file g.limits g.rest f (drop (suc i) files) g.left (subst (λ (w : List File). AreDocs g.limits g.rest w g.left) (drop-cons files i f lt ∙ ap (λ (w : File). w ∷ drop (suc i) files) (sym is))
+    g.are)
 
-pub has_room : (contents : List (List ℕ)) (files : List File) (i : ℕ) (s : Starts) (xs : List Index) (f : File) → Going contents files i s xs → i < length files → f ≡ get_or files i f → HasRoom s (entries_in (units_of f.units))
+pub has_room : (contents : List (List ℕ)) (files : List File) (i : ℕ) (s : Starts) (xs : List Index) (f : File) → Going contents files i s xs → i < length files → f ≡ get_or files i f
+    → HasRoom s (entries_in (units_of f.units))
 has_room contents files i s xs f g lt is = let n = here contents files i s xs f g lt is in room_of s g.limits n.bytes (units_of f.units) n.doc g.fits n.means
 
-pub goes_on : (contents : List (List ℕ)) (files : List File) (i : ℕ) (s next : Starts) (xs new : List Index) (f : File) (x : Index) → Going contents files i s xs → i < length files → f ≡ get_or files i f
+pub goes_on : (contents : List (List ℕ)) (files : List File) (i : ℕ) (s next : Starts) (xs new : List Index) (f : File) (x : Index) → Going contents files i s xs → i < length files
+    → f ≡ get_or files i f
     → ((around : Around ℕ) (said : List (DwUnit ℕ)) → units_meaning around (units_of f.units) ≡ Ok said → IsIndex (names_from s.unit s.top said) x)
     → ((around : Around ℕ) (said : List (DwUnit ℕ)) → units_meaning around (units_of f.units) ≡ Ok said → HasTops s said x)
     → IsFew x (entries_in (units_of f.units)) → next ≡ next_starts x (length (units_of f.units)) → new ≡ xs ++ x ∷ [] → Going contents files (i + 1) next new
@@ -141,7 +146,8 @@ goes_on contents files i s next xs new f x g lt is names tops few after put =
     let units : length raw ≡ length n.doc.units = many_units l n.bytes raw n.doc n.means in
     let count : length x.tops ≡ tops_among n.doc.units = ap (λ (w : List TopEntry). length w) has.tops_are ∙ many s 0 n.doc.units in
     let from = has.starts_are in
-    let same : starts_behind s n.doc x ≡ next = (λ j. record { unit = (sym from j).unit + sym units j; top = (sym from j).top + sym count j; space = (sym from j).space + length x.spaces }) ∙ sym after in
+    let same : starts_behind s n.doc x ≡ next = (λ j. record { unit = (sym from j).unit + sym units j; top = (sym from j).top + sym count j; space = (sym from j).space + length x.spaces })
+    ∙ sym after in
     let bytes = entries_few l n.bytes raw n.doc n.means in
     let within = units_few raw in
     let one : suc i ≡ i + 1 = omega arith in
@@ -182,3 +188,6 @@ behind_room contents files i s xs f x g lt is tops =
     let raw = units_of f.units in
     let has = tops (around_of n.bytes raw) n.doc.units (means_units g.limits n.bytes raw n.doc n.means) in
     subst (λ (w : Starts). HasRoom w (entries_in raw)) (sym has.starts_are) (has_room contents files i s xs f g lt is)
+
+pub tops_long : (s : Starts) (doc : Doc ℕ) (x : Index) → IsIndexOf s doc x → length x.tops ≡ tops_among doc.units
+tops_long s doc x h = ap (λ (w : List TopEntry). length w) h.tops.tops_are ∙ many s 0 doc.units

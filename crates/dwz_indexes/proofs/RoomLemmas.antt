@@ -6,11 +6,11 @@ use Rattle.dwz_docs.specs.ElfReading.{section_range}
 use Rattle.dwz_docs.specs.Entries.{RawEntry, given}
 use Rattle.dwz_docs.specs.Trees.{End, Entry, Forest, size}
 use Rattle.dwz_docs.specs.Units.{RawUnit, entries_in}
+use Rattle.dwz_docs.proofs.RangeBytes.{bytes_short}
 use Rattle.dwz_meanings.specs.Documents.{Doc, DwUnit}
 use Rattle.dwz_meanings.specs.Files.{Limits, around_of, debug_abbrev, debug_info, file_meaning, section_of}
 use Rattle.dwz_meanings.specs.Meanings.{Around, MeanUnits, places_in, places_of}
 use Rattle.dwz_meanings.proofs.FileLemmas.{file_agrees}
-use Rattle.dwz_graph.proofs.FileLemmas.{in_bytes}
 use Rattle.dwz_resolve.proofs.PlaceLemmas.{Ascend, unit_and_entries, units_and_entries_ascend}
 
 ascend_long : (ps : List ℕ) (a b : ℕ) → Ascend a ps b → a + length ps ≤ b
@@ -29,7 +29,7 @@ places_many (u ∷ raw) = omega (arith, length-append (u.at ∷ places_of u) (un
 
 info_within : (bytes : List ℕ) → length (debug_info bytes) ≤ length bytes
 unfolding section_of
-info_within bytes = in_bytes bytes (section_range (sections_in bytes) 1)
+info_within bytes = bytes_short bytes (section_range (sections_in bytes) 1)
 
 pub entries_few : (l : Limits) (bytes : List ℕ) (raw : List RawUnit) (doc : Doc ℕ) → file_meaning l bytes ≡ Ok (raw, doc) → (entries_in raw ≤ length bytes) × (length bytes ≤ l.bytes)
 entries_few l bytes raw doc e =

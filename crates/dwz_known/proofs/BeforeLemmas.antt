@@ -1,16 +1,13 @@
 -- Texts and numbers of files counted entry by entry.
-use Rattle.std.proofs.Common.{◌≡◌, ℕ, suc, ◌+◌, ◌*◌, ◌<◌, ◌≤◌, Bool, true, false, List, [], ◌∷◌, ◌++◌, cond, drop, length, map, Ok, Some, slice_get, refl, sym, ap, ◌∙◌, arith, drop-cons}
+use Rattle.std.proofs.Common.{◌≡◌, ℕ, suc, ◌+◌, ◌*◌, ◌<◌, ◌≤◌, Bool, true, false, List, [], ◌∷◌, ◌++◌, cond, drop, length, map, Some, slice_get, refl, sym, ap, ◌∙◌, arith, drop-cons}
 use Rattle.std.specs.Prelude.{count_by}
 use Rattle.std.specs.Option.{option_map_or}
 use Rattle.std.proofs.lemmas.List.{append-nil, append_assoc, drop_all}
 use Rattle.std.proofs.lemmas.List.Sums.{sum_by-cons}
 use Rattle.dwz_bytes.specs.Input.{Input}
-use Rattle.dwz_bytes.specs.Reading.{◌>>=◌}
-use Rattle.dwz_codes.specs.Forms.{form_rows}
-use Rattle.dwz_docs.specs.Entries.{RawAttr, attrs_at, in_entry, with_value}
+use Rattle.dwz_docs.specs.Entries.{RawAttr}
 use Rattle.dwz_docs.specs.Units.{RawUnit, entries_in}
-use Rattle.dwz_docs.specs.Values.{value_at}
-use Rattle.dwz_docs.proofs.PartLemmas.{bind_ok, same_value}
+use Rattle.dwz_docs.proofs.AttrPairs.{read_pairs}
 use Rattle.dwz_model.specs.declared.place.Pair.{Pair}
 use Rattle.dwz_unit.specs.Rows.{EntryRow, attr_count, rows_of}
 use Rattle.dwz_unit.specs.Values.{Reads}
@@ -20,18 +17,6 @@ use Rattle.dwz_known.specs.Befores.{befores_from, behind, file_count, is_pair_fi
 use Rattle.dwz_known.proofs.OwnerSteps.{got}
 
 -- ---- values have the names and forms that they are read with
-
-read_pairs : (entry : ℕ) (pairs : List Pair) (at end : Input) (attrs : List RawAttr) → attrs_at form_rows entry pairs at ≡ Ok (attrs, end) → pairs ≡ map (λ (a : RawAttr). a.pair) attrs
-unfolding attrs_at
-read_pairs entry [] at end attrs e =
-    let is : attrs ≡ [] = sym (same_value [] attrs at end (Ok ([], at)) refl e) in
-    ap (map (λ (a : RawAttr). a.pair)) (sym is)
-read_pairs entry (pair ∷ pairs) at end attrs e =
-    let a = bind_ok (in_entry entry (value_at form_rows pair at)) (λ x. attrs_at form_rows entry pairs x.1 >>= with_value at.at x.1.at pair x.0) (attrs, end) e in
-    let b = bind_ok (attrs_at form_rows entry pairs a.0.1) (with_value at.at a.0.1.at pair a.0.0) (attrs, end) a.2 in
-    let first : RawAttr = record { at = at.at; end = a.0.1.at; pair = pair; raw = a.0.0 } in
-    let same = same_value (first ∷ b.0.0) attrs b.0.1 end (with_value at.at a.0.1.at pair a.0.0 b.0) refl b.2 in
-    ap (λ (w : List Pair). pair ∷ w) (read_pairs entry pairs a.0.1 b.0.1 b.0.0 b.1) ∙ ap (map (λ (a : RawAttr). a.pair)) same
 
 count_map : {X Y : Type 0} (p : Y → Bool) (f : X → Y) (xs : List X) → count_by p (map f xs) ≡ count_by (λ x. p (f x)) xs
 count_map p f [] = refl

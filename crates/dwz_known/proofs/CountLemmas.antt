@@ -1,12 +1,10 @@
 -- Entries counted file by file: what was counted, and what is left.
-use Rattle.std.proofs.Common.{◌≡◌, ℕ, suc, ◌+◌, ◌<◌, ◌≤◌, ◌^◌, List, [], ◌∷◌, ◌++◌, All, length, drop, get_or, map, take, refl, sym, ap, subst, ◌∙◌, arith, drop-cons}
+use Rattle.std.proofs.Common.{◌≡◌, ℕ, ◌+◌, ◌<◌, ◌≤◌, ◌^◌, List, [], ◌∷◌, ◌++◌, All, length, drop, get_or, map, take, refl, sym, ap, subst, ◌∙◌, arith}
 use Rattle.std.proofs.lemmas.List.{append-nil, append_assoc, drop_all, map-append, take_all, take_more}
+use Rattle.dwz_docs.proofs.ListFacts.{drop_next}
 use Rattle.dwz_index.specs.declared.index.TopEntry.{TopEntry}
 use Rattle.dwz_index.specs.Index.{Index}
 use Rattle.dwz_known.specs.Images.{entry_count, starts_from, tops_from, tops_in}
-
-pub next_of : {X : Type 0} (xs : List X) (i : ℕ) (x : X) → i < length xs → x ≡ get_or xs i x → drop i xs ≡ x ∷ drop (i + 1) xs
-next_of {X} xs i x lt e = let one : suc i ≡ i + 1 = omega arith in drop-cons xs i x lt ∙ (λ j. sym e j ∷ drop (one j) xs)
 
 -- the files from one on, the first entry of which has that number
 pub record Left (all : List Index) (i start : ℕ) : Type 0 where
@@ -17,7 +15,7 @@ left_first all = record { room = (let e : entry_count all ≡ 0 + entry_count al
 
 left_count : (all : List Index) (i start : ℕ) (x : Index) → Left all i start → i < length all → x ≡ get_or all i x → entry_count all ≡ start + (length x.steps + entry_count (drop (i + 1) all))
 unfolding entry_count
-left_count all i start x h lt e = h.room ∙ ap (λ (w : List Index). start + entry_count w) (next_of all i x lt e)
+left_count all i start x h lt e = h.room ∙ ap (λ (w : List Index). start + entry_count w) (drop_next all i x lt e)
 
 pub left_next : (all : List Index) (i start : ℕ) (x : Index) → Left all i start → i < length all → x ≡ get_or all i x → Left all (i + 1) (start + length x.steps)
 left_next all i start x h lt e = record { room = (let c = left_count all i start x h lt e in omega (arith, c)) }
@@ -41,7 +39,7 @@ unfolding starts_from
 starts_next all i start starts more x h lt e is = record {
   left = left_next all i start x h.left lt e;
   found =
-      h.found ∙ ap (λ (w : List Index). starts ++ starts_from start w) (next_of all i x lt e)
+      h.found ∙ ap (λ (w : List Index). starts ++ starts_from start w) (drop_next all i x lt e)
       ∙ sym (append_assoc starts (start ∷ []) (starts_from (start + length x.steps) (drop (i + 1) all)))
       ∙ ap (λ (w : List ℕ). w ++ starts_from (start + length x.steps) (drop (i + 1) all)) (sym is);
 }
@@ -79,7 +77,7 @@ unfolding tops_from
 tops_next all i start tops more x h lt e is = record {
   left = left_next all i start x h.left lt e;
   found =
-      h.found ∙ ap (λ (w : List Index). tops ++ tops_from start w) (next_of all i x lt e)
+      h.found ∙ ap (λ (w : List Index). tops ++ tops_from start w) (drop_next all i x lt e)
       ∙ sym (append_assoc tops (tops_in start x.tops) (tops_from (start + length x.steps) (drop (i + 1) all)))
       ∙ ap (λ (w : List ℕ). w ++ tops_from (start + length x.steps) (drop (i + 1) all)) (sym is);
 }

@@ -1,23 +1,21 @@
 -- The runs of tops among the names of the entries of files, and how many tops files have.
 use Rattle.std.proofs.Common.{◌≡◌, ℕ, suc, ◌+◌, ◌≤◌, List, [], ◌∷◌, ◌++◌, length, map, refl, sym, ap, subst, ◌∙◌, inl, inr, arith}
-use Rattle.std.proofs.lemmas.List.{append_assoc, length-append}
-use Rattle.dwz_docs.specs.Lists.{In}
+use Rattle.dwz_docs.specs.Lists.{Each, In}
+use Rattle.dwz_docs.proofs.ListFacts.{in_cases}
 use Rattle.dwz_meanings.specs.Documents.{Compile, Doc, DwUnit, Entries, Kind, OfType, Partial, kind_map, language, unit_map}
-use Rattle.dwz_seen.specs.Lists.{Each}
-use Rattle.dwz_seen.proofs.Members.{each_append, in_cases}
-use Rattle.dwz_alike.specs.Spots.{FileUnit, InType, RootOf, Spot, Top, below_spots, in_file, named_files, row_below, row_in, row_tops, spot_in, spots_from, top_count, tops_among, tops_from, tops_of, units_of}
+use Rattle.dwz_seen.proofs.Members.{each_append}
+use Rattle.dwz_alike.specs.Spots.{FileUnit, InType, RootOf, Spot, Top, in_file, named_files, row_below, row_in, row_tops, spot_in, spots_from, top_count, tops_among, tops_from, tops_of, units_of}
 use Rattle.dwz_alike.proofs.NameLists.{count_map}
 use Rattle.dwz_alike.proofs.RowLemmas.{row_is}
-use Rattle.dwz_alike.proofs.TopNumbers.{below_length}
+use Rattle.dwz_same.proofs.OldFiles.{counted, tops_length}
+use Rattle.dwz_same.proofs.StillLemmas.{tops_append}
 use Rattle.dwz_index.specs.Names.{names_from}
+use Rattle.dwz_index.proofs.TopLemmas.{below_names}
 use Rattle.dwz_known.specs.Names.{names_of_files}
-use Rattle.dwz_known.proofs.Paths.{names_paths, paths_in, paths_of, spot_of}
+use Rattle.dwz_known.proofs.Paths.{names_paths, paths_in, paths_of}
 use Rattle.dwz_known.proofs.Runs.{Between, Run, row_run, run_left, run_right, tops_between, wider}
 
 -- ---- below a root
-
-abbrev pub below_names : ℕ → ℕ → Kind ℕ → Entries ℕ → List Spot
-below_names unit top kind f = map spot_of (below_spots unit top kind f)
 
 type_between : (low high unit : ℕ) (paths : List (List ℕ)) → Each (Between low high) (map (InType unit) paths)
 type_between low high unit [] = tt
@@ -74,29 +72,6 @@ units_run file name unit top high (v ∷ units) le t is =
     ])
 
 -- ---- how many tops there are
-
-unfoldable pub counted : List (FileUnit Spot) → ℕ
-counted [] = 0
-counted (f ∷ units) = top_count f.unit.kind f.unit.below + counted units
-
-pub tops_append : (s n : ℕ) (xs ys : List (FileUnit Spot)) → tops_from s n (xs ++ ys) ≡ tops_from s n xs ++ tops_from (s + length xs) (n + counted xs) ys
-unfolding tops_from counted
-tops_append s n [] ys = (let e : s + 0 ≡ s = omega arith in let k : n + 0 ≡ n = omega arith in rw (e, k) refl)
-tops_append s n (f ∷ xs) ys =
-    let count = top_count f.unit.kind f.unit.below in
-    let first = row_tops (row_below f.file s n f.unit f.unit.kind) in
-    let e : suc s + length xs ≡ s + suc (length xs) = omega arith in
-    let k : n + count + counted xs ≡ n + (count + counted xs) = omega arith in
-    ap (λ (w : List Top). first ++ w) (tops_append (suc s) (n + count) xs ys ∙ (λ j. tops_from (suc s) (n + count) xs ++ tops_from (e j) (k j) ys))
-    ∙ sym (append_assoc first (tops_from (suc s) (n + count) xs) (tops_from (s + suc (length xs)) (n + (count + counted xs)) ys))
-
-pub tops_length : (s n : ℕ) (units : List (FileUnit Spot)) → length (tops_from s n units) ≡ counted units
-unfolding tops_from counted
-tops_length s n [] = refl
-tops_length s n (f ∷ units) =
-    let count = top_count f.unit.kind f.unit.below in
-    let first = row_tops (row_below f.file s n f.unit f.unit.kind) in
-    length-append first (tops_from (suc s) (n + count) units) ∙ (λ j. below_length f.file s n f.unit f.unit.kind j + tops_length (suc s) (n + count) units j)
 
 pub counted_append : (xs ys : List (FileUnit Spot)) → counted (xs ++ ys) ≡ counted xs + counted ys
 unfolding counted

@@ -2,31 +2,22 @@
 use Rattle.std.proofs.Common.{◌≡◌, ◌⊎◌, ℕ, zero, suc, ◌+◌, ◌-◌, ◌<◌, ◌≤◌, Bool, true, false, List, [], ◌∷◌, ◌++◌, length, map, Some, slice_get, refl, sym, ap, subst, ◌∙◌, inl, inr, arith}
 use Rattle.dwz_docs.specs.Lists.{In}
 use Rattle.dwz_docs.specs.Trees.{End, Entry}
+use Rattle.dwz_docs.proofs.ListFacts.{get_first, got_in}
 use Rattle.dwz_meanings.specs.Documents.{Doc, Entries}
 use Rattle.dwz_seen.proofs.Members.{each_in}
-use Rattle.dwz_alike.specs.Alike.{IsAlike, Look, SameTop, Scope}
+use Rattle.dwz_alike.specs.Alike.{IsAlike, Look, SameTop, TopScope}
 use Rattle.dwz_alike.specs.Deciding.{Test}
 use Rattle.dwz_alike.specs.Spots.{FileUnit, Spot, Top, Within, tops_of, units_of}
 use Rattle.dwz_alike.proofs.TopNumbers.{number_below, one_top, top_at, tops_numbers}
 use Rattle.dwz_moving.specs.Homes.{Rule, first_alike, moves}
 use Rattle.dwz_moving.specs.Plan.{image, stand_in}
-use Rattle.dwz_index.proofs.TopLemmas.{get_cases, get_first, get_later}
+use Rattle.dwz_index.proofs.TopLemmas.{get_cases, get_later}
 use Rattle.dwz_known.specs.Names.{all_names}
 use Rattle.dwz_known.proofs.FileRuns.{files_between, files_run, many_tops, tops_in_all}
 use Rattle.dwz_known.proofs.Paths.{paths_in, paths_of, paths_same}
 use Rattle.dwz_known.proofs.Runs.{Between, Run}
 
 -- ---- where the names of a run are
-
-pub get_in : {X : Type 0} (xs : List X) (k : ℕ) (x : X) → slice_get xs k ≡ Some x → In x xs
-get_in [] k x e = absurd cc
-get_in (y ∷ xs) zero x e = inl (let same : y ≡ x = cc in same)
-get_in (y ∷ xs) (suc k) x e = inr (get_in xs k x e)
-
-pub below_length_of : {X : Type 0} (xs : List X) (k : ℕ) (x : X) → slice_get xs k ≡ Some x → k < length xs
-below_length_of [] k x e = absurd cc
-below_length_of (y ∷ xs) zero x e = omega arith
-below_length_of (y ∷ xs) (suc k) x e = let r = below_length_of xs k x e in omega arith
 
 get_path : (n : ℕ) (paths : List (List ℕ)) (k : ℕ) (path : List ℕ) → slice_get (map (Within n) paths) k ≡ Some (Within n path) → slice_get paths k ≡ Some path
 get_path n [] k path e = absurd cc
@@ -41,10 +32,10 @@ get_name n (p ∷ paths) (suc k) path e = get_name n paths k path e
 module _ (low high n : ℕ) (names : List Spot) (paths : List (List ℕ)) (r : Run low high names n paths) where
   pub located : (i : ℕ) (path : List ℕ) → slice_get names i ≡ Some (Within n path) → (k : ℕ) × (i ≡ length r.before + k) × (slice_get paths k ≡ Some path)
   located i path e = elim (get_cases r.before (map (Within n) paths ++ r.after) i (Within n path) (ap (λ (w : List Spot). slice_get w i) (sym r.is) ∙ e)) [
-    | inl a ↦ absurd (let h = each_in (Between low n) (Within n path) r.before r.less (get_in r.before i (Within n path) a) in omega (arith, h.1))
+    | inl a ↦ absurd (let h = each_in (Between low n) (Within n path) r.before r.less (got_in r.before i (Within n path) a) in omega (arith, h.1))
     | inr b ↦ (elim (get_cases (map (Within n) paths) r.after b.0 (Within n path) b.2) [
       | inl c ↦ (b.0, b.1, get_path n paths b.0 path c)
-      | inr d ↦ absurd (let h = each_in (Between (suc n) high) (Within n path) r.after r.more (get_in r.after d.0 (Within n path) d.2) in omega (arith, h.0))
+      | inr d ↦ absurd (let h = each_in (Between (suc n) high) (Within n path) r.after r.more (got_in r.after d.0 (Within n path) d.2) in omega (arith, h.0))
     ])
   ]
 
@@ -88,7 +79,7 @@ moved low high m n names f g a b same path i from to e e' e'' =
 pub top_inside : (docs : List (Doc ℕ)) (top : ℕ) (path : List ℕ) (n : ℕ) → slice_get (all_names docs) n ≡ Some (Within top path) → top < length (tops_of (units_of docs))
 top_inside docs top path n e =
     let many = many_tops docs in
-    let h = each_in (Between 0 (tops_in_all docs)) (Within top path) (all_names docs) (files_between 0 0 (tops_in_all docs) docs (omega arith)) (get_in (all_names docs) n (Within top path) e) in
+    let h = each_in (Between 0 (tops_in_all docs)) (Within top path) (all_names docs) (files_between 0 0 (tops_in_all docs) docs (omega arith)) (got_in (all_names docs) n (Within top path) e) in
     omega (arith, many, h.1)
 
 -- ---- the top that stands for one
@@ -125,7 +116,7 @@ stand_inside docs rule top lt = elim (stand_cases rule (units_of docs) top) [
 ]
 
 -- alike tops have the same paths
-same_paths : (scope : Scope) (units : List (FileUnit Spot)) (alike : Test) → IsAlike scope units alike → (a b : Top) → In a (tops_of units) → In b (tops_of units)
+same_paths : (scope : TopScope) (units : List (FileUnit Spot)) (alike : Test) → IsAlike scope units alike → (a b : Top) → In a (tops_of units) → In b (tops_of units)
     → alike a.number b.number ≡ true → paths_in [] 0 a.below ≡ paths_in [] 0 b.below
 unfolding Look
 same_paths scope units alike d a b is js e =
@@ -133,7 +124,7 @@ same_paths scope units alike d a b is js e =
     let s : SameTop (Look (tops_of units) 0) a b = h a b is js refl refl in
     paths_same (Look (tops_of units) 0) [] 0 a.below b.below s.3
 
-pub image_there : (scope : Scope) (docs : List (Doc ℕ)) (rule : Rule) → IsAlike scope (units_of docs) rule.alike → (top : ℕ) (path : List ℕ) (n from to : ℕ)
+pub image_there : (scope : TopScope) (docs : List (Doc ℕ)) (rule : Rule) → IsAlike scope (units_of docs) rule.alike → (top : ℕ) (path : List ℕ) (n from to : ℕ)
     → slice_get (all_names docs) n ≡ Some (Within top path) → slice_get (all_names docs) from ≡ Some (Within top [])
     → slice_get (all_names docs) to ≡ Some (Within (stand_in rule (units_of docs) top) [])
     → (from ≤ n) × (slice_get (all_names docs) (to + (n - from)) ≡ Some (image rule (units_of docs) (Within top path)))

@@ -3,6 +3,7 @@ use Rattle.std.proofs.Common.{◌≡◌, ℕ, ◌+◌, ◌-◌, ◌<◌, ◌≤�
 use Rattle.std.proofs.lemmas.List.{take_all, take_more}
 use Rattle.std.proofs.lemmas.Option.{slice_get-get_or}
 use Rattle.std.specs.Prelude.{slice_index}
+use Rattle.dwz_docs.proofs.ListFacts.{get_first, got_below}
 use Rattle.dwz_meanings.specs.Documents.{Doc}
 use Rattle.dwz_alike.specs.Spots.{FileUnit, Import, InChain, InType, PartialOf, PartialRoot, RootOf, SpaceAt, Spot, UnitOf, Within, tops_of, units_of}
 use Rattle.dwz_alike.proofs.TopNumbers.{top_at, tops_numbers}
@@ -11,10 +12,10 @@ use Rattle.dwz_moving.specs.Plan.{image, stand_in}
 use Rattle.dwz_plan.specs.Planned.{Planned}
 use Rattle.dwz_index.specs.Index.{Index}
 use Rattle.dwz_index.specs.Names.{top_in}
-use Rattle.dwz_index.proofs.TopLemmas.{get_first, get_later}
+use Rattle.dwz_index.proofs.TopLemmas.{get_later}
 use Rattle.dwz_known.specs.Names.{all_names}
 use Rattle.dwz_known.specs.Images.{AreImages, IsFile, IsImage, IsPlanned}
-use Rattle.dwz_known.proofs.ImageLemmas.{below_length_of, image_there, stand_inside, top_inside}
+use Rattle.dwz_known.proofs.ImageLemmas.{image_there, stand_inside, top_inside}
 
 -- ---- the entry among all
 
@@ -89,7 +90,7 @@ image_in_top docs rule plan tops p n r top path e counts =
     let at_to : slice_get tops stand ≡ Some to = slice_get-get_or tops stand 0 (omega (arith, many, far)) in
     let x = image_there p.scope docs rule p.alike top path n from to e (p.tops_are.each top from at_from) (p.tops_are.each stand to at_to) in
     let few = p.few in
-    let fits = below_length_of (all_names docs) (to + (n - from)) (image rule units (Within top path)) x.1 in
+    let fits = got_below (all_names docs) (to + (n - from)) (image rule units (Within top path)) x.1 in
     let is : r ≡ to + (n - from) = counts from to at_from (ap (slice_get tops) is_stand ∙ at_to) x.0 (omega (arith, few, fits)) in
     ap (slice_get (all_names docs)) is ∙ x.1
 

@@ -15,3 +15,4 @@ pub mod OwnerLemmas
 pub mod OnceNames
 pub mod ReachLemmas
 pub mod BeforeLemmas
+pub mod StartLemmas

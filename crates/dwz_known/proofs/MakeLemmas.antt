@@ -1,15 +1,18 @@
 -- File by file the numbers of the units that are written: what was numbered, and what is left.
-use Rattle.std.proofs.Common.{◌≡◌, ℕ, zero, suc, ◌+◌, ◌-◌, ◌<◌, ◌≤◌, ◌==◌, ◌^◌, Bool, true, false, List, [], ◌∷◌, ◌++◌, drop, get_or, length, map, Some, slice_get, cond, refl, sym, ap, subst, ◌∙◌, inl, inr, arith, drop-cons, if◌then◌else◌}
+use Rattle.std.proofs.Common.{◌≡◌, ℕ, zero, suc, ◌+◌, ◌-◌, ◌<◌, ◌≤◌, ◌==◌, ◌^◌, Bool, true, false, List, [], ◌∷◌, ◌++◌, drop, get_or, length, map, Some, slice_get, cond, refl, sym, ap, subst, ◌∙◌}
+use Rattle.std.proofs.Common.{inl, inr, arith, drop-cons, if◌then◌else◌}
 use Rattle.std.specs.Prelude.{replicate, slice_index_or, sum}
 use Rattle.std.specs.List.{filter, range_with_len}
 use Rattle.std.proofs.lemmas.List.{append-nil, append_assoc, drop_all, drop_at, length-append, length-drop, length-map, map-append}
 use Rattle.std.proofs.lemmas.List.FromFn.{length-range_with_len}
 use Rattle.std.proofs.lemmas.List.Sums.{sum_by-drop_more}
+use Rattle.dwz_docs.proofs.ListFacts.{drop_next, get_first, got_below, got_in, got_there as there}
 use Rattle.dwz_meanings.specs.Documents.{Doc, DwUnit}
-use Rattle.dwz_seen.specs.Lists.{Each, Nth}
-use Rattle.dwz_seen.proofs.Members.{each_append, each_in, each_more}
+use Rattle.dwz_seen.specs.Lists.{Nth}
+use Rattle.dwz_docs.specs.Lists.{Each}
+use Rattle.dwz_seen.proofs.Members.{each_append, each_in, each_more, nth_of}
 use Rattle.dwz_alike.specs.Spots.{FileUnit, Spot, file_numbers, named_files, spot_in, spots_from, tops_among, units_of}
-use Rattle.dwz_index.proofs.TopLemmas.{get_cases, get_first, get_later}
+use Rattle.dwz_index.proofs.TopLemmas.{get_cases, get_later}
 use Rattle.dwz_moving.specs.Homes.{Common, Home, Local, Rule}
 use Rattle.dwz_moving.specs.Moves.{Move}
 use Rattle.dwz_moving.specs.Plan.{PartialUnit, local_partials, partials, partials_at}
@@ -21,18 +24,12 @@ use Rattle.dwz_same.specs.Units.{changes, common_units, kept_unit, kept_units, o
 use Rattle.dwz_same.proofs.StillLemmas.{still}
 use Rattle.dwz_known.specs.Numbering.{HaveUnits, leading, numbers_of}
 use Rattle.dwz_known.specs.Owners.{AreUnitNumbers, IsFileWritten, IsNumber, all_written, file_written, files_written, move_of}
-use Rattle.dwz_known.proofs.CountLemmas.{next_of}
-use Rattle.dwz_known.proofs.OwnerSteps.{got, there}
+use Rattle.dwz_known.proofs.OwnerSteps.{got}
 use Rattle.dwz_known.proofs.FileRuns.{filed, filed_length}
-use Rattle.dwz_known.proofs.ImageLemmas.{below_length_of, get_in}
-use Rattle.dwz_known.proofs.NumberingLemmas.{IsLater, at_home, kept_at, kept_length, kept_list, kept_mid, later_common, later_not, leading_at, leading_le, local_later, nth_get, numbered, numbered_at, numbered_length, parts_mid, range_at}
+use Rattle.dwz_known.proofs.NumberingLemmas.{IsLater, at_home, kept_at, kept_length, kept_list, kept_mid, later_common, later_not, leading_at, leading_le, local_later, nth_get, numbered, numbered_at}
+use Rattle.dwz_known.proofs.NumberingLemmas.{numbered_length, parts_mid, range_at}
 
 -- ---- numbers stay in bounds
-
-nth_got : {X : Type 0} (s : ℕ) (xs : List X) (k : ℕ) (x : X) → slice_get xs k ≡ Some x → Nth s xs (s + k) x
-nth_got s [] k x e = absurd cc
-nth_got s (y ∷ xs) zero x e = inl ((let n : s ≡ s + 0 = omega arith in n), (let same : y ≡ x = cc in same))
-nth_got {X} s (y ∷ xs) (suc k) x e = let n : suc s + k ≡ s + suc k = omega arith in inr (subst (λ (w : ℕ). Nth (suc s) xs w x) n (nth_got (suc s) xs k x e))
 
 pub record Small (partials : List Partial) (counts : List ℕ) (i next : ℕ) (parts : List ℕ) : Type 0 where
   pub within : length parts ≤ length partials
@@ -165,10 +162,10 @@ module _ (docs : List (Doc ℕ)) (rule : Rule) (shown : List Partial) (counts : 
       let same : n ≡ g.0 = (let q = g.1 in omega arith) in
       elim (get_cases done mid g.0 part g.2) [
         | inl a ↦
-            let o = ok n part (subst (λ (w : ℕ). Nth 0 done w part) (let q = g.1 in let z : 0 + g.0 ≡ n = omega arith in z) (nth_got 0 done g.0 part a)) in
+            let o = ok n part (subst (λ (w : ℕ). Nth 0 done w part) (let q = g.1 in let z : 0 + g.0 ≡ n = omega arith in z) (nth_of 0 done g.0 part a)) in
             (o.0, get_first parts (range_with_len first (length mid)) n o.0 o.1, o.2)
         | inr b ↦
-            let lt = below_length_of mid b.0 part b.2 in
+            let lt = got_below mid b.0 part b.2 in
             let here : n ≡ length parts + b.0 = (let q = b.1 in omega arith) in
             let far : length done + b.0 ≡ n = omega arith in (
               first + b.0,
@@ -189,17 +186,17 @@ module _ (docs : List (Doc ℕ)) (rule : Rule) (shown : List Partial) (counts : 
       let z : 0 + g.0 ≡ i = (let q = g.1 in omega arith) in
       elim (get_cases done own g.0 u g.2) [
         | inl a ↦
-            let o = ok i u (subst (λ (w : ℕ). Nth 0 done w u) z (nth_got 0 done g.0 u a)) is in
+            let o = ok i u (subst (λ (w : ℕ). Nth 0 done w u) z (nth_of 0 done g.0 u a)) is in
             (o.0, get_first olds (numbers_of first (length own) w) i o.0 o.1, o.2)
         | inr b ↦ written_case b.0 (let q = b.1 in omega arith) b.2 w refl (at_w b.0 b.2)
       ]
     where
       at_w : (j : ℕ) → slice_get own j ≡ Some u → w ≡ true
-      at_w j e = sym flag ∙ ap (λ (n : ℕ). slice_index_or written n false) (sym (each_in (λ (v : FileUnit Spot). v.file ≡ file) u own files (get_in own j u e))) ∙ is
+      at_w j e = sym flag ∙ ap (λ (n : ℕ). slice_index_or written n false) (sym (each_in (λ (v : FileUnit Spot). v.file ≡ file) u own files (got_in own j u e))) ∙ is
 
       written_case : (j : ℕ) → i ≡ length done + j → slice_get own j ≡ Some u → (b : Bool) → w ≡ b → w ≡ true → IsNumber all (olds ++ numbers_of first (length own) w) i (kept_unit m units i u)
       written_case j e got b q t =
-          let lt = below_length_of own j u got in
+          let lt = got_below own j u got in
           let here : i ≡ length olds + j = omega arith in
           let far : length done + j ≡ i = omega arith in
           let added : slice_get (numbers_of first (length own) w) j ≡ Some (first + j) = ap (λ (v : Bool). slice_get (numbers_of first (length own) v) j) t ∙ range_at first (length own) j lt in (
@@ -408,7 +405,7 @@ module _ (docs : List (Doc ℕ)) (rule : Rule) (shown : List Partial) (counts : 
       let low : file < length docs = (let e = counts_many in omega (arith, lt, e)) in
       let d = there docs file low in
       let doc = d.0 in
-      let docs_are : drop file docs ≡ doc ∷ drop (file + 1) docs = next_of docs file doc low (sym (got docs file doc d.1)) in
+      let docs_are : drop file docs ≡ doc ∷ drop (file + 1) docs = drop_next docs file doc low (sym (got docs file doc d.1)) in
       let one : suc file ≡ file + 1 = omega arith in
       let flags_are : drop file written ≡ w ∷ drop (file + 1) written = drop-cons written file false (omega (arith, lt, flags)) ∙ ap (λ (n : ℕ). w ∷ drop n written) one in
       let count : get_or counts file 0 ≡ length doc.units = ap (λ (x : List ℕ). get_or x file 0) h.counts_are ∙ count_at docs file doc d.1 in

@@ -1,11 +1,14 @@
 -- Units that are written are numbered home by home.
-use Rattle.std.proofs.Common.{◌≡◌, ℕ, zero, suc, ◌+◌, ◌-◌, ◌<◌, ◌≤◌, ◌==◌, Bool, true, false, List, [], ◌∷◌, ◌++◌, drop, get_or, length, map, Some, slice_get, refl, sym, ap, ◌∙◌, inl, inr, arith, eq-eqb, if◌then◌else◌}
+use Rattle.std.proofs.Common.{◌≡◌, ℕ, zero, suc, ◌+◌, ◌-◌, ◌<◌, ◌≤◌, ◌==◌, Bool, true, false, List, [], ◌∷◌, ◌++◌, drop, get_or, length, map, Some, slice_get, refl, sym, ap, ◌∙◌, inl, inr, arith}
+use Rattle.std.proofs.Common.{eq-eqb, if◌then◌else◌}
 use Rattle.std.specs.Prelude.{replicate}
 use Rattle.std.specs.List.{range_with_len}
 use Rattle.std.proofs.lemmas.Bool.{ne_eqb}
 use Rattle.std.proofs.lemmas.List.{append-nil, append_assoc, drop_all}
+use Rattle.dwz_docs.proofs.ListFacts.{drop_next, numbers_more}
 use Rattle.dwz_meanings.specs.Documents.{DwUnit}
-use Rattle.dwz_seen.specs.Lists.{Each, Nth}
+use Rattle.dwz_seen.specs.Lists.{Nth}
+use Rattle.dwz_docs.specs.Lists.{Each}
 use Rattle.dwz_seen.proofs.Members.{each_append, each_more, each_of, in_map_from}
 use Rattle.dwz_alike.specs.Spots.{FileUnit, Spot}
 use Rattle.dwz_moving.specs.Homes.{Common, Home, Local, Rule, Stay, same_home}
@@ -16,7 +19,6 @@ use Rattle.dwz_plan.specs.declared.plan.Partial.{Partial}
 use Rattle.dwz_plan.specs.Shows.{shown_part}
 use Rattle.dwz_same.specs.Units.{kept_unit, kept_units, partial_unit, partial_units}
 use Rattle.dwz_known.specs.Numbering.{leading}
-use Rattle.dwz_known.proofs.CountLemmas.{next_of}
 
 -- ---- partial units of a home
 
@@ -187,26 +189,22 @@ nth_get s (y ∷ ys) n x (inr r) = let o = nth_get (suc s) ys n x r in (suc o.0,
 
 pub leading_next : (file : ℕ) (xs : List Partial) (i : ℕ) (p : Partial) → i < length xs → p ≡ get_or xs i p → p.file ≡ file → leading file (drop i xs) ≡ suc (leading file (drop (i + 1) xs))
 unfolding leading
-leading_next file xs i p lt e is = ap (leading file) (next_of xs i p lt e) ∙ ap (λ (b : Bool). if b then suc (leading file (drop (i + 1) xs)) else 0) (eq-eqb p.file file is)
+leading_next file xs i p lt e is = ap (leading file) (drop_next xs i p lt e) ∙ ap (λ (b : Bool). if b then suc (leading file (drop (i + 1) xs)) else 0) (eq-eqb p.file file is)
 
 pub leading_stop : (file : ℕ) (xs : List Partial) (i : ℕ) (p : Partial) → i < length xs → p ≡ get_or xs i p → (p.file ≡ file → ⊥) → leading file (drop i xs) ≡ 0
 unfolding leading
-leading_stop file xs i p lt e not = ap (leading file) (next_of xs i p lt e) ∙ ap (λ (b : Bool). if b then suc (leading file (drop (i + 1) xs)) else 0) (ne_eqb p.file file not)
+leading_stop file xs i p lt e not = ap (leading file) (drop_next xs i p lt e) ∙ ap (λ (b : Bool). if b then suc (leading file (drop (i + 1) xs)) else 0) (ne_eqb p.file file not)
 
 pub leading_end : (file : ℕ) (xs : List Partial) (i : ℕ) → length xs ≤ i → leading file (drop i xs) ≡ 0
 unfolding leading
 leading_end file xs i le = ap (leading file) (drop_all i xs le)
-
-range_more : (a n : ℕ) → range_with_len a (suc n) ≡ range_with_len a n ++ (a + n) ∷ []
-range_more a zero = let e : a ≡ a + 0 = omega arith in ap (λ (w : ℕ). w ∷ []) e
-range_more a (suc n) = let e : a + 1 + n ≡ a + suc n = omega arith in ap (λ (w : List ℕ). a ∷ w) (range_more (a + 1) n ∙ ap (λ (w : ℕ). range_with_len (a + 1) n ++ w ∷ []) e)
 
 pub range_push : (first old new : List ℕ) (a n : ℕ) → a ≤ n → old ≡ first ++ range_with_len a (n - a) → new ≡ old ++ n ∷ [] → new ≡ first ++ range_with_len a (n + 1 - a)
 range_push first old new a n le was is =
     let e : n + 1 - a ≡ suc (n - a) = omega arith in
     let f : a + (n - a) ≡ n = omega arith in
     is ∙ ap (λ (w : List ℕ). w ++ n ∷ []) was ∙ append_assoc first (range_with_len a (n - a)) (n ∷ [])
-    ∙ ap (λ (w : List ℕ). first ++ w) (ap (λ (w : ℕ). range_with_len a (n - a) ++ w ∷ []) (sym f) ∙ sym (range_more a (n - a)) ∙ ap (range_with_len a) (sym e))
+    ∙ ap (λ (w : List ℕ). first ++ w) (ap (λ (w : ℕ). range_with_len a (n - a) ++ w ∷ []) (sym f) ∙ sym (numbers_more a (n - a)) ∙ ap (range_with_len a) (sym e))
 
 replicate_more : (n : ℕ) → replicate {A = ℕ} (suc n) 0 ≡ replicate n 0 ++ 0 ∷ []
 replicate_more zero = refl

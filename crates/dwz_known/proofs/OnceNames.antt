@@ -3,17 +3,18 @@ use Rattle.std.proofs.Common.{◌≡◌, ℕ, zero, suc, ◌+◌, ◌<◌, ◌�
 use Rattle.std.proofs.lemmas.List.{append_assoc, length-append}
 use Rattle.dwz_docs.specs.Lists.{In}
 use Rattle.dwz_docs.specs.Trees.{End, Entry}
+use Rattle.dwz_docs.proofs.ListFacts.{got_in, in_cases}
 use Rattle.dwz_meanings.specs.Documents.{Compile, Doc, DwUnit, Entries, Kind, OfType, Partial}
 use Rattle.dwz_seen.specs.Lists.{NoneTwice}
 use Rattle.dwz_seen.specs.Spaces.{space_text, tops_under}
-use Rattle.dwz_seen.proofs.Members.{in_cases, in_map_from}
+use Rattle.dwz_seen.proofs.Members.{in_map_from}
 use Rattle.dwz_seen.proofs.OnceLemmas.{none_append, none_map}
 use Rattle.dwz_alike.specs.Spots.{Import, InChain, InType, PartialOf, PartialRoot, RootOf, SpaceAt, Spot, UnitOf, Within, top_count, top_spots, tops_among}
 use Rattle.dwz_index.specs.Names.{names_from}
-use Rattle.dwz_same.proofs.ApartTrees.{Behind, here_inner, here_rest, inner_rest}
+use Rattle.dwz_index.proofs.TopLemmas.{below_names}
+use Rattle.dwz_same.proofs.ApartTrees.{Behind, here_inner, here_rest, inner_rest, type_path, within_path}
 use Rattle.dwz_known.specs.Names.{all_names, names_of_files}
-use Rattle.dwz_known.proofs.FileRuns.{below_names, tops_in_all}
-use Rattle.dwz_known.proofs.ImageLemmas.{get_in}
+use Rattle.dwz_known.proofs.FileRuns.{tops_in_all}
 use Rattle.dwz_known.proofs.Paths.{names_paths, paths_in, paths_of, spot_of}
 use Rattle.dwz_known.proofs.Runs.{space_names, top_names, under_space, under_top}
 
@@ -141,9 +142,6 @@ apart unit path i low mid high (PartialRoot m) a b = a
 apart unit path i low mid high (InChain m c d) a b = a
 apart unit path i low mid high (Import m c) a b = a
 
-within_one : (n : ℕ) (p q : List ℕ) → Within n p ≡ Within n q → p ≡ q
-within_one n p q e = cc
-
 tops_once : (unit : ℕ) (path : List ℕ) (i n : ℕ) (f : Entries ℕ) → NoneTwice (map spot_of (top_spots unit path i n f))
 unfolding top_spots
 tops_once unit path i n End = tt
@@ -154,7 +152,7 @@ tops_once unit path i n (Entry e f g) = by (λ low. tops_once unit path (suc i) 
       let own = map (Within n) (paths_of f) in
       let rest = map spot_of (top_spots unit path (suc i) (suc n) g) in
       subst NoneTwice (sym (top_names unit path i n e f g h))
-      (none_append own rest (none_map (Within n) (within_one n) (paths_of f) (once_of f)) (later (suc n))
+      (none_append own rest (none_map (Within n) (within_path n) (paths_of f) (once_of f)) (later (suc n))
       (λ s a b. (let o = in_map_from (Within n) s (paths_of f) a in let m = subst (Mixed unit path (suc i) (suc n) (suc n + tops_under g)) (sym o.is)
       (mixed unit path (suc i) (suc n) g s b) in let le = m.0 in omega (arith, le))))
   by later inside (Some text) h =
@@ -215,9 +213,6 @@ from_mixed unit low high (PartialRoot m) h = h
 from_mixed unit low high (InChain m c d) h = h
 from_mixed unit low high (Import m c) h = h
 
-type_once : (unit : ℕ) (p q : List ℕ) → InType unit p ≡ InType unit q → p ≡ q
-type_once unit p q e = cc
-
 below_ranged : (unit top : ℕ) (kind : Kind ℕ) (f : Entries ℕ) → AllRanged unit (suc unit) top (top + top_count kind f) (below_names unit top kind f)
 below_ranged unit top Compile f s is = from_mixed unit top (top + tops_under f) s (mixed unit [] 0 top f s is)
 below_ranged unit top (OfType signature main) f s is =
@@ -227,7 +222,7 @@ below_ranged unit top Partial f s is = absurd is
 
 below_once : (unit top : ℕ) (kind : Kind ℕ) (f : Entries ℕ) → NoneTwice (below_names unit top kind f)
 below_once unit top Compile f = tops_once unit [] 0 top f
-below_once unit top (OfType signature main) f = subst NoneTwice (sym (names_paths (InType unit) [] 0 f)) (none_map (InType unit) (type_once unit) (paths_in [] 0 f) (once_in [] 0 f))
+below_once unit top (OfType signature main) f = subst NoneTwice (sym (names_paths (InType unit) [] 0 f)) (none_map (InType unit) (type_path unit) (paths_in [] 0 f) (once_in [] 0 f))
 below_once unit top Partial f = tt
 
 no_root : (unit top : ℕ) (kind : Kind ℕ) (f : Entries ℕ) → In (RootOf unit) (below_names unit top kind f) → ⊥
@@ -294,8 +289,8 @@ files_once unit top (doc ∷ docs) =
 one_at : {X : Type 0} (xs : List X) → NoneTwice xs → (m n : ℕ) (x : X) → slice_get xs m ≡ Some x → slice_get xs n ≡ Some x → m ≡ n
 one_at [] once m n x e f = absurd cc
 one_at (y ∷ xs) once zero zero x e f = refl
-one_at {X} (y ∷ xs) once zero (suc n) x e f = (let same : y ≡ x = cc in absurd (once.0 (subst (λ (w : X). In w xs) (sym same) (get_in xs n x f))))
-one_at {X} (y ∷ xs) once (suc m) zero x e f = (let same : y ≡ x = cc in absurd (once.0 (subst (λ (w : X). In w xs) (sym same) (get_in xs m x e))))
+one_at {X} (y ∷ xs) once zero (suc n) x e f = (let same : y ≡ x = cc in absurd (once.0 (subst (λ (w : X). In w xs) (sym same) (got_in xs n x f))))
+one_at {X} (y ∷ xs) once (suc m) zero x e f = (let same : y ≡ x = cc in absurd (once.0 (subst (λ (w : X). In w xs) (sym same) (got_in xs m x e))))
 one_at (y ∷ xs) once (suc m) (suc n) x e f = ap suc (one_at xs once.1 m n x e f)
 
 -- a name is of one entry

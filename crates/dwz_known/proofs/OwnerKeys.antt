@@ -1,20 +1,23 @@
 -- Names that stand in kept units and in partial units.
 use Rattle.std.proofs.Common.{◌≡◌, ◌⊎◌, ℕ, ℤ, suc, ◌+◌, ◌<◌, ◌≤◌, Bool, true, false, List, [], ◌∷◌, ◌++◌, length, map, Option, refl, sym, ap, subst, ◌∙◌, inl, inr, arith}
 use Rattle.std.proofs.lemmas.List.{append-nil, map-append}
-use Rattle.dwz_docs.specs.Lists.{In}
+use Rattle.dwz_docs.specs.Lists.{Each, In}
 use Rattle.dwz_docs.specs.Trees.{End, Entry}
+use Rattle.dwz_docs.proofs.ListFacts.{in_cases, in_left, in_map, in_right}
 use Rattle.dwz_meanings.specs.Documents.{Compile, DwUnit, Entries, Kind, Node, OfType, Partial, entries_map, kind_map, language, node_map, unit_map}
-use Rattle.dwz_seen.specs.Lists.{Each, Nth}
+use Rattle.dwz_seen.specs.Lists.{Nth}
 use Rattle.dwz_seen.specs.Shown.{keys, unit_keys}
 use Rattle.dwz_seen.specs.Spaces.{space_text, tops_under}
 use Rattle.dwz_seen.proofs.MainLemmas.{keys_map}
-use Rattle.dwz_seen.proofs.Members.{each_in, in_cases, in_left, in_map, in_map_from, in_right}
+use Rattle.dwz_seen.proofs.Members.{each_in, in_map_from}
 use Rattle.dwz_seen.proofs.SpaceLemmas.{text_map}
-use Rattle.dwz_alike.specs.Spots.{ASpace, ATop, FileUnit, InType, Labelled, LabelledSpaces, LabelledTop, Nothing, RootOf, Row, SpaceName, Spot, Top, Within, in_file, name_of, row_below, row_of, row_tops, top_count, top_spots, tops_from, tops_of}
+use Rattle.dwz_alike.specs.Spots.{ASpace, ATop, FileUnit, InType, Labelled, LabelledSpaces, LabelledTop, Nothing, RootOf, Row, SpaceName, Spot, Top, Within, in_file, name_of, row_below, row_of}
+use Rattle.dwz_alike.specs.Spots.{row_tops, top_count, top_spots, tops_from, tops_of}
 use Rattle.dwz_alike.proofs.NameLists.{count_map}
 use Rattle.dwz_alike.proofs.RowLemmas.{RowIs, below_unit, unit_row}
 use Rattle.dwz_alike.proofs.TopNumbers.{below_length, from_numbered, top_at}
 use Rattle.dwz_alike.proofs.Tops.{unit_of}
+use Rattle.dwz_index.proofs.TopLemmas.{below_names}
 use Rattle.dwz_moving.specs.IsPlan.{Has, Item, OfSpace, OfTop, Remains}
 use Rattle.dwz_moving.specs.Moves.{Move, image_in}
 use Rattle.dwz_moving.specs.Plan.{imports, kept_row}
@@ -24,7 +27,6 @@ use Rattle.dwz_same.specs.Units.{changes, kept_unit, tree}
 use Rattle.dwz_same.proofs.EntryLemmas.{kept_compile, kept_still, kept_type}
 use Rattle.dwz_same.proofs.KeyLemmas.{tree_is}
 use Rattle.dwz_same.proofs.OldRows.{row_kinded, tops_somewhere}
-use Rattle.dwz_known.proofs.FileRuns.{below_names}
 use Rattle.dwz_known.proofs.Paths.{names_paths, paths_in, paths_map, paths_of, spot_of}
 use Rattle.dwz_known.proofs.Runs.{Between, space_names, top_names, tops_between}
 

@@ -1,23 +1,24 @@
 -- The owner of an entry is the unit in which its name stands.
-use Rattle.std.proofs.Common.{◌≡◌, ℕ, zero, suc, ◌+◌, Bool, true, false, List, [], ◌∷◌, ◌++◌, map, Option, Some, None, Ok, slice_get, refl, sym, ap, subst, ◌∙◌, inr, arith}
+use Rattle.std.proofs.Common.{◌≡◌, ℕ, ◌+◌, Bool, true, false, List, ◌++◌, map, Option, Some, None, Ok, slice_get, refl, sym, ap, subst, ◌∙◌, inr, arith}
 use Rattle.std.specs.Prelude.{slice_index_or}
-use Rattle.dwz_docs.specs.Lists.{In}
+use Rattle.dwz_docs.specs.Lists.{Each, In}
 use Rattle.dwz_docs.specs.Trees.{End}
 use Rattle.dwz_docs.specs.Units.{RawUnit}
+use Rattle.dwz_docs.proofs.ListFacts.{get_first, got_in, got_map, in_map}
 use Rattle.dwz_meanings.specs.Documents.{Doc, DwUnit, unit_map}
 use Rattle.dwz_meanings.specs.Meanings.{Around, units_meaning}
 use Rattle.dwz_meanings.proofs.MeaningLemmas.{units_agree}
-use Rattle.dwz_seen.specs.Lists.{Each, Nth}
+use Rattle.dwz_seen.specs.Lists.{Nth}
 use Rattle.dwz_seen.specs.Seen.{IsPartial}
 use Rattle.dwz_seen.specs.Shown.{keys, unit_keys}
-use Rattle.dwz_seen.proofs.Members.{each_in, each_of, in_map, in_map_from, nth_in}
+use Rattle.dwz_seen.proofs.Members.{each_in, each_of, in_map_from, nth_in, nth_of}
 use Rattle.dwz_unit.specs.Rows.{EntryRow, rows_of}
 use Rattle.dwz_alike.specs.Spots.{FileUnit, Spot, Top, Within, file_numbers, in_file, name_list, spot_in, spots_from, tops_of, units_of}
 use Rattle.dwz_alike.proofs.TopNumbers.{top_at, tops_numbers}
 use Rattle.dwz_alike.proofs.Tops.{one_top}
 use Rattle.dwz_index.specs.Index.{Index}
 use Rattle.dwz_index.specs.Names.{names_from, top_in}
-use Rattle.dwz_index.proofs.TopLemmas.{get_first, get_later}
+use Rattle.dwz_index.proofs.TopLemmas.{get_later}
 use Rattle.dwz_moving.specs.Homes.{Common, Home, Local, Rule, is_home, moves, rep}
 use Rattle.dwz_moving.specs.IsPlan.{BelongsTo, IsPart}
 use Rattle.dwz_moving.specs.Moves.{Move, image_in}
@@ -39,23 +40,17 @@ use Rattle.dwz_known.specs.OwnerLaws.{AreMoved}
 use Rattle.dwz_known.specs.Owners.{IsFileWritten, IsOwner, all_written, move_of, owner_at, owner_by}
 use Rattle.dwz_known.specs.Whole.{IsFileAt}
 use Rattle.dwz_known.proofs.FileRuns.{files_run, tops_in_all}
-use Rattle.dwz_known.proofs.ImageLemmas.{get_in, located, top_inside}
+use Rattle.dwz_known.proofs.ImageLemmas.{located, top_inside}
 use Rattle.dwz_known.proofs.ImageSteps.{in_a_top}
 use Rattle.dwz_known.proofs.OwnerKeys.{own_keys, top_labelled, tree_top, unit_kept}
 use Rattle.dwz_known.proofs.OwnerSteps.{got_or}
 use Rattle.dwz_known.proofs.Paths.{paths_of}
 use Rattle.dwz_known.proofs.UnitNames.{of_unit}
-use Rattle.dwz_known.proofs.WholeLemmas.{nth_got}
-
-get_map : {X Y : Type 0} (f : X → Y) (xs : List X) (k : ℕ) (x : X) → slice_get xs k ≡ Some x → slice_get (map f xs) k ≡ Some (f x)
-get_map f [] k x e = absurd cc
-get_map f (y ∷ xs) zero x e = (let same : y ≡ x = cc in ap (λ (w : _). Some (f w)) same)
-get_map f (y ∷ xs) (suc k) x e = get_map f xs k x e
 
 one_number : (xs : List ℕ) (i m n : ℕ) → slice_get xs i ≡ Some m → slice_get xs i ≡ Some n → m ≡ n
 one_number xs i m n e f = let z : Some m ≡ Some n = sym e ∙ f in cc
 
-same_number : (m n : ℕ) (p q : List ℕ) → Within m p ≡ Within n q → m ≡ n
+pub same_number : (m n : ℕ) (p q : List ℕ) → Within m p ≡ Within n q → m ≡ n
 same_number m n p q e = cc
 
 -- the names of a top's entries, where they stand among all
@@ -68,7 +63,7 @@ own_name docs n top path e =
     let run = files_run 0 0 0 (tops_in_all docs) docs (omega arith) t.0 t.1 in
     let at : slice_get (all_names docs) n ≡ Some (Within t.0.number path) = e ∙ ap (λ (w : ℕ). Some (Within w path)) (sym t.2) in
     let l = located 0 (tops_in_all docs) t.0.number (all_names docs) (paths_of t.0.below) run n path at in
-    (t.0, t.1, t.2, get_in (paths_of t.0.below) l.0 path l.2)
+    (t.0, t.1, t.2, got_in (paths_of t.0.below) l.0 path l.2)
 
 module _ (docs : List (Doc ℕ)) (rule : Rule) (planned : Planned) (written : List Bool) (commons : ℕ) (parts olds : List ℕ) (h : AreMoved docs rule planned written commons parts olds) where
   abbrev units : List (FileUnit Spot)
@@ -97,7 +92,7 @@ module _ (docs : List (Doc ℕ)) (rule : Rule) (planned : Planned) (written : Li
       let is_rep : rep rule.alike units top ≡ top = sym (move_stand units rule top gone) ∙ stand in
       let o = in_map_from (λ (w : Top). w.number) (rep rule.alike units top) at.part.tops at.holds in
       let none : 0 + p ≡ p = omega arith in
-      let nth : Nth 0 (partials rule units files) p at.part = subst (λ (w : ℕ). Nth 0 (partials rule units files) w at.part) none (nth_got 0 (partials rule units files) p at.part at.there) in
+      let nth : Nth 0 (partials rule units files) p at.part = subst (λ (w : ℕ). Nth 0 (partials rule units files) w at.part) none (nth_of 0 (partials rule units files) p at.part at.there) in
       let fits : IsPart rule units at.part = each_in (IsPart rule units) at.part (partials rule units files) (are_parts rule units files) (nth_in 0 (partials rule units files) p at.part nth) in
       let b : BelongsTo rule units at.part o.source = (fits.tops o.source).0 o.there in
       let same : o.source ≡ t = one_top units o.source t b.there is (o.is ∙ is_rep ∙ sym number) in
@@ -124,7 +119,7 @@ module _ (docs : List (Doc ℕ)) (rule : Rule) (planned : Planned) (written : Li
     name = spot_in (spots_from f.starts.unit f.starts.top f.doc.units)
 
     whole : Each (λ v. IsPartial v.kind → ⊥) f.doc.units
-    whole = each_of (λ (v : DwUnit ℕ). IsPartial v.kind → ⊥) f.doc.units (each_in (λ (doc : Doc ℕ). ArePlaced doc.units) f.doc docs h.placed (get_in docs file f.doc f.is_doc)).kinds
+    whole = each_of (λ (v : DwUnit ℕ). IsPartial v.kind → ⊥) f.doc.units (each_in (λ (doc : Doc ℕ). ArePlaced doc.units) f.doc docs h.placed (got_in docs file f.doc f.is_doc)).kinds
 
     kept_owned : (entry : ℕ) (row : EntryRow) (s : Spot) → slice_get (rows_of raw) entry ≡ Some row → slice_get (names_from f.starts.unit f.starts.top f.doc.units) entry ≡ Some s
         → image rule (units_of docs) s ≡ s
@@ -138,7 +133,7 @@ module _ (docs : List (Doc ℕ)) (rule : Rule) (planned : Planned) (written : Li
         let at_i = o.1 in
         let number = w.number in
         let u = in_file file (unit_map name w.v) in
-        let got_u = get_map (in_file file) (map (unit_map name) f.doc.units) w.k (unit_map name w.v) (get_map (unit_map name) f.doc.units w.k w.v w.is) in
+        let got_u = got_map (in_file file) (map (unit_map name) f.doc.units) w.k (unit_map name w.v) (got_map (unit_map name) f.doc.units w.k w.v w.is) in
         let nth : Nth 0 units i u = subst (λ (n : ℕ). Nth 0 units n u) (sym number) (f.units w.k u got_u) in
         let there = unit_kept units m old file name i w.first w.v nth (λ t is. f.tops t (w.tops t is)) s fixed stays w.own in
         let n = h.numbers.olds_are i u nth is_written in

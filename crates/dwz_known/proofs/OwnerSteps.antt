@@ -1,8 +1,9 @@
 -- The owner of one entry, and those of entries one after the other.
-use Rattle.std.proofs.Common.{◌≡◌, ℕ, zero, suc, ◌+◌, ◌<◌, ◌≤◌, List, [], ◌∷◌, ◌++◌, length, get_or, take, Some, None, slice_get, refl, sym, ap, subst, ◌∙◌, arith}
+use Rattle.std.proofs.Common.{◌≡◌, ℕ, zero, suc, ◌+◌, ◌<◌, ◌≤◌, List, [], ◌∷◌, ◌++◌, length, get_or, take, Some, None, slice_get, sym, ap, subst, ◌∙◌, arith}
 use Rattle.std.specs.Prelude.{slice_index_or}
 use Rattle.std.proofs.lemmas.List.{append-nil, append_assoc, take_all, take_more}
 use Rattle.dwz_docs.specs.Units.{RawUnit, entries_in}
+use Rattle.dwz_docs.proofs.ListFacts.{got_there}
 use Rattle.dwz_unit.specs.declared.rows.RawEntry.{RawEntry as EntryOfCode}
 use Rattle.dwz_unit.specs.Rows.{EntryRow, rows_of, shown_entries}
 use Rattle.dwz_resolve.proofs.RowLemmas.{row_is, rows-length}
@@ -35,11 +36,6 @@ pub owner_some : (plan : Planned) (parts : List ℕ) (s : Spot) (top r v kept : 
 owner_some plan parts s top r v kept e is same = is ∙ ap (λ (n : ℕ). owner_at parts n (slice_index_or plan.homes top Stay)) same ∙ ap (owner_by plan parts kept) e
 
 -- ---- one after the other
-
-pub there : {X : Type 0} (xs : List X) (i : ℕ) → i < length xs → (x : X) × (slice_get xs i ≡ Some x)
-there [] i lt = absurd (omega arith)
-there (y ∷ xs) zero lt = (y, refl)
-there (y ∷ xs) (suc i) lt = there xs i (omega arith)
 
 pub got : {X : Type 0} (xs : List X) (i : ℕ) (x : X) → slice_get xs i ≡ Some x → get_or xs i x ≡ x
 got [] i x e = absurd cc
@@ -77,8 +73,8 @@ module _ (plan : Planned) (parts olds : List ℕ) (unit : ℕ) where
       let len = index.len in
       let low : i < length rows = omega (arith, long, lt) in
       let less : i < length names = omega (arith, len, many, lt) in
-      let r = there rows i low in
-      let s = there names i less in
+      let r = got_there rows i low in
+      let s = got_there names i less in
       subst (λ (w : List EntryRow). AddsOwners plan parts olds unit w (take (i + 1) names) old new) (sym (taken rows i r.0 low r.1))
       (subst (λ (w : List Spot). AddsOwners plan parts olds unit (take i rows ++ r.0 ∷ []) w old new) (sym (taken names i s.0 less s.1))
       (record {

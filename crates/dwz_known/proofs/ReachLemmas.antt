@@ -1,13 +1,13 @@
 -- A name stands in one unit, so its number tells in which unit and in which file.
-use Rattle.std.proofs.Common.{◌≡◌, ◌⊎◌, ℕ, zero, suc, ◌<◌, ◌≤◌, ◌==◌, Bool, true, false, List, [], ◌∷◌, ◌++◌, length, Some, slice_get, not, refl, sym, ap, subst, ◌∙◌, inl, inr, arith, eq-eqb, eqb-true}
+use Rattle.std.proofs.Common.{◌≡◌, ◌⊎◌, ℕ, zero, suc, ◌≤◌, ◌==◌, Bool, true, false, List, [], ◌∷◌, ◌++◌, length, Some, slice_get, not, refl, sym, ap, subst, ◌∙◌, inl, inr, arith, eq-eqb, eqb-true}
 use Rattle.std.specs.Prelude.{nat_lt}
 use Rattle.std.proofs.lemmas.Bool.{ltb-false, ltb-true}
 use Rattle.std.proofs.lemmas.List.{append-nil, append_assoc}
-use Rattle.dwz_docs.specs.Lists.{In}
+use Rattle.dwz_docs.specs.Lists.{Each, In}
+use Rattle.dwz_docs.proofs.ListFacts.{got_below, in_left, in_right}
 use Rattle.dwz_meanings.specs.Documents.{Doc, DwUnit}
-use Rattle.dwz_seen.specs.Lists.{Each, NoneTwice, Rising}
+use Rattle.dwz_seen.specs.Lists.{NoneTwice}
 use Rattle.dwz_seen.specs.Shown.{unit_keys, units_keys}
-use Rattle.dwz_seen.proofs.Members.{in_left, in_right}
 use Rattle.dwz_seen.proofs.OnceLemmas.{none_append, none_both, none_left, none_right}
 use Rattle.dwz_alike.specs.Spots.{FileUnit, Spot, file_numbers, same_spot, units_of}
 use Rattle.dwz_index.proofs.TopLemmas.{get_cases}
@@ -17,12 +17,12 @@ use Rattle.dwz_same.specs.After.{ArePlaced}
 use Rattle.dwz_same.specs.Units.{common_units, file_units, out_units}
 use Rattle.dwz_same.proofs.ApartUnits.{all_apart, keys_joined}
 use Rattle.dwz_same.proofs.OldFiles.{files_old}
+use Rattle.dwz_same.proofs.FileLemmas.{numbers_rise}
 use Rattle.dwz_writing.specs.Placing.{has_key}
 use Rattle.dwz_writing.proofs.Chosen.{none_has}
 use Rattle.dwz_writing.proofs.ChosenNames.{has_in}
 use Rattle.dwz_writing.proofs.SameLemmas.{spots_same}
 use Rattle.dwz_known.specs.Owners.{StandsIn, all_written, files_written, move_of}
-use Rattle.dwz_known.proofs.ImageLemmas.{below_length_of}
 
 -- ---- where a name stands
 
@@ -76,7 +76,7 @@ common_tells common others once s owner h =
       | inr b ↦ absurd (let lt = ltb-true owner (length common) t in let e = b.1 in omega (arith, lt, e))
     ]))
     (λ f is. (elim (get_cases common others owner h.unit h.is) [
-      | inl a ↦ (let lt = below_length_of common owner h.unit a in let le = ltb-false owner (length common) f in omega (arith, lt, le))
+      | inl a ↦ (let lt = got_below common owner h.unit a in let le = ltb-false owner (length common) f in omega (arith, lt, le))
       | inr b ↦ no_both common others once s is (in_all others b.0 h.unit s b.2 h.has)
     ]))
 
@@ -123,16 +123,6 @@ module _ (m : Move) (units : List (FileUnit Spot)) where
       let keys : NoneTwice (units_keys before ++ (units_keys own ++ units_keys rest)) = subst NoneTwice (keys_joined before (own ++ rest)
       ∙ ap (λ (w : List Spot). units_keys before ++ w) (keys_joined own rest)) h in
       some_once before (suc file) docs written (omega (arith, le)) (subst NoneTwice (sym (keys_joined before rest)) (skipped (units_keys before) (units_keys own) (units_keys rest) keys))
-
-above : (file n : ℕ) (docs : List (Doc ℕ)) → n < file → Each (λ m. n < m) (file_numbers file docs)
-unfolding file_numbers
-above file n [] lt = tt
-above file n (doc ∷ docs) lt = (lt, above (suc file) n docs (omega (arith, lt)))
-
-numbers_rise : (file : ℕ) (docs : List (Doc ℕ)) → Rising (file_numbers file docs)
-unfolding file_numbers
-numbers_rise file [] = tt
-numbers_rise file (doc ∷ docs) = (above (suc file) file docs (omega arith), numbers_rise (suc file) docs)
 
 pub written_once : (docs : List (Doc ℕ)) (rule : Rule) (written : List Bool) → Each (λ doc. ArePlaced doc.units) docs → length written ≤ length docs
     → NoneTwice (units_keys (all_written (move_of rule docs) (units_of docs) written))

@@ -1,12 +1,12 @@
 -- The names of a top's entries stand one behind the other, and those of other tops before or behind them.
 use Rattle.std.proofs.Common.{◌≡◌, ℕ, suc, ◌+◌, ◌<◌, ◌≤◌, List, [], ◌∷◌, ◌++◌, map, Option, Some, None, refl, sym, ap, subst, ◌∙◌, inl, inr, arith}
 use Rattle.std.proofs.lemmas.List.{append_assoc, map-append}
-use Rattle.dwz_docs.specs.Lists.{In}
+use Rattle.dwz_docs.specs.Lists.{Each, In}
 use Rattle.dwz_docs.specs.Trees.{End, Entry}
+use Rattle.dwz_docs.proofs.ListFacts.{in_cases}
 use Rattle.dwz_meanings.specs.Documents.{Entries, entries_map, node_map}
-use Rattle.dwz_seen.specs.Lists.{Each}
 use Rattle.dwz_seen.specs.Spaces.{space_text, tops_under}
-use Rattle.dwz_seen.proofs.Members.{each_append, each_more, in_cases}
+use Rattle.dwz_seen.proofs.Members.{each_append, each_more}
 use Rattle.dwz_seen.proofs.SpaceLemmas.{text_map, under_count}
 use Rattle.dwz_alike.specs.Spots.{ASpace, ATop, Nothing, Row, SpaceAt, SpaceName, Spot, Top, Within, entry_spots, name_of, row_tops, top_spots}
 use Rattle.dwz_alike.proofs.NameLists.{spots_space, spots_top}

@@ -1,24 +1,22 @@
 -- The unit that an entry of a file is of, by its row and by its name.
 use Rattle.std.proofs.Common.{◌≡◌, ◌⊎◌, ℕ, suc, ◌+◌, ◌<◌, List, [], ◌∷◌, ◌++◌, length, Some, slice_get, refl, sym, ap, subst, ◌∙◌, inl, inr, arith}
 use Rattle.dwz_docs.specs.Entries.{RawEntry, root_position}
-use Rattle.dwz_docs.specs.Lists.{In}
+use Rattle.dwz_docs.specs.Lists.{Each, In}
 use Rattle.dwz_docs.specs.Trees.{End, Entry, Forest, Position, behind, first_below, size}
 use Rattle.dwz_docs.specs.Units.{RawUnit, entry_count}
-use Rattle.dwz_meanings.specs.Documents.{Compile, DwUnit, Entries, Kind, OfType, Partial, kind_map, unit_map}
+use Rattle.dwz_docs.proofs.ListFacts.{got_below, got_in, in_left, in_right}
+use Rattle.dwz_meanings.specs.Documents.{DwUnit, kind_map, unit_map}
 use Rattle.dwz_meanings.specs.Meanings.{Around, MeanUnits, scope_of}
-use Rattle.dwz_seen.specs.Lists.{Each}
 use Rattle.dwz_seen.specs.Seen.{IsPartial}
-use Rattle.dwz_seen.proofs.Members.{each_append, each_in, in_left, in_right}
+use Rattle.dwz_seen.proofs.Members.{each_append, each_in}
 use Rattle.dwz_unit.specs.Rows.{EntryRow, rows_below, rows_from, rows_in}
-use Rattle.dwz_resolve.proofs.RowLemmas.{in-length}
-use Rattle.dwz_alike.specs.Spots.{InType, RootOf, Spot, Top, row_below, row_tops, top_count, tops_from}
+use Rattle.dwz_unit.proofs.ShownLemmas.{rows_in-length}
+use Rattle.dwz_alike.specs.Spots.{RootOf, Spot, Top, row_below, row_tops, top_count, tops_from}
 use Rattle.dwz_alike.proofs.NameLists.{count_map}
 use Rattle.dwz_index.specs.Names.{names_from}
 use Rattle.dwz_index.proofs.ListMeans.{means_size}
-use Rattle.dwz_index.proofs.ShowLemmas.{many_names, many_tops}
-use Rattle.dwz_index.proofs.TopLemmas.{get_cases}
-use Rattle.dwz_known.proofs.FileRuns.{below_names, filed}
-use Rattle.dwz_known.proofs.ImageLemmas.{below_length_of, get_in}
+use Rattle.dwz_index.proofs.TopLemmas.{below_names, get_cases, names_many}
+use Rattle.dwz_known.proofs.FileRuns.{filed}
 
 abbrev OfUnit : ℕ → EntryRow → Type 0
 OfUnit unit row = row.unit ≡ unit
@@ -28,11 +26,6 @@ unfolding rows_below
 rows_unit End unit p = tt
 rows_unit (Entry e c n) unit p =
     (refl, each_append (OfUnit unit) (rows_below c unit (first_below p)) (rows_below n unit (behind p c)) (rows_unit c unit (first_below p)) (rows_unit n unit (behind p c)))
-
-names_many : (at top : ℕ) (kind : Kind ℕ) (f : Entries ℕ) → (IsPartial kind → ⊥) → length (below_names at top kind f) ≡ size f
-names_many at top Compile f h = many_tops at [] 0 top f
-names_many at top (OfType signature main) f h = many_names (InType at) [] 0 f
-names_many at top Partial f h = absurd (h tt)
 
 -- the name is of the unit with number m of these, the first of which has another: of its root, or of an entry below that
 pub record IsOfUnit (file : ℕ) (name : ℕ → Spot) (unit top : ℕ) (said : List (DwUnit ℕ)) (m : ℕ) (s : Spot) : Type 0 where
@@ -90,15 +83,15 @@ module _ (around : Around ℕ) (file : ℕ) (name : ℕ → Spot) where
       let others = rows_from raw (n + 1) (before + entry_count u) in
       let same : size u.below ≡ size v.below = means_size (scope_of around u) u.below v.below h.0.below in
       let many = names_many unit top v.kind v.below whole.0 in
-      let long = in-length u n before in
+      let long = rows_in-length u n before in
       elim (get_cases mine others e row a) [
         | inl x ↦
-            let low = below_length_of mine e row x in
-            let is : row.unit ≡ n = each_in (OfUnit n) row mine (rows_unit (Entry u.root u.below End) n (root_position before)) (get_in mine e row x) in
+            let low = got_below mine e row x in
+            let is : row.unit ≡ n = each_in (OfUnit n) row mine (rows_unit (Entry u.root u.below End) n (root_position before)) (got_in mine e row x) in
             let which : (s ≡ RootOf unit) ⊎ In s own = first own rest s e (omega (arith, low, long, same, many)) b in
             (unit, omega (arith, is), here unit top v said s which)
         | inr y ↦ (elim (get_cases (RootOf unit ∷ own) rest e s b) [
-          | inl z ↦ absurd (let low = below_length_of (RootOf unit ∷ own) e s z in let far = y.1 in omega (arith, low, far, long, same, many))
+          | inl z ↦ absurd (let low = got_below (RootOf unit ∷ own) e s z in let far = y.1 in omega (arith, low, far, long, same, many))
           | inr z ↦
               let far = y.1 in
               let at = z.1 in
@@ -111,6 +104,6 @@ module _ (around : Around ℕ) (file : ℕ) (name : ℕ → Spot) where
     where
       first : (own rest : List Spot) (s : Spot) (e : ℕ) → e < suc (length own) → slice_get (RootOf unit ∷ (own ++ rest)) e ≡ Some s → (s ≡ RootOf unit) ⊎ In s own
       first own rest s e low b = elim (get_cases (RootOf unit ∷ own) rest e s b) [
-        | inl x ↦ (elim (get_in (RootOf unit ∷ own) e s x) [ inl p ↦ inl (sym p) | inr q ↦ inr q ])
+        | inl x ↦ (elim (got_in (RootOf unit ∷ own) e s x) [ inl p ↦ inl (sym p) | inr q ↦ inr q ])
         | inr y ↦ absurd (let far = y.1 in omega (arith, far, low))
       ]

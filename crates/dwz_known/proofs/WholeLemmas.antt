@@ -2,33 +2,32 @@
 use Rattle.std.proofs.Common.{◌≡◌, ℕ, zero, suc, ◌+◌, ◌-◌, ◌<◌, ◌≤◌, List, [], ◌∷◌, ◌++◌, All, length, get_or, map, Some, slice_get, refl, sym, ap, subst, ◌∙◌, inl, inr, arith}
 use Rattle.std.proofs.lemmas.List.{append_assoc, length-append, length-map}
 use Rattle.std.proofs.lemmas.Option.{slice_get-get_or}
-use Rattle.dwz_docs.specs.Lists.{In}
+use Rattle.dwz_docs.specs.Lists.{Each, In}
+use Rattle.dwz_docs.proofs.ListFacts.{get_first, got_below, in_left, in_right}
 use Rattle.dwz_meanings.specs.Documents.{Doc}
-use Rattle.dwz_seen.specs.Lists.{Each, Nth}
+use Rattle.dwz_seen.specs.Lists.{Nth}
 use Rattle.dwz_seen.specs.Seen.{IsPartial}
-use Rattle.dwz_seen.proofs.Members.{in_left, in_right}
-use Rattle.dwz_alike.specs.Spots.{FileUnit, Spot, Top, Within, in_file, named, named_files, spot_in, spots_from, tops_among, tops_of, units_of}
-use Rattle.dwz_alike.specs.Spots.{tops_from as tops_of_units}
+use Rattle.dwz_seen.proofs.Members.{nth_of}
+use Rattle.dwz_alike.specs.Spots.{FileUnit, Spot, Top, Within, in_file, named, named_files, spot_in, spots_from, tops_from as tops_of_units, tops_of, units_of}
+use Rattle.dwz_same.proofs.OldFiles.{counted}
+use Rattle.dwz_same.proofs.StillLemmas.{tops_append}
 use Rattle.dwz_index.specs.declared.index.Starts.{Starts}
 use Rattle.dwz_index.specs.declared.index.TopEntry.{TopEntry}
 use Rattle.dwz_index.specs.Index.{Index}
 use Rattle.dwz_index.specs.Names.{names_from}
-use Rattle.dwz_index.proofs.TopLemmas.{get_cases, get_first, get_later, many, named as name_at}
+use Rattle.dwz_index.proofs.TopLemmas.{get_cases, get_later, many, named as name_at}
 use Rattle.dwz_indexes.specs.Indexed.{AreIndexed, AreIndexes, IsIndexOf, first_starts, starts_behind}
+use Rattle.dwz_indexes.proofs.FileSteps.{tops_long}
 use Rattle.dwz_known.specs.Images.{starts_from, tops_from, tops_in}
 use Rattle.dwz_known.specs.Names.{AreTopEntries, StandFrom, all_names, names_of_files}
 use Rattle.dwz_known.specs.Whole.{AreWhole, IsFileAt}
-use Rattle.dwz_known.proofs.ImageLemmas.{below_length_of}
-use Rattle.dwz_known.proofs.FileRuns.{counted, counted_append, filed, filed_counted, filed_length, many_tops, tops_append, tops_in_all}
+use Rattle.dwz_known.proofs.FileRuns.{counted_append, filed, filed_counted, filed_length, many_tops, tops_in_all}
 
 -- ---- tops
 
 top_named : (s : Starts) (doc : Doc ℕ) (x : Index) → IsIndexOf s doc x → Each (λ u. IsPartial u.kind → ⊥) doc.units → (k : ℕ) (t : TopEntry) → slice_get x.tops k ≡ Some t
     → slice_get (names_from s.unit s.top doc.units) t.entry ≡ Some (Within (s.top + k) [])
 top_named s doc x h whole k t e = name_at s doc.units whole k t (ap (λ (w : List TopEntry). slice_get w k) (sym h.tops.tops_are) ∙ e)
-
-top_many : (s : Starts) (doc : Doc ℕ) (x : Index) → IsIndexOf s doc x → length x.tops ≡ tops_among doc.units
-top_many s doc x h = ap (λ (w : List TopEntry). length w) h.tops.tops_are ∙ many s 0 doc.units
 
 got : (c : ℕ) (tops : List TopEntry) (k n : ℕ) → slice_get (tops_in c tops) k ≡ Some n → (t : TopEntry) × (slice_get tops k ≡ Some t) × (n ≡ c + t.entry)
 got c [] k n e = absurd cc
@@ -46,7 +45,7 @@ tops_named s (doc ∷ docs) (x ∷ xs) end h whole c k n e =
     let next = starts_behind s doc x in
     let rest = names_of_files next.unit next.top docs in
     let long = h.0.names.len in
-    let tops = top_many s doc x h.0 in
+    let tops = tops_long s doc x h.0 in
     elim (get_cases (tops_in c x.tops) (tops_from (c + length x.steps) xs) k n e) [
       | inl a ↦
           let g = got c x.tops k n a in
@@ -70,7 +69,7 @@ tops_many s [] (x ∷ xs) end h c = absurd h
 tops_many s (doc ∷ docs) [] end h c = absurd h
 tops_many s (doc ∷ docs) (x ∷ xs) end h c =
     length-append (tops_in c x.tops) (tops_from (c + length x.steps) xs)
-    ∙ (λ j. (length-map x.tops (λ (t : TopEntry). c + t.entry) ∙ top_many s doc x h.0) j + tops_many (starts_behind s doc x) docs xs end h.1 (c + length x.steps) j)
+    ∙ (λ j. (length-map x.tops (λ (t : TopEntry). c + t.entry) ∙ tops_long s doc x h.0) j + tops_many (starts_behind s doc x) docs xs end h.1 (c + length x.steps) j)
 
 pub top_entries : (docs : List (Doc ℕ)) (xs : List Index) → AreIndexes docs xs → AreWhole docs → AreTopEntries docs (tops_from 0 xs)
 top_entries docs xs h whole = record {
@@ -83,11 +82,6 @@ top_entries docs xs h whole = record {
 }
 
 -- ---- files
-
-pub nth_got : {X : Type 0} (s : ℕ) (xs : List X) (k : ℕ) (x : X) → slice_get xs k ≡ Some x → Nth s xs (s + k) x
-nth_got s [] k x e = absurd cc
-nth_got s (y ∷ xs) zero x e = inl ((let n : s ≡ s + 0 = omega arith in n), (let same : y ≡ x = cc in same))
-nth_got {X} s (y ∷ xs) (suc k) x e = let n : suc s + k ≡ s + suc k = omega arith in inr (subst (λ (w : ℕ). Nth (suc s) xs w x) n (nth_got (suc s) xs k x e))
 
 -- a file with what is among all names, units and tops
 record FoundAt (all : List Spot) (units : List (FileUnit Spot)) (number : ℕ) (doc : Doc ℕ) (s : Starts) (x : Index) (start : ℕ) : Type 0 where
@@ -121,7 +115,7 @@ file_found all units s (doc ∷ docs) (y ∷ xs) end h before c parts len done f
         units_are = λ k u got_u. (
             let at : slice_get units (s.unit + k) ≡ Some u = (λ j. slice_get (is j) (sym many j + k)) ∙ get_later done (own ++ rest) k u (get_first own rest k u got_u) in
             let none : 0 + (s.unit + k) ≡ s.unit + k = omega arith in
-            subst (λ (w : ℕ). Nth 0 units w u) none (nth_got 0 units (s.unit + k) u at));
+            subst (λ (w : ℕ). Nth 0 units w u) none (nth_of 0 units (s.unit + k) u at));
         tops_are = λ t is_t. subst (λ (w : List (FileUnit Spot)). In t (tops_of w)) (sym is)
             (subst (In t) (sym (tops_append 0 0 done (own ++ rest)))
             (in_right t (tops_of_units 0 0 done) (tops_of_units (0 + length done) (0 + counted done) (own ++ rest))
@@ -160,7 +154,7 @@ each_inside s (doc ∷ docs) [] end h whole k d lt = absurd h
 each_inside s (doc ∷ docs) (x ∷ xs) end h whole zero d lt = λ j t less. (
     let e = top_named s doc x h.0 whole.0 j (get_or x.tops j t) (slice_get-get_or x.tops j t less) in
     let len = h.0.names.len in
-    let low = below_length_of (names_from s.unit s.top doc.units) (get_or x.tops j t).entry (Within (s.top + j) []) e in
+    let low = got_below (names_from s.unit s.top doc.units) (get_or x.tops j t).entry (Within (s.top + j) []) e in
     omega (arith, len, low))
 each_inside s (doc ∷ docs) (x ∷ xs) end h whole (suc k) d lt = each_inside (starts_behind s doc x) docs xs end h.1 whole.1 k d (omega arith)
 

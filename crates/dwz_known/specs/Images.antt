@@ -1,7 +1,7 @@
 -- Numbers of images: of the entries of a file that of the entry that stands for each after.
 use Rattle.std.specs.Prelude.{◌≡◌, ℕ, ◌+◌, ◌<◌, ◌^◌, List, [], ◌∷◌, ◌++◌, length, map, Some, slice_get}
 use Rattle.dwz_meanings.specs.Documents.{Doc}
-use Rattle.dwz_alike.specs.Alike.{IsAlike, Scope}
+use Rattle.dwz_alike.specs.Alike.{IsAlike, TopScope}
 use Rattle.dwz_alike.specs.Spots.{Spot, units_of}
 use Rattle.dwz_index.specs.declared.index.TopEntry.{TopEntry}
 use Rattle.dwz_index.specs.Index.{Index, IsIndex}
@@ -36,7 +36,7 @@ tops_from n (x ∷ indexes) = tops_in n x.tops ++ tops_from (n + length x.steps)
 -- entries of their tops
 pub record IsPlanned (docs : List (Doc ℕ)) (rule : Rule) (plan : Planned) (tops : List ℕ) : Type 0 where
   pub few : length (all_names docs) < 2 ^ 32
-  pub scope : Scope
+  pub scope : TopScope
   pub alike : IsAlike scope (units_of docs) rule.alike
   pub shows : ShowsPlan rule (units_of docs) (length docs) plan
   pub tops_are : AreTopEntries docs tops
@@ -55,5 +55,6 @@ pub record IsImage (docs : List (Doc ℕ)) (rule : Rule) (names : List Spot) (en
 -- of each of them
 abbrev pub AreImages : List (Doc ℕ) → Rule → List Spot → List ℕ → List ℕ → Type 0
 AreImages docs rule names [] [] = Unit {0}
-AreImages docs rule names (entry ∷ entries) (number ∷ numbers) = IsImage docs rule names entry number × AreImages docs rule names entries numbers
+AreImages docs rule names (entry ∷ entries) (number ∷ numbers) = IsImage docs rule names entry number
+    × AreImages docs rule names entries numbers
 AreImages docs rule names _ _ = ⊥

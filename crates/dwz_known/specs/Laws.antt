@@ -4,7 +4,7 @@ use Rattle.dwz_docs.specs.Units.{RawUnit, entries_in}
 use Rattle.dwz_meanings.specs.Documents.{Doc}
 use Rattle.dwz_resolve.specs.Resolved.{place_at}
 use Rattle.dwz_flat.specs.Rows.{AreTargets}
-use Rattle.dwz_alike.specs.Alike.{IsAlike, Scope}
+use Rattle.dwz_alike.specs.Alike.{IsAlike, TopScope}
 use Rattle.dwz_alike.specs.Spots.{Spot, Within, tops_of, units_of}
 use Rattle.dwz_moving.specs.Homes.{Rule}
 use Rattle.dwz_moving.specs.Plan.{image, stand_in}
@@ -14,7 +14,7 @@ use Rattle.dwz_known.specs.Names.{all_names}
 -- the image of an entry stands as far behind the top that stands for its own as the entry behind its own top
 abbrev pub ImageLaw : Type 0
 ImageLaw =
-    (scope : Scope) (docs : List (Doc ℕ)) (rule : Rule) → IsAlike scope (units_of docs) rule.alike
+    (scope : TopScope) (docs : List (Doc ℕ)) (rule : Rule) → IsAlike scope (units_of docs) rule.alike
     → (top : ℕ) (path : List ℕ) (n from to : ℕ)
     → slice_get (all_names docs) n ≡ Some (Within top path) → slice_get (all_names docs) from ≡ Some (Within top [])
     → slice_get (all_names docs) to ≡ Some (Within (stand_in rule (units_of docs) top) [])

@@ -7,7 +7,8 @@ use Rattle.dwz_index.specs.Names.{names_from}
 -- of files in order, the first unit and the first top of which have these numbers
 unfoldable pub names_of_files : ℕ → ℕ → List (Doc ℕ) → List Spot
 names_of_files unit top [] = []
-names_of_files unit top (doc ∷ docs) = names_from unit top doc.units ++ names_of_files (unit + length doc.units) (top + tops_among doc.units) docs
+names_of_files unit top (doc ∷ docs) = names_from unit top doc.units ++ names_of_files (unit + length doc.units)
+    (top + tops_among doc.units) docs
 
 abbrev pub all_names : List (Doc ℕ) → List Spot
 all_names docs = names_of_files 0 0 docs

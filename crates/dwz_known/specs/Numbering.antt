@@ -2,7 +2,7 @@
 use Rattle.std.specs.Prelude.{◌≡◌, ℕ, suc, Bool, true, false, List, [], ◌∷◌, length, map, replicate, ◌==◌, if◌then◌else◌}
 use Rattle.std.specs.List.{range_with_len}
 use Rattle.dwz_meanings.specs.Documents.{Doc}
-use Rattle.dwz_alike.specs.Alike.{IsAlike, Scope}
+use Rattle.dwz_alike.specs.Alike.{IsAlike, TopScope}
 use Rattle.dwz_alike.specs.Spots.{units_of}
 use Rattle.dwz_moving.specs.Homes.{IsChoice, Rule}
 use Rattle.dwz_moving.specs.Plan.{partials}
@@ -24,7 +24,7 @@ numbers_of first count false = replicate count 0
 -- It is known which tops of files are alike and are chosen; these are the partial units of their plan, and the numbers of their units;
 -- and each file of which something moves is written.
 pub record HaveUnits (docs : List (Doc ℕ)) (rule : Rule) (parts : List Partial) (counts : List ℕ) (written : List Bool) : Type 0 where
-  pub scope : Scope
+  pub scope : TopScope
   pub alike : IsAlike scope (units_of docs) rule.alike
   pub choice : IsChoice (units_of docs) rule
   pub parts_are : map (shown_part (length docs)) (partials rule (units_of docs) (range_with_len 0 (length docs))) ≡ parts

@@ -3,9 +3,9 @@ use Rattle.std.specs.Prelude.{◌≡◌, ℕ, ◌+◌, Bool, List, length, Ok, S
 use Rattle.dwz_docs.specs.Units.{RawUnit}
 use Rattle.dwz_meanings.specs.Documents.{Doc}
 use Rattle.dwz_meanings.specs.Meanings.{Around, units_meaning}
-use Rattle.dwz_seen.specs.Lists.{Each}
+use Rattle.dwz_docs.specs.Lists.{Each}
 use Rattle.dwz_unit.specs.Rows.{EntryRow, rows_of}
-use Rattle.dwz_alike.specs.Alike.{IsAlike, Scope}
+use Rattle.dwz_alike.specs.Alike.{IsAlike, TopScope}
 use Rattle.dwz_alike.specs.Spots.{Spot, units_of}
 use Rattle.dwz_index.specs.Index.{Index}
 use Rattle.dwz_index.specs.Names.{names_from, top_in}
@@ -19,9 +19,10 @@ use Rattle.dwz_known.specs.Whole.{IsFileAt}
 
 -- what is known of files whose tops move: no two of their units and entries stand at one place; which tops are alike and are chosen, the
 -- plan, and the numbers of units
-pub record AreMoved (docs : List (Doc ℕ)) (rule : Rule) (planned : Planned) (written : List Bool) (commons : ℕ) (parts olds : List ℕ) : Type 0 where
+pub record AreMoved (docs : List (Doc ℕ)) (rule : Rule) (planned : Planned) (written : List Bool) (commons : ℕ) (parts olds : List ℕ) : Type
+    0 where
   pub placed : Each (λ doc. ArePlaced doc.units) docs
-  pub scope : Scope
+  pub scope : TopScope
   pub alike : IsAlike scope (units_of docs) rule.alike
   pub choice : IsChoice (units_of docs) rule
   pub shows : ShowsPlan rule (units_of docs) (length docs) planned

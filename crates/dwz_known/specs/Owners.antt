@@ -1,5 +1,6 @@
 -- The unit in which an entry is written that stands for itself.
-use Rattle.std.specs.Prelude.{◌≡◌, ℕ, suc, ◌+◌, Bool, true, false, List, [], ◌∷◌, ◌++◌, length, Option, Some, None, slice_get, slice_index_or}
+use Rattle.std.specs.Prelude.{◌≡◌, ℕ, suc, ◌+◌, Bool, true, false, List, [], ◌∷◌, ◌++◌, length, Option, Some, None, slice_get}
+use Rattle.std.specs.Prelude.{slice_index_or}
 use Rattle.dwz_docs.specs.Lists.{In}
 use Rattle.dwz_meanings.specs.Documents.{Doc, DwUnit}
 use Rattle.dwz_seen.specs.Lists.{Nth}
@@ -83,7 +84,8 @@ AreOwners plan parts olds unit (row ∷ rows) (s ∷ names) (owner ∷ owners) =
 AreOwners plan parts olds unit _ _ _ = ⊥
 
 -- they were added
-pub record AddsOwners (plan : Planned) (parts olds : List ℕ) (unit : ℕ) (rows : List EntryRow) (names : List Spot) (old new : List ℕ) : Type 0 where
+pub record AddsOwners (plan : Planned) (parts olds : List ℕ) (unit : ℕ) (rows : List EntryRow) (names : List Spot) (old new : List ℕ) : Type
+    0 where
   pub more : List ℕ
   pub is : new ≡ old ++ more
   pub are : AreOwners plan parts olds unit rows names more

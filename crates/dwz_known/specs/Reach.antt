@@ -1,8 +1,8 @@
 -- In which unit, and in which file, a name stands, by the numbers of units.
 use Rattle.std.specs.Prelude.{◌≡◌, ◌⊎◌, ℕ, ◌==◌, ◌≤◌, Bool, List, ◌++◌, length, nat_lt, not, Some, slice_get}
-use Rattle.dwz_docs.specs.Lists.{In}
+use Rattle.dwz_docs.specs.Lists.{Each, In}
 use Rattle.dwz_meanings.specs.Documents.{Doc, DwUnit}
-use Rattle.dwz_seen.specs.Lists.{Each, NoneTwice}
+use Rattle.dwz_seen.specs.Lists.{NoneTwice}
 use Rattle.dwz_seen.specs.Shown.{unit_keys, units_keys}
 use Rattle.dwz_alike.specs.Spots.{Spot, same_spot, units_of}
 use Rattle.dwz_moving.specs.Homes.{Rule}

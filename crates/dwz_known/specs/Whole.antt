@@ -1,11 +1,10 @@
 -- What the indexes of all files show together.
 use Rattle.std.specs.Prelude.{◌≡◌, ℕ, ◌+◌, ◌<◌, All, List, length, map, Some, slice_get}
-use Rattle.dwz_docs.specs.Lists.{In}
+use Rattle.dwz_docs.specs.Lists.{Each, In}
 use Rattle.dwz_meanings.specs.Documents.{Doc}
-use Rattle.dwz_seen.specs.Lists.{Each, Nth}
+use Rattle.dwz_seen.specs.Lists.{Nth}
 use Rattle.dwz_seen.specs.Seen.{IsPartial}
-use Rattle.dwz_alike.specs.Spots.{FileUnit, Spot, Top, in_file, named, tops_of, units_of}
-use Rattle.dwz_alike.specs.Spots.{tops_from as tops_of_units}
+use Rattle.dwz_alike.specs.Spots.{FileUnit, Spot, Top, in_file, named, tops_from as tops_of_units, tops_of, units_of}
 use Rattle.dwz_index.specs.declared.index.Starts.{Starts}
 use Rattle.dwz_index.specs.Index.{Index}
 use Rattle.dwz_index.specs.Names.{names_from}

@@ -24,7 +24,8 @@ fn moved(number: u32, from: u32, to: u32) -> u32
 #[inline(always)]
 fn in_top(plan: &Plan, tops: &[u32], top: u32, number: u32) -> u32
     requires { length plan.now.stand_ins ≡ length tops.now }
-    ensures { (from to : ℕ) → slice_get tops.now top ≡ Some from → slice_get tops.now (slice_index plan.now.stand_ins top) ≡ Some to → from ≤ number → to + (number - from) < 2 ^ 32 → result ≡ to + (number - from) }
+    ensures { (from to : ℕ) → slice_get tops.now top ≡ Some from → slice_get tops.now (slice_index plan.now.stand_ins top) ≡ Some to
+        → from ≤ number → to + (number - from) < 2 ^ 32 → result ≡ to + (number - from) }
 {
     if top as usize >= tops.len() {
         return number;
@@ -43,7 +44,8 @@ pub fn image(index: &Index, plan: &Plan, tops: &[u32], start: u32, entry: u32) -
     requires there { entry < length index.now.steps }
     requires few { start + length index.now.steps < 2 ^ 32 }
     requires plan { length plan.now.stand_ins ≡ length tops.now }
-    ensures { (docs : List (Doc ℕ)) (rule : Rule) (names : List Spot) → IsPlanned docs rule plan.now tops.now → IsFile docs names index.now start → IsImage docs rule names entry result }
+    ensures { (docs : List (Doc ℕ)) (rule : Rule) (names : List Spot) → IsPlanned docs rule plan.now tops.now
+        → IsFile docs names index.now start → IsImage docs rule names entry result }
 {
     let number = start + entry;
     match index.top_of(entry) {
@@ -64,7 +66,8 @@ pub fn references(
     requires there { All (λ entry. entry < length index.now.steps) refs.now }
     requires few { start + length index.now.steps < 2 ^ 32 }
     requires plan { length plan.now.stand_ins ≡ length tops.now }
-    ensures { (docs : List (Doc ℕ)) (rule : Rule) (names : List Spot) → IsPlanned docs rule plan.now tops.now → IsFile docs names index.now start → IfOk result (λ v. AreImages docs rule names refs.now v.items) }
+    ensures { (docs : List (Doc ℕ)) (rule : Rule) (names : List Spot) → IsPlanned docs rule plan.now tops.now
+        → IsFile docs names index.now start → IfOk result (λ v. AreImages docs rule names refs.now v.items) }
 {
     let mut images = Vec::with_capacity(alloc, refs.len())?;
     for entry in refs {

@@ -14,6 +14,3 @@ pub use images::{image, references};
 pub use laws::{count_laws, image_laws, owner_laws, reach_laws};
 pub use numbers::UnitNumbers;
 pub use owners::{owner, put_owners};
-
-#[cfg(test)]
-mod tests;

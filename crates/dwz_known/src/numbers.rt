@@ -77,7 +77,8 @@ fn add_parts(
     first: u32,
 ) -> Result<u32, NoMemory>
     requires { first + leading file (drop (length parts.old.items) partials.now) < 2 ^ 32 }
-    ensures numbers { OnOk result (parts.new.items ≡ parts.old.items ++ range_with_len first (leading file (drop (length parts.old.items) partials.now))) }
+    ensures numbers { OnOk result (parts.new.items ≡ parts.old.items
+        ++ range_with_len first (leading file (drop (length parts.old.items) partials.now))) }
     ensures next { IfOk result (λ next. next ≡ first + leading file (drop (length parts.old.items) partials.now)) }
 {
     let count = count_leading(behind(partials, parts.len()), file) as u32;
@@ -111,7 +112,8 @@ impl UnitNumbers {
         requires few { length partials.now + sum counts.now < 2 ^ 32 }
         requires files { length counts.now < 2 ^ 32 }
         requires flags { length written.now ≡ length counts.now }
-        ensures { (docs : List (Doc ℕ)) (rule : Rule) → HaveUnits docs rule partials.now counts.now written.now → IfOk result (λ n. AreUnitNumbers (move_of rule docs) (units_of docs) written.now n.commons n.parts.items n.olds.items) }
+        ensures { (docs : List (Doc ℕ)) (rule : Rule) → HaveUnits docs rule partials.now counts.now written.now
+            → IfOk result (λ n. AreUnitNumbers (move_of rule docs) (units_of docs) written.now n.commons n.parts.items n.olds.items) }
     {
         let mut parts = Vec::with_capacity(alloc, partials.len())?;
         let mut olds = Vec::new(alloc);

@@ -55,7 +55,9 @@ pub fn owner(
     requires there { entry < entries_in (units_of units.now) }
     requires index { length index.now.steps ≡ entries_in (units_of units.now) }
     requires plan { length plan.now.homes ≡ length tops.now }
-    ensures { (names : List Spot) (s : Spot) (row : EntryRow) (kept : ℕ) → IsIndex names index.now → slice_get names entry ≡ Some s → slice_get (rows_of (units_of units.now)) entry ≡ Some row → slice_get numbers.now.olds.items (index.now.starts.unit + row.unit) ≡ Some kept → result ≡ owner_by plan.now numbers.now.parts.items kept (top_in s) }
+    ensures { (names : List Spot) (s : Spot) (row : EntryRow) (kept : ℕ) → IsIndex names index.now → slice_get names entry ≡ Some s
+        → slice_get (rows_of (units_of units.now)) entry ≡ Some row → slice_get numbers.now.olds.items (index.now.starts.unit + row.unit)
+        ≡ Some kept → result ≡ owner_by plan.now numbers.now.parts.items kept (top_in s) }
 {
     let unit = index.starts().unit as usize + units.entry(entry).unit as usize;
     let kept = at_or(numbers.olds.as_slice(), unit, 0);
@@ -76,7 +78,9 @@ pub fn put_owners(
 ) -> Result<(), NoMemory>
     requires index { length index.now.steps ≡ entries_in (units_of units.now) }
     requires plan { length plan.now.homes ≡ length tops.now }
-    ensures { (names : List Spot) → IsIndex names index.now → OnOk result (AddsOwners plan.now numbers.now.parts.items numbers.now.olds.items index.now.starts.unit (rows_of (units_of units.now)) names owners.old.items owners.new.items) }
+    ensures { (names : List Spot) → IsIndex names index.now
+        → OnOk result (AddsOwners plan.now numbers.now.parts.items numbers.now.olds.items index.now.starts.unit
+        (rows_of (units_of units.now)) names owners.old.items owners.new.items) }
 {
     for entry in 0..units.entries() {
         owners.push(owner(units, index, plan, tops, numbers, entry))?;

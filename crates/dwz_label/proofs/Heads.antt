@@ -4,16 +4,16 @@ use Rattle.std.specs.Prelude.{slice_index, slice_index_or}
 use Rattle.std.specs.Cmp.Lexicographic.{slice_cmp}
 use Rattle.std.proofs.lemmas.Bool.{cases_Bool}
 use Rattle.std.proofs.lemmas.Cmp.{by_ranked, nat_cmp_total, nat_list_cmp_total, ranked, tied_itself}
-use Rattle.std.proofs.lemmas.Map.Text.{is_eq-slice_cmp}
 use Rattle.std.proofs.lemmas.Slice.Eq.{bytes_eq-Decides}
-use Rattle.std.specs.Ordering.{is_eq}
 use Rattle.std.specs.Str.{bytes_eq}
+use Rattle.dwz_meanings.proofs.DecideLemmas.{if_false, if_true}
 use Rattle.dwz_bucket.specs.Fnv.{hash_of}
 use Rattle.dwz_nodes.specs.Looks.{IsLeastBelow}
+use Rattle.dwz_nodes.proofs.Orders.{bytes_equal}
 use Rattle.dwz_label.specs.declared.equal.Keyed.{Keyed}
 use Rattle.dwz_label.specs.Keyed.{AreHashed, AreHeads, AreOneKey, AreLeastPut, AreUnlike, IsUnlike, Order, hash_at}
 use Rattle.dwz_label.specs.Shown.{AreFirstEquals, nth_label}
-use Rattle.dwz_label.proofs.Choices.{by_if, if_false, if_true}
+use Rattle.dwz_label.proofs.Choices.{by_if}
 use Rattle.dwz_label.proofs.Rows.{passed_same, picked_least, rows_inside, rows_one}
 use denote.Ref.{Bor}
 
@@ -24,9 +24,6 @@ number_equal x y e = by_ranked (x < y) (x ≡ y) (y < x) (nat_cmp x y) (ranked x
 
 number_tied : (x y : ℕ) → x ≡ y → nat_cmp x y ≡ Equal
 number_tied x y e = subst (λ (z : ℕ). nat_cmp x z ≡ Equal) e (tied_itself nat_cmp_total x)
-
-bytes_equal : (xs ys : List ℕ) → slice_cmp nat_cmp xs ys ≡ Equal → xs ≡ ys
-bytes_equal xs ys e = (bytes_eq-Decides xs ys).0 (sym (is_eq-slice_cmp xs ys) ∙ ap is_eq e)
 
 bytes_tied : (xs ys : List ℕ) → xs ≡ ys → slice_cmp nat_cmp xs ys ≡ Equal
 bytes_tied xs ys e = subst (λ (zs : List ℕ). slice_cmp nat_cmp xs zs ≡ Equal) e (tied_itself nat_list_cmp_total xs)

@@ -3,16 +3,17 @@ use Rattle.std.proofs.Common.{◌≡◌, ℕ, ◌<◌, ◌≤◌, true, false, L
 use Rattle.std.specs.Prelude.{slice_index}
 use Rattle.std.proofs.lemmas.Bool.{cases_Bool, false≢true}
 use Rattle.dwz_docs.specs.Lists.{In}
+use Rattle.dwz_meanings.proofs.DecideLemmas.{if_true}
 use Rattle.dwz_nodes.specs.Graph.{Node, label_at}
 use Rattle.dwz_nodes.specs.Looks.{Alike as AlikeNodes, IsLeastBelow, IsRefined}
-use Rattle.dwz_alike.specs.Alike.{Alike, Movable, Scope}
+use Rattle.dwz_alike.specs.Alike.{Alike, Movable, TopScope}
 use Rattle.dwz_alike.specs.Deciding.{alike_test, is_movable}
 use Rattle.dwz_alike.specs.Spots.{FileUnit, Spot, Top, tops_of}
 use Rattle.dwz_alike.proofs.AlikeBound.{movable_decides}
 use Rattle.dwz_alike.proofs.AlikeLaws.{alike_joins, alike_turns, test_decides}
 use Rattle.dwz_alike.proofs.TopNumbers.{tops_numbers, top_at}
 use Rattle.dwz_label.specs.Nodes.{AreLeast, AreTopNodes, HaveOneLeast}
-use Rattle.dwz_label.proofs.Choices.{by_if, if_true}
+use Rattle.dwz_label.proofs.Choices.{by_if}
 use Rattle.dwz_label.proofs.NodeLooks.{bound_node, movable_node, node_looks, top_below}
 
 module _ (units : List (FileUnit Spot)) (g : List Node) (nodes : AreTopNodes units g) where
@@ -97,7 +98,7 @@ module _ (units : List (FileUnit Spot)) (least : List ℕ) (are : AreLeast units
       let y : Alike units b.number (slice_index least a.number) = subst (λ (n : ℕ). Alike units b.number n) (sym e) (least_of b j h).is in
       alike_joins units a.number (slice_index least a.number) b.number x (alike_turns units b.number (slice_index least a.number) y)
 
-  pub alike_joined : (scope : Scope) (a b : Top) → In a (tops_of units) → In b (tops_of units)
+  pub alike_joined : (scope : TopScope) (a b : Top) → In a (tops_of units) → In b (tops_of units)
       → (alike_test scope units a.number b.number ≡ true → HaveOneLeast scope units least a b) × (HaveOneLeast scope units least a b → alike_test scope units a.number b.number ≡ true)
   alike_joined scope a b i j =
       let d = test_decides scope units a b i j in (

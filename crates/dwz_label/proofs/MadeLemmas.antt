@@ -3,6 +3,7 @@ use Rattle.std.proofs.Common.{◌≡◌, ℕ, ◌<◌, Bool, true, false, List, 
 use Rattle.std.specs.Prelude.{All, if◌then◌else◌, slice_index, slice_index_or}
 use Rattle.std.proofs.lemmas.Bool.{cond-false, cond-true}
 use Rattle.dwz_docs.specs.Lists.{In}
+use Rattle.dwz_meanings.proofs.DecideLemmas.{if_false, if_true}
 use Rattle.dwz_nodes.specs.Graph.{IsClosed, Node, node, node_at}
 use Rattle.dwz_nodes.specs.Looks.{IsLeastBelow}
 use Rattle.dwz_alike.specs.Alike.{Movable}
@@ -13,7 +14,7 @@ use Rattle.dwz_alike.proofs.TopNumbers.{tops_numbers, top_at}
 use Rattle.dwz_label.specs.Labels.{label_of}
 use Rattle.dwz_label.specs.Nodes.{AreTopNodes, IsLikeness}
 use Rattle.dwz_label.specs.Shown.{AreFirstEquals, AreMadeOf, AreShown, nth_label}
-use Rattle.dwz_label.proofs.Choices.{by_if, if_false, if_true}
+use Rattle.dwz_label.proofs.Choices.{by_if}
 use Rattle.dwz_label.proofs.LabelLemmas.{bare_label, label_bare}
 use Rattle.dwz_label.proofs.NodeLooks.{top_below}
 

@@ -1,17 +1,14 @@
 -- Labels behind labels: the ends of those behind move by how many bytes stand before them.
-use Rattle.std.proofs.Common.{◌≡◌, ℕ, ◌+◌, ◌-◌, ◌≤◌, List, [], ◌∷◌, ◌++◌, length, map, take, drop, sym, ap, subst, ◌∙◌, arith, length-append, length-drop}
+use Rattle.std.proofs.Common.{◌≡◌, ℕ, ◌+◌, ◌-◌, List, [], ◌∷◌, ◌++◌, length, map, take, sym, ap, subst, ◌∙◌, arith, length-append}
 use Rattle.std.specs.Prelude.{slice_range}
-use Rattle.std.proofs.lemmas.List.{drop-append-le, take-append-le}
 use Rattle.std.proofs.Math.Seq.{drop-append-add, take-length}
+use Rattle.dwz_model.proofs.ListFacts.{range-more}
 use Rattle.dwz_groups.specs.Parts.{parts_of, Rise}
 use Rattle.dwz_groups.proofs.PartLemmas.{Parted, Rise-least}
 
 -- ends behind so many bytes
 abbrev pub moved : ℕ → List ℕ → List ℕ
 moved n es = map (λ (e : ℕ). n + e) es
-
-range_stays : (bs ws : List ℕ) (i j : ℕ) → j ≤ length bs → i ≤ j → slice_range (bs ++ ws) i j ≡ slice_range bs i j
-range_stays bs ws i j l m = ap (take (j - i)) (drop-append-le i bs ws (omega arith)) ∙ take-append-le (j - i) (drop i bs) ws (omega (arith, length-drop i bs))
 
 range_moved : (bs ws : List ℕ) (k e : ℕ) → slice_range (bs ++ ws) (length bs + k) (length bs + e) ≡ slice_range ws k e
 range_moved bs ws k e =
@@ -37,7 +34,7 @@ parts_behind : (start : ℕ) (es bs fs ws : List ℕ) → Rise start es (length 
 parts_behind start [] bs fs ws r =
     let here : start ≡ length bs + 0 = omega (arith, r) in
     ap (λ (k : ℕ). parts_of k (moved (length bs) fs) (bs ++ ws)) here ∙ parts_moved bs ws 0 fs
-parts_behind start (e ∷ es) bs fs ws r = λ i. range_stays bs ws start e (Rise-least e es (length bs) r.1) r.0 i ∷ parts_behind e es bs fs ws r.1 i
+parts_behind start (e ∷ es) bs fs ws r = λ i. range-more bs ws start e (Rise-least e es (length bs) r.1) r.0 i ∷ parts_behind e es bs fs ws r.1 i
 
 -- labels, and those behind them
 pub all_behind : (es bs fs ws ends bytes : List ℕ) (start count : ℕ) (more : List ℕ) → Rise 0 es (length bs) → Rise 0 fs (length ws)

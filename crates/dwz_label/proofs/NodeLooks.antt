@@ -4,10 +4,10 @@ use Rattle.std.proofs.Common.{◌≡◌, ℕ, zero, suc, ◌<◌, ◌≤◌, tru
 use Rattle.std.proofs.lemmas.Bool.{cases_Bool}
 use Rattle.std.proofs.lemmas.List.Elements.{AllZip-get_or, length_all_zip}
 use Rattle.std.specs.List.{AllZip}
-use Rattle.dwz_docs.specs.Lists.{In}
+use Rattle.dwz_docs.specs.Lists.{Each, In}
+use Rattle.dwz_meanings.proofs.DecideLemmas.{if_false, if_true}
 use Rattle.dwz_nodes.specs.Graph.{IsClosed, Node, label_at, targets_at}
 use Rattle.dwz_nodes.specs.Looks.{LookEqual}
-use Rattle.dwz_seen.specs.Lists.{Each}
 use Rattle.dwz_seen.proofs.Members.{each_more}
 use Rattle.dwz_alike.specs.Alike.{Look, Movable}
 use Rattle.dwz_alike.specs.Deciding.{is_movable}
@@ -18,7 +18,6 @@ use Rattle.dwz_alike.proofs.AlikeLooks.{look_in, look_out}
 use Rattle.dwz_alike.proofs.TopNumbers.{number_below, one_top, tops_numbers, top_at}
 use Rattle.dwz_label.specs.Nodes.{AreTopNodes, SameBare, ShowsBound, ShowsMovable}
 use Rattle.dwz_label.proofs.Bare.{bare_joins, bare_of, bare_turns, targets_among, top_whole, top_zip}
-use Rattle.dwz_label.proofs.Choices.{if_false, if_true}
 use Rattle.dwz_label.proofs.Pairs.{zip_from, zip_more}
 
 each_at : (Q : ℕ → Type 0) (xs : List ℕ) (k d : ℕ) → Each Q xs → k < length xs → Q (get_or xs k d)

@@ -3,32 +3,14 @@ use Rattle.std.proofs.Common.{◌≡◌, ℕ, suc, ◌-◌, ◌<◌, ◌≤◌, 
 use Rattle.std.specs.Prelude.{Contains}
 use Rattle.std.specs.Cmp.{IsTotalOrder}
 use Rattle.std.specs.List.Sorted.{IsSorted}
-use Rattle.std.specs.Ordering.{is_ne, ordering_reverse, ordering_then}
+use Rattle.std.specs.Ordering.{is_ne, ordering_then}
 use Rattle.std.proofs.lemmas.Bool.{cases_lt}
-use Rattle.std.proofs.lemmas.Cmp.{alike_right, by_ranked, nat_cmp_total, on_total, ranked, then_total, tied_back, tied_itself}
+use Rattle.std.proofs.lemmas.Cmp.{alike_right, nat_cmp_total, on_total, then_total, tied_back, tied_itself}
 use Rattle.std.proofs.lemmas.List.{get_or_default}
 use Rattle.std.proofs.lemmas.List.Sorted.{ranks_by, sorted_far}
+use Rattle.dwz_nodes.proofs.Orders.{both_equal, first_low, number_low, second_low}
 use Rattle.dwz_label.specs.declared.equal.Keyed.{Keyed}
 use Rattle.dwz_label.specs.Keyed.{IsLeastUnder, IsNewKey, Order}
-
-number_low : (x y : ℕ) → is_lt (nat_cmp x y) ≡ false → y ≤ x
-number_low x y e = by_ranked (x < y) (x ≡ y) (y < x) (nat_cmp x y) (ranked x y (nat_cmp x y) refl)
-    (λ o l. absurd (true≢false (sym (ap is_lt o) ∙ e)))
-    (λ o s. omega arith)
-    (λ o g. omega arith)
-
-first_low : (o p : Ordering) → is_lt (ordering_then o p) ≡ false → is_lt o ≡ false
-first_low Less p e = e
-first_low Equal p e = refl
-first_low Greater p e = refl
-
-second_low : (o p : Ordering) → o ≡ Equal → is_lt (ordering_then o p) ≡ false → is_lt p ≡ false
-second_low o p is e = subst (λ (q : Ordering). is_lt (ordering_then q p) ≡ false) is e
-
-neither : (o : Ordering) → is_lt o ≡ false → is_lt (ordering_reverse o) ≡ false → o ≡ Equal
-neither Less e f = absurd (true≢false e)
-neither Equal e f = refl
-neither Greater e f = absurd (true≢false f)
 
 module _ {K : Type 0} where
   pub contains_at : (rows : List (Keyed K)) (i : ℕ) (d : Keyed K) → i < length rows → Contains rows (get_or rows i d)
@@ -65,7 +47,7 @@ module _ {K : Type 0} (cmp : Order K) (total : IsTotalOrder cmp) where
     between j k i a b l e =
         let low = first_low (cmp (at k).key (at j).key) (nat_cmp (at k).number (at j).number) (far j k a (omega arith)) in
         let high = first_low (cmp (at i).key (at k).key) (nat_cmp (at i).number (at k).number) (far k i b l) in
-        neither (cmp (at k).key (at i).key)
+        both_equal (cmp (at k).key (at i).key)
         (ap is_lt (sym (alike_right total (at j).key (at i).key (at k).key e)) ∙ low)
         (ap is_lt (sym (total.antisymm (at i).key (at k).key)) ∙ high)
 

@@ -5,7 +5,7 @@ use Rattle.dwz_bytes.specs.Spelling.{uleb}
 use Rattle.dwz_docs.specs.Lists.{In}
 use Rattle.dwz_nodes.specs.Graph.{IsClosed, Node}
 use Rattle.dwz_nodes.specs.Looks.{IsRefined, LookEqual}
-use Rattle.dwz_alike.specs.Alike.{Look, Movable, SameTop, Scope}
+use Rattle.dwz_alike.specs.Alike.{Look, Movable, SameTop, TopScope}
 use Rattle.dwz_alike.specs.Deciding.{Test, alike_test}
 use Rattle.dwz_alike.specs.Spots.{FileUnit, Spot, Top, tops_of}
 use Rattle.dwz_alike.specs.Targets.{targets_of}
@@ -47,7 +47,7 @@ LeastLaw = (units : List (FileUnit Spot)) (g : List Node) (least : List ℕ) →
 -- two tops are alike, in either scope, exactly if both may move, they are in one scope, and their least alike tops are one
 abbrev pub OneLeastLaw : Type 0
 OneLeastLaw =
-    (scope : Scope) (units : List (FileUnit Spot)) (least : List ℕ) (a b : Top) → AreLeast units least
+    (scope : TopScope) (units : List (FileUnit Spot)) (least : List ℕ) (a b : Top) → AreLeast units least
     → In a (tops_of units) → In b (tops_of units)
     → (alike_test scope units a.number b.number ≡ true) ↔ HaveOneLeast scope units least a b
 
@@ -56,4 +56,5 @@ abbrev pub MadeLaw : Type 0
 MadeLaw =
     (units : List (FileUnit Spot)) (labels : List (List ℕ)) (movable : List Bool) (targets : List (List ℕ))
     → (firsts : List ℕ) (g : List Node)
-    → AreShown units labels movable targets → AreFirstEquals labels movable firsts → AreMadeOf firsts movable targets g → AreTopNodes units g
+    → AreShown units labels movable targets → AreFirstEquals labels movable firsts → AreMadeOf firsts movable targets g
+    → AreTopNodes units g

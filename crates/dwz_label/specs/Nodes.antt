@@ -4,7 +4,7 @@ use Rattle.dwz_meanings.specs.Meanings.{IfSo}
 use Rattle.dwz_docs.specs.Lists.{In}
 use Rattle.dwz_nodes.specs.Graph.{Node, label_at, targets_at}
 use Rattle.dwz_nodes.specs.Looks.{IsLeastBelow}
-use Rattle.dwz_alike.specs.Alike.{Alike, InScope, Movable, SameTop, Scope}
+use Rattle.dwz_alike.specs.Alike.{Alike, InScope, Movable, SameTop, TopScope}
 use Rattle.dwz_alike.specs.Deciding.{is_movable}
 use Rattle.dwz_alike.specs.Spots.{FileUnit, Spot, Top, tops_of}
 use Rattle.dwz_alike.specs.Targets.{targets_of}
@@ -57,7 +57,7 @@ pub record AreLeast (units : List (FileUnit Spot)) (least : List ℕ) : Type 0 w
       → IfSo (is_movable units t) (IsLeastAlike units t (slice_index least t.number)) (slice_index least t.number ≡ t.number)
 
 -- both may move, in one scope, and their least alike tops are one
-pub record HaveOneLeast (scope : Scope) (units : List (FileUnit Spot)) (least : List ℕ) (a b : Top) : Type 0 where
+pub record HaveOneLeast (scope : TopScope) (units : List (FileUnit Spot)) (least : List ℕ) (a b : Top) : Type 0 where
   pub first : is_movable units a ≡ true
   pub second : is_movable units b ≡ true
   pub scoped : InScope scope a b

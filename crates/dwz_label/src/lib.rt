@@ -24,6 +24,3 @@ pub use pieces::{
 };
 pub use stretches::labels_by;
 pub use writer::LabelWriter;
-
-#[cfg(test)]
-mod tests;

@@ -1,12 +1,12 @@
 -- Entries of a file: the name after of each place is the image of its name; and an entry with all below it is also one alone.
 use Rattle.std.proofs.Common.{◌≡◌, ℕ, List, ◌++◌, Ok, sym, ap, ◌∙◌}
 use Rattle.dwz_docs.specs.Trees.{End, Entry, behind, first_below}
+use Rattle.dwz_docs.proofs.ListFacts.{drop_first}
 use Rattle.dwz_meanings.specs.Documents.{Entries, Node, entries_map, node_map}
 use Rattle.dwz_meanings.specs.Meanings.{scope_of}
 use Rattle.dwz_alike.specs.Spots.{Spot}
 use Rattle.dwz_moving.specs.Moves.{image_in}
 use Rattle.dwz_back.specs.Files.{name_after}
-use Rattle.dwz_flat.proofs.StepLemmas.{first_of}
 use Rattle.dwz_flat.proofs.TreeLemmas.{parts}
 use Rattle.dwz_graph.specs.declared.file.File.{File}
 use Rattle.dwz_index.specs.Index.{Index}
@@ -31,7 +31,7 @@ pub row_of_tree : (F : FileRead) (r : Row) (node : Node Spot) (below : Entries S
 unfolding rows_below
 row_of_tree F r node below t =
     let row : EntryRow = record { entry = t.e; unit = t.number; depth = t.p.depth; end = (behind t.p t.c).before } in
-    let found = first_of (rows_of F.raw) t.p.before row ((rows_below t.c t.number (first_below t.p) ++ rows_below End t.number (behind t.p t.c)) ++ t.behind) t.stand in
+    let found = drop_first (rows_of F.raw) t.p.before row ((rows_below t.c t.number (first_below t.p) ++ rows_below End t.number (behind t.p t.c)) ++ t.behind) t.stand in
     let x = parts (scope_of F.around t.unit) t.e t.c End (Entry t.d t.g End) t.means in
     let d_is : x.d ≡ t.d = (let is : Entry x.d x.below x.next ≡ Entry t.d t.g End = x.is in cc) in
     record {

@@ -3,19 +3,21 @@ use Rattle.std.proofs.Common.{◌≡◌, ℕ, Bool, true, false, List, [], ◌�
 use Rattle.std.proofs.lemmas.List.{length-map}
 use Rattle.dwz_docs.specs.Lists.{In}
 use Rattle.dwz_docs.specs.Pruning.{new_number}
+use Rattle.dwz_docs.proofs.ListFacts.{in_cases, in_left, in_map, in_right}
 use Rattle.dwz_meanings.specs.Documents.{DwUnit, Kind, OfType}
 use Rattle.dwz_seen.specs.Seen.{all_seen}
 use Rattle.dwz_seen.specs.Shown.{HaveMains}
-use Rattle.dwz_seen.proofs.Members.{From, in_cases, in_left, in_map, in_map_from, in_right}
+use Rattle.dwz_seen.proofs.Members.{From, in_map_from}
 use Rattle.dwz_alike.specs.Spots.{Spot, UnitOf, file_numbers}
 use Rattle.dwz_same.specs.Units.{common_units, file_units, out_units}
 use Rattle.dwz_same.proofs.FileLemmas.{files_same}
-use Rattle.dwz_writing.specs.Meant.{all_entry_keys, entry_keys}
+use Rattle.dwz_writing.specs.Meant.{all_entry_keys}
 use Rattle.dwz_writing.specs.Placing.{FileOut}
 use Rattle.dwz_back.specs.Files.{Run, common_fitted, common_forms, common_out, file_forms, file_out, fitted, fitted_if, formed, sources, uses}
 use Rattle.dwz_back.proofs.CommonLemmas.{common_within}
 use Rattle.dwz_back.proofs.NameLemmas.{common_entries, fitted_entries}
 use Rattle.dwz_back.proofs.WithinLemmas.{within}
+use Rattle.dwz_back.proofs.OutOperands.{all_with, unit_with}
 use Rattle.dwz_fewer.specs.Fewer.{NameOnly}
 use Rattle.dwz_fewer.proofs.SeenFitted.{fit_kinds, fit_seen, new_kinds, new_seen}
 use Rattle.dwz_fewer.proofs.SomeFiles.{some_in}
@@ -23,7 +25,7 @@ use Rattle.dwz_laid.specs.Facts.{AreFacts, Facts, docs, files_written, move, rul
 use Rattle.dwz_laid.proofs.ReadFiles.{all_placed}
 use Rattle.dwz_laid.specs.Laid.{written_out}
 use Rattle.dwz_laid.proofs.FilesLaid.{some_written}
-use Rattle.dwz_laid.proofs.NoUnits.{all, among_all, entry_of, no_entry}
+use Rattle.dwz_laid.proofs.NoUnits.{all, among_all, no_entry}
 
 -- ---- units as they are written, and before
 
@@ -78,19 +80,13 @@ entries_from (y ∷ files) s key = elim (in_cases s (all_entry_keys y.units) (en
   | inr b ↦ (let o = entries_from files s b in (o.0, inr o.1, o.2))
 ]
 
-unit_entries : (us : List (DwUnit Spot)) (u : DwUnit Spot) (s : Spot) → In u us → In s (entry_keys u) → In s (all_entry_keys us)
-unfolding all_entry_keys
-unit_entries [] u s there key = absurd there
-unit_entries (v ∷ us) u s (inl e) key = in_left s (entry_keys v) (all_entry_keys us) (subst (λ (w : DwUnit Spot). In s (entry_keys w)) (sym e) key)
-unit_entries (v ∷ us) u s (inr later) key = in_right s (entry_keys v) (all_entry_keys us) (unit_entries us u s later key)
-
 -- the types of units with the kinds of others are entries of these
 mains_by : (us outs : List (DwUnit Spot)) → map (λ u. u.kind) us ≡ map (λ u. u.kind) outs → HaveMains outs
     → (u : DwUnit Spot) (signature : ℕ) (main : Spot) → In u us → u.kind ≡ OfType signature main → In main (all_entry_keys outs)
 mains_by us outs same mains u signature main there is =
     let k : In u.kind (map (λ v. v.kind) outs) = subst (In u.kind) same (in_map (λ (v : DwUnit Spot). v.kind) u us there) in
     let o : From (λ (v : DwUnit Spot). v.kind) outs u.kind = in_map_from (λ (v : DwUnit Spot). v.kind) u.kind outs k in
-    unit_entries outs o.source main o.there (mains o.source o.there signature main (o.is ∙ is))
+    all_with outs o.source main o.there (mains o.source o.there signature main (o.is ∙ is))
 
 module _ (f : Facts) (facts : AreFacts f) where
   abbrev names : List Spot
@@ -139,12 +135,12 @@ module _ (f : Facts) (facts : AreFacts f) where
 
   common_no : (s : Spot) → In s (all_entry_keys (common_fitted (run f))) → s ≡ UnitOf 0 → ⊥
   common_no s key e =
-      let o = entry_of (common_units (move f)) s (subst (In s) (common_entries (run f)) key) in
+      let o = unit_with (common_units (move f)) s (subst (In s) (common_entries (run f)) key) in
       no_entry f facts o.0 s (in_left o.0 (common_units (move f)) (file_units (move f) (units f) (file_numbers 0 (docs f))) o.1) o.2 e
 
   file_no : (n : ℕ) → In n (files_written f) → (s : Spot) → In s (all_entry_keys (fitted (run f) n)) → s ≡ UnitOf 0 → ⊥
   file_no n there s key e =
-      let o = entry_of (out_units (move f) (units f) n) s (subst (In s) (fitted_entries (run f) n) key) in
+      let o = unit_with (out_units (move f) (units f) n) s (subst (In s) (fitted_entries (run f) n) key) in
       no_entry f facts o.0 s (among_all f facts n o.0 (number_in n there) o.1) o.2 e
 
   -- no entry that they have is a unit

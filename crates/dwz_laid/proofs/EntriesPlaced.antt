@@ -1,25 +1,26 @@
 -- An entry of a file that is written that stands for itself is written, so its place is that of its name; and a unit stands before its root.
 use Rattle.std.proofs.Common.{◌≡◌, ℕ, ◌+◌, ◌<◌, Bool, true, false, List, [], ◌∷◌, ◌++◌, length, map, refl, sym, ap, subst, ◌∙◌, inr, arith}
-use Rattle.dwz_docs.specs.Lists.{In}
+use Rattle.dwz_docs.specs.Lists.{Each, In}
 use Rattle.dwz_docs.specs.Pruning.{new_number}
+use Rattle.dwz_docs.proofs.ListFacts.{got_below, got_in, in_map, in_right}
 use Rattle.dwz_meanings.specs.Documents.{Compile, DwUnit, Kind, OfType, Partial, kind_map}
-use Rattle.dwz_seen.specs.Lists.{Each, Nth}
+use Rattle.dwz_seen.specs.Lists.{Nth}
 use Rattle.dwz_seen.specs.Shown.{units_keys}
-use Rattle.dwz_seen.proofs.Members.{each_in, in_map, in_right}
+use Rattle.dwz_seen.proofs.Members.{each_in}
 use Rattle.dwz_alike.specs.Spots.{FileUnit, RootOf, Spot, UnitOf, file_numbers, same_spot}
 use Rattle.dwz_moving.specs.Homes.{Local}
 use Rattle.dwz_moving.specs.Moves.{image_in}
 use Rattle.dwz_same.specs.Units.{common_units, file_units, kept_unit, kept_units, out_units, partial_units}
 use Rattle.dwz_same.proofs.FileLemmas.{files_are}
+use Rattle.dwz_same.proofs.ApartUnits.{keys_joined}
 use Rattle.dwz_writing.specs.Placing.{Forms, UnitsStand, files_keys, fit_unit, fit_units, with_keys}
 use Rattle.dwz_writing.specs.Pruned.{renumbered_unit, renumbered_units}
 use Rattle.dwz_writing.specs.Writing.{Numbering, header_size, unit_size}
 use Rattle.dwz_writing.proofs.Places.{numbering_stands}
 use Rattle.dwz_writing.proofs.SameLemmas.{spots_same}
 use Rattle.dwz_back.specs.Files.{file_forms, file_out, files_out, fitted, fitted_if, formed, places, sources, uses}
-use Rattle.dwz_back.proofs.NameLemmas.{common_names, fitted_fixed, fitted_names, keys_append, run_once}
+use Rattle.dwz_back.proofs.NameLemmas.{common_names, fitted_fixed, fitted_names, run_once}
 use Rattle.dwz_back.proofs.WithinLemmas.{kept_to}
-use Rattle.dwz_across.proofs.ListGets.{got_below, got_in}
 use Rattle.dwz_known.specs.Names.{all_names}
 use Rattle.dwz_places.specs.Entries.{row}
 use Rattle.dwz_places.specs.Known.{number_of, owner_of}
@@ -45,14 +46,14 @@ module _ (f : Facts) where
   out_keys (n ∷ files) =
       ap (λ (w : List Spot). w ++ files_keys (map (file_out (run f)) files)) (fitted_names (run f) n)
       ∙ ap (λ (w : List Spot). units_keys (out_units (move f) (units f) n) ++ w) (out_keys files)
-      ∙ sym (keys_append (out_units (move f) (units f) n) (file_units (move f) (units f) files))
+      ∙ sym (keys_joined (out_units (move f) (units f) n) (file_units (move f) (units f) files))
 
   written_keys : files_keys (written_out f) ≡ units_keys (units_written f)
   unfolding files_keys
   written_keys =
       ap (λ (w : List Spot). w ++ files_keys (map (file_out (run f)) (files_written f))) (common_names (run f))
       ∙ ap (λ (w : List Spot). units_keys (common_units (move f)) ++ w) (out_keys (files_written f))
-      ∙ sym (keys_append (common_units (move f)) (file_units (move f) (units f) (files_written f)))
+      ∙ sym (keys_joined (common_units (move f)) (file_units (move f) (units f) (files_written f)))
       ∙ ap (λ (w : List (DwUnit Spot)). units_keys w) (sym (written_units f))
 
 pub run_self : RunSelfLaw

@@ -2,8 +2,8 @@
 use Rattle.std.proofs.Common.{◌≡◌, ℕ, ◌+◌, ◌-◌, ◌<◌, Bool, true, false, List, length, Some, None, slice_get, refl, sym, ap, subst, ◌∙◌, inl, inr, arith}
 use Rattle.dwz_docs.specs.Lists.{In}
 use Rattle.dwz_docs.specs.Units.{RawUnit, entries_in}
+use Rattle.dwz_docs.proofs.ListFacts.{got_below, got_in, got_there, in_right, same_got}
 use Rattle.dwz_meanings.specs.Documents.{unit_map}
-use Rattle.dwz_seen.proofs.Members.{in_right}
 use Rattle.dwz_alike.specs.Spots.{Spot, Top, Within, in_file, tops_among, tops_of}
 use Rattle.dwz_alike.proofs.Tops.{one_top}
 use Rattle.dwz_index.specs.declared.index.TopEntry.{TopEntry}
@@ -22,7 +22,6 @@ use Rattle.dwz_resolve.proofs.RowLemmas.{row_there}
 use Rattle.dwz_graph.specs.declared.file.File.{File}
 use Rattle.dwz_across.proofs.FileCounts.{are_many}
 use Rattle.dwz_across.proofs.FileEntries.{all_entries, gives_top}
-use Rattle.dwz_across.proofs.ListGets.{get_there, got_below, got_in, same_got}
 use Rattle.dwz_across.proofs.OwnNames.{Own, names_own}
 use Rattle.dwz_known.specs.Images.{starts_from}
 use Rattle.dwz_known.specs.Names.{all_names}
@@ -53,7 +52,7 @@ top_file f k n x index o i top path e t is number =
     let low = own.0 in
     let high = own.1 in
     let count : length index.tops ≡ tops_among doc.units = ap (λ (w : List TopEntry). length w) o.among.index.tops.tops_are ∙ many index.starts 0 doc.units in
-    let entry = get_there index.tops (top - first) (omega (arith, low, high, count)) in
+    let entry = got_there index.tops (top - first) (omega (arith, low, high, count)) in
     let g = gives_top f.contents n o.bytes x index o.among (top - first) entry.0 entry.1 in
     let its = g.top_is.number in
     let same : t ≡ g.top = one_top (units f) t g.top is (got_in (tops_of (units f)) (first + (top - first)) g.top g.top_is.there) (omega (arith, number, its, low)) in
@@ -114,7 +113,7 @@ module _ (f : Facts) (t : TextsAt) (k : Known) (facts : AreFacts f) (listed : Ar
         let files = many.0 in
         let indexes = many.1 in
         let low = got_below f.indexes w.file w.index w.index_is in
-        let y = get_there f.files w.file (omega (arith, files, indexes, low)) in
+        let y = got_there f.files w.file (omega (arith, files, indexes, low)) in
         let p = here f t k facts listed w.file y.0 w.index y.1 w.index_is in
         let begins : p.start ≡ w.start = same_got (starts_from 0 f.indexes) w.file p.start w.start p.start_is w.start_is in
         let at = w.is in

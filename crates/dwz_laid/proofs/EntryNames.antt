@@ -1,9 +1,8 @@
 -- What entries that were read are named: a root, a space, or an entry in a top or in a type; no unit, and nothing that is made.
 use Rattle.std.proofs.Common.{ℕ, suc, ◌+◌, List, [], ◌∷◌, ◌++◌, length, map, Option, Some, None}
-use Rattle.dwz_docs.specs.Lists.{In}
+use Rattle.dwz_docs.specs.Lists.{Each, In}
 use Rattle.dwz_docs.specs.Trees.{End, Entry}
 use Rattle.dwz_meanings.specs.Documents.{Compile, Doc, DwUnit, Entries, Kind, OfType, Partial}
-use Rattle.dwz_seen.specs.Lists.{Each}
 use Rattle.dwz_seen.specs.Spaces.{space_text, tops_under}
 use Rattle.dwz_seen.proofs.Members.{each_append, each_in}
 use Rattle.dwz_alike.specs.Spots.{InType, RootOf, SpaceAt, Spot, Within, below_spots, entry_spots, top_count, top_spots, tops_among}

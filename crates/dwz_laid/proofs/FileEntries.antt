@@ -3,7 +3,9 @@ use Rattle.std.proofs.Common.{◌≡◌, ℕ, zero, suc, ◌+◌, ◌<◌, List,
 use Rattle.std.specs.Prelude.{slice_index, slice_index_or}
 use Rattle.std.specs.Option.{option_map_or}
 use Rattle.std.proofs.lemmas.List.{append-nil}
+use Rattle.std.proofs.lemmas.Option.{get_or_from_slice_get}
 use Rattle.dwz_docs.specs.Units.{RawUnit, entries_in}
+use Rattle.dwz_docs.proofs.ListFacts.{drop_here, get_first, got_below, got_map, same_got}
 use Rattle.dwz_meanings.specs.Documents.{Doc, Node}
 use Rattle.dwz_meanings.specs.Files.{around_of}
 use Rattle.dwz_meanings.specs.Meanings.{scope_of}
@@ -15,18 +17,17 @@ use Rattle.dwz_back.specs.Files.{name_after}
 use Rattle.dwz_unit.specs.Rows.{EntryRow, rows_of, units_of as raw_units}
 use Rattle.dwz_resolve.specs.Parts.{AreParted}
 use Rattle.dwz_resolve.specs.Resolved.{AreEntries, place_at, places}
-use Rattle.dwz_resolve.proofs.RowLemmas.{drop_here, rows-length}
+use Rattle.dwz_resolve.proofs.RowLemmas.{rows-length}
 use Rattle.dwz_flat.specs.Rows.{AreTargets, node_refs}
 use Rattle.dwz_flat.proofs.PartLemmas.{part_meant}
 use Rattle.dwz_graph.specs.declared.file.File.{File}
 use Rattle.dwz_index.specs.declared.index.Starts.{Starts}
 use Rattle.dwz_index.specs.Index.{Index}
 use Rattle.dwz_index.specs.Names.{names_from}
-use Rattle.dwz_index.proofs.TopLemmas.{get_first, get_later}
+use Rattle.dwz_index.proofs.TopLemmas.{get_later}
 use Rattle.dwz_across.specs.Across.{IsFileAmong, name_at}
 use Rattle.dwz_across.proofs.FileEntries.{names_entries}
 use Rattle.dwz_across.proofs.FileWalk.{is_among}
-use Rattle.dwz_across.proofs.ListGets.{got_below, got_index, got_map, same_got}
 use Rattle.dwz_known.specs.Images.{IsFile, starts_from}
 use Rattle.dwz_known.specs.Names.{StandFrom, all_names}
 use Rattle.dwz_known.specs.Whole.{IsFileAt}
@@ -119,7 +120,7 @@ module _ (f : Facts) (k : Known) (n : ℕ) (x : File) (index : Index) (o : IsHer
   number_is i = ap (λ (w : Option FileRows). option_map_or (λ (r : FileRows). r.start) w 0 + i) o.rows_are ∙ ap (λ (w : ℕ). w + i) o.listed.start_is
 
   pub key_is : (number : ℕ) (s : Spot) → slice_get (all_names (docs f)) number ≡ Some s → (keys f).row number ≡ s
-  key_is number s e = got_index (all_names (docs f)) number s no_name e
+  key_is number s e = get_or_from_slice_get (all_names (docs f)) number s no_name e
 
   pub entry_below : (i : ℕ) (r : EntryRow) → slice_get (rows_of raw) i ≡ Some r → i < entries_in raw
   entry_below i r e = (let lt = got_below (rows_of raw) i r e in let long = rows-length raw in omega arith)
@@ -128,7 +129,7 @@ module _ (f : Facts) (k : Known) (n : ℕ) (x : File) (index : Index) (o : IsHer
   run_name p = o.among.names p
 
   place_is : (i : ℕ) (r : EntryRow) → slice_get (rows_of raw) i ≡ Some r → place_at raw i ≡ r.entry.at
-  place_is i r e = got_index (places raw) i r.entry.at 0 (got_map (λ (w : EntryRow). w.entry.at) (rows_of raw) i r e)
+  place_is i r e = get_or_from_slice_get (places raw) i r.entry.at 0 (got_map (λ (w : EntryRow). w.entry.at) (rows_of raw) i r e)
 
   -- ---- an entry that was read
 
@@ -156,7 +157,7 @@ module _ (f : Facts) (k : Known) (n : ℕ) (x : File) (index : Index) (o : IsHer
         let b = before_at none_before (rows_of raw) i r read.found in
         let own = firsts_from from b.0 in
         ap (λ (w : Option FileRows). (option_map_or (λ (u : FileRows). slice_index_or u.firsts.items i no_firsts) w no_firsts).reference) o.rows_are
-        ∙ ap (λ (w : Firsts). w.reference) (got_index o.rows.firsts.items i own no_firsts (o.listed.firsts i b.0 b.1))
+        ∙ ap (λ (w : Firsts). w.reference) (get_or_from_slice_get o.rows.firsts.items i own no_firsts (o.listed.firsts i b.0 b.1))
 
     module _ (parts : AreParted (around_of bytes raw) raw (entries_in raw) x.resolved.refs.items x.resolved.starts.items) (within : AreEntries raw x.resolved.refs.items) where
       targets : AreTargets raw (drop from x.resolved.refs.items) (node_refs d)

@@ -35,7 +35,7 @@ use Rattle.dwz_laid.proofs.SpaceWays.{IsWay, file_ways, spaces_long}
 
 -- ---- file by file
 
-file_long : (file first : ℕ) (name : ℕ → Spot) (s : Starts) (said : List (DwUnit ℕ)) → length (spaces_from is_space s first (map below_root said)) ≡ length (spaces_of (named_units file name said))
+pub file_long : (file first : ℕ) (name : ℕ → Spot) (s : Starts) (said : List (DwUnit ℕ)) → length (spaces_from is_space s first (map below_root said)) ≡ length (spaces_of (named_units file name said))
 unfolding spaces_from spaces_of
 file_long file first name s [] = refl
 file_long file first name s (v ∷ said) =

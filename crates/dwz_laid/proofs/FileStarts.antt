@@ -2,46 +2,26 @@
 use Rattle.std.proofs.Common.{◌≡◌, ℕ, zero, suc, ◌+◌, List, [], ◌∷◌, ◌++◌, length, map, take, Some, slice_get, refl, sym, ap, subst, ◌∙◌, arith}
 use Rattle.std.proofs.lemmas.List.{append_assoc, length-append, length-map}
 use Rattle.std.proofs.Math.Seq.{take-append_seam}
-use Rattle.dwz_docs.specs.Trees.{size}
-use Rattle.dwz_meanings.specs.Documents.{Doc, DwUnit, Node, entries_map, kind_map, unit_map}
+use Rattle.dwz_meanings.specs.Documents.{Doc, DwUnit, Node, unit_map}
 use Rattle.dwz_alike.specs.Spots.{FileUnit, Spot, in_file, named_files, spot_in, spots_from, tops_among}
 use Rattle.dwz_alike.proofs.NameLists.{count_map}
 use Rattle.dwz_graph.specs.declared.file.File.{File}
 use Rattle.dwz_index.specs.declared.index.SpaceEntry.{SpaceEntry}
 use Rattle.dwz_index.specs.declared.index.Starts.{Starts}
 use Rattle.dwz_index.specs.Index.{Index}
-use Rattle.dwz_index.specs.Steps.{all_spaces as spaces_from, below_root, is_space, space_entries, starts_behind as unit_behind}
 use Rattle.dwz_indexes.specs.Indexed.{AreIndexed, first_starts, starts_behind}
 use Rattle.dwz_across.specs.Across.{IsFileAmong, file_units}
 use Rattle.dwz_order.specs.Shown.{IsNext, named_units, tops_in}
-use Rattle.dwz_order.specs.Spaces.{spaces_below, spaces_of}
-use Rattle.dwz_order.proofs.FileChains.{spaces_same}
+use Rattle.dwz_order.specs.Spaces.{spaces_of}
 use Rattle.dwz_order.proofs.UnitRows.{spaces_append, tops_append}
 use Rattle.dwz_ordered.specs.Ordered.{next_index}
-use Rattle.dwz_laid.proofs.SpaceWays.{spaces_long}
 use Rattle.dwz_laid.specs.Facts.{AreFacts, Facts, HasFile, docs, units}
+use Rattle.dwz_laid.proofs.FileSpaces.{file_long}
 
 tops_named : (file : ℕ) (name : ℕ → Spot) (said : List (DwUnit ℕ)) → tops_in (named_units file name said) ≡ tops_among said
 unfolding tops_in tops_among
 tops_named file name [] = refl
 tops_named file name (v ∷ said) = (λ i. count_map name v.kind v.below i + tops_named file name said i)
-
-spaces_named : (file first : ℕ) (name : ℕ → Spot) (s : Starts) (said : List (DwUnit ℕ))
-    → length (spaces_from is_space s first (map below_root said)) ≡ length (spaces_of (named_units file name said))
-unfolding spaces_from spaces_of
-spaces_named file first name s [] = refl
-spaces_named file first name s (v ∷ said) =
-    let b = below_root v in
-    let next = unit_behind is_space s b in
-    let behind = first + 1 + size v.below in
-    let own = space_entries is_space s.space first b in
-    let below = spaces_below (kind_map name v.kind) (entries_map name v.below) in
-    let one = length-append own (spaces_from is_space next behind (map below_root said)) in
-    let two = length-append below (spaces_of (named_units file name said)) in
-    let mine = spaces_long is_space s.space first b in
-    let same = spaces_same name v in
-    let rest = spaces_named file behind name next said in
-    omega arith
 
 -- the units before the one that has the number with which a file begins
 record Begins (all : List (FileUnit Spot)) (x : Index) : Type 0 where
@@ -81,7 +61,7 @@ begins all file s end (doc ∷ said) (y ∷ indexes) before h is unit top space 
     let tops_mine = tops_named file name doc.units in
     let joined = ap (λ (w : List (Node Spot)). length w) (spaces_append before mine) in
     let two = length-append (spaces_of before) (spaces_of mine) in
-    let many = spaces_named file 0 name s doc.units in
+    let many = file_long file 0 name s doc.units in
     let spaces_are = ap (λ (w : List SpaceEntry). length w) h.0.tops.spaces_are in
     let unit_next : next.unit ≡ length (before ++ mine) = omega (arith, unit, long, named_long) in
     let top_next : next.top ≡ tops_in (before ++ mine) = omega (arith, top, tops_joined, tops_mine) in

@@ -1,25 +1,26 @@
 -- The file that a unit is of: units stand file by file, each file's from the number on that it begins with.
 use Rattle.std.proofs.Common.{◌≡◌, ℕ, zero, suc, ◌+◌, ◌<◌, ◌≤◌, List, [], ◌∷◌, ◌++◌, length, map, Some, slice_get, refl, sym, ap, subst, ◌∙◌, inl, inr, arith}
 use Rattle.dwz_docs.specs.Units.{RawUnit}
+use Rattle.dwz_docs.proofs.ListFacts.{get_first, got_below, got_there, same_got}
 use Rattle.dwz_meanings.specs.Documents.{Doc, DwUnit}
 use Rattle.dwz_meanings.specs.Files.{Limits, limits_after, no_files_before}
-use Rattle.dwz_seen.specs.Lists.{Each, Nth}
+use Rattle.dwz_seen.specs.Lists.{Nth}
+use Rattle.dwz_docs.specs.Lists.{Each}
+use Rattle.dwz_seen.proofs.Members.{nth_of}
 use Rattle.dwz_alike.specs.Spots.{FileUnit, Spot, in_file, named, named_files}
 use Rattle.dwz_graph.specs.declared.file.File.{File}
 use Rattle.dwz_graph.specs.Files.{HasFile as StandsThere}
 use Rattle.dwz_index.specs.declared.index.Starts.{Starts}
 use Rattle.dwz_index.specs.Index.{Index}
-use Rattle.dwz_index.proofs.TopLemmas.{get_cases, get_first, get_later}
+use Rattle.dwz_index.proofs.TopLemmas.{get_cases, get_later}
 use Rattle.dwz_indexes.specs.Indexed.{AreIndexed, first_starts, starts_behind}
 use Rattle.dwz_resolve.proofs.RowLemmas.{found_in_map}
 use Rattle.dwz_unit.specs.Rows.{units_of as raw_units}
 use Rattle.dwz_across.specs.Across.{IsFileAmong, file_units}
 use Rattle.dwz_across.proofs.FileCounts.{are_many}
 use Rattle.dwz_across.proofs.FileWalk.{is_among}
-use Rattle.dwz_across.proofs.ListGets.{get_there, got_below, same_got}
 use Rattle.dwz_across.proofs.TopRows.{units_long}
 use Rattle.dwz_known.proofs.NumberingLemmas.{nth_get}
-use Rattle.dwz_known.proofs.WholeLemmas.{nth_got}
 use Rattle.dwz_order.specs.Shown.{IsOther}
 use Rattle.dwz_laid.specs.Facts.{AreFacts, Facts, HasFile, docs, units}
 use Rattle.dwz_laid.specs.Roots.{OthersLaw, UnitFilesLaw}
@@ -27,7 +28,7 @@ use Rattle.dwz_laid.specs.Trees.{IsReadFile}
 
 -- ---- a file by its number
 
-bytes_there : (l : Limits) (contents : List (List ℕ)) (i : ℕ) (m : Limits) (b : List ℕ) (raw : List RawUnit) (doc : Doc ℕ) → StandsThere l contents i m b raw doc → slice_get contents i ≡ Some b
+pub bytes_there : (l : Limits) (contents : List (List ℕ)) (i : ℕ) (m : Limits) (b : List ℕ) (raw : List RawUnit) (doc : Doc ℕ) → StandsThere l contents i m b raw doc → slice_get contents i ≡ Some b
 bytes_there l [] i m b raw doc h = absurd h
 bytes_there l (x ∷ contents) zero m b raw doc h = ap (λ (w : List ℕ). Some w) h.1
 bytes_there l (x ∷ contents) (suc i) m b raw doc h = bytes_there (limits_after l x h.0) contents i m b raw doc h.3
@@ -54,7 +55,7 @@ module _ (f : Facts) (facts : AreFacts f) where
       let a = m.0 in
       let b = m.1 in
       let within = got_below f.indexes n index g in
-      let x = get_there f.files n (omega arith) in
+      let x = got_there f.files n (omega arith) in
       let is = is_among f.contents f.files f.indexes n x.0 index facts.kept facts.indexed x.1 g in
       record { bytes = is.bytes; x = x.0; index = index; has = record { file = x.1; index_is = g; read = is.is.kept } }
 
@@ -133,7 +134,7 @@ unit_files f facts i u nth =
 
 -- what is found by a number has that number
 pub nth_at : {X : Type 0} (xs : List X) (k : ℕ) (x : X) → slice_get xs k ≡ Some x → Nth 0 xs k x
-nth_at xs k x e = (let none : 0 + k ≡ k = omega arith in subst (λ (w : ℕ). Nth 0 xs w x) none (nth_got 0 xs k x e))
+nth_at xs k x e = (let none : 0 + k ≡ k = omega arith in subst (λ (w : ℕ). Nth 0 xs w x) none (nth_of 0 xs k x e))
 
 -- ---- the units of other files
 

@@ -1,8 +1,10 @@
 -- What is written of the common file and of all files is known, file by file; and where nothing is in the common file, nothing is written of it.
-use Rattle.std.proofs.Common.{◌≡◌, ℕ, zero, suc, ◌+◌, ◌<◌, Bool, true, false, List, [], ◌∷◌, Ok, Some, None, Result, cond, length, map, slice_get, refl, sym, ap, subst, ◌∙◌, arith}
+use Rattle.std.proofs.Common.{◌≡◌, ℕ, zero, suc, ◌+◌, ◌<◌, Bool, true, false, List, [], ◌∷◌, Some, None, cond, length, map, slice_get, refl, sym, ap, subst, ◌∙◌, arith}
 use Rattle.std.specs.List.{filter}
 use Rattle.std.specs.Prelude.{slice_index_or}
 use Rattle.dwz_docs.specs.Units.{RawUnit}
+use Rattle.dwz_docs.proofs.ListFacts.{get_first}
+use Rattle.dwz_docs.proofs.CaseFacts.{ok_same}
 use Rattle.dwz_meanings.specs.Documents.{Doc, DwUnit}
 use Rattle.dwz_meanings.specs.Files.{Limits, file_meaning, limits_after, no_files_before}
 use Rattle.dwz_meanings.specs.Meanings.{IfSo}
@@ -17,7 +19,7 @@ use Rattle.dwz_graph.specs.Files.{AreRead, IsRead}
 use Rattle.dwz_graph.proofs.GraphLemmas.{as_many}
 use Rattle.dwz_index.specs.declared.index.Starts.{Starts}
 use Rattle.dwz_index.specs.Index.{Index}
-use Rattle.dwz_index.proofs.TopLemmas.{get_first, get_later}
+use Rattle.dwz_index.proofs.TopLemmas.{get_later}
 use Rattle.dwz_indexes.specs.Indexed.{AreIndexed, first_starts, starts_behind}
 use Rattle.dwz_across.proofs.FileWalk.{is_among}
 use Rattle.dwz_known.specs.Images.{starts_from}
@@ -43,24 +45,21 @@ use Rattle.dwz_laid.proofs.WrittenUnits.{written_units}
 
 -- ---- files that were read have the same units
 
-ok_same : {X E : Type 0} (r : Result X E) (a b : X) → r ≡ Ok a → r ≡ Ok b → a ≡ b
-ok_same r a b p q = (let both : Ok a ≡ Ok b = sym p ∙ q in cc)
-
-same_raw : (l : Limits) (number : ℕ) (bytes : List ℕ) (x y : File) → IsRead l number bytes x → IsRead l number bytes y → raw_units x.units ≡ raw_units y.units
+pub same_raw : (l : Limits) (number : ℕ) (bytes : List ℕ) (x y : File) → IsRead l number bytes x → IsRead l number bytes y → raw_units x.units ≡ raw_units y.units
 same_raw l number bytes x y a b =
     ap (λ (p : List RawUnit × Doc ℕ). p.0) (ok_same (file_meaning l bytes) (raw_units x.units, a.doc) (raw_units y.units, b.doc) a.means b.means)
 
 -- P or Q of one, from those of another
-if_so : (b : Bool) (P Q P' Q' : Type 0) → (P → P') → (Q → Q') → IfSo b P Q → IfSo b P' Q'
+pub if_so : (b : Bool) (P Q P' Q' : Type 0) → (P → P') → (Q → Q') → IfSo b P Q → IfSo b P' Q'
 if_so true P Q P' Q' first other h = first h
 if_so false P Q P' Q' first other h = other h
 
-first_file : (P P' : List UnitItems → Type 0) (Q Q' : List (List UnitItems) → Type 0) (orders : List (List UnitItems)) → ((order : List UnitItems) → P order → P' order)
+pub first_file : (P P' : List UnitItems → Type 0) (Q Q' : List (List UnitItems) → Type 0) (orders : List (List UnitItems)) → ((order : List UnitItems) → P order → P' order)
     → ((some : List (List UnitItems)) → Q some → Q' some) → FirstFile P Q orders → FirstFile P' Q' orders
 first_file P P' Q Q' [] one more h = h
 first_file P P' Q Q' (order ∷ orders) one more h = (one order h.0, more orders h.1)
 
-files_put : (s : Settled) (l : Limits) (n start : ℕ) (contents : List (List ℕ)) (xs ys : List File) (a b : Limits) → AreRead l n contents xs a → AreRead l n contents ys b
+pub files_put : (s : Settled) (l : Limits) (n start : ℕ) (contents : List (List ℕ)) (xs ys : List File) (a b : Limits) → AreRead l n contents xs a → AreRead l n contents ys b
     → (is : List Index) (orders : List (List UnitItems)) → FilesPut s n start ys is orders → FilesPut s n start xs is orders
 files_put s l n start [] [] [] a b p q is orders put = put
 files_put s l n start [] (x ∷ xs) ys a b p q is orders put = absurd p
@@ -84,13 +83,13 @@ files_put s l n start (bytes ∷ contents) (x ∷ xs) (y ∷ ys) a b p q (index 
 
 -- ---- numbers of files
 
-flag_is : (g : ℕ → Bool) (s : ℕ) (said : List (Doc ℕ)) (n : ℕ) → n < length said → slice_index_or (map g (file_numbers s said)) n false ≡ g (s + n)
+pub flag_is : (g : ℕ → Bool) (s : ℕ) (said : List (Doc ℕ)) (n : ℕ) → n < length said → slice_index_or (map g (file_numbers s said)) n false ≡ g (s + n)
 unfolding file_numbers
 flag_is g s [] n lt = absurd (omega (arith, lt))
 flag_is g s (doc ∷ said) zero lt = ap g (let z : s ≡ s + 0 = omega arith in z)
 flag_is g s (doc ∷ said) (suc n) lt = flag_is g (suc s) said n (omega (arith, lt)) ∙ ap g (let z : suc s + n ≡ s + suc n = omega arith in z)
 
-indexed_long : (s : Starts) (said : List (Doc ℕ)) (is : List Index) (end : Starts) → AreIndexed s said is end → length said ≡ length is
+pub indexed_long : (s : Starts) (said : List (Doc ℕ)) (is : List Index) (end : Starts) → AreIndexed s said is end → length said ≡ length is
 indexed_long s [] [] end are = refl
 indexed_long s [] (x ∷ is) end are = absurd are
 indexed_long s (doc ∷ said) [] end are = absurd are

@@ -1,14 +1,14 @@
 -- What the lines of a unit hold: each key in them is one that the unit refers to.
 use Rattle.std.proofs.Common.{◌≡◌, ℕ, suc, List, [], ◌∷◌, ◌++◌, map, refl, sym, ap, subst, ◌∙◌, inl, inr}
 use Rattle.std.proofs.lemmas.List.{map-append}
-use Rattle.dwz_docs.specs.Lists.{In}
+use Rattle.dwz_docs.specs.Lists.{Each, In}
 use Rattle.dwz_docs.specs.Trees.{End, Entry}
+use Rattle.dwz_docs.proofs.ListFacts.{in_left, in_right}
 use Rattle.dwz_meanings.specs.Documents.{Attr, DwUnit, Entries, Expr, Plain}
 use Rattle.dwz_meanings.specs.Meanings.{Class, OfCommonEntry, OfExpression, OfInfoEntry, OfUnitEntry, class_of}
-use Rattle.dwz_seen.specs.Lists.{Each}
 use Rattle.dwz_seen.specs.Seen.{Named, Seen, all_seen, named_value, see, seen, seen_below, seen_roots}
 use Rattle.dwz_seen.specs.Shown.{keys}
-use Rattle.dwz_seen.proofs.Members.{each_append, in_left, in_right}
+use Rattle.dwz_seen.proofs.Members.{each_append}
 use Rattle.dwz_layout.specs.Lines.{Line, lines, unit_lines}
 use Rattle.dwz_pages.specs.Shown.{Held, HeldAttr, HeldLine, Key, Parts, Value, expr_held, first_held, held_as, held_of, line_held}
 use Rattle.dwz_fewer.specs.Fewer.{NameOnly}

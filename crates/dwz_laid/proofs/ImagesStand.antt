@@ -3,10 +3,11 @@ use Rattle.std.proofs.Common.{◌≡◌, ◌⊎◌, ℕ, ◌+◌, ◌==◌, ◌&
 use Rattle.std.specs.Prelude.{slice_index_or}
 use Rattle.dwz_docs.specs.Lists.{In}
 use Rattle.dwz_docs.specs.Trees.{End}
+use Rattle.dwz_docs.proofs.ListFacts.{in_left, in_map, in_right}
 use Rattle.dwz_meanings.specs.Documents.{DwUnit}
 use Rattle.dwz_seen.specs.Lists.{Nth}
 use Rattle.dwz_seen.specs.Shown.{keys, unit_keys, units_keys}
-use Rattle.dwz_seen.proofs.Members.{any_true, each_in, in_left, in_map, in_map_from, in_right, nth_in}
+use Rattle.dwz_seen.proofs.Members.{any_true, each_in, in_map_from, nth_in, nth_of}
 use Rattle.dwz_alike.specs.Spots.{FileUnit, Import, InChain, InType, PartialOf, PartialRoot, RootOf, SpaceAt, Spot, Top, UnitOf, Within, file_numbers, name_list, tops_of}
 use Rattle.dwz_alike.proofs.Tops.{one_top}
 use Rattle.dwz_index.specs.Names.{top_in}
@@ -32,7 +33,6 @@ use Rattle.dwz_known.specs.Names.{all_names}
 use Rattle.dwz_known.proofs.OwnerKeys.{own_keys, top_labelled, tree_top}
 use Rattle.dwz_known.proofs.OwnerLemmas.{own_name}
 use Rattle.dwz_known.proofs.Paths.{paths_of}
-use Rattle.dwz_known.proofs.WholeLemmas.{nth_got}
 use Rattle.dwz_laid.specs.Facts.{AreFacts, Facts, docs, move, rule, units}
 use Rattle.dwz_laid.proofs.ReadFiles.{all_placed}
 
@@ -101,7 +101,7 @@ module _ (f : Facts) (facts : AreFacts f) where
       let s = Within r path in
       let o = in_map_from (λ (w : Top). w.number) r at.part.tops at.holds in
       let none : 0 + p ≡ p = omega arith in
-      let nth : Nth 0 parts p at.part = subst (λ (w : ℕ). Nth 0 parts w at.part) none (nth_got 0 parts p at.part at.there) in
+      let nth : Nth 0 parts p at.part = subst (λ (w : ℕ). Nth 0 parts w at.part) none (nth_of 0 parts p at.part at.there) in
       let fits : IsPart (rule f) (units f) at.part = each_in (IsPart (rule f) (units f)) at.part parts (are_parts (rule f) (units f) (file_numbers 0 (docs f))) (nth_in 0 parts p at.part nth) in
       let b : BelongsTo (rule f) (units f) at.part o.source = (fits.tops o.source).0 o.there in
       let same : o.source ≡ rt = one_top (units f) o.source rt b.there is (o.is ∙ sym number) in
@@ -114,7 +114,7 @@ module _ (f : Facts) (facts : AreFacts f) where
       inr (inr (subst (λ (w : _). In s (keys (tree (image_in m) w End))) (sym (row_found (rule f) (units f) (file_numbers 0 (docs f)) p at.part nth)) stands))
 
   nth_part : (p : ℕ) (h : Home) (us : List ℕ) (r : ℕ) → (at : PartAt parts p h us r) → Nth 0 parts p at.part
-  nth_part p h us r at = let none : 0 + p ≡ p = omega arith in subst (λ (w : ℕ). Nth 0 parts w at.part) none (nth_got 0 parts p at.part at.there)
+  nth_part p h us r at = let none : 0 + p ≡ p = omega arith in subst (λ (w : ℕ). Nth 0 parts w at.part) none (nth_of 0 parts p at.part at.there)
 
   -- the common file, or the file with that number, has the name
   abbrev pub IsNear : ℕ → Spot → Type 0

@@ -1,11 +1,12 @@
 -- The items of an old unit, one by one: each shows what stands for it after, and that stays.
 use Rattle.std.proofs.Common.{◌≡◌, ◌⊎◌, ℕ, true, false, List, [], ◌∷◌, Option, Some, slice_get, refl, sym, ap, subst, ◌∙◌, inl, inr}
 use Rattle.std.specs.Prelude.{pos}
-use Rattle.dwz_docs.specs.Lists.{In}
+use Rattle.dwz_docs.specs.Lists.{Each, In}
 use Rattle.dwz_meanings.specs.Documents.{Attr, Compile, DwUnit, Kind, Node, OfType, Partial, entries_map, node_map, ref}
-use Rattle.dwz_seen.specs.Lists.{Each, Nth}
+use Rattle.dwz_seen.specs.Lists.{Nth}
 use Rattle.dwz_seen.proofs.Members.{each_append, each_more, nth_one}
 use Rattle.dwz_alike.specs.Spots.{FileUnit, Import as ImportSpot, PartialRoot, Spot, Top, Within, file_numbers, tops_of}
+use Rattle.dwz_alike.proofs.TopNumbers.{top_there}
 use Rattle.dwz_layout.specs.declared.order.Item.{Item}
 use Rattle.dwz_layout.specs.declared.order.What.{What}
 use Rattle.dwz_layout.specs.declared.order.What.TheVariants.{Import, InChain, Root, Space, Top as TopItem, Whole}
@@ -41,7 +42,7 @@ use Rattle.dwz_laid.specs.Roots.{UnitShown}
 use Rattle.dwz_laid.proofs.SpaceRows.{space_rows_shown}
 use Rattle.dwz_laid.proofs.TopTrees.{top_trees}
 use Rattle.dwz_laid.proofs.StayingTrees.{AreStaying, IsStaying, OriginStays, SlotsStay, labelled_stay, row_stays, tree_stays}
-use Rattle.dwz_laid.proofs.UnitNames.{kept_names, space_node, top_below, top_got, top_node}
+use Rattle.dwz_laid.proofs.UnitNames.{kept_names, space_node, top_below, top_node}
 use Rattle.dwz_laid.proofs.WrittenNames.{root_stays, space_stays, whole_stays}
 
 module _ (f : Facts) (t : TextsAt) (k : Known) (facts : AreFacts f) (listed : AreListed f t k) (n : ℕ) (bytes : List ℕ) (x : File) (index : Index) (h : HasFile f n bytes x index) where
@@ -76,7 +77,7 @@ module _ (f : Facts) (t : TextsAt) (k : Known) (facts : AreFacts f) (listed : Ar
         o.file ∙ ap (λ (w : FileUnit Spot). w.file) same ∙ own
 
     top_is : (top : ℕ) (s : StaysHere (move f) (units f) i top) → slice_get (tops_of (units f)) top ≡ Some s.top
-    top_is top s = ap (slice_get (tops_of (units f))) (sym s.number) ∙ top_got (units f) s.top s.there
+    top_is top s = ap (slice_get (tops_of (units f))) (sym s.number) ∙ top_there (units f) s.top s.there
 
     top_shown : (top : ℕ) → StaysHere (move f) (units f) i top → ShowsTree F (top_row k top) (names.top top) (names.below top)
     top_shown top s =

@@ -1,11 +1,10 @@
 -- The items of a unit that is kept: in the view in which tops and spaces are named by their numbers, its lines have the names of what stays.
 use Rattle.std.proofs.Common.{◌≡◌, ℕ, suc, Bool, true, false, List, [], ◌∷◌, ◌++◌, not, refl, sym, subst, inl, inr, arith}
 use Rattle.dwz_docs.specs.Entries.{RawEntry}
-use Rattle.dwz_docs.specs.Lists.{In}
+use Rattle.dwz_docs.specs.Lists.{Each, In}
 use Rattle.dwz_docs.specs.Trees.{Forest}
 use Rattle.dwz_docs.specs.Units.{CompileUnit, PartialUnit, RawKind, TypeUnit}
 use Rattle.dwz_meanings.specs.Documents.{Node, entries_map, node_map}
-use Rattle.dwz_seen.specs.Lists.{Each}
 use Rattle.dwz_seen.proofs.Members.{each_append}
 use Rattle.dwz_alike.specs.Spots.{Import, Row, SpaceAt, Spot, Top, Within}
 use Rattle.dwz_index.specs.Spaces.{stored_space}

@@ -3,7 +3,7 @@ use Rattle.std.proofs.Common.{◌≡◌, ℕ, suc, ◌+◌, ◌≤◌, Bool, tru
 use Rattle.std.proofs.lemmas.List.{drop_at, length-append, take_at}
 use Rattle.dwz_docs.specs.Trees.{End, Entry, Forest}
 use Rattle.dwz_meanings.specs.Documents.{Node, entries_map, node_map}
-use Rattle.dwz_seen.specs.Lists.{Each}
+use Rattle.dwz_docs.specs.Lists.{Each}
 use Rattle.dwz_seen.proofs.Members.{each_append}
 use Rattle.dwz_alike.specs.Deciding.{same_bool}
 use Rattle.dwz_alike.specs.Spots.{ASpace, ATop, Nothing, Row, SpaceAt, Spot, Top, Within}
@@ -15,7 +15,7 @@ use Rattle.dwz_order.specs.declared.marks.Marks.{Marks}
 use Rattle.dwz_order.specs.declared.outline.Next.{Next}
 use Rattle.dwz_order.specs.Marks.{flag_at, mark_at}
 use Rattle.dwz_order.specs.Outline.{behind_list, behind_space, behind_top, closed, outers_in, pinned_in, space_opened, top_outer}
-use Rattle.dwz_order.proofs.OutlineLemmas.{outers_space, outers_top, pinned_space, pinned_top, spaces_space, spaces_top, tops_space, tops_top}
+use Rattle.dwz_order.proofs.OutlineLemmas.{or_assoc, outers_space, outers_top, pinned_space, pinned_top, spaces_space, spaces_top, tops_space, tops_top}
 use Rattle.dwz_laid.specs.Items.{IsOneOf}
 use Rattle.dwz_laid.proofs.Telling.{OfLine, tell, telling}
 
@@ -97,10 +97,6 @@ stays_twice : (b : Bool) → b ≡ not (not b)
 stays_twice true = refl
 stays_twice false = refl
 
-or_both : (x y z : Bool) → ((x || y) || z) ≡ (x || (y || z))
-or_both true y z = refl
-or_both false y z = refl
-
 module _ {E : Type 0} (test : E → Bool) (m : Marks) where
   unfoldable pub numbered_row : Next → Forest E → Row
   numbered_row n End = Nothing
@@ -138,7 +134,7 @@ module _ {E : Type 0} (test : E → Bool) (m : Marks) where
   space_stays : (k : ℕ) (inner next : Row) (a b : Bool) → a ≡ row_pinned v.pinned (row_staying v.gone inner) → b ≡ row_pinned v.pinned (row_staying v.gone next)
       → ((flag_at m.spaces.now k || a) || b) ≡ row_pinned v.pinned (row_staying v.gone (ASpace (tell (SpaceAt k [])) inner next))
   unfolding row_pinned row_staying
-  space_stays k inner next a b p q = or_both (flag_at m.spaces.now k) a b ∙ (λ i. flag_at m.spaces.now k || (p i || q i))
+  space_stays k inner next a b p q = or_assoc (flag_at m.spaces.now k) a b ∙ (λ i. flag_at m.spaces.now k || (p i || q i))
 
   pub numbered_shown : (f : Forest E) (n : Next) → IsShownSo n f
   unfolding numbered_row outers_in pinned_in row_pinned row_staying entries_map

@@ -1,23 +1,21 @@
 -- Where the rows of a file's tops stand among those of all: behind those of the files before. So it is of spaces, beside their texts.
 use Rattle.std.proofs.Common.{◌≡◌, ℕ, zero, suc, ◌+◌, List, [], ◌∷◌, length, map, Some, slice_get, refl, sym, ap, ◌∙◌, arith}
 use Rattle.std.proofs.lemmas.List.{length-map}
+use Rattle.dwz_docs.proofs.ListFacts.{get_first, got_map}
 use Rattle.dwz_meanings.specs.Documents.{Doc}
 use Rattle.dwz_alike.specs.Spots.{tops_among}
 use Rattle.dwz_index.specs.declared.index.Starts.{Starts}
 use Rattle.dwz_index.specs.declared.index.TopEntry.{TopEntry}
 use Rattle.dwz_index.specs.Index.{Index}
-use Rattle.dwz_index.proofs.TopLemmas.{get_first, get_later, many}
-use Rattle.dwz_indexes.specs.Indexed.{AreIndexed, IsIndexOf, starts_behind}
-use Rattle.dwz_across.proofs.ListGets.{got_map}
+use Rattle.dwz_index.proofs.TopLemmas.{get_later, many}
+use Rattle.dwz_indexes.specs.Indexed.{AreIndexed, starts_behind}
+use Rattle.dwz_indexes.proofs.FileSteps.{tops_long}
 use Rattle.dwz_places.specs.declared.known.Row.{Row}
 use Rattle.dwz_places.specs.declared.known.SpaceRow.{SpaceRow}
 use Rattle.dwz_places.specs.declared.known.TextAt.{TextAt}
 use Rattle.dwz_laid.specs.Listed.{entry_row, space_rows, top_rows}
 
 -- ---- tops
-
-tops_long : (s : Starts) (doc : Doc ℕ) (x : Index) → IsIndexOf s doc x → length x.tops ≡ tops_among doc.units
-tops_long s doc x h = ap (λ (w : List TopEntry). length w) h.tops.tops_are ∙ many s 0 doc.units
 
 abbrev rows_of_tops : ℕ → List TopEntry → List Row
 rows_of_tops file tops = map (λ (e : TopEntry). entry_row file e.entry) tops

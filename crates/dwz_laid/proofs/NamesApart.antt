@@ -2,10 +2,12 @@
 -- has one.
 use Rattle.std.proofs.Common.{◌≡◌, ℕ, suc, ◌<◌, Bool, true, false, List, [], ◌∷◌, ◌++◌, Some, length, slice_get, refl, sym, ap, subst, ◌∙◌, inl, inr, arith}
 use Rattle.std.proofs.lemmas.List.{length-append}
-use Rattle.dwz_docs.specs.Lists.{In}
+use Rattle.std.proofs.lemmas.Option.{get_or_from_slice_get}
+use Rattle.dwz_docs.specs.Lists.{Each, In}
 use Rattle.dwz_docs.specs.Pruning.{new_number}
+use Rattle.dwz_docs.proofs.ListFacts.{got_in, got_there}
 use Rattle.dwz_meanings.specs.Documents.{Compile, Doc, DwUnit, Kind, OfType, Partial, kind_map}
-use Rattle.dwz_seen.specs.Lists.{Each, Nth}
+use Rattle.dwz_seen.specs.Lists.{Nth}
 use Rattle.dwz_seen.specs.Seen.{IsPartial}
 use Rattle.dwz_seen.specs.Shown.{units_keys}
 use Rattle.dwz_seen.proofs.Members.{each_append, each_in, each_of, in_map_from}
@@ -24,7 +26,6 @@ use Rattle.dwz_index.specs.declared.index.Starts.{Starts}
 use Rattle.dwz_index.specs.Index.{Index}
 use Rattle.dwz_index.specs.Names.{names_from}
 use Rattle.dwz_indexes.specs.Indexed.{AreIndexed, first_starts, starts_behind}
-use Rattle.dwz_across.proofs.ListGets.{get_there, got_in, got_index}
 use Rattle.dwz_plan.specs.Planned.{Planned}
 use Rattle.dwz_known.specs.Names.{all_names, names_of_files}
 use Rattle.dwz_known.specs.Owners.{AreOwners}
@@ -135,8 +136,8 @@ module _ (f : Facts) (facts : AreFacts f) where
   module _ (k : Known) (many : length k.owners.items ≡ length (all_names (docs f))) where
     row_there : (m : ℕ) → m < length k.owners.items → slice_get (all_names (docs f)) m ≡ Some ((keys f).row m)
     row_there m lt =
-        let o = get_there (all_names (docs f)) m (omega (arith, lt, many)) in
-        o.1 ∙ ap (λ (s : Spot). Some s) (sym (got_index (all_names (docs f)) m o.0 no_name o.1))
+        let o = got_there (all_names (docs f)) m (omega (arith, lt, many)) in
+        o.1 ∙ ap (λ (s : Spot). Some s) (sym (get_or_from_slice_get (all_names (docs f)) m o.0 no_name o.1))
 
     row_in : (m : ℕ) → m < length k.owners.items → In ((keys f).row m) (all_names (docs f))
     row_in m lt = got_in (all_names (docs f)) m ((keys f).row m) (row_there m lt)

@@ -1,12 +1,11 @@
 -- Numbers that attributes of an order name are those of entries and of units, as what has none of these has the name of a unit, which
 -- nothing refers to.
 use Rattle.std.proofs.Common.{◌≡◌, ◌⊎◌, ℕ, zero, suc, ◌+◌, ◌<◌, List, [], ◌∷◌, Option, Some, None, length, get_or, map, slice_get, refl, sym, ap, subst, inl, inr, arith}
-use Rattle.dwz_docs.specs.Lists.{In}
+use Rattle.dwz_docs.specs.Lists.{Each, In}
+use Rattle.dwz_docs.proofs.ListFacts.{got_below}
 use Rattle.dwz_meanings.specs.Documents.{Compile, DwUnit, Kind, OfType, Partial}
-use Rattle.dwz_seen.specs.Lists.{Each}
 use Rattle.dwz_alike.specs.Spots.{Spot, UnitOf}
 use Rattle.dwz_writing.specs.Placing.{FileOut}
-use Rattle.dwz_across.proofs.ListGets.{got_below}
 use Rattle.dwz_known.specs.Names.{all_names}
 use Rattle.dwz_places.specs.declared.known.Known.{Known}
 use Rattle.dwz_places.specs.declared.order.Sort.{Sort}

@@ -1,14 +1,14 @@
 -- A unit that is written is a new one, or what is kept of an old one; forms and numbers of texts change neither names nor kinds.
 use Rattle.std.proofs.Common.{◌≡◌, ℕ, Bool, true, false, List, [], ◌∷◌, map, refl, sym, ap, subst, ◌∙◌, inl, inr}
-use Rattle.dwz_docs.specs.Lists.{In}
+use Rattle.dwz_docs.specs.Lists.{Each, In}
 use Rattle.dwz_docs.specs.Pruning.{new_number}
+use Rattle.dwz_docs.proofs.ListFacts.{in_left, in_map, in_right}
 use Rattle.dwz_meanings.specs.Documents.{Compile, Doc, DwUnit, Kind, OfType, Partial, kind_map}
-use Rattle.dwz_alike.specs.Alike.{IsAlike, Scope}
+use Rattle.dwz_alike.specs.Alike.{IsAlike, TopScope}
 use Rattle.dwz_alike.specs.Spots.{FileUnit, Row, Spot, row_of, units_of}
-use Rattle.dwz_seen.specs.Lists.{Each}
 use Rattle.dwz_seen.specs.Seen.{IsPartial}
 use Rattle.dwz_seen.specs.Shown.{units_keys}
-use Rattle.dwz_seen.proofs.Members.{From, in_left, in_map, in_map_from, in_right}
+use Rattle.dwz_seen.proofs.Members.{From, in_map_from}
 use Rattle.dwz_moving.specs.Homes.{IsChoice, Rule}
 use Rattle.dwz_moving.specs.Moves.{Move, image_in}
 use Rattle.dwz_same.specs.After.{AreOld, ArePlaced, IsKeptUnit, IsNamedBelow, IsNamedUnit, IsNewUnit, Replaces}
@@ -89,7 +89,8 @@ named_by units outs same named u there =
       root = λ p. (let w = v.root (subst IsPartial (sym (ap (λ (x : Head). x.kind) o.is)) p) in (w.0, sym (ap (λ (x : Head). x.root) o.is) ∙ w.1));
     }
 
-module _ (scope : Scope) (docs : List (Doc ℕ)) (rule : Rule) (placed : Each (λ doc. ArePlaced doc.units) docs) (is : IsAlike scope (units_of docs) rule.alike) (choice : IsChoice (units_of docs) rule)
+module _ (scope : TopScope) (docs : List (Doc ℕ)) (rule : Rule) (placed : Each (λ doc. ArePlaced doc.units) docs) (is : IsAlike scope (units_of docs) rule.alike)
+    (choice : IsChoice (units_of docs) rule)
     (input : Stored) where
   abbrev r : Run
   r = run_of rule docs input

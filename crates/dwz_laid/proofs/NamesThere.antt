@@ -1,9 +1,10 @@
 -- The name of an entry that is written is one of the files': the slot of the entry is the line with that name.
 use Rattle.std.proofs.Common.{◌≡◌, ℕ, suc, ◌+◌, List, [], ◌∷◌, length, map, refl, ap, subst, ◌∙◌, inl, inr}
 use Rattle.dwz_docs.specs.Lists.{In}
+use Rattle.dwz_docs.proofs.ListFacts.{in_left, in_map, in_right}
 use Rattle.dwz_meanings.specs.Documents.{DwUnit}
 use Rattle.dwz_seen.specs.Shown.{unit_keys, units_keys}
-use Rattle.dwz_seen.proofs.Members.{From, in_left, in_map, in_map_from, in_right}
+use Rattle.dwz_seen.proofs.Members.{From, in_map_from}
 use Rattle.dwz_layout.specs.Lines.{Line, unit_lines}
 use Rattle.dwz_writing.specs.Placing.{FileOut, files_keys}
 use Rattle.dwz_places.specs.declared.known.Known.{Known}

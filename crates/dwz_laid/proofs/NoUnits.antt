@@ -1,10 +1,11 @@
 -- No entry of a unit after has the name of the first unit: that is another unit's, and no name stands twice.
 use Rattle.std.proofs.Common.{◌≡◌, ℕ, List, [], ◌∷◌, refl, sym, ap, subst, ◌∙◌, inl, inr}
 use Rattle.dwz_docs.specs.Lists.{In}
+use Rattle.dwz_docs.proofs.ListFacts.{in_cases, in_left, in_right}
 use Rattle.dwz_meanings.specs.Documents.{DwUnit}
 use Rattle.dwz_seen.specs.Lists.{NoneTwice, Nth}
 use Rattle.dwz_seen.specs.Shown.{unit_keys, units_keys}
-use Rattle.dwz_seen.proofs.Members.{each_in, in_cases, in_left, in_right, nth_in}
+use Rattle.dwz_seen.proofs.Members.{each_in, nth_in}
 use Rattle.dwz_seen.proofs.OnceLemmas.{none_both, none_right}
 use Rattle.dwz_alike.specs.Spots.{FileUnit, Spot, UnitOf, file_numbers}
 use Rattle.dwz_alike.proofs.Tops.{unit_of}
@@ -13,7 +14,7 @@ use Rattle.dwz_moving.specs.IsPlan.{IsPart}
 use Rattle.dwz_moving.proofs.PlanLemmas.{are_parts}
 use Rattle.dwz_same.specs.Units.{all_units, common_units, file_units, kept_unit, kept_units, out_units, partial_units}
 use Rattle.dwz_same.proofs.FileLemmas.{files_are}
-use Rattle.dwz_writing.specs.Meant.{all_entry_keys, entry_keys}
+use Rattle.dwz_writing.specs.Meant.{entry_keys}
 use Rattle.dwz_back.proofs.HomeLemmas.{kept_from, parts_from}
 use Rattle.dwz_back.proofs.WithinLemmas.{kept_to}
 use Rattle.dwz_laid.specs.Facts.{AreFacts, Facts, docs, move, rule, units}
@@ -45,14 +46,6 @@ apart (x ∷ us) w v once (inl e) (inr later) key =
 apart (x ∷ us) w v once (inr later) (inl d) key =
     none_both (unit_keys x) (units_keys us) once w.at (inr (subst (λ (a : DwUnit Spot). In w.at (entry_keys a)) (sym d) key)) (unit_there us w later)
 apart (x ∷ us) w v once (inr w_in) (inr v_in) key = apart us w v (none_right (unit_keys x) (units_keys us) once) w_in v_in key
-
-pub entry_of : (us : List (DwUnit Spot)) (s : Spot) → In s (all_entry_keys us) → (v : DwUnit Spot) × In v us × In s (entry_keys v)
-unfolding all_entry_keys
-entry_of [] s key = absurd key
-entry_of (x ∷ us) s key = elim (in_cases s (entry_keys x) (all_entry_keys us) key) [
-  | inl a ↦ (x, inl refl, a)
-  | inr b ↦ (let o = entry_of us s b in (o.0, inr o.1, o.2))
-]
 
 first_of : {X : Type 0} (xs : List X) (i : ℕ) (x : X) → Nth 0 xs i x → (y : X) × Nth 0 xs 0 y
 first_of [] i x nth = absurd nth

@@ -2,7 +2,7 @@
 use Rattle.std.proofs.Common.{◌≡◌, ℕ, zero, suc, ◌+◌, ◌<◌, Bool, true, false, List, [], ◌∷◌, Option, Some, None, cond, eqb, length, refl, arith}
 use Rattle.std.specs.Option.{option_map_or}
 use Rattle.dwz_docs.specs.Entries.{RawAttr}
-use Rattle.dwz_seen.specs.Lists.{Each}
+use Rattle.dwz_docs.specs.Lists.{Each}
 use Rattle.dwz_seen.proofs.Members.{each_append}
 use Rattle.dwz_unit.specs.Rows.{EntryRow}
 use Rattle.dwz_writing.specs.Placing.{Holder}
@@ -17,7 +17,8 @@ use Rattle.dwz_places.specs.declared.walk.Origin.TheVariants.{Chained, Imported,
 use Rattle.dwz_places.specs.declared.walk.Slot.{Slot}
 use Rattle.dwz_places.specs.declared.ways.Way.{Way}
 use Rattle.dwz_places.specs.declared.ways.Way.TheVariants.{AsEntry, AsExpression, AsFile, AsRead, AsText, Dropped, KeepsText}
-use Rattle.dwz_places.specs.Attributes.{Here, OutAttr, after, attrs_of, expr_parts, here_of, line_attrs, name_attrs, name_by, operand_count, out_attr, out_attrs, out_by, references_from, row_attrs, space_attrs}
+use Rattle.dwz_places.specs.Attributes.{Here, OutAttr, after, attrs_of, expr_parts, here_of, line_attrs, name_attrs, name_by, operand_count, out_attr, out_attrs, out_by, references_from, row_attrs}
+use Rattle.dwz_places.specs.Attributes.{space_attrs}
 use Rattle.dwz_places.specs.Entries.{items_slots}
 use Rattle.dwz_places.specs.Known.{firsts_of, reference_at, row_at, space_at, text_held, unit_of_part}
 use Rattle.dwz_places.specs.Ways.{way_of}

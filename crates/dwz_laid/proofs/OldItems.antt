@@ -3,13 +3,13 @@ use Rattle.std.proofs.Common.{◌≡◌, ℕ, suc, ◌+◌, ◌<◌, Bool, true,
 use Rattle.std.proofs.lemmas.Bool.{eq-eqb, eqb-true}
 use Rattle.std.proofs.lemmas.List.{append-nil, append_assoc, length-append}
 use Rattle.dwz_docs.specs.Entries.{RawEntry}
-use Rattle.dwz_docs.specs.Lists.{In, has}
+use Rattle.dwz_docs.specs.Lists.{Each, In, has}
 use Rattle.dwz_docs.specs.Trees.{End, Entry, Forest}
 use Rattle.dwz_docs.specs.Units.{CompileUnit, PartialUnit as APartialUnit, RawKind, RawUnit, TypeUnit}
 use Rattle.dwz_meanings.specs.Documents.{Compile, DwUnit, Entries, Kind, Node, OfType, Partial, entries_map, kind_map, unit_map}
 use Rattle.dwz_meanings.specs.Meanings.{Around, IfSo, MeanUnits, MeansKind, MeansUnit, scope_of}
 use Rattle.dwz_meanings.proofs.MeaningLemmas.{has_in}
-use Rattle.dwz_seen.specs.Lists.{Each, Nth}
+use Rattle.dwz_seen.specs.Lists.{Nth}
 use Rattle.dwz_seen.proofs.Members.{each_in, each_more}
 use Rattle.dwz_alike.specs.Spots.{FileUnit, Row, Spot, Top, in_file, row_below, row_tops, top_count, tops_from, tops_of}
 use Rattle.dwz_alike.proofs.TopNumbers.{Numbered, below_length, from_numbered, top_at}
@@ -25,15 +25,16 @@ use Rattle.dwz_places.specs.declared.order.UnitItems.{UnitItems}
 use Rattle.dwz_plan.specs.Shows.{import_row}
 use Rattle.dwz_order.specs.declared.marks.Marks.{Marks}
 use Rattle.dwz_order.specs.declared.outline.Next.{Next}
-use Rattle.dwz_order.specs.Kept.{AreKept, From, IsKept, behind_from, behind_kind, behind_unit}
+use Rattle.dwz_order.specs.Kept.{AreKept, From, IsKept, behind_from, behind_unit}
 use Rattle.dwz_order.specs.Marks.{mark_at}
 use Rattle.dwz_order.specs.Named.{MarksAll, MarksTop}
 use Rattle.dwz_order.specs.Orders.{First}
 use Rattle.dwz_order.specs.Shown.{IsNext, IsOther, ShowsImports, named_units, tops_in}
-use Rattle.dwz_order.specs.Spaces.{spaces_below, spaces_of, spaces_under}
+use Rattle.dwz_order.specs.Spaces.{spaces_below}
 use Rattle.dwz_order.proofs.MeanLemmas.{Agree, means_agree, spaces_agree, tops_agree}
 use Rattle.dwz_order.proofs.RowLemmas.{spaces_counted, tops_counted}
-use Rattle.dwz_order.proofs.UnitRows.{row_at, spaces_append, tops_append}
+use Rattle.dwz_order.proofs.UnitRows.{row_at}
+use Rattle.dwz_order.proofs.FileShown.{next_behind}
 use Rattle.dwz_laid.specs.Items.{IsOfKept, IsOneOf, RootThen}
 use Rattle.dwz_laid.specs.Old.{EachOld, IsOfOld, OldItemsLaw, OldNames, StaysHere}
 use Rattle.dwz_laid.proofs.KeptItems.{kept_items}
@@ -133,52 +134,6 @@ module _ (m : Move) (before : List (FileUnit Spot)) (f : FileUnit Spot) (after :
           items_are = r.items_are;
           each = each_more (λ x. IsOfKept marks below next imported x.what) (λ x. IsOfOld m units i x.what) r.others (λ x h. of_old known imported same x.what h) r.each;
         }
-
--- ---- the next top and the next space
-
-next_behind : (around : Around ℕ) (name : ℕ → Spot) (before : List (FileUnit Spot)) (file : ℕ) (u : RawUnit) (v : DwUnit ℕ) (next : Next) → MeansUnit around u v → IsNext before next
-    → IsNext (before ++ in_file file (unit_map name v) ∷ []) (behind_unit u next)
-unfolding tops_in spaces_of
-next_behind around name before file u v next means is = by u.kind v.kind means.kind where
-  below : Entries Spot
-  below = entries_map name v.below
-
-  added : Kind Spot → List (FileUnit Spot)
-  added k = record { file = file; unit = record { at = name v.at; kind = k; root = (unit_map name v).root; below = below } } ∷ []
-
-  by : (k : RawKind) (kind : Kind ℕ) → MeansKind (scope_of around u) k kind → IsNext (before ++ added (kind_map name kind)) (behind_kind k u.below next)
-  by CompileUnit kind e =
-      let n = behind_kind CompileUnit u.below next in
-      let tops = tops_append before (added Compile) in
-      let spaces = ap (λ (w : List (Node Spot)). length w) (spaces_append before (added Compile)) in
-      let long = length-append (spaces_of before) (spaces_under below ++ []) in
-      let more = length-append (spaces_under below) [] in
-      let agree = means_agree (scope_of around u) name u.below v.below means.below in
-      let a = tops_agree stored_space is_space u.below below agree in
-      let b = spaces_agree stored_space is_space u.below below agree in
-      let c = tops_counted below in
-      let d = spaces_counted below in
-      let top = is.top in
-      let space = is.space in
-      let here : IsNext (before ++ added Compile) n = record { top = omega arith; space = omega arith } in
-      subst (λ (w : Kind ℕ). IsNext (before ++ added (kind_map name w)) n) (sym e) here
-  by (TypeUnit signature type_offset) kind e =
-      let k : Kind Spot = OfType signature (name ((scope_of around u).around.place (u.at + type_offset))) in
-      let tops = tops_append before (added k) in
-      let spaces = ap (λ (w : List (Node Spot)). length w) (spaces_append before (added k)) in
-      let long = length-append (spaces_of before) [] in
-      let top = is.top in
-      let space = is.space in
-      let here : IsNext (before ++ added k) next = record { top = omega arith; space = omega arith } in
-      subst (λ (w : Kind ℕ). IsNext (before ++ added (kind_map name w)) next) (sym e.1) here
-  by APartialUnit kind e =
-      let tops = tops_append before (added Partial) in
-      let spaces = ap (λ (w : List (Node Spot)). length w) (spaces_append before (added Partial)) in
-      let long = length-append (spaces_of before) [] in
-      let top = is.top in
-      let space = is.space in
-      let here : IsNext (before ++ added Partial) next = record { top = omega arith; space = omega arith } in
-      subst (λ (w : Kind ℕ). IsNext (before ++ added (kind_map name w)) next) (sym e) here
 
 -- ---- unit by unit
 

@@ -2,23 +2,23 @@
 use Rattle.std.proofs.Common.{◌≡◌, ℕ, suc, ◌+◌, Bool, true, false, List, [], ◌∷◌, ◌++◌, ◌==◌, length, map, drop, Some, slice_get, refl, sym, ap, subst, ◌∙◌, arith}
 use Rattle.std.proofs.lemmas.Bool.{eq-eqb, eqb-true}
 use Rattle.dwz_docs.specs.Units.{RawUnit, entry_count}
+use Rattle.dwz_docs.proofs.ListFacts.{drop_first, get_first, got_map, same_got}
 use Rattle.dwz_meanings.specs.Documents.{DwUnit, unit_map}
 use Rattle.dwz_meanings.specs.Files.{around_of}
 use Rattle.dwz_meanings.specs.Meanings.{IfSo, MeanUnits}
 use Rattle.dwz_meanings.proofs.FileLemmas.{file_agrees}
-use Rattle.dwz_seen.specs.Lists.{Each, Nth}
+use Rattle.dwz_seen.specs.Lists.{Nth}
+use Rattle.dwz_docs.specs.Lists.{Each}
 use Rattle.dwz_seen.specs.Seen.{IsPartial}
 use Rattle.dwz_alike.specs.Spots.{FileUnit, Spot, in_file}
-use Rattle.dwz_flat.proofs.StepLemmas.{first_of}
 use Rattle.dwz_flat.proofs.TopThere.{left_behind}
 use Rattle.dwz_graph.specs.declared.file.File.{File}
 use Rattle.dwz_index.specs.Index.{Index}
 use Rattle.dwz_index.proofs.NameLemmas.{read_whole}
-use Rattle.dwz_index.proofs.TopLemmas.{get_first, get_later}
-use Rattle.dwz_resolve.proofs.RowLemmas.{in-length}
+use Rattle.dwz_index.proofs.TopLemmas.{get_later}
 use Rattle.dwz_unit.specs.Rows.{rows_from, rows_in, rows_of, units_of as raw_units}
+use Rattle.dwz_unit.proofs.ShownLemmas.{rows_in-length}
 use Rattle.dwz_across.specs.Across.{IsFileAmong, file_units}
-use Rattle.dwz_across.proofs.ListGets.{got_map, same_got}
 use Rattle.dwz_known.specs.Images.{starts_from}
 use Rattle.dwz_order.specs.declared.marks.Marks.{Marks}
 use Rattle.dwz_order.specs.declared.outline.Next.{Next}
@@ -61,9 +61,9 @@ module _ (f : Facts) (n : ℕ) (bytes : List ℕ) (x : File) (index : Index) (is
   each_shown marks imports from next (u ∷ us) (v ∷ vs) [] j first i means whole at rows file start begins there kept = absurd kept
   each_shown marks imports from next (u ∷ us) (v ∷ vs) (items ∷ order) j first i means whole at rows file start begins there kept =
       let all = raw f n bytes x index is in
-      let g = first_of all j u us at in
+      let g = drop_first all j u us at in
       let rest = rows_from us (j + 1) (first + entry_count u) in
-      let long = in-length u j first in
+      let long = rows_in-length u j first in
       let later = left_behind (rows_of all) first (first + entry_count u) (rows_in u j first) rest rows (ap (λ (w : ℕ). first + w) long) in
       let none : i + 0 ≡ i = omega arith in
       let own = subst (λ (w : ℕ). Nth 0 (units f) w (in_file n (unit_map (called f n bytes x index is) v))) none (there 0 v refl) in

@@ -6,6 +6,7 @@ use Rattle.dwz_meanings.specs.Documents.{DwUnit}
 use Rattle.dwz_alike.specs.Spots.{Spot}
 use Rattle.dwz_same.specs.Units.{all_units, common_units, file_units, out_units}
 use Rattle.dwz_writing.specs.Placing.{FileOut, lines_bytes, paths_of, texts_bytes, texts_of, units_with}
+use Rattle.dwz_writing.proofs.WriteLengths.{no_lines}
 use Rattle.dwz_back.specs.Files.{file_out}
 use Rattle.dwz_sound.proofs.FilesSound.{all_sound}
 use Rattle.dwz_fewer.proofs.SomeOfRuns.{files_in_run, once_in_run, some_name}
@@ -84,10 +85,6 @@ run_order f t k orders facts listed read few shows =
 no_texts : length (texts_bytes (texts_of {K = Spot} [] [])) < 2 ^ 32
 unfolding texts_bytes units_with
 no_texts = omega arith
-
-no_lines : length (lines_bytes (paths_of {K = Spot} [] [])) < too_large
-unfolding units_with
-no_lines = omega arith
 
 pub run_few : RunFewLaw
 run_few f none = record {

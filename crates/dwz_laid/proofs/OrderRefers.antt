@@ -1,8 +1,7 @@
 -- What attributes of an order name is in it: the names are those of the files.
 use Rattle.std.proofs.Common.{◌≡◌, ℕ, suc, ◌+◌, List, [], ◌∷◌, length, map, refl, sym, subst, inl, inr}
-use Rattle.dwz_docs.specs.Lists.{In}
+use Rattle.dwz_docs.specs.Lists.{Each, In}
 use Rattle.dwz_meanings.specs.Documents.{Compile, DwUnit, Kind, OfType, Partial}
-use Rattle.dwz_seen.specs.Lists.{Each}
 use Rattle.dwz_writing.specs.Placing.{FileOut, files_keys}
 use Rattle.dwz_places.specs.declared.known.Known.{Known}
 use Rattle.dwz_places.specs.declared.order.Sort.{Sort}
@@ -11,7 +10,8 @@ use Rattle.dwz_places.specs.declared.order.UnitItems.{UnitItems}
 use Rattle.dwz_places.specs.declared.walk.Slot.{Slot}
 use Rattle.dwz_places.specs.Attributes.{Content, Here, OfEntry, OfParts, OfRoot, OutAttr, Read, attrs_of, here_of}
 use Rattle.dwz_places.specs.Entries.{items_slots}
-use Rattle.dwz_pages.specs.Shown.{ContentRefers, FilesRefer, HeldLine, Keys, Refer, RowRefers, ShowFiles, ShowUnits, ShowsUnit, SlotRefers, SortRefers, SortShows, UnitRefers, attr_held, content_held, slot_held, unit_count}
+use Rattle.dwz_pages.specs.Shown.{ContentRefers, FilesRefer, HeldLine, Keys, Refer, RowRefers, ShowFiles, ShowUnits, ShowsUnit, SlotRefers, SortRefers, SortShows, UnitRefers, attr_held, content_held}
+use Rattle.dwz_pages.specs.Shown.{slot_held, unit_count}
 use Rattle.dwz_fewer.specs.Fewer.{NameOnly}
 use Rattle.dwz_laid.specs.Refers.{ContentCounted, FilesCounted, IsEntryNumber, RowsApart, SlotCounted, SortCounted, UnitCounted, UnitsCounted}
 use Rattle.dwz_laid.proofs.HeldNames.{AttrIn, LineIn, held_refs, unit_in}

@@ -1,11 +1,14 @@
 -- The owner of an entry that stands for itself is the unit in which its name stands.
 use Rattle.std.proofs.Common.{◌≡◌, ℕ, ◌+◌, ◌-◌, true, List, map, Some, Ok, slice_get, sym, ap, subst, ◌∙◌, arith}
+use Rattle.std.proofs.lemmas.Option.{get_or_from_slice_get}
 use Rattle.dwz_docs.specs.Units.{RawUnit}
+use Rattle.dwz_docs.proofs.ListFacts.{got_in, got_map}
 use Rattle.dwz_meanings.specs.Documents.{Doc, DwUnit, unit_map}
 use Rattle.dwz_meanings.specs.Files.{around_of}
 use Rattle.dwz_meanings.specs.Meanings.{units_meaning}
 use Rattle.dwz_meanings.proofs.MeaningLemmas.{units_agree}
-use Rattle.dwz_seen.specs.Lists.{Each, Nth}
+use Rattle.dwz_seen.specs.Lists.{Nth}
+use Rattle.dwz_docs.specs.Lists.{Each}
 use Rattle.dwz_seen.specs.Seen.{IsPartial}
 use Rattle.dwz_seen.proofs.Members.{each_in, each_of}
 use Rattle.dwz_alike.specs.Spots.{Spot, in_file, spot_in, spots_from}
@@ -19,7 +22,6 @@ use Rattle.dwz_index.specs.Index.{Index}
 use Rattle.dwz_index.specs.Names.{names_from}
 use Rattle.dwz_index.proofs.NameLemmas.{means_units}
 use Rattle.dwz_indexes.specs.Indexed.{first_starts}
-use Rattle.dwz_across.proofs.ListGets.{got_in, got_index, got_map}
 use Rattle.dwz_known.specs.OwnerLaws.{AreMoved}
 use Rattle.dwz_known.specs.Owners.{IsFileWritten, StandsIn}
 use Rattle.dwz_known.proofs.OwnerLemmas.{owned}
@@ -101,7 +103,7 @@ module _ (f : Facts) (t : TextsAt) (k : Known) (facts : AreFacts f) (listed : Ar
       o.found.index.names i r s row_is name_found in
       let w = own.1 in
       let at : o.start + i ≡ (o.start - 0) + i = omega arith in
-      let owner : owner_of k (o.start + i) ≡ w.owner = got_index k.owners.items (o.start + i) w.owner 0 (ap (slice_get k.owners.items) at ∙ w.there) in
+      let owner : owner_of k (o.start + i) ≡ w.owner = get_or_from_slice_get k.owners.items (o.start + i) w.owner 0 (ap (slice_get k.owners.items) at ∙ w.there) in
       let number = u.is_number in
       let same : index.starts.unit + r.unit ≡ u.number = ap (λ (v : Starts). v.unit + r.unit) (sym o.starts_same) ∙ sym number in
       let is = w.is kept.0 (ap (slice_get f.olds) same ∙ kept.1) in

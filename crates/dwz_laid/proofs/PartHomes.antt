@@ -3,11 +3,12 @@ use Rattle.std.proofs.Common.{◌≡◌, ◌⊎◌, ℕ, zero, suc, ◌+◌, ◌
 use Rattle.std.specs.Prelude.{nat_lt, pos, slice_index_or}
 use Rattle.std.proofs.lemmas.Bool.{eq-eqb, eqb-true, lt-ltb, ltb-true, ne_eqb}
 use Rattle.dwz_docs.specs.Lists.{In}
+use Rattle.dwz_docs.proofs.ListFacts.{get_first, got_below, got_in, got_there, in_left, same_got}
+use Rattle.dwz_docs.proofs.CaseFacts.{and_left}
 use Rattle.dwz_meanings.specs.Documents.{Attr, Doc, DwUnit, Plain, first_named}
 use Rattle.dwz_seen.specs.Lists.{Nth}
-use Rattle.dwz_seen.proofs.Members.{any_from, any_true, in_left, nth_one}
+use Rattle.dwz_seen.proofs.Members.{any_from, any_true, nth_one}
 use Rattle.dwz_alike.specs.Spots.{FileUnit, PartialOf, Spot, Top, file_numbers, tops_of}
-use Rattle.dwz_index.proofs.TopLemmas.{get_first}
 use Rattle.dwz_moving.specs.Homes.{Common, Home, Local, Stay, is_home, same_home}
 use Rattle.dwz_moving.specs.Moves.{first_unit, line_attr, line_attrs, line_in, line_of, names_path, root_in_part, root_of}
 use Rattle.dwz_moving.specs.Plan.{PartialUnit}
@@ -17,7 +18,7 @@ use Rattle.dwz_same.proofs.FileLemmas.{files_are}
 use Rattle.dwz_same.proofs.HeldLemmas.{part_found}
 use Rattle.dwz_back.proofs.HomeLemmas.{parts_from}
 use Rattle.dwz_back.proofs.WithinLemmas.{parts_to}
-use Rattle.dwz_across.proofs.ListGets.{get_there, got_below, got_in, same_got}
+use Rattle.dwz_back.proofs.SameLemmas.{numbers_in}
 use Rattle.dwz_known.specs.Owners.{files_written}
 use Rattle.dwz_places.specs.declared.known.Known.{Known}
 use Rattle.dwz_places.specs.declared.order.Sort.TheVariants.{Partial}
@@ -45,23 +46,13 @@ file_changed f n e =
     let none : 0 + n ≡ n = omega arith in
     (subst (λ (w : ℕ). changes (move f) (units f) w ≡ true) none r.0, r.1)
 
-both_true : (a b : Bool) → (a && b) ≡ true → a ≡ true
-both_true true b e = refl
-both_true false b e = e
-
 pub file_read_there : (f : Facts) → AreFacts f → (n : ℕ) → changes (move f) (units f) n ≡ true → IsReadFile f n
 unfolding changes
 file_read_there f facts n e =
     let p = any_from _ (tops_of (units f)) e in
-    subst (IsReadFile f) (eqb-true p.one.file n (both_true (p.one.file == n) ((move f).gone p.one.number) p.passes)) (top_files f facts p.one p.there)
+    subst (IsReadFile f) (eqb-true p.one.file n (and_left (p.one.file == n) ((move f).gone p.one.number) p.passes)) (top_files f facts p.one p.there)
 
 -- ---- the file of a partial unit
-
-number_below : (s : ℕ) (said : List (Doc ℕ)) (n : ℕ) → In n (file_numbers s said) → n < s + length said
-unfolding file_numbers
-number_below s [] n there = absurd there
-number_below s (doc ∷ said) n (inl e) = omega (arith, e)
-number_below s (doc ∷ said) n (inr later) = (let lt = number_below (suc s) said n later in omega (arith, lt))
 
 -- its tops are all of this unit, whose file was read, and something of that file moves
 pub record ComesFrom (f : Facts) (part : PartialUnit) : Type 0 where
@@ -84,7 +75,7 @@ comes_from f facts p part nth =
       nth = at;
       read = subst (IsReadFile f) u.file (top_files f facts some.0 own.there);
       changed = any_true (λ (t : Top). t.file == u.unit.file && (move f).gone t.number) some.0 (tops_of (units f)) own.there (λ i. same i && own.moves i);
-      below = (let lt = number_below 0 (docs f) u.unit.file (files_are (docs f) (first_unit part.tops) u.unit at) in omega (arith, lt));
+      below = (let lt = numbers_in 0 (docs f) u.unit.file (files_are (docs f) (first_unit part.tops) u.unit at) in omega (arith, lt));
     }
 
 -- ---- homes
@@ -145,7 +136,7 @@ module _ (f : Facts) (facts : AreFacts f) (n : ℕ) (p : ℕ) (part : PartialUni
           let commons = common_units (move f) in
           let lt = ltb-true here k.commons e in
           let many = listed.commons ∙ facts.numbers.commons_are in
-          let v = get_there commons here (omega (arith, lt, many)) in
+          let v = got_there commons here (omega (arith, lt, many)) in
           let same = same_got (units_written f) here v.0 (partial_unit (move f) p) (get_first commons (files_written (move f) (units f) 0 (written f)) here v.0 v.1) at in
           absurd (not_common (subst (λ (u : DwUnit Spot). In u commons) same (got_in commons here v.0 v.1)))
 

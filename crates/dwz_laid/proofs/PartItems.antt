@@ -1,8 +1,8 @@
 -- The items of a partial unit: the lines of tops and of chains have the names of its tops, and of spaces on their ways up.
 use Rattle.std.proofs.Common.{ℕ, suc, ◌+◌, List, [], ◌∷◌, ◌++◌, ◌==◌, filter, length, map, not, slice_index, inl, inr, refl, eq-eqb}
-use Rattle.dwz_docs.specs.Lists.{In}
-use Rattle.dwz_seen.specs.Lists.{Each}
-use Rattle.dwz_seen.proofs.Members.{each_append, in_cases, in_filter, in_filter_from}
+use Rattle.dwz_docs.specs.Lists.{Each, In}
+use Rattle.dwz_docs.proofs.ListFacts.{in_cases}
+use Rattle.dwz_seen.proofs.Members.{each_append, in_filter, in_filter_from}
 use Rattle.dwz_alike.specs.Spots.{InChain, Spot, Within}
 use Rattle.dwz_layout.specs.declared.order.Item.{Item}
 use Rattle.dwz_layout.specs.declared.order.What.{What}

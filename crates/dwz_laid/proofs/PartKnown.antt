@@ -1,8 +1,8 @@
 -- What is known of one partial unit, from the file that it comes from: its root, its tops, the spaces of its chains, and all that its entries name.
 use Rattle.std.proofs.Common.{◌≡◌, ℕ, ◌-◌, List, [], ◌∷◌, map, Option, Some, slice_get, inl, inr, refl, sym, ap, subst}
-use Rattle.dwz_docs.specs.Lists.{In}
+use Rattle.dwz_docs.specs.Lists.{Each, In}
 use Rattle.dwz_meanings.specs.Documents.{DwUnit, Entries, Node, Partial as PartialKind, Text, entries_map, only}
-use Rattle.dwz_seen.specs.Lists.{Each, Nth}
+use Rattle.dwz_seen.specs.Lists.{Nth}
 use Rattle.dwz_seen.proofs.Members.{each_in, each_of}
 use Rattle.dwz_alike.specs.Spots.{FileUnit, InChain as ChainSpot, SpaceName, Spot, Top, file_numbers}
 use Rattle.dwz_layout.specs.declared.order.Item.{Item}

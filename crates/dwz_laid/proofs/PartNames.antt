@@ -1,5 +1,5 @@
 -- What the numbers in the items of a partial unit are named: tops and spaces by their numbers, as they are after, and the spaces of its chains.
-use Rattle.std.proofs.Common.{◌≡◌, ℕ, suc, ◌+◌, List, [], ◌∷◌, Option, Some, slice_get, refl, ap, subst, arith}
+use Rattle.std.proofs.Common.{◌≡◌, ℕ, ◌+◌, List, [], Option, Some, slice_get, refl, ap, subst, arith}
 use Rattle.std.specs.Option.{option_map_or}
 use Rattle.dwz_docs.specs.Lists.{In}
 use Rattle.dwz_docs.specs.Trees.{End}
@@ -14,7 +14,8 @@ use Rattle.dwz_moving.specs.Moves.{Move, image_in}
 use Rattle.dwz_moving.specs.Plan.{space_entry}
 use Rattle.dwz_same.specs.Units.{partial_root}
 use Rattle.dwz_order.specs.Named.{NamesAll, NamesSpace, NamesTop}
-use Rattle.dwz_order.specs.Spaces.{Numbered, said_of, spaces_of}
+use Rattle.dwz_order.specs.Spaces.{said_of, spaces_of}
+use Rattle.dwz_order.proofs.SpaceNumbers.{numbered_by}
 use Rattle.dwz_laid.specs.Named.{no_name}
 
 -- of a number that stands for nothing
@@ -29,12 +30,6 @@ top_below m o = option_map_or (λ (t : Top). entries_map (image_in m) t.below) o
 
 abbrev pub space_node : Move → Option (Node Spot) → Node Spot
 space_node m o = option_map_or (node_map (image_in m)) o nothing
-
-numbered_by : {X : Type 0} (P : ℕ → X → Type 0) (n : ℕ) (xs : List X) → ((k : ℕ) (x : X) → slice_get xs k ≡ Some x → P (n + k) x) → Numbered P n xs
-numbered_by P n [] h = tt
-numbered_by P n (x ∷ xs) h =
-    let none : n + 0 ≡ n = omega arith in
-    (subst (λ (w : ℕ). P w x) none (h 0 x refl), numbered_by P (suc n) xs (λ k y e. (let next : n + suc k ≡ suc n + k = omega arith in subst (λ (w : ℕ). P w y) next (h (suc k) y e))))
 
 module _ (m : Move) (units : List (FileUnit Spot)) (p : ℕ) where
   abbrev pub names : Names Spot

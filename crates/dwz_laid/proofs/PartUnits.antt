@@ -1,59 +1,25 @@
 -- The tops of a partial unit stand for those alike to them, so each is of the first unit that uses them.
-use Rattle.std.proofs.Common.{◌≡◌, ℕ, suc, ◌+◌, ◌<◌, ◌≤◌, true, List, [], ◌∷◌, refl, sym, ap, subst, ◌∙◌, arith, inl, inr}
+use Rattle.std.proofs.Common.{◌≡◌, ℕ, ◌≤◌, true, List, sym, ap, subst, ◌∙◌, arith}
 use Rattle.dwz_docs.specs.Lists.{In}
-use Rattle.dwz_seen.specs.Lists.{EachPair, Nth}
-use Rattle.dwz_seen.proofs.Members.{each_in, each_of, nth_from, nth_in, pair_append}
-use Rattle.dwz_alike.specs.Alike.{IsAlike, Scope}
-use Rattle.dwz_alike.specs.Spots.{FileUnit, Row, Spot, Top, row_below, row_tops, top_count, tops_from, tops_of}
+use Rattle.dwz_seen.specs.Lists.{Nth}
+use Rattle.dwz_seen.proofs.Members.{each_in, nth_in}
+use Rattle.dwz_alike.specs.Alike.{IsAlike, TopScope}
+use Rattle.dwz_alike.specs.Spots.{FileUnit, Spot, Top, tops_of}
 use Rattle.dwz_alike.proofs.AlikePer.{alike_per}
-use Rattle.dwz_alike.proofs.RowLemmas.{from_row, row_here, top_of}
 use Rattle.dwz_alike.proofs.Tops.{tops_rise, unit_of}
+use Rattle.dwz_alike.proofs.TopOrder.{units_rise}
 use Rattle.dwz_moving.specs.Homes.{IsChoice, Rule, is_home, moves, rep, users}
 use Rattle.dwz_moving.specs.IsPlan.{IsPart}
 use Rattle.dwz_moving.specs.Moves.{first_unit}
 use Rattle.dwz_moving.specs.Plan.{PartialUnit, partials}
 use Rattle.dwz_moving.proofs.PlanLemmas.{are_parts}
 use Rattle.dwz_moving.proofs.UserLemmas.{Fair, move_stand, moves_self, rep_is, used, used_by}
+use Rattle.dwz_back.proofs.OriginLemmas.{first_there, ordered}
 use Rattle.dwz_laid.specs.New.{MovesFrom, TopUnitLaw}
-
--- ---- tops stand in the order of their units
-
-abbrev InOrder : Top → Top → Type 0
-InOrder a b = a.unit ≤ b.unit
-
-later_unit : (s n : ℕ) (units : List (FileUnit Spot)) (t : Top) → In t (tops_from s n units) → s ≤ t.unit
-later_unit s n units t h = let o = top_of s n units t h in nth_from s units t.unit o.unit o.nth
-
-pub here_unit : (s n : ℕ) (f : FileUnit Spot) (units : List (FileUnit Spot)) (t : Top) → In t (row_tops (row_below f.file s n f.unit f.unit.kind)) → t.unit ≡ s
-here_unit s n f units t h = (from_row s n (f ∷ units) s t (subst (λ (w : Row). In t (row_tops w)) (sym (row_here s n f units s refl)) h)).1
-
-one_unit : (s : ℕ) (tops : List Top) → ((t : Top) → In t tops → t.unit ≡ s) → EachPair InOrder tops
-one_unit s [] same = tt
-one_unit s (t ∷ tops) same = (each_of (InOrder t) tops (λ u is. omega (arith, same t (inl refl), same u (inr is))), one_unit s tops (λ u is. same u (inr is)))
-
-units_rise : (s n : ℕ) (units : List (FileUnit Spot)) → EachPair InOrder (tops_from s n units)
-unfolding tops_from
-units_rise s n [] = tt
-units_rise s n (f ∷ units) =
-    let m = n + top_count f.unit.kind f.unit.below in
-    let own = row_tops (row_below f.file s n f.unit f.unit.kind) in
-    pair_append InOrder own (tops_from (suc s) m units) (one_unit s own (here_unit s n f units)) (units_rise (suc s) m units)
-    (λ x y a b. omega (arith, here_unit s n f units x a, later_unit (suc s) m units y b))
-
-ordered : (tops : List Top) (a b : Top) → EachPair InOrder tops → EachPair (λ x y. x.number < y.number) tops → In a tops → In b tops → a.number ≤ b.number → a.unit ≤ b.unit
-ordered [] a b o r p q le = absurd p
-ordered (t ∷ tops) a b o r (inl p) (inl q) le = omega (arith, ap (λ (w : Top). w.unit) (sym p ∙ q))
-ordered (t ∷ tops) a b o r (inl p) (inr q) le = subst (λ (w : Top). w.unit ≤ b.unit) p (each_in (InOrder t) b tops o.0 q)
-ordered (t ∷ tops) a b o r (inr p) (inl q) le = (let first = each_in (λ y. t.number < y.number) a tops r.0 p in absurd (omega (arith, first, ap (λ (w : Top). w.number) q)))
-ordered (t ∷ tops) a b o r (inr p) (inr q) le = ordered tops a b o.1 r.1 p q le
-
-first_there : (tops : List Top) (t : Top) → In t tops → (x : Top) × In x tops × (x.unit ≡ first_unit tops)
-first_there [] t h = absurd h
-first_there (x ∷ tops) t h = (x, inl refl, refl)
 
 -- ---- the tops of a partial unit
 
-module _ (scope : Scope) (units : List (FileUnit Spot)) (rule : Rule) (is : IsAlike scope units rule.alike) (choice : IsChoice units rule) (files : List ℕ) where
+module _ (scope : TopScope) (units : List (FileUnit Spot)) (rule : Rule) (is : IsAlike scope units rule.alike) (choice : IsChoice units rule) (files : List ℕ) where
   fair : Fair units rule
   fair = record { per = alike_per scope units rule.alike is; choice = choice }
 

@@ -1,5 +1,6 @@
 -- The partial units of one home, a file or the common one, one by one among those of the plan.
 use Rattle.std.proofs.Common.{◌≡◌, ℕ, suc, ◌+◌, ◌<◌, ◌==◌, Bool, true, false, List, [], ◌∷◌, length, map, Some, None, slice_get, refl, sym, ap, subst, ◌∙◌, inl, inr, arith}
+use Rattle.dwz_docs.proofs.ListFacts.{get_first}
 use Rattle.dwz_meanings.specs.Documents.{DwUnit}
 use Rattle.dwz_meanings.specs.Meanings.{IfSo}
 use Rattle.dwz_seen.specs.Lists.{Nth}
@@ -15,7 +16,6 @@ use Rattle.dwz_plan.specs.Planned.{Planned, file_of_home}
 use Rattle.dwz_plan.specs.Shows.{shown_part}
 use Rattle.dwz_plan.proofs.BridgeLemmas.{file_numbers_are}
 use Rattle.dwz_same.specs.Units.{changes, common_units, out_units, partial_unit, partial_units}
-use Rattle.dwz_index.proofs.TopLemmas.{get_first}
 use Rattle.dwz_known.specs.Owners.{files_written}
 use Rattle.dwz_writing.specs.Placing.{FileFit, with_keys}
 use Rattle.dwz_back.specs.Files.{common_forms, file_forms}

@@ -1,8 +1,8 @@
 -- An entry that is written in a partial unit is one of a top that it holds: it stands for itself, so its number has its name.
 use Rattle.std.proofs.Common.{◌≡◌, ℕ, List, [], ◌∷◌, Option, inl, inr, sym, ap, subst, ◌∙◌, arith}
 use Rattle.dwz_meanings.specs.Documents.{Node}
-use Rattle.dwz_docs.specs.Lists.{In}
-use Rattle.dwz_seen.specs.Lists.{Each, Nth}
+use Rattle.dwz_docs.specs.Lists.{Each, In}
+use Rattle.dwz_seen.specs.Lists.{Nth}
 use Rattle.dwz_seen.proofs.Members.{each_append, each_more}
 use Rattle.dwz_alike.specs.Spots.{Top, Within, file_numbers}
 use Rattle.dwz_layout.specs.declared.order.Item.{Item}

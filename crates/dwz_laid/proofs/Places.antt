@@ -1,9 +1,9 @@
 -- Where a plan puts the tops of a partial unit, and those that stay; and whose partial units a unit uses.
-use Rattle.std.proofs.Common.{◌≡◌, ◌⊎◌, ℕ, zero, suc, ◌+◌, ◌<◌, true, false, List, [], ◌∷◌, Some, slice_get, slice_index_or, inl, inr, refl, sym, ap, subst, ◌∙◌, arith}
+use Rattle.std.proofs.Common.{◌≡◌, ◌⊎◌, ℕ, zero, suc, ◌+◌, ◌<◌, true, false, List, slice_index_or, inl, inr, refl, sym, ap, subst, ◌∙◌, arith}
 use Rattle.std.specs.List.{range_with_len}
-use Rattle.dwz_docs.specs.Lists.{In}
-use Rattle.dwz_seen.specs.Lists.{Each, Nth, Rising}
-use Rattle.dwz_seen.proofs.Members.{each_in, in_map_from, nth_in}
+use Rattle.dwz_docs.specs.Lists.{Each, In}
+use Rattle.dwz_seen.specs.Lists.{Nth, Rising}
+use Rattle.dwz_seen.proofs.Members.{each_in, in_map_from, nth_in, nth_of}
 use Rattle.dwz_alike.specs.Spots.{FileUnit, Spot, Top, tops_of}
 use Rattle.dwz_alike.proofs.Tops.{one_top}
 use Rattle.dwz_moving.specs.Homes.{Common, Home, Local, Rule, Stay, candidate, home, is_home, moves, rep, users}
@@ -30,11 +30,6 @@ range_rises s (suc n) = (each_from s (s + 1) n (omega arith), range_rises (s + 1
 
 -- ---- places
 
-nth_got : {X : Type 0} (s : ℕ) (xs : List X) (k : ℕ) (x : X) → slice_get xs k ≡ Some x → Nth s xs (s + k) x
-nth_got s [] k x e = absurd cc
-nth_got s (y ∷ xs) zero x e = inl (omega arith, (let same : y ≡ x = cc in same))
-nth_got {X} s (y ∷ xs) (suc k) x e = (let next : suc s + k ≡ s + suc k = omega arith in inr (subst (λ (n : ℕ). Nth (suc s) xs n x) next (nth_got (suc s) xs k x e)))
-
 not_home : (h : Home) → h ≡ Stay → is_home h ≡ true → ⊥
 not_home h e m = (let f : false ≡ true = sym (ap is_home e) ∙ m in cc)
 
@@ -49,7 +44,7 @@ module _ (rule : Rule) (units : List (FileUnit Spot)) (files : ℕ) where
       let own = (is.tops t).0 there in
       let o = in_map_from (λ (x : Top). x.number) (rep rule.alike units t.number) at.part.tops at.holds in
       let none : 0 + p ≡ p = omega arith in
-      let nth_p : Nth 0 parts p at.part = subst (λ (k : ℕ). Nth 0 parts k at.part) none (nth_got 0 parts p at.part at.there) in
+      let nth_p : Nth 0 parts p at.part = subst (λ (k : ℕ). Nth 0 parts k at.part) none (nth_of 0 parts p at.part at.there) in
       let is_p = each_in (IsPart rule units) at.part parts (are_parts rule units (range_with_len 0 files)) (nth_in 0 parts p at.part nth_p) in
       let other = (is_p.tops o.source).0 o.there in
       let same : o.source ≡ t = one_top units o.source t other.there own.there (o.is ∙ own.rep) in

@@ -1,18 +1,15 @@
 -- Files that were read: no two of their units and entries stand at one place, and bytes spell each of their values.
-use Rattle.std.proofs.Common.{◌≡◌, ℕ, zero, suc, List, [], ◌∷◌, drop, Option, Some, None, Ok, slice_get, refl, subst}
-use Rattle.dwz_docs.specs.ElfNames.{sections_in}
-use Rattle.dwz_docs.specs.ElfReading.{bytes_in, section_range}
+use Rattle.std.proofs.Common.{◌≡◌, ℕ, zero, suc, List, [], ◌∷◌, Some, Ok, slice_get, refl, subst}
 use Rattle.dwz_docs.specs.Entries.{given}
 use Rattle.dwz_docs.specs.Units.{RawUnit}
 use Rattle.dwz_docs.specs.Values.{AreBytes}
-use Rattle.dwz_docs.proofs.WrittenLemmas.{drop_bytes}
 use Rattle.dwz_meanings.specs.Documents.{Doc}
-use Rattle.dwz_meanings.specs.Files.{Limits, Reads, debug_abbrev, debug_info, files_meaning, limits_after, no_files_before, section_of}
+use Rattle.dwz_meanings.specs.Files.{Limits, Reads, debug_abbrev, debug_info, files_meaning, limits_after, no_files_before}
 use Rattle.dwz_meanings.specs.Meanings.{without_siblings}
 use Rattle.dwz_meanings.proofs.FileLemmas.{file_agrees}
-use Rattle.dwz_seen.specs.Lists.{Each}
+use Rattle.dwz_docs.specs.Lists.{Each}
 use Rattle.dwz_writing.specs.Carried.{IsStored}
-use Rattle.dwz_writing.proofs.ReadAgain.{take_bytes}
+use Rattle.dwz_writing.proofs.ReadAgain.{section_bytes}
 use Rattle.dwz_same.specs.After.{ArePlaced}
 use Rattle.dwz_back.proofs.ReadPlaces.{read_from}
 use Rattle.dwz_unit.specs.Rows.{EntryRow, rows_of, units_of}
@@ -24,14 +21,6 @@ use Rattle.dwz_fitted.proofs.RowsStored.{rows_stored}
 use Rattle.dwz_laid.specs.Facts.{AreFacts, Facts, docs}
 
 -- ---- bytes
-
-in_bytes : (input : List ℕ) (range : Option (ℕ × ℕ)) → AreBytes input → AreBytes (bytes_in input range)
-in_bytes input None are = tt
-in_bytes input (Some range) are = take_bytes range.1 (drop range.0 input) (drop_bytes range.0 input are)
-
-section_bytes : (input : List ℕ) (code : ℕ) → AreBytes input → AreBytes (section_of input code)
-unfolding section_of
-section_bytes input code are = in_bytes input (section_range (sections_in input) code) are
 
 file_bytes : (l : Limits) (contents : List (List ℕ)) (i : ℕ) (m : Limits) (b : List ℕ) (raw : List RawUnit) (doc : Doc ℕ) → HasFile l contents i m b raw doc → Each AreBytes contents → AreBytes b
 file_bytes l [] i m b raw doc h are = absurd h

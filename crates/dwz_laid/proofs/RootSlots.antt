@@ -3,7 +3,7 @@ use Rattle.std.proofs.Common.{ℕ, suc, List, [], ◌∷◌, Option, Some, None,
 use Rattle.std.specs.Prelude.{slice_range}
 use Rattle.std.specs.Option.{option_map_or}
 use Rattle.dwz_docs.specs.Lists.{In}
-use Rattle.dwz_seen.proofs.Members.{in_cases}
+use Rattle.dwz_docs.proofs.ListFacts.{in_cases}
 use Rattle.dwz_layout.specs.declared.order.Item.{Item}
 use Rattle.dwz_layout.specs.declared.order.What.{What}
 use Rattle.dwz_layout.specs.declared.order.What.TheVariants.{Import, InChain, Root, Space, Top, Whole}

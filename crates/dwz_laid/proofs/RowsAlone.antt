@@ -3,11 +3,11 @@ use Rattle.std.proofs.Common.{◌≡◌, ℕ, ◌<◌, ◌≤◌, ◌⊎◌, Lis
 use Rattle.std.proofs.lemmas.Bool.{cases_lt}
 use Rattle.std.proofs.lemmas.List.{get_or_past}
 use Rattle.std.proofs.lemmas.Option.{slice_get-get_or}
-use Rattle.dwz_docs.specs.Lists.{In}
+use Rattle.dwz_docs.specs.Lists.{Each, In}
+use Rattle.dwz_docs.proofs.ListFacts.{got_in}
 use Rattle.dwz_meanings.specs.Documents.{Doc}
-use Rattle.dwz_alike.specs.Alike.{IsAlike, Scope}
+use Rattle.dwz_alike.specs.Alike.{IsAlike, TopScope}
 use Rattle.dwz_alike.specs.Spots.{PartialOf, Spot, UnitOf, units_of}
-use Rattle.dwz_seen.specs.Lists.{Each}
 use Rattle.dwz_moving.specs.Homes.{IsChoice, Rule}
 use Rattle.dwz_same.specs.After.{ArePlaced}
 use Rattle.dwz_writing.specs.Placing.{FileOut}
@@ -17,7 +17,6 @@ use Rattle.dwz_places.specs.declared.known.Known.{Known}
 use Rattle.dwz_places.specs.declared.order.UnitItems.{UnitItems}
 use Rattle.dwz_pages.specs.Shown.{Keys}
 use Rattle.dwz_known.specs.Names.{all_names}
-use Rattle.dwz_known.proofs.ImageLemmas.{get_in}
 use Rattle.dwz_known.proofs.OnceNames.{one_entry}
 use Rattle.dwz_laid.specs.Refers.{IsEntryNumber, RowsApart}
 use Rattle.dwz_laid.specs.Apart.{KeysOfNames, IsEntryName, IsUnitName}
@@ -37,7 +36,7 @@ module _ (docs : List (Doc ℕ)) where
   found n lt = slice_get-get_or (all_names docs) n (UnitOf 0) lt
 
   is_entry : (n : ℕ) → n < length (all_names docs) → IsEntryName (name_at n)
-  is_entry n lt = entry_named docs (name_at n) (get_in (all_names docs) n (name_at n) (found n lt))
+  is_entry n lt = entry_named docs (name_at n) (got_in (all_names docs) n (name_at n) (found n lt))
 
   one_row : (m n : ℕ) → m < length (all_names docs) → name_at m ≡ name_at n → m ≡ n
   one_row m n lt e = by (cases_lt n (length (all_names docs))) where
@@ -45,7 +44,8 @@ module _ (docs : List (Doc ℕ)) where
     by (inr past) = absurd (subst IsEntryName (e ∙ get_or_past (all_names docs) n (UnitOf 0) past) (is_entry m lt))
     by (inl less) = one_entry docs (name_at n) m n (found m lt ∙ ap (λ (s : Spot). Some s) e) (found n less)
 
-module _ (scope : Scope) (docs : List (Doc ℕ)) (rule : Rule) (placed : Each (λ doc. ArePlaced doc.units) docs) (is : IsAlike scope (units_of docs) rule.alike) (choice : IsChoice (units_of docs) rule)
+module _ (scope : TopScope) (docs : List (Doc ℕ)) (rule : Rule) (placed : Each (λ doc. ArePlaced doc.units) docs) (is : IsAlike scope (units_of docs) rule.alike)
+    (choice : IsChoice (units_of docs) rule)
     (input : Stored) (keys : Keys Spot) (k : Known) (order : List (List UnitItems)) (files : List (FileOut Spot)) (are : KeysOfNames docs keys) (many : length k.owners.items ≡ length (all_names docs))
     (into : (f : FileOut Spot) → In f files → In f (files_out (run_of rule docs input))) where
   less : (m : ℕ) → IsEntryNumber k m → m < length (all_names docs)

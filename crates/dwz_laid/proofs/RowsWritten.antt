@@ -1,10 +1,11 @@
 -- An entry whose name is one of the files' is written: the line with that name is that of a slot, and it was read, and is the same.
 use Rattle.std.proofs.Common.{◌≡◌, ℕ, suc, ◌+◌, ◌-◌, List, [], ◌∷◌, length, map, refl, sym, ap, subst, ◌∙◌, inl, inr}
 use Rattle.dwz_docs.specs.Lists.{In}
+use Rattle.dwz_docs.proofs.ListFacts.{in_cases, in_map}
 use Rattle.dwz_meanings.specs.Documents.{Compile, DwUnit, Kind, OfType, Partial}
 use Rattle.dwz_seen.specs.Seen.{IsPartial}
 use Rattle.dwz_seen.specs.Shown.{keys, unit_keys, units_keys}
-use Rattle.dwz_seen.proofs.Members.{From, in_cases, in_map, in_map_from}
+use Rattle.dwz_seen.proofs.Members.{From, in_map_from}
 use Rattle.dwz_layout.specs.Lines.{Line, lines, unit_lines}
 use Rattle.dwz_writing.specs.Placing.{FileOut, files_keys}
 use Rattle.dwz_places.specs.declared.known.Known.{Known}

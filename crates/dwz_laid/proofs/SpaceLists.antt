@@ -5,21 +5,22 @@ use Rattle.std.proofs.lemmas.List.{append-nil, append_assoc}
 use Rattle.dwz_docs.specs.Entries.{RawEntry, root_position}
 use Rattle.dwz_docs.specs.Trees.{End, Entry, Forest, Position, behind, first_below, size}
 use Rattle.dwz_docs.specs.Units.{RawUnit, entry_count}
+use Rattle.dwz_docs.proofs.ListFacts.{drop_first}
 use Rattle.dwz_meanings.specs.Documents.{Compile, DwUnit, Entries, Kind, Node, OfType, Partial, entries_map, kind_map, node_map, unit_map}
 use Rattle.dwz_meanings.specs.Meanings.{Around, MeanUnits, Scope, entries_meaning, node_meaning, scope_of}
 use Rattle.dwz_meanings.proofs.MeaningLemmas.{entries_agree}
 use Rattle.dwz_seen.specs.Spaces.{space_text}
 use Rattle.dwz_seen.proofs.SpaceLemmas.{text_map}
 use Rattle.dwz_alike.specs.Spots.{Spot, in_file}
-use Rattle.dwz_flat.proofs.StepLemmas.{first_of}
 use Rattle.dwz_flat.proofs.TopThere.{left_behind}
 use Rattle.dwz_flat.proofs.TreeLemmas.{Parts, no_more, parts, same_size}
 use Rattle.dwz_index.specs.declared.index.SpaceEntry.{SpaceEntry}
 use Rattle.dwz_index.specs.declared.index.Starts.{Starts}
 use Rattle.dwz_index.specs.Steps.{all_spaces, below_root, is_compile, is_space, space_entries, space_entry, spaces_among, spaces_by, starts_behind}
 use Rattle.dwz_index.proofs.AmongLemmas.{spaces_space, spaces_top}
-use Rattle.dwz_resolve.proofs.RowLemmas.{below-length, in-length}
 use Rattle.dwz_unit.specs.Rows.{EntryRow, rows_below, rows_from, rows_in, rows_of}
+use Rattle.dwz_unit.proofs.RowLemmas.{shown-length}
+use Rattle.dwz_unit.proofs.ShownLemmas.{rows_in-length}
 use Rattle.dwz_order.specs.Shown.{Pairs}
 use Rattle.dwz_order.specs.Spaces.{spaces_below, spaces_of, spaces_under}
 use Rattle.dwz_order.proofs.ChainShown.{pairs_append}
@@ -38,7 +39,7 @@ pub record IsHere (s : Scope ℕ) (name : ℕ → Spot) (rows : List EntryRow) (
 
 -- ---- the rows of an entry, those below it and those behind it
 
-record Split (rows : List EntryRow) (e : RawEntry) (c n : Forest RawEntry) (unit : ℕ) (from : Position) (after : List EntryRow) : Type 0 where
+record SplitRow (rows : List EntryRow) (e : RawEntry) (c n : Forest RawEntry) (unit : ℕ) (from : Position) (after : List EntryRow) : Type 0 where
   pub row : EntryRow
   pub entry : row.entry ≡ e
   pub of_unit : row.unit ≡ unit
@@ -47,15 +48,15 @@ record Split (rows : List EntryRow) (e : RawEntry) (c n : Forest RawEntry) (unit
   pub later : drop (behind from c).before rows ≡ rows_below n unit (behind from c) ++ after
 
 split : (rows : List EntryRow) (e : RawEntry) (c n : Forest RawEntry) (unit : ℕ) (from : Position) (after : List EntryRow) → drop from.before rows ≡ rows_below (Entry e c n) unit from ++ after
-    → Split rows e c n unit from after
+    → SplitRow rows e c n unit from after
 unfolding rows_below
 split rows e c n unit from after h =
     let row : EntryRow = record { entry = e; unit = unit; depth = from.depth; end = (behind from c).before } in
     let inside = rows_below c unit (first_below from) in
     let others = rows_below n unit (behind from c) in
-    let f = first_of rows from.before row ((inside ++ others) ++ after) h in
+    let f = drop_first rows from.before row ((inside ++ others) ++ after) h in
     let below = f.1 ∙ append_assoc inside others after in
-    let long = below-length c unit (first_below from) in
+    let long = shown-length c unit (first_below from) in
     record {
       row = row;
       entry = refl;
@@ -71,7 +72,7 @@ module _ (s : Scope ℕ) (name : ℕ → Spot) (rows : List EntryRow) (unit : �
   abbrev pub InStep : List SpaceEntry → Entries Spot → Type 0
   InStep xs g = Pairs (IsHere s name rows unit) xs (spaces_under g)
 
-  by_parts : (e : RawEntry) (c n : Forest RawEntry) (g : Entries ℕ) (x : Parts s e c n g) (from : Position) (after : List EntryRow) (outer k : ℕ) → Split rows e c n unit from after
+  by_parts : (e : RawEntry) (c n : Forest RawEntry) (g : Entries ℕ) (x : Parts s e c n g) (from : Position) (after : List EntryRow) (outer k : ℕ) → SplitRow rows e c n unit from after
       → ((o j : ℕ) → InStep (spaces_among is_space o j (from.before + 1) x.below) (entries_map name x.below))
       → ((j : ℕ) → InStep (spaces_among is_space outer j (from.before + 1 + size x.below) x.next) (entries_map name x.next))
       → (o : Option (List ℕ)) → space_text x.d ≡ o
@@ -157,7 +158,7 @@ module _ (around : Around ℕ) (name : ℕ → Spot) (raw : List RawUnit) where
   below_the_root u j first rest h =
       let p = root_position first in
       let row : EntryRow = record { entry = u.root; unit = j; depth = p.depth; end = (behind p u.below).before } in
-      let f = first_of (rows_of raw) first row ((rows_below u.below j (first_below p) ++ []) ++ rest) h in
+      let f = drop_first (rows_of raw) first row ((rows_below u.below j (first_below p) ++ []) ++ rest) h in
       f.1 ∙ ap (λ (w : List EntryRow). w ++ rest) (append-nil (rows_below u.below j (first_below p)))
 
   in_unit : (u : RawUnit) (v : DwUnit ℕ) (j k first : ℕ) (rest : List EntryRow) → slice_get raw j ≡ Some u → entries_meaning (scope_of around u) u.below ≡ Ok v.below
@@ -194,9 +195,9 @@ module _ (around : Around ℕ) (name : ℕ → Spot) (raw : List RawUnit) where
   in_units file (u ∷ us) (v ∷ vs) j first s means at rows =
       let below = ((entries_agree (scope_of around u) u.below).ok v.below).1 means.0.below in
       let same = same_size (scope_of around u) u.below v.below below in
-      let g = first_of raw j u us at in
+      let g = drop_first raw j u us at in
       let rest = rows_from us (j + 1) (first + entry_count u) in
-      let long = in-length u j first in
+      let long = rows_in-length u j first in
       let later = left_behind (rows_of raw) first (first + entry_count u) (rows_in u j first) rest rows (ap (λ (w : ℕ). first + w) long) in
       let place : first + entry_count u ≡ first + 1 + size v.below = omega (arith, same) in
       let next = starts_behind is_space s (below_root v) in

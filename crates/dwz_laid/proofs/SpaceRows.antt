@@ -1,25 +1,26 @@
 -- The spaces of all files, with the numbers of their files, in step with the rows that the lists have for them.
-use Rattle.std.proofs.Common.{◌≡◌, ℕ, suc, ◌+◌, ◌-◌, Bool, true, false, List, [], ◌∷◌, ◌++◌, length, map, Some, slice_get, ◌==◌, refl, sym, ap, subst, ◌∙◌, inl, inr, arith}
-use Rattle.std.specs.Prelude.{if◌then◌else◌}
+use Rattle.std.proofs.Common.{◌≡◌, ℕ, suc, ◌+◌, ◌-◌, List, [], ◌∷◌, ◌++◌, length, map, Some, slice_get, refl, sym, ap, subst, ◌∙◌, inl, inr, arith}
 use Rattle.std.proofs.lemmas.List.{append_assoc, length-append, length-map, map-append}
-use Rattle.dwz_meanings.specs.Documents.{Attr, Doc, DwUnit, Node, attr_map, first_named, node_map}
+use Rattle.std.proofs.lemmas.Option.{get_or_from_slice_get}
+use Rattle.dwz_docs.proofs.ListFacts.{get_first, got_below, got_map, got_there, same_got}
+use Rattle.dwz_meanings.specs.Documents.{Doc, DwUnit, Node, node_map}
 use Rattle.dwz_meanings.specs.Files.{around_of}
 use Rattle.dwz_meanings.specs.Meanings.{MeanUnits}
 use Rattle.dwz_meanings.proofs.FileLemmas.{file_agrees}
 use Rattle.dwz_seen.specs.Lists.{Nth}
 use Rattle.dwz_seen.specs.Spaces.{space_text}
 use Rattle.dwz_seen.proofs.SpaceLemmas.{text_map}
-use Rattle.dwz_alike.specs.Spots.{FileUnit, Spot, in_file, name_by, name_of, named_files}
+use Rattle.dwz_alike.specs.Spots.{FileUnit, Spot, in_file, name_of, named_files}
 use Rattle.dwz_moving.specs.Moves.{image_in}
 use Rattle.dwz_graph.specs.declared.file.File.{File}
 use Rattle.dwz_index.specs.declared.index.SpaceEntry.{SpaceEntry}
 use Rattle.dwz_index.specs.declared.index.Starts.{Starts}
 use Rattle.dwz_index.specs.Index.{Index}
-use Rattle.dwz_index.proofs.TopLemmas.{get_cases, get_first, get_later}
+use Rattle.dwz_index.proofs.TopLemmas.{get_cases, get_later}
 use Rattle.dwz_indexes.specs.Indexed.{AreIndexed, first_starts, starts_behind}
 use Rattle.dwz_unit.specs.Rows.{EntryRow, units_of as raw_units}
+use Rattle.dwz_flat.proofs.TopThere.{named_same}
 use Rattle.dwz_across.specs.Across.{IsFileAmong, file_units}
-use Rattle.dwz_across.proofs.ListGets.{get_there, got_below, got_index, got_map, same_got}
 use Rattle.dwz_known.proofs.NumberingLemmas.{nth_get}
 use Rattle.dwz_order.specs.Shown.{Pairs}
 use Rattle.dwz_order.specs.Spaces.{name_in, spaces_below, spaces_of, name_by as name_with}
@@ -91,15 +92,6 @@ record Stands (f : Facts) (r : Row) (x : ℕ × Node Spot) : Type 0 where
   pub named : space_text x.1 ≡ Some text
   pub said : name_of text x.1 ≡ name_of text d
 
-said_same : (text : List ℕ) (name : ℕ → Spot) (attrs : List (Attr ℕ)) → name_by text (first_named 0x03 (map (attr_map name) attrs)) ≡ name_by text (first_named 0x03 attrs)
-unfolding first_named
-said_same text name [] = refl
-said_same text name (a ∷ attrs) = go (said_same text name attrs) (a.name == 0x03) where
-  go : name_by text (first_named 0x03 (map (attr_map name) attrs)) ≡ name_by text (first_named 0x03 attrs) → (b : Bool)
-      → name_by text (if b then Some (attr_map name a) else first_named 0x03 (map (attr_map name) attrs)) ≡ name_by text (if b then Some a else first_named 0x03 attrs)
-  go more true = refl
-  go more false = more
-
 module _ (f : Facts) (facts : AreFacts f) where
   of_file : (n : ℕ) (bytes : List ℕ) (x : File) (index : Index) (h : HasFile f n bytes x index) (is : IsFileAmong f.contents n bytes x index)
       → Pairs (Stands f) (map (λ e. entry_row n e.entry) index.spaces) (filed (file_units index.starts n is.kept.read.doc))
@@ -126,7 +118,7 @@ module _ (f : Facts) (facts : AreFacts f) where
         node_is = ap (node_map (image_in (move f))) w.node ∙ node_named f n bytes x index is w.d;
         is_space = w.is_space;
         named = ap (λ (q : Node Spot). space_text q) w.node ∙ text_map called w.d ∙ w.is_space;
-        said = ap (name_of w.text) w.node ∙ said_same w.text called w.d.attrs;
+        said = ap (name_of w.text) w.node ∙ named_same w.text called w.d.attrs;
       }) some)
 
   -- file by file
@@ -168,7 +160,7 @@ parted : (before : List (FileUnit Spot)) (u : FileUnit Spot) (after : List (File
 unfolding filed
 parted before u after = filed_append before (u ∷ after)
 
-spaces_parted : (before : List (FileUnit Spot)) (u : FileUnit Spot) (after : List (FileUnit Spot))
+pub spaces_parted : (before : List (FileUnit Spot)) (u : FileUnit Spot) (after : List (FileUnit Spot))
     → spaces_of (before ++ u ∷ after) ≡ spaces_of before ++ (spaces_below u.unit.kind u.unit.below ++ spaces_of after)
 unfolding spaces_of
 spaces_parted before u after = spaces_append before (u ∷ after)
@@ -183,7 +175,7 @@ filed_there units i s u e nth is got =
     let high = is.space.high in
     let first = length (spaces_of is.before) in
     let j = s - first in
-    let r = get_there own j (omega arith) in
+    let r = got_there own j (omega arith) in
     let number : first + j ≡ s = omega arith in
     let long = filed_long is.before in
     let number_filed : length (filed is.before) + j ≡ s = omega arith in
@@ -217,7 +209,7 @@ space_rows_shown f t k facts listed n bytes x index h i s u e nth of is got =
     let here : slice_get (filed (units f)) s ≡ Some (n, e) = there ∙ ap (λ (w : ℕ). Some (w, e)) of in
     let low = got_below (filed (units f)) s (n, e) here in
     let long = pairs_long (Stands f) (space_entries 0 f.indexes) (filed (units f)) all in
-    let r = get_there (space_entries 0 f.indexes) s (omega arith) in
+    let r = got_there (space_entries 0 f.indexes) s (omega arith) in
     let w = pairs_at (Stands f) (space_entries 0 f.indexes) (filed (units f)) all s r.0 (n, e) r.1 here in
     let same = one_file f facts n w.bytes bytes w.file x w.index index w.has h in
     let reads : Reads f n w.bytes w.file w.i w.row w.d e = record { read = w.read; node_is = w.node_is } in
@@ -229,7 +221,7 @@ space_rows_shown f t k facts listed n bytes x index h i s u e nth of is got =
         i = w.i;
         x = w.row;
         d = w.d;
-        row_is = ap (λ (q : SpaceRow). q.row) (got_index k.spaces.items s text.0 no_space space) ∙ text.1 ∙ w.row_is;
+        row_is = ap (λ (q : SpaceRow). q.row) (get_or_from_slice_get k.spaces.items s text.0 no_space space) ∙ text.1 ∙ w.row_is;
         read = own.read;
         node_is = own.node_is;
       };

@@ -1,13 +1,14 @@
 -- A space of a unit, by its number among all spaces, stands in the unit.
 use Rattle.std.proofs.Common.{◌≡◌, ℕ, zero, suc, ◌+◌, ◌-◌, ◌<◌, List, [], ◌∷◌, ◌++◌, length, Some, slice_get, inl, inr, refl, sym, ap, subst, ◌∙◌, arith}
 use Rattle.dwz_docs.specs.Lists.{In}
+use Rattle.dwz_docs.proofs.ListFacts.{get_first}
 use Rattle.dwz_meanings.specs.Documents.{Node}
 use Rattle.dwz_seen.specs.Lists.{Nth}
 use Rattle.dwz_alike.specs.Spots.{FileUnit, Spot}
-use Rattle.dwz_index.proofs.TopLemmas.{get_first, get_later}
+use Rattle.dwz_index.proofs.TopLemmas.{get_later}
 use Rattle.dwz_order.specs.Spaces.{spaces_below, spaces_of}
-use Rattle.dwz_order.proofs.UnitRows.{spaces_append}
 use Rattle.dwz_laid.specs.Old.{SpaceLaw}
+use Rattle.dwz_laid.proofs.SpaceRows.{spaces_parted}
 
 got : {X : Type 0} (xs : List X) (k : ℕ) → k < length xs → (x : X) × (slice_get xs k ≡ Some x) × In x xs
 got [] k lt = absurd (omega arith)
@@ -19,11 +20,6 @@ nth_behind s [] x after = inl (omega arith, refl)
 nth_behind {X} s (y ∷ before) x after =
     let next : suc s + length before ≡ s + suc (length before) = omega arith in
     inr (subst (λ (n : ℕ). Nth (suc s) (before ++ x ∷ after) n x) next (nth_behind (suc s) before x after))
-
-spaces_parted : (before : List (FileUnit Spot)) (f : FileUnit Spot) (after : List (FileUnit Spot))
-    → spaces_of (before ++ f ∷ after) ≡ spaces_of before ++ (spaces_below f.unit.kind f.unit.below ++ spaces_of after)
-unfolding spaces_of
-spaces_parted before f after = spaces_append before (f ∷ after)
 
 pub space_stands : SpaceLaw
 space_stands units i s is =

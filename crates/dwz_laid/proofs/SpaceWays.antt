@@ -1,32 +1,31 @@
 -- The spaces that a top stands in are spaces of its unit: rows lead from each top of a unit, and from each space of it, to spaces of it alone.
 use Rattle.std.proofs.Common.{◌≡◌, ◌⊎◌, ℕ, zero, suc, ◌+◌, ◌-◌, ◌<◌, ◌≤◌, Bool, true, false, List, [], ◌∷◌, ◌++◌, drop, length, map, Some, slice_get, inl, inr, refl, sym, ap, subst, ◌∙◌, arith}
 use Rattle.std.proofs.lemmas.List.{append_assoc, length-append}
-use Rattle.dwz_docs.specs.Lists.{In}
+use Rattle.dwz_docs.specs.Lists.{Each, In}
 use Rattle.dwz_docs.specs.Trees.{End, Entry, Forest, size}
 use Rattle.dwz_meanings.specs.Documents.{DwUnit, Node, entries_map, kind_map, unit_map}
-use Rattle.dwz_seen.specs.Lists.{Each}
 use Rattle.dwz_seen.proofs.Members.{each_append, each_in, each_more}
 use Rattle.dwz_alike.specs.Spots.{FileUnit, Spot, Top, in_file, row_below, row_tops, top_count, tops_among as tops_in_units, tops_from}
 use Rattle.dwz_alike.proofs.NameLists.{count_map}
 use Rattle.dwz_alike.proofs.TopNumbers.{below_length}
+use Rattle.dwz_alike.proofs.TopOrder.{here_unit}
 use Rattle.dwz_index.specs.declared.index.SpaceEntry.{SpaceEntry}
 use Rattle.dwz_index.specs.declared.index.Starts.{Starts}
 use Rattle.dwz_index.specs.declared.index.TopEntry.{TopEntry}
-use Rattle.dwz_index.specs.Steps.{Below, all_spaces, all_tops, below_root, is_space, space_entries, spaces_among, spaces_by}
-use Rattle.dwz_index.specs.Steps.{spaces_of_list, starts_behind, top_entries, tops_among, tops_of_list}
+use Rattle.dwz_index.specs.Steps.{Below, all_spaces, all_tops, below_root, is_space, space_entries, spaces_among, spaces_by, spaces_of_list, starts_behind, top_entries, tops_among, tops_of_list}
 use Rattle.dwz_index.proofs.AmongLemmas.{spaces_many, spaces_space, spaces_top, tops_many, tops_space, tops_top}
+use Rattle.dwz_index.proofs.TopLemmas.{counts_same}
 use Rattle.dwz_layout.specs.declared.partial.SpaceRow.{SpaceRow}
 use Rattle.dwz_layout.specs.Chains.{Up}
 use Rattle.dwz_order.specs.Lists.{row_from, rows_from}
 use Rattle.dwz_order.specs.Shown.{Pairs, RowsFrom, named_units}
 use Rattle.dwz_order.specs.Spaces.{spaces_below, spaces_of}
 use Rattle.dwz_order.proofs.ChainShown.{pairs_append, rows_parted}
-use Rattle.dwz_order.proofs.FileChains.{spaces_same, tops_same}
+use Rattle.dwz_order.proofs.FileChains.{spaces_same}
 use Rattle.dwz_order.proofs.OutlineLemmas.{spaces_space as many_space, spaces_top as many_top}
 use Rattle.dwz_order.proofs.UnitRows.{spaces_append}
 use Rattle.dwz_laid.specs.Items.{IsOneOf}
 use Rattle.dwz_laid.specs.Old.{IsSpaceIn}
-use Rattle.dwz_laid.proofs.PartUnits.{here_unit}
 
 -- ---- of one list: of so many spaces, the first of which has that number, one more than the number of one, or 0
 
@@ -172,7 +171,7 @@ module _ (rows : List SpaceRow) (units : List (FileUnit Spot)) where
       let entries = top_entries is_space s.unit s.space first b in
       let tops = row_tops (row_below file s.unit s.top (unit_map name v) (kind_map name v.kind)) in
       let many : length entries ≡ length tops =
-      tops_long is_space s.space first b s.unit ∙ tops_same v ∙ sym (count_map name v.kind v.below) ∙ sym (below_length file s.unit s.top (unit_map name v) (kind_map name v.kind)) in
+      tops_long is_space s.space first b s.unit ∙ counts_same v ∙ sym (count_map name v.kind v.below) ∙ sym (below_length file s.unit s.top (unit_map name v) (kind_map name v.kind)) in
       pairs_of IsWay entries tops many (λ x t a h ups up.
       let inside = each_in (λ (y : TopEntry). Inside s.space n y.inner) x entries (unit_tops is_space s.space first b s.unit) a in
       let each = way_inside rows s.space n own (spaces_long is_space s.space first b) (unit_spaces is_space s.space first b) from x.inner ups inside up in
@@ -209,7 +208,7 @@ module _ (rows : List SpaceRow) (units : List (FileUnit Spot)) where
       let two = length-append (spaces_of before) (spaces_below kind below ++ []) in
       let three = length-append (spaces_below kind below) [] in
       let same = spaces_same name v in
-      let tops = tops_same v in
+      let tops = counts_same v in
       let count = count_map name v.kind v.below in
       let space_next : next.space ≡ length (spaces_of (before ++ f ∷ [])) = omega arith in
       let unit_next : next.unit ≡ length (before ++ f ∷ []) = omega arith in

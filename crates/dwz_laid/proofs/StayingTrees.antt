@@ -7,18 +7,17 @@ use Rattle.std.proofs.Math.Seq.{take-append_seam}
 use Rattle.dwz_docs.specs.Entries.{RawEntry}
 use Rattle.dwz_docs.specs.Trees.{End, Entry, Forest, Position, behind, first_below}
 use Rattle.dwz_docs.specs.Units.{RawUnit}
+use Rattle.dwz_docs.proofs.ListFacts.{drop_first, same_got}
 use Rattle.dwz_meanings.specs.Documents.{Entries, Node, entries_map, node_map}
 use Rattle.dwz_meanings.specs.Meanings.{entries_meaning, node_meaning, scope_of}
-use Rattle.dwz_seen.specs.Lists.{Each}
+use Rattle.dwz_docs.specs.Lists.{Each}
 use Rattle.dwz_seen.proofs.Members.{each_append}
 use Rattle.dwz_alike.specs.Spots.{Labelled, Spot, Within}
-use Rattle.dwz_flat.proofs.StepLemmas.{first_of}
 use Rattle.dwz_flat.proofs.TopThere.{left_behind}
 use Rattle.dwz_flat.proofs.TreeLemmas.{parts}
 use Rattle.dwz_moving.specs.Moves.{Move, image_in}
-use Rattle.dwz_resolve.proofs.RowLemmas.{below-length}
 use Rattle.dwz_unit.specs.Rows.{EntryRow, rows_below, rows_of}
-use Rattle.dwz_across.proofs.ListGets.{same_got}
+use Rattle.dwz_unit.proofs.RowLemmas.{shown-length}
 use Rattle.dwz_places.specs.declared.known.Known.{Known}
 use Rattle.dwz_places.specs.declared.known.Row.{Row}
 use Rattle.dwz_places.specs.declared.walk.Origin.{Origin}
@@ -27,6 +26,7 @@ use Rattle.dwz_places.specs.declared.walk.Slot.{Slot}
 use Rattle.dwz_places.specs.Entries.{row, row_slots, slot, slots_below, tree_slots}
 use Rattle.dwz_places.specs.Known.{row_at, rows_in}
 use Rattle.dwz_fitted.specs.Knows.{FileRead, IsRead, KnowsFile, ShowsRow, ShowsTree}
+use Rattle.dwz_fitted.proofs.RowFits.{row_slots-append}
 
 -- ---- names that stay
 
@@ -47,14 +47,6 @@ labelled_stay m name stays path i (Entry e c n) h =
     (subst (λ (w : Spot). IsStaying m (image_in m w)) (sym h.0) (stays (i ∷ path)), labelled_stay m name stays (i ∷ path) 0 c h.1, labelled_stay m name stays path (suc i) n h.2)
 
 -- ---- an entry of a file
-
-slots_append : (file depth base i : ℕ) (xs ys : List EntryRow) → row_slots file depth base i (xs ++ ys) ≡ row_slots file depth base i xs ++ row_slots file depth base (i + length xs) ys
-unfolding row_slots
-slots_append file depth base i [] ys = ap (λ (n : ℕ). row_slots file depth base n ys) (let e : i ≡ i + 0 = omega arith in e)
-slots_append file depth base i (x ∷ xs) ys =
-    let e : suc i + length xs ≡ i + length (x ∷ xs) = omega arith in
-    ap (λ (w : List Slot). slot (depth + (x.depth - base)) (OfRow (row file i)) ∷ w) (slots_append file depth base (suc i) xs ys
-    ∙ ap (λ (n : ℕ). row_slots file depth base (suc i) xs ++ row_slots file depth base n ys) e)
 
 pub read_one : (F : FileRead) (i : ℕ) (x y : EntryRow) (d e : Node ℕ) → IsRead F i x d → IsRead F i y e → d ≡ e
 read_one F i x y d e a b =
@@ -96,15 +88,15 @@ module _ (m : Move) (F : FileRead) where
         let inside = rows_below c un (first_below p) in
         let others = rows_below n un (behind p c) in
         let all : AreStaying m (entries_map F.after (Entry x.d x.below x.next)) = subst (λ (w : Entries ℕ). AreStaying m (entries_map F.after w)) (sym x.is) stays in
-        let at = first_of (rows_of F.raw) p.before r ((inside ++ others) ++ rest) found in
+        let at = drop_first (rows_of F.raw) p.before r ((inside ++ others) ++ rest) found in
         let read : IsRead F p.before r x.d = record { unit = u; found = at.0; is_unit = is_unit; means = x.node } in
         let below : drop (first_below p).before (rows_of F.raw) ≡ inside ++ (others ++ rest) = at.1 ∙ append_assoc inside others rest in
-        let many = below-length c un (first_below p) in
+        let many = shown-length c un (first_below p) in
         let later = left_behind (rows_of F.raw) (first_below p).before (behind p c).before inside (others ++ rest) below (omega (arith, many)) in
         let one : suc p.before ≡ (first_below p).before = omega arith in
         let two : suc p.before + length inside ≡ (behind p c).before = omega (arith, many) in
         let split : row_slots F.number depth base (suc p.before) (inside ++ others) ≡ Slots c (first_below p) ++ Slots n (behind p c) =
-        slots_append F.number depth base (suc p.before) inside others ∙ (λ i. row_slots F.number depth base (one i) inside ++ row_slots F.number depth base (two i) others) in
+        row_slots-append F.number depth base (suc p.before) inside others ∙ (λ i. row_slots F.number depth base (one i) inside ++ row_slots F.number depth base (two i) others) in
         let children = forest_stays c x.below (first_below p) (others ++ rest) x.of_below below all.1 in
         let siblings = forest_stays n x.next (behind p c) rest x.of_next later all.2 in
         let both = each_append (λ s. OriginStays s.origin) (Slots c (first_below p)) (Slots n (behind p c)) children siblings in
@@ -125,14 +117,14 @@ module _ (m : Move) (F : FileRead) where
       let x : EntryRow = record { entry = t.e; unit = t.number; depth = p.depth; end = (behind p t.c).before } in
       let inside = rows_below t.c t.number (first_below p) in
       let stand : drop p.before (rows_of F.raw) ≡ x ∷ (inside ++ t.behind) = t.stand ∙ ap (λ (w : List EntryRow). w ++ t.behind) (first_row t.e t.c t.number p) in
-      let at = first_of (rows_of F.raw) p.before x (inside ++ t.behind) stand in
+      let at = drop_first (rows_of F.raw) p.before x (inside ++ t.behind) stand in
       let y = parts (scope_of F.around t.unit) t.e t.c End (Entry t.d t.g End) t.means in
       let whole : Entry y.d y.below y.next ≡ Entry t.d t.g End = y.is in
       let d_is : y.d ≡ t.d = cc in
       let g_is : y.below ≡ t.g = cc in
       let read : IsRead F p.before x y.d = record { unit = t.unit; found = at.0; is_unit = t.is_unit; means = y.node } in
       let there : row_at k top ≡ Some x = ap (λ (w : List EntryRow). slice_get w p.before) file.rows ∙ at.0 in
-      let many = below-length t.c t.number (first_below p) in
+      let many = shown-length t.c t.number (first_below p) in
       let one : (first_below p).before ≡ suc p.before = omega arith in
       let count : (behind p t.c).before - suc p.before ≡ length inside = omega (arith, many) in
       let range : slice_range (rows_in k F.number) (suc p.before) (behind p t.c).before ≡ inside =

@@ -2,7 +2,7 @@
 use Rattle.std.proofs.Common.{◌≡◌, ℕ, suc, ◌-◌, List, [], ◌∷◌, ◌++◌, refl, sym, ap, subst}
 use Rattle.dwz_docs.specs.Trees.{End, Entry}
 use Rattle.dwz_meanings.specs.Documents.{Node}
-use Rattle.dwz_seen.specs.Lists.{Each}
+use Rattle.dwz_docs.specs.Lists.{Each}
 use Rattle.dwz_seen.proofs.Members.{each_more, each_split}
 use Rattle.dwz_alike.specs.Spots.{Import, InChain, RootOf, SpaceAt, Spot, UnitOf, Within}
 use Rattle.dwz_layout.specs.declared.order.Item.{Item}

@@ -7,19 +7,19 @@ use Rattle.std.proofs.Math.Seq.{take-append_seam}
 use Rattle.dwz_docs.specs.Entries.{RawEntry}
 use Rattle.dwz_docs.specs.Trees.{End, Entry, Forest, Position, behind, first_below}
 use Rattle.dwz_docs.specs.Units.{RawUnit}
+use Rattle.dwz_docs.proofs.ListFacts.{drop_first}
 use Rattle.dwz_meanings.specs.Documents.{Entries, Node, entries_map, node_map}
 use Rattle.dwz_meanings.specs.Meanings.{entries_meaning, scope_of}
-use Rattle.dwz_seen.specs.Lists.{Each}
+use Rattle.dwz_docs.specs.Lists.{Each}
 use Rattle.dwz_seen.proofs.Members.{each_append}
 use Rattle.dwz_alike.specs.Spots.{Labelled, LabelledTop, Spot, Top, Within}
-use Rattle.dwz_flat.proofs.StepLemmas.{first_of}
 use Rattle.dwz_flat.proofs.TopThere.{left_behind}
 use Rattle.dwz_flat.proofs.TreeLemmas.{parts}
 use Rattle.dwz_graph.specs.declared.file.File.{File}
 use Rattle.dwz_index.specs.Index.{Index}
 use Rattle.dwz_across.specs.Across.{name_at}
-use Rattle.dwz_resolve.proofs.RowLemmas.{below-length}
 use Rattle.dwz_unit.specs.Rows.{EntryRow, rows_below, rows_of, units_of as raw_units}
+use Rattle.dwz_unit.proofs.RowLemmas.{shown-length}
 use Rattle.dwz_places.specs.declared.known.Known.{Known}
 use Rattle.dwz_places.specs.declared.known.Row.{Row}
 use Rattle.dwz_places.specs.declared.walk.Origin.{Origin}
@@ -28,18 +28,11 @@ use Rattle.dwz_places.specs.declared.walk.Slot.{Slot}
 use Rattle.dwz_places.specs.Entries.{row, row_slots, slot, slots_below, tree_slots}
 use Rattle.dwz_places.specs.Known.{row_at, rows_in, top_row}
 use Rattle.dwz_fitted.specs.Knows.{FileRead, IsRead}
+use Rattle.dwz_fitted.proofs.RowFits.{row_slots-append}
 use Rattle.dwz_laid.specs.Facts.{Facts, file_read}
 use Rattle.dwz_laid.proofs.FileEntries.{IsHere, named, read_name, run_name}
 
-row_slots-append : (file depth base i : ℕ) (xs ys : List EntryRow) → row_slots file depth base i (xs ++ ys) ≡ row_slots file depth base i xs ++ row_slots file depth base (i + length xs) ys
-unfolding row_slots
-row_slots-append file depth base i [] ys = ap (λ (n : ℕ). row_slots file depth base n ys) (let e : i ≡ i + 0 = omega arith in e)
-row_slots-append file depth base i (x ∷ xs) ys =
-    let e : suc i + length xs ≡ i + length (x ∷ xs) = omega arith in
-    ap (λ (w : List Slot). slot (depth + (x.depth - base)) (OfRow (row file i)) ∷ w) (row_slots-append file depth base (suc i) xs ys
-    ∙ ap (λ (n : ℕ). row_slots file depth base (suc i) xs ++ row_slots file depth base n ys) e)
-
-first_row : (e : RawEntry) (c : Forest RawEntry) (un : ℕ) (p : Position)
+pub first_row : (e : RawEntry) (c : Forest RawEntry) (un : ℕ) (p : Position)
     → rows_below (Entry e c End) un p ≡ record { entry = e; unit = un; depth = p.depth; end = (behind p c).before } ∷ rows_below c un (first_below p)
 unfolding rows_below
 first_row e c un p = (let r : EntryRow = record { entry = e; unit = un; depth = p.depth; end = (behind p c).before } in ap (λ (w : List EntryRow). r ∷ w)
@@ -100,10 +93,10 @@ module _ (f : Facts) (k : Known) (n : ℕ) (x : File) (index : Index) (o : IsHer
         let r : EntryRow = record { entry = e; unit = un; depth = p.depth; end = (behind p c).before } in
         let inside = rows_below c un (first_below p) in
         let others = rows_below m un (behind p c) in
-        let at = first_of all p.before r ((inside ++ others) ++ rest) found in
+        let at = drop_first all p.before r ((inside ++ others) ++ rest) found in
         let read : IsRead F p.before r y.d = record { unit = u; found = at.0; is_unit = is_unit; means = y.node } in
         let below : drop (first_below p).before all ≡ inside ++ (others ++ rest) = at.1 ∙ append_assoc inside others rest in
-        let many = below-length c un (first_below p) in
+        let many = shown-length c un (first_below p) in
         let later = left_behind all (first_below p).before (behind p c).before inside (others ++ rest) below (omega (arith, many)) in
         let one : suc p.before ≡ (first_below p).before = omega arith in
         let two : suc p.before + length inside ≡ (behind p c).before = omega (arith, many) in
@@ -125,14 +118,14 @@ module _ (f : Facts) (k : Known) (n : ℕ) (x : File) (index : Index) (o : IsHer
       let r : EntryRow = record { entry = t.e; unit = t.number; depth = p.depth; end = (behind p t.c).before } in
       let inside = rows_below t.c t.number (first_below p) in
       let stand : drop p.before all ≡ r ∷ (inside ++ t.behind_it) = t.stand ∙ ap (λ (w : List EntryRow). w ++ t.behind_it) (first_row t.e t.c t.number p) in
-      let at = first_of all p.before r (inside ++ t.behind_it) stand in
+      let at = drop_first all p.before r (inside ++ t.behind_it) stand in
       let y = parts (scope_of F.around t.unit) t.e t.c End (Entry t.d t.g End) t.means in
       let whole : Entry y.d y.below y.next ≡ Entry t.d t.g End = y.is in
       let d_is : y.d ≡ t.d = cc in
       let g_is : y.below ≡ t.g = cc in
       let read : IsRead F p.before r y.d = record { unit = t.unit; found = at.0; is_unit = t.is_unit; means = y.node } in
       let there : row_at k first ≡ Some r = ap (λ (w : List EntryRow). slice_get w p.before) file ∙ at.0 in
-      let many = below-length t.c t.number (first_below p) in
+      let many = shown-length t.c t.number (first_below p) in
       let one : (first_below p).before ≡ suc p.before = omega arith in
       let count : (behind p t.c).before - suc p.before ≡ length inside = omega (arith, many) in
       let range : slice_range (rows_in k n) (suc p.before) (behind p t.c).before ≡ inside =

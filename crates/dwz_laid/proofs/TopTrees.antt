@@ -1,8 +1,10 @@
 -- Each top stands where the index of its file says, and there the lists lead.
 use Rattle.std.proofs.Common.{◌≡◌, ℕ, ◌+◌, ◌<◌, List, Some, slice_get, sym, ap, subst, ◌∙◌, arith}
 use Rattle.std.proofs.lemmas.List.{length-map}
+use Rattle.std.proofs.lemmas.Option.{get_or_from_slice_get}
 use Rattle.dwz_docs.specs.Lists.{In}
 use Rattle.dwz_docs.specs.Units.{RawUnit, entries_in}
+use Rattle.dwz_docs.proofs.ListFacts.{got_in, got_there, same_got}
 use Rattle.dwz_meanings.specs.Documents.{entries_map, node_map}
 use Rattle.dwz_alike.specs.Spots.{Top, tops_of}
 use Rattle.dwz_alike.proofs.TopNumbers.{number_below, one_top, tops_numbers}
@@ -11,14 +13,13 @@ use Rattle.dwz_graph.specs.declared.file.File.{File}
 use Rattle.dwz_index.specs.declared.index.TopEntry.{TopEntry}
 use Rattle.dwz_index.specs.Index.{Index}
 use Rattle.dwz_indexes.specs.Indexed.{first_starts}
-use Rattle.dwz_resolve.proofs.RowLemmas.{rows-length, there}
+use Rattle.dwz_resolve.proofs.RowLemmas.{rows-length}
 use Rattle.dwz_unit.specs.declared.rows.RawEntry.{RawEntry as EntryOfCode}
 use Rattle.dwz_unit.specs.Rows.{entry_shown, rows_of, shown_entries, units_of as raw_units}
 use Rattle.dwz_across.specs.Across.{IsFileAmong, IsTopOf}
 use Rattle.dwz_across.proofs.FileCounts.{found}
 use Rattle.dwz_across.proofs.FileEntries.{gives_top}
 use Rattle.dwz_across.proofs.FileWalk.{is_among}
-use Rattle.dwz_across.proofs.ListGets.{got_in, got_index, same_got}
 use Rattle.dwz_places.specs.declared.known.Known.{Known}
 use Rattle.dwz_places.specs.Entries.{row}
 use Rattle.dwz_places.specs.Known.{no_row, top_row}
@@ -41,7 +42,7 @@ record TopPlace (f : Facts) (top : Top) : Type 0 where
   pub number : top.number ≡ index.starts.top + k
   pub of_file : top.file ≡ file
 
-file_moved : (a b : Top) (file : ℕ) → a ≡ b → a.file ≡ file → b.file ≡ file
+pub file_moved : (a b : Top) (file : ℕ) → a ≡ b → a.file ≡ file → b.file ≡ file
 file_moved a b file same is = ap (λ (t : Top). t.file) (sym same) ∙ is
 
 module _ (f : Facts) (facts : AreFacts f) where
@@ -75,7 +76,7 @@ module _ (f : Facts) (facts : AreFacts f) where
     shown_there i lt =
         let long = rows-length raw in
         let many = length-map (rows_of raw) entry_shown in
-        there (shown_entries raw) i (omega arith)
+        got_there (shown_entries raw) i (omega arith)
 
     tree : (k : Known) (t : TextsAt) → AreListed f t k → slice_get f.indexes n ≡ Some index → (top : Top) (j : ℕ) (e : TopEntry) → slice_get index.tops j ≡ Some e
         → IsTopOf f.contents n bytes x index among.kept.read.doc j e top
@@ -101,7 +102,7 @@ module _ (f : Facts) (facts : AreFacts f) where
           g = w.g;
           p = w.p;
           behind = w.after;
-          row_is = got_index k.tops.items top.number (row n e.entry) no_row listed_row ∙ ap (row n) (sym s.from);
+          row_is = get_or_from_slice_get k.tops.items top.number (row n e.entry) no_row listed_row ∙ ap (row n) (sym s.from);
           stand = w.stand;
           means = w.means;
           node_is = ap (node_map (image_in (move f))) w.node ∙ node_named f n bytes x index among w.d;

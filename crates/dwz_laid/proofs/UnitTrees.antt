@@ -1,18 +1,17 @@
 -- A unit of a file stands from its root on; the entry of the type of a type unit is in no top, so it stands for itself.
-use Rattle.std.proofs.Common.{◌≡◌, ℕ, ◌+◌, List, [], ◌∷◌, ◌++◌, drop, Some, Ok, slice_get, refl, sym, ap, subst, ◌∙◌, inl, inr}
-use Rattle.dwz_bytes.specs.Reading.{◌>>=◌}
-use Rattle.dwz_docs.specs.Entries.{RawEntry, root_position}
+use Rattle.std.proofs.Common.{◌≡◌, ℕ, ◌+◌, List, [], ◌∷◌, ◌++◌, drop, Some, slice_get, refl, sym, ap, subst, ◌∙◌, inl, inr}
+use Rattle.dwz_docs.specs.Entries.{root_position}
 use Rattle.dwz_docs.specs.Lists.{In}
-use Rattle.dwz_docs.specs.Trees.{End, Entry, Forest}
 use Rattle.dwz_docs.specs.Units.{CompileUnit, PartialUnit, RawKind, RawUnit, TypeUnit}
-use Rattle.dwz_meanings.specs.Documents.{Compile, DwUnit, Entries, Kind, Node, OfType, entries_map, kind_map, node_map, unit_map}
+use Rattle.dwz_docs.proofs.ListFacts.{in_map}
+use Rattle.dwz_meanings.specs.Documents.{Compile, DwUnit, Kind, OfType, entries_map, kind_map, node_map, unit_map}
 use Rattle.dwz_meanings.specs.Files.{around_of}
-use Rattle.dwz_meanings.specs.Meanings.{Around, MeansKind, MeansUnit, Scope, entries_meaning, node_meaning, places_of, scope_of, with_next}
+use Rattle.dwz_meanings.specs.Meanings.{Around, MeansKind, MeansUnit, places_of, scope_of}
 use Rattle.dwz_meanings.proofs.MeaningLemmas.{entries_agree, node_agrees}
 use Rattle.dwz_seen.specs.Lists.{Nth}
 use Rattle.dwz_seen.specs.Seen.{IsPartial}
 use Rattle.dwz_seen.specs.Shown.{keys as places_below}
-use Rattle.dwz_seen.proofs.Members.{in_has, in_map, nth_in}
+use Rattle.dwz_seen.proofs.Members.{in_has, nth_in}
 use Rattle.dwz_alike.specs.Spots.{FileUnit, InType, Labelled, RootOf, Spot, in_file, row_of as tops_row}
 use Rattle.dwz_moving.specs.Moves.{image_in}
 use Rattle.dwz_moving.specs.Plan.{image_by}
@@ -23,6 +22,7 @@ use Rattle.dwz_resolve.specs.Resolved.{place_at}
 use Rattle.dwz_graph.specs.declared.file.File.{File}
 use Rattle.dwz_index.specs.Index.{Index}
 use Rattle.dwz_unit.specs.Rows.{EntryRow, rows_in, rows_of, units_of as raw_units}
+use Rattle.dwz_flat.proofs.TopThere.{alone_means}
 use Rattle.dwz_across.specs.Across.{IsFileAmong}
 use Rattle.dwz_order.specs.Sorts.{SortBy, SortOf, row_of}
 use Rattle.dwz_places.specs.declared.known.Known.{Known}
@@ -58,11 +58,6 @@ main_stays all old i u nth signature main kind stand =
 
 -- ---- all of a unit
 
-both_mean : (s : Scope ℕ) (e : RawEntry) (c : Forest RawEntry) (d : Node ℕ) (g : Entries ℕ) → node_meaning s e ≡ Ok d → entries_meaning s c ≡ Ok g
-    → entries_meaning s (Entry e c End) ≡ Ok (Entry d g End)
-unfolding entries_meaning
-both_mean s e c d g one below = λ i. one i >>= λ d'. below i >>= λ g'. Ok End >>= with_next d' g'
-
 module _ (f : Facts) (n : ℕ) (bytes : List ℕ) (x : File) (index : Index) (is : IsFileAmong f.contents n bytes x index) where
   abbrev pub raw : List RawUnit
   raw = raw_units x.units
@@ -89,7 +84,7 @@ module _ (f : Facts) (n : ℕ) (bytes : List ℕ) (x : File) (index : Index) (is
         behind = rest;
         row_is = refl;
         stand = rows;
-        means = both_mean s u.root u.below v.root v.below (((node_agrees s u.root).ok v.root).1 means.root) (((entries_agree s u.below).ok v.below).1 means.below);
+        means = alone_means s u.root u.below v.root v.below (((node_agrees s u.root).ok v.root).1 means.root) (((entries_agree s u.below).ok v.below).1 means.below);
         node_is = node_named f n bytes x index is v.root;
         below_is = entries_named f n bytes x index is v.below;
       }

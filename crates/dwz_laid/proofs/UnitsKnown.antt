@@ -3,10 +3,11 @@ use Rattle.std.proofs.Common.{◌≡◌, ℕ, suc, ◌+◌, Bool, true, false, L
 use Rattle.std.proofs.lemmas.Bool.{eqb-true, le-ltb}
 use Rattle.std.specs.Prelude.{nat_lt}
 use Rattle.dwz_docs.specs.Lists.{In}
+use Rattle.dwz_docs.proofs.ListFacts.{got_in, in_right}
 use Rattle.dwz_meanings.specs.Documents.{Compile, DwUnit, Kind, OfType, Partial}
 use Rattle.dwz_meanings.specs.Meanings.{IfSo}
 use Rattle.dwz_seen.specs.Lists.{Nth}
-use Rattle.dwz_seen.proofs.Members.{in_right}
+use Rattle.dwz_seen.proofs.Members.{nth_of}
 use Rattle.dwz_alike.specs.Spots.{FileUnit, PartialOf, Spot, UnitOf}
 use Rattle.dwz_index.proofs.TopLemmas.{get_cases}
 use Rattle.dwz_moving.specs.Homes.{Common, Home, Local, same_home}
@@ -17,9 +18,7 @@ use Rattle.dwz_writing.specs.Placing.{CommonUnit, holder_of}
 use Rattle.dwz_back.proofs.WithinLemmas.{kept_to}
 use Rattle.dwz_graph.specs.declared.file.File.{File}
 use Rattle.dwz_index.specs.Index.{Index}
-use Rattle.dwz_across.proofs.ListGets.{got_in}
 use Rattle.dwz_known.specs.Owners.{files_written}
-use Rattle.dwz_known.proofs.WholeLemmas.{nth_got}
 use Rattle.dwz_order.specs.Orders.{First, KeptShown, ShowsKept}
 use Rattle.dwz_laid.specs.Old.{EachOld, OldNames}
 use Rattle.dwz_places.specs.declared.known.Known.{Known}
@@ -42,7 +41,7 @@ use Rattle.dwz_laid.proofs.WrittenNames.{knows_names}
 
 -- ---- it is no unit of the common file
 
-partial_is : (m : Move) (h : Home) (s : ℕ) (parts : List PartialUnit) (u : DwUnit Spot) → In u (partial_units m h s parts) → (p : ℕ) × (u.at ≡ PartialOf p)
+pub partial_is : (m : Move) (h : Home) (s : ℕ) (parts : List PartialUnit) (u : DwUnit Spot) → In u (partial_units m h s parts) → (p : ℕ) × (u.at ≡ PartialOf p)
 unfolding partial_units
 partial_is m h s [] u is = absurd is
 partial_is m h s (part ∷ parts) u is = by (same_home part.home h) is (partial_is m h (suc s) parts u) where
@@ -52,7 +51,7 @@ partial_is m h s (part ∷ parts) u is = by (same_home part.home h) is (partial_
   by true (inr r) more = more r
   by false r more = more r
 
-not_common : (kind : Kind Spot) → holder_of false kind ≡ CommonUnit → ⊥
+pub not_common : (kind : Kind Spot) → holder_of false kind ≡ CommonUnit → ⊥
 not_common Compile e = cc
 not_common (OfType signature main) e = cc
 not_common Partial e = cc
@@ -157,5 +156,5 @@ module _ (f : Facts) (t : TextsAt) (k : Known) (facts : AreFacts f) (listed : Ar
 pub kept_known : KeptKnownLaw
 kept_known f t k s facts listed settled n bytes x index h w start at numbers here order kept stand texts =
     units_known f t k facts listed n bytes x index h (file_changes f n w) start numbers 0 here (units f) order (in_order f facts n bytes x index h t k s listed settled start order kept w)
-    (stand_for f facts n bytes x index h t k s listed settled start order kept) (are_shown f facts n bytes x index h t k s listed settled start order kept at) (λ j u e. nth_got 0 (units f) j u e)
+    (stand_for f facts n bytes x index h t k s listed settled start order kept) (are_shown f facts n bytes x index h t k s listed settled start order kept at) (λ j u e. nth_of 0 (units f) j u e)
     stand texts

@@ -3,14 +3,16 @@ use Rattle.std.proofs.Common.{◌≡◌, ◌⊎◌, ℕ, zero, suc, ◌+◌, ◌
 use Rattle.std.specs.Prelude.{nat_lt, slice_index}
 use Rattle.std.proofs.lemmas.Bool.{le-ltb, lt-ltb}
 use Rattle.std.proofs.lemmas.List.{append_assoc, length-map}
+use Rattle.std.proofs.lemmas.Option.{get_or_from_slice_get}
 use Rattle.dwz_docs.specs.Lists.{In}
-use Rattle.dwz_meanings.specs.Documents.{Doc, DwUnit}
+use Rattle.dwz_docs.proofs.ListFacts.{got_below, got_in, in_left, in_right}
+use Rattle.dwz_meanings.specs.Documents.{DwUnit}
 use Rattle.dwz_seen.specs.Lists.{NoneTwice, Nth}
 use Rattle.dwz_seen.specs.Shown.{unit_keys, units_keys}
-use Rattle.dwz_seen.proofs.Members.{in_left, in_right}
 use Rattle.dwz_seen.proofs.OnceLemmas.{none_both}
 use Rattle.dwz_alike.specs.Deciding.{same_bool}
 use Rattle.dwz_alike.specs.Spots.{FileUnit, PartialRoot, Spot, file_numbers, same_spot}
+use Rattle.dwz_alike.proofs.FileNumbers.{numbers_long}
 use Rattle.dwz_index.proofs.TopLemmas.{get_cases}
 use Rattle.dwz_moving.specs.Homes.{Common, Local}
 use Rattle.dwz_moving.specs.Moves.{Move}
@@ -19,7 +21,6 @@ use Rattle.dwz_same.specs.Units.{changes, common_units, kept_units, out_units, p
 use Rattle.dwz_same.proofs.ApartUnits.{keys_joined}
 use Rattle.dwz_writing.specs.Placing.{has_key}
 use Rattle.dwz_back.proofs.WithinLemmas.{parts_to}
-use Rattle.dwz_across.proofs.ListGets.{got_below, got_in, got_index}
 use Rattle.dwz_known.specs.Owners.{IsFileWritten, StandsIn, files_written}
 use Rattle.dwz_known.proofs.ReachLemmas.{common_tells, file_tells, own_tells, written_once}
 use Rattle.dwz_places.specs.declared.known.Known.{Known}
@@ -58,11 +59,6 @@ file_part m us file (false ∷ written) (suc n) number e is =
     let o = file_part m us (suc file) written n number (omega (arith, e)) is in
     record { before = o.before; after = o.after; are = o.are }
 
-numbers_many : (s : ℕ) (said : List (Doc ℕ)) → length (file_numbers s said) ≡ length said
-unfolding file_numbers
-numbers_many s [] = refl
-numbers_many s (d ∷ said) = ap suc (numbers_many (suc s) said)
-
 -- ---- in which of two lists of units a unit is
 
 no_both : (xs ys : List (DwUnit Spot)) (u : DwUnit Spot) → NoneTwice (units_keys (xs ++ ys)) → In u xs → In u ys → ⊥
@@ -100,7 +96,7 @@ module _ (f : Facts) (t : TextsAt) (k : Known) (facts : AreFacts f) (listed : Ar
 
   once : NoneTwice (units_keys (units_written f))
   once = written_once (docs f) (rule f) (written f) (all_placed f facts)
-      (let many = length-map (file_numbers 0 (docs f)) (changes (move f) (units f)) in let as_many = numbers_many 0 (docs f) in omega (arith, many, as_many))
+      (let many = length-map (file_numbers 0 (docs f)) (changes (move f) (units f)) in let as_many = numbers_long 0 (docs f) in omega (arith, many, as_many))
 
   commons_are : k.commons ≡ length common
   commons_are = listed.commons ∙ facts.numbers.commons_are
@@ -140,7 +136,7 @@ module _ (f : Facts) (t : TextsAt) (k : Known) (facts : AreFacts f) (listed : Ar
   pub part_number : (p : ℕ) (part : PartialUnit) → Nth 0 (move f).parts p part → slice_get (units_written f) (unit_of_part k p) ≡ Some (partial_unit (move f) p)
   part_number p part nth =
       let o = facts.numbers.parts_are p part nth in
-      let at : unit_of_part k p ≡ o.0 = ap (λ (w : List ℕ). slice_index w p) listed.parts ∙ got_index f.parts p o.0 0 o.1 in
+      let at : unit_of_part k p ≡ o.0 = ap (λ (w : List ℕ). slice_index w p) listed.parts ∙ get_or_from_slice_get f.parts p o.0 0 o.1 in
       ap (slice_get (units_written f)) at ∙ o.2
 
   part_root : (p : ℕ) (part : PartialUnit) → Nth 0 (move f).parts p part → (keys f).root (unit_of_part k p) ≡ PartialRoot p

@@ -1,16 +1,16 @@
 -- What stands at a place in lists that are made file by file, and entry by entry.
 use Rattle.std.proofs.Common.{◌≡◌, ℕ, zero, suc, ◌+◌, ◌-◌, ◌<◌, ◌≤◌, List, [], ◌∷◌, ◌++◌, length, Some, slice_get, refl, sym, ap, subst, ◌∙◌, inl, inr, arith}
+use Rattle.dwz_docs.proofs.ListFacts.{get_first, got_below}
 use Rattle.dwz_meanings.specs.Documents.{Doc}
 use Rattle.dwz_alike.specs.Spots.{Spot}
 use Rattle.dwz_graph.specs.declared.file.File.{File}
 use Rattle.dwz_index.specs.declared.index.Starts.{Starts}
 use Rattle.dwz_index.specs.Index.{Index, IsIndex}
 use Rattle.dwz_index.specs.Names.{names_from, top_in}
-use Rattle.dwz_index.proofs.TopLemmas.{get_cases, get_first, get_later}
+use Rattle.dwz_index.proofs.TopLemmas.{get_cases, get_later}
 use Rattle.dwz_indexes.specs.Indexed.{AreIndexed, starts_behind}
 use Rattle.dwz_plan.specs.Planned.{Planned}
 use Rattle.dwz_unit.specs.Rows.{EntryRow, rows_of, units_of}
-use Rattle.dwz_across.proofs.ListGets.{got_below}
 use Rattle.dwz_known.specs.declared.firsts.Before.{Before}
 use Rattle.dwz_known.specs.Befores.{befores_from, behind}
 use Rattle.dwz_known.specs.Images.{starts_from}

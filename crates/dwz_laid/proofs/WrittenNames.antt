@@ -2,9 +2,9 @@
 use Rattle.std.proofs.Common.{◌≡◌, ℕ, ℤ, suc, ◌+◌, Bool, true, false, List, [], ◌∷◌, ◌++◌, Option, Some, slice_get, refl, sym, ap, subst, ◌∙◌, inl, inr, arith}
 use Rattle.dwz_docs.specs.Lists.{In}
 use Rattle.dwz_docs.specs.Trees.{End, Entry}
+use Rattle.dwz_docs.proofs.ListFacts.{in_cases}
 use Rattle.dwz_meanings.specs.Documents.{Compile, Entries, Kind, Node, OfType, Partial, entries_map, language}
 use Rattle.dwz_seen.specs.Lists.{Nth}
-use Rattle.dwz_seen.proofs.Members.{in_cases}
 use Rattle.dwz_alike.specs.Spots.{Import, InChain, InType, PartialOf, PartialRoot, RootOf, SpaceAt, Spot, UnitOf, Within}
 use Rattle.dwz_alike.specs.Spots.{ASpace, ATop, FileUnit, LabelledSpaces, Nothing, Row as TopsRow, SpaceName, Top, name_of, row_of, tops_of}
 use Rattle.dwz_alike.proofs.RowLemmas.{RowIs, unit_row}

@@ -1,10 +1,9 @@
 -- Names of entries that were read, and of units that are written.
 use Rattle.std.specs.Prelude.{◌≡◌, ℕ, List, length, slice_index_or}
-use Rattle.dwz_docs.specs.Lists.{In}
+use Rattle.dwz_docs.specs.Lists.{Each, In}
 use Rattle.dwz_meanings.specs.Documents.{Doc, DwUnit}
-use Rattle.dwz_alike.specs.Alike.{IsAlike, Scope}
+use Rattle.dwz_alike.specs.Alike.{IsAlike, TopScope}
 use Rattle.dwz_alike.specs.Spots.{Import, InChain, InType, PartialOf, PartialRoot, RootOf, SpaceAt, Spot, UnitOf, Within, units_of}
-use Rattle.dwz_seen.specs.Lists.{Each}
 use Rattle.dwz_seen.specs.Seen.{IsPartial}
 use Rattle.dwz_moving.specs.Homes.{IsChoice, Rule}
 use Rattle.dwz_same.specs.After.{ArePlaced}
@@ -42,7 +41,7 @@ pub record UnitNamed (u : DwUnit Spot) : Type 0 where
 
 abbrev pub UnitNameLaw : Type 0
 UnitNameLaw =
-    (scope : Scope) (docs : List (Doc ℕ)) (rule : Rule) → Each (λ doc. ArePlaced doc.units) docs
+    (scope : TopScope) (docs : List (Doc ℕ)) (rule : Rule) → Each (λ doc. ArePlaced doc.units) docs
     → IsAlike scope (units_of docs) rule.alike → IsChoice (units_of docs) rule
     → (input : Stored) (f : FileOut Spot) → In f (files_out (run_of rule docs input)) → (u : DwUnit Spot) → In u f.units → UnitNamed u
 
@@ -55,7 +54,7 @@ pub record KeysOfNames (docs : List (Doc ℕ)) (keys : Keys Spot) : Type 0 where
 -- then entries have names of their own, whatever is written
 abbrev pub RowsApartLaw : Type 0
 RowsApartLaw =
-    (scope : Scope) (docs : List (Doc ℕ)) (rule : Rule) → Each (λ doc. ArePlaced doc.units) docs
+    (scope : TopScope) (docs : List (Doc ℕ)) (rule : Rule) → Each (λ doc. ArePlaced doc.units) docs
     → IsAlike scope (units_of docs) rule.alike → IsChoice (units_of docs) rule
     → (input : Stored) (keys : Keys Spot) (k : Known) (order : List (List UnitItems)) (files : List (FileOut Spot))
     → KeysOfNames docs keys → length k.owners.items ≡ length (all_names docs)

@@ -2,10 +2,10 @@
 use Rattle.std.specs.Prelude.{◌≡◌, ℕ, ◌≤◌, ◌^◌, Bool, List, map, length, Some, slice_get}
 use Rattle.std.specs.List.{filter}
 use Rattle.dwz_docs.specs.Values.{AreBytes}
-use Rattle.dwz_meanings.specs.Documents.{Doc}
+use Rattle.dwz_meanings.specs.Documents.{Doc, DwUnit}
 use Rattle.dwz_meanings.specs.Files.{around_of}
-use Rattle.dwz_seen.specs.Lists.{Each}
-use Rattle.dwz_alike.specs.Alike.{IsAlike, Scope}
+use Rattle.dwz_docs.specs.Lists.{Each}
+use Rattle.dwz_alike.specs.Alike.{IsAlike, TopScope}
 use Rattle.dwz_alike.specs.Deciding.{alike_test}
 use Rattle.dwz_alike.specs.Spots.{FileUnit, Spot, file_numbers, units_of}
 use Rattle.dwz_moving.specs.Gain.{gain_rule}
@@ -24,7 +24,6 @@ use Rattle.dwz_indexes.specs.Indexed.{AreIndexes}
 use Rattle.dwz_known.specs.Names.{all_names}
 use Rattle.dwz_known.specs.Owners.{AreUnitNumbers, all_written, move_of}
 use Rattle.dwz_fitted.specs.Knows.{FileRead}
-use Rattle.dwz_meanings.specs.Documents.{DwUnit}
 
 -- Files as they were read, with their indexes: which of them share, how they are stored, their plan; how many units the common file has,
 -- and the numbers of partial units and of old ones among all units that are written.
@@ -32,7 +31,7 @@ pub record Facts : Type 0 where
   pub contents : List (List ℕ)
   pub files : List File
   pub indexes : List Index
-  pub scope : Scope
+  pub scope : TopScope
   pub input : Stored
   pub planned : Planned
   pub commons : ℕ

@@ -1,10 +1,9 @@
 -- Which tops, spaces and imports the items of a unit stand for, by their numbers.
 use Rattle.std.specs.Prelude.{◌≡◌, ℕ, ◌+◌, ◌<◌, ◌≤◌, true, List, [], ◌∷◌}
 use Rattle.dwz_docs.specs.Entries.{RawEntry}
-use Rattle.dwz_docs.specs.Lists.{In}
+use Rattle.dwz_docs.specs.Lists.{Each, In}
 use Rattle.dwz_docs.specs.Trees.{Forest}
 use Rattle.dwz_docs.specs.Units.{CompileUnit, PartialUnit, RawKind, TypeUnit}
-use Rattle.dwz_seen.specs.Lists.{Each}
 use Rattle.dwz_index.specs.Spaces.{stored_space}
 use Rattle.dwz_index.specs.Steps.{spaces_by, tops_by}
 use Rattle.dwz_layout.specs.declared.order.Item.{Item}

@@ -47,7 +47,8 @@ pub record IsListed (f : Facts) (x : File) (index : Index) (start : ℕ) (texts 
   pub units : r.units.now ≡ x.units
   pub start_is : r.start ≡ start
   pub firsts : HaveFirsts x r.firsts.items
-  pub references : (names : List Spot) → IsFile (docs f) names index start → AreImages (docs f) (rule f) names x.resolved.refs.items r.references.items
+  pub references : (names : List Spot) → IsFile (docs f) names index start
+      → AreImages (docs f) (rule f) names x.resolved.refs.items r.references.items
   pub texts_are : r.texts.items ≡ texts
 
 -- file by file
@@ -64,7 +65,8 @@ abbrev pub AreAllOwners : Facts → List File → List Index → List ℕ → Ty
 AreAllOwners f [] [] owners = owners ≡ []
 AreAllOwners f (x ∷ files) (index ∷ indexes) owners =
     (more : List ℕ) × (rest : List ℕ) × (owners ≡ more ++ rest)
-    × ((names : List Spot) → IsIndex names index → AreOwners f.planned f.parts f.olds index.starts.unit (rows_of (units_of x.units)) names more)
+    × ((names : List Spot) → IsIndex names index → AreOwners f.planned f.parts f.olds index.starts.unit (rows_of (units_of x.units)) names
+    more)
     × AreAllOwners f files indexes rest
 AreAllOwners f _ _ owners = ⊥
 

@@ -1,10 +1,10 @@
 -- What the items of a partial unit stand for, in the units that were read: its tops, which are all of one unit, and spaces of that unit.
 use Rattle.std.specs.Prelude.{◌≡◌, ◌⊎◌, ℕ, true, false, List, map, slice_index_or}
 use Rattle.std.specs.List.{range_with_len}
-use Rattle.dwz_docs.specs.Lists.{In}
+use Rattle.dwz_docs.specs.Lists.{Each, In}
 use Rattle.dwz_meanings.specs.Documents.{Doc}
-use Rattle.dwz_seen.specs.Lists.{Each, Nth}
-use Rattle.dwz_alike.specs.Alike.{IsAlike, Scope}
+use Rattle.dwz_seen.specs.Lists.{Nth}
+use Rattle.dwz_alike.specs.Alike.{IsAlike, TopScope}
 use Rattle.dwz_alike.specs.Spots.{FileUnit, Spot, Top, tops_of, units_of}
 use Rattle.dwz_index.specs.Index.{Index}
 use Rattle.dwz_indexes.specs.Indexed.{AreIndexes}
@@ -38,14 +38,16 @@ pub record MovesFrom (rule : Rule) (units : List (FileUnit Spot)) (i : ℕ) (t :
 -- the tops of a partial unit are all of the unit of the first of them
 abbrev pub PartTopsLaw : Type 0
 PartTopsLaw =
-    (scope : Scope) (units : List (FileUnit Spot)) (rule : Rule) → IsAlike scope units rule.alike → IsChoice units rule → (files : List ℕ)
+    (scope : TopScope) (units : List (FileUnit Spot)) (rule : Rule) → IsAlike scope units rule.alike → IsChoice units rule
+    → (files : List ℕ)
     → (n : ℕ) (part : PartialUnit) → Nth 0 (partials rule units files) n part → (t : Top) → In t part.tops
     → MovesFrom rule units (first_unit part.tops) t
 
 -- which is one of its users
 abbrev pub FirstUnitLaw : Type 0
 FirstUnitLaw =
-    (scope : Scope) (units : List (FileUnit Spot)) (rule : Rule) → IsAlike scope units rule.alike → IsChoice units rule → (files : List ℕ)
+    (scope : TopScope) (units : List (FileUnit Spot)) (rule : Rule) → IsAlike scope units rule.alike → IsChoice units rule
+    → (files : List ℕ)
     → (n : ℕ) (part : PartialUnit) → Nth 0 (partials rule units files) n part → In (first_unit part.tops) part.users
 
 -- a top is of the file of its unit
@@ -109,7 +111,7 @@ NewNames units part items = RootThen (IsOfNew units part) items
 
 abbrev pub NewItemsLaw : Type 0
 NewItemsLaw =
-    (docs : List (Doc ℕ)) (indexes : List Index) (scope : Scope) (rule : Rule) (files : List ℕ) (texts lists : List ℕ)
+    (docs : List (Doc ℕ)) (indexes : List Index) (scope : TopScope) (rule : Rule) (files : List ℕ) (texts lists : List ℕ)
     → AreIndexes docs indexes
     → IsAlike scope (units_of docs) rule.alike → IsChoice (units_of docs) rule
     → KnowsSpaces (units_of docs) (rows_of_spaces indexes) texts lists (all_tops indexes)

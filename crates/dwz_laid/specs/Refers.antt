@@ -1,9 +1,8 @@
 -- What has to be known of numbers and of names, so that what references name is written.
 use Rattle.std.specs.Prelude.{◌≡◌, ℕ, suc, ◌+◌, ◌<◌, List, [], ◌∷◌, length, Some}
-use Rattle.dwz_docs.specs.Lists.{In}
+use Rattle.dwz_docs.specs.Lists.{Each, In}
 use Rattle.dwz_meanings.specs.Documents.{DwUnit}
 use Rattle.dwz_alike.specs.Spots.{Spot}
-use Rattle.dwz_seen.specs.Lists.{Each}
 use Rattle.dwz_seen.specs.Seen.{IsPartial}
 use Rattle.dwz_unit.specs.Rows.{EntryRow}
 use Rattle.dwz_writing.specs.Placing.{FileOut, files_keys}

@@ -1,7 +1,8 @@
 -- At which entries of a file the roots of its units stand, with all below them.
 use Rattle.std.specs.Prelude.{◌≡◌, ℕ, List, [], ◌∷◌, Some, slice_get}
 use Rattle.dwz_meanings.specs.Documents.{DwUnit, entries_map, kind_map, node_map}
-use Rattle.dwz_seen.specs.Lists.{Each, Nth}
+use Rattle.dwz_seen.specs.Lists.{Nth}
+use Rattle.dwz_docs.specs.Lists.{Each}
 use Rattle.dwz_alike.specs.Spots.{FileUnit, Spot}
 use Rattle.dwz_moving.specs.Moves.{image_in}
 use Rattle.dwz_unit.specs.Rows.{units_of as raw_units}

@@ -22,12 +22,14 @@ pub tops_none : {K : Type 0} (n : Names K) (depth : ℕ) (so_far : List (Line K)
 unfolding tops_lines
 tops_none n depth so_far = sym (append-nil so_far)
 
-path_append : {K : Type 0} (n : Names K) (chain depth : ℕ) (a : List ℕ) (s : ℕ) → path_lines n chain depth (a ++ s ∷ []) ≡ path_lines n chain depth a ++ line (2 + (depth + length a)) (n.in_chain chain (depth + length a) s) ∷ []
+path_append : {K : Type 0} (n : Names K) (chain depth : ℕ) (a : List ℕ) (s : ℕ) → path_lines n chain depth (a ++ s ∷ []) ≡ path_lines n chain depth a
+    ++ line (2 + (depth + length a)) (n.in_chain chain (depth + length a) s) ∷ []
 unfolding path_lines
 path_append {K} n chain depth [] s = (let e : depth ≡ depth + 0 = omega arith in λ i. line (2 + e i) (n.in_chain chain (e i) s) ∷ [])
 path_append {K} n chain depth (r ∷ a) s =
     let e : suc depth + length a ≡ depth + suc (length a) = omega arith in
-    ap (λ (w : List (Line K)). line (2 + depth) (n.in_chain chain depth r) ∷ w) (path_append n chain (suc depth) a s ∙ (λ i. path_lines n chain (suc depth) a ++ line (2 + e i) (n.in_chain chain (e i) s) ∷ []))
+    ap (λ (w : List (Line K)). line (2 + depth) (n.in_chain chain depth r) ∷ w)
+    (path_append n chain (suc depth) a s ∙ (λ i. path_lines n chain (suc depth) a ++ line (2 + e i) (n.in_chain chain (e i) s) ∷ []))
 
 pub down_length : (ups : List ℕ) → length (down ups) ≡ length ups
 unfolding down
@@ -35,7 +37,8 @@ down_length [] = refl
 down_length (s ∷ ups) = omega (arith, length-append (down ups) (s ∷ []), down_length ups)
 
 -- one space more, the innermost
-pub path_more : {K : Type 0} (n : Names K) (chain : ℕ) (ups : List ℕ) (s depth : ℕ) → depth ≡ 2 + length ups → path_lines n chain 0 (down (s ∷ ups)) ≡ path_lines n chain 0 (down ups) ++ what_lines n depth (InChain chain s)
+pub path_more : {K : Type 0} (n : Names K) (chain : ℕ) (ups : List ℕ) (s depth : ℕ) → depth ≡ 2 + length ups → path_lines n chain 0 (down (s ∷ ups)) ≡ path_lines n chain 0 (down ups)
+    ++ what_lines n depth (InChain chain s)
 unfolding down
 path_more {K} n chain ups s depth e =
     let many = down_length ups in
@@ -70,7 +73,8 @@ one_up rows inner s ups within u =
     let is : u.1 ≡ get_or rows (inner - 1) no_row = cc in
     record { space = ap (λ (r : SpaceRow). r.space) (sym is) ∙ u.4; up = subst (λ (r : SpaceRow). Up rows r.outer ups) is u.5 }
 
-pub depth_up : (rows : List SpaceRow) (inner depth : ℕ) (ups : List ℕ) → inner ≤ length rows → 0 < inner → Up rows inner ups → ((vs : List ℕ) → Up rows (get_or rows (inner - 1) no_row).outer vs → depth ≡ 2 + length vs) → depth + 1 ≡ 2 + length ups
+pub depth_up : (rows : List SpaceRow) (inner depth : ℕ) (ups : List ℕ) → inner ≤ length rows → 0 < inner → Up rows inner ups
+    → ((vs : List ℕ) → Up rows (get_or rows (inner - 1) no_row).outer vs → depth ≡ 2 + length vs) → depth + 1 ≡ 2 + length ups
 depth_up rows inner depth [] within some u more = absurd (omega (arith, u))
 depth_up rows inner depth (s ∷ ups) within some u more = let o = one_up rows inner s ups within u in omega (arith, more ups o.up)
 

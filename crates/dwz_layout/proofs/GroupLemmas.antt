@@ -1,20 +1,24 @@
 -- Tops by the numbers of their name lists: what is grouped is the chains.
-use Rattle.std.proofs.Common.{◌≡◌, ℕ, suc, ◌+◌, ◌<◌, ◌≤◌, ◌==◌, ◌⊎◌, ◌||◌, inl, inr, not, All, cond, Bool, true, false, List, [], ◌∷◌, ◌++◌, length, map, filter, get_or, take, refl, sym, ap, subst, ◌∙◌, arith, eq-eqb}
+use Rattle.std.proofs.Common.{◌≡◌, ℕ, suc, ◌+◌, ◌<◌, ◌≤◌, ◌==◌, ◌⊎◌, ◌||◌, inl, inr, not, All, cond, Bool, true, false, List, [], ◌∷◌, ◌++◌, length, map, filter, get_or, take, refl, sym, ap, subst}
+use Rattle.std.proofs.Common.{◌∙◌, arith, eq-eqb}
 use Rattle.std.specs.Prelude.{nat_eq}
 use Rattle.std.specs.List.{list_any, position_or_len, range_with_len}
 use Rattle.std.proofs.lemmas.Bool.{cases_eq, ne_eqb}
 use Rattle.std.proofs.lemmas.List.{get_or-map, length-map, map-append}
 use Rattle.std.proofs.lemmas.List.Elements.{All-head, All-tail}
 use Rattle.dwz_docs.specs.Lists.{In}
-use Rattle.dwz_seen.proofs.Members.{in_filter_from, in_map, in_map_from}
+use Rattle.dwz_docs.proofs.ListFacts.{in_map}
+use Rattle.dwz_seen.proofs.Members.{in_filter_from, in_map_from}
 use Rattle.dwz_alike.specs.Spots.{same_numbers}
 use Rattle.dwz_moving.specs.Plan.{distinct}
+use Rattle.dwz_moving.proofs.PlanLemmas.{in_distinct}
 use Rattle.dwz_groups.specs.Groups.{grouped, values_at}
 use Rattle.dwz_groups.specs.declared.groups.Pair.{Pair}
 use Rattle.dwz_plan.specs.Steps.{lists_of, number_of, numbered, pair, users_at}
-use Rattle.dwz_plan.proofs.DistinctLemmas.{distinct_apart, in_distinct, number_is}
+use Rattle.dwz_plan.proofs.DistinctLemmas.{distinct_apart, number_is}
 use Rattle.dwz_plan.proofs.ListFacts.{filter_in, map_in, map_map}
 use Rattle.dwz_plan.proofs.ListingLemmas.{Numbers, has_list, numbers-all, numbers-low, numbers-more, numbers-none, put}
+use Rattle.dwz_plan.proofs.GainedRows.{filter_few}
 use Rattle.dwz_layout.specs.declared.partial.TopSpaces.{TopSpaces}
 use Rattle.dwz_layout.specs.Chains.{chains_by, firsts_by, names_at, no_spaces}
 use Rattle.dwz_layout.specs.Grouping.{IsNumbered, one_list, one_lists}
@@ -85,7 +89,8 @@ seen_more of_tops tops keys others pairs more t n lt keys_are number pairs_are s
     record {
       firsts = s.firsts ++ cond is_new (t ∷ []) [];
       numbers = numbers-more users tops (singles keys) s.firsts pairs t (singles others) (s.firsts ++ cond is_new (t ∷ []) []) more n is_new
-          (put_single (names_at of_tops t) keys others keys_are ∙ ap (put (singles keys)) (sym own)) refl (number ∙ number_single (names_at of_tops t) keys ∙ ap (number_of (singles keys)) (sym own)) refl pairs_are s.numbers;
+          (put_single (names_at of_tops t) keys others keys_are ∙ ap (put (singles keys)) (sym own)) refl (number ∙ number_single (names_at of_tops t) keys ∙ ap (number_of (singles keys)) (sym own))
+          refl pairs_are s.numbers;
     }
 
 pub seen_all : (of_tops : List TopSpaces) (tops keys : List ℕ) (i : ℕ) (pairs : List Pair) → length tops ≤ i → Seen of_tops (take i tops) keys pairs → IsNumbered of_tops tops (length keys) pairs
@@ -118,17 +123,20 @@ values_of f (t ∷ ts) k = by (f t == k) (values_of f ts k)
     by true more = ap (λ (w : List ℕ). t ∷ w) more
     by false more = more
 
-map_range : (lists : List (List ℕ)) (v : ℕ → List ℕ) (g : List ℕ → List ℕ) (s : ℕ) → ((k : ℕ) → k < length lists → v (s + k) ≡ g (get_or lists k [])) → map v (range_with_len s (length lists)) ≡ map g lists
+map_range : (lists : List (List ℕ)) (v : ℕ → List ℕ) (g : List ℕ → List ℕ) (s : ℕ) → ((k : ℕ) → k < length lists → v (s + k) ≡ g (get_or lists k []))
+    → map v (range_with_len s (length lists)) ≡ map g lists
 map_range [] v g s h = refl
 map_range (us ∷ lists) v g s h =
-    (λ i. ((let e : s ≡ s + 0 = omega arith in ap v e) ∙ h 0 (omega arith)) i ∷ map_range lists v g (s + 1) (λ k l. (let e : s + 1 + k ≡ s + suc k = omega arith in ap v e) ∙ h (suc k) (omega arith)) i)
+    (λ i. ((let e : s ≡ s + 0 = omega arith in ap v e) ∙ h 0 (omega arith)) i ∷ map_range lists v g (s + 1) (λ k l. (let e : s + 1 + k ≡ s + suc k = omega arith in ap v e) ∙ h (suc k) (omega arith))
+    i)
 
 distinct_firsts : (l : ℕ → ℕ) (ts : List ℕ) → distinct (map (λ t. single (l t)) ts) ≡ map (λ t. single (l t)) (firsts_by l ts)
 unfolding distinct firsts_by
 distinct_firsts l [] = refl
 distinct_firsts l (t ∷ ts) =
     ap (λ (w : List (List ℕ)). single (l t) ∷ w)
-    (ap (filter (λ vs. not (same_numbers (single (l t)) vs))) (distinct_firsts l ts) ∙ sym (mapped (λ u. single (l u)) (λ u. not (l t == l u)) (λ vs. not (same_numbers (single (l t)) vs)) (firsts_by l ts) (λ u is. ap not (sym (single_same (l t) (l u))))))
+    (ap (filter (λ vs. not (same_numbers (single (l t)) vs))) (distinct_firsts l ts)
+    ∙ sym (mapped (λ u. single (l u)) (λ u. not (l t == l u)) (λ vs. not (same_numbers (single (l t)) vs)) (firsts_by l ts) (λ u is. ap not (sym (single_same (l t) (l u))))))
 
 pub all_in : (P : ℕ → Type 0) (ts : List ℕ) (t : ℕ) → All P ts → In t ts → P t
 all_in P [] t all is = absurd is
@@ -148,24 +156,18 @@ grouped_chains of_tops tops inside =
     (let z : 0 + k ≡ k = omega arith in
     ap (values_at (map (λ t. pair (number_of lists (f t)) t) tops)) z
     ∙ values_of (λ t. number_of lists (f t)) tops k
-    ∙ filter_in (λ t. number_of lists (f t) == k) (λ t. same_numbers (f t) (get_or lists k [])) tops (λ t there. number_is lists (f t) k (distinct_apart (map f tops)) (in_distinct (f t) (map f tops) (in_map f t tops there)) lt)) in
+    ∙ filter_in (λ t. number_of lists (f t) == k) (λ t. same_numbers (f t) (get_or lists k [])) tops
+    (λ t there. number_is lists (f t) k (distinct_apart (map f tops)) (in_distinct (f t) (map f tops) (in_map f t tops there)) lt)) in
     let lists_are : lists ≡ map (λ t. single (l t)) (firsts_by l tops) = ap distinct (map_in f (λ t. single (l t)) tops is) ∙ distinct_firsts l tops in
     let same : (u : ℕ) → group (single (l u)) ≡ filter (λ t. l u == l t) tops = λ u.
-    filter_in (λ t. same_numbers (f t) (single (l u))) (λ t. l u == l t) tops (λ t there. ap (λ (vs : List ℕ). same_numbers vs (single (l u))) (is t there) ∙ single_same (l t) (l u) ∙ turned (l t) (l u)) in
+    filter_in (λ t. same_numbers (f t) (single (l u))) (λ t. l u == l t) tops (λ t there. ap (λ (vs : List ℕ). same_numbers vs (single (l u))) (is t there) ∙ single_same (l t) (l u)
+    ∙ turned (l t) (l u)) in
     map_range lists (values_at (map (λ t. pair (number_of lists (f t)) t) tops)) group 0 each
     ∙ ap (map group) lists_are
     ∙ map_map group (λ t. single (l t)) (firsts_by l tops)
     ∙ map_in (λ u. group (single (l u))) (λ u. filter (λ t. l u == l t) tops) (firsts_by l tops) (λ u there. same u)
 
 -- ---- chains have tops
-
-pub filter_few : {X : Type 0} (p : X → Bool) (xs : List X) → length (filter p xs) ≤ length xs
-filter_few p [] = omega arith
-filter_few {X} p (x ∷ xs) = by (p x) (filter_few p xs)
-  where
-    by : (b : Bool) → length (filter p xs) ≤ length xs → length (cond b (x ∷ filter p xs) (filter p xs)) ≤ suc (length xs)
-    by true le = omega (arith, le)
-    by false le = omega (arith, le)
 
 firsts_few : (l : ℕ → ℕ) (ts : List ℕ) → length (firsts_by l ts) ≤ length ts
 unfolding firsts_by

@@ -23,14 +23,16 @@ unfolding lines import_row import_lines
 import_lines_are unit n [] same = refl
 import_lines_are unit n (part ∷ parts) same = (λ i. line 2 (sym (same part) i) ∷ import_lines_are unit n parts same i)
 
-pub kept_lines : (m : Move) (units : List (FileUnit Spot)) (i : ℕ) (u : FileUnit Spot) (n : Names Spot) (parts : List ℕ) → NamesKept m i u.unit n → u.unit.kind ≡ Compile → changes m units u.file ≡ true → imports i 0 m.parts ≡ import_row i parts
+pub kept_lines : (m : Move) (units : List (FileUnit Spot)) (i : ℕ) (u : FileUnit Spot) (n : Names Spot) (parts : List ℕ) → NamesKept m i u.unit n → u.unit.kind ≡ Compile
+    → changes m units u.file ≡ true → imports i 0 m.parts ≡ import_row i parts
     → line 1 n.root ∷ row_lines (image_in m) 2 (kept_row m.gone units i) ++ import_lines n parts ≡ unit_lines (kept_unit m units i u)
 kept_lines m units i u n parts names kind moved same =
     let f : Spot → Spot = image_in m in
     let below : kept_below m units (changes m units u.file) i u.unit.kind u.unit.below ≡ tree f (kept_row m.gone units i) (import_row i parts) =
     (λ j. kept_below m units (moved j) i (kind j) u.unit.below) ∙ ap (tree f (kept_row m.gone units i)) same in
     let all : lines 2 (kept_below m units (changes m units u.file) i u.unit.kind u.unit.below) ≡ row_lines f 2 (kept_row m.gone units i) ++ import_lines n parts =
-    ap (lines 2) below ∙ tree_lines f 2 (kept_row m.gone units i) (import_row i parts) ∙ ap (λ (w : List (Line Spot)). row_lines f 2 (kept_row m.gone units i) ++ w) (import_lines_are i n parts names.import) in
+    ap (lines 2) below ∙ tree_lines f 2 (kept_row m.gone units i) (import_row i parts) ∙ ap (λ (w : List (Line Spot)). row_lines f 2 (kept_row m.gone units i) ++ w)
+    (import_lines_are i n parts names.import) in
     (λ j. line 1 (names.root j) ∷ sym all j)
 
 -- the two parts of a row are what is kept of it
@@ -51,7 +53,8 @@ whole_lines m units i u n names stays =
     by true Partial h = refl
 
 -- a partial unit
-pub partial_is : (m : Move) (k : ℕ) (part : PartialUnit) (said : ℕ → SpaceName) (n : Names Spot) (path : ℕ → List ℕ) (l : ℕ → ℕ) → NamesPartial m k said n → ShowsSpaced (image_in m) said n path l part.tops → m.rows k ≡ part_row k part
+pub partial_is : (m : Move) (k : ℕ) (part : PartialUnit) (said : ℕ → SpaceName) (n : Names Spot) (path : ℕ → List ℕ) (l : ℕ → ℕ) → NamesPartial m k said n
+    → ShowsSpaced (image_in m) said n path l part.tops → m.rows k ≡ part_row k part
     → partial_lines n path l (map (λ t. t.number) part.tops) ≡ unit_lines (partial_unit m k)
 unfolding lines
 partial_is m k part said n path l names shown row =

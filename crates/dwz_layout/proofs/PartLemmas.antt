@@ -30,8 +30,12 @@ module _ (f : Spot → Spot) (p : Pinned) where
     here = line depth (node_map f e) ∷ row_lines f (suc depth) within
 
     go : row_lines f depth (row_part p want next last) ≡ row_lines f depth (row_part p want next Nothing) ++ row_lines f depth last
-        → (b : Bool) → row_lines f depth (elim b as (λ _. Row) [ true ↦ ASpace e (row_part p true inner (row_part p false inner Nothing)) (row_part p want next last) | false ↦ row_part p want next last ])
-        ≡ row_lines f depth (elim b as (λ _. Row) [ true ↦ ASpace e (row_part p true inner (row_part p false inner Nothing)) (row_part p want next Nothing) | false ↦ row_part p want next Nothing ]) ++ row_lines f depth last
+        → (b : Bool) → row_lines f depth (elim b as (λ _. Row) [
+          | true ↦ ASpace e (row_part p true inner (row_part p false inner Nothing)) (row_part p want next last)
+          | false ↦ row_part p want next last
+        ])
+        ≡ row_lines f depth (elim b as (λ _. Row) [ true ↦ ASpace e (row_part p true inner (row_part p false inner Nothing)) (row_part p want next Nothing) | false ↦ row_part p want next Nothing ])
+        ++ row_lines f depth last
     go more true = ap (λ (w : List (Line Spot)). here ++ w) more ∙ sym (append_assoc here (row_lines f depth (row_part p want next Nothing)) (row_lines f depth last))
     go more false = more
 
@@ -65,10 +69,12 @@ module _ (v : View) where
       within : Row
       within = row_staying v.gone inner
 
-      go : part_lines v depth want next ≡ part_of depth want next → part_lines v (suc depth) true inner ≡ part_of (suc depth) true inner → part_lines v (suc depth) false inner ≡ part_of (suc depth) false inner
+      go : part_lines v depth want next ≡ part_of depth want next → part_lines v (suc depth) true inner ≡ part_of (suc depth) true inner
+          → part_lines v (suc depth) false inner ≡ part_of (suc depth) false inner
           → (b : Bool) → cond b (line depth (node_map v.image e) ∷ part_lines v (suc depth) true inner ++ part_lines v (suc depth) false inner) [] ++ part_lines v depth want next
           ≡ row_lines v.image depth (elim b as (λ _. Row) [
-            | true ↦ ASpace e (row_part v.pinned true (row_staying v.gone inner) (row_part v.pinned false (row_staying v.gone inner) Nothing)) (row_part v.pinned want (row_staying v.gone next) Nothing)
+            | true ↦ ASpace e (row_part v.pinned true (row_staying v.gone inner) (row_part v.pinned false (row_staying v.gone inner) Nothing))
+                (row_part v.pinned want (row_staying v.gone next) Nothing)
             | false ↦ row_part v.pinned want (row_staying v.gone next) Nothing
           ])
       go more first second true =

@@ -1,11 +1,14 @@
 -- The row of a partial unit: its tops in no space, and chains of spaces with the tops in them.
-use Rattle.std.proofs.Common.{◌≡◌, ℕ, suc, ◌+◌, ◌==◌, inl, inr, not, cond, Bool, true, false, List, [], ◌∷◌, ◌++◌, length, map, filter, get_or, refl, sym, ap, subst, ◌∙◌, append_assoc, arith, eq-eqb, eqb-true}
+use Rattle.std.proofs.Common.{◌≡◌, ℕ, suc, ◌+◌, ◌==◌, inl, inr, not, cond, Bool, true, false, List, [], ◌∷◌, ◌++◌, length, map, filter, get_or, refl, sym, ap, subst, ◌∙◌, append_assoc, arith, eq-eqb}
+use Rattle.std.proofs.Common.{eqb-true}
 use Rattle.std.proofs.lemmas.Bool.{both_ways, ne_eqb, not-true}
 use Rattle.std.proofs.lemmas.List.{append-nil}
 use Rattle.dwz_meanings.specs.Documents.{entries_map, node_map}
 use Rattle.dwz_docs.specs.Lists.{In}
-use Rattle.dwz_seen.proofs.Members.{in_filter_from, in_map}
+use Rattle.dwz_docs.proofs.ListFacts.{in_map}
+use Rattle.dwz_seen.proofs.Members.{in_filter_from}
 use Rattle.dwz_plan.proofs.ListFacts.{map_in, map_map}
+use Rattle.dwz_plan.proofs.ListingLemmas.{filter_within}
 use Rattle.dwz_alike.specs.Spots.{ASpace, ATop, Nothing, Row, SpaceName, Spot, Top}
 use Rattle.dwz_moving.specs.Plan.{PartialUnit, beside, chain_down, chains, in_root, leading, part_row, same_names, space_entry, top_row}
 use Rattle.dwz_layout.specs.Chains.{ShowsSpaced, chain_lines, chains_by, chains_lines, firsts_by, path_lines, tops_lines}
@@ -13,17 +16,6 @@ use Rattle.dwz_layout.specs.Lines.{Line, line, lines, row_lines}
 use Rattle.dwz_layout.specs.Order.{Names}
 
 -- ---- filters
-
--- those that pass both tests are among those that pass the second
-within : {X : Type 0} (p q : X → Bool) (xs : List X) → ((x : X) → p x ≡ true → q x ≡ true) → filter p (filter q xs) ≡ filter p xs
-within p q [] h = refl
-within {X} p q (x ∷ xs) h = by (q x) (p x) refl refl (within p q xs h)
-  where
-    by : (s t : Bool) → q x ≡ s → p x ≡ t → filter p (filter q xs) ≡ filter p xs → filter p (cond s (x ∷ filter q xs) (filter q xs)) ≡ cond t (x ∷ filter p xs) (filter p xs)
-    by true true e g more = ap (λ b. cond b (x ∷ filter p (filter q xs)) (filter p (filter q xs))) g ∙ ap (λ (ys : List X). x ∷ ys) more
-    by true false e g more = ap (λ b. cond b (x ∷ filter p (filter q xs)) (filter p (filter q xs))) g ∙ more
-    by false true e g more = absurd (both_ways (q x) e (h x g))
-    by false false e g more = more
 
 -- a test of items is one of what they are mapped to
 pub mapped : {X Y : Type 0} (g : X → Y) (p : X → Bool) (q : Y → Bool) (xs : List X) → ((x : X) → In x xs → p x ≡ q (g x)) → map g (filter p xs) ≡ filter q (map g xs)
@@ -91,20 +83,24 @@ module _ (f : Spot → Spot) (said : ℕ → SpaceName) (n : Names Spot) (path :
       ∙ sym (append_assoc here (tops_lines n depth (map number ts)) (row_lines f depth last))
 
   module _ (k : ℕ) (named : (chain depth space : ℕ) → n.in_chain chain depth space ≡ node_map f (space_entry k chain depth (said space))) where
-    down_lines : (chain depth : ℕ) (spaces : List ℕ) (inner : Row) → row_lines f (2 + depth) (chain_down k chain depth (map said spaces) inner) ≡ path_lines n chain depth spaces ++ row_lines f (2 + (depth + length spaces)) inner
+    down_lines : (chain depth : ℕ) (spaces : List ℕ) (inner : Row) → row_lines f (2 + depth) (chain_down k chain depth (map said spaces) inner) ≡ path_lines n chain depth spaces
+        ++ row_lines f (2 + (depth + length spaces)) inner
     unfolding chain_down row_lines path_lines
     down_lines chain depth [] inner = (let e : depth ≡ depth + 0 = omega arith in λ i. row_lines f (2 + e i) inner)
     down_lines chain depth (s ∷ spaces) inner =
         let one : suc (2 + depth) ≡ 2 + suc depth = omega arith in
         let many : suc depth + length spaces ≡ depth + suc (length spaces) = omega arith in
-        let more : row_lines f (suc (2 + depth)) (chain_down k chain (suc depth) (map said spaces) inner) ≡ path_lines n chain (suc depth) spaces ++ row_lines f (2 + (depth + suc (length spaces))) inner =
-        (λ i. row_lines f (one i) (chain_down k chain (suc depth) (map said spaces) inner)) ∙ down_lines chain (suc depth) spaces inner ∙ (λ i. path_lines n chain (suc depth) spaces ++ row_lines f (2 + many i) inner) in
+        let more : row_lines f (suc (2 + depth)) (chain_down k chain (suc depth) (map said spaces) inner) ≡ path_lines n chain (suc depth) spaces
+        ++ row_lines f (2 + (depth + suc (length spaces))) inner =
+        (λ i. row_lines f (one i) (chain_down k chain (suc depth) (map said spaces) inner)) ∙ down_lines chain (suc depth) spaces inner
+        ∙ (λ i. path_lines n chain (suc depth) spaces ++ row_lines f (2 + many i) inner) in
         append-nil _ ∙ (λ i. line (2 + depth) (sym (named chain depth s) i) ∷ more i)
 
     abbrev of_list : List Top → Top → List ℕ
     of_list tops t = filter (λ u. l t.number == l u) (map number tops)
 
-    leads_lines : (tops leads : List Top) (chain : ℕ) → ShowsSpaced f said n path l tops → ((t : Top) → In t leads → In t tops) → ((t : Top) → In t leads → (rest : List ℕ) × (of_list tops t ≡ t.number ∷ rest))
+    leads_lines : (tops leads : List Top) (chain : ℕ) → ShowsSpaced f said n path l tops → ((t : Top) → In t leads → In t tops)
+        → ((t : Top) → In t leads → (rest : List ℕ) × (of_list tops t ≡ t.number ∷ rest))
         → row_lines f 2 (chains k tops chain leads) ≡ chains_lines n path chain (map (of_list tops) leads)
     unfolding chains chains_lines row_lines
     leads_lines tops [] chain shown there first = refl
@@ -141,7 +137,7 @@ module _ (f : Spot → Spot) (said : ℕ → SpaceName) (n : Names Spot) (path :
     list_spaced tops shown t is =
         let parts = in_filter_from (λ u. not (in_root u)) t tops is in
         let some : l t.number == 0 ≡ false = sym (shown.root t parts.0) ∙ not-true (in_root t) parts.1 in
-        within (λ u. l t.number == l u) (λ u. not (l u == 0)) (map number tops)
+        filter_within (λ u. l t.number == l u) (λ u. not (l u == 0)) (map number tops)
         (λ u e. ap not (ap (λ (a : ℕ). a == 0) (sym (eqb-true (l t.number) (l u) e)) ∙ some))
 
     pub partial_row : (part : PartialUnit) → ShowsSpaced f said n path l part.tops

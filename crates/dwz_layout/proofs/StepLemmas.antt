@@ -87,12 +87,14 @@ abbrev fitting : (k n : ℕ) (rest : List Outer) → k ≡ min n (length rest) �
 fitting k n rest e h = omega (arith, e)
 
 -- it is passed over with all in it
-pub passed : (v : View) (depth : ℕ) (want : Bool) (x : Outer) (rest next : List Outer) (k : ℕ) (so_far total : List (Line Spot)) → k ≡ min x.inside (length rest) → next ≡ drop k rest → wanted x want ≡ false
+pub passed : (v : View) (depth : ℕ) (want : Bool) (x : Outer) (rest next : List Outer) (k : ℕ) (so_far total : List (Line Spot)) → k ≡ min x.inside (length rest) → next ≡ drop k rest
+    → wanted x want ≡ false
     → LeftOf v depth want (x ∷ rest) so_far total → LeftOf v depth want next so_far total
 passed v depth want x rest next k so_far total count behind not_so l =
     let n = next_of v depth want x rest l.row l.shown in
     let left : drop x.inside rest ≡ next = ap (λ (j : ℕ). drop j rest) (sym (fitting k x.inside rest count n.fits)) ∙ sym behind in
-    let none : here_lines v depth want x n.inner ≡ [] = ap (λ (b : Bool). if_here b (what_lines v.names depth x.what ++ (part_lines v (suc depth) true n.inner ++ part_lines v (suc depth) false n.inner))) not_so in
+    let none : here_lines v depth want x n.inner ≡ [] = ap (λ (b : Bool). if_here b
+    (what_lines v.names depth x.what ++ (part_lines v (suc depth) true n.inner ++ part_lines v (suc depth) false n.inner))) not_so in
     record {
       row = n.next;
       shown = subst (λ (w : List Outer). ShowsRow v n.next w) left n.behind;
@@ -103,8 +105,10 @@ passed v depth want x rest next k so_far total count behind not_so l =
 abbrev pub Appends : (depth : ℕ) (want : Bool) (xs : List Outer) (old new : List Item) → Type 0
 Appends depth want xs old new = (v : View) (row : Row) → ShowsRow v row xs → order_lines v.names new ≡ order_lines v.names old ++ part_lines v depth want row
 
-pub taken : (v : View) (depth : ℕ) (want : Bool) (x : Outer) (rest inner next : List Outer) (k : ℕ) (a b c d : List Item) (total : List (Line Spot)) → k ≡ min x.inside (length rest) → inner ≡ take k rest → next ≡ drop k rest → wanted x want ≡ true
-    → b ≡ a ++ (record { what = x.what; depth = depth }) ∷ [] → Appends (depth + 1) true inner b c → Appends (depth + 1) false inner c d → LeftOf v depth want (x ∷ rest) (order_lines v.names a) total → LeftOf v depth want next (order_lines v.names d) total
+pub taken : (v : View) (depth : ℕ) (want : Bool) (x : Outer) (rest inner next : List Outer) (k : ℕ) (a b c d : List Item) (total : List (Line Spot)) → k ≡ min x.inside (length rest)
+    → inner ≡ take k rest → next ≡ drop k rest → wanted x want ≡ true
+    → b ≡ a ++ (record { what = x.what; depth = depth }) ∷ [] → Appends (depth + 1) true inner b c → Appends (depth + 1) false inner c d → LeftOf v depth want (x ∷ rest) (order_lines v.names a) total
+    → LeftOf v depth want next (order_lines v.names d) total
 taken v depth want x rest inner next k a b c d total count within behind so pushed first second l =
     let n = next_of v depth want x rest l.row l.shown in
     let same : k ≡ x.inside = fitting k x.inside rest count n.fits in

@@ -1,5 +1,6 @@
 -- What is written of a partial unit: the tops that stand in no space, and chains of spaces with the tops that stand in them.
-use Rattle.std.specs.Prelude.{◌≡◌, ℕ, suc, ◌+◌, ◌<◌, ◌≤◌, Some, List, [], ◌∷◌, ◌++◌, ◌==◌, filter, length, map, not, slice_get, slice_index, slice_index_or}
+use Rattle.std.specs.Prelude.{◌≡◌, ℕ, suc, ◌+◌, ◌<◌, ◌≤◌, Some, List, [], ◌∷◌, ◌++◌, ◌==◌, filter, length, map, not, slice_get, slice_index}
+use Rattle.std.specs.Prelude.{slice_index_or}
 use Rattle.dwz_meanings.specs.Documents.{entries_map, node_map}
 use Rattle.dwz_docs.specs.Lists.{In}
 use Rattle.dwz_alike.specs.Spots.{SpaceName, Spot, Top}
@@ -43,7 +44,8 @@ chains_lines n path chain (tops ∷ chains) = chain_lines n chain (path (slice_i
 
 -- the tops with these numbers, where the number of a name list is 0 where there are no spaces
 abbrev pub partial_lines : {K : Type 0} → Names K → (path : ℕ → List ℕ) → (l : ℕ → ℕ) → List ℕ → List (Line K)
-partial_lines n path l tops = line 1 n.root ∷ tops_lines n 2 (filter (λ t. l t == 0) tops) ++ chains_lines n path 0 (chains_by l (filter (λ t. not (l t == 0)) tops))
+partial_lines n path l tops = line 1 n.root ∷ tops_lines n 2 (filter (λ t. l t == 0) tops)
+    ++ chains_lines n path 0 (chains_by l (filter (λ t. not (l t == 0)) tops))
 
 -- ---- the spaces of tops, by rows
 
@@ -59,7 +61,8 @@ inner_at of_tops t = let x = slice_index_or of_tops t no_spaces in x.inner
 -- from the space whose row is the one before that number, up to a space in a root
 abbrev pub Up : List SpaceRow → ℕ → List ℕ → Type 0
 Up rows k [] = k ≡ 0
-Up rows k (s ∷ spaces) = (j : ℕ) × (row : SpaceRow) × (k ≡ suc j) × (slice_get rows j ≡ Some row) × (row.space ≡ s) × Up rows row.outer spaces
+Up rows k (s ∷ spaces) = (j : ℕ) × (row : SpaceRow) × (k ≡ suc j) × (slice_get rows j ≡ Some row) × (row.space ≡ s)
+    × Up rows row.outer spaces
 
 -- the same from a root down
 unfoldable pub down : List ℕ → List ℕ
@@ -77,7 +80,8 @@ pub record IsChain (of_tops : List TopSpaces) (tops : List ℕ) : Type 0 where
 
 -- the spaces of the first top of each chain
 abbrev pub AreUp : List SpaceRow → List TopSpaces → (ups : ℕ → List ℕ) → List (List ℕ) → Type 0
-AreUp rows of_tops ups chains = (tops : List ℕ) → In tops chains → Up rows (inner_at of_tops (slice_index tops 0)) (ups (slice_index tops 0))
+AreUp rows of_tops ups chains = (tops : List ℕ) → In tops chains
+    → Up rows (inner_at of_tops (slice_index tops 0)) (ups (slice_index tops 0))
 
 -- ---- what numbers stand for in the partial unit with that number
 
@@ -87,7 +91,8 @@ pub record NamesPartial (m : Move) (k : ℕ) (said : ℕ → SpaceName) (n : Nam
 
 -- tops by their numbers, with what is below them; the spaces that each stands in, from the outermost one; and of which there are
 -- none where the number of its name list is 0
-pub record ShowsSpaced (f : Spot → Spot) (said : ℕ → SpaceName) (n : Names Spot) (path : ℕ → List ℕ) (l : ℕ → ℕ) (tops : List Top) : Type 0 where
+pub record ShowsSpaced (f : Spot → Spot) (said : ℕ → SpaceName) (n : Names Spot) (path : ℕ → List ℕ) (l : ℕ → ℕ) (tops : List Top) : Type
+    0 where
   pub node : (t : Top) → In t tops → n.top t.number ≡ node_map f t.node
   pub below : (t : Top) → In t tops → n.below t.number ≡ entries_map f t.below
   pub spaces : (t : Top) → In t tops → t.spaces ≡ map said (path t.number)

@@ -36,4 +36,5 @@ ShowsRow v Nothing xs = xs ≡ []
 ShowsRow v (ATop t next) [] = ⊥
 ShowsRow v (ATop t next) (x ∷ xs) = ShowsTop v x t × ShowsRow v next xs
 ShowsRow v (ASpace e inner next) [] = ⊥
-ShowsRow v (ASpace e inner next) (x ∷ xs) = ShowsSpace v x e inner × (x.inside ≤ length xs) × ShowsRow v inner (take x.inside xs) × ShowsRow v next (drop x.inside xs)
+ShowsRow v (ASpace e inner next) (x ∷ xs) = ShowsSpace v x e inner × (x.inside ≤ length xs) × ShowsRow v inner (take x.inside xs)
+    × ShowsRow v next (drop x.inside xs)

@@ -10,7 +10,8 @@ use Rattle.dwz_layout.specs.Outline.{View}
 unfoldable pub part_lines : View → ℕ → Bool → Row → List (Line Spot)
 part_lines v depth want Nothing = []
 part_lines v depth want (ATop t next) =
-    (if not (v.gone t.number) && same_bool (v.pinned.top t.number) want then line depth (node_map v.image t.node) ∷ lines (suc depth) (entries_map v.image t.below) else [])
+    (if not (v.gone t.number) && same_bool (v.pinned.top t.number) want then line depth (node_map v.image t.node)
+    ∷ lines (suc depth) (entries_map v.image t.below) else [])
     ++ part_lines v depth want next
 part_lines v depth want (ASpace e inner next) =
     (if same_bool (v.pinned.space e.at || row_pinned v.pinned (row_staying v.gone inner)) want

@@ -37,7 +37,8 @@ fn put_part(
     pinned: bool,
 ) -> Result<(), NoMemory>
     requires { depth + length outers.now < 2 ^ 32 }
-    ensures { (v : View) (row : Row) → ShowsRow v row outers.now → OnOk result (order_lines v.names order.new.items ≡ order_lines v.names order.old.items ++ part_lines v depth pinned row) }
+    ensures { (v : View) (row : Row) → ShowsRow v row outers.now
+        → OnOk result (order_lines v.names order.new.items ≡ order_lines v.names order.old.items ++ part_lines v depth pinned row) }
 {
     let mut left = outers;
     'outers: while let Some((outer, behind)) = left.split_first() {
@@ -57,7 +58,8 @@ fn put_part(
 
 // Appends imports of the partial units with these numbers.
 fn put_imports(order: &mut Vec<Item>, imports: &[u32]) -> Result<(), NoMemory>
-    ensures { (names : Names Spot) → OnOk result (order_lines names order.new.items ≡ order_lines names order.old.items ++ import_lines names imports.now) }
+    ensures { (names : Names Spot) → OnOk result (order_lines names order.new.items ≡ order_lines names order.old.items
+        ++ import_lines names imports.now) }
 {
     for part in imports {
         order.push(Item {
@@ -72,7 +74,10 @@ fn put_imports(order: &mut Vec<Item>, imports: &[u32]) -> Result<(), NoMemory>
 /// what is pinned first, in each space too; and imports of the partial units with these numbers, in that order.
 pub fn put_kept(order: &mut Vec<Item>, outers: &[Outer], imports: &[u32]) -> Result<(), NoMemory>
     requires { length outers.now + 2 < 2 ^ 32 }
-    ensures { (v : View) (row : Row) → ShowsRow v row outers.now → OnOk result (order_lines v.names order.new.items ≡ order_lines v.names order.old.items ++ (line 1 v.names.root ∷ row_lines v.image 2 (pinned_first v.pinned (row_staying v.gone row)) ++ import_lines v.names imports.now)) }
+    ensures { (v : View) (row : Row) → ShowsRow v row outers.now
+        → OnOk result (order_lines v.names order.new.items ≡ order_lines v.names order.old.items
+        ++ (line 1 v.names.root ∷ row_lines v.image 2 (pinned_first v.pinned (row_staying v.gone row))
+        ++ import_lines v.names imports.now)) }
 {
     order.push(Item {
         what: What::Root,
@@ -87,7 +92,8 @@ pub fn put_kept(order: &mut Vec<Item>, outers: &[Outer], imports: &[u32]) -> Res
 /// Appends what is written of a unit all of whose entries stay where they are: a type unit, or a unit of a file of which nothing
 /// moves.
 pub fn put_whole(order: &mut Vec<Item>) -> Result<(), NoMemory>
-    ensures { (names : Names Spot) → OnOk result (order_lines names order.new.items ≡ order_lines names order.old.items ++ (line 1 names.root ∷ lines 2 names.whole)) }
+    ensures { (names : Names Spot) → OnOk result (order_lines names order.new.items ≡ order_lines names order.old.items
+        ++ (line 1 names.root ∷ lines 2 names.whole)) }
 {
     order.push(Item {
         what: What::Whole,

@@ -16,15 +16,20 @@ ghost use Rattle.dwz_layout.specs.Shows.{NamesKept, view_of};
 /// row are those of its tops and spaces.
 pub fn line_laws()
     ensures steps { (u : DwUnit Spot) → steps_of (unit_lines u) ≡ unit_steps u }
-    ensures tree { (f : Spot → Spot) (depth : ℕ) (row : Row) (last : Entries Spot) → lines depth (tree f row last) ≡ row_lines f depth row ++ lines depth last }
+    ensures tree { (f : Spot → Spot) (depth : ℕ) (row : Row) (last : Entries Spot) → lines depth (tree f row last) ≡ row_lines f depth row
+        ++ lines depth last }
 {}
 
 /// What is appended of a unit that is kept are the lines of the unit after: of a compile unit of a file of which something moves,
 /// where the imports have these numbers; and of any other.
 pub fn order_laws()
-    ensures kept { (m : Move) (units : List (FileUnit Spot)) (i : ℕ) (u : FileUnit Spot) (n : Names Spot) (parts : List ℕ) → NamesKept m i u.unit n → u.unit.kind ≡ Compile → changes m units u.file ≡ true → imports i 0 m.parts ≡ import_row i parts
-        → let v = view_of m units n in line 1 n.root ∷ row_lines v.image 2 (pinned_first v.pinned (row_staying v.gone (row_of units i))) ++ import_lines n parts ≡ unit_lines (kept_unit m units i u) }
-    ensures whole { (m : Move) (units : List (FileUnit Spot)) (i : ℕ) (u : FileUnit Spot) (n : Names Spot) → NamesKept m i u.unit n → (u.unit.kind ≡ Compile → changes m units u.file ≡ false) → line 1 n.root ∷ lines 2 n.whole ≡ unit_lines (kept_unit m units i u) }
-    ensures parts { (m : Move) (k : ℕ) (part : PartialUnit) (said : ℕ → SpaceName) (n : Names Spot) (path : ℕ → List ℕ) (l : ℕ → ℕ) → NamesPartial m k said n → ShowsSpaced (image_in m) said n path l part.tops → m.rows k ≡ part_row k part
+    ensures kept { (m : Move) (units : List (FileUnit Spot)) (i : ℕ) (u : FileUnit Spot) (n : Names Spot) (parts : List ℕ)
+        → NamesKept m i u.unit n → u.unit.kind ≡ Compile → changes m units u.file ≡ true → imports i 0 m.parts ≡ import_row i parts
+        → let v = view_of m units n in line 1 n.root ∷ row_lines v.image 2 (pinned_first v.pinned (row_staying v.gone (row_of units i)))
+        ++ import_lines n parts ≡ unit_lines (kept_unit m units i u) }
+    ensures whole { (m : Move) (units : List (FileUnit Spot)) (i : ℕ) (u : FileUnit Spot) (n : Names Spot) → NamesKept m i u.unit n
+        → (u.unit.kind ≡ Compile → changes m units u.file ≡ false) → line 1 n.root ∷ lines 2 n.whole ≡ unit_lines (kept_unit m units i u) }
+    ensures parts { (m : Move) (k : ℕ) (part : PartialUnit) (said : ℕ → SpaceName) (n : Names Spot) (path : ℕ → List ℕ) (l : ℕ → ℕ)
+        → NamesPartial m k said n → ShowsSpaced (image_in m) said n path l part.tops → m.rows k ≡ part_row k part
         → partial_lines n path l (map (λ t. t.number) part.tops) ≡ unit_lines (partial_unit m k) }
 {}

@@ -2,7 +2,8 @@
 ghost use Rattle.std.specs.Prelude.{◌≡◌, ℕ, List, ◌+◌, ◌<◌, ◌≤◌, ◌^◌, ◌++◌, All, length, slice_index, IfOk, OnOk};
 ghost use Rattle.dwz_docs.specs.Lists.{In};
 ghost use Rattle.dwz_alike.specs.Spots.{Spot};
-ghost use Rattle.dwz_layout.specs.Chains.{AreUp, IsChain, IsRising, Up, chain_lines, chains_lines, down, inner_at, names_at, partial_lines, path_lines, tops_lines};
+ghost use Rattle.dwz_layout.specs.Chains.{AreUp, IsChain, IsRising, Up, chain_lines, chains_lines, down, inner_at, names_at, partial_lines};
+ghost use Rattle.dwz_layout.specs.Chains.{path_lines, tops_lines};
 ghost use Rattle.dwz_layout.specs.Order.{Names, order_lines};
 
 use crate::chains::{chains_of, split};
@@ -40,7 +41,8 @@ fn put_spaces(
     requires within { inner ≤ length rows.now }
     requires few { inner + 2 < 2 ^ 32 }
     ensures depth { (ups : List ℕ) → Up rows.now inner ups → IfOk result (λ depth. depth ≡ 2 + length ups) }
-    ensures lines { (names : Names Spot) (ups : List ℕ) → Up rows.now inner ups → OnOk result (order_lines names order.new.items ≡ order_lines names order.old.items ++ path_lines names chain 0 (down ups)) }
+    ensures lines { (names : Names Spot) (ups : List ℕ) → Up rows.now inner ups
+        → OnOk result (order_lines names order.new.items ≡ order_lines names order.old.items ++ path_lines names chain 0 (down ups)) }
     ensures deep { IfOk result (λ depth. depth ≤ 2 + inner) }
 {
     if inner == 0 {
@@ -60,7 +62,8 @@ fn put_spaces(
 
 // Appends tops that stand so deep.
 fn put_tops(order: &mut Vec<Item>, tops: &[u32], depth: u32) -> Result<(), NoMemory>
-    ensures { (names : Names Spot) → OnOk result (order_lines names order.new.items ≡ order_lines names order.old.items ++ tops_lines names depth tops.now) }
+    ensures { (names : Names Spot) → OnOk result (order_lines names order.new.items ≡ order_lines names order.old.items
+        ++ tops_lines names depth tops.now) }
 {
     for top in tops {
         order.push(Item {
@@ -82,7 +85,9 @@ fn put_chain(
     requires rising { IsRising rows.now }
     requires within { inner ≤ length rows.now }
     requires few { inner + 2 < 2 ^ 32 }
-    ensures { (names : Names Spot) (ups : List ℕ) → Up rows.now inner ups → OnOk result (order_lines names order.new.items ≡ order_lines names order.old.items ++ chain_lines names chain (down ups) tops.now) }
+    ensures { (names : Names Spot) (ups : List ℕ) → Up rows.now inner ups
+        → OnOk result (order_lines names order.new.items ≡ order_lines names order.old.items
+        ++ chain_lines names chain (down ups) tops.now) }
 {
     let depth = put_spaces(order, rows, inner, chain)?;
     put_tops(order, tops, depth)?;
@@ -109,7 +114,9 @@ fn put_chains(
     requires few { length rows.now + 2 < 2 ^ 32 }
     requires few_chains { length chains.now < 2 ^ 32 }
     requires chains { All (IsChain of_tops.now) chains.now }
-    ensures { (names : Names Spot) (ups : ℕ → List ℕ) → AreUp rows.now of_tops.now ups chains.now → OnOk result (order_lines names order.new.items ≡ order_lines names order.old.items ++ chains_lines names (λ t. down (ups t)) 0 chains.now) }
+    ensures { (names : Names Spot) (ups : ℕ → List ℕ) → AreUp rows.now of_tops.now ups chains.now
+        → OnOk result (order_lines names order.new.items ≡ order_lines names order.old.items ++ chains_lines names (λ t. down (ups t)) 0
+        chains.now) }
 {
     for chain in 0..chains.len() {
         let tops = chains.get(chain);
@@ -133,7 +140,9 @@ pub fn put_partial(
     requires few { length rows.now + 2 < 2 ^ 32 }
     requires few_tops { length tops.now < 2 ^ 32 }
     requires inside { All (λ t. t < length of_tops.now) tops.now }
-    ensures { (names : Names Spot) (ups : ℕ → List ℕ) → ((t : ℕ) → In t tops.now → Up rows.now (inner_at of_tops.now t) (ups t)) → OnOk result (order_lines names order.new.items ≡ order_lines names order.old.items ++ partial_lines names (λ t. down (ups t)) (names_at of_tops.now) tops.now) }
+    ensures { (names : Names Spot) (ups : ℕ → List ℕ) → ((t : ℕ) → In t tops.now → Up rows.now (inner_at of_tops.now t) (ups t))
+        → OnOk result (order_lines names order.new.items ≡ order_lines names order.old.items ++ partial_lines names (λ t. down (ups t))
+        (names_at of_tops.now) tops.now) }
 {
     let parts = split(alloc, tops, of_tops)?;
     let chains = chains_of(alloc, parts.spaced.as_slice(), of_tops)?;

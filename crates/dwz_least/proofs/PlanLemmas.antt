@@ -11,16 +11,16 @@ use Rattle.dwz_alike.proofs.TopNumbers.{Numbered, tops_numbers}
 use Rattle.dwz_label.specs.Nodes.{AreLeast}
 use Rattle.dwz_label.proofs.LeastAlike.{alike_joined}
 use Rattle.dwz_moving.proofs.HomeLemmas.{file_of_top}
-use Rattle.dwz_plan.specs.declared.plan.Scope.TheVariants.{Each, Together as AllTogether}
-use Rattle.dwz_plan.specs.Rows.{Row, rows_from}
-use Rattle.dwz_plan.specs.Shows.{IsLeast, ShowsRows, ShowsTops}
+use Rattle.dwz_plan.specs.declared.plan.Sharing.TheVariants.{Each, Together as AllTogether}
+use Rattle.dwz_plan.specs.Rows.{TopFacts, rows_from}
+use Rattle.dwz_plan.specs.Shows.{HaveLeast, ShowsRows, ShowsTops}
 use Rattle.dwz_plan.proofs.BridgeLemmas.{file_is}
 
 abbrev flags_of : List TopRow → List Bool
 flags_of rows = map (λ (row : TopRow). row.movable) rows
 
 -- what a row says of a top, where the first row has that number
-record IsRow (s : ℕ) (files : List ℕ) (flags : List Bool) (least : List ℕ) (tops : List Top) (a : Row) : Type 0 where
+record IsRow (s : ℕ) (files : List ℕ) (flags : List Bool) (least : List ℕ) (tops : List Top) (a : TopFacts) : Type 0 where
   top : Top
   is_top : In top tops
   number : top.number ≡ a.number
@@ -29,23 +29,23 @@ record IsRow (s : ℕ) (files : List ℕ) (flags : List Bool) (least : List ℕ)
   least_is : a.least ≡ get_or least (a.number - s) 0
   file : a.file ≡ get_or files top.unit 0
 
-row_is : (units : List (FileUnit Spot)) (files : List ℕ) (s : ℕ) (rows : List TopRow) (least : List ℕ) (tops : List Top) (a : Row) → ShowsRows units rows tops → Numbered s tops
+row_is : (units : List (FileUnit Spot)) (files : List ℕ) (s : ℕ) (rows : List TopRow) (least : List ℕ) (tops : List Top) (a : TopFacts) → ShowsRows units rows tops → Numbered s tops
     → In a (rows_from files s rows least) → IsRow s files (flags_of rows) least tops a
 unfolding rows_from
 row_is units files s [] least tops a h c is = absurd is
 row_is units files s (r ∷ rows) [] tops a h c is = absurd is
 row_is units files s (r ∷ rows) (l ∷ least) [] a h c is = absurd h
 row_is units files s (r ∷ rows) (l ∷ least) (t ∷ tops) a h c (inl e) =
-    let here : a.number ≡ s = ap (λ (x : Row). x.number) (sym e) in
+    let here : a.number ≡ s = ap (λ (x : TopFacts). x.number) (sym e) in
     let none : a.number - s ≡ 0 = omega (arith, here) in
     record {
       top = t;
       is_top = inl refl;
       number = c.0 ∙ sym here;
       from = omega (arith, here);
-      movable = ap (λ (x : Row). x.movable) (sym e) ∙ ap (λ (k : ℕ). get_or (flags_of (r ∷ rows)) k false) (sym none);
-      least_is = ap (λ (x : Row). x.least) (sym e) ∙ ap (λ (k : ℕ). get_or (l ∷ least) k 0) (sym none);
-      file = ap (λ (x : Row). x.file) (sym e) ∙ ap (λ (u : ℕ). get_or files u 0) h.0.unit;
+      movable = ap (λ (x : TopFacts). x.movable) (sym e) ∙ ap (λ (k : ℕ). get_or (flags_of (r ∷ rows)) k false) (sym none);
+      least_is = ap (λ (x : TopFacts). x.least) (sym e) ∙ ap (λ (k : ℕ). get_or (l ∷ least) k 0) (sym none);
+      file = ap (λ (x : TopFacts). x.file) (sym e) ∙ ap (λ (u : ℕ). get_or files u 0) h.0.unit;
     }
 row_is units files s (r ∷ rows) (l ∷ least) (t ∷ tops) a h c (inr more) =
     let w = row_is units files (suc s) rows least tops a h.1 c.1 more in
@@ -62,7 +62,7 @@ row_is units files s (r ∷ rows) (l ∷ least) (t ∷ tops) a h c (inr more) =
 
 module _ (units : List (FileUnit Spot)) (tops : Tops) (least : List ℕ) (shows : ShowsTops units tops) (flags : AreMovable units (flags_of tops.rows)) (are : AreLeast units least) where
   -- the top of a row, and what the row says of it
-  record Of (a : Row) : Type 0 where
+  record Of (a : TopFacts) : Type 0 where
     top : Top
     is_top : In top (tops_of units)
     number : top.number ≡ a.number
@@ -70,7 +70,7 @@ module _ (units : List (FileUnit Spot)) (tops : Tops) (least : List ℕ) (shows 
     least_is : a.least ≡ get_or least top.number 0
     file : a.file ≡ top.file
 
-  top_of : (a : Row) → In a (rows_from tops.files_of_units 0 tops.rows least) → Of a
+  top_of : (a : TopFacts) → In a (rows_from tops.files_of_units 0 tops.rows least) → Of a
   top_of a is =
       let r = row_is units tops.files_of_units 0 tops.rows least (tops_of units) a shows.rows (tops_numbers units) is in
       let same : a.number - 0 ≡ r.top.number = (let e : a.number - 0 ≡ a.number = omega arith in e ∙ sym r.number) in
@@ -86,7 +86,7 @@ module _ (units : List (FileUnit Spot)) (tops : Tops) (least : List ℕ) (shows 
   many : length least ≡ length tops.rows
   many = are.len ∙ sym flags.len ∙ length-map tops.rows (λ (row : TopRow). row.movable)
 
-  pub decides_together : IsLeast AllTogether tops least (alike_test Together units)
+  pub decides_together : HaveLeast AllTogether tops least (alike_test Together units)
   decides_together = record {
     len = many;
     decides = λ a b i j. (
@@ -99,7 +99,7 @@ module _ (units : List (FileUnit Spot)) (tops : Tops) (least : List ℕ) (shows 
         ));
   }
 
-  pub decides_apart : IsLeast Each tops least (alike_test Apart units)
+  pub decides_apart : HaveLeast Each tops least (alike_test Apart units)
   decides_apart = record {
     len = many;
     decides = λ a b i j. (

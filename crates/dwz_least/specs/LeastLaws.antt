@@ -6,8 +6,8 @@ use Rattle.dwz_alike.specs.Spots.{FileUnit, Spot}
 use Rattle.dwz_groups.specs.declared.tops.Tops.{Tops}
 use Rattle.dwz_label.specs.Nodes.{AreLeast}
 use Rattle.dwz_label.specs.Shown.{AreShown}
-use Rattle.dwz_plan.specs.declared.plan.Scope.TheVariants.{Each, Together as AllTogether}
-use Rattle.dwz_plan.specs.Shows.{IsLeast, ShowsTops}
+use Rattle.dwz_plan.specs.declared.plan.Sharing.TheVariants.{Each, Together as AllTogether}
+use Rattle.dwz_plan.specs.Shows.{HaveLeast, ShowsTops}
 
 -- of whichever units the lists show the tops, these are the least alike ones
 abbrev pub GivesLeast : List (List ℕ) → List Bool → List (List ℕ) → List ℕ → Type 0
@@ -21,10 +21,10 @@ flags_of tops = map (λ row. row.movable) tops.rows
 abbrev pub TogetherPlanLaw : Type 0
 TogetherPlanLaw =
     (units : List (FileUnit Spot)) (tops : Tops) (least : List ℕ) → ShowsTops units tops
-    → AreMovable units (flags_of tops) → AreLeast units least → IsLeast AllTogether tops least (alike_test Together units)
+    → AreMovable units (flags_of tops) → AreLeast units least → HaveLeast AllTogether tops least (alike_test Together units)
 
 -- each file is one
 abbrev pub ApartPlanLaw : Type 0
 ApartPlanLaw =
     (units : List (FileUnit Spot)) (tops : Tops) (least : List ℕ) → ShowsTops units tops
-    → AreMovable units (flags_of tops) → AreLeast units least → IsLeast Each tops least (alike_test Apart units)
+    → AreMovable units (flags_of tops) → AreLeast units least → HaveLeast Each tops least (alike_test Apart units)

@@ -6,6 +6,3 @@ mod least;
 
 pub use laws::plan_laws;
 pub use least::least_alike;
-
-#[cfg(test)]
-mod tests;

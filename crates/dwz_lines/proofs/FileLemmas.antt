@@ -13,7 +13,8 @@ use Rattle.dwz_bytes.specs.Reading.{uleb_at}
 use Rattle.dwz_meanings.specs.LineTables.{FileTable, PathRow, TextSections, bad_line_table, file_table_at, is_header, names_strs, tables_begin, tables_bytes}
 use Rattle.dwz_meanings.proofs.SequenceLemmas.{input_of}
 use Rattle.dwz_lines.specs.Headers.{AreTables, NoTables}
-use Rattle.dwz_lines.specs.Reading.{Dirs, Misses, TriesAt, bind, dirs_in, files_after, files_behind, files_in, files_of, formats_in, has_dir, path_in, path_of, paths_in, row_in, rows_in, sure, table_in}
+use Rattle.dwz_lines.specs.Reading.{Dirs, Misses, TriesAt, bind, dirs_in, files_after, files_behind, files_in, files_of, formats_in, has_dir, path_in, path_of, paths_in, row_in, rows_in, sure}
+use Rattle.dwz_lines.specs.Reading.{table_in}
 use Rattle.dwz_lines.specs.TableViews.{joined_in}
 use Rattle.dwz_lines.proofs.LoopLemmas.{times_into}
 use Rattle.dwz_lines.proofs.TableLemmas.{no_tables, none_there, table_there}
@@ -43,14 +44,16 @@ module _ (s : TextSections) (d : Dirs) (i j k : Input) (pairs : List Pair) (n : 
     by_paths : files_in s d i ≡ bind (joined_in s pairs d.paths n k) (λ (p : List (List ℕ) × Input). Some (record { paths = p.0; has_strp = d.strp || names_strs pairs }, p.1))
     unfolding joined_in
     by_paths = behind_count ∙ ap (λ (b : Bool). cond b (bind (rows_in s (length d.paths) pairs n k) (files_of d pairs)) None) some ∙ by (rows_in s (length d.paths) pairs n k) where
-      by : (o : Option (List PathRow × Input)) → bind o (files_of d pairs) ≡ bind (bind o (λ (r : List PathRow × Input). Some (map (path_in d.paths) r.0, r.1))) (λ (p : List (List ℕ) × Input). Some (record { paths = p.0; has_strp = d.strp || names_strs pairs }, p.1))
+      by : (o : Option (List PathRow × Input)) → bind o (files_of d pairs) ≡ bind (bind o (λ (r : List PathRow × Input). Some (map (path_in d.paths) r.0, r.1)))
+          (λ (p : List (List ℕ) × Input). Some (record { paths = p.0; has_strp = d.strp || names_strs pairs }, p.1))
       by None = refl
       by (Some r) = refl
 
     pub no_paths : joined_in s pairs d.paths n k ≡ None → files_in s d i ≡ None
     no_paths none = by_paths ∙ ap (λ (o : Option (List (List ℕ) × Input)). bind o (λ (p : List (List ℕ) × Input). Some (record { paths = p.0; has_strp = d.strp || names_strs pairs }, p.1))) none
 
-    pub files_there : (paths : List (List ℕ)) (m : Input) (strp : Bool) → joined_in s pairs d.paths n k ≡ Some (paths, m) → strp ≡ (d.strp || names_strs pairs) → files_in s d i ≡ Some (record { paths = paths; has_strp = strp }, m)
+    pub files_there : (paths : List (List ℕ)) (m : Input) (strp : Bool) → joined_in s pairs d.paths n k ≡ Some (paths, m) → strp ≡ (d.strp || names_strs pairs)
+        → files_in s d i ≡ Some (record { paths = paths; has_strp = strp }, m)
     files_there paths m strp is same =
         by_paths
         ∙ ap (λ (o : Option (List (List ℕ) × Input)). bind o (λ (p : List (List ℕ) × Input). Some (record { paths = p.0; has_strp = d.strp || names_strs pairs }, p.1))) is

@@ -1,5 +1,6 @@
 -- One turn of a loop over so many items, or over the items of a list.
-use Rattle.std.proofs.Common.{◌≡◌, ℕ, suc, ◌+◌, ◌-◌, ◌<◌, ◌≤◌, Bool, true, false, cond, eqb, List, [], ◌∷◌, ◌++◌, length, map, drop, get_or, Option, Some, None, Result, Ok, refl, sym, ap, ◌∙◌, append_assoc, arith}
+use Rattle.std.proofs.Common.{◌≡◌, ℕ, suc, ◌+◌, ◌-◌, ◌<◌, ◌≤◌, Bool, true, false, cond, eqb, List, [], ◌∷◌, ◌++◌, length, map, drop, get_or, Option, Some, None, Result, Ok, refl, sym, ap, ◌∙◌}
+use Rattle.std.proofs.Common.{append_assoc, arith}
 use Rattle.std.specs.Prelude.{◌||◌}
 use Rattle.std.proofs.lemmas.List.{append-nil, at_drop_all, at_drop_more, map-append}
 use Rattle.dwz_bytes.specs.declared.error.ByteErr.{ByteErr}
@@ -34,7 +35,8 @@ found_strs formats i f lt same is =
     ∙ ap (λ (g : Format). eqb g.form 0x0e || strs_in (drop (i + 1) formats)) (sym same)
     ∙ ap (λ (b : Bool). b || strs_in (drop (i + 1) formats)) is
 
-pub other_strs : (formats : List Format) (i : ℕ) (f : Format) → i < length formats → f ≡ get_or formats i f → eqb f.form 0x0e ≡ false → names_strs (format_views (drop i formats)) ≡ names_strs (format_views (drop (i + 1) formats))
+pub other_strs : (formats : List Format) (i : ℕ) (f : Format) → i < length formats → f ≡ get_or formats i f → eqb f.form 0x0e ≡ false
+    → names_strs (format_views (drop i formats)) ≡ names_strs (format_views (drop (i + 1) formats))
 other_strs formats i f lt same is =
     at_drop_more strs_in formats i f lt
     ∙ ap (λ (g : Format). eqb g.form 0x0e || strs_in (drop (i + 1) formats)) (sym same)

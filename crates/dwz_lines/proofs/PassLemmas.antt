@@ -78,7 +78,8 @@ times_said {X} {Y} item f (suc n) i = by (λ j. times_said item f n j) (item i) 
   others_of x None = bind_none (f x)
   others_of x (Some z) = apart (f x) (each_of f z.0) z.1
 
-  inner : (o : Option Y) (j : Input) → bind (bind o (behind j)) (after_one (times_in (λ j. bind (item j) (said_of f)) n)) ≡ bind o (λ y. bind (times_in (λ j. bind (item j) (said_of f)) n j) (with_one y))
+  inner : (o : Option Y) (j : Input) → bind (bind o (behind j)) (after_one (times_in (λ j. bind (item j) (said_of f)) n))
+      ≡ bind o (λ y. bind (times_in (λ j. bind (item j) (said_of f)) n j) (with_one y))
   inner None j = refl
   inner (Some y) j = refl
 

@@ -1,11 +1,12 @@
 -- Paths that stand in one row of bytes stay when another one is appended.
-use Rattle.std.proofs.Common.{◌≡◌, ℕ, zero, suc, ◌-◌, ◌≤◌, Bool, true, false, cond, List, [], ◌∷◌, ◌++◌, length, map, take, drop, Some, None, Bor, get_or, ltb, refl, sym, ap, subst, ◌∙◌, append_assoc, arith}
+use Rattle.std.proofs.Common.{◌≡◌, ℕ, zero, suc, ◌-◌, ◌≤◌, Bool, true, false, cond, List, [], ◌∷◌, ◌++◌, length, map, take, drop, Some, None, Bor, get_or, ltb, refl, sym, ap, subst, ◌∙◌, append_assoc}
+use Rattle.std.proofs.Common.{arith}
 use Rattle.std.specs.Prelude.{◌||◌}
 use Rattle.std.specs.declared.alloc.AllocError.{AllocError}
 use Rattle.std.specs.Prelude.{OnOk, Result, Ok, Err, is_ok}
 use Rattle.std.proofs.lemmas.Bool.{le-ltb, lt-ltb, ltb-false, ltb-true}
 use Rattle.std.proofs.lemmas.List.{drop-append-le, length-append, length-drop, map-append, take-append-drop, take-append-le, take_all}
-use Rattle.dwz_docs.proofs.PartLemmas.{drop-front}
+use Rattle.dwz_bytes.proofs.LebLemmas.{drop-front}
 use Rattle.dwz_meanings.specs.LineTables.{begins_with_slash, is_no_path, join, nth_path}
 use Rattle.dwz_lines.specs.declared.paths.Span.{Span}
 use Rattle.dwz_lines.specs.Paths.{AreWithin, IsIn, IsKept, text_of, texts_of}
@@ -64,7 +65,8 @@ pub texts_append : (bytes rest : List ℕ) (spans : List Span) → AreWithin byt
 texts_append bytes rest [] are = refl
 texts_append bytes rest (s ∷ spans) are =
     let dropped : drop s.from (bytes ++ rest) ≡ drop s.from bytes ++ rest = drop-append-le s.from bytes rest (omega (arith, are.0)) in
-    let taken : take (s.to - s.from) (drop s.from bytes ++ rest) ≡ take (s.to - s.from) (drop s.from bytes) = take-append-le (s.to - s.from) (drop s.from bytes) rest (omega (arith, are.0, length-drop s.from bytes)) in
+    let taken : take (s.to - s.from) (drop s.from bytes ++ rest) ≡ take (s.to - s.from) (drop s.from bytes) = take-append-le (s.to - s.from) (drop s.from bytes) rest
+    (omega (arith, are.0, length-drop s.from bytes)) in
     let one : text_of (bytes ++ rest) s ≡ text_of bytes s = ap (take (s.to - s.from)) dropped ∙ taken in
     let others = texts_append bytes rest spans are.1 in
     λ k. one k ∷ others k
@@ -85,7 +87,8 @@ last_text bytes path s from to =
     ∙ ap (λ (w : List ℕ). take (s.to - s.from) w) (drop-front bytes path)
     ∙ take_all (s.to - s.from) path (omega (arith, size))
 
-pub all_texts : (bytes path : List ℕ) (spans : List Span) (s : Span) → AreWithin bytes spans → s.from ≡ length bytes → s.to ≡ length (bytes ++ path) → texts_of (bytes ++ path) (spans ++ s ∷ []) ≡ texts_of bytes spans ++ path ∷ []
+pub all_texts : (bytes path : List ℕ) (spans : List Span) (s : Span) → AreWithin bytes spans → s.from ≡ length bytes → s.to ≡ length (bytes ++ path)
+    → texts_of (bytes ++ path) (spans ++ s ∷ []) ≡ texts_of bytes spans ++ path ∷ []
 all_texts bytes path spans s are from to =
     map-append (text_of (bytes ++ path)) spans (s ∷ [])
     ∙ ap (λ (w : List (List ℕ)). w ++ text_of (bytes ++ path) s ∷ []) (texts_append bytes path spans are)

@@ -33,9 +33,11 @@ values_are s dirs (pair ∷ pairs) t i = by (λ u j. values_are s dirs pairs u j
   rest raw (Ok y) = sym (bind_assoc (seen_with s dirs pair raw t) (seen_all s dirs pairs y.0) (behind y.1))
 
   by : ((u : Seen) (j : Input) → values_in s dirs pairs u j ≡ bind (sure (values_at pairs j)) (saw s dirs pairs u)) → (r : Result (Raw × Input) Fault)
-      → bind (sure r) (λ x. bind (seen_with s dirs pair x.0 t) (λ u. values_in s dirs pairs u x.1)) ≡ bind (sure (r >>= then_read (λ _. values_at pairs) (λ raw raws. raw ∷ raws))) (saw s dirs (pair ∷ pairs) t)
+      → bind (sure r) (λ x. bind (seen_with s dirs pair x.0 t) (λ u. values_in s dirs pairs u x.1)) ≡ bind (sure (r >>= then_read (λ _. values_at pairs) (λ raw raws. raw ∷ raws)))
+      (saw s dirs (pair ∷ pairs) t)
   by others (Err f) = refl
-  by others (Ok x) = bind_same (seen_with s dirs pair x.0 t) (λ u. values_in s dirs pairs u x.1) (λ u. bind (sure (values_at pairs x.1)) (saw s dirs pairs u)) (λ u. others u x.1) ∙ rest x.0 (values_at pairs x.1)
+  by others (Ok x) = bind_same (seen_with s dirs pair x.0 t) (λ u. values_in s dirs pairs u x.1) (λ u. bind (sure (values_at pairs x.1)) (saw s dirs pairs u)) (λ u. others u x.1)
+      ∙ rest x.0 (values_at pairs x.1)
 
 -- ---- a row
 
@@ -80,10 +82,12 @@ module _ (s : TextSections) (dirs : ℕ) (pair : Pair) (raw : Raw) (pairs : List
   a_path (Some p) dir text is = sym (none_either (may_have dirs dir (with_content 2 pairs raws)))
   a_path None dir None is =
       sym (none_either (may_have dirs dir (with_content 2 pairs raws)))
-      ∙ ap (λ (o : Option (List ℕ)). cond (may_have dirs dir (with_content 2 pairs raws)) (bind (bind o (λ p. path_from s (Some p) (with_content 1 pairs raws))) (row_at (dir_from dir (with_content 2 pairs raws)))) None) (sym is)
+      ∙ ap (λ (o : Option (List ℕ)). cond (may_have dirs dir (with_content 2 pairs raws))
+      (bind (bind o (λ p. path_from s (Some p) (with_content 1 pairs raws))) (row_at (dir_from dir (with_content 2 pairs raws)))) None) (sym is)
   a_path None dir (Some text) is =
       others (Some text) dir
-      ∙ ap (λ (o : Option (List ℕ)). cond (may_have dirs dir (with_content 2 pairs raws)) (bind (bind o (λ p. path_from s (Some p) (with_content 1 pairs raws))) (row_at (dir_from dir (with_content 2 pairs raws)))) None) (sym is)
+      ∙ ap (λ (o : Option (List ℕ)). cond (may_have dirs dir (with_content 2 pairs raws))
+      (bind (bind o (λ p. path_from s (Some p) (with_content 1 pairs raws))) (row_at (dir_from dir (with_content 2 pairs raws)))) None) (sym is)
 
   -- what follows an index, by whether there is another one
   ends : (path : Option (List ℕ)) (texts rest : List (Pair × Raw)) (b : Bool) → ltb (index_in raw) dirs ≡ b
@@ -100,7 +104,8 @@ module _ (s : TextSections) (dirs : ℕ) (pair : Pair) (raw : Raw) (pairs : List
   a_dir path (Some d) = refl
   a_dir path None = by (ltb (index_in raw) dirs) refl where
     by : (b : Bool) → ltb (index_in raw) dirs ≡ b
-        → bind (bind (cond b (Some (seen path (Some (index_in raw)))) None) (seen_all s dirs pairs raws)) row_of ≡ says s dirs path None (with_content 1 pairs raws) ((pair, raw) ∷ with_content 2 pairs raws)
+        → bind (bind (cond b (Some (seen path (Some (index_in raw)))) None) (seen_all s dirs pairs raws)) row_of
+        ≡ says s dirs path None (with_content 1 pairs raws) ((pair, raw) ∷ with_content 2 pairs raws)
     by true is = others path (Some (index_in raw)) ∙ ends path (with_content 1 pairs raws) (with_content 2 pairs raws) true is
     by false is = ends path (with_content 1 pairs raws) (with_content 2 pairs raws) false is
 
@@ -122,7 +127,8 @@ all_say s dirs (pair ∷ pairs) (raw ∷ raws) path dir = one_more s dirs pair r
 abbrev pub row_says : TextSections → Fault → ℕ → List Pair → List Raw → Option PathRow
 row_says s bad dirs pairs raws = sure (row_said s bad dirs pairs raws)
 
-said_is : (s : TextSections) (bad : Fault) (dirs : ℕ) (pairs : List Pair) (raws : List Raw) → says s dirs None None (with_content 1 pairs raws) (with_content 2 pairs raws) ≡ row_says s bad dirs pairs raws
+said_is : (s : TextSections) (bad : Fault) (dirs : ℕ) (pairs : List Pair) (raws : List Raw) → says s dirs None None (with_content 1 pairs raws) (with_content 2 pairs raws)
+    ≡ row_says s bad dirs pairs raws
 unfolding says path_from dir_from row_at
 said_is s bad dirs pairs raws = by (are_indexes dirs (with_content 2 pairs raws)) (with_content 1 pairs raws) where
   one : (d : ℕ) (o : Option (List ℕ)) → bind (bind o (λ p. Some p)) (row_at d) ≡ sure (or_bad bad o >>= row_with d)
@@ -155,7 +161,8 @@ each_row : (s : TextSections) (bad : Fault) (dirs : ℕ) (pairs : List Pair) (ta
 unfolding rows_said
 each_row s bad dirs pairs [] = refl
 each_row s bad dirs pairs (raws ∷ table) = by (row_said s bad dirs pairs raws) (rows_said s bad dirs pairs table) (each_of (row_says s bad dirs pairs) table) (each_row s bad dirs pairs table) where
-  by : (r : Result PathRow Fault) (q : Result (List PathRow) Fault) (o : Option (List PathRow)) → o ≡ sure q → bind (sure r) (λ y. bind o (λ ys. Some (y ∷ ys))) ≡ sure (r >>= λ row. q >>= with_row row)
+  by : (r : Result PathRow Fault) (q : Result (List PathRow) Fault) (o : Option (List PathRow)) → o ≡ sure q
+      → bind (sure r) (λ y. bind o (λ ys. Some (y ∷ ys))) ≡ sure (r >>= λ row. q >>= with_row row)
   by (Err f) q o is = refl
   by (Ok row) (Ok rows) o is = ap (λ (w : Option (List PathRow)). bind w (λ ys. Some (row ∷ ys))) is
   by (Ok row) (Err f) o is = ap (λ (w : Option (List PathRow)). bind w (λ ys. Some (row ∷ ys))) is
@@ -169,4 +176,5 @@ rows_are s bad dirs pairs n i =
     times_same (row_in s dirs pairs) (λ j. bind (sure (values_at pairs j)) (said_of (row_says s bad dirs pairs))) (row_is s bad dirs pairs) n i
     ∙ times_said (λ j. sure (values_at pairs j)) (row_says s bad dirs pairs) n i
     ∙ ap (λ (o : Option (List (List Raw) × Input)). bind o (said_of (each_of (row_says s bad dirs pairs)))) (sym (times_plain (values_at pairs) n i))
-    ∙ bind_same (sure (times_at (values_at pairs) n i)) (said_of (each_of (row_says s bad dirs pairs))) (rows_say s bad dirs pairs) (λ x. ap (λ (o : Option (List PathRow)). bind o (behind x.1)) (each_row s bad dirs pairs x.0))
+    ∙ bind_same (sure (times_at (values_at pairs) n i)) (said_of (each_of (row_says s bad dirs pairs))) (rows_say s bad dirs pairs)
+    (λ x. ap (λ (o : Option (List PathRow)). bind o (behind x.1)) (each_row s bad dirs pairs x.0))

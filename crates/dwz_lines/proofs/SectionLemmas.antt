@@ -3,6 +3,7 @@ use Rattle.std.proofs.Common.{◌≡◌, ℕ, ◌+◌, ◌<◌, ◌≤◌, Bool,
 use Rattle.std.specs.Prelude.{◌||◌}
 use Rattle.std.proofs.lemmas.List.{length-drop}
 use Rattle.dwz_model.specs.declared.fault.Fault.{Fault}
+use Rattle.dwz_docs.proofs.CaseFacts.{or_assoc}
 use Rattle.dwz_meanings.specs.LineTables.{FileTable, IsFileTable, TextSections, file_table_at, line_length}
 use Rattle.dwz_meanings.proofs.AgreeLemmas.{same_meaning}
 use Rattle.dwz_meanings.proofs.LineTableLemmas.{file_table_agrees}
@@ -18,10 +19,6 @@ pub record AreRead (s : TextSections) (line : List ℕ) (place : ℕ) (uses : Bo
 pub none_read : (s : TextSections) (line : List ℕ) → AreRead s line 0 false
 none_read s line = record { within = omega arith; all = λ tables are. (tables, are, refl); some = λ rest are. (rest, are, refl) }
 
-or_assoc : (a b c : Bool) → (a || (b || c)) ≡ ((a || b) || c)
-or_assoc true b c = refl
-or_assoc false b c = refl
-
 or_false : (a : Bool) → (a || false) ≡ a
 or_false true = refl
 or_false false = refl
@@ -33,7 +30,8 @@ module _ (s : TextSections) (line : List ℕ) (place : ℕ) (uses : Bool) (are :
       pub fits : place + (4 + line_length (drop place line)) ≤ length line
       fits = let whole = whole_unit (drop place line) is.header in omega (arith, whole, length-drop place line, lt)
 
-      rest_of : (rest : List FileTable) → AreTablesFrom s line place rest → (others : List FileTable) × AreTablesFrom s line (place + (4 + line_length (drop place line))) others × (any_strp rest ≡ (t.has_strp || any_strp others))
+      rest_of : (rest : List FileTable) → AreTablesFrom s line place rest → (others : List FileTable) × AreTablesFrom s line (place + (4 + line_length (drop place line))) others
+          × (any_strp rest ≡ (t.has_strp || any_strp others))
       rest_of [] none = absurd (omega (arith, none, lt))
       rest_of (u ∷ others) both =
           let same : u ≡ t = same_meaning (file_table_agrees s line place) u t both.0 is in

@@ -10,7 +10,9 @@ use Rattle.dwz_bytes.specs.Reading.{◌>>=◌, uleb_at}
 use Rattle.dwz_docs.specs.Entries.{unless_so}
 use Rattle.dwz_docs.specs.Values.{Raw}
 use Rattle.dwz_meanings.specs.Exprs.{or_fault}
-use Rattle.dwz_meanings.specs.LineTables.{FileTable, PathRow, Table, TextSections, are_formats, bad_line_table, dir_path, dirs_after as dirs_say_after, file_table, file_table_at, files_after as files_say_after, formats_at, full_path, is_format, is_header, join, names_strs, one_fault, row_said, rows_at, rows_said, second, table_at, table_said, table_with, tables_after, tables_at, tables_begin, tables_bytes, tables_with, values_at, with_row}
+use Rattle.dwz_meanings.specs.LineTables.{FileTable, PathRow, Table, TextSections, are_formats, bad_line_table, dir_path, dirs_after as dirs_say_after, file_table, file_table_at}
+use Rattle.dwz_meanings.specs.LineTables.{files_after as files_say_after, formats_at, full_path, is_format, is_header, join, names_strs, one_fault, row_said, rows_at, rows_said, second, table_at}
+use Rattle.dwz_meanings.specs.LineTables.{table_said, table_with, tables_after, tables_at, tables_begin, tables_bytes, tables_with, values_at, with_row}
 use Rattle.dwz_meanings.specs.Sequences.{then_make, then_read, times_at, value_only}
 use Rattle.dwz_docs.proofs.PartLemmas.{bind_ok}
 use Rattle.dwz_meanings.proofs.SequenceLemmas.{input_of}
@@ -35,9 +37,11 @@ module _ {R : Type 0} (s : TextSections) (bad : Fault) (dirs_for : ℕ → ℕ) 
 
   bad_formats : (f : List Pair × Input) → list_all is_format f.0 ≡ false → (r : Result (List (List Raw) × Input) Fault) → bind (sure (r >>= then_make table_with f.0)) asked ≡ None
   bad_formats f none (Err e) = refl
-  bad_formats f none (Ok x) = ap (λ (b : Bool). bind (cond b (cond (ok (length x.0)) (bind (sure (rows_said s bad (dirs_for (length x.0)) f.0 x.0)) (λ rows. Some (make f.0 rows))) None) None) (behind x.1)) none
+  bad_formats f none (Ok x) = ap (λ (b : Bool). bind (cond b (cond (ok (length x.0)) (bind (sure (rows_said s bad (dirs_for (length x.0)) f.0 x.0)) (λ rows. Some (make f.0 rows))) None) None)
+      (behind x.1)) none
 
-  final : (pairs : List Pair) (j : Input) (r : Result (List PathRow) Fault) → bind (bind (sure r) (behind j)) (λ r. Some (make pairs r.0, r.1)) ≡ bind (bind (sure r) (λ rows. Some (make pairs rows))) (behind j)
+  final : (pairs : List Pair) (j : Input) (r : Result (List PathRow) Fault) → bind (bind (sure r) (behind j)) (λ r. Some (make pairs r.0, r.1)) ≡ bind (bind (sure r) (λ rows. Some (make pairs rows)))
+      (behind j)
   final pairs j (Ok rows) = refl
   final pairs j (Err e) = refl
 
@@ -95,7 +99,8 @@ abbrev dirs_said : TextSections → Fault → Table → Option Dirs
 dirs_said s bad t = cond (list_all is_format t.formats) (bind (sure (rows_said s bad (length t.rows) t.formats t.rows)) (λ rows. Some (dirs_made t.formats rows))) None
 
 abbrev files_said : TextSections → Fault → Dirs → Table → Option FileTable
-files_said s bad d t = cond (list_all is_format t.formats) (cond (has_dir (length t.rows) (length d.paths)) (bind (sure (rows_said s bad (length d.paths) t.formats t.rows)) (λ rows. Some (files_made d t.formats rows))) None) None
+files_said s bad d t = cond (list_all is_format t.formats) (cond (has_dir (length t.rows) (length d.paths))
+    (bind (sure (rows_said s bad (length d.paths) t.formats t.rows)) (λ rows. Some (files_made d t.formats rows))) None) None
 
 dirs_are : (s : TextSections) (bad : Fault) (i : Input) → dirs_in s i ≡ bind (sure (table_at bad i)) (λ t. bind (dirs_said s bad t.0) (behind t.1))
 unfolding dirs_in
@@ -136,7 +141,8 @@ path_is : (dirs : List PathRow) (row : PathRow) → path_in (map path_of dirs) r
 path_is dirs row = λ k. cond (eqb row.dir 0) (join (dir_is dirs 0 k) row.path) (join (join (dir_is dirs 0 k) (dir_is dirs row.dir k)) row.path)
 
 module _ (s : TextSections) (bad : Fault) (a b : Table) where
-  made_same : (r : Result (List PathRow) Fault) (dirs : List PathRow) → sure (r >>= file_table (tables_with a b) dirs) ≡ bind (sure r) (λ rows. Some (files_made (dirs_made a.formats dirs) b.formats rows))
+  made_same : (r : Result (List PathRow) Fault) (dirs : List PathRow) → sure (r >>= file_table (tables_with a b) dirs)
+      ≡ bind (sure r) (λ rows. Some (files_made (dirs_made a.formats dirs) b.formats rows))
   made_same (Err e) dirs = refl
   made_same (Ok files) dirs =
       let same : (row : PathRow) → full_path dirs row ≡ path_in (map path_of dirs) row = λ row. sym (path_is dirs row) in
@@ -170,10 +176,12 @@ module _ (s : TextSections) (bad : Fault) (a b : Table) where
     by (Ok dirs) = made_same (rows_said s bad (length a.rows) b.formats b.rows) dirs
 
   -- as many directories as rows
-  counted_same : bind (dirs_said s bad a) (λ d. cond (list_all is_format b.formats) (cond (has_dir (length b.rows) (length a.rows)) (files_with d) None) None) ≡ bind (dirs_said s bad a) (λ d. files_said s bad d b)
+  counted_same : bind (dirs_said s bad a) (λ d. cond (list_all is_format b.formats) (cond (has_dir (length b.rows) (length a.rows)) (files_with d) None) None)
+      ≡ bind (dirs_said s bad a) (λ d. files_said s bad d b)
   counted_same = by (list_all is_format a.formats) (rows_said s bad (length a.rows) a.formats a.rows) refl where
     by : (p : Bool) (r : Result (List PathRow) Fault) → rows_said s bad (length a.rows) a.formats a.rows ≡ r
-        → bind (cond p (bind (sure r) (λ rows. Some (dirs_made a.formats rows))) None) (λ d. cond (list_all is_format b.formats) (cond (has_dir (length b.rows) (length a.rows)) (files_with d) None) None)
+        → bind (cond p (bind (sure r) (λ rows. Some (dirs_made a.formats rows))) None)
+        (λ d. cond (list_all is_format b.formats) (cond (has_dir (length b.rows) (length a.rows)) (files_with d) None) None)
         ≡ bind (cond p (bind (sure r) (λ rows. Some (dirs_made a.formats rows))) None) (λ d. files_said s bad d b)
     by false r is = refl
     by true (Err e) is = refl
@@ -194,11 +202,13 @@ module _ (s : TextSections) (bad : Fault) (i : Input) where
   parts_are : sure ((tables_at bad i >>= value_only) >>= table_said s bad) ≡ bind (sure (table_at bad i)) (λ a. bind (sure (table_at bad a.1)) (λ b. sure (table_said s bad (tables_with a.0 b.0))))
   unfolding tables_at
   parts_are = by (table_at bad i) where
-    rest : (a : Table) (r : Result (Table × Input) Fault) → sure (((r >>= then_make tables_with a) >>= value_only) >>= table_said s bad) ≡ bind (sure r) (λ b. sure (table_said s bad (tables_with a b.0)))
+    rest : (a : Table) (r : Result (Table × Input) Fault) → sure (((r >>= then_make tables_with a) >>= value_only) >>= table_said s bad)
+        ≡ bind (sure r) (λ b. sure (table_said s bad (tables_with a b.0)))
     rest a (Ok b) = refl
     rest a (Err e) = refl
 
-    by : (r : Result (Table × Input) Fault) → sure (((r >>= then_read (λ _. table_at bad) tables_with) >>= value_only) >>= table_said s bad) ≡ bind (sure r) (λ a. bind (sure (table_at bad a.1)) (λ b. sure (table_said s bad (tables_with a.0 b.0))))
+    by : (r : Result (Table × Input) Fault) → sure (((r >>= then_read (λ _. table_at bad) tables_with) >>= value_only) >>= table_said s bad)
+        ≡ bind (sure r) (λ a. bind (sure (table_at bad a.1)) (λ b. sure (table_said s bad (tables_with a.0 b.0))))
     by (Ok a) = rest a.0 (table_at bad a.1)
     by (Err e) = refl
 
@@ -212,14 +222,16 @@ module _ (s : TextSections) (bad : Fault) (i : Input) where
     files_of_part d (Err e) = refl
     files_of_part d (Ok b) = last (files_said s bad d b.0) b.1
 
-    dirs_of_part : (a : Table × Input) (o : Option Dirs) → bind (bind (bind o (behind a.1)) (λ d. files_in s d.0 d.1)) (λ x. Some x.0) ≡ bind (sure (table_at bad a.1)) (λ b. bind o (λ d. files_said s bad d b.0))
+    dirs_of_part : (a : Table × Input) (o : Option Dirs) → bind (bind (bind o (behind a.1)) (λ d. files_in s d.0 d.1)) (λ x. Some x.0)
+        ≡ bind (sure (table_at bad a.1)) (λ b. bind o (λ d. files_said s bad d b.0))
     dirs_of_part a None = sym (bind_none (sure (table_at bad a.1)))
     dirs_of_part a (Some d) = ap (λ (o : Option (FileTable × Input)). bind o (λ x. Some x.0)) (files_are s bad d a.1) ∙ files_of_part d (table_at bad a.1)
 
     by : (r : Result (Table × Input) Fault) → bind (bind (bind (sure r) (λ t. bind (dirs_said s bad t.0) (behind t.1))) (λ d. files_in s d.0 d.1)) (λ x. Some x.0)
         ≡ bind (sure r) (λ a. bind (sure (table_at bad a.1)) (λ b. sure (table_said s bad (tables_with a.0 b.0))))
     by (Err e) = refl
-    by (Ok a) = let same : (b : Table × Input) → bind (dirs_said s bad a.0) (λ d. files_said s bad d b.0) ≡ sure (table_said s bad (tables_with a.0 b.0)) = λ b. sym (tables_say s bad a.0 b.0) in dirs_of_part a (dirs_said s bad a.0) ∙ (λ k. bind (sure (table_at bad a.1)) (λ b. same b k))
+    by (Ok a) = let same : (b : Table × Input) → bind (dirs_said s bad a.0) (λ d. files_said s bad d b.0) ≡ sure (table_said s bad (tables_with a.0 b.0)) =
+        λ b. sym (tables_say s bad a.0 b.0) in dirs_of_part a (dirs_said s bad a.0) ∙ (λ k. bind (sure (table_at bad a.1)) (λ b. same b k))
 
 -- ---- what stands at a place
 

@@ -37,21 +37,26 @@ value_same content form i = shaped_same (shape_of form_rows form) content form i
 
 module _ (s : TextSections) (dirs : ℕ) (formats : List Format) (k : ℕ) (d : Format) (lt : k < length formats) (t : Seen) (i : Input) where
   turn : values_in s dirs (format_views (drop k formats)) t i
-      ≡ bind (sure (value_at form_rows (format_view (get_or formats k d)) i)) (λ x. bind (seen_with s dirs (format_view (get_or formats k d)) x.0 t) (λ u. values_in s dirs (format_views (drop (k + 1) formats)) u x.1))
+      ≡ bind (sure (value_at form_rows (format_view (get_or formats k d)) i))
+      (λ x. bind (seen_with s dirs (format_view (get_or formats k d)) x.0 t) (λ u. values_in s dirs (format_views (drop (k + 1) formats)) u x.1))
   unfolding values_in
   turn = at_drop_more (λ (w : List Format). values_in s dirs (format_views w) t i) formats k d lt
 
   pub no_value : sure (value_at form_rows (format_view (get_or formats k d)) i) ≡ None → values_in s dirs (format_views (drop k formats)) t i ≡ None
-  no_value none = turn ∙ ap (λ (o : Option (Raw × Input)). bind o (λ x. bind (seen_with s dirs (format_view (get_or formats k d)) x.0 t) (λ u. values_in s dirs (format_views (drop (k + 1) formats)) u x.1))) none
+  no_value none = turn ∙ ap (λ (o : Option (Raw × Input)). bind o (λ x. bind (seen_with s dirs (format_view (get_or formats k d)) x.0 t)
+      (λ u. values_in s dirs (format_views (drop (k + 1) formats)) u x.1))) none
 
   pub value_read : (raw : Raw) (j : Input) → sure (value_at form_rows (format_view (get_or formats k d)) i) ≡ Some (raw, j)
       → values_in s dirs (format_views (drop k formats)) t i ≡ bind (seen_with s dirs (format_view (get_or formats k d)) raw t) (λ u. values_in s dirs (format_views (drop (k + 1) formats)) u j)
-  value_read raw j some = turn ∙ ap (λ (o : Option (Raw × Input)). bind o (λ x. bind (seen_with s dirs (format_view (get_or formats k d)) x.0 t) (λ u. values_in s dirs (format_views (drop (k + 1) formats)) u x.1))) some
+  value_read raw j some = turn ∙ ap (λ (o : Option (Raw × Input)). bind o
+      (λ x. bind (seen_with s dirs (format_view (get_or formats k d)) x.0 t) (λ u. values_in s dirs (format_views (drop (k + 1) formats)) u x.1))) some
 
-  pub not_said : (raw : Raw) (j : Input) → sure (value_at form_rows (format_view (get_or formats k d)) i) ≡ Some (raw, j) → seen_with s dirs (format_view (get_or formats k d)) raw t ≡ None → values_in s dirs (format_views (drop k formats)) t i ≡ None
+  pub not_said : (raw : Raw) (j : Input) → sure (value_at form_rows (format_view (get_or formats k d)) i) ≡ Some (raw, j) → seen_with s dirs (format_view (get_or formats k d)) raw t ≡ None
+      → values_in s dirs (format_views (drop k formats)) t i ≡ None
   not_said raw j some none = value_read raw j some ∙ ap (λ (o : Option Seen). bind o (λ u. values_in s dirs (format_views (drop (k + 1) formats)) u j)) none
 
-  pub value_said : (raw : Raw) (j : Input) (u : Seen) → sure (value_at form_rows (format_view (get_or formats k d)) i) ≡ Some (raw, j) → seen_with s dirs (format_view (get_or formats k d)) raw t ≡ Some u
+  pub value_said : (raw : Raw) (j : Input) (u : Seen) → sure (value_at form_rows (format_view (get_or formats k d)) i) ≡ Some (raw, j) → seen_with s dirs (format_view (get_or formats k d)) raw t
+      ≡ Some u
       → values_in s dirs (format_views (drop k formats)) t i ≡ values_in s dirs (format_views (drop (k + 1) formats)) u j
   value_said raw j u some is = value_read raw j some ∙ ap (λ (o : Option Seen). bind o (λ u. values_in s dirs (format_views (drop (k + 1) formats)) u j)) is
 

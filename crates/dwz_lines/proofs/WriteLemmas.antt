@@ -1,24 +1,13 @@
 -- What is written of a header.
-use Rattle.std.proofs.Common.{◌≡◌, ℕ, zero, suc, ◌+◌, ◌/◌, ◌%◌, ◌^◌, ◌<◌, ◌≤◌, List, [], ◌∷◌, ◌++◌, length, drop, get_or, refl, sym, ap, ◌∙◌, append_assoc, arith}
-use Rattle.std.specs.Int.{bytes_low_first, to_le_bytes, w32}
-use Rattle.std.proofs.Math.Nat.{div-div-eq-div-mul, div-one, pow-suc}
+use Rattle.std.proofs.Common.{◌≡◌, ℕ, suc, ◌+◌, ◌<◌, ◌≤◌, List, [], ◌∷◌, ◌++◌, length, drop, get_or, refl, sym, ap, ◌∙◌, append_assoc, arith}
+use Rattle.std.specs.Int.{to_le_bytes, w32}
+use Rattle.std.proofs.Math.Nat.{div-one}
 use Rattle.std.proofs.lemmas.List.{at_drop_all, at_drop_more, length-append}
 use Rattle.dwz_bytes.specs.Spelling.{le_bytes, uleb}
+use Rattle.dwz_bytes.proofs.LowBytes.{low_first}
 use Rattle.dwz_meanings.specs.LinesWritten.{behind_length, file_formats, header_written, one_directory, rows_bytes, standard, tables_written, with_row_0}
 
 -- ---- numbers of four bytes
-
-low_first : (k i n : ℕ) → bytes_low_first i k n ≡ le_bytes k (n / 256 ^ i)
-unfolding le_bytes
-low_first zero i n = refl
-low_first (suc k) zero n =
-    let one : n / 256 ^ 0 ≡ n = div-one n in
-    let rest : bytes_low_first 1 k n ≡ le_bytes k (n / 256) = low_first k 1 n in
-    rw (one, rest) refl
-low_first (suc k) (suc i) n =
-    let rest = low_first k (suc (suc i)) n in
-    let deeper : n / 256 ^ suc (suc i) ≡ n / 256 ^ suc i / 256 = ap (λ (m : ℕ). n / m) (pow-suc 256 (suc i)) ∙ sym (div-div-eq-div-mul n (256 ^ suc i) 256) in
-    ap (λ (bytes : List ℕ). n / 256 ^ suc i % 256 ∷ bytes) (rest ∙ ap (le_bytes k) deeper)
 
 four_of : List ℕ → List ℕ
 four_of w = get_or w 0 0 ∷ get_or w 1 0 ∷ get_or w 2 0 ∷ get_or w 3 0 ∷ []
@@ -53,7 +42,8 @@ pub no_rows : (paths : List (List ℕ)) (k : ℕ) → length paths ≤ k → row
 unfolding rows_bytes
 no_rows paths k le = at_drop_all rows_bytes paths k le
 
-front_is : (standard ++ one_directory) ++ file_formats ≡ 0x01 ∷ 0x01 ∷ 0x01 ∷ 0xfb ∷ 0x0e ∷ 0x0d ∷ 0x00 ∷ 0x01 ∷ 0x01 ∷ 0x01 ∷ 0x01 ∷ 0x00 ∷ 0x00 ∷ 0x00 ∷ 0x01 ∷ 0x00 ∷ 0x00 ∷ 0x01 ∷ 0x01 ∷ 0x01 ∷ 0x08 ∷ 0x01 ∷ 0x00 ∷ 0x02 ∷ 0x01 ∷ 0x08 ∷ 0x02 ∷ 0x0f ∷ []
+front_is : (standard ++ one_directory) ++ file_formats ≡ 0x01 ∷ 0x01 ∷ 0x01 ∷ 0xfb ∷ 0x0e ∷ 0x0d ∷ 0x00 ∷ 0x01 ∷ 0x01 ∷ 0x01 ∷ 0x01 ∷ 0x00 ∷ 0x00 ∷ 0x00 ∷ 0x01 ∷ 0x00 ∷ 0x00 ∷ 0x01 ∷ 0x01 ∷ 0x01
+    ∷ 0x08 ∷ 0x01 ∷ 0x00 ∷ 0x02 ∷ 0x01 ∷ 0x08 ∷ 0x02 ∷ 0x0f ∷ []
 unfolding standard one_directory file_formats
 front_is = refl
 
@@ -68,7 +58,8 @@ rows_len (path ∷ paths) some = omega arith
 
 -- the front, how many rows there are, and the first of them, and then the others
 pub all_written : (paths : List (List ℕ)) (d front : List ℕ) → 0 < length paths
-    → front ≡ 0x01 ∷ 0x01 ∷ 0x01 ∷ 0xfb ∷ 0x0e ∷ 0x0d ∷ 0x00 ∷ 0x01 ∷ 0x01 ∷ 0x01 ∷ 0x01 ∷ 0x00 ∷ 0x00 ∷ 0x00 ∷ 0x01 ∷ 0x00 ∷ 0x00 ∷ 0x01 ∷ 0x01 ∷ 0x01 ∷ 0x08 ∷ 0x01 ∷ 0x00 ∷ 0x02 ∷ 0x01 ∷ 0x08 ∷ 0x02 ∷ 0x0f ∷ []
+    → front ≡ 0x01 ∷ 0x01 ∷ 0x01 ∷ 0xfb ∷ 0x0e ∷ 0x0d ∷ 0x00 ∷ 0x01 ∷ 0x01 ∷ 0x01 ∷ 0x01 ∷ 0x00 ∷ 0x00 ∷ 0x00 ∷ 0x01 ∷ 0x00 ∷ 0x00 ∷ 0x01 ∷ 0x01 ∷ 0x01 ∷ 0x08 ∷ 0x01 ∷ 0x00 ∷ 0x02 ∷ 0x01 ∷ 0x08 ∷ 0x02
+    ∷ 0x0f ∷ []
     → ((front ++ uleb (length paths + 1)) ++ (get_or paths 0 d ++ 0 ∷ 0 ∷ [])) ++ rows_bytes paths ≡ tables_written paths
 all_written paths d front some is =
     append_assoc (front ++ uleb (length paths + 1)) (get_or paths 0 d ++ 0 ∷ 0 ∷ []) (rows_bytes paths)
@@ -97,7 +88,8 @@ header_len paths =
     let tables = tables_written paths in
     omega (arith, length-append (le_bytes 4 (length (behind_length tables))) (behind_length tables), four_len (length (behind_length tables)), behind_len tables)
 
-pub header_is : (paths : List (List ℕ)) (before tables : List ℕ) → tables ≡ tables_written paths → before ≡ le_bytes 4 (length tables + 8) ++ (le_bytes 2 5 ++ (8 ∷ 0 ∷ [] ++ le_bytes 4 (length tables)))
+pub header_is : (paths : List (List ℕ)) (before tables : List ℕ) → tables ≡ tables_written paths
+    → before ≡ le_bytes 4 (length tables + 8) ++ (le_bytes 2 5 ++ (8 ∷ 0 ∷ [] ++ le_bytes 4 (length tables)))
     → before ++ tables ≡ header_written paths
 header_is paths before tables is first =
     ap (λ (w : List ℕ). w ++ tables) first

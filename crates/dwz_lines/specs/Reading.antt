@@ -1,5 +1,6 @@
 -- How a line table is read in one pass, whichever fault it has. An inner definition: proofs show that it gives what `file_table_at` does.
-use Rattle.std.specs.Prelude.{◌≡◌, ℕ, zero, suc, Bool, List, [], ◌∷◌, length, map, Option, Some, None, Result, Ok, Err, unwrap_or, ◌==◌, ◌||◌, not, nat_lt, if◌then◌else◌}
+use Rattle.std.specs.Prelude.{◌≡◌, ℕ, zero, suc, Bool, List, [], ◌∷◌, length, map, Option, Some, None, Result, Ok, Err, unwrap_or, ◌==◌}
+use Rattle.std.specs.Prelude.{◌||◌, not, nat_lt, if◌then◌else◌}
 use Rattle.dwz_model.specs.declared.fault.Fault.{Fault}
 use Rattle.dwz_model.specs.declared.fault.ReadErr.{ReadErr}
 use Rattle.dwz_model.specs.declared.fault.ReadErr.TheVariants.{NoMemory, Refused}
@@ -145,7 +146,8 @@ path_or_none (path ∷ paths) zero = path
 path_or_none (path ∷ paths) (suc n) = path_or_none paths n
 
 abbrev pub path_in : List (List ℕ) → PathRow → List ℕ
-path_in dirs row = if row.dir == 0 then join (path_or_none dirs 0) row.path else join (join (path_or_none dirs 0) (path_or_none dirs row.dir)) row.path
+path_in dirs row = if row.dir == 0 then join (path_or_none dirs 0) row.path else join
+    (join (path_or_none dirs 0) (path_or_none dirs row.dir)) row.path
 
 abbrev pub files_of : Dirs → List Pair → List PathRow × Input → Option (FileTable × Input)
 files_of d pairs r = Some (record { paths = map (path_in d.paths) r.0; has_strp = d.strp || names_strs pairs }, r.1)

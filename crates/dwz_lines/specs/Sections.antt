@@ -6,7 +6,8 @@ use Rattle.dwz_meanings.specs.LineTables.{FileTable, IsFileTable, TextSections, 
 -- from a place on the section is these tables, without gaps: each is as long as its length says, behind the four bytes of that
 abbrev pub AreTablesFrom : TextSections → List ℕ → ℕ → List FileTable → Type 0
 AreTablesFrom s line place [] = place ≡ length line
-AreTablesFrom s line place (t ∷ tables) = IsFileTable s line place t × AreTablesFrom s line (place + (4 + line_length (drop place line))) tables
+AreTablesFrom s line place (t ∷ tables) = IsFileTable s line place t × AreTablesFrom s line (place + (4 + line_length (drop place line)))
+    tables
 
 -- a format of one of the tables has the form strp
 abbrev pub any_strp : List FileTable → Bool

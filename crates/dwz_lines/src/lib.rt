@@ -13,6 +13,3 @@ mod writing;
 pub use section::uses_strp;
 pub use table::FileTable;
 pub use writing::write_header;
-
-#[cfg(test)]
-mod tests;

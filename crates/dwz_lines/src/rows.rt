@@ -96,7 +96,8 @@ fn with_value<'a>(
     strings: Strings<'a>,
     dirs: u64,
 ) -> Option<Seen<'a>>
-    ensures { option_map seen_view result ≡ seen_with (strings_view strings.entry) dirs (format_view format) (raw_view raw.entry) (seen_view seen.entry) }
+    ensures { option_map seen_view result ≡ seen_with (strings_view strings.entry) dirs (format_view format) (raw_view raw.entry)
+        (seen_view seen.entry) }
 {
     match format.content {
         PATH => match seen.path {

@@ -32,7 +32,8 @@ fn directory_paths<'a>(
     strings: Strings<'a>,
     bad: Fault,
 ) -> Result<Vec<&'a [u8]>, ReadErr>
-    ensures { TriesAt (λ v. map (λ p. p.now) v.items) bad cursor.new result (paths_in (strings_view strings.entry) (format_views formats.now) count cursor.old) }
+    ensures { TriesAt (λ v. map (λ p. p.now) v.items) bad cursor.new result
+        (paths_in (strings_view strings.entry) (format_views formats.now) count cursor.old) }
 {
     let mut paths = Vec::new(alloc);
     for _number in 0..count {
@@ -73,7 +74,8 @@ fn file_paths<'a>(
     strings: Strings<'a>,
     bad: Fault,
 ) -> Result<Paths, ReadErr>
-    ensures { TriesAt (λ p. p) bad cursor.new result (joined_in (strings_view strings.entry) (format_views formats.now) (map (λ d. d.now) dirs.now) count cursor.old) }
+    ensures { TriesAt (λ p. p) bad cursor.new result
+        (joined_in (strings_view strings.entry) (format_views formats.now) (map (λ d. d.now) dirs.now) count cursor.old) }
 {
     let mut paths = Paths::new(alloc);
     for _number in 0..count {

@@ -3,10 +3,10 @@ use Rattle.std.proofs.Common.{◌≡◌, ℕ, zero, suc, ◌<◌, ◌^◌, All, 
 use Rattle.dwz_docs.specs.Units.{entries_in}
 use Rattle.dwz_meanings.specs.Documents.{Doc}
 use Rattle.dwz_meanings.specs.Files.{Limits, files_meaning, limits_after, no_files_before}
-use Rattle.dwz_seen.specs.Lists.{Each as EachOf}
+use Rattle.dwz_meanings.proofs.UnitMeans.{no_files}
 use Rattle.dwz_seen.specs.Seen.{IsPartial}
 use Rattle.dwz_alike.specs.Spots.{tops_of, units_of}
-use Rattle.dwz_resolve.specs.Resolved.{Each}
+use Rattle.dwz_docs.specs.Lists.{Each}
 use Rattle.dwz_graph.specs.declared.file.File.{File}
 use Rattle.dwz_graph.specs.Files.{AreKept, AreRead, docs_of}
 use Rattle.dwz_graph.proofs.GraphLemmas.{as_many, files_read}
@@ -25,17 +25,13 @@ use Rattle.dwz_unit.specs.Rows.{units_of as raw_units}
 use Rattle.dwz_laid.specs.Facts.{AreFacts, Facts, docs}
 use Rattle.dwz_listed.specs.Needs.{AreMade, IsFit}
 
-no_files : (l : Limits) (n : ℕ) (ds : List (Doc ℕ)) → files_meaning l n [] ≡ Ok ds → [] ≡ ds
-unfolding files_meaning
-no_files l n ds e = cc
-
 are_whole : (l : Limits) (n : ℕ) (contents : List (List ℕ)) (files : List File) (end : Limits) (ds : List (Doc ℕ)) → AreRead l n contents files end → files_meaning l n contents ≡ Ok ds → AreWhole ds
 are_whole l n [] [] end ds h m = subst AreWhole (no_files l n ds m) tt
 are_whole l n [] (y ∷ files) end ds h m = absurd h
 are_whole l n (b ∷ contents) [] end ds h m = absurd h
 are_whole l n (b ∷ contents) (y ∷ files) end ds h m =
     let r = first_doc l n b contents y ds h.0 m in
-    let own : EachOf (λ u. IsPartial u.kind → ⊥) h.0.doc.units = read_whole l b (raw_units y.units) h.0.doc h.0.means in
+    let own : Each (λ u. IsPartial u.kind → ⊥) h.0.doc.units = read_whole l b (raw_units y.units) h.0.doc h.0.means in
     let more : AreWhole r.0 = are_whole (limits_after l b (raw_units y.units)) (suc n) contents files end r.0 h.1 r.1 in
     let all : AreWhole (h.0.doc ∷ r.0) = (own, more) in
     subst AreWhole r.2 all

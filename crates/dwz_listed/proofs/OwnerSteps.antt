@@ -1,6 +1,7 @@
 -- Owners of the entries of files: those so far, and those that are left.
 use Rattle.std.proofs.Common.{◌≡◌, ℕ, zero, suc, ◌+◌, ◌<◌, ◌≤◌, List, [], ◌∷◌, ◌++◌, length, drop, get_or, Some, slice_get, refl, sym, ap, subst, ◌∙◌, arith}
 use Rattle.std.proofs.lemmas.List.{append-nil, append_assoc, append_cancel_left, drop_all}
+use Rattle.dwz_docs.proofs.ListFacts.{drop_next, item_got}
 use Rattle.dwz_meanings.specs.Documents.{Doc}
 use Rattle.dwz_alike.specs.Spots.{Spot}
 use Rattle.dwz_graph.specs.declared.file.File.{File}
@@ -8,10 +9,8 @@ use Rattle.dwz_index.specs.declared.index.Starts.{Starts}
 use Rattle.dwz_index.specs.Index.{Index, IsIndex}
 use Rattle.dwz_index.specs.Names.{names_from}
 use Rattle.dwz_indexes.specs.Indexed.{AreIndexed, first_starts, starts_behind}
-use Rattle.dwz_across.proofs.ListGets.{item_got}
 use Rattle.dwz_known.specs.declared.numbers.UnitNumbers.{UnitNumbers}
 use Rattle.dwz_known.specs.Owners.{AddsOwners, AreOwners}
-use Rattle.dwz_known.proofs.CountLemmas.{next_of}
 use Rattle.dwz_plan.specs.Planned.{Planned}
 use Rattle.dwz_unit.specs.Rows.{rows_of, units_of}
 use Rattle.dwz_laid.specs.Facts.{Facts, docs}
@@ -58,12 +57,13 @@ module _ (files : List File) (indexes : List Index) (plan : Planned) (numbers : 
           let one : AreAllOwners f (x ∷ drop (n + 1) files) (index ∷ drop (n + 1) indexes) (a.more ++ rest) =
           (a.more, rest, refl, owned_by f made adds a.more a.is, h) in
           let back : AreAllOwners f (drop n files) (drop n indexes) (a.more ++ rest) =
-          subst (λ (w : List File). AreAllOwners f w (drop n indexes) (a.more ++ rest)) (sym (next_of files n x lt e))
-          (subst (λ (w : List Index). AreAllOwners f (x ∷ drop (n + 1) files) w (a.more ++ rest)) (sym (next_of indexes n index lti ei)) one) in
+          subst (λ (w : List File). AreAllOwners f w (drop n indexes) (a.more ++ rest)) (sym (drop_next files n x lt e))
+          (subst (λ (w : List Index). AreAllOwners f (x ∷ drop (n + 1) files) w (a.more ++ rest)) (sym (drop_next indexes n index lti ei)) one) in
           subst (λ (w : List ℕ). AreAllOwners f files indexes w) (sym (ap (λ (w : List ℕ). w ++ rest) a.is ∙ append_assoc old a.more rest)) (g.so f made (a.more ++ rest) back));
     }
 
-  pub owners_done : (n : ℕ) (owners : List ℕ) → length files ≤ n → length indexes ≡ length files → Owning n owners → (f : Facts) → AreMade f files indexes plan numbers → AreAllOwners f files indexes owners
+  pub owners_done : (n : ℕ) (owners : List ℕ) → length files ≤ n → length indexes ≡ length files → Owning n owners → (f : Facts) → AreMade f files indexes plan numbers
+      → AreAllOwners f files indexes owners
   owners_done n owners le li g f made =
       let back : AreAllOwners f (drop n files) (drop n indexes) [] =
       subst (λ (w : List File). AreAllOwners f w (drop n indexes) []) (sym (drop_all n files le))

@@ -3,11 +3,10 @@ use Rattle.std.proofs.Common.{◌≡◌, ℕ, zero, suc, ◌+◌, ◌<◌, ◌�
 use Rattle.std.specs.Prelude.{slice_index}
 use Rattle.std.proofs.lemmas.List.{append-nil, append_assoc, drop_all, length_push, map-append, nil_from_length}
 use Rattle.std.proofs.lemmas.Option.{slice_get-get_or}
-use Rattle.dwz_across.proofs.ListGets.{got_below, item_got, same_got}
+use Rattle.dwz_docs.proofs.ListFacts.{drop_next, get_first, got_below, item_got, same_got}
 use Rattle.dwz_graph.specs.declared.file.File.{File}
-use Rattle.dwz_index.proofs.TopLemmas.{get_first, get_later}
+use Rattle.dwz_index.proofs.TopLemmas.{get_later}
 use Rattle.dwz_index.specs.Index.{Index}
-use Rattle.dwz_known.proofs.CountLemmas.{next_of}
 use Rattle.dwz_known.specs.declared.firsts.Before.{Before}
 use Rattle.dwz_known.specs.Befores.{befores_from}
 use Rattle.dwz_known.specs.Images.{IsPlanned, entry_count, starts_from}
@@ -118,11 +117,12 @@ module _ (files : List File) (indexes : List Index) (plan : Planned) (tops start
         so = λ f p rest h. (
             let one : AreRows f (x ∷ drop (n + 1) files) (index ∷ drop (n + 1) indexes) (s ∷ drop (n + 1) starts) (map shown (t ∷ more)) (row ∷ rest) = (listed f p, h) in
             let back : AreRows f (drop n files) (drop n indexes) (drop n starts) (map shown left) (row ∷ rest) =
-            subst (λ (w : List File). AreRows f w (drop n indexes) (drop n starts) (map shown left) (row ∷ rest)) (sym (next_of files n x lt e))
-            (subst (λ (w : List Index). AreRows f (x ∷ drop (n + 1) files) w (drop n starts) (map shown left) (row ∷ rest)) (sym (next_of indexes n index lti ei))
-            (subst (λ (w : List ℕ). AreRows f (x ∷ drop (n + 1) files) (index ∷ drop (n + 1) indexes) w (map shown left) (row ∷ rest)) (sym (next_of starts n s lts es))
+            subst (λ (w : List File). AreRows f w (drop n indexes) (drop n starts) (map shown left) (row ∷ rest)) (sym (drop_next files n x lt e))
+            (subst (λ (w : List Index). AreRows f (x ∷ drop (n + 1) files) w (drop n starts) (map shown left) (row ∷ rest)) (sym (drop_next indexes n index lti ei))
+            (subst (λ (w : List ℕ). AreRows f (x ∷ drop (n + 1) files) (index ∷ drop (n + 1) indexes) w (map shown left) (row ∷ rest)) (sym (drop_next starts n s lts es))
             (subst (λ (w : List (Vec TextAt Global)). AreRows f (x ∷ drop (n + 1) files) (index ∷ drop (n + 1) indexes) (s ∷ drop (n + 1) starts) (map shown w) (row ∷ rest)) (sym parts) one))) in
-            subst (λ (w : List FileRows). AreRows f files indexes starts (map shown all) w) (sym (ap (λ (w : List FileRows). w ++ rest) push ∙ append_assoc old (row ∷ []) rest)) (g.so f p (row ∷ rest) back));
+            subst (λ (w : List FileRows). AreRows f files indexes starts (map shown all) w) (sym (ap (λ (w : List FileRows). w ++ rest) push ∙ append_assoc old (row ∷ []) rest))
+            (g.so f p (row ∷ rest) back));
       }
 
   pub rows_done : (left : List (Vec TextAt Global)) (n : ℕ) (rows : List FileRows) → length left ≡ 0 → length indexes ≡ length files → length starts ≡ length files → Going left n rows

@@ -1,7 +1,5 @@
 -- Places of texts and numbers of files are put in lists one after the other, and what is shown by the lists that have them.
 use Rattle.std.proofs.Common.{◌≡◌, ℕ, zero, suc, ◌+◌, ◌<◌, ◌≤◌, List, [], ◌∷◌, ◌++◌, Global, Vec, length, drop, get_or, map, set, take, refl, sym, ap, subst, ◌∙◌, arith}
-use Rattle.std.specs.Prelude.{◌↔◌, IsSome, Option, None, Some}
-use Rattle.std.proofs.lemmas.Bool.{false≢true}
 use Rattle.std.proofs.lemmas.List.{append-nil, append_assoc, drop_all, take_all}
 use Rattle.dwz_graph.specs.declared.file.File.{File}
 use Rattle.dwz_index.specs.Index.{Index}
@@ -74,12 +72,6 @@ files_next left less all more numbers fewer old new whole r x t n h rows texts n
     ∙ (λ i. old ++ files_with (sym rows i) (sym texts i) (sym numbered i))
     ∙ h
 
--- none are left
-pub none_left : {X : Type 0} (o : Option X) (n : ℕ) → (IsSome o ↔ (0 < n)) → ((x : X) → o ≡ Some x → ⊥) → n ≡ 0
-none_left None zero h out = refl
-none_left None (suc n) h out = absurd (false≢true (h.1 (omega arith)))
-none_left (Some x) n h out = absurd (out x refl)
-
 module _ (made whole : List FileRows) where
   pub files_out : (left : List FileRows) (all : List (Vec TextAt Global)) (numbers : List (Vec ℕ Global)) → length left ≡ 0 → made ++ files_with left all numbers ≡ whole → made ≡ whole
   unfolding files_with
@@ -142,7 +134,7 @@ names_with (r ∷ rows) (o ∷ old) (p ∷ old_commons) (t ∷ new) [] e f n m =
 names_with (r ∷ rows) (o ∷ old) (p ∷ old_commons) (t ∷ new) (c ∷ commons) e f n m =
     ap (λ (w : List SpaceRow). record { row = r; text = t; common = c } ∷ w) (names_with rows old old_commons new commons (omega arith) (omega arith) (omega arith) (omega arith))
 
-names_many : (rows : List Row) (texts commons : List TextAt) → length texts ≡ length rows → length commons ≡ length rows → length (space_rows rows texts commons) ≡ length rows
+pub names_many : (rows : List Row) (texts commons : List TextAt) → length texts ≡ length rows → length commons ≡ length rows → length (space_rows rows texts commons) ≡ length rows
 names_many [] texts commons e f = refl
 names_many (r ∷ rows) [] commons e f = absurd (omega arith)
 names_many (r ∷ rows) (t ∷ texts) [] e f = absurd (omega arith)

@@ -1,10 +1,10 @@
 -- Entries of tops and of spaces, one file after the other: those so far, and those that are left.
 use Rattle.std.proofs.Common.{◌≡◌, ℕ, suc, ◌+◌, ◌<◌, ◌≤◌, List, [], ◌∷◌, ◌++◌, length, drop, get_or, map, sym, ap, ◌∙◌, arith}
 use Rattle.std.proofs.lemmas.List.{append-nil, append_assoc, drop_all}
+use Rattle.dwz_docs.proofs.ListFacts.{drop_next}
 use Rattle.dwz_index.specs.declared.index.SpaceEntry.{SpaceEntry}
 use Rattle.dwz_index.specs.declared.index.TopEntry.{TopEntry}
 use Rattle.dwz_index.specs.Index.{Index}
-use Rattle.dwz_known.proofs.CountLemmas.{next_of}
 use Rattle.dwz_places.specs.declared.known.Row.{Row}
 use Rattle.dwz_places.specs.declared.known.SpaceRow.{SpaceRow}
 use Rattle.dwz_places.specs.declared.known.TextAt.{TextAt}
@@ -29,7 +29,7 @@ module _ (all : List Index) (i : ℕ) where
       ap (λ (w : List Row). w ++ rest) (is ∙ ap (λ (w : List TopEntry). old ++ own_tops i w) same)
       ∙ append_assoc old (own_tops i x.tops) rest
       ∙ ap (λ (n : ℕ). old ++ (own_tops i x.tops ++ top_rows n (drop (i + 1) all))) (sym one)
-      ∙ ap (λ (w : List Index). old ++ top_rows i w) (sym (next_of all i x lt e))
+      ∙ ap (λ (w : List Index). old ++ top_rows i w) (sym (drop_next all i x lt e))
       ∙ h
 
   pub tops_done : (rows : List Row) → length all ≤ i → rows ++ top_rows i (drop i all) ≡ top_rows 0 all → rows ≡ top_rows 0 all
@@ -48,7 +48,7 @@ module _ (all : List Index) (i : ℕ) where
       ap (λ (w : List Row). w ++ rest) (is ∙ ap (λ (w : List SpaceEntry). old ++ own_spaces i w) same)
       ∙ append_assoc old (own_spaces i x.spaces) rest
       ∙ ap (λ (n : ℕ). old ++ (own_spaces i x.spaces ++ space_entries n (drop (i + 1) all))) (sym one)
-      ∙ ap (λ (w : List Index). old ++ space_entries i w) (sym (next_of all i x lt e))
+      ∙ ap (λ (w : List Index). old ++ space_entries i w) (sym (drop_next all i x lt e))
       ∙ h
 
   pub spaces_done : (rows : List Row) → length all ≤ i → rows ++ space_entries i (drop i all) ≡ space_entries 0 all → rows ≡ space_entries 0 all
@@ -67,7 +67,7 @@ module _ (rows : List Row) (texts commons : List TextAt) (i : ℕ) where
       let own : SpaceRow = record { row = row; text = text; common = common } in
       ap (λ (w : List SpaceRow). w ++ rest) is
       ∙ append_assoc old (own ∷ []) rest
-      ∙ (λ j. old ++ space_rows (sym (next_of rows i row lt e) j) (sym (next_of texts i text less f) j) (sym (next_of commons i common few g) j))
+      ∙ (λ j. old ++ space_rows (sym (drop_next rows i row lt e) j) (sym (drop_next texts i text less f) j) (sym (drop_next commons i common few g) j))
       ∙ h
 
   pub names_done : (spaces : List SpaceRow) → length rows ≤ i → spaces ++ space_rows (drop i rows) (drop i texts) (drop i commons) ≡ space_rows rows texts commons

@@ -49,7 +49,8 @@ walk_begins section place pre within = record {
   grows = same_grow pre;
   exprs = [];
   has = no_operands ∙ sym (none_added pre);
-  each = λ c e. (let r = read_from (list_at c) section place in before_none r ∙ sym (ap (λ (w : List Operand). asked c w (r >>= with_before [])) (none_added pre) ∙ asked_none c (r >>= with_before [])));
+  each = λ c e. (let r = read_from (list_at c) section place in before_none r
+      ∙ sym (ap (λ (w : List Operand). asked c w (r >>= with_before [])) (none_added pre) ∙ asked_none c (r >>= with_before [])));
 }
 
 module _ (section : List ℕ) (place : ℕ) (pre ops new : List Operand) (here : ℕ) (w : Walked section place pre ops here) (grown : Grows ops new) where
@@ -72,7 +73,8 @@ module _ (section : List ℕ) (place : ℕ) (pre ops new : List Operand) (here :
     grows = more_grow pre ops new (added ops new) w.grows grown;
     exprs = w.exprs ++ n.exprs;
     has = operands_both w.exprs n.exprs ∙ (λ i. w.has i ++ n.has i) ∙ sym more;
-    each = λ c e. then_asked c e (read_from (list_at c) section next >>= with_before n.exprs) (n.leads c e) ∙ ap (asked c (added pre new)) (before_both w.exprs n.exprs (read_from (list_at c) section next));
+    each = λ c e. then_asked c e (read_from (list_at c) section next >>= with_before n.exprs) (n.leads c e)
+        ∙ ap (asked c (added pre new)) (before_both w.exprs n.exprs (read_from (list_at c) section next));
   }
 
   module _ (answer : Result LocList Fault) (each : (c : ExprContext) → c.section ≡ 7 → read_from (list_at c) section place ≡ asked c (added pre new) answer) where
@@ -85,7 +87,8 @@ module _ (section : List ℕ) (place : ℕ) (pre ops new : List Operand) (here :
   pub walk_ends : added ops new ≡ [] → IsEnd section here → WalksInto section place (added pre new) (Ok (here + 1))
   walk_ends none end =
       let list : LocList = record { exprs = w.exprs ++ []; end = here + 1 } in
-      let each = λ (c : ExprContext) (e : c.section ≡ 7). then_asked c e (Ok (record { exprs = []; end = here + 1 })) (end.1 c ∙ sym (ap (λ (os : List Operand). asked c os (Ok (record { exprs = []; end = here + 1 }))) none ∙ asked_none c (Ok (record { exprs = []; end = here + 1 })))) in (
+      let each = λ (c : ExprContext) (e : c.section ≡ 7). then_asked c e (Ok (record { exprs = []; end = here + 1 }))
+      (end.1 c ∙ sym (ap (λ (os : List Operand). asked c os (Ok (record { exprs = []; end = here + 1 }))) none ∙ asked_none c (Ok (record { exprs = []; end = here + 1 })))) in (
         record {
           list = list;
           read = where_any (Ok list) each;

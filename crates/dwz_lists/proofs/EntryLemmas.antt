@@ -1,5 +1,5 @@
 -- A location list is its first entry, and the list that begins behind that.
-use Rattle.std.proofs.Common.{◌≡◌, ◌≢◌, ℕ, zero, suc, ◌+◌, ◌-◌, ◌<◌, ◌≤◌, List, [], ◌∷◌, ◌++◌, drop, length, Option, Some, None, Result, Ok, Err, refl, sym, ap, subst, ◌∙◌, append_assoc, arith}
+use Rattle.std.proofs.Common.{◌≡◌, ◌≢◌, ℕ, zero, suc, ◌+◌, ◌-◌, ◌<◌, List, [], ◌∷◌, ◌++◌, drop, length, Option, Some, None, Result, Ok, Err, refl, sym, ap, ◌∙◌, arith}
 use Rattle.std.proofs.lemmas.List.{append-nil, drop-drop, length-drop}
 use Rattle.std.proofs.Math.Seq.{drop-append_seam}
 use Rattle.dwz_model.specs.declared.fault.Fault.{Fault}
@@ -18,7 +18,7 @@ use Rattle.dwz_meanings.specs.Shared.{operands_of}
 use Rattle.dwz_meanings.proofs.SequenceLemmas.{input_of}
 use Rattle.dwz_expr.specs.FirstFault.{asked}
 use Rattle.dwz_expr.proofs.AskedLemmas.{asked_bind, asked_none}
-use Rattle.dwz_lists.specs.Entries.{IsEnd, IsEntry, ReadsEntry, with_before}
+use Rattle.dwz_lists.specs.Entries.{IsEntry, ReadsEntry, with_before}
 use Rattle.dwz_lists.specs.Gathering.{Adds, Gathered, behind, exprs_with, gather_row, kind_front, row_into, with_expr}
 use Rattle.dwz_lists.proofs.GatherLemmas.{IsKind, list_is, none_step}
 use Rattle.dwz_lists.proofs.WalkLemmas.{Leaves, front_stops, held, kind_leaves, list_ends, list_fails, list_given, no_kind}
@@ -69,9 +69,11 @@ module _ (c : ExprContext) (s t : Fault) where
   same_stops zero xs i lt = absurd (omega arith)
   same_stops (suc k) xs i lt = same_next k (same_stops k) xs i lt i.rest refl
 
-list_behind : (section : List ℕ) (c : ExprContext) (stop : Fault) (xs : Gathered) (m : Input) → m ≡ input section m.at → (row_into c stop xs m >>= value_only) ≡ (read_from (list_at c) section m.at >>= with_before xs)
+list_behind : (section : List ℕ) (c : ExprContext) (stop : Fault) (xs : Gathered) (m : Input) → m ≡ input section m.at
+    → (row_into c stop xs m >>= value_only) ≡ (read_from (list_at c) section m.at >>= with_before xs)
 list_behind section c stop xs m is =
-    ap (λ (r : Result (LocList × Input) Fault). r >>= value_only) (gathers_before c stop xs m ∙ ap (λ (r : Result (LocList × Input) Fault). r >>= before_all xs) (same_stops c stop (bad_list m.at) (suc (length m.rest)) [] m (omega arith)))
+    ap (λ (r : Result (LocList × Input) Fault). r >>= value_only) (gathers_before c stop xs m ∙ ap (λ (r : Result (LocList × Input) Fault). r >>= before_all xs)
+    (same_stops c stop (bad_list m.at) (suc (length m.rest)) [] m (omega arith)))
     ∙ by (row_into c (bad_list m.at) [] m)
     ∙ ap (λ (r : Result LocList Fault). r >>= with_before xs) (ap (λ (w : Input). row_into c (bad_list m.at) [] w >>= value_only) is ∙ sym (list_is c section m.at)) where
       by : (r : Result (LocList × Input) Fault) → ((r >>= before_all xs) >>= value_only) ≡ ((r >>= value_only) >>= with_before xs)
@@ -91,12 +93,14 @@ one_has e = append-nil e.operands
 expr_asked : (c : ExprContext) (y : Input) (own : List Operand) (answer : Result Expression Fault) → expr_at c y ≡ asked c own answer → exprs_with c [] (Some y) ≡ asked c own (answer >>= with_expr [])
 expr_asked c y own answer is = ap (λ (r : Result Expression Fault). r >>= with_expr []) is ∙ asked_bind c own answer (with_expr [])
 
-pub entry_stops : (section : List ℕ) (place : ℕ) (own : List Operand) (e : ReadErr) → ((f : Fault) → e ≡ Refused f → (c : ExprContext) → c.section ≡ 7 → read_from (list_at c) section place ≡ asked c own (Err f)) → ReadsEntry section place own (Err e)
+pub entry_stops : (section : List ℕ) (place : ℕ) (own : List Operand) (e : ReadErr)
+    → ((f : Fault) → e ≡ Refused f → (c : ExprContext) → c.section ≡ 7 → read_from (list_at c) section place ≡ asked c own (Err f)) → ReadsEntry section place own (Err e)
 entry_stops section place own NoMemory each = tt
 entry_stops section place own (Refused f) each = each f refl
 
 -- a fault before any operand
-plain_stops : (section : List ℕ) (place : ℕ) (own : List Operand) (e : ReadErr) → own ≡ [] → ((f : Fault) → e ≡ Refused f → (c : ExprContext) → row_into c (bad_list place) [] (input section place) ≡ Err f) → ReadsEntry section place own (Err e)
+plain_stops : (section : List ℕ) (place : ℕ) (own : List Operand) (e : ReadErr) → own ≡ []
+    → ((f : Fault) → e ≡ Refused f → (c : ExprContext) → row_into c (bad_list place) [] (input section place) ≡ Err f) → ReadsEntry section place own (Err e)
 plain_stops section place own e none each =
     entry_stops section place own e (λ f is c same. list_fails c section place f (each f is c) ∙ sym (ap (λ (w : List Operand). asked c w (Err f)) none ∙ asked_none c (Err f)))
 
@@ -104,9 +108,11 @@ fails_as : {X : Type 0} (e : ReadErr) (f : Fault) (r : Result X Fault) → e ≡
 fails_as NoMemory f r is fails = absurd cc
 fails_as (Refused g) f r is fails = let same : g ≡ f = cc in fails ∙ ap (λ (x : Fault). Err x) same
 
-pub kind_bad : (section : List ℕ) (place : ℕ) (own : List Operand) (e : ReadErr) (i : Input) (bad : Fault) → own ≡ [] → i ≡ input section place → bad ≡ bad_list place → Fails e (or_fault bad (fixed_at 1 i)) → ReadsEntry section place own (Err e)
+pub kind_bad : (section : List ℕ) (place : ℕ) (own : List Operand) (e : ReadErr) (i : Input) (bad : Fault) → own ≡ [] → i ≡ input section place → bad ≡ bad_list place
+    → Fails e (or_fault bad (fixed_at 1 i)) → ReadsEntry section place own (Err e)
 kind_bad section place own e i bad none here is_bad fails =
-    plain_stops section place own e none (λ f is c. no_kind c (bad_list place) [] (input section place) place refl bad is_bad f (ap (λ (w : Input). or_fault bad (fixed_at 1 w)) (sym here) ∙ fails_as e f (or_fault bad (fixed_at 1 i)) is fails))
+    plain_stops section place own e none (λ f is c. no_kind c (bad_list place) [] (input section place) place refl bad is_bad f
+    (ap (λ (w : Input). or_fault bad (fixed_at 1 w)) (sym here) ∙ fails_as e f (or_fault bad (fixed_at 1 i)) is fails))
 
 module _ (section : List ℕ) (place : ℕ) (j : Input) (kind : ℕ) (is_kind : IsKind (input section place) kind j) where
   within_kind : place < length section
@@ -118,7 +124,8 @@ module _ (section : List ℕ) (place : ℕ) (j : Input) (kind : ℕ) (is_kind : 
   module _ (some : kind ≢ 0) where
     pub front_bad : (own : List Operand) (e : ReadErr) → own ≡ [] → Fails e (kind_front place (fields_of (shape_of list_kind_rows kind)) j) → ReadsEntry section place own (Err e)
     front_bad own e none fails =
-        plain_stops section place own e none (λ f is c. front_stops c (bad_list place) (input section place) j kind is_kind [] place refl some f (fails_as e f (kind_front place (fields_of (shape_of list_kind_rows kind)) j) is fails))
+        plain_stops section place own e none (λ f is c. front_stops c (bad_list place) (input section place) j kind is_kind [] place refl some f
+        (fails_as e f (kind_front place (fields_of (shape_of list_kind_rows kind)) j) is fails))
 
     module _ (x : Option Input) (m : Input) (ok : kind_front place (fields_of (shape_of list_kind_rows kind)) j ≡ Ok (x, m)) where
       left : Leaves j m x
@@ -129,7 +136,8 @@ module _ (section : List ℕ) (place : ℕ) (j : Input) (kind : ℕ) (is_kind : 
           let front = left.goes.front in
           let at : m.at ≡ place + suc (length front) = omega (arith, left.goes.place, is_kind.at) in
           let rest : drop m.at section ≡ m.rest =
-          ap (λ (n : ℕ). drop n section) at ∙ sym (drop-drop (suc (length front)) place section) ∙ ap (drop (suc (length front))) is_kind.rest ∙ ap (drop (length front)) left.goes.parts ∙ drop-append_seam front m.rest in
+          ap (λ (n : ℕ). drop n section) at ∙ sym (drop-drop (suc (length front)) place section) ∙ ap (drop (suc (length front))) is_kind.rest ∙ ap (drop (length front)) left.goes.parts
+          ∙ drop-append_seam front m.rest in
           λ n. record { at = m.at; rest = sym rest n }
 
       followed : (own : List Operand) (answer : Result Gathered Fault) (c : ExprContext) → exprs_with c [] x ≡ asked c own answer
@@ -159,7 +167,8 @@ module _ (section : List ℕ) (place : ℕ) (j : Input) (kind : ℕ) (is_kind : 
           let found : Expression = record { at = y.at; bytes = y.rest; operands = own; address = address } in
           entry_of (Some y) m ok own (found ∷ []) (one_has found) (λ c e. expr_asked c y own (Ok found) (read.1 c e ∙ ap (asked c own) read.0))
 
-      pub expr_bad : (x : Option Input) (own : List Operand) (e : ReadErr) → kind_front place (fields_of (shape_of list_kind_rows kind)) j ≡ Ok (x, m) → Adds x own (Err e) → ReadsEntry section place own (Err e)
+      pub expr_bad : (x : Option Input) (own : List Operand) (e : ReadErr) → kind_front place (fields_of (shape_of list_kind_rows kind)) j ≡ Ok (x, m) → Adds x own (Err e)
+          → ReadsEntry section place own (Err e)
       expr_bad None own e ok never = absurd never
       expr_bad (Some y) own NoMemory ok read = tt
       expr_bad (Some y) own (Refused f) ok read = λ c e. followed (Some y) m ok own (Err f) c (expr_asked c y own (Err f) (read.1 c e ∙ ap (asked c own) read.0))

@@ -1,23 +1,24 @@
 -- What is gathered step by step is what the list holds, in any context.
-use Rattle.std.proofs.Common.{◌≡◌, ◌≢◌, ℕ, suc, ◌+◌, Bool, true, false, cond, eqb, List, [], ◌∷◌, ◌++◌, length, Option, Some, None, Result, Ok, Err, refl, sym, ap, ◌∙◌, append_assoc, arith, inl, inr}
-use Rattle.std.proofs.lemmas.Bool.{and_parts, ne_eqb}
+use Rattle.std.proofs.Common.{◌≡◌, ◌≢◌, ℕ, suc, ◌+◌, Bool, true, false, cond, List, [], ◌∷◌, ◌++◌, length, Option, Some, None, Result, Ok, Err, refl, sym, ap, ◌∙◌, append_assoc}
+use Rattle.std.proofs.lemmas.Bool.{ne_eqb}
 use Rattle.std.proofs.lemmas.List.{append-nil}
 use Rattle.dwz_model.specs.declared.fault.Fault.{Fault}
 use Rattle.dwz_bytes.specs.Input.{Input, input}
 use Rattle.dwz_bytes.specs.Reading.{◌>>=◌, fixed_at, take_at, uleb_at}
-use Rattle.dwz_bytes.specs.Spelling.{SpellsFixed}
 use Rattle.std.specs.List.{list_all}
 use Rattle.dwz_codes.specs.ListKinds.{list_kind_rows}
 use Rattle.dwz_codes.specs.Rows.{RowView, row_of}
-use Rattle.dwz_meanings.specs.Exprs.{AnAddress, ExprContext, Expression, Field, Found, Holds, Inside, Located, Names, Unsigned, an_address, expr_at, expr_within, expressions_in, fields_at, fields_of, held, inside_at, inside_of, joined, most_inside, nothing, or_fault, seen_piece}
+use Rattle.dwz_meanings.specs.Exprs.{AnAddress, ExprContext, Expression, Field, Found, Holds, Inside, Located, Names, Unsigned, an_address, expr_at, expr_within, expressions_in, fields_at, fields_of}
+use Rattle.dwz_meanings.specs.Exprs.{held, inside_at, inside_of, joined, most_inside, nothing, or_fault, seen_piece}
 use Rattle.dwz_meanings.specs.LocLists.{as_entry, bad_list, behind_kind, entry_by, list_at, list_entry_at, with_entries}
 use Rattle.dwz_meanings.specs.Sequences.{after_item, read_from, row_at, then_make, then_read, value_only, with_item_before}
 use Rattle.dwz_docs.specs.Values.{shape_in, shape_of}
 use Rattle.dwz_meanings.proofs.FieldLemmas.{bytes_agree}
 use Rattle.dwz_meanings.proofs.LocListLemmas.{row_goes_on}
-use Rattle.dwz_docs.proofs.PartLemmas.{chosen}
 use Rattle.dwz_docs.proofs.ReadLemmas.{fixed_reads}
+use Rattle.dwz_docs.proofs.AbbrevLemmas.{byte_of}
 use Rattle.dwz_meanings.proofs.SequenceLemmas.{input_of}
+use Rattle.dwz_expr.proofs.LoopLemmas.{row_holds}
 use Rattle.dwz_lists.specs.Gathering.{Gathered, behind, content_at, counted, front_at, gather_row, held_by, kind_into, row_into, with_content, with_expr}
 
 -- ---- in turn
@@ -29,7 +30,7 @@ exprs_append (Names o ∷ a) b = exprs_append a b
 exprs_append (AnAddress ∷ a) b = exprs_append a b
 exprs_append (Holds e ∷ a) b = ap (λ (w : List Expression). e ∷ w) (exprs_append a b)
 
-abbrev pub into : Gathered → List Found × Input → Result (Gathered × Input) Fault
+abbrev pub into : (xs : Gathered) (x : List Found × Input) → Result (Gathered × Input) Fault
 into xs x = Ok (xs ++ expressions_in x.0, x.1)
 
 gather_append : (xs : Gathered) (a b : List Found) → xs ++ expressions_in (a ++ b) ≡ (xs ++ expressions_in a) ++ expressions_in b
@@ -68,31 +69,37 @@ module _ (c : ExprContext) where
   last_into : (bad : Fault) (xs : Gathered) (i : Input) → (fields_at (expr_within c (suc most_inside)) bad (Inside ∷ []) i >>= into xs) ≡ (content_at bad i >>= held_by c xs)
   unfolding fields_at expressions_in
   last_into bad xs i = length_of (or_fault bad (uleb_at i)) where
-    expr_of : (j : Input) (r : Result Expression Fault) → (((r >>= held j) >>= then_read (λ _. fields_at (expr_within c (suc most_inside)) bad []) (λ a b. a ++ b)) >>= into xs) ≡ ((r >>= with_expr xs) >>= behind j)
+    expr_of : (j : Input) (r : Result Expression Fault) → (((r >>= held j) >>= then_read (λ _. fields_at (expr_within c (suc most_inside)) bad []) (λ a b. a ++ b)) >>= into xs)
+        ≡ ((r >>= with_expr xs) >>= behind j)
     expr_of j (Ok e) = refl
     expr_of j (Err f) = refl
 
-    content_of_it : (at : ℕ) (r : Result (List ℕ × Input) Fault) → (((r >>= inside_of (expr_within c (suc most_inside)) bad at) >>= then_read (λ _. fields_at (expr_within c (suc most_inside)) bad []) (λ a b. a ++ b)) >>= into xs) ≡ ((r >>= with_content at) >>= held_by c xs)
+    content_of_it : (at : ℕ) (r : Result (List ℕ × Input) Fault) → (((r >>= inside_of (expr_within c (suc most_inside)) bad at) >>= then_read (λ _. fields_at (expr_within c (suc most_inside)) bad [])
+        (λ a b. a ++ b)) >>= into xs) ≡ ((r >>= with_content at) >>= held_by c xs)
     content_of_it at (Ok x) =
         ap (λ (r : Result Expression Fault). ((r >>= held x.1) >>= then_read (λ _. fields_at (expr_within c (suc most_inside)) bad []) (λ a b. a ++ b)) >>= into xs) (within_is bad (input_of at x.0))
         ∙ expr_of x.1 (expr_at c (input_of at x.0))
     content_of_it at (Err f) = refl
 
-    length_of : (r : Result (ℕ × Input) Fault) → (((r >>= inside_at (expr_within c (suc most_inside)) bad) >>= then_read (λ _. fields_at (expr_within c (suc most_inside)) bad []) (λ a b. a ++ b)) >>= into xs) ≡ ((r >>= counted bad) >>= held_by c xs)
+    length_of : (r : Result (ℕ × Input) Fault) → (((r >>= inside_at (expr_within c (suc most_inside)) bad) >>= then_read (λ _. fields_at (expr_within c (suc most_inside)) bad []) (λ a b. a ++ b)) >>=
+        into xs) ≡ ((r >>= counted bad) >>= held_by c xs)
     length_of (Ok n) = content_of_it n.1.at (or_fault bad (take_at n.0 n.1))
     length_of (Err f) = refl
 
-  pub fields_are : (bad : Fault) (fields : List Field) (xs : Gathered) (i : Input) → AreListed fields → (fields_at (expr_within c (suc most_inside)) bad fields i >>= into xs) ≡ (front_at bad fields i >>= held_by c xs)
+  pub fields_are : (bad : Fault) (fields : List Field) (xs : Gathered) (i : Input) → AreListed fields → (fields_at (expr_within c (suc most_inside)) bad fields i >>= into xs)
+      ≡ (front_at bad fields i >>= held_by c xs)
   unfolding fields_at front_at
   fields_are bad [] xs i listed = ap (λ (w : Gathered). Ok (w, i)) (ap (λ (w : Gathered). xs ++ w) no_expr ∙ append-nil xs)
   fields_are bad (Unsigned ∷ fields) xs i listed = by (or_fault bad (uleb_at i)) (λ j. fields_are bad fields xs j listed) where
     by : (r : Result (ℕ × Input) Fault) → ((j : Input) → (fields_at (expr_within c (suc most_inside)) bad fields j >>= into xs) ≡ (front_at bad fields j >>= held_by c xs))
-        → (((r >>= seen_piece nothing i.at) >>= then_read (λ _. fields_at (expr_within c (suc most_inside)) bad fields) (λ a b. a ++ b)) >>= into xs) ≡ ((r >>= λ x. front_at bad fields x.1) >>= held_by c xs)
+        → (((r >>= seen_piece nothing i.at) >>= then_read (λ _. fields_at (expr_within c (suc most_inside)) bad fields) (λ a b. a ++ b)) >>= into xs)
+        ≡ ((r >>= λ x. front_at bad fields x.1) >>= held_by c xs)
     by (Ok x) others = past_piece bad fields xs [] (fields_at (expr_within c (suc most_inside)) bad fields x.1) no_expr ∙ others x.1
     by (Err f) others = refl
   fields_are bad (Located ∷ fields) xs i listed = by (or_fault bad (fixed_at 8 i)) (λ j. fields_are bad fields xs j listed) where
     by : (r : Result (ℕ × Input) Fault) → ((j : Input) → (fields_at (expr_within c (suc most_inside)) bad fields j >>= into xs) ≡ (front_at bad fields j >>= held_by c xs))
-        → (((r >>= seen_piece an_address i.at) >>= then_read (λ _. fields_at (expr_within c (suc most_inside)) bad fields) (λ a b. a ++ b)) >>= into xs) ≡ ((r >>= λ x. front_at bad fields x.1) >>= held_by c xs)
+        → (((r >>= seen_piece an_address i.at) >>= then_read (λ _. fields_at (expr_within c (suc most_inside)) bad fields) (λ a b. a ++ b)) >>= into xs)
+        ≡ ((r >>= λ x. front_at bad fields x.1) >>= held_by c xs)
     by (Ok x) others = past_piece bad fields xs (AnAddress ∷ []) (fields_at (expr_within c (suc most_inside)) bad fields x.1) no_expr_there ∙ others x.1
     by (Err f) others = refl
   fields_are bad (Inside ∷ []) xs i listed = last_into bad xs i
@@ -126,15 +133,6 @@ kinds_listed : list_all row_listed list_kind_rows ≡ true
 unfolding list_kind_rows
 kinds_listed = refl
 
-row_holds : (p : RowView → Bool) (rows : List RowView) (code : ℕ) (r : RowView) → list_all p rows ≡ true → row_of rows code ≡ Some r → p r ≡ true
-row_holds p [] code r all is = absurd cc
-row_holds p (s ∷ rows) code r all is =
-    let both = and_parts (p s) (list_all p rows) all in
-    elim (chosen (eqb s.code code) (Some s) (row_of rows code) (Some r) is) [
-      | inl h ↦ (let found = h.1 in let same : s ≡ r = cc in ap p (sym same) ∙ both.0)
-      | inr h ↦ row_holds p rows code r both.1 h.1
-    ]
-
 pub kind_listed : (kind : ℕ) (fields : List Field) → fields_of (shape_of list_kind_rows kind) ≡ Some fields → AreListed fields
 kind_listed kind fields laid = by (row_of list_kind_rows kind) refl where
   by : (o : Option RowView) → row_of list_kind_rows kind ≡ o → AreListed fields
@@ -147,7 +145,8 @@ kind_listed kind fields laid = by (row_of list_kind_rows kind) refl where
 
 module _ (c : ExprContext) (stop : Fault) where
   -- what is behind an entry
-  behind_entry : (xs : Gathered) (x : List Found × Input) (r : Result (List (List Found) × Input) Fault) → ((r >>= with_item_before x.0) >>= gather_row xs) ≡ (r >>= gather_row (xs ++ expressions_in x.0))
+  behind_entry : (xs : Gathered) (x : List Found × Input) (r : Result (List (List Found) × Input) Fault)
+      → ((r >>= with_item_before x.0) >>= gather_row xs) ≡ (r >>= gather_row (xs ++ expressions_in x.0))
   unfolding joined
   behind_entry xs x (Ok y) = ap (λ (w : Gathered). Ok (record { exprs = w; end = y.1.at }, y.1)) (gather_append xs x.0 (joined y.0))
   behind_entry xs x (Err f) = refl
@@ -158,16 +157,19 @@ module _ (c : ExprContext) (stop : Fault) where
   entry_step xs at None i listed = refl
   entry_step xs at (Some fields) i listed = go (fields_at (expr_within c (suc most_inside)) (bad_list at) fields i) (fields_are c (bad_list at) fields xs i (listed fields refl)) where
     go : (r : Result (List Found × Input) Fault) → (r >>= into xs) ≡ (front_at (bad_list at) fields i >>= held_by c xs)
-        → (((r >>= as_entry) >>= after_item (row_at (list_entry_at c) stop)) >>= gather_row xs) ≡ ((front_at (bad_list at) fields i >>= held_by c xs) >>= λ p. (row_at (list_entry_at c) stop p.1 >>= gather_row p.0))
+        → (((r >>= as_entry) >>= after_item (row_at (list_entry_at c) stop)) >>= gather_row xs)
+        ≡ ((front_at (bad_list at) fields i >>= held_by c xs) >>= λ p. (row_at (list_entry_at c) stop p.1 >>= gather_row p.0))
     go (Ok x) same = behind_entry xs x (row_at (list_entry_at c) stop x.1) ∙ ap (λ (r : Result (Gathered × Input) Fault). r >>= λ p. (row_at (list_entry_at c) stop p.1 >>= gather_row p.0)) same
     go (Err f) same = ap (λ (r : Result (Gathered × Input) Fault). r >>= λ p. (row_at (list_entry_at c) stop p.1 >>= gather_row p.0)) same
 
   -- an entry, and what is behind it
-  pub kind_step : (xs : Gathered) (at kind : ℕ) (rest : List ℕ) → kind ≢ 0 → row_into c stop xs (input_of at (kind ∷ rest)) ≡ (kind_into c at (fields_of (shape_of list_kind_rows kind)) xs (input_of (at + 1) rest) >>= λ p. row_into c stop p.0 p.1)
+  pub kind_step : (xs : Gathered) (at kind : ℕ) (rest : List ℕ) → kind ≢ 0
+      → row_into c stop xs (input_of at (kind ∷ rest)) ≡ (kind_into c at (fields_of (shape_of list_kind_rows kind)) xs (input_of (at + 1) rest) >>= λ p. row_into c stop p.0 p.1)
   unfolding row_into list_entry_at
   kind_step xs at kind rest some =
       ap (λ (r : Result (List (List Found) × Input) Fault). r >>= gather_row xs) (row_goes_on c stop (input_of at (kind ∷ rest)))
-      ∙ ap (λ (b : Bool). (cond b (Ok (None, behind_kind at rest)) (entry_by c at (fields_of (shape_of list_kind_rows kind)) (behind_kind at rest)) >>= after_item (row_at (list_entry_at c) stop)) >>= gather_row xs) (ne_eqb kind 0 some)
+      ∙ ap (λ (b : Bool). (cond b (Ok (None, behind_kind at rest)) (entry_by c at (fields_of (shape_of list_kind_rows kind)) (behind_kind at rest)) >>= after_item (row_at (list_entry_at c) stop)) >>=
+      gather_row xs) (ne_eqb kind 0 some)
       ∙ entry_step xs at (fields_of (shape_of list_kind_rows kind)) (input_of (at + 1) rest) (kind_listed kind)
 
   -- the end
@@ -197,13 +199,8 @@ pub record IsKind (i : Input) (kind : ℕ) (j : Input) : Type 0 where
   pub rest : i.rest ≡ kind ∷ j.rest
   pub at : j.at ≡ i.at + 1
 
-one_byte : (front : List ℕ) (n : ℕ) → SpellsFixed 1 front n → front ≡ n ∷ []
-one_byte [] n s = absurd (let len = s.len in omega (arith, len))
-one_byte (b ∷ []) n s = let same : b ≡ n = (let value = s.value in omega (arith, value)) in ap (λ (m : ℕ). m ∷ []) same
-one_byte (b ∷ d ∷ front) n s = absurd (let len = s.len in omega (arith, len))
-
 pub kind_read : (bad : Fault) (i : Input) (kind : ℕ) (j : Input) → or_fault bad (fixed_at 1 i) ≡ Ok (kind, j) → IsKind i kind j
 kind_read bad i kind j is =
     let t = ((bytes_agree (fixed_reads 1) bad i).ok (kind, j)).0 is in
-    let byte = one_byte t.front kind t.spelled in
+    let byte = byte_of t.front kind t.spelled in
     record { rest = t.parts ∙ ap (λ (w : List ℕ). w ++ j.rest) byte; at = t.place ∙ ap (λ (w : List ℕ). i.at + length w) byte }

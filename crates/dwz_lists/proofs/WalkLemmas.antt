@@ -2,13 +2,10 @@
 use Rattle.std.proofs.Common.{append_assoc, ◌≡◌, ◌≢◌, ◌⊎◌, ℕ, ◌+◌, ◌<◌, ◌≤◌, List, [], ◌∷◌, ◌++◌, length, Option, Some, None, Result, Ok, Err, refl, sym, ap, subst, ◌∙◌, arith, inl, inr, ◌^◌}
 use Rattle.std.proofs.lemmas.List.{length-append}
 use Rattle.dwz_model.specs.declared.fault.Fault.{Fault}
-use Rattle.dwz_model.specs.declared.fault.ReadErr.{ReadErr}
-use Rattle.dwz_model.specs.declared.fault.ReadErr.TheVariants.{NoMemory, Refused}
 use Rattle.dwz_bytes.specs.Input.{Input, input}
 use Rattle.dwz_bytes.specs.Reading.{◌>>=◌, fixed_at, take_at, uleb_at}
 use Rattle.dwz_codes.specs.ListKinds.{list_kind_rows}
 use Rattle.dwz_meanings.specs.Exprs.{ExprContext, Field, Inside, Located, Unsigned, fields_of, or_fault}
-use Rattle.dwz_docs.specs.Faults.{Fails}
 use Rattle.dwz_meanings.specs.LocLists.{LocList, bad_list, list_at}
 use Rattle.dwz_meanings.specs.Sequences.{read_from, value_only}
 use Rattle.dwz_docs.specs.Values.{shape_of}
@@ -64,7 +61,13 @@ address_goes bad i n j is =
 
 -- and so do those behind it
 then_leaves : (i j m : Input) (x : Option Input) → Goes i j → Leaves j m x → Leaves i m x
-then_leaves i j m x g l = record { goes = goes_twice i j m g l.goes; end = omega (arith, same_end i j g, l.end); fewer = omega (arith, fewer_left i j g, l.fewer); short = λ lt. l.short (omega (arith, same_end i j g, lt)) }
+then_leaves i j m x g l = record {
+  goes = goes_twice i j m g l.goes;
+  end = omega (arith, same_end i j g, l.end);
+  fewer = omega (arith, fewer_left i j g, l.fewer);
+  short =
+      λ lt. l.short (omega (arith, same_end i j g, lt));
+}
 
 content_leaves : (bad : Fault) (i : Input) (x : Option Input) (m : Input) → content_at bad i ≡ front x m → Leaves i m x
 content_leaves bad i x m is =
@@ -145,7 +148,8 @@ module _ (c : ExprContext) (stop : Fault) (i j : Input) (kind : ℕ) (is_kind : 
       expr_stops f err = held ∙ ap (λ (r : Result Gathered Fault). (r >>= behind m) >>= λ p. row_into c stop p.0 p.1) err
 
 -- no kind is left
-pub no_kind : (c : ExprContext) (stop : Fault) (xs : Gathered) (i : Input) (at : ℕ) → at ≡ i.at → (bad : Fault) → bad ≡ bad_list at → (f : Fault) → or_fault bad (fixed_at 1 i) ≡ Err f → row_into c stop xs i ≡ Err f
+pub no_kind : (c : ExprContext) (stop : Fault) (xs : Gathered) (i : Input) (at : ℕ) → at ≡ i.at → (bad : Fault) → bad ≡ bad_list at → (f : Fault) → or_fault bad (fixed_at 1 i) ≡ Err f
+    → row_into c stop xs i ≡ Err f
 no_kind c stop xs i at here bad is_bad f is = by i.rest refl where
   h : (f ≡ bad_list i.at) × ((length i.rest < 1) ⊎ ⊥)
   h = ((bytes_agree (fixed_reads 1) (bad_list i.at) i).err f).0 (ap (λ (b : Fault). or_fault b (fixed_at 1 i)) (sym (is_bad ∙ ap bad_list here)) ∙ is)
@@ -154,14 +158,10 @@ no_kind c stop xs i at here bad is_bad f is = by i.rest refl where
   by [] same = ap (row_into c stop xs) (let is : i ≡ input_of i.at [] = λ n. record { at = i.at; rest = same n } in is) ∙ none_step c stop xs i.at ∙ ap (λ (g : Fault). Err g) (sym h.0)
   by (b ∷ bytes) same = absurd (elim h.1 [ inl few ↦ (let len = ap length same in omega (arith, few, len)) | inr never ↦ never ])
 
--- where one reading fails, another one does so too
-pub fails_same : {X Y : Type 0} (e : ReadErr) (a : Result X Fault) (b : Result Y Fault) → ((f : Fault) → a ≡ Err f → b ≡ Err f) → Fails e a → Fails e b
-fails_same NoMemory a b same fails = tt
-fails_same (Refused f) a b same fails = same f fails
-
 -- the list is what was gathered from its place on
 pub list_fails : (c : ExprContext) (section : List ℕ) (at : ℕ) (f : Fault) → row_into c (bad_list at) [] (input section at) ≡ Err f → read_from (list_at c) section at ≡ Err f
 list_fails c section at f is = list_is c section at ∙ ap (λ (r : Result (LocList × Input) Fault). r >>= value_only) is
 
-pub list_given : (c : ExprContext) (section : List ℕ) (at : ℕ) (xs : Gathered) (j : Input) (end : ℕ) → end ≡ j.at → row_into c (bad_list at) [] (input section at) ≡ Ok (record { exprs = xs; end = j.at }, j) → read_from (list_at c) section at ≡ Ok (record { exprs = xs; end = end })
+pub list_given : (c : ExprContext) (section : List ℕ) (at : ℕ) (xs : Gathered) (j : Input) (end : ℕ) → end ≡ j.at
+    → row_into c (bad_list at) [] (input section at) ≡ Ok (record { exprs = xs; end = j.at }, j) → read_from (list_at c) section at ≡ Ok (record { exprs = xs; end = end })
 list_given c section at xs j end same is = list_is c section at ∙ ap (λ (r : Result (LocList × Input) Fault). r >>= value_only) is ∙ ap (λ (n : ℕ). Ok (record { exprs = xs; end = n })) (sym same)

@@ -22,15 +22,18 @@ pub record IsEntry (section : List ℕ) (place : ℕ) (operands : List Operand) 
   pub has : operands_of exprs ≡ operands
   pub rises : place < next
   pub within : next ≤ length section
-  pub leads : (c : ExprContext) → c.section ≡ 7 → read_from (list_at c) section place ≡ asked c operands (read_from (list_at c) section next >>= with_before exprs)
+  pub leads : (c : ExprContext) → c.section ≡ 7 → read_from (list_at c) section place
+      ≡ asked c operands (read_from (list_at c) section next >>= with_before exprs)
 
 -- the list ends there
 abbrev pub IsEnd : List ℕ → ℕ → Type 0
-IsEnd section place = (place < length section) × ((c : ExprContext) → read_from (list_at c) section place ≡ Ok (record { exprs = []; end = place + 1 }))
+IsEnd section place = (place < length section) × ((c : ExprContext)
+    → read_from (list_at c) section place ≡ Ok (record { exprs = []; end = place + 1 }))
 
 -- an entry up to a place, or the end, or the fault of layout; the operands are those that are looked up before
 abbrev pub ReadsEntry : List ℕ → ℕ → List Operand → Result (Option ℕ) ReadErr → Type 0
 ReadsEntry section place operands (Ok (Some next)) = IsEntry section place operands next
 ReadsEntry section place operands (Ok None) = (operands ≡ []) × IsEnd section place
 ReadsEntry section place operands (Err NoMemory) = Unit {0}
-ReadsEntry section place operands (Err (Refused f)) = (c : ExprContext) → c.section ≡ 7 → read_from (list_at c) section place ≡ asked c operands (Err f)
+ReadsEntry section place operands (Err (Refused f)) = (c : ExprContext) → c.section ≡ 7
+    → read_from (list_at c) section place ≡ asked c operands (Err f)

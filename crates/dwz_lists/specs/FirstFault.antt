@@ -13,7 +13,8 @@ use Rattle.dwz_lists.specs.Gathering.{in_lists}
 -- These operands are looked up, in this order, before it is answered what is where each of them names an entry: so the first of these
 -- that doesn't is the fault, and else it is that answer, a list or a fault of layout.
 abbrev pub AreAsked : List ℕ → ℕ → List Operand → Type 0
-AreAsked section place operands = (c : ExprContext) → c.section ≡ 7 → read_from (list_at c) section place ≡ asked c operands (read_from (list_at in_lists) section place)
+AreAsked section place operands = (c : ExprContext) → c.section ≡ 7
+    → read_from (list_at c) section place ≡ asked c operands (read_from (list_at in_lists) section place)
 
 -- a list, which ends there and whose expressions have these operands
 pub record IsListOf (section : List ℕ) (place : ℕ) (operands : List Operand) (end : ℕ) : Type 0 where

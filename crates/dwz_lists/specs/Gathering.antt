@@ -5,7 +5,8 @@ use Rattle.dwz_model.specs.declared.fault.ReadErr.{ReadErr}
 use Rattle.dwz_bytes.specs.Input.{Input}
 use Rattle.dwz_bytes.specs.Reading.{◌>>=◌, fixed_at, take_at, uleb_at}
 use Rattle.dwz_meanings.specs.declared.exprs.Operand.{Operand}
-use Rattle.dwz_meanings.specs.Exprs.{ExprContext, Expression, Field, Found, Inside, Located, Unsigned, any_operands, expr_at, expressions_in, joined, or_fault}
+use Rattle.dwz_meanings.specs.Exprs.{ExprContext, Expression, Field, Found, Inside, Located, Unsigned, any_operands, expr_at}
+use Rattle.dwz_meanings.specs.Exprs.{expressions_in, joined, or_fault}
 use Rattle.dwz_meanings.specs.LocLists.{LocList, bad_list, list_entry_at}
 use Rattle.dwz_meanings.specs.Sequences.{row_at}
 use Rattle.dwz_expr.specs.FirstFault.{ReadsInto}

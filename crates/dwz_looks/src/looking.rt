@@ -17,7 +17,7 @@ use dwz_graph::Graph;
 use dwz_groups::Tops;
 use dwz_indexes::indexes;
 use dwz_model::{GraphErr, NoMemory, Numbers};
-use dwz_plan::{Plan, Scope};
+use dwz_plan::{Plan, Sharing};
 use dwz_planned::plan_files;
 use std::alloc::Global;
 use std::thread::Threads;
@@ -43,15 +43,17 @@ pub(crate) fn look<R: Threads + Sync>(
     rt: &R,
     alloc: Global,
     files: &[Vec<u8>],
-    scope: Scope,
+    scope: Sharing,
     workers: u32,
 ) -> Result<Looked, GraphErr>
     requires few { length files.now < 2 ^ 32 }
     requires workers { (0 < workers) × (workers ≤ 64) }
-    ensures reads { FilesAnswer (λ looked. docs_of (map (λ v. v.items) files.now)) result (files_meaning no_files_before 0 (map (λ v. v.items) files.now)) }
+    ensures reads { FilesAnswer (λ looked. docs_of (map (λ v. v.items) files.now)) result
+        (files_meaning no_files_before 0 (map (λ v. v.items) files.now)) }
     ensures tops { IfOk result (λ looked. IsOutline (docs_of (map (λ v. v.items) files.now)) looked.tops) }
     ensures least { IfOk result (λ looked. AreLeast (units_of (docs_of (map (λ v. v.items) files.now))) looked.least) }
-    ensures plan { IfOk result (λ looked. let docs = docs_of (map (λ v. v.items) files.now) in ShowsPlan (rule_by scope docs) (units_of docs) (length docs) looked.plan) }
+    ensures plan { IfOk result (λ looked. let docs = docs_of (map (λ v. v.items) files.now) in ShowsPlan (rule_by scope docs)
+        (units_of docs) (length docs) looked.plan) }
     ensures lines { IfOk result (λ looked. AnswersEachTop looked.tops looked.least looked.plan) }
 {
     let graph = Graph::read(rt, alloc, files, workers)?;

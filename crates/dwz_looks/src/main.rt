@@ -11,7 +11,7 @@ mod showing;
 
 use anyhow::Context;
 use dwz_model::GraphErr;
-use dwz_plan::Scope;
+use dwz_plan::Sharing;
 use looking::look;
 use showing::{show_parts, show_refusal, show_tops};
 use std::alloc::Global;
@@ -26,11 +26,11 @@ fn run<R: Env + Files + Print + Threads + Sync + AllocGlobal>(
     rt: &R,
     alloc: Global,
 ) -> anyhow::Result<()> {
-    let mut scope = Scope::Together;
+    let mut scope = Sharing::Together;
     let mut files = Vec::new(alloc);
     for word in env::args(rt)?.skip(1) {
         if word.as_str() == "--apart" {
-            scope = Scope::Each;
+            scope = Sharing::Each;
         } else {
             let bytes = fs::read(rt, word.as_str()).context(format_args!("reading {word}"))?;
             files.push(bytes)?;

@@ -1,7 +1,7 @@
 -- The common file is laid first, and what is laid of it, with its texts, are its sections in the run.
 use Rattle.std.proofs.Common.{◌≡◌, ℕ, ◌+◌, ◌<◌, List, [], ◌∷◌, length, take, None, Some, slice_get, refl, sym, ap, subst, ◌∙◌, arith}
 use Rattle.dwz_bytes.specs.Spelling.{le_bytes}
-use Rattle.dwz_model.specs.declared.sections.Sections.{Sections}
+use Rattle.dwz_model.specs.declared.sections.NewSections.{NewSections}
 use Rattle.dwz_writing.specs.Placing.{lines_bytes, texts_bytes}
 use Rattle.dwz_back.specs.Files.{common_out, common_sections, paths, places, texts as texts_of_run}
 use Rattle.dwz_out.specs.Contents.{common_after, if_some}
@@ -59,7 +59,7 @@ lines_some (path ∷ paths) = refl
 
 -- ---- all its sections
 
-pub common_made : (f : Facts) (texts : CommonTexts) → HasTexts (run f) (Some texts) → (s : Sections)
+pub common_made : (f : Facts) (texts : CommonTexts) → HasTexts (run f) (Some texts) → (s : NewSections)
     → s.info ≡ (common_sections (run f)).info → s.abbrev ≡ (common_sections (run f)).abbrevs
     → s.strs ≡ bytes_if_some texts.strs.items → s.offsets ≡ None → s.line ≡ bytes_if_some texts.lines.items
     → s.loclists ≡ None → s.aranges ≡ None → s ≡ common_after (run f)

@@ -1,7 +1,7 @@
 -- The texts of the common file stay where they are once texts are taken out of files: no place of one of them moves.
 use Rattle.std.proofs.Common.{◌≡◌, ℕ, ◌+◌, List, [], ◌∷◌, Option, None, sym, subst}
 use Rattle.dwz_meanings.specs.Documents.{DwUnit, node_map}
-use Rattle.dwz_seen.specs.Lists.{Each}
+use Rattle.dwz_docs.specs.Lists.{Each}
 use Rattle.dwz_alike.specs.Spots.{Spot, name_of}
 use Rattle.dwz_writing.specs.Placing.{Fit, file_number}
 use Rattle.dwz_places.specs.declared.known.Firsts.{Firsts}

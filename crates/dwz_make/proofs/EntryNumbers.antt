@@ -1,15 +1,16 @@
 -- An entry that is in the lists has a number among all entries that no other one has, since files follow one another.
-use Rattle.std.proofs.Common.{◌≡◌, ℕ, zero, suc, ◌+◌, ◌<◌, ◌≤◌, List, [], ◌∷◌, length, Option, Some, None, slice_get, refl, sym, ap, subst}
+use Rattle.std.proofs.Common.{◌≡◌, ℕ, zero, suc, ◌+◌, ◌<◌, List, [], ◌∷◌, length, Option, Some, None, slice_get, refl, sym, ap, subst}
 use Rattle.std.proofs.Common.{◌∙◌, arith}
 use Rattle.std.specs.Option.{option_map_or}
+use Rattle.dwz_docs.proofs.ListFacts.{got_below}
 use Rattle.dwz_unit.specs.Rows.{EntryRow, Source, rows_of, units_of}
 use Rattle.dwz_resolve.proofs.RowLemmas.{rows-length}
 use Rattle.dwz_graph.specs.declared.file.File.{File}
 use Rattle.dwz_index.specs.Index.{Index}
 use Rattle.dwz_across.proofs.FileEntries.{all_entries}
 use Rattle.dwz_across.proofs.FileWalk.{is_among}
-use Rattle.dwz_across.proofs.ListGets.{got_below}
 use Rattle.dwz_known.specs.Images.{starts_from}
+use Rattle.dwz_known.proofs.StartLemmas.{files_apart}
 use Rattle.dwz_places.specs.declared.known.FileRows.{FileRows}
 use Rattle.dwz_places.specs.declared.known.Known.{Known}
 use Rattle.dwz_places.specs.declared.known.Row.{Row}
@@ -17,36 +18,6 @@ use Rattle.dwz_places.specs.declared.known.TextAt.{TextAt}
 use Rattle.dwz_places.specs.Known.{number_of, row_at}
 use Rattle.dwz_laid.specs.Facts.{AreFacts, Facts}
 use Rattle.dwz_laid.specs.Listed.{AreListed, AreRows, IsListed, TextsAt}
-
--- ---- files one behind the other
-
-start_low : (c : ℕ) (xs : List Index) (k a : ℕ) → slice_get (starts_from c xs) k ≡ Some a → c ≤ a
-unfolding starts_from
-start_low c [] k a e = absurd cc
-start_low c (y ∷ xs) zero a e = (let same : c ≡ a = cc in omega (arith, same))
-start_low c (y ∷ xs) (suc k) a e = (let low = start_low (c + length y.steps) xs k a e in omega (arith, low))
-
-files_apart : (c : ℕ) (xs : List Index) (k m : ℕ) (x y : Index) (a b i j : ℕ) → slice_get xs k ≡ Some x → slice_get xs m ≡ Some y
-    → slice_get (starts_from c xs) k ≡ Some a → slice_get (starts_from c xs) m ≡ Some b → i < length x.steps → j < length y.steps
-    → a + i ≡ b + j → (k ≡ m) × (i ≡ j)
-unfolding starts_from
-files_apart c [] k m x y a b i j p q e f lt less same = absurd cc
-files_apart c (z ∷ xs) zero zero x y a b i j p q e f lt less same =
-    (let u : c ≡ a = cc in let v : c ≡ b = cc in (refl, omega (arith, u, v, same)))
-files_apart c (z ∷ xs) zero (suc m) x y a b i j p q e f lt less same =
-    let u : c ≡ a = cc in
-    let is : z ≡ x = cc in
-    let long = ap (λ (w : Index). length w.steps) is in
-    let low = start_low (c + length z.steps) xs m b f in
-    absurd (omega (arith, u, long, low, lt, same))
-files_apart c (z ∷ xs) (suc k) zero x y a b i j p q e f lt less same =
-    let u : c ≡ b = cc in
-    let is : z ≡ y = cc in
-    let long = ap (λ (w : Index). length w.steps) is in
-    let low = start_low (c + length z.steps) xs k a e in
-    absurd (omega (arith, u, long, low, less, same))
-files_apart c (z ∷ xs) (suc k) (suc m) x y a b i j p q e f lt less same =
-    (let r = files_apart (c + length z.steps) xs k m x y a b i j p q e f lt less same in (ap suc r.0, r.1))
 
 -- ---- the file that a list of rows is of
 

@@ -1,18 +1,20 @@
 -- What stands after for an entry of a file that is written is written, so it has the place of its name.
 use Rattle.std.proofs.Common.{◌≡◌, ℕ, ◌<◌, List, [], ◌∷◌, ◌++◌, length, map, Some, slice_get, refl, sym, ap, subst, ◌∙◌, arith}
 use Rattle.std.specs.Prelude.{slice_index}
+use Rattle.std.proofs.lemmas.Option.{get_or_from_slice_get}
 use Rattle.dwz_docs.specs.Lists.{In}
+use Rattle.dwz_docs.proofs.ListFacts.{got_below, got_in}
 use Rattle.dwz_meanings.specs.Documents.{DwUnit}
 use Rattle.dwz_seen.specs.Shown.{units_keys}
 use Rattle.dwz_alike.specs.Spots.{Spot}
 use Rattle.dwz_moving.specs.Plan.{image}
 use Rattle.dwz_same.specs.Units.{common_units, file_units, out_units}
+use Rattle.dwz_same.proofs.ApartUnits.{keys_joined}
 use Rattle.dwz_writing.specs.Placing.{files_keys}
 use Rattle.dwz_back.specs.Files.{file_out, name_after, places}
-use Rattle.dwz_back.proofs.NameLemmas.{common_names, fitted_names, keys_append}
+use Rattle.dwz_back.proofs.NameLemmas.{common_names, fitted_names}
 use Rattle.dwz_unit.specs.Rows.{units_of as raw_units}
 use Rattle.dwz_resolve.specs.Resolved.{place_at}
-use Rattle.dwz_across.proofs.ListGets.{got_below, got_in, got_index}
 use Rattle.dwz_known.specs.Names.{all_names}
 use Rattle.dwz_known.specs.Owners.{StandsIn}
 use Rattle.dwz_places.specs.declared.known.Known.{Known}
@@ -42,14 +44,14 @@ module _ (f : Facts) where
   out_keys (n ∷ files) =
       ap (λ (w : List Spot). w ++ files_keys (map (file_out (run f)) files)) (fitted_names (run f) n)
       ∙ ap (λ (w : List Spot). units_keys (out_units (move f) (units f) n) ++ w) (out_keys files)
-      ∙ sym (keys_append (out_units (move f) (units f) n) (file_units (move f) (units f) files))
+      ∙ sym (keys_joined (out_units (move f) (units f) n) (file_units (move f) (units f) files))
 
   written_keys : files_keys (written_out f) ≡ units_keys (units_written f)
   unfolding files_keys
   written_keys =
       ap (λ (w : List Spot). w ++ files_keys (map (file_out (run f)) (files_written f))) (common_names (run f))
       ∙ ap (λ (w : List Spot). units_keys (common_units (move f)) ++ w) (out_keys (files_written f))
-      ∙ sym (keys_append (common_units (move f)) (file_units (move f) (units f) (files_written f)))
+      ∙ sym (keys_joined (common_units (move f)) (file_units (move f) (units f) (files_written f)))
       ∙ ap (λ (w : List (DwUnit Spot)). units_keys w) (sym (written_units f))
 
 -- ---- entries
@@ -59,7 +61,7 @@ pub placed : (f : Facts) (t : TextsAt) (k : Known) (orders : List (List UnitItem
     → (i : ℕ) (s : Spot) → slice_get (all_names (docs f)) i ≡ Some s → (owner : ℕ) → StandsIn (units_written f) s owner
     → slice_index (made_of k orders).places i ≡ (places (run f)).place s
 placed f t k orders lay i s is owner stands =
-    let key : (keys f).row i ≡ s = got_index (all_names (docs f)) i s no_name is in
+    let key : (keys f).row i ≡ s = get_or_from_slice_get (all_names (docs f)) i s no_name is in
     let many = entries_many f t k lay.facts lay.listed in
     let low = got_below (all_names (docs f)) i s is in
     let counted : i < length k.owners.items = omega (arith, low, many) in

@@ -2,15 +2,15 @@
 -- common file it can be pruned, and laid.
 use Rattle.std.proofs.Common.{◌≡◌, ℕ, suc, Bool, List, [], length, get_or, map, Option, Some, slice_get, refl, sym, ap, subst, ◌∙◌}
 use Rattle.std.specs.Prelude.{All, IsSome}
+use Rattle.std.proofs.lemmas.Option.{get_or_from_slice_get}
 use Rattle.dwz_docs.specs.Texts.{text_at}
 use Rattle.dwz_docs.specs.Values.{AreBytes}
 use Rattle.dwz_meanings.specs.Files.{sources_of}
-use Rattle.dwz_seen.specs.Lists.{Each}
+use Rattle.dwz_docs.specs.Lists.{Each}
 use Rattle.dwz_writing.specs.Pruned.{units_uses}
 use Rattle.dwz_alike.specs.Spots.{file_numbers}
 use Rattle.dwz_back.specs.Files.{formed, imports_common, sources}
 use Rattle.dwz_out.specs.Out.{ArePrunable, stored_of}
-use Rattle.dwz_across.proofs.ListGets.{got_index}
 use Rattle.dwz_graph.specs.declared.file.File.{File}
 use Rattle.dwz_graph.specs.Files.{AreKept, docs_of}
 use Rattle.dwz_places.specs.declared.known.Known.{Known}
@@ -155,7 +155,7 @@ module _ (contents : List (List ℕ)) (files : List File) (prunes : List Bool) (
           order_is = order_is;
           first_is = first_behind o.orders.items (suc is.rank) first first_is;
         } in
-        let same : get_or contents n [] ≡ bs = got_index contents n bs [] is.bytes_are in
+        let same : get_or contents n [] ≡ bs = get_or_from_slice_get contents n bs [] is.bytes_are in
         subst (λ (b : List ℕ). All (λ used. IsSome (text_at (sources_of b).strs used)) (order_uses w.known first order)) same
         (uses n is.rank first order of).1
 

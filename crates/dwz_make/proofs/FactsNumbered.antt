@@ -12,7 +12,7 @@ use Rattle.dwz_known.specs.Owners.{AreUnitNumbers}
 use Rattle.dwz_same.specs.Units.{changes}
 use Rattle.dwz_ordered.specs.declared.orders.Settled.{Settled as Lent}
 use Rattle.dwz_laid.specs.Settled.{IsSettled}
-use Rattle.dwz_plan.specs.declared.plan.Scope.{Scope as Sharing}
+use Rattle.dwz_plan.specs.declared.plan.Sharing.{Sharing}
 use Rattle.dwz_planned.specs.declared.planned.PlannedFiles.{PlannedFiles}
 use Rattle.dwz_planned.specs.Rules.{alike_scope, rule_by}
 use Rattle.dwz_planned.proofs.PlanFits.{alike_is, choice_is}

@@ -1,13 +1,12 @@
 -- What a unit's own scope says of bases is what its root says by its number among the units of all files: names change nothing of it.
-use Rattle.std.proofs.Common.{◌≡◌, ℕ, ◌+◌, List, Ok, Some, slice_get, sym, ◌∙◌, arith}
+use Rattle.std.proofs.Common.{◌≡◌, ℕ, ◌+◌, List, Some, slice_get, sym, ◌∙◌, arith}
 use Rattle.dwz_docs.specs.Units.{RawUnit}
-use Rattle.dwz_meanings.specs.Documents.{DwUnit, unit_map}
+use Rattle.dwz_meanings.specs.Documents.{unit_map}
 use Rattle.dwz_meanings.specs.Files.{around_of}
-use Rattle.dwz_meanings.specs.Meanings.{Around, scope_of, unit_meaning}
-use Rattle.dwz_meanings.proofs.MeaningLemmas.{unit_agrees}
+use Rattle.dwz_meanings.specs.Meanings.{scope_of}
 use Rattle.dwz_alike.specs.Spots.{FileUnit, Spot, in_file}
-use Rattle.dwz_writing.specs.Bases.{bases_in, bases_of}
-use Rattle.dwz_writing.proofs.ReadAgain.{bases_read}
+use Rattle.dwz_writing.specs.Bases.{bases_of}
+use Rattle.dwz_writing.proofs.ScopeIs.{own_bases}
 use Rattle.dwz_back.specs.Files.{bases_at}
 use Rattle.dwz_back.proofs.OriginLemmas.{bases_found, bases_mapped}
 use Rattle.dwz_unit.specs.Rows.{units_of as raw_units}
@@ -18,9 +17,6 @@ use Rattle.dwz_across.proofs.FileEntries.{unit_of}
 use Rattle.dwz_across.proofs.ListGets.{part_get}
 use Rattle.dwz_laid.specs.Facts.{AreFacts, Facts, HasFile, units}
 use Rattle.dwz_laid.proofs.FilesFound.{among_of, nth_at}
-
-own_bases : (around : Around ℕ) (u : RawUnit) (v : DwUnit ℕ) → unit_meaning around u ≡ Ok v → bases_of (scope_of around u) ≡ bases_in v
-own_bases around u v e = bases_read (scope_of around u) v.root.attrs (((unit_agrees around u).ok v).0 e).root.attrs
 
 pub unit_bases : (f : Facts) → AreFacts f → (n : ℕ) (bytes : List ℕ) (x : File) (index : Index) → HasFile f n bytes x index
     → (j : ℕ) (u : RawUnit) → slice_get (raw_units x.units) j ≡ Some u

@@ -1,13 +1,13 @@
 -- The flag of a file that is written says whether it imports from the common file.
 use Rattle.std.proofs.Common.{◌≡◌, ◌+◌, ◌<◌, ℕ, Bool, false, List, get_or, length, ap, ◌∙◌, arith}
+use Rattle.dwz_docs.proofs.ListFacts.{got_below}
 use Rattle.dwz_across.proofs.FileCounts.{are_many}
-use Rattle.dwz_across.proofs.ListGets.{got_below}
 use Rattle.dwz_back.specs.Files.{imports_common}
 use Rattle.dwz_laid.specs.Facts.{Facts, docs, move, units}
+use Rattle.dwz_laid.proofs.FilesKnown.{flag_is}
 use Rattle.dwz_make.specs.declared.work.Work.{Work}
 use Rattle.dwz_make.specs.Works.{HasRank, IsWork}
 use Rattle.dwz_make.proofs.FileMoved.{facts, read}
-use Rattle.dwz_make.proofs.FilesTexts.{flag_is}
 
 pub imports_are : (f : Facts) (w : Work) (is : IsWork f w) (n rank : ℕ) → HasRank f n rank
     → get_or w.prepared.now.run.settled.importing.items n false ≡ imports_common (move f) (units f) n

@@ -2,15 +2,14 @@
 use Rattle.std.proofs.Common.{◌≡◌, ℕ, zero, suc, ◌+◌, ◌<◌, List, [], ◌∷◌, length, take, Some, slice_get, refl, sym, ap, subst, ◌∙◌}
 use Rattle.std.proofs.Common.{arith}
 use Rattle.std.proofs.lemmas.List.{length-map}
+use Rattle.dwz_docs.proofs.ListFacts.{got_below, got_map, same_got}
 use Rattle.dwz_alike.specs.Spots.{Spot}
 use Rattle.dwz_writing.specs.Placing.{FileOut}
 use Rattle.dwz_writing.specs.Writing.{Numbering}
 use Rattle.dwz_back.specs.Files.{file_out, places}
-use Rattle.dwz_across.proofs.ListGets.{got_below, got_map, same_got}
 use Rattle.dwz_graph.specs.declared.file.File.{File}
 use Rattle.dwz_graph.specs.Files.{HasRead}
 use Rattle.dwz_index.specs.Index.{Index}
-use Rattle.dwz_known.specs.Images.{starts_from}
 use Rattle.dwz_places.specs.declared.known.Known.{Known}
 use Rattle.dwz_places.specs.declared.order.UnitItems.{UnitItems}
 use Rattle.dwz_places.specs.Laid.{AllMade, FileMade, file_view, made_of}
@@ -22,6 +21,7 @@ use Rattle.dwz_laid.specs.Trees.{IsReadFile}
 use Rattle.dwz_laid.proofs.PartHomes.{file_read_there}
 use Rattle.dwz_laid.specs.Laid.{written_out}
 use Rattle.dwz_laid.proofs.FilesLaid.{run_laid}
+use Rattle.dwz_listed.proofs.RowSteps.{starts_many}
 use Rattle.dwz_make.specs.declared.prepared.PreparedFiles.{PreparedFiles}
 use Rattle.dwz_make.proofs.RanksRead.{first_behind, firsts_many, shown_many}
 use Rattle.dwz_make.specs.declared.moved.Moved.{Moved}
@@ -64,11 +64,6 @@ file_here n k at roots first (o ∷ orders) (l ∷ made) (y ∷ files) are (suc 
     let more = file_here n k at roots (first + length o) orders made files are.1 i order m x p q r in
     let same : (first + length o) + unit_count (take i orders) ≡ first + (length o + unit_count (take i orders)) = omega arith in
     subst (λ (w : ℕ). FileIs n k at roots w order m x) same more
-
-starts_many : (start : ℕ) (indexes : List Index) → length (starts_from start indexes) ≡ length indexes
-unfolding starts_from
-starts_many start [] = refl
-starts_many start (x ∷ indexes) = ap suc (starts_many (start + length x.steps) indexes)
 
 -- ---- all files
 

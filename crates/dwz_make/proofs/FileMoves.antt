@@ -1,13 +1,12 @@
 -- The texts of a file move, unit by unit: where just those stay that are used, each stands where its new number says; and in a file that
 -- isn't prunable all stay where they were.
-use Rattle.std.proofs.Common.{◌≡◌, ℕ, zero, suc, ◌+◌, Bool, false, Contains, List, [], ◌∷◌, ◌++◌, Option, Some, None, slice_get, refl, sym, ap}
-use Rattle.std.proofs.Common.{subst, ◌∙◌, arith}
-use Rattle.dwz_docs.specs.Lists.{In}
+use Rattle.std.proofs.Common.{[], ◌++◌, ◌+◌, ◌∙◌, ◌∷◌, ◌≡◌, Bool, Contains, List, None, Option, Some, ℕ, ap, arith, false, refl, slice_get, subst, suc, sym, zero}
+use Rattle.std.proofs.lemmas.Option.{get_or_from_slice_get}
+use Rattle.dwz_docs.specs.Lists.{Each, In}
 use Rattle.dwz_docs.specs.Pruning.{new_number}
+use Rattle.dwz_docs.proofs.ListFacts.{got_below, got_map, got_there, in_left}
 use Rattle.dwz_meanings.specs.Documents.{DwUnit, Node, node_map}
-use Rattle.dwz_seen.specs.Lists.{Each}
 use Rattle.dwz_seen.specs.Spaces.{space_text}
-use Rattle.dwz_seen.proofs.Members.{in_left}
 use Rattle.dwz_alike.specs.Spots.{Spot, name_of}
 use Rattle.dwz_strs.specs.Pruned.{IsPruned}
 use Rattle.dwz_same.specs.Units.{out_units}
@@ -17,7 +16,6 @@ use Rattle.dwz_writing.specs.Pruned as pruning
 use Rattle.dwz_back.specs.Files.{sources, uses}
 use Rattle.dwz_graph.specs.declared.file.File.{File}
 use Rattle.dwz_index.specs.Index.{Index}
-use Rattle.dwz_across.proofs.ListGets.{get_there, got_below, got_index, got_map}
 use Rattle.dwz_places.specs.declared.known.Firsts.{Firsts}
 use Rattle.dwz_places.specs.declared.known.Known.{Known}
 use Rattle.dwz_places.specs.declared.known.SpaceRow.{SpaceRow}
@@ -29,6 +27,7 @@ use Rattle.dwz_places.specs.Entries.{row}
 use Rattle.dwz_places.specs.Known.{no_space, no_text, space_at, text_at, text_held}
 use Rattle.dwz_fitted.specs.Fitted.{KnowUnits, KnowsShown}
 use Rattle.dwz_fitted.specs.Knows.{EachFrom, IsRead, IsText, NewNumbers, Writes, firsts_at, name_attr, texts_in}
+use Rattle.dwz_fitted.proofs.UnitFits.{same_holder}
 use Rattle.dwz_ordered.specs.declared.orders.Settled.{Settled}
 use Rattle.dwz_laid.specs.Facts.{Facts, HasFile, file_read, move, run, units}
 use Rattle.dwz_laid.specs.Listed.{TextsAt, entry_row, space_entries}
@@ -50,7 +49,7 @@ use Rattle.dwz_make.proofs.FilesUse.{file_keys, units_known, uses_are}
 use Rattle.dwz_make.proofs.SameLists.{firsts_same, texts_moved, writes_same}
 use Rattle.dwz_make.proofs.HeldTexts.{held_in_file}
 use Rattle.dwz_make.proofs.SlotsThere.{unit_there}
-use Rattle.dwz_make.proofs.UnitUses.{chained_among, entry_among, front_stays, here, in_contains, same_holder}
+use Rattle.dwz_make.proofs.UnitUses.{chained_among, entry_among, front_stays, here, in_contains}
 
 each_at : {X : Type 0} (P : X → Type 0) (xs : List X) (i : ℕ) (x : X) → Each P xs → slice_get xs i ≡ Some x → P x
 each_at P [] i x all e = absurd cc
@@ -67,13 +66,13 @@ module _ (f : Facts) (s : Settled) (t : TextsAt) (k : Known) (orders : List (Lis
     text_there =
         let low = got_below (space_entries 0 f.indexes) space (entry_row n i) at in
         let many = p.listed.many_spaces in
-        get_there t.spaces space (omega (arith, low, many))
+        got_there t.spaces space (omega (arith, low, many))
 
     common_there : (x : TextAt) × (slice_get t.commons space ≡ Some x)
     common_there =
         let low = got_below (space_entries 0 f.indexes) space (entry_row n i) at in
         let many = p.listed.many_commons in
-        get_there t.commons space (omega (arith, low, many))
+        got_there t.commons space (omega (arith, low, many))
 
     abbrev old_space : SpaceRow
     old_space = record { row = entry_row n i; text = text_there.0; common = common_there.0 }
@@ -84,11 +83,11 @@ module _ (f : Facts) (s : Settled) (t : TextsAt) (k : Known) (orders : List (Lis
         common_there.1
 
     space_is : space_at k space ≡ old_space
-    space_is = got_index k.spaces.items space old_space no_space there
+    space_is = get_or_from_slice_get k.spaces.items space old_space no_space there
 
     space_now : space_at m space ≡ moved_space pruned old_space
     space_now =
-        got_index m.spaces.items space (moved_space pruned old_space) no_space
+        get_or_from_slice_get m.spaces.items space (moved_space pruned old_space) no_space
         (ap (λ (w : List SpaceRow). slice_get w space) h.spaces ∙ got_map (moved_space pruned) k.spaces.items space old_space there)
 
     space_row_is : (space_at k space).row ≡ row n i

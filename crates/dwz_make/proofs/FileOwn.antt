@@ -1,13 +1,13 @@
 -- What is written of a file are entries of its own: of its partial units, and of its old ones.
-use Rattle.std.proofs.Common.{◌≡◌, ℕ, ◌<◌, true, false, List, [], ◌∷◌, ◌++◌, length, Some, slice_get, sym, subst}
+use Rattle.std.proofs.Common.{◌≡◌, ℕ, ◌<◌, true, false, List, [], ◌∷◌, length, Some, slice_get, sym, subst}
+use Rattle.dwz_docs.proofs.ListFacts.{same_got}
 use Rattle.dwz_meanings.specs.Documents.{Node}
-use Rattle.dwz_seen.specs.Lists.{Each}
+use Rattle.dwz_docs.specs.Lists.{Each}
 use Rattle.dwz_seen.proofs.Members.{each_append}
 use Rattle.dwz_same.specs.Units.{changes}
 use Rattle.dwz_graph.specs.declared.file.File.{File}
 use Rattle.dwz_index.specs.Index.{Index}
 use Rattle.dwz_unit.specs.Rows.{EntryRow, units_of as raw_units}
-use Rattle.dwz_across.proofs.ListGets.{same_got}
 use Rattle.dwz_known.specs.Images.{starts_from}
 use Rattle.dwz_ordered.specs.declared.orders.Settled.{Settled}
 use Rattle.dwz_ordered.specs.Ordered.{FilePut, from_index, next_index}

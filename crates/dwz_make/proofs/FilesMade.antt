@@ -1,20 +1,19 @@
 -- What is new in each file is new in the files of the run, with as many partial units as the plan has; and so is the common file.
-use Rattle.std.proofs.Common.{◌≡◌, ℕ, suc, ◌+◌, Bool, List, [], ◌∷◌, ◌++◌, length, Option, refl, sym, ap, subst, ◌∙◌, inl}
-use Rattle.std.proofs.Common.{inr, arith}
+use Rattle.std.proofs.Common.{[], ◌++◌, ◌+◌, ◌∙◌, ◌∷◌, ◌≡◌, Bool, List, Option, ℕ, ap, arith, inl, inr, length, subst, suc, sym}
 use Rattle.std.specs.List.{range_with_len}
 use Rattle.std.proofs.lemmas.List.{length-map}
-use Rattle.dwz_model.specs.declared.sections.Sections.{Sections}
-use Rattle.dwz_meanings.specs.Documents.{Doc}
+use Rattle.dwz_model.specs.declared.sections.NewSections.{NewSections}
 use Rattle.dwz_seen.specs.Lists.{Nth}
-use Rattle.dwz_alike.specs.Alike.{Scope}
+use Rattle.dwz_alike.specs.Alike.{TopScope}
 use Rattle.dwz_alike.specs.Deciding.{alike_test}
-use Rattle.dwz_alike.specs.Spots.{file_numbers, units_of}
+use Rattle.dwz_alike.specs.Spots.{units_of}
+use Rattle.dwz_alike.proofs.FileNumbers.{numbers_long}
 use Rattle.dwz_moving.specs.Gain.{gain_rule}
 use Rattle.dwz_moving.specs.Plan.{partials as unit_partials}
 use Rattle.dwz_back.specs.Back.{run_of}
 use Rattle.dwz_back.specs.Files.{Run, Stored}
 use Rattle.dwz_out.specs.Out.{stored_of}
-use Rattle.dwz_plan.specs.declared.plan.Scope.{Scope as Sharing}
+use Rattle.dwz_plan.specs.declared.plan.Sharing.{Sharing}
 use Rattle.dwz_plan.specs.Shows.{shown_part}
 use Rattle.dwz_plan.proofs.BridgeLemmas.{file_numbers_are}
 use Rattle.dwz_planned.specs.Rules.{alike_scope, rule_by}
@@ -26,11 +25,6 @@ use Rattle.dwz_after.specs.declared.new_file.NewFile.{NewFile}
 use Rattle.dwz_after.specs.NewFiles.{AreNew, IsNewCommon, IsNewOrOld}
 use Rattle.dwz_make.specs.Works.{AreNewFiles}
 
-pub numbers_long : (s : ℕ) (ds : List (Doc ℕ)) → length (file_numbers s ds) ≡ length ds
-unfolding file_numbers
-numbers_long s [] = refl
-numbers_long s (d ∷ ds) = ap suc (numbers_long (suc s) ds)
-
 pub parts_many : (f : Facts) → AreFacts f → length f.planned.partials ≡ length (move f).parts
 parts_many f facts =
     let all = unit_partials (rule f) (units f) (range_with_len 0 (length (docs f))) in
@@ -39,7 +33,7 @@ parts_many f facts =
     ∙ ap (λ (numbers : List ℕ). length (unit_partials (rule f) (units f) numbers)) (sym (file_numbers_are 0 (docs f)))
 
 -- the run of files in that scope
-abbrev run_with : List (List ℕ) → Scope → Stored → Run
+abbrev run_with : List (List ℕ) → TopScope → Stored → Run
 run_with contents scope input =
     run_of (gain_rule (alike_test scope (units_of (docs_of contents))) (units_of (docs_of contents))) (docs_of contents) input
 
@@ -53,7 +47,7 @@ module _ (contents : List (List ℕ)) (prunes : List Bool) (sharing : Sharing) (
       let scope : f.scope ≡ alike_scope sharing = of.scope_is ∙ ap alike_scope shares in
       (λ i. run_with (of.contents_are i) (scope i) (of.input_is i))
 
-  pub is_new_common : (common : Option Sections) → IsNewCommon (run f) common → IsNewCommon run_made common
+  pub is_new_common : (common : Option NewSections) → IsNewCommon (run f) common → IsNewCommon run_made common
   is_new_common common is = subst (λ (r : Run). IsNewCommon r common) same_run is
 
   pub are_new : AreFacts f → (made : List (Option NewFile)) (partials : ℕ) → AreNewFiles (run f) made

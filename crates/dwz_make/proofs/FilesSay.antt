@@ -1,78 +1,45 @@
 -- The units of a file after, with the forms of their values, say what they are written for: what was read is carried, and what roots say
 -- of bases stands.
-use Rattle.std.proofs.Common.{◌≡◌, ℕ, suc, ◌<◌, ◌^◌, Bool, true, false, List, [], ◌∷◌, length, map, refl, sym, ap, subst, inl, inr, arith}
-use Rattle.dwz_docs.specs.Lists.{In}
-use Rattle.dwz_meanings.specs.Documents.{Doc, DwUnit, unit_map}
+use Rattle.std.proofs.Common.{◌≡◌, ℕ, ◌<◌, ◌^◌, Bool, true, false, length, refl, sym, ap, subst, arith}
+use Rattle.dwz_docs.specs.Lists.{Each, In}
+use Rattle.dwz_meanings.specs.Documents.{Doc}
 use Rattle.dwz_meanings.specs.Files.{sources_of}
 use Rattle.dwz_meanings.specs.Meanings.{Sources}
-use Rattle.dwz_seen.specs.Lists.{Each, NoneTwice, Nth}
-use Rattle.dwz_seen.proofs.Members.{in_cases, nth_in}
-use Rattle.dwz_alike.specs.Spots.{FileUnit, Spot, file_numbers, in_file, named, named_files, spot_in, spots_from}
+use Rattle.dwz_seen.specs.Lists.{NoneTwice, Nth}
+use Rattle.dwz_seen.proofs.Members.{nth_in}
+use Rattle.dwz_alike.specs.Spots.{FileUnit, Spot, file_numbers, named}
 use Rattle.dwz_same.specs.After.{Replaces, at_file, name_in}
 use Rattle.dwz_same.specs.Units.{all_units, out_units, units_at}
 use Rattle.dwz_same.proofs.FileLemmas.{replaced}
-use Rattle.dwz_writing.specs.Bases.{Bases, bases_in}
+use Rattle.dwz_writing.specs.Bases.{bases_in}
 use Rattle.dwz_writing.specs.Carried.{BasesStand, CarriedUnit, From, OfFile, OperandsStand}
 use Rattle.dwz_writing.specs.Meant.{UnitsSay, all_entry_keys}
 use Rattle.dwz_writing.specs.Placing.{texts_bytes}
-use Rattle.dwz_writing.proofs.CarriedMaps.{unit_carried}
 use Rattle.dwz_writing.proofs.Chosen.{units_good}
 use Rattle.dwz_writing.proofs.Rising.{entries_are_keys}
 use Rattle.dwz_writing.proofs.SameLemmas.{spots_same}
 use Rattle.dwz_back.specs.AllFiles.{AreRead}
 use Rattle.dwz_back.specs.Back.{WasReadFrom}
-use Rattle.dwz_back.specs.Files.{Run, common_fitted, file_forms, file_out, files_out, formed, imports_common, lists_named, origin_in}
-use Rattle.dwz_back.specs.Files.{shared_if, sources, tells, texts}
+use Rattle.dwz_back.specs.Files.{Run, common_fitted, file_forms, file_out, files_out, formed, imports_common, lists_named, origin_in, shared_if, sources, tells, texts}
 use Rattle.dwz_back.proofs.BasesLemmas.{out_bases}
 use Rattle.dwz_back.proofs.FewTexts.{read_few}
 use Rattle.dwz_back.proofs.HomeLemmas.{top_file}
 use Rattle.dwz_back.proofs.LineLemmas.{local_roots, part_bases}
 use Rattle.dwz_back.proofs.NameLemmas.{file_once, file_there, fitted_entries, fitted_names, not_common, run_once}
 use Rattle.dwz_back.proofs.NamedOperands.{IsTold, files_read}
-use Rattle.dwz_back.proofs.OriginLemmas.{bases_mapped}
 use Rattle.dwz_back.proofs.OutOperands.{out_operands}
 use Rattle.dwz_back.proofs.OutsCarried.{out_carried}
 use Rattle.dwz_back.proofs.ReadOperands.{file_read, lists_in, reading}
 use Rattle.dwz_back.proofs.ReadPlaces.{read_from}
 use Rattle.dwz_back.proofs.WithinLemmas.{within}
+use Rattle.dwz_back.proofs.AllLemmas.{WasRead, files_carried}
+use Rattle.dwz_back.proofs.StillPlaces.{number_nth}
 use Rattle.dwz_sound.specs.Sound.{FewTexts}
 use Rattle.dwz_laid.specs.Facts.{AreFacts, Facts, docs, move, rule, run, units}
 use Rattle.dwz_laid.proofs.ReadFiles.{all_placed}
 use Rattle.dwz_laid.proofs.FilesLaid.{all_once}
 
 -- ---- the units before
-
--- the units of each file were read so
-abbrev WasRead : (ℕ → From) → FileUnit Spot → Type 0
-WasRead from u = CarriedUnit (from u.file) (bases_in u.unit) u.unit
-
-file_carried : (from : ℕ → From) (file : ℕ) (g : ℕ → Spot) (some : List (DwUnit ℕ))
-    → Each (λ v. CarriedUnit (from file) (bases_in v) v) some → (u : FileUnit Spot)
-    → In u (map (in_file file) (map (unit_map g) some)) → WasRead from u
-file_carried from file g [] are u there = absurd there
-file_carried from file g (v ∷ some) are u (inl e) =
-    subst (WasRead from) e
-    (subst (λ (b : Bases). CarriedUnit (from file) b (unit_map g v)) (sym (bases_mapped g v))
-    (unit_carried (from file) (bases_in v) g v are.0))
-file_carried from file g (v ∷ some) are u (inr r) = file_carried from file g some are.1 u r
-
-abbrev Read : (ℕ → From) → ℕ → List (Doc ℕ) → Type 0
-Read from own said = (file : ℕ) (doc : Doc ℕ) → Nth own said file doc → Each (λ v. CarriedUnit (from file) (bases_in v) v) doc.units
-
-files_carried : (from : ℕ → From) (own unit top : ℕ) (said : List (Doc ℕ)) → Read from own said → (u : FileUnit Spot)
-    → In u (named_files own unit top said) → WasRead from u
-unfolding named_files
-files_carried from own unit top [] read u there = absurd there
-files_carried from own unit top (doc ∷ said) read u there = elim (in_cases u (map (in_file own) (named unit top doc.units)) _ there) [
-  | inl a ↦ file_carried from own (spot_in (spots_from unit top doc.units)) doc.units (read own doc (inl (refl, refl))) u a
-  | inr b ↦ files_carried from (suc own) _ _ said (λ file d nth. read file d (inr nth)) u b
-]
-
-doc_at : (own : ℕ) (said : List (Doc ℕ)) (file : ℕ) → In file (file_numbers own said) → (doc : Doc ℕ) × Nth own said file doc
-unfolding file_numbers
-doc_at own [] file there = absurd there
-doc_at own (doc ∷ said) file (inl e) = (doc, inl (e, refl))
-doc_at own (doc ∷ said) file (inr r) = (let o = doc_at (suc own) said file r in (o.0, inr o.1))
 
 module _ (f : Facts) (facts : AreFacts f) (are : AreRead f.input (docs f)) where
   abbrev r : Run
@@ -131,7 +98,7 @@ module _ (f : Facts) (facts : AreFacts f) (are : AreRead f.input (docs f)) where
 
   file_few : (file : ℕ) → In file (file_numbers 0 (docs f)) → length (sources r file).strs < 2 ^ 32
   file_few file there =
-      (let o = doc_at 0 (docs f) file there in let read = are file o.0 o.1 in
+      (let o = number_nth 0 (docs f) file there in let read = are file o.0 o.1 in
       read_few read.limits (f.input.bytes file) (f.input.raw file) o.0 read.reads 3)
 
   pub formed_say : FewTexts r → (file : ℕ) → In file (file_numbers 0 (docs f)) → UnitsSay (tells r file) (formed r file)

@@ -2,6 +2,7 @@
 use Rattle.std.proofs.Common.{◌≡◌, ℕ, zero, suc, List, [], ◌∷◌, get_or, Result, Ok, Err, sym, ap, ◌∙◌, arith}
 use Rattle.dwz_model.specs.declared.fault.Fault.{Fault}
 use Rattle.dwz_docs.specs.Units.{RawUnit}
+use Rattle.dwz_docs.proofs.ListFacts.{got_there}
 use Rattle.dwz_meanings.specs.Documents.{Doc}
 use Rattle.dwz_meanings.specs.Files.{Limits, ReadAll, file_meaning, limits_after, no_files_before}
 use Rattle.dwz_meanings.proofs.FileLemmas.{files_agree}
@@ -15,7 +16,6 @@ use Rattle.dwz_graph.proofs.GraphLemmas.{files_read}
 use Rattle.dwz_unit.specs.Rows.{units_of as raw_units}
 use Rattle.dwz_across.proofs.FileCounts.{are_many, files_many}
 use Rattle.dwz_across.proofs.FileWalk.{is_among}
-use Rattle.dwz_across.proofs.ListGets.{get_there}
 use Rattle.dwz_make.specs.Stored.{FileLaw, ManyLaw, ReadLaw, StoredLaw}
 
 -- ---- what files say
@@ -72,7 +72,7 @@ file_at f kept indexed n less =
     let files = m.0 in
     let indexes = m.1 in
     let contents = m.2 in
-    let x = get_there f.files n (omega arith) in
-    let index = get_there f.indexes n (omega arith) in
+    let x = got_there f.files n (omega arith) in
+    let index = got_there f.indexes n (omega arith) in
     let a = is_among f.contents f.files f.indexes n x.0 index.0 kept indexed x.1 index.1 in
     record { bytes = a.bytes; x = x.0; index = index.0; has = record { file = x.1; index_is = index.1; read = a.is.kept } }

@@ -1,20 +1,17 @@
 -- The texts of all files that are written, file by file: of each its partial units, and then its old ones.
-use Rattle.std.proofs.Common.{◌≡◌, ℕ, zero, suc, ◌+◌, ◌<◌, Bool, true, false, List, [], ◌∷◌, ◌++◌, Ok, Result, Some, cond}
-use Rattle.std.proofs.Common.{length, map, slice_get, refl, sym, ap, subst, ◌∙◌, arith}
+use Rattle.std.proofs.Common.{◌≡◌, ℕ, suc, ◌+◌, ◌<◌, Bool, true, false, List, [], ◌∷◌, ◌++◌, Some, cond}
+use Rattle.std.proofs.Common.{length, slice_get, refl, sym, ap, subst, ◌∙◌, arith}
 use Rattle.std.specs.List.{filter}
 use Rattle.std.specs.Prelude.{slice_index_or}
-use Rattle.dwz_docs.specs.Units.{RawUnit}
 use Rattle.dwz_meanings.specs.Documents.{Doc, DwUnit}
-use Rattle.dwz_meanings.specs.Files.{Limits, file_meaning, limits_after, no_files_before}
+use Rattle.dwz_meanings.specs.Files.{no_files_before}
 use Rattle.dwz_meanings.specs.Meanings.{IfSo}
 use Rattle.dwz_alike.specs.Spots.{Spot, file_numbers}
 use Rattle.dwz_same.specs.Units.{changes, out_units}
 use Rattle.dwz_unit.specs.Rows.{units_of as raw_units}
 use Rattle.dwz_graph.specs.declared.file.File.{File}
-use Rattle.dwz_graph.specs.Files.{AreRead, IsRead}
-use Rattle.dwz_index.specs.declared.index.Starts.{Starts}
 use Rattle.dwz_index.specs.Index.{Index}
-use Rattle.dwz_indexes.specs.Indexed.{AreIndexed, first_starts, starts_behind}
+use Rattle.dwz_indexes.specs.Indexed.{first_starts}
 use Rattle.dwz_across.proofs.FileWalk.{is_among}
 use Rattle.dwz_known.specs.Images.{starts_from}
 use Rattle.dwz_order.specs.Kept.{imports_at}
@@ -30,32 +27,13 @@ use Rattle.dwz_texts.specs.TextLaws.{StandAsRead}
 use Rattle.dwz_laid.proofs.OldUnits.{units_shown}
 use Rattle.dwz_laid.specs.ShownKept.{olds_after}
 use Rattle.dwz_laid.specs.ShownParts.{parts_after}
-use Rattle.dwz_make.specs.Stood.{FilesUnshared, KnowUnshared, StoodLaw, WritesOwn}
+use Rattle.dwz_laid.proofs.FilesKnown.{files_put, flag_is, indexed_long}
+use Rattle.dwz_make.specs.Stood.{FilesUnshared, KnowUnshared, StoodLaw}
 use Rattle.dwz_make.proofs.FileOwn.{file_own}
 use Rattle.dwz_make.proofs.OldTexts.{olds_texts}
 use Rattle.dwz_make.proofs.PartTexts.{parts_texts}
 
 -- ---- files that were read have the same units
-
-ok_same : {X E : Type 0} (r : Result X E) (a b : X) → r ≡ Ok a → r ≡ Ok b → a ≡ b
-ok_same r a b p q = (let both : Ok a ≡ Ok b = sym p ∙ q in cc)
-
-same_raw : (l : Limits) (number : ℕ) (bytes : List ℕ) (x y : File) → IsRead l number bytes x → IsRead l number bytes y
-    → raw_units x.units ≡ raw_units y.units
-same_raw l number bytes x y a b =
-    ap (λ (p : List RawUnit × Doc ℕ). p.0)
-    (ok_same (file_meaning l bytes) (raw_units x.units, a.doc) (raw_units y.units, b.doc) a.means b.means)
-
--- P or Q of one, from those of another
-if_so : (b : Bool) (P Q P' Q' : Type 0) → (P → P') → (Q → Q') → IfSo b P Q → IfSo b P' Q'
-if_so true P Q P' Q' first other h = first h
-if_so false P Q P' Q' first other h = other h
-
-first_file : (P P' : List UnitItems → Type 0) (Q Q' : List (List UnitItems) → Type 0) (orders : List (List UnitItems))
-    → ((order : List UnitItems) → P order → P' order) → ((some : List (List UnitItems)) → Q some → Q' some)
-    → FirstFile P Q orders → FirstFile P' Q' orders
-first_file P P' Q Q' [] one more h = h
-first_file P P' Q Q' (order ∷ orders) one more h = (one order h.0, more orders h.1)
 
 -- what is written of a file, and of those behind it
 abbrev Own : Settled → ℕ → ℕ → File → Index → List UnitItems → Type 0
@@ -64,44 +42,7 @@ Own s n start x index order = FilePut s (raw_units x.units) (from_index n start 
 abbrev Others : Settled → ℕ → ℕ → List File → List Index → Index → List (List UnitItems) → Type 0
 Others s n start xs is index orders = FilesPut s (suc n) (start + length index.steps) xs is orders
 
-files_put : (s : Settled) (l : Limits) (n start : ℕ) (contents : List (List ℕ)) (xs ys : List File) (a b : Limits)
-    → AreRead l n contents xs a → AreRead l n contents ys b
-    → (is : List Index) (orders : List (List UnitItems)) → FilesPut s n start ys is orders → FilesPut s n start xs is orders
-files_put s l n start [] [] [] a b p q is orders put = put
-files_put s l n start [] (x ∷ xs) ys a b p q is orders put = absurd p
-files_put s l n start [] [] (y ∷ ys) a b p q is orders put = absurd q
-files_put s l n start (bytes ∷ contents) [] ys a b p q is orders put = absurd p
-files_put s l n start (bytes ∷ contents) (x ∷ xs) [] a b p q is orders put = absurd q
-files_put s l n start (bytes ∷ contents) (x ∷ xs) (y ∷ ys) a b p q [] orders put = absurd put
-files_put s l n start (bytes ∷ contents) (x ∷ xs) (y ∷ ys) a b p q (index ∷ is) orders put =
-    let same = same_raw l n bytes x y p.0 q.0 in
-    let behind = subst (λ (w : List RawUnit). AreRead (limits_after l bytes w) (suc n) contents ys b) (sym same) q.1 in
-    let rest : (some : List (List UnitItems)) → Others s n start ys is index some → Others s n start xs is index some =
-    λ some h. files_put s (limits_after l bytes (raw_units x.units)) (suc n) (start + length index.steps) contents xs ys a b p.1 behind is
-    some h in
-    let own : (order : List UnitItems) → Own s n start y index order → Own s n start x index order =
-    λ order h. subst (λ (w : List RawUnit). FilePut s w (from_index n start index) (next_index index) order) (sym same) h in
-    if_so (flag_at s.files.now n)
-    (FirstFile (Own s n start y index) (Others s n start ys is index) orders) (Others s n start ys is index orders)
-    (FirstFile (Own s n start x index) (Others s n start xs is index) orders) (Others s n start xs is index orders)
-    (first_file (Own s n start y index) (Own s n start x index) (Others s n start ys is index) (Others s n start xs is index) orders
-    own rest)
-    (rest orders) put
-
 -- ---- numbers of files
-
-pub flag_is : (g : ℕ → Bool) (s : ℕ) (said : List (Doc ℕ)) (n : ℕ) → n < length said
-    → slice_index_or (map g (file_numbers s said)) n false ≡ g (s + n)
-unfolding file_numbers
-flag_is g s [] n lt = absurd (omega (arith, lt))
-flag_is g s (doc ∷ said) zero lt = ap g (let z : s ≡ s + 0 = omega arith in z)
-flag_is g s (doc ∷ said) (suc n) lt = flag_is g (suc s) said n (omega (arith, lt)) ∙ ap g (let z : suc s + n ≡ s + suc n = omega arith in z)
-
-indexed_long : (s : Starts) (said : List (Doc ℕ)) (is : List Index) (end : Starts) → AreIndexed s said is end → length said ≡ length is
-indexed_long s [] [] end are = refl
-indexed_long s [] (x ∷ is) end are = absurd are
-indexed_long s (doc ∷ said) [] end are = absurd are
-indexed_long s (doc ∷ said) (x ∷ is) end are = ap suc (indexed_long (starts_behind s doc x) said is end are.1)
 
 module _ (f : Facts) (t : TextsAt) (k : Known) (facts : AreFacts f) (listed : AreListed f t k) (stand : StandAsRead f t)
     (s : Settled) (settled : IsSettled f s) where

@@ -3,6 +3,7 @@ use Rattle.std.proofs.Common.{◌≡◌, ℕ, zero, suc, ◌+◌, All, IsSome, L
 use Rattle.std.proofs.Common.{arith}
 use Rattle.dwz_docs.specs.Lists.{In}
 use Rattle.dwz_docs.specs.Texts.{text_at}
+use Rattle.dwz_docs.proofs.ListFacts.{got_in, got_map}
 use Rattle.dwz_seen.specs.Shown.{units_keys}
 use Rattle.dwz_seen.proofs.Members.{in_filter_from}
 use Rattle.dwz_alike.specs.Spots.{Spot, file_numbers}
@@ -11,7 +12,6 @@ use Rattle.dwz_writing.specs.Placing.{FileFit, with_keys}
 use Rattle.dwz_writing.specs.Pruned.{units_uses}
 use Rattle.dwz_back.specs.Files.{file_forms, formed, sources, tells}
 use Rattle.dwz_sound.specs.Sound.{FewTexts}
-use Rattle.dwz_across.proofs.ListGets.{got_in, got_map}
 use Rattle.dwz_places.specs.declared.known.Known.{Known}
 use Rattle.dwz_places.specs.declared.order.UnitItems.{UnitItems}
 use Rattle.dwz_pages.specs.Shown.{Keys, ShowUnits, unit_count}

@@ -1,7 +1,7 @@
 -- The units of orders are counted one order after the other, so that the first of each has the number of all before it.
 use Rattle.std.proofs.Common.{◌≡◌, ℕ, zero, suc, ◌+◌, ◌<◌, ◌≤◌, List, [], ◌∷◌, ◌++◌, length, drop, take, get_or, Some, slice_get, sym, ap, ◌∙◌, arith}
 use Rattle.std.proofs.lemmas.List.{append-nil, append_assoc, drop_all}
-use Rattle.dwz_known.proofs.CountLemmas.{next_of}
+use Rattle.dwz_docs.proofs.ListFacts.{drop_next}
 use Rattle.dwz_places.specs.declared.order.UnitItems.{UnitItems}
 use Rattle.dwz_pages.specs.Shown.{unit_count}
 use Rattle.dwz_make.specs.Prepared.{firsts_from}
@@ -13,7 +13,7 @@ unfolding firsts_from
 firsts_next orders i first next order old new all lt there behind put so =
     (λ j. put j ++ firsts_from (behind j) (drop (i + 1) orders))
     ∙ append_assoc old (first ∷ []) (firsts_from (first + length order) (drop (i + 1) orders))
-    ∙ sym (ap (λ (w : List (List UnitItems)). old ++ firsts_from first w) (next_of orders i order lt there))
+    ∙ sym (ap (λ (w : List (List UnitItems)). old ++ firsts_from first w) (drop_next orders i order lt there))
     ∙ so
 
 pub firsts_end : (orders : List (List UnitItems)) (i first : ℕ) (firsts all : List ℕ) → length orders ≤ i

@@ -1,5 +1,5 @@
 -- The lists are still those of the files once texts have moved: just the places of texts are others.
-use Rattle.std.proofs.Common.{◌≡◌, ℕ, suc, List, [], ◌∷◌, length, map, slice_get, Option, refl, sym, ap, subst, ◌∙◌, arith}
+use Rattle.std.proofs.Common.{◌≡◌, ℕ, suc, List, [], ◌∷◌, length, map, slice_get, Option, refl, sym, ap, subst, ◌∙◌}
 use Rattle.std.proofs.lemmas.List.{length-map}
 use Rattle.dwz_graph.specs.declared.file.File.{File}
 use Rattle.dwz_index.specs.Index.{Index}
@@ -12,6 +12,7 @@ use Rattle.dwz_places.specs.declared.known.SpaceRow.{SpaceRow}
 use Rattle.dwz_places.specs.declared.known.TextAt.{TextAt}
 use Rattle.dwz_laid.specs.Facts.{Facts, docs, rule}
 use Rattle.dwz_laid.specs.Listed.{AreAllOwners, AreListed, AreRows, IsListed, TextsAt, space_entries, space_rows}
+use Rattle.dwz_listed.proofs.TextSteps.{names_many}
 use Rattle.dwz_uses.specs.declared.pruning.PrunedFile.{PrunedFile}
 use Rattle.dwz_make.specs.Moved.{AreMoved, RowMoved, RowsMoved, moved_space, pruned_at}
 
@@ -70,13 +71,6 @@ spaces_listed pruned (r ∷ rows) (t ∷ texts) [] = refl
 spaces_listed pruned (r ∷ rows) (t ∷ texts) (c ∷ commons) =
     ap (λ (w : List SpaceRow). moved_space pruned (record { row = r; text = t; common = c }) ∷ w) (spaces_listed pruned rows texts commons)
 
-spaces_many : (rows : List Row) (texts commons : List TextAt) → length texts ≡ length rows → length commons ≡ length rows
-    → length (space_rows rows texts commons) ≡ length rows
-spaces_many [] texts commons e g = refl
-spaces_many (r ∷ rows) [] commons e g = absurd (omega (arith, e))
-spaces_many (r ∷ rows) (t ∷ texts) [] e g = absurd (omega (arith, g))
-spaces_many (r ∷ rows) (t ∷ texts) (c ∷ commons) e g = ap suc (spaces_many rows texts commons (omega (arith, e)) (omega (arith, g)))
-
 -- ---- all
 
 pub lists_moved : (f : Facts) (t : TextsAt) (k : Known) → AreListed f t k → (pruned : List (Option PrunedFile)) (m : Known)
@@ -90,7 +84,7 @@ lists_moved f t k listed pruned m h =
     let many : length m.spaces.items ≡ length entries =
     ap (λ (w : List SpaceRow). length w) spaces
     ∙ length-map old (moved_space pruned)
-    ∙ spaces_many entries t.spaces t.commons listed.many_spaces listed.many_commons in
+    ∙ names_many entries t.spaces t.commons listed.many_spaces listed.many_commons in
     record {
       rows = rows_listed f pruned 0 f.files f.indexes (starts_from 0 f.indexes) t.files k.files.items m.files.items listed.rows h.files;
       owners = subst (AreAllOwners f f.files f.indexes) (λ i. (sym h.owners i).items) listed.owners;

@@ -2,18 +2,19 @@
 use Rattle.std.proofs.Common.{◌≡◌, ℕ, zero, suc, ◌+◌, ◌*◌, ◌/◌, ◌%◌, ◌^◌, ◌<◌, Bool, true, false, cond, eqb, List, [], ◌∷◌, length}
 use Rattle.std.proofs.Common.{get_or, map, Ok, Result, IsOk, refl, sym, ap, subst, ◌∙◌, arith}
 use Rattle.std.specs.List.Sorted.{IsStrictlyIncreasing}
-use Rattle.std.proofs.lemmas.List.{length-append}
 use Rattle.dwz_model.specs.declared.fault.Fault.{Fault}
 use Rattle.dwz_bytes.specs.Input.{input}
 use Rattle.dwz_bytes.specs.Spelling.{le_bytes}
 use Rattle.dwz_docs.specs.Entries.{Mode}
-use Rattle.dwz_docs.specs.Units.{CompileUnit, PartialUnit, RawKind, RawUnit, SpellsUnit, SpellsUnits, TypeUnit, entry_count, header_size}
+use Rattle.dwz_docs.specs.Units.{RawUnit, SpellsUnits, entry_count}
+use Rattle.dwz_docs.proofs.UnitListLemmas.{some_unit}
+use Rattle.dwz_docs.proofs.CaseFacts.{if_ok}
 use Rattle.dwz_meanings.specs.Patching.{with_units, written_at}
 use Rattle.dwz_meanings.specs.Ranges.{RangeSet, SpellsSets, sets_at}
 use Rattle.dwz_meanings.proofs.RangeLemmas.{sets_agree}
 use Rattle.dwz_aranges.specs.Views.{any_unit}
+use Rattle.dwz_aranges.proofs.PatchedMeans.{of_any}
 use Rattle.dwz_sections.specs.Ranges.{AreMoved, beside}
-use Rattle.dwz_sections.proofs.RangeSetLemmas.{if_more}
 
 -- ---- low bytes
 
@@ -76,26 +77,13 @@ low_places starts places (s ∷ sets) =
 -- sets with the low bytes of places are sets with these places
 pub moved_low : (starts places section new : List ℕ) → AreMoved starts (map low places) section new → AreMoved starts places section new
 moved_low starts places section new =
-    if_more (sets_at any_unit (input section 0))
+    if_ok (sets_at any_unit (input section 0))
     (λ sets. new ≡ with_units sets (map (λ (s : RangeSet). beside starts (map low places) s.unit) sets) section)
     (λ sets. new ≡ with_units sets (map (λ (s : RangeSet). beside starts places s.unit) sets) section)
     (λ sets is.
     is
     ∙ ap (λ (numbers : List ℕ). with_units sets numbers section) (low_places starts places sets)
     ∙ low_units sets (map (λ (s : RangeSet). beside starts places s.unit) sets) section)
-
-of_any : (is_unit : ℕ → Bool) (sets : List RangeSet) (start : ℕ) (bytes : List ℕ) → SpellsSets is_unit sets start bytes
-    → SpellsSets any_unit sets start bytes
-of_any is_unit [] start bytes s = s
-of_any is_unit (set ∷ sets) start bytes s =
-    let one = s.first in
-    record {
-      first_bytes = s.first_bytes;
-      first = record { place = one.place; whole = one.whole; some = one.some; version = one.version; unit = one.unit; known = refl };
-      second_bytes = s.second_bytes;
-      second = of_any is_unit sets (start + length s.first_bytes) s.second_bytes s.second;
-      parts = s.parts;
-    }
 
 -- sets of a file read
 pub sets_read : (is_unit : ℕ → Bool) (sets : List RangeSet) (section : List ℕ) → SpellsSets is_unit sets 0 section
@@ -107,25 +95,13 @@ sets_read is_unit sets section s =
 
 -- ---- units
 
-header_some : (k : RawKind) → 0 < header_size k
-header_some CompileUnit = omega arith
-header_some (TypeUnit signature type_offset) = omega arith
-header_some PartialUnit = omega arith
-
-unit_some : (abbrevs : List ℕ) (mode : Mode) (before : ℕ) (u : RawUnit) (start : ℕ) (bytes : List ℕ)
-    → SpellsUnit abbrevs mode before u start bytes → 0 < length bytes
-unit_some abbrevs mode before u start bytes s =
-    let some = header_some u.kind in
-    let size = s.is_header.size in
-    let all = ap (λ (b : List ℕ). length b) s.parts in omega (arith, length-append {A = ℕ})
-
 -- units ascend
 pub units_rise : (abbrevs : List ℕ) (mode : Mode) (before : ℕ) (raw : List RawUnit) (start : ℕ) (bytes : List ℕ)
     → SpellsUnits abbrevs mode before raw start bytes → IsStrictlyIncreasing (map (λ (u : RawUnit). u.at) raw)
 units_rise abbrevs mode before [] start bytes s k lt = absurd (omega arith)
 units_rise abbrevs mode before (u ∷ []) start bytes s k lt = absurd (omega arith)
 units_rise abbrevs mode before (u ∷ (v ∷ raw)) start bytes s zero lt =
-    let some = unit_some abbrevs mode before u start s.first_bytes s.first in
+    let some = some_unit abbrevs mode before u start s.first_bytes s.first in
     let one = s.first.place in
     let two = s.second.first.place in omega arith
 units_rise abbrevs mode before (u ∷ (v ∷ raw)) start bytes s (suc k) lt =

@@ -1,15 +1,17 @@
 -- Where nothing is in the common file, no text is shared: all texts stand where they were read, and that is where the definitions say.
-use Rattle.std.proofs.Common.{◌≡◌, ℕ, zero, suc, ◌+◌, Bool, true, false, List, [], ◌∷◌, ◌++◌, map, Option, None, Some, slice_get, refl, sym, ap, subst}
-use Rattle.std.proofs.Common.{◌∙◌, arith}
+use Rattle.std.proofs.Common.{[], ◌+◌, ◌∙◌, ◌∷◌, ◌≡◌, Bool, List, None, Option, Some, ℕ, ap, arith, false, map, refl, slice_get, subst, suc, sym, true, zero}
 use Rattle.std.specs.List.{filter, flat_map}
 use Rattle.std.specs.Option.{option_map_or}
 use Rattle.std.specs.Prelude.{slice_index_or}
+use Rattle.std.proofs.lemmas.Option.{get_or_from_slice_get}
 use Rattle.dwz_docs.specs.Entries.{RawAttr}
 use Rattle.dwz_docs.specs.Units.{RawUnit}
+use Rattle.dwz_docs.proofs.ListFacts.{got_below, got_there}
 use Rattle.dwz_meanings.specs.Documents.{DwUnit, Node, node_map}
 use Rattle.dwz_meanings.specs.Files.{around_of}
 use Rattle.dwz_meanings.specs.Meanings.{Around, first_raw}
-use Rattle.dwz_seen.specs.Lists.{Each}
+use Rattle.dwz_docs.specs.Lists.{Each}
+use Rattle.dwz_seen.proofs.Members.{each_append}
 use Rattle.dwz_alike.specs.Spots.{Spot}
 use Rattle.dwz_same.specs.Units.{common_units, out_units}
 use Rattle.dwz_writing.specs.Placing.{Fit, texts_of, units_with}
@@ -17,7 +19,6 @@ use Rattle.dwz_back.specs.Files.{imports_common, shared_if}
 use Rattle.dwz_graph.specs.declared.file.File.{File}
 use Rattle.dwz_index.specs.Index.{Index}
 use Rattle.dwz_unit.specs.Rows.{EntryRow, rows_of, units_of as raw_units}
-use Rattle.dwz_across.proofs.ListGets.{get_there, got_below, got_index}
 use Rattle.dwz_known.specs.Befores.{is_pair_placed}
 use Rattle.dwz_known.specs.Images.{starts_from}
 use Rattle.dwz_ordered.specs.declared.orders.Settled.{Settled}
@@ -92,10 +93,6 @@ module _ (f : Facts) (none : common_units (move f) ≡ []) where
 
 -- ---- each text stands in the file that it was read in
 
-each_append : {X : Type 0} (P : X → Type 0) (xs ys : List X) → Each P xs → Each P ys → Each P (xs ++ ys)
-each_append P [] ys all more = more
-each_append P (x ∷ xs) ys all more = (all.0, each_append P xs ys all.1 more)
-
 each_or : {X : Type 0} (P : X → Type 0) (xs : List X) (j : ℕ) (d : X) → Each P xs → P d → P (slice_index_or xs j d)
 each_or P [] j d all other = other
 each_or P (x ∷ xs) zero d all other = all.0
@@ -148,9 +145,9 @@ module _ (f : Facts) (t : TextsAt) (k : Known) (listed : AreListed f t k) (stand
         let own = stand.spaces.each space n i has.read.limits bytes raw has.read.read.doc r entry has.read.there read.found in
         let low = got_below (space_entries 0 f.indexes) space (entry_row n i) entry in
         let many = listed.many_commons in
-        let common = get_there t.commons space (omega (arith, low, many)) in
+        let common = got_there t.commons space (omega (arith, low, many)) in
         let at : space_at k space ≡ record { row = entry_row n i; text = row_name around raw r; common = common.0 } =
-        got_index k.spaces.items space (record { row = entry_row n i; text = row_name around raw r; common = common.0 }) no_space
+        get_or_from_slice_get k.spaces.items space (record { row = entry_row n i; text = row_name around raw r; common = common.0 }) no_space
         (ap (λ (l : List SpaceRow). slice_get l space) listed.spaces
         ∙ space_row (space_entries 0 f.indexes) t.spaces t.commons space (entry_row n i) (row_name around raw r) common.0 entry own common.1) in
         subst (λ (w : SpaceRow). IsNotPooled w.text) (sym at)

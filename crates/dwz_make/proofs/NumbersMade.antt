@@ -4,7 +4,7 @@ use Rattle.std.specs.Prelude.{IfOk, sum}
 use Rattle.std.proofs.lemmas.List.{length-map}
 use Rattle.dwz_meanings.specs.Documents.{Doc}
 use Rattle.dwz_meanings.specs.Files.{no_files_before}
-use Rattle.dwz_alike.specs.Alike.{IsAlike, Scope}
+use Rattle.dwz_alike.specs.Alike.{IsAlike, TopScope}
 use Rattle.dwz_alike.specs.Spots.{units_of}
 use Rattle.dwz_moving.specs.Homes.{IsChoice, Rule}
 use Rattle.dwz_graph.specs.declared.file.File.{File}
@@ -32,7 +32,7 @@ module _ (contents : List (List ℕ)) (files : List File) (kept : AreKept conten
   counts_many =
       ap (λ (w : List ℕ). length w) are ∙ length-map files file_count ∙ as_many no_files_before 0 contents files kept.end kept.are
 
-  have_units : (plan : Planned) (written : List Bool) (rule : Rule) (scope : Scope) → IsAlike scope (units_of (docs_of contents)) rule.alike
+  have_units : (plan : Planned) (written : List Bool) (rule : Rule) (scope : TopScope) → IsAlike scope (units_of (docs_of contents)) rule.alike
       → IsChoice (units_of (docs_of contents)) rule → ShowsPlan rule (units_of (docs_of contents)) (length (docs_of contents)) plan
       → AreFlagsBy rule (docs_of contents) written → HaveUnits (docs_of contents) rule plan.partials counts written
   have_units plan written rule scope alike choice shows flags = record {

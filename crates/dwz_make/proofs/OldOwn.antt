@@ -1,14 +1,13 @@
 -- What is written of the old units of a file are entries of its own: what stays in a unit is of no top that goes to the common file.
-use Rattle.std.proofs.Common.{◌≡◌, ℕ, suc, ◌+◌, ◌==◌, Bool, true, false, List, [], ◌∷◌, Option, Some, slice_get, refl, sym, ap, subst}
-use Rattle.std.proofs.Common.{◌∙◌, inl, inr, arith}
+use Rattle.std.proofs.Common.{[], ◌+◌, ◌==◌, ◌∙◌, ◌∷◌, ◌≡◌, Bool, List, Some, ℕ, ap, arith, false, inl, inr, refl, slice_get, subst, suc, sym, true}
 use Rattle.std.proofs.lemmas.Bool.{eqb-true}
-use Rattle.dwz_docs.specs.Lists.{In}
+use Rattle.dwz_docs.specs.Lists.{Each, In}
+use Rattle.dwz_docs.proofs.ListFacts.{in_right}
 use Rattle.dwz_meanings.specs.Documents.{Node}
 use Rattle.dwz_meanings.specs.Meanings.{IfSo}
-use Rattle.dwz_seen.specs.Lists.{Each, Nth}
-use Rattle.dwz_seen.proofs.Members.{in_right}
-use Rattle.dwz_alike.specs.Spots.{FileUnit, Spot, Within}
-use Rattle.dwz_moving.specs.Homes.{Common, Local, home, is_home, moves}
+use Rattle.dwz_seen.specs.Lists.{Nth}
+use Rattle.dwz_alike.specs.Spots.{FileUnit, Spot}
+use Rattle.dwz_moving.specs.Homes.{Local, is_home, moves}
 use Rattle.dwz_moving.specs.Moves.{image_in}
 use Rattle.dwz_moving.specs.Plan.{stand_in}
 use Rattle.dwz_same.specs.Units.{changes, kept_unit, kept_units, out_units, partial_units}
@@ -35,7 +34,7 @@ use Rattle.dwz_laid.specs.Listed.{AreListed, TextsAt}
 use Rattle.dwz_laid.specs.NamedLaws.{entry_name}
 use Rattle.dwz_laid.specs.Old.{EachOld, OldNames}
 use Rattle.dwz_laid.specs.Roots.{UnitShown}
-use Rattle.dwz_laid.proofs.FileEntries.{IsHere, below, here, named, named_all, number_is, read_name}
+use Rattle.dwz_laid.proofs.FileEntries.{IsHere, below, here, named_all, number_is, read_name}
 use Rattle.dwz_laid.proofs.ImagesStand.{stands_for}
 use Rattle.dwz_laid.proofs.ItemsShown.{items_stay}
 use Rattle.dwz_laid.proofs.StayingTrees.{IsStaying, OriginStays, SlotsStay}

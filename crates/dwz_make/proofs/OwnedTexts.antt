@@ -1,11 +1,11 @@
 -- Once the common file has its texts, no text that a unit of a file writes is one of that file's own, nor is the name of a space in a
 -- partial unit of its file: where such a text is one of the common file, it is shared.
 use Rattle.std.proofs.Common.{◌≡◌, ℕ, zero, suc, Bool, true, false, List, [], ◌∷◌, get_or, map, Some, cond, slice_get, sym, subst}
-use Rattle.dwz_seen.specs.Lists.{Each}
+use Rattle.dwz_docs.specs.Lists.{Each}
+use Rattle.dwz_seen.proofs.Members.{each_more}
 use Rattle.dwz_graph.specs.declared.file.File.{File}
-use Rattle.dwz_index.specs.Index.{Index}
 use Rattle.dwz_writing.specs.Placing.{has_text, text_place}
-use Rattle.dwz_back.specs.Files.{paths, texts}
+use Rattle.dwz_back.specs.Files.{texts}
 use Rattle.dwz_places.specs.declared.known.Known.{Known}
 use Rattle.dwz_places.specs.declared.known.SpaceRow.{SpaceRow}
 use Rattle.dwz_places.specs.declared.known.TextAt.{TextAt}
@@ -60,10 +60,6 @@ order_own f k (m ∷ files) (some ∷ orders) known zero n order file is =
     let same : some ≡ order = cc in
     subst (λ (w : List UnitItems). Each (WritesOwn f k n) w) same (subst (λ (q : ℕ). Each (WritesOwn f k q) some) number known.1)
 order_own f k (m ∷ files) (some ∷ orders) known (suc rank) n order file is = order_own f k files orders known.2 rank n order file is
-
-each_more : {X : Type 0} (P Q : X → Type 0) (xs : List X) → ((x : X) → P x → Q x) → Each P xs → Each Q xs
-each_more P Q [] go all = tt
-each_more P Q (x ∷ xs) go all = (go x all.0, each_more P Q xs go all.1)
 
 module _ (f : Facts) (t : TextsAt) (sharing : List Bool) (before k : Known) (facts : AreFacts f) (listed : AreListed f t before)
     (as_read : StandAsRead f t) (has : HasCommon f sharing before k) where

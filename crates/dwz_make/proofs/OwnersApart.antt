@@ -1,34 +1,33 @@
 -- An entry of a file that is written isn't owned by a unit of the common file, unless it is one of a top whose home is that file.
-use Rattle.std.proofs.Common.{◌≡◌, ℕ, suc, ◌+◌, ◌-◌, Bool, true, false, List, [], ◌∷◌, length, Option, Some, None, slice_get, refl, sym, ap, subst}
+use Rattle.std.proofs.Common.{◌≡◌, ℕ, ◌+◌, ◌-◌, true, false, List, length, Option, Some, None, slice_get, refl, sym, ap, subst}
 use Rattle.std.proofs.Common.{◌∙◌, inl, inr, arith}
 use Rattle.std.proofs.lemmas.Bool.{le-ltb}
 use Rattle.std.specs.Prelude.{nat_lt, slice_index_or}
-use Rattle.dwz_docs.specs.Lists.{In}
+use Rattle.std.proofs.lemmas.Option.{get_or_from_slice_get}
+use Rattle.dwz_docs.proofs.ListFacts.{got_in}
 use Rattle.dwz_meanings.specs.Documents.{DwUnit, Node, unit_map}
 use Rattle.dwz_seen.specs.Lists.{Nth}
-use Rattle.dwz_alike.specs.Spots.{FileUnit, PartialOf, Spot, UnitOf, Within, file_numbers, in_file}
+use Rattle.dwz_seen.proofs.Members.{nth_of}
+use Rattle.dwz_alike.specs.Spots.{PartialOf, Spot, UnitOf, Within, file_numbers, in_file}
 use Rattle.dwz_index.specs.declared.index.Starts.{Starts}
 use Rattle.dwz_index.specs.Names.{top_in}
 use Rattle.dwz_index.proofs.TopLemmas.{get_cases}
 use Rattle.dwz_indexes.specs.Indexed.{first_starts}
-use Rattle.dwz_moving.specs.Homes.{Common, Home, home, same_home}
-use Rattle.dwz_moving.specs.Moves.{Move}
+use Rattle.dwz_moving.specs.Homes.{Common, home}
 use Rattle.dwz_moving.specs.Plan.{PartialUnit, partials}
 use Rattle.dwz_plan.specs.declared.plan.Home.{Home as Place}
 use Rattle.dwz_plan.specs.declared.plan.Home.TheVariants.{Common as InCommon, Local as InOwn, Stay as InUnit}
 use Rattle.dwz_plan.specs.Shows.{IsPlace}
 use Rattle.dwz_plan.proofs.BridgeLemmas.{file_numbers_are}
-use Rattle.dwz_same.specs.Units.{changes, common_units, kept_unit, partial_unit, partial_units}
+use Rattle.dwz_same.specs.Units.{changes, common_units, kept_unit}
 use Rattle.dwz_graph.specs.declared.file.File.{File}
 use Rattle.dwz_index.specs.Index.{Index}
 use Rattle.dwz_unit.specs.Rows.{EntryRow}
-use Rattle.dwz_across.proofs.ListGets.{got_in, got_index}
 use Rattle.dwz_known.specs.Names.{all_names}
 use Rattle.dwz_known.specs.Owners.{files_written, owner_at, owner_by}
 use Rattle.dwz_known.proofs.ImageSteps.{in_a_top}
 use Rattle.dwz_known.proofs.OwnerLemmas.{own_name}
 use Rattle.dwz_known.proofs.OwnerSteps.{got_or}
-use Rattle.dwz_known.proofs.WholeLemmas.{nth_got}
 use Rattle.dwz_places.specs.declared.known.Known.{Known}
 use Rattle.dwz_places.specs.Attributes.{is_common}
 use Rattle.dwz_places.specs.Entries.{row}
@@ -39,26 +38,12 @@ use Rattle.dwz_laid.specs.Listed.{AreListed, TextsAt}
 use Rattle.dwz_laid.specs.NamedLaws.{entry_name}
 use Rattle.dwz_laid.proofs.FileEntries.{IsHere, below, here, name_there, named, named_all, names, number_is, read_name}
 use Rattle.dwz_laid.proofs.ImagesStand.{old}
-use Rattle.dwz_laid.proofs.OwnedEntries.{InUnit as OfUnit, found_names, name, names_same, unit_there}
+use Rattle.dwz_laid.proofs.OwnedEntries.{found_names, name, names_same, unit_there}
 use Rattle.dwz_laid.proofs.PartHomes.{not_first}
 use Rattle.dwz_laid.proofs.Walks.{owners_at}
+use Rattle.dwz_laid.proofs.UnitsKnown.{partial_is}
 
 -- ---- units that aren't of the common file
-
-is_partial : (m : Move) (h : Home) (s : ℕ) (parts : List PartialUnit) (u : DwUnit Spot) → In u (partial_units m h s parts)
-    → (p : ℕ) × (u.at ≡ PartialOf p)
-unfolding partial_units
-is_partial m h s [] u is = absurd is
-is_partial m h s (part ∷ parts) u is = by (same_home part.home h) is (is_partial m h (suc s) parts u) where
-  by : (b : Bool)
-      → In u (elim b as (λ _. List (DwUnit Spot)) [
-        | true ↦ partial_unit m s ∷ partial_units m h (suc s) parts
-        | false ↦ partial_units m h (suc s) parts
-      ])
-      → (In u (partial_units m h (suc s) parts) → (p : ℕ) × (u.at ≡ PartialOf p)) → (p : ℕ) × (u.at ≡ PartialOf p)
-  by true (inl e) more = (s, ap (λ (w : DwUnit Spot). w.at) (sym e))
-  by true (inr r) more = more r
-  by false r more = more r
 
 -- the name isn't one of an entry of a top that goes to the common file
 abbrev pub IsApart : Facts → Spot → Type 0
@@ -71,7 +56,7 @@ module _ (f : Facts) (t : TextsAt) (k : Known) (facts : AreFacts f) (listed : Ar
       let common = common_units (move f) in
       let many : k.commons ≡ length common = listed.commons ∙ facts.numbers.commons_are in
       ap (nat_lt at) many ∙ elim (get_cases common (files_written (move f) (units f) 0 (written f)) at u e) [
-        | inl a ↦ absurd (let o = is_partial (move f) Common 0 (move f).parts u (got_in common at u a) in
+        | inl a ↦ absurd (let o = partial_is (move f) Common 0 (move f).parts u (got_in common at u a) in
             let no : UnitOf i ≡ PartialOf o.0 = sym name ∙ o.1 in cc)
         | inr b ↦ le-ltb at (length common) (let far = b.1 in omega (arith, far))
       ]
@@ -87,7 +72,7 @@ module _ (f : Facts) (t : TextsAt) (k : Known) (facts : AreFacts f) (listed : Ar
   placed kept top own apart (InCommon p) q = absurd (apart q.0)
   placed kept top own apart (InOwn p) q =
       let none : 0 + p ≡ p = omega arith in
-      let nth : Nth 0 parts p q.2.part = subst (λ (w : ℕ). Nth 0 parts w q.2.part) none (nth_got 0 parts p q.2.part q.2.there) in
+      let nth : Nth 0 parts p q.2.part = subst (λ (w : ℕ). Nth 0 parts w q.2.part) none (nth_of 0 parts p q.2.part q.2.there) in
       let number = facts.numbers.parts_are p q.2.part nth in
       subst (λ (w : ℕ). is_common k w ≡ false) (sym (got_or f.parts p number.0 kept number.1))
       (not_first f facts q.0 p q.2.part nth q.2.home t k listed number.0 number.2)
@@ -114,7 +99,7 @@ module _ (f : Facts) (t : TextsAt) (k : Known) (facts : AreFacts f) (listed : Ar
         let w = owners.1 in
         let at : o.start + i ≡ (o.start - 0) + i = omega arith in
         let owner : owner_of k (o.start + i) ≡ w.owner =
-        got_index k.owners.items (o.start + i) w.owner 0 (ap (slice_get k.owners.items) at ∙ w.there) in
+        get_or_from_slice_get k.owners.items (o.start + i) w.owner 0 (ap (slice_get k.owners.items) at ∙ w.there) in
         let number = u.is_number in
         let same : index.starts.unit + r.unit ≡ u.number = ap (λ (v : Starts). v.unit + r.unit) (sym o.starts_same) ∙ sym number in
         let is = w.is kept.0 (ap (slice_get f.olds) same ∙ kept.1) in

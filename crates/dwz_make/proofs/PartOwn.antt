@@ -1,11 +1,11 @@
 -- What is written of the partial units of a file are entries of its own: each is of a top whose home is that file.
 use Rattle.std.proofs.Common.{◌≡◌, ℕ, suc, ◌<◌, Bool, true, false, List, [], ◌∷◌, length, map, Option, refl, sym, ap, subst, ◌∙◌, inl, inr, arith}
-use Rattle.dwz_docs.specs.Lists.{In}
+use Rattle.dwz_docs.specs.Lists.{Each, In}
 use Rattle.dwz_meanings.specs.Documents.{Node}
 use Rattle.dwz_meanings.specs.Meanings.{IfSo}
-use Rattle.dwz_seen.specs.Lists.{Each, Nth}
+use Rattle.dwz_seen.specs.Lists.{Nth}
 use Rattle.dwz_seen.proofs.Members.{each_append, each_more}
-use Rattle.dwz_alike.specs.Spots.{Spot, Top, Within, file_numbers}
+use Rattle.dwz_alike.specs.Spots.{Top, file_numbers}
 use Rattle.dwz_layout.specs.declared.order.Item.{Item}
 use Rattle.dwz_layout.specs.declared.order.What.{What}
 use Rattle.dwz_layout.specs.declared.order.What.TheVariants.{Import, InChain, Root, Space, Top as ATopOf, Whole}
@@ -20,6 +20,7 @@ use Rattle.dwz_same.specs.Units.{changes}
 use Rattle.dwz_graph.specs.declared.file.File.{File}
 use Rattle.dwz_index.specs.Index.{Index}
 use Rattle.dwz_unit.specs.Rows.{EntryRow}
+use Rattle.dwz_known.proofs.OwnerLemmas.{same_number}
 use Rattle.dwz_order.specs.Lists.{all_spaces, all_tops, rows_from, spaces_at}
 use Rattle.dwz_order.specs.Orders.{First}
 use Rattle.dwz_order.specs.Parts.{IsPart}
@@ -52,9 +53,6 @@ use Rattle.dwz_laid.proofs.TopEntries.{labelled, top_read}
 use Rattle.dwz_laid.proofs.TopNames.{WithinOrigin, tree_within}
 use Rattle.dwz_make.proofs.OwnersApart.{IsApart, owned_apart}
 
-one_top : (a b : ℕ) (p q : List ℕ) → Within a p ≡ Within b q → a ≡ b
-one_top a b p q e = cc
-
 module _ (f : Facts) (t : TextsAt) (k : Known) (facts : AreFacts f) (listed : AreListed f t k) (n : ℕ) (bytes : List ℕ) (x : File)
     (index : Index) (h : HasFile f n bytes x index) (changed : changes (move f) (units f) n ≡ true) where
   abbrev o : IsHere f k n x index
@@ -75,7 +73,7 @@ module _ (f : Facts) (t : TextsAt) (k : Known) (facts : AreFacts f) (listed : Ar
   origin_apart : (number : ℕ) → (home (rule f) (units f) number ≡ Common → ⊥) → (origin : Origin)
       → WithinOrigin f k n x index o number origin → ApartOrigin origin
   origin_apart number far (OfRow r) w =
-      (w.0, λ top path is at. far (ap (home (rule f) (units f)) (one_top number top w.1.path path (sym w.1.is ∙ is)) ∙ at))
+      (w.0, λ top path is at. far (ap (home (rule f) (units f)) (same_number number top w.1.path path (sym w.1.is ∙ is)) ∙ at))
   origin_apart number far (OwnRoot place) w = tt
   origin_apart number far (Chained chain space) w = tt
   origin_apart number far (Imported part) w = tt

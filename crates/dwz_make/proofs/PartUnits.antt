@@ -1,11 +1,11 @@
 -- What a partial unit has of entries that were read is of the unit that its tops were read in, and so are the spaces of its chains.
 use Rattle.std.proofs.Common.{◌≡◌, ℕ, ◌+◌, List, [], ◌∷◌, Option, inl, inr, sym, ap, subst, ◌∙◌, arith}
-use Rattle.dwz_docs.specs.Lists.{In}
+use Rattle.dwz_docs.specs.Lists.{Each, In}
 use Rattle.dwz_docs.specs.Units.{RawUnit}
 use Rattle.dwz_meanings.specs.Documents.{Node}
 use Rattle.dwz_meanings.specs.Files.{around_of}
 use Rattle.dwz_meanings.specs.Meanings.{scope_of}
-use Rattle.dwz_seen.specs.Lists.{Each, Nth}
+use Rattle.dwz_seen.specs.Lists.{Nth}
 use Rattle.dwz_seen.proofs.Members.{each_append, each_in}
 use Rattle.dwz_alike.specs.Spots.{PartialOf, file_numbers}
 use Rattle.dwz_layout.specs.declared.order.Item.{Item}

@@ -1,26 +1,26 @@
 -- What stays of the texts of a file is by what is written of it: file by file, and then by what is known of all of them.
-use Rattle.std.proofs.Common.{◌≡◌, ℕ, zero, suc, ◌+◌, ◌<◌, ◌^◌, Bool, true, false, All, List, [], ◌∷◌, ◌++◌, length, take, get_or, Option, Some, None, slice_get, refl, sym, ap, subst, ◌∙◌, inl, inr, ltb, arith}
+use Rattle.std.proofs.Common.{◌≡◌, ℕ, zero, suc, ◌+◌, ◌<◌, ◌^◌, Bool, true, false, All, List, [], ◌∷◌, ◌++◌, length, take, get_or, Option, Some, None, slice_get, refl, sym, ap, subst, ◌∙◌, inl, inr}
+use Rattle.std.proofs.Common.{ltb, arith}
 use Rattle.std.specs.Prelude.{IsSome}
 use Rattle.std.proofs.lemmas.Bool.{ltb-true}
 use Rattle.std.proofs.lemmas.List.{length-append}
+use Rattle.std.proofs.lemmas.Option.{get_or_from_slice_get}
 use Rattle.dwz_docs.specs.Texts.{text_at}
-use Rattle.dwz_docs.specs.Units.{RawUnit}
-use Rattle.dwz_meanings.specs.Documents.{Doc}
-use Rattle.dwz_meanings.specs.Files.{Limits, limits_after, no_files_before, sources_of}
+use Rattle.dwz_docs.proofs.ListFacts.{got_below, got_there as get_there, item_got, same_got}
+use Rattle.dwz_meanings.specs.Files.{no_files_before, sources_of}
 use Rattle.dwz_meanings.specs.Meanings.{Sources}
 use Rattle.dwz_meanings.proofs.FileLemmas.{file_agrees}
 use Rattle.dwz_back.proofs.FewTexts.{read_few}
 use Rattle.dwz_unit.specs.Rows.{units_of as raw_units}
 use Rattle.dwz_graph.specs.declared.file.File.{File}
-use Rattle.dwz_graph.specs.Files.{HasFile as StandsThere, HasRead}
+use Rattle.dwz_graph.specs.Files.{HasRead}
 use Rattle.dwz_index.proofs.TopLemmas.{get_cases}
 use Rattle.dwz_across.proofs.FileCounts.{are_many}
-use Rattle.dwz_across.proofs.ListGets.{get_there, got_below, got_index, item_got, same_got}
 use Rattle.dwz_places.specs.declared.known.Known.{Known}
 use Rattle.dwz_places.specs.declared.order.UnitItems.{UnitItems}
 use Rattle.dwz_pages.specs.Shown.{unit_count}
 use Rattle.dwz_laid.specs.Facts.{Facts}
-use Rattle.dwz_laid.proofs.FilesFound.{file_there}
+use Rattle.dwz_laid.proofs.FilesFound.{bytes_there, file_there}
 use Rattle.dwz_uses.specs.declared.pruning.PrunedFile.{PrunedFile}
 use Rattle.dwz_uses.specs.PrunedFiles.{IsPrunedFile}
 use Rattle.dwz_uses.specs.Used.{order_uses}
@@ -31,12 +31,6 @@ use Rattle.dwz_make.proofs.FirstSteps.{first_got}
 use Rattle.dwz_make.proofs.RankSteps.{rank_of_written}
 
 -- ---- a file that was read
-
-pub bytes_there : (l : Limits) (contents : List (List ℕ)) (i : ℕ) (m : Limits) (b : List ℕ) (raw : List RawUnit) (doc : Doc ℕ)
-    → StandsThere l contents i m b raw doc → slice_get contents i ≡ Some b
-bytes_there l [] i m b raw doc h = absurd h
-bytes_there l (x ∷ contents) zero m b raw doc h = ap (λ (w : List ℕ). Some w) h.1
-bytes_there l (x ∷ contents) (suc i) m b raw doc h = bytes_there (limits_after l x h.0) contents i m b raw doc h.3
 
 module _ (contents : List (List ℕ)) (n : ℕ) (bytes : List ℕ) (x : File) (h : HasRead contents n bytes x) where
   -- its slots are few
@@ -185,6 +179,6 @@ module _ (contents : List (List ℕ)) (k : Known) (w : Written) (prunes : List B
           order_is = is.order_is;
           first_is = ap (λ (l : List ℕ). slice_get l (suc rank)) a.firsts ∙ counted ∙ ap (λ (m : ℕ). Some m) count;
         } in
-        subst (IsPrunedIf f n (order_uses k first order)) (sym (got_index pruned n o.0 None o.1))
+        subst (IsPrunedIf f n (order_uses k first order)) (sym (get_or_from_slice_get pruned n o.0 None o.1))
         (pruned_if f n bytes.0 (order_uses k first order) (get_or prunes n false) o.0 (a.prunes_are n) (stored_bytes n bytes.0 bytes.1)
         (h.each n o.0 o.1 bytes.0 first order of_file)))

@@ -1,13 +1,14 @@
 -- Files that are written are counted in order, so that the rank of each is how many are written before it.
-use Rattle.std.proofs.Common.{◌≡◌, ℕ, zero, suc, ◌+◌, ◌<◌, ◌≤◌, Bool, true, false, cond, List, [], ◌∷◌, ◌++◌, length, map, drop, get_or, Option, Some, None, slice_get, refl, sym, ap, subst, ◌∙◌, arith}
+use Rattle.std.proofs.Common.{◌≡◌, ℕ, zero, suc, ◌+◌, ◌<◌, ◌≤◌, Bool, true, false, cond, List, [], ◌∷◌, ◌++◌, length, map, drop, get_or, Option, Some, None, slice_get, refl, sym, ap, subst, ◌∙◌}
+use Rattle.std.proofs.Common.{arith}
 use Rattle.std.specs.List.{filter}
 use Rattle.std.proofs.lemmas.Bool.{false≢true}
 use Rattle.std.proofs.lemmas.List.{append-nil, append_assoc, drop_all, get_or_default, length-map}
+use Rattle.dwz_docs.proofs.ListFacts.{drop_next, got_below, got_there}
 use Rattle.dwz_meanings.specs.Documents.{Doc}
 use Rattle.dwz_alike.specs.Spots.{file_numbers}
+use Rattle.dwz_alike.proofs.FileNumbers.{numbers_long}
 use Rattle.dwz_same.specs.Units.{changes}
-use Rattle.dwz_across.proofs.ListGets.{get_there, got_below}
-use Rattle.dwz_known.proofs.CountLemmas.{next_of}
 use Rattle.dwz_laid.specs.Facts.{Facts, docs, files_written, move, units, written}
 use Rattle.dwz_make.specs.Prepared.{AreRanks, IsRank}
 
@@ -27,7 +28,7 @@ pub ranking_first : (flags : List Bool) (ranks : List (Option ℕ)) → ranks �
 ranking_first flags ranks none = record { found = ap (λ (w : List (Option ℕ)). w ++ ranks_from 0 flags) none; few = omega arith }
 
 flag_next : (flags : List Bool) (i : ℕ) (d b : Bool) → i < length flags → get_or flags i d ≡ b → drop i flags ≡ b ∷ drop (i + 1) flags
-flag_next flags i d b lt is = next_of flags i b lt (sym is ∙ get_or_default flags i d b lt)
+flag_next flags i d b lt is = drop_next flags i b lt (sym is ∙ get_or_default flags i d b lt)
 
 pub rank_put : (flags : List Bool) (i next : ℕ) (d : Bool) (old new : List (Option ℕ)) → i < length flags → get_or flags i d ≡ true
     → new ≡ old ++ Some next ∷ [] → Ranking flags i next old
@@ -174,11 +175,6 @@ number_is s (d ∷ docs) (suc i) n e =
     let low = r.1 in
     (omega arith, omega arith)
 
-numbers_many : (s : ℕ) (docs : List (Doc ℕ)) → length (file_numbers s docs) ≡ length docs
-unfolding file_numbers
-numbers_many s [] = refl
-numbers_many s (d ∷ docs) = ap suc (numbers_many (suc s) docs)
-
 -- ---- the files of a run
 
 module _ (f : Facts) where
@@ -192,7 +188,7 @@ module _ (f : Facts) where
       let p = changes (move f) (units f) in
       let ns = file_numbers 0 (docs f) in
       let so : ranks ≡ ranks_from 0 (map p ns) = are ∙ ap (ranks_from 0) is in
-      let many : length (ranks_from 0 (map p ns)) ≡ length (docs f) = ranks_many 0 (map p ns) ∙ length-map ns p ∙ numbers_many 0 (docs f) in
+      let many : length (ranks_from 0 (map p ns)) ≡ length (docs f) = ranks_many 0 (map p ns) ∙ length-map ns p ∙ numbers_long 0 (docs f) in
       subst (AreRanks f) (sym so) (record {
         many = many;
         each = λ n o got. (
@@ -227,5 +223,5 @@ module _ (f : Facts) where
       let is = at.0 in
       let low = at.1 in
       let many = are.many in
-      let r = get_there ranks n (omega arith) in
+      let r = got_there ranks n (omega arith) in
       r.1 ∙ ap (λ (w : Option ℕ). Some w) (same_rank n rank r.0 (are.each n r.0 r.1) e)

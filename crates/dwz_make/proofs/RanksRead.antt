@@ -2,11 +2,11 @@
 use Rattle.std.proofs.Common.{◌≡◌, ℕ, zero, suc, ◌+◌, true, false, List, [], ◌∷◌, length, take, Option, Some, None, slice_get, refl, sym}
 use Rattle.std.proofs.Common.{ap, ◌∙◌, arith}
 use Rattle.std.proofs.lemmas.List.{length-map}
+use Rattle.dwz_docs.proofs.ListFacts.{got_below, got_there}
 use Rattle.dwz_same.specs.Units.{changes}
 use Rattle.dwz_writing.specs.Placing.{FileOut}
 use Rattle.dwz_back.specs.Files.{file_out}
 use Rattle.dwz_across.proofs.FileCounts.{are_many}
-use Rattle.dwz_across.proofs.ListGets.{get_there, got_below}
 use Rattle.dwz_places.specs.declared.known.Known.{Known}
 use Rattle.dwz_places.specs.declared.order.UnitItems.{UnitItems}
 use Rattle.dwz_pages.specs.Shown.{Keys, ShowFiles, unit_count}
@@ -57,7 +57,7 @@ rank_there f ranks facts are n moves = by got.0 got.1 (are.each n got.0 got.1) w
       let many = are_many f.contents f.files f.indexes facts.kept facts.indexed in
       let files = many.0 in
       let long = are.many in
-      get_there ranks n (omega (arith, below, files, long))
+      got_there ranks n (omega (arith, below, files, long))
 
   by : (r : Option ℕ) → slice_get ranks n ≡ Some r → IsRank f n r → HasRank f ranks n
   by None e is = let z : true ≡ false = sym moves ∙ is in absurd (let w : true ≡ false = z in cc)
@@ -70,5 +70,5 @@ pub order_there : (f : Facts) (orders : List (List UnitItems)) (rank n : ℕ) �
 order_there f orders rank n many is =
     let below = got_below (files_written f) rank n is in
     let long = length-map (files_written f) (file_out (run f)) in
-    let got = get_there orders (suc rank) (omega (arith, below, long, many)) in
+    let got = got_there orders (suc rank) (omega (arith, below, long, many)) in
     (got.0, record { file = is; order_is = got.1; first_is = refl })

@@ -5,8 +5,8 @@ use Rattle.dwz_docs.specs.Entries.{root_position}
 use Rattle.dwz_docs.specs.Trees.{behind}
 use Rattle.dwz_docs.specs.Units.{RawUnit, entry_count, header_size}
 use Rattle.dwz_unit.specs.Rows.{EntryRow, rows_below, rows_from, rows_in}
+use Rattle.dwz_unit.proofs.ShownLemmas.{rows_in-length}
 use Rattle.dwz_index.proofs.TopLemmas.{get_later}
-use Rattle.dwz_resolve.proofs.RowLemmas.{in-length}
 use Rattle.dwz_make.specs.Spots.{unit_places_from}
 
 -- the row of the root of the unit with a number, and where the unit's place is counted from
@@ -41,7 +41,7 @@ has_root (w ∷ us) unit before zero u e =
 has_root (w ∷ us) unit before (suc j) u e =
     let o = has_root us (unit + 1) (before + entry_count w) j u e in
     let own = rows_in w unit before in
-    let long = in-length w unit before in
+    let long = rows_in-length w unit before in
     let rest = rows_from us (unit + 1) (before + entry_count w) in
     record {
       entry = entry_count w + o.entry;

@@ -1,12 +1,9 @@
 -- Files that were planned and settled, by what was said of each step.
-use Rattle.std.proofs.Common.{◌≡◌, ℕ, suc, ◌<◌, ◌≤◌, Bool, List, [], ◌∷◌, length, get_or, map, Some, slice_get, refl, sym, ap, subst, ◌∙◌}
-use Rattle.std.proofs.Common.{Result, Ok, Err, IfOk}
+use Rattle.std.proofs.Common.{[], ◌∙◌, ◌≡◌, ◌≤◌, Bool, Err, IfOk, List, Ok, Result, ℕ, ap, length, map, refl, subst, sym}
 use Rattle.std.specs.Prelude.{All}
-use Rattle.std.specs.Option.{option_map}
 use Rattle.std.proofs.lemmas.List.{length-map}
-use Rattle.std.proofs.lemmas.Option.{slice_get-map, slice_get_read}
 use Rattle.dwz_alike.specs.Spots.{file_numbers}
-use Rattle.dwz_meanings.specs.Documents.{Doc}
+use Rattle.dwz_alike.proofs.FileNumbers.{numbers_long}
 use Rattle.dwz_same.specs.Units.{changes}
 use Rattle.dwz_back.specs.Files.{imports_common}
 use Rattle.dwz_out.specs.Out.{stored_of}
@@ -15,7 +12,7 @@ use Rattle.dwz_graph.specs.Files.{AreKept, docs_of}
 use Rattle.dwz_index.specs.Index.{Index}
 use Rattle.dwz_indexes.specs.Indexed.{AreIndexes}
 use Rattle.dwz_plan.specs.declared.plan.Partial.{Partial}
-use Rattle.dwz_plan.specs.declared.plan.Scope.{Scope as Sharing}
+use Rattle.dwz_plan.specs.declared.plan.Sharing.{Sharing}
 use Rattle.dwz_plan.specs.Planned.{Planned}
 use Rattle.dwz_planned.specs.declared.planned.PlannedFiles.{PlannedFiles}
 use Rattle.dwz_planned.specs.Rules.{alike_scope}
@@ -34,14 +31,6 @@ use Rattle.dwz_make.specs.Numbered.{AreNumbersOf}
 use Rattle.dwz_make.proofs.FactsNumbered.{flags_are}
 use Rattle.dwz_make.specs.declared.settled.SettledRun.{SettledRun}
 use Rattle.dwz_make.specs.SettledRun.{IsSettledRun, AreListedAsRead, AreTheirs}
-
--- what the graph has of a content
-pub content_at : {V : Type 0} (items : V → List ℕ) (graph : List (List ℕ)) (contents : List V) (i : ℕ) (v : V) (bytes : List ℕ)
-    → graph ≡ map items contents → i < length contents → v ≡ get_or contents i v → bytes ≡ items v → slice_get graph i ≡ Some bytes
-content_at items graph contents i v bytes read less row is =
-    ap (λ (g : List (List ℕ)). slice_get g i) read
-    ∙ (slice_get-map items contents i
-    ∙ (ap (option_map items) (slice_get_read contents (length contents) i v refl less row) ∙ ap (λ (b : List ℕ). Some b) (sym is)))
 
 -- ---- what is settled
 
@@ -77,12 +66,6 @@ run_settled contents files a xs sharing p kept indexes scope planned indexed are
       flags = flags_are contents files a.indexes.items a.settled.scope a.settled.planned a.settled s kept lends settled;
       importing = settled_so (Imports contents a) a xs sharing p indexes scope planned imports;
     }
-
--- there are as many documents as contents
-numbers_long : (s : ℕ) (ds : List (Doc ℕ)) → length (file_numbers s ds) ≡ length ds
-unfolding file_numbers
-numbers_long s [] = refl
-numbers_long s (d ∷ ds) = ap suc (numbers_long (suc s) ds)
 
 pub docs_many : (contents : List (List ℕ)) (a : SettledRun) → IsSettledRun contents a → length (docs_of contents) ≡ length contents
 docs_many contents a is =

@@ -1,7 +1,7 @@
 -- The sections of a file that were made one by one are those of the run.
 use Rattle.std.proofs.Common.{◌≡◌, ℕ, Bool, List, Option, Some, None, sym, ap, ◌∙◌}
 use Rattle.std.specs.Prelude.{if◌then◌else◌}
-use Rattle.dwz_model.specs.declared.sections.Sections.{Sections}
+use Rattle.dwz_model.specs.declared.sections.NewSections.{NewSections}
 use Rattle.dwz_meanings.specs.Files.{debug_aranges}
 use Rattle.dwz_meanings.specs.Meanings.{Sources}
 use Rattle.dwz_alike.proofs.SpotLemmas.{numbers_same}
@@ -49,7 +49,7 @@ module _ (f : Facts) (w : Work) (m : Moved) (is : IsMoved f w m) where
   pruned : IsPruned r n (pruned_at w.prepared.now.pruned.items n)
   pruned = is.works.works.ready.pruned n is.moves
 
-  pub sections_made : (s : Sections) → s.info ≡ (sections_of r n).info → s.abbrev ≡ (sections_of r n).abbrevs
+  pub sections_made : (s : NewSections) → s.info ≡ (sections_of r n).info → s.abbrev ≡ (sections_of r n).abbrevs
       → s.strs ≡ other_strs (x f w m is).sections.strs.bytes.now (pruned_at w.prepared.now.pruned.items n)
       → s.offsets ≡ other_offsets (x f w m is).sections.offsets.now (pruned_at w.prepared.now.pruned.items n)
       → s.line ≡ None → s.loclists ≡ if_other (x f w m is).sections.lists.now (lists_after r n)

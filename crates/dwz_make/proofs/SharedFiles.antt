@@ -2,15 +2,14 @@
 -- a file that shares these texts where it imports from the common file.
 use Rattle.std.proofs.Common.{◌≡◌, ℕ, ◌+◌, ◌<◌, Bool, false, List, [], ◌∷◌, length, map, None, sym, ap, subst, ◌∙◌, inl, inr, arith}
 use Rattle.std.specs.Prelude.{slice_index_or}
-use Rattle.dwz_meanings.specs.Documents.{Compile, DwUnit, Kind, OfType, Partial}
-use Rattle.dwz_seen.specs.Lists.{Each}
+use Rattle.dwz_docs.proofs.ListFacts.{got_below}
+use Rattle.dwz_meanings.specs.Documents.{DwUnit}
+use Rattle.dwz_docs.specs.Lists.{Each}
 use Rattle.dwz_alike.specs.Spots.{Spot, file_numbers, name_of}
 use Rattle.dwz_same.specs.Units.{out_units}
 use Rattle.dwz_graph.specs.declared.file.File.{File}
 use Rattle.dwz_index.specs.Index.{Index}
 use Rattle.dwz_across.proofs.FileCounts.{are_many}
-use Rattle.dwz_across.proofs.ListGets.{got_below}
-use Rattle.dwz_writing.specs.Placing.{CommonUnit, Fit, holder_of}
 use Rattle.dwz_back.specs.Files.{imports_common, paths, shared_if, texts}
 use Rattle.dwz_places.specs.declared.known.Known.{Known}
 use Rattle.dwz_places.specs.declared.known.TextAt.{TextAt}
@@ -26,19 +25,15 @@ use Rattle.dwz_laid.specs.Facts.{AreFacts, Facts, HasFile, docs, file_read, move
 use Rattle.dwz_laid.specs.Laid.{FilesTexts}
 use Rattle.dwz_laid.specs.Listed.{AreListed, TextsAt}
 use Rattle.dwz_laid.specs.Unfitted.{KnowTexts, KnowsTextsOf, fit_in}
+use Rattle.dwz_laid.proofs.FilesKnown.{flag_is}
+use Rattle.dwz_laid.proofs.UnitsKnown.{not_common}
 use Rattle.dwz_texts.specs.TextLaws.{unshared}
 use Rattle.dwz_common.specs.Placed.{shares_in}
 use Rattle.dwz_common.specs.SharedLaws.{HasCommon}
 use Rattle.dwz_common.proofs.SharedEntries.{files_many, names_shared, texts_shared}
 use Rattle.dwz_common.proofs.WithLists.{items_kept, number_kept}
 use Rattle.dwz_make.specs.Stood.{FilesUnshared, KnowUnshared, WritesOwn}
-use Rattle.dwz_make.proofs.FilesTexts.{flag_is}
 use Rattle.dwz_make.proofs.HeldTexts.{held_in_file}
-
-not_common : (kind : Kind Spot) → holder_of false kind ≡ CommonUnit → ⊥
-not_common Compile e = cc
-not_common (OfType signature main) e = cc
-not_common Partial e = cc
 
 -- where numbers are the same, an entry that is there was there before
 had_row : (before k : Known) (number : ℕ) → ((r : _) → number_of k r ≡ number_of before r) → (slots : List Slot) → HasRow k number slots

@@ -1,15 +1,14 @@
 -- Each entry that was read and is a slot of a unit that is known is in the lists, since items show entries of files that were read.
-use Rattle.std.proofs.Common.{◌≡◌, ℕ, zero, suc, ◌+◌, ◌-◌, List, [], ◌∷◌, ◌++◌, Option, Some, None, drop, take, slice_get, refl, ap, ◌∙◌}
-use Rattle.std.proofs.Common.{inl, inr, arith}
+use Rattle.std.proofs.Common.{[], ◌++◌, ◌+◌, ◌-◌, ◌∙◌, ◌∷◌, ◌≡◌, List, None, Option, Some, ℕ, ap, arith, drop, inl, inr, refl, slice_get, suc, take, zero}
 use Rattle.std.specs.Option.{option_map_or}
 use Rattle.std.specs.Prelude.{slice_range}
 use Rattle.dwz_docs.specs.Entries.{RawEntry}
 use Rattle.dwz_docs.specs.Trees.{End, Entry, Forest, Position, behind, first_below}
+use Rattle.dwz_docs.proofs.ListFacts.{drop_first}
 use Rattle.dwz_meanings.specs.Documents.{Entries, Node}
-use Rattle.dwz_seen.specs.Lists.{Each}
+use Rattle.dwz_docs.specs.Lists.{Each}
 use Rattle.dwz_seen.proofs.Members.{each_append, each_more}
 use Rattle.dwz_alike.specs.Spots.{Spot}
-use Rattle.dwz_flat.proofs.StepLemmas.{first_of}
 use Rattle.dwz_layout.specs.declared.order.Item.{Item}
 use Rattle.dwz_layout.specs.declared.order.What.{What}
 use Rattle.dwz_layout.specs.declared.order.What.TheVariants.{Import, InChain, Root, Space, Top, Whole}
@@ -27,8 +26,7 @@ use Rattle.dwz_places.specs.declared.walk.Slot.{Slot}
 use Rattle.dwz_places.specs.Entries.{items_slots, root_of, row_slots, slot, slots_below, tree_slots, what_slots, whole_slots}
 use Rattle.dwz_places.specs.Known.{row_at, rows_in, space_at, top_row}
 use Rattle.dwz_pages.specs.Shown.{Keys}
-use Rattle.dwz_fitted.specs.Knows.{FileRead, KnowsFile, KnowsIn, KnowsUnit, NewNumbers, OfSome, ShowsRoot, ShowsRow, ShowsTree, ShowsWhat}
-use Rattle.dwz_fitted.specs.Knows.{ShowsWhole}
+use Rattle.dwz_fitted.specs.Knows.{FileRead, KnowsFile, KnowsIn, KnowsUnit, NewNumbers, OfSome, ShowsRoot, ShowsRow, ShowsTree, ShowsWhat, ShowsWhole}
 
 -- ---- items of parts of lists
 
@@ -90,7 +88,7 @@ tree_row : (k : Known) (f : FileRead) → KnowsFile k f → (r : Row) (node : No
     → (x : EntryRow) × (row_at k r ≡ Some x)
 tree_row k f file r node below t =
     let b = begins t.e t.c t.number t.p t.behind in
-    let at = first_of (rows_of f.raw) t.p.before b.0 b.1 (t.stand ∙ b.2) in
+    let at = drop_first (rows_of f.raw) t.p.before b.0 b.1 (t.stand ∙ b.2) in
     (b.0, ap (λ (q : Row). row_at k q) t.row_is ∙ ap (λ (w : List EntryRow). slice_get w t.p.before) file.rows ∙ at.0)
 
 own_row : (k : Known) (f : FileRead) → KnowsFile k f → (r : Row) (node : Node Spot) → ShowsRow f r node

@@ -5,13 +5,13 @@ use Rattle.std.proofs.lemmas.List.{append-nil, append_assoc, length-append, leng
 use Rattle.dwz_docs.specs.Entries.{root_position}
 use Rattle.dwz_docs.specs.Trees.{behind, first_below, size}
 use Rattle.dwz_docs.specs.Units.{RawUnit, entry_count}
+use Rattle.dwz_docs.proofs.ListFacts.{drop_first, get_first, got_map, got_there, same_got}
 use Rattle.dwz_meanings.specs.Documents.{Compile, Doc, DwUnit, Kind, Node, OfType, Partial, entries_map, kind_map, unit_map}
 use Rattle.dwz_meanings.specs.Files.{around_of}
 use Rattle.dwz_meanings.specs.Meanings.{Around, MeanUnits, entries_meaning, scope_of}
 use Rattle.dwz_meanings.proofs.FileLemmas.{file_agrees}
 use Rattle.dwz_meanings.proofs.MeaningLemmas.{entries_agree}
 use Rattle.dwz_alike.specs.Spots.{FileUnit, Spot, in_file, named_files}
-use Rattle.dwz_flat.proofs.StepLemmas.{first_of}
 use Rattle.dwz_flat.proofs.TopThere.{left_behind}
 use Rattle.dwz_flat.proofs.TreeLemmas.{same_size}
 use Rattle.dwz_graph.specs.declared.file.File.{File}
@@ -20,12 +20,11 @@ use Rattle.dwz_index.specs.declared.index.Starts.{Starts}
 use Rattle.dwz_index.specs.Index.{Index}
 use Rattle.dwz_index.specs.Steps.{all_spaces, below_root, is_compile, is_space, spaces_among}
 use Rattle.dwz_index.specs.Steps.{space_entries as entries_in_unit, starts_behind as unit_behind}
-use Rattle.dwz_index.proofs.TopLemmas.{get_first, get_later}
+use Rattle.dwz_index.proofs.TopLemmas.{get_later}
 use Rattle.dwz_indexes.specs.Indexed.{AreIndexed, first_starts, starts_behind}
-use Rattle.dwz_resolve.proofs.RowLemmas.{in-length}
 use Rattle.dwz_unit.specs.Rows.{EntryRow, rows_below, rows_from, rows_in, rows_of, units_of as raw_units}
+use Rattle.dwz_unit.proofs.ShownLemmas.{rows_in-length}
 use Rattle.dwz_across.specs.Across.{file_units, name_at}
-use Rattle.dwz_across.proofs.ListGets.{get_there, got_map, same_got}
 use Rattle.dwz_across.proofs.TopRows.{units_long}
 use Rattle.dwz_order.specs.Shown.{Pairs}
 use Rattle.dwz_order.specs.Spaces.{spaces_below, spaces_of, spaces_under}
@@ -77,7 +76,7 @@ unit_there us unit s is =
     let high = is.space.high in
     let before = length (spaces_of is.before) in
     let j = s - before in
-    let r = get_there own j (omega arith) in
+    let r = got_there own j (omega arith) in
     let long = as_many 0 is.before in
     let number : length (space_units 0 is.before) + j ≡ s = omega arith in
     let i = 0 + length is.before in
@@ -117,7 +116,7 @@ module _ (around : Around ℕ) (name : ℕ → Spot) (raw : List RawUnit) (first
   below_the_root u j start rest h =
       let p = root_position start in
       let row : EntryRow = record { entry = u.root; unit = j; depth = p.depth; end = (behind p u.below).before } in
-      let f = first_of (rows_of raw) start row ((rows_below u.below j (first_below p) ++ []) ++ rest) h in
+      let f = drop_first (rows_of raw) start row ((rows_below u.below j (first_below p) ++ []) ++ rest) h in
       f.1 ∙ ap (λ (w : List EntryRow). w ++ rest) (append-nil (rows_below u.below j (first_below p)))
 
   in_unit : (u : RawUnit) (v : DwUnit ℕ) (j i k start : ℕ) (rest : List EntryRow) → i ≡ first + j
@@ -151,7 +150,7 @@ module _ (around : Around ℕ) (name : ℕ → Spot) (raw : List RawUnit) (first
       let below = ((entries_agree (scope_of around u) u.below).ok v.below).1 means.0.below in
       let same = same_size (scope_of around u) u.below v.below below in
       let rest = rows_from us (j + 1) (start + entry_count u) in
-      let long = in-length u j start in
+      let long = rows_in-length u j start in
       let end = start + entry_count u in
       let later = left_behind (rows_of raw) start end (rows_in u j start) rest rows (ap (λ (w : ℕ). start + w) long) in
       let place : end ≡ start + 1 + size v.below = omega (arith, same) in

@@ -3,13 +3,14 @@ use Rattle.std.proofs.Common.{◌≡◌, ◌<◌, ℕ, List, length, get_or, map
 use Rattle.std.proofs.Common.{ap, subst, ◌∙◌}
 use Rattle.std.specs.Prelude.{slice_index}
 use Rattle.dwz_docs.specs.Units.{RawUnit}
+use Rattle.dwz_docs.proofs.ListFacts.{got_below, item_got, same_got}
+use Rattle.dwz_docs.proofs.CaseFacts.{if_ok}
 use Rattle.dwz_meanings.specs.Documents.{Doc, DwUnit}
 use Rattle.dwz_meanings.specs.Files.{sources_of}
 use Rattle.dwz_meanings.specs.Meanings.{Sources, alone, units_meaning}
 use Rattle.dwz_meanings.specs.Shared.{ListOperand}
 use Rattle.dwz_alike.specs.Spots.{Spot}
 use Rattle.dwz_moving.specs.Homes.{Rule}
-use Rattle.dwz_across.proofs.ListGets.{got_below, item_got, same_got}
 use Rattle.dwz_known.specs.Images.{IsFile, IsPlanned}
 use Rattle.dwz_places.specs.declared.known.FileRows.{FileRows}
 use Rattle.dwz_narrow.specs.Narrow.{FirstPlace, after_in, number_by}
@@ -19,7 +20,6 @@ use Rattle.dwz_resolve.specs.declared.operands.ListOperand.{ListOperand as Opera
 use Rattle.dwz_resolve.specs.ListRows.{operand_view}
 use Rattle.dwz_resolve.specs.Named.{units_refs}
 use Rattle.dwz_sections.specs.Ranges.{AreMoved}
-use Rattle.dwz_sections.proofs.RangeSetLemmas.{if_more}
 use Rattle.dwz_laid.specs.Facts.{Facts, docs, rule, run}
 use Rattle.dwz_renumbered.specs.Operands.{AreNewNumbers, HasNewNumbers}
 use Rattle.dwz_make.specs.Spots.{unit_places_from}
@@ -67,7 +67,7 @@ module _ (f : Facts) (w : Work) (m : Moved) (is : IsMoved f w m) where
         let found = finds (sources_of is.bytes) is.has.read.read.doc.units after (units_mean f w m is units_at begin)
         (same ∙ targets_are f w m is units_at begin refs targets own (are ∙ ap (λ (ps : List ℕ). map (λ i. slice_index ps i) refs) places))
         (begin_after f w m is units_at begin many) in
-        if_more r (FirstPlace (number_by after) (operands_of_units (alone (sources_of is.bytes) us) us)) (FirstPlace (number_by after)
+        if_ok r (FirstPlace (number_by after) (operands_of_units (alone (sources_of is.bytes) us) us)) (FirstPlace (number_by after)
         (spoken (run f) m.number))
         (λ first h. spoken_first f w m is units_at begin first h) found
 

@@ -1,6 +1,6 @@
 -- Once the common file has its texts, all texts stand where the definitions say: its own, those that files share, and all others.
-use Rattle.std.proofs.Common.{◌≡◌, ℕ, suc, ◌<◌, Bool, true, List, [], ◌∷◌, map, None, Option, Some, slice_get, refl, sym, ap, subst, ◌∙◌}
-use Rattle.dwz_seen.specs.Lists.{Each}
+use Rattle.std.proofs.Common.{◌≡◌, suc, ◌<◌, Bool, List, [], ◌∷◌, map, None, Some, slice_get, sym, ap, subst, ◌∙◌}
+use Rattle.dwz_docs.specs.Lists.{Each}
 use Rattle.dwz_alike.specs.Spots.{file_numbers}
 use Rattle.dwz_back.specs.Files.{imports_common, paths, texts}
 use Rattle.dwz_sound.specs.Sound.{FewTexts}
@@ -22,7 +22,7 @@ use Rattle.dwz_common.proofs.PooledTexts.{pooled_law}
 use Rattle.dwz_make.specs.declared.common.CommonTexts.{CommonTexts}
 use Rattle.dwz_make.specs.declared.common.WholeLists.{WholeLists}
 use Rattle.dwz_make.specs.Common.{AreWhole, HasTexts}
-use Rattle.dwz_make.specs.Prepared.{ArePrepared, IsOrdered}
+use Rattle.dwz_make.specs.Prepared.{ArePrepared}
 use Rattle.dwz_make.specs.Stood.{FilesUnshared}
 use Rattle.dwz_make.specs.Whole.{PoolsUnit, StandWhole}
 use Rattle.dwz_make.proofs.CommonThere.{some_there}

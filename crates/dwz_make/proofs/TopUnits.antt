@@ -1,24 +1,25 @@
 -- Each top stands where the index of its file says, and there its rows say the number that its unit has in the file.
 use Rattle.std.proofs.Common.{◌≡◌, ℕ, ◌+◌, ◌<◌, List, ◌++◌, drop, Some, slice_get, sym, ap, subst, ◌∙◌, arith}
 use Rattle.std.proofs.lemmas.List.{length-map}
+use Rattle.std.proofs.lemmas.Option.{get_or_from_slice_get}
 use Rattle.dwz_docs.specs.Entries.{RawEntry}
 use Rattle.dwz_docs.specs.Lists.{In}
 use Rattle.dwz_docs.specs.Trees.{End, Entry, Forest, Position}
 use Rattle.dwz_docs.specs.Units.{RawUnit, entries_in}
+use Rattle.dwz_docs.proofs.ListFacts.{got_in, got_there as there, same_got}
 use Rattle.dwz_alike.specs.Spots.{Top, tops_of}
 use Rattle.dwz_alike.proofs.TopNumbers.{number_below, one_top, tops_numbers}
 use Rattle.dwz_graph.specs.declared.file.File.{File}
 use Rattle.dwz_index.specs.declared.index.TopEntry.{TopEntry}
 use Rattle.dwz_index.specs.Index.{Index}
 use Rattle.dwz_indexes.specs.Indexed.{first_starts}
-use Rattle.dwz_resolve.proofs.RowLemmas.{rows-length, there}
+use Rattle.dwz_resolve.proofs.RowLemmas.{rows-length}
 use Rattle.dwz_unit.specs.declared.rows.RawEntry.{RawEntry as EntryOfCode}
 use Rattle.dwz_unit.specs.Rows.{EntryRow, entry_shown, rows_below, rows_of, shown_entries, units_of as raw_units}
 use Rattle.dwz_across.specs.Across.{IsFileAmong, IsTopOf}
 use Rattle.dwz_across.proofs.FileCounts.{found}
 use Rattle.dwz_across.proofs.FileEntries.{gives_top}
 use Rattle.dwz_across.proofs.FileWalk.{is_among}
-use Rattle.dwz_across.proofs.ListGets.{got_in, got_index, same_got}
 use Rattle.dwz_places.specs.declared.known.Known.{Known}
 use Rattle.dwz_places.specs.Entries.{row}
 use Rattle.dwz_places.specs.Known.{no_row, top_row}
@@ -26,6 +27,7 @@ use Rattle.dwz_laid.specs.Facts.{AreFacts, Facts, HasFile, docs, units}
 use Rattle.dwz_laid.specs.Listed.{AreListed, TextsAt, entry_row, top_rows}
 use Rattle.dwz_laid.proofs.FilesFound.{among_of}
 use Rattle.dwz_laid.proofs.ListRows.{top_there}
+use Rattle.dwz_laid.proofs.TopTrees.{file_moved}
 
 -- From the row that the lists have for a top on stand its entry and all below it, which are of the unit with that number in the file: it
 -- is the top's own.
@@ -49,9 +51,6 @@ record TopPlace (f : Facts) (top : Top) : Type 0 where
   pub top_is : slice_get index.tops k ≡ Some e
   pub number : top.number ≡ index.starts.top + k
   pub of_file : top.file ≡ file
-
-file_moved : (a b : Top) (file : ℕ) → a ≡ b → a.file ≡ file → b.file ≡ file
-file_moved a b file same is = ap (λ (t : Top). t.file) (sym same) ∙ is
 
 module _ (f : Facts) (facts : AreFacts f) where
   -- a number has one top
@@ -109,7 +108,7 @@ module _ (f : Facts) (facts : AreFacts f) where
           c = w.c;
           p = w.p;
           behind = w.after;
-          row_is = got_index k.tops.items top.number (row n e.entry) no_row listed_row ∙ ap (row n) (sym s.from);
+          row_is = get_or_from_slice_get k.tops.items top.number (row n e.entry) no_row listed_row ∙ ap (row n) (sym s.from);
           stand = w.stand;
           unit_is = s.stands.number;
         }

@@ -1,20 +1,17 @@
 -- What is written of a top is of the unit that the top was read in: its rows stand one behind the other, all with the number of that unit.
-use Rattle.std.proofs.Common.{◌≡◌, ℕ, suc, ◌+◌, ◌-◌, List, [], ◌∷◌, ◌++◌, length, take, drop, Option, Some, slice_get}
-use Rattle.std.proofs.Common.{refl, sym, ap, subst, ◌∙◌, arith}
+use Rattle.std.proofs.Common.{[], ◌++◌, ◌+◌, ◌-◌, ◌∙◌, ◌∷◌, ◌≡◌, List, Option, Some, ℕ, ap, arith, drop, length, refl, slice_get, subst, suc, sym, take}
 use Rattle.std.specs.Option.{option_map_or}
 use Rattle.std.specs.Prelude.{slice_range}
-use Rattle.std.proofs.lemmas.List.{append-nil}
 use Rattle.std.proofs.Math.Seq.{take-append_seam}
 use Rattle.dwz_docs.specs.Entries.{RawEntry}
 use Rattle.dwz_docs.specs.Trees.{End, Entry, Forest, Position, behind, first_below}
 use Rattle.dwz_docs.specs.Units.{RawUnit}
-use Rattle.dwz_seen.specs.Lists.{Each}
+use Rattle.dwz_docs.proofs.ListFacts.{drop_first, same_got}
+use Rattle.dwz_docs.specs.Lists.{Each}
 use Rattle.dwz_seen.proofs.Members.{each_append}
 use Rattle.dwz_alike.specs.Spots.{Top}
-use Rattle.dwz_flat.proofs.StepLemmas.{first_of}
-use Rattle.dwz_resolve.proofs.RowLemmas.{below-length}
 use Rattle.dwz_unit.specs.Rows.{EntryRow, rows_below, rows_of}
-use Rattle.dwz_across.proofs.ListGets.{same_got}
+use Rattle.dwz_unit.proofs.RowLemmas.{shown-length}
 use Rattle.dwz_places.specs.declared.known.Known.{Known}
 use Rattle.dwz_places.specs.declared.known.Row.{Row}
 use Rattle.dwz_places.specs.declared.walk.Origin.{Origin}
@@ -22,6 +19,7 @@ use Rattle.dwz_places.specs.declared.walk.Origin.TheVariants.{Chained, Imported,
 use Rattle.dwz_places.specs.declared.walk.Slot.{Slot}
 use Rattle.dwz_places.specs.Entries.{row, row_slots, slot, slots_below, tree_slots}
 use Rattle.dwz_places.specs.Known.{row_at, rows_in, top_row}
+use Rattle.dwz_laid.proofs.TopNames.{first_row}
 use Rattle.dwz_make.proofs.TopUnits.{TopStands}
 
 -- the entry of the file with that number is of the unit that has this number among all, where the file's first one has that one
@@ -36,14 +34,6 @@ rows_of_unit (Entry e c m) number p = (
   each_append (λ (r : EntryRow). r.unit ≡ number) (rows_below c number (first_below p)) (rows_below m number (behind p c))
       (rows_of_unit c number (first_below p)) (rows_of_unit m number (behind p c)),
 )
-
-first_row : (e : RawEntry) (c : Forest RawEntry) (number : ℕ) (p : Position)
-    → rows_below (Entry e c End) number p
-    ≡ record { entry = e; unit = number; depth = p.depth; end = (behind p c).before } ∷ rows_below c number (first_below p)
-unfolding rows_below
-first_row e c number p =
-    let r : EntryRow = record { entry = e; unit = number; depth = p.depth; end = (behind p c).before } in
-    ap (λ (w : List EntryRow). r ∷ w) (append-nil (rows_below c number (first_below p)))
 
 module _ (n : ℕ) (raw : List RawUnit) (first unit : ℕ) where
   -- if it is an entry that was read, it is one of that unit of the file
@@ -67,7 +57,7 @@ module _ (n : ℕ) (raw : List RawUnit) (first unit : ℕ) where
     unfolding row_slots
     slots_of_unit depth base i [] rest stand own = tt
     slots_of_unit depth base i (r ∷ rows) rest stand own =
-        let at = first_of (rows_of raw) i r (rows ++ rest) stand in
+        let at = drop_first (rows_of raw) i r (rows ++ rest) stand in
         let next : suc i ≡ i + 1 = omega arith in
         let later : drop (suc i) (rows_of raw) ≡ rows ++ rest = ap (λ (m : ℕ). drop m (rows_of raw)) next ∙ at.1 in
         ((refl, of_unit i r at.0 own.0), slots_of_unit depth base (suc i) rows rest later own.1)
@@ -84,9 +74,9 @@ module _ (n : ℕ) (raw : List RawUnit) (first unit : ℕ) where
       let inside = rows_below t.c t.number (first_below p) in
       let stand : drop p.before all ≡ r ∷ (inside ++ t.behind) =
       t.stand ∙ ap (λ (w : List EntryRow). w ++ t.behind) (first_row t.e t.c t.number p) in
-      let at = first_of all p.before r (inside ++ t.behind) stand in
+      let at = drop_first all p.before r (inside ++ t.behind) stand in
       let there : row_at k from ≡ Some r = ap (λ (w : List EntryRow). slice_get w p.before) file ∙ at.0 in
-      let many = below-length t.c t.number (first_below p) in
+      let many = shown-length t.c t.number (first_below p) in
       let next : (first_below p).before ≡ suc p.before = omega arith in
       let later : drop (suc p.before) all ≡ inside ++ t.behind = ap (λ (m : ℕ). drop m all) (sym next) ∙ at.1 in
       let count : (behind p t.c).before - suc p.before ≡ length inside = omega (arith, many) in

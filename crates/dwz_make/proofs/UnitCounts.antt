@@ -15,6 +15,7 @@ use Rattle.dwz_unit.specs.Rows.{units_of as raw_units}
 use Rattle.dwz_across.specs.Across.{file_units}
 use Rattle.dwz_across.proofs.FileWalk.{first_doc}
 use Rattle.dwz_across.proofs.TopRows.{units_long}
+use Rattle.dwz_across.proofs.FileRoom.{no_doc}
 
 -- ---- of each file
 
@@ -23,10 +24,6 @@ file_count f = length (raw_units f.units)
 
 abbrev pub doc_count : Doc ℕ → ℕ
 doc_count doc = length doc.units
-
-pub no_doc : (l : Limits) (n : ℕ) (d : Doc ℕ) (docs : List (Doc ℕ)) → files_meaning l n [] ≡ Ok (d ∷ docs) → ⊥
-unfolding files_meaning
-no_doc l n d docs e = cc
 
 counted : (l : Limits) (n : ℕ) (contents : List (List ℕ)) (files : List File) (left : Limits) (docs : List (Doc ℕ))
     → AreRead l n contents files left → files_meaning l n contents ≡ Ok docs → map file_count files ≡ map doc_count docs

@@ -10,7 +10,7 @@ use Rattle.dwz_codes.specs.Rows.{RowView}
 use Rattle.dwz_docs.specs.declared.elf.FileHeader.{FileHeader}
 use Rattle.dwz_docs.specs.declared.elf.Section.{Section}
 use Rattle.dwz_docs.specs.Abbrevs.{Declaration}
-use Rattle.dwz_docs.specs.ElfFaults.{Before, FieldRows, InOrder, IsFirstElfFault, KeptRows, Row, WrongByte, file_fault}
+use Rattle.dwz_docs.specs.ElfFaults.{Before, FieldRows, InOrder, IsFirstElfFault, KeptRows, FaultRow, WrongByte, file_fault}
 use Rattle.dwz_docs.specs.ElfHeaders.{file_header}
 use Rattle.dwz_docs.specs.ElfNames.{sections_in}
 use Rattle.dwz_docs.specs.Entries.{IsAttrFault, IsDeclaredFault, IsFrontFault, Mode, RawEntry, SpellsFront, UnitContext, fault_in_entry}
@@ -32,7 +32,7 @@ same_place f g e is = subst OfSection (sym e) is
 record ArePlaced (Holds : Fault → Type 0) : Type 0 where
   each : (f : Fault) → Holds f → OfSection f
 
-one_row : (What : Type 0) (reason : Reason) (at : ℕ) → ArePlaced (Row What reason at)
+one_row : (What : Type 0) (reason : Reason) (at : ℕ) → ArePlaced (FaultRow What reason at)
 one_row What reason at = record { each = λ f h. same_place f (file_fault reason at) h.0 (lit≤ tt) }
 
 both : (First Then : Fault → Type 0) → ArePlaced First → ArePlaced Then → ArePlaced (Before First Then)

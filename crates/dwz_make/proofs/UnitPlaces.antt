@@ -1,8 +1,10 @@
 -- A unit's root stands for itself, so it has its place of the layout, and the unit begins before it.
 use Rattle.std.proofs.Common.{◌≡◌, ℕ, ◌+◌, ◌-◌, ◌<◌, List, Some, slice_get, refl, sym, ap, subst, ◌∙◌, arith}
 use Rattle.std.specs.Prelude.{slice_index}
+use Rattle.std.proofs.lemmas.Option.{get_or_from_slice_get}
 use Rattle.dwz_docs.specs.Units.{CompileUnit, PartialUnit, RawKind, RawUnit, TypeUnit, entries_in}
 use Rattle.dwz_docs.specs.Units.{header_size as raw_header_size}
+use Rattle.dwz_docs.proofs.ListFacts.{got_below, got_map, got_there, same_got}
 use Rattle.dwz_meanings.specs.Documents.{Compile, Kind, OfType, Partial, kind_map, unit_map}
 use Rattle.dwz_meanings.specs.Files.{around_of}
 use Rattle.dwz_meanings.specs.Meanings.{MeansKind, MeansUnit, Scope, scope_of}
@@ -21,7 +23,6 @@ use Rattle.dwz_index.specs.Index.{Index}
 use Rattle.dwz_index.specs.declared.index.Starts.{Starts}
 use Rattle.dwz_across.specs.Across.{file_units, name_at}
 use Rattle.dwz_across.proofs.FileEntries.{unit_of}
-use Rattle.dwz_across.proofs.ListGets.{get_there, got_below, got_index, got_map, same_got}
 use Rattle.dwz_known.specs.Images.{starts_from}
 use Rattle.dwz_known.specs.Names.{all_names}
 use Rattle.dwz_places.specs.declared.known.Known.{Known}
@@ -76,7 +77,7 @@ module _ (f : Facts) (k : Known) (facts : AreFacts f) (n : ℕ) (x : File) (inde
       let low = got_below (rows_of raw) root.entry root.row root.found in
       let many = rows-length raw in
       let at : place_at raw root.entry ≡ w.v.root.at =
-      got_index (entry_places_of raw) root.entry root.row.entry.at 0
+      get_or_from_slice_get (entry_places_of raw) root.entry root.row.entry.at 0
       (got_map (λ (r : EntryRow). r.entry.at) (rows_of raw) root.entry root.row root.found)
       ∙ ap (λ (e : _). e.at) root.root ∙ sym means.root.place in
       record {
@@ -93,7 +94,7 @@ unit_begins f t k orders lay n bytes x index h changed start start_is j lt =
     let raw = raw_units x.units in
     let at = (made_of k orders).places in
     let o = here f t k lay.facts lay.listed n x index h.file h.index_is in
-    let got = get_there raw j lt in
+    let got = got_there raw j lt in
     let u = got.0 in
     let w = its_unit f k lay.facts n x index o j u got.1 in
     let e = w.root.entry in

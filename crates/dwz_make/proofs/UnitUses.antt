@@ -1,25 +1,22 @@
 -- What is written of a unit of an order is among the uses that are counted in it: each entry and each space is one of its slots.
-use Rattle.std.proofs.Common.{◌≡◌, ℕ, suc, ◌+◌, Bool, true, false, Contains, List, [], ◌∷◌, Option, Some, None, slice_get, refl, sym, ap}
+use Rattle.std.proofs.Common.{◌≡◌, ℕ, suc, ◌+◌, Contains, List, [], ◌∷◌, Option, Some, None, slice_get, refl, sym, ap}
 use Rattle.std.proofs.Common.{subst, ◌∙◌, inl, inr, arith}
 use Rattle.std.specs.Prelude.{SomeIff}
 use Rattle.std.specs.List.{flat_map}
 use Rattle.std.specs.Option.{unwrap_or}
 use Rattle.dwz_docs.specs.Lists.{In}
 use Rattle.dwz_docs.specs.Pruning.{bytes_kept, new_number}
-use Rattle.dwz_meanings.specs.Documents.{Compile as CompileKind, Kind, OfType as TypeKind, Partial as PartialKind}
-use Rattle.dwz_seen.proofs.Members.{in_left, in_right}
-use Rattle.dwz_alike.specs.Spots.{Spot}
+use Rattle.dwz_docs.proofs.ListFacts.{in_left, in_right}
 use Rattle.dwz_layout.specs.declared.order.Item.{Item}
 use Rattle.dwz_layout.specs.declared.order.What.{What}
 use Rattle.dwz_layout.specs.declared.order.What.TheVariants.{Import, InChain, Root, Space, Top, Whole}
 use Rattle.dwz_strs.specs.Pruned.{IsPruned, Pruning, moved_in}
 use Rattle.dwz_unit.specs.Rows.{EntryRow}
 use Rattle.dwz_sections.specs.Slots.{moved_or_same}
-use Rattle.dwz_writing.specs.Placing.{Holder, holder_of}
+use Rattle.dwz_writing.specs.Placing.{Holder}
 use Rattle.dwz_places.specs.declared.known.Known.{Known}
 use Rattle.dwz_places.specs.declared.known.Row.{Row}
 use Rattle.dwz_places.specs.declared.order.Sort.{Sort}
-use Rattle.dwz_places.specs.declared.order.Sort.TheVariants.{Compile, OfType, Partial}
 use Rattle.dwz_places.specs.declared.order.UnitItems.{UnitItems}
 use Rattle.dwz_places.specs.declared.walk.Origin.{Origin}
 use Rattle.dwz_places.specs.declared.walk.Origin.TheVariants.{Chained, Imported, OwnRoot, Read as OfRow}
@@ -27,7 +24,7 @@ use Rattle.dwz_places.specs.declared.walk.Slot.{Slot}
 use Rattle.dwz_places.specs.Attributes.{Here, here_of, holder_by, is_common, space_attrs}
 use Rattle.dwz_places.specs.Entries.{items_slots, slot, what_slots}
 use Rattle.dwz_places.specs.Known.{number_of, row_at, space_at}
-use Rattle.dwz_pages.specs.Shown.{HasRow, IsRow, Keys, SortShows}
+use Rattle.dwz_pages.specs.Shown.{HasRow, IsRow}
 use Rattle.dwz_laid.specs.Facts.{AreFacts, Facts}
 use Rattle.dwz_laid.specs.Listed.{AreListed, TextsAt}
 use Rattle.dwz_laid.specs.Unfitted.{HasChained, NamesChained}
@@ -42,20 +39,6 @@ pub in_contains : (xs : List ℕ) (x : ℕ) → In x xs → Contains xs x
 in_contains [] x there = absurd there
 in_contains (y ∷ xs) x (inl e) = (0, omega arith, e)
 in_contains (y ∷ xs) x (inr later) = (let r = in_contains xs x later in let lt = r.1 in (suc r.0, omega (arith, lt), r.2))
-
--- what holds a unit
-pub same_holder : (names : Keys Spot) (b : Bool) (sort : Sort) (kind : Kind Spot) → SortShows names sort kind
-    → holder_of b kind ≡ holder_by b sort
-same_holder names true sort kind shows = refl
-same_holder names false (Compile root) CompileKind shows = refl
-same_holder names false (Compile root) (TypeKind signature main) shows = absurd shows
-same_holder names false (Compile root) PartialKind shows = absurd shows
-same_holder names false (OfType root s main) CompileKind shows = absurd shows
-same_holder names false (OfType root s main) (TypeKind signature key) shows = refl
-same_holder names false (OfType root s main) PartialKind shows = absurd shows
-same_holder names false (Partial place) CompileKind shows = absurd shows
-same_holder names false (Partial place) (TypeKind signature main) shows = absurd shows
-same_holder names false (Partial place) PartialKind shows = refl
 
 -- ---- the slot of an entry, and that of a space of a chain
 

@@ -9,16 +9,15 @@ use Rattle.dwz_graph.specs.declared.file.File.{File}
 use Rattle.dwz_graph.specs.Files.{AreRead, docs_of}
 use Rattle.dwz_graph.proofs.GraphLemmas.{files_read}
 use Rattle.dwz_index.specs.declared.index.Starts.{Starts}
-use Rattle.dwz_index.proofs.UnitBuilding.{units_few}
 use Rattle.dwz_indexes.proofs.RoomLemmas.{many_units}
 use Rattle.dwz_unit.specs.Rows.{units_of as raw_units}
+use Rattle.dwz_unit.proofs.ShownLemmas.{units_few}
 use Rattle.dwz_across.specs.Across.{file_tops, file_units}
-use Rattle.dwz_across.proofs.FileRoom.{tops_few}
+use Rattle.dwz_across.proofs.FileRoom.{no_doc, tops_few}
 use Rattle.dwz_across.proofs.FileWalk.{first_doc}
 use Rattle.dwz_across.proofs.TopRows.{file_many, tops_behind, units_long}
 use Rattle.dwz_few.specs.Few.{entries_in_files}
 use Rattle.dwz_few.proofs.FilesFew.{all_few, all_small}
-use Rattle.dwz_make.proofs.UnitCounts.{no_doc}
 use Rattle.dwz_make.specs.NumberLaws.{EntriesLaw, RoomLaw}
 
 -- these units and their tops, the first of which have these numbers, are so few

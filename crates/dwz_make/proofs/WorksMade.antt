@@ -2,6 +2,7 @@
 use Rattle.std.proofs.Common.{◌≡◌, ◌<◌, ◌^◌, ℕ, Bool, List, length, get_or, Option, None, Some, slice_get, sym, ap, subst, ◌∙◌, arith}
 use Rattle.std.specs.Prelude.{All}
 use Rattle.std.proofs.lemmas.Option.{slice_get-get_or}
+use Rattle.dwz_alike.proofs.FileNumbers.{numbers_long}
 use Rattle.dwz_across.proofs.FileCounts.{are_many}
 use Rattle.dwz_few.proofs.FilesFew.{all_small}
 use Rattle.dwz_graph.specs.declared.file.File.{File}
@@ -18,7 +19,6 @@ use Rattle.dwz_make.specs.declared.prepared.ReadyRun.{ReadyRun}
 use Rattle.dwz_make.specs.Ready.{AreReady}
 use Rattle.dwz_make.specs.declared.work.Work.{Work}
 use Rattle.dwz_make.specs.Works.{IsWork, WorksOf}
-use Rattle.dwz_make.proofs.FilesMade.{numbers_long}
 
 -- what is ready, of few files
 pub works_of : (contents : List (List ℕ)) (prunes : List Bool) (all : ReadyRun) (r : AreReady contents prunes all)

@@ -1,5 +1,5 @@
 -- Something moves only of files that there are, so their flags tell all.
-use Rattle.std.proofs.Common.{◌≡◌, ℕ, zero, suc, ◌+◌, ◌==◌, ◌&&◌, Bool, false, true, List, [], ◌∷◌, length, map, refl, sym, ap, subst, ◌∙◌, inl, inr, eqb-true, arith}
+use Rattle.std.proofs.Common.{◌≡◌, ℕ, zero, suc, ◌+◌, ◌==◌, ◌&&◌, Bool, false, true, List, [], ◌∷◌, length, map, sym, ap, subst, ◌∙◌, inl, inr, eqb-true, arith}
 use Rattle.std.specs.Prelude.{slice_index_or}
 use Rattle.std.proofs.lemmas.Bool.{and_parts}
 use Rattle.std.proofs.lemmas.List.{length-map}
@@ -8,6 +8,7 @@ use Rattle.dwz_meanings.specs.Documents.{Doc}
 use Rattle.dwz_seen.proofs.Members.{any_from}
 use Rattle.dwz_alike.specs.Spots.{file_numbers, tops_of, units_of}
 use Rattle.dwz_alike.proofs.RowLemmas.{top_of}
+use Rattle.dwz_alike.proofs.FileNumbers.{numbers_long}
 use Rattle.dwz_moving.specs.Homes.{Rule}
 use Rattle.dwz_moving.specs.Moves.{Move}
 use Rattle.dwz_same.specs.Units.{changes}
@@ -43,11 +44,5 @@ changed_written rule docs flags are file e =
     let there = changed_there (move_of rule docs) docs file e in
     ap (λ (w : List Bool). slice_index_or w file false) are ∙ flag_at test 0 docs file file (omega arith) there ∙ e
 
--- there are as many flags as files
-numbers_many : (start : ℕ) (docs : List (Doc ℕ)) → length (file_numbers start docs) ≡ length docs
-unfolding file_numbers
-numbers_many start [] = refl
-numbers_many start (doc ∷ docs) = ap suc (numbers_many (suc start) docs)
-
 pub flags_many : (test : ℕ → Bool) (docs : List (Doc ℕ)) → length (map test (file_numbers 0 docs)) ≡ length docs
-flags_many test docs = length-map (file_numbers 0 docs) test ∙ numbers_many 0 docs
+flags_many test docs = length-map (file_numbers 0 docs) test ∙ numbers_long 0 docs

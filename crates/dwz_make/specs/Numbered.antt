@@ -1,7 +1,7 @@
 -- The numbers of the units that are written of planned files.
 use Rattle.std.specs.Prelude.{◌≡◌, ℕ, Bool, List, length, map}
 use Rattle.dwz_meanings.specs.Documents.{Doc}
-use Rattle.dwz_alike.specs.Alike.{IsAlike, Scope}
+use Rattle.dwz_alike.specs.Alike.{IsAlike, TopScope}
 use Rattle.dwz_alike.specs.Spots.{file_numbers, units_of}
 use Rattle.dwz_moving.specs.Homes.{IsChoice, Rule}
 use Rattle.dwz_same.specs.Units.{changes}
@@ -17,6 +17,6 @@ AreFlagsBy rule docs flags = flags ≡ map (changes (move_of rule docs) (units_o
 -- These are the numbers of the units of files, by each rule, in its scope, that has this plan and these flags.
 abbrev pub AreNumbersOf : List (Doc ℕ) → Planned → (written : List Bool) → UnitNumbers → Type 0
 AreNumbersOf docs plan written n =
-    (rule : Rule) (scope : Scope) → IsAlike scope (units_of docs) rule.alike → IsChoice (units_of docs) rule
+    (rule : Rule) (scope : TopScope) → IsAlike scope (units_of docs) rule.alike → IsChoice (units_of docs) rule
     → ShowsPlan rule (units_of docs) (length docs) plan → AreFlagsBy rule docs written
     → AreUnitNumbers (move_of rule docs) (units_of docs) written n.commons n.parts.items n.olds.items

@@ -1,7 +1,7 @@
 -- Where texts stand as they were read: before any are taken out of a file, and before the common file has any.
 use Rattle.std.specs.Prelude.{◌≡◌, ℕ, false, List, [], ◌∷◌, None}
 use Rattle.dwz_meanings.specs.Documents.{DwUnit, Node}
-use Rattle.dwz_seen.specs.Lists.{Each}
+use Rattle.dwz_docs.specs.Lists.{Each}
 use Rattle.dwz_alike.specs.Spots.{Spot}
 use Rattle.dwz_same.specs.Units.{out_units}
 use Rattle.dwz_unit.specs.Rows.{EntryRow}

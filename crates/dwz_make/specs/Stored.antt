@@ -3,7 +3,7 @@ use Rattle.std.specs.Prelude.{◌≡◌, ℕ, ◌<◌, ◌≤◌, Bool, List, le
 use Rattle.dwz_model.specs.declared.fault.Refusal.{Refusal}
 use Rattle.dwz_docs.specs.Values.{AreBytes}
 use Rattle.dwz_meanings.specs.Files.{First, files_meaning, no_files_before}
-use Rattle.dwz_seen.specs.Lists.{Each}
+use Rattle.dwz_docs.specs.Lists.{Each}
 use Rattle.dwz_back.specs.AllFiles.{AreRead}
 use Rattle.dwz_out.specs.Out.{ArePrunable, ReadAs, stored_of}
 use Rattle.dwz_graph.specs.declared.file.File.{File}

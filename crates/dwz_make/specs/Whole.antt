@@ -1,7 +1,7 @@
 -- Where texts stand before any is taken out, once the common file has its texts.
 use Rattle.std.specs.Prelude.{◌≡◌, ℕ, List, ◌∷◌, None, Some, slice_get}
 use Rattle.dwz_meanings.specs.Documents.{Node, node_map}
-use Rattle.dwz_seen.specs.Lists.{Each}
+use Rattle.dwz_docs.specs.Lists.{Each}
 use Rattle.dwz_graph.specs.declared.file.File.{File}
 use Rattle.dwz_index.specs.Index.{Index}
 use Rattle.dwz_unit.specs.Rows.{EntryRow}

@@ -10,7 +10,7 @@ ghost use Rattle.dwz_make.specs.Works.{IsWork};
 use crate::common::CommonTexts;
 use crate::units::{laid_abbrevs, laid_info};
 use crate::work::Work;
-use dwz_model::{Blob, NoMemory, Sections};
+use dwz_model::{Blob, NewSections, NoMemory};
 use std::alloc::Global;
 
 // A section with these bytes, where there are any.
@@ -24,7 +24,7 @@ fn section_of(bytes: Vec<u8>) -> Option<Blob>
 }
 
 // The sections of the common file, with these texts. Its units are the first of all.
-fn sections_of(alloc: Global, work: &Work, texts: CommonTexts) -> Result<Sections, NoMemory>
+fn sections_of(alloc: Global, work: &Work, texts: CommonTexts) -> Result<NewSections, NoMemory>
     requires { (f : Facts) × IsWork f work.now }
     ensures { (f : Facts) → IsWork f work.now → HasTexts (run f) (Some texts) → IfOk result (λ s. s ≡ common_after (run f)) }
 {
@@ -32,7 +32,7 @@ fn sections_of(alloc: Global, work: &Work, texts: CommonTexts) -> Result<Section
     let laid = work.layout.file(0);
     let info = laid_info(alloc, work, 0, units, laid)?;
     let abbrev = laid_abbrevs(alloc, laid)?;
-    Ok(Sections {
+    Ok(NewSections {
         info,
         abbrev,
         strs: section_of(texts.strs),
@@ -49,7 +49,7 @@ pub(crate) fn new_common(
     alloc: Global,
     work: &Work,
     texts: Option<CommonTexts>,
-) -> Result<Option<Sections>, NoMemory>
+) -> Result<Option<NewSections>, NoMemory>
     requires { (f : Facts) × IsWork f work.now × HasTexts (run f) texts }
     ensures { (f : Facts) → IsWork f work.now → HasTexts (run f) texts → IfOk result (IsNewCommon (run f)) }
 {

@@ -9,8 +9,6 @@ mod bytes;
 mod common;
 mod common_sections;
 mod counts;
-#[cfg(test)]
-mod counts_tests;
 mod lanes;
 mod laws;
 mod listed;
@@ -21,27 +19,23 @@ mod narrow;
 mod numbers;
 mod ordered;
 mod places;
-#[cfg(test)]
-mod places_tests;
 mod prepared;
 mod pruned;
 mod ranks;
-#[cfg(test)]
-mod ranks_tests;
 mod sections;
 mod settled;
 mod units;
 mod work;
 
-pub(crate) use counts::number_units;
+pub use counts::number_units;
 pub use laws::{
     facts_laws, moved_laws, refused_laws, room_laws, spot_laws, stood_laws, stored_laws,
 };
 pub use made::{Made, make_files};
 pub(crate) use moving::with_moved_texts;
 pub(crate) use ordered::OrderedFiles;
-pub(crate) use places::unit_places;
+pub use places::unit_places;
 pub(crate) use prepared::{PreparedFiles, prepare_files};
 pub(crate) use pruned::{Written, prune_files};
-pub(crate) use ranks::{firsts_of, ranks_of};
+pub use ranks::{firsts_of, ranks_of};
 pub(crate) use settled::SettledRun;

@@ -19,9 +19,9 @@ use dwz_after::NewFile;
 use dwz_gate::Gate;
 use dwz_graph::Graph;
 use dwz_known::{starts, tops};
-use dwz_model::{NoMemory, Sections};
+use dwz_model::{NewSections, NoMemory};
 use dwz_places::Layout;
-use dwz_plan::Scope;
+use dwz_plan::Sharing;
 use std::alloc::Global;
 use std::thread::Threads;
 
@@ -29,7 +29,7 @@ use std::thread::Threads;
 #[derive(Debug, Drop)]
 pub struct Made {
     /// The sections of the common file, if there is one.
-    pub common: Option<Sections>,
+    pub common: Option<NewSections>,
     /// For each file what is new in it, or None where nothing of it moves.
     pub files: Vec<Option<NewFile>>,
     /// How many partial units they have together.
@@ -39,7 +39,7 @@ pub struct Made {
 // What is laid of files: the sections of the common file, if there is one, and what is new in each file.
 #[derive(Drop)]
 struct Laid {
-    common: Option<Sections>,
+    common: Option<NewSections>,
     files: Vec<Option<NewFile>>,
 }
 
@@ -84,7 +84,7 @@ pub fn make_files<R: Threads + Sync, G: Gate>(
     contents: &[Vec<u8>],
     graph: &Graph,
     prunes: &[bool],
-    scope: Scope,
+    scope: Sharing,
     workers: u32,
     gate: &G,
 ) -> Result<Made, NoMemory>

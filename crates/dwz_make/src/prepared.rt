@@ -2,7 +2,7 @@
 
 ghost use Rattle.std.specs.Prelude.{◌≡◌, ◌<◌, ◌≤◌, ◌^◌, length, map, IfOk};
 ghost use Rattle.dwz_docs.specs.Values.{AreBytes};
-ghost use Rattle.dwz_seen.specs.Lists.{Each};
+ghost use Rattle.dwz_docs.specs.Lists.{Each};
 ghost use Rattle.dwz_graph.specs.Files.{AreKept, docs_of};
 ghost use Rattle.dwz_out.specs.Out.{ArePrunable};
 ghost use Rattle.dwz_make.specs.Ready.{AreReady};
@@ -16,7 +16,7 @@ use dwz_gate::Gate;
 use dwz_graph::{File, Graph};
 use dwz_model::NoMemory;
 use dwz_places::Known;
-use dwz_plan::Scope;
+use dwz_plan::Sharing;
 use dwz_uses::PrunedFile;
 use std::alloc::Global;
 use std::thread::Threads;
@@ -69,7 +69,7 @@ pub fn prepare_files<'u, 'a, R: Threads + Sync, G: Gate>(
     contents: &[Vec<u8>],
     graph: &'u Graph<'a>,
     prunes: &[bool],
-    scope: Scope,
+    scope: Sharing,
     workers: u32,
     gate: &G,
 ) -> Result<ReadyRun<'u, 'a>, NoMemory>

@@ -15,7 +15,7 @@ use crate::numbers::{address_ranges, lists, offsets_section, strs_section};
 use crate::units::{abbrev_section, info_section, units_at};
 use crate::work::Work;
 use dwz_after::NewFile;
-use dwz_model::{NoMemory, Sections};
+use dwz_model::{NewSections, NoMemory};
 use std::alloc::Global;
 
 // The sections of a file, whose units begin there after.
@@ -24,7 +24,7 @@ fn sections_of(
     work: &Work,
     moved: &Moved,
     units_at: &[u64],
-) -> Result<Sections, NoMemory>
+) -> Result<NewSections, NoMemory>
     requires moved { (f : Facts) × IsMoved f work.now moved.now }
     requires many { length units_at.now ≡ length (raw_units moved.now.file.now.units) }
     ensures { (f : Facts) → IsMoved f work.now moved.now → HaveUnitPlaces f moved.now units_at.now
@@ -38,7 +38,7 @@ fn sections_of(
     let offsets = offsets_section(alloc, old.offsets, pruned, moved.number)?;
     let loclists = lists(alloc, work, moved, units_at)?;
     let aranges = address_ranges(alloc, work, moved, units_at)?;
-    Ok(Sections {
+    Ok(NewSections {
         info,
         abbrev,
         strs,

@@ -8,7 +8,7 @@ use dwz_graph::Graph;
 use dwz_index::Index;
 use dwz_indexes::indexes;
 use dwz_model::NoMemory;
-use dwz_plan::Scope;
+use dwz_plan::Sharing;
 use dwz_planned::plan_files;
 use dwz_ready::{SettledFiles, settle_files};
 use std::alloc::Global;
@@ -28,7 +28,7 @@ pub(crate) fn settle_run<R: Threads + Sync, G: Gate>(
     rt: &R,
     alloc: Global,
     graph: &Graph,
-    scope: Scope,
+    scope: Sharing,
     workers: u32,
     gate: &G,
 ) -> Result<SettledRun, NoMemory>

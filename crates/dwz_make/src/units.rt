@@ -25,7 +25,8 @@ pub(crate) fn laid_info(
     laid: &FileLayout,
 ) -> Result<Blob, NoMemory>
     ensures { let layout = work.now.layout.now in
-        IfOk result (λ info. info ≡ units_page work.now.prepared.now.known layout.places layout.roots first units.now laid.now.units.items) }
+        IfOk result (λ info. info ≡ units_page work.now.prepared.now.known layout.places layout.roots first units.now
+        laid.now.units.items) }
 {
     let known = &work.prepared.known;
     let info = info_of(alloc, known, work.layout.spots(), first, units, laid)?;

@@ -6,6 +6,7 @@ use Rattle.dwz_alike.specs.Alike.{any_attr, is_in, names_in_unit, operand_names}
 use Rattle.dwz_alike.specs.Spots.{Spot}
 use Rattle.dwz_docs.specs.Lists.{In}
 use Rattle.dwz_docs.specs.Units.{RawUnit, entries_in}
+use Rattle.dwz_docs.proofs.ListFacts.{in_map}
 use Rattle.dwz_graph.specs.declared.file.File.{File}
 use Rattle.dwz_index.specs.Index.{Index}
 use Rattle.dwz_index.specs.Names.{top_in}
@@ -21,7 +22,7 @@ use Rattle.dwz_resolve.specs.Resolved.{AreEntries, place_at}
 use Rattle.dwz_scan.specs.Known.{in_unit, tops_of_refs}
 use Rattle.dwz_scan.specs.Marked.{expression_names, expression_pins}
 use Rattle.dwz_scan.proofs.NameMarks.{is_top}
-use Rattle.dwz_seen.proofs.Members.{in_map, in_map_from}
+use Rattle.dwz_seen.proofs.Members.{in_map_from}
 use Rattle.dwz_unit.specs.Rows.{units_of as raw_units}
 use Rattle.dwz_across.specs.Across.{IsFileAmong, file_units, name_at}
 use Rattle.dwz_marks.specs.Lists.{entries_of, uleb_tops}
@@ -43,7 +44,8 @@ module _ (top : ListOperand → Option ℕ) (t : ℕ) where
   ulebs_in : (rows : List ListOperand) → In (Some t) (uleb_tops rows (map top rows)) ↔ OneOf rows Uleb
   ulebs_in [] = (λ h. absurd h, λ h. absurd h.1)
   ulebs_in (o ∷ rows) = by o.uleb refl (ulebs_in rows) where
-    by : (b : Bool) → o.uleb ≡ b → In (Some t) (uleb_tops rows (map top rows)) ↔ OneOf rows Uleb → In (Some t) (if b then top o ∷ uleb_tops rows (map top rows) else uleb_tops rows (map top rows)) ↔ OneOf (o ∷ rows) Uleb
+    by : (b : Bool) → o.uleb ≡ b → In (Some t) (uleb_tops rows (map top rows)) ↔ OneOf rows Uleb
+        → In (Some t) (if b then top o ∷ uleb_tops rows (map top rows) else uleb_tops rows (map top rows)) ↔ OneOf (o ∷ rows) Uleb
     by true e more = (
       λ h. ⊎_elim (λ x. (o, inl refl, (e, x))) (λ x. (let r = more.0 x in (r.0, inr r.1, r.2))) h,
       λ h. ⊎_elim (λ x. inl (ap top x ∙ h.2.1)) (λ x. inr (more.1 (h.0, x, h.2))) h.1,
@@ -121,7 +123,10 @@ module _ (contents : List (List ℕ)) (file : ℕ) (bytes : List ℕ) (f : File)
       let exprs = any_named (expression_pins t) name doc.units in
       let lists = lists_pin (is_in t) in
       let tops = ulebs_in (λ (o : ListOperand). top_in (name (place_at raw o.entry))) t rows in
-      let each = same_rows (λ (o : ListOperand). (let r = is_top t (name (place_at raw o.entry)) in (λ (h : (o.uleb ≡ true) × (is_in t (name (place_at raw o.entry)) ≡ true)). (h.0, r.0 h.1), λ (h : (o.uleb ≡ true) × (top_in (name (place_at raw o.entry)) ≡ Some t)). (h.0, r.1 h.1)))) rows in
+      let each = same_rows (λ (o : ListOperand). (let r = is_top t (name (place_at raw o.entry)) in (
+        λ (h : (o.uleb ≡ true) × (is_in t (name (place_at raw o.entry)) ≡ true)). (h.0, r.0 h.1),
+        λ (h : (o.uleb ≡ true) × (top_in (name (place_at raw o.entry)) ≡ Some t)). (h.0, r.1 h.1),
+      ))) rows in
       let same = ap (uleb_tops rows) (map_map (λ (i : ℕ). top_in (name (place_at raw i))) rows) in (
         λ h. ⊎_elim (λ a. inl (exprs ∙ a)) (λ b. inr (subst (λ (w : List (Option ℕ)). In (Some t) w) (sym same) (tops.1 (each.0 (lists.0 b))))) (either.0 (sym whole ∙ h)),
         λ h. whole ∙ either.1 (⊎_elim (λ a. inl (sym exprs ∙ a)) (λ b. inr (lists.1 (each.1 (tops.0 (subst (λ (w : List (Option ℕ)). In (Some t) w) same b))))) h),

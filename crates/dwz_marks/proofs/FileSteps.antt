@@ -31,7 +31,8 @@ module _ (contents : List (List ℕ)) (file : ℕ) (bytes : List ℕ) (f : File)
   abbrev name : ℕ → Spot
   name = name_at x.starts doc
 
-  pub knows_at : (refs starts : List ℕ) (into : List (Option ℕ)) → refs ≡ f.resolved.refs.items → starts ≡ f.resolved.starts.items → into ≡ tops_of_refs name raw refs → KnowsRefs (around_of bytes raw) raw name f.resolved.refs.items starts into
+  pub knows_at : (refs starts : List ℕ) (into : List (Option ℕ)) → refs ≡ f.resolved.refs.items → starts ≡ f.resolved.starts.items → into ≡ tops_of_refs name raw refs
+      → KnowsRefs (around_of bytes raw) raw name f.resolved.refs.items starts into
   knows_at refs starts into r s i = record {
     parted = subst (λ (w : List ℕ). AreParted (around_of bytes raw) raw (entries_in raw) f.resolved.refs.items w) (sym s) is.kept.read.parts;
     entries = is.kept.read.within;
@@ -48,12 +49,15 @@ module _ (contents : List (List ℕ)) (file : ℕ) (bytes : List ℕ) (f : File)
       → MarksIf (λ t. list_any (in_unit (any_attr (expression_names t))) (map (unit_map name) doc.units) ≡ true) old mid → Marks (tops_of_refs name raw (entries_of rows)) mid new
       → MarksIf (λ t. list_any (names_in_unit t) (file_units x.starts file doc) ≡ true) old new
   file_any rows e old mid new a b =
-      marks_then (λ t. list_any (in_unit (any_attr (expression_names t))) (map (unit_map name) doc.units) ≡ true) (λ t. In (Some t) (tops_of_refs name raw (entries_of f.resolved.operands.items))) (λ t. list_any (names_in_unit t) (file_units x.starts file doc) ≡ true) old mid new a
+      marks_then (λ t. list_any (in_unit (any_attr (expression_names t))) (map (unit_map name) doc.units) ≡ true) (λ t. In (Some t) (tops_of_refs name raw (entries_of f.resolved.operands.items)))
+      (λ t. list_any (names_in_unit t) (file_units x.starts file doc) ≡ true) old mid new a
       (subst (λ (w : List ListOperand). Marks (tops_of_refs name raw (entries_of w)) mid new) e b) (names_all contents file bytes f x is)
 
   pub file_uleb : (rows : List ListOperand) → rows ≡ f.resolved.operands.items → (old mid new : List Bool)
       → MarksIf (λ t. list_any (in_unit (any_attr (expression_pins t))) (map (unit_map name) doc.units) ≡ true) old mid → Marks (uleb_tops rows (tops_of_refs name raw (entries_of rows))) mid new
       → MarksIf (λ t. list_any (pinned_in (is_in t)) (file_units x.starts file doc) ≡ true) old new
   file_uleb rows e old mid new a b =
-      marks_then (λ t. list_any (in_unit (any_attr (expression_pins t))) (map (unit_map name) doc.units) ≡ true) (λ t. In (Some t) (uleb_tops f.resolved.operands.items (tops_of_refs name raw (entries_of f.resolved.operands.items)))) (λ t. list_any (pinned_in (is_in t)) (file_units x.starts file doc) ≡ true) old mid new a
+      marks_then (λ t. list_any (in_unit (any_attr (expression_pins t))) (map (unit_map name) doc.units) ≡ true)
+      (λ t. In (Some t) (uleb_tops f.resolved.operands.items (tops_of_refs name raw (entries_of f.resolved.operands.items))))
+      (λ t. list_any (pinned_in (is_in t)) (file_units x.starts file doc) ≡ true) old mid new a
       (subst (λ (w : List ListOperand). Marks (uleb_tops w (tops_of_refs name raw (entries_of w))) mid new) e b) (pins_all contents file bytes f x is)

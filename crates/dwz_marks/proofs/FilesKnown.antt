@@ -2,6 +2,7 @@
 use Rattle.std.proofs.Common.{◌≡◌, ℕ, ◌+◌, ◌<◌, ◌≤◌, ◌^◌, Bool, true, false, List, Some, length, get_or, slice_get, sym, ap, subst, ◌∙◌, arith}
 use Rattle.std.specs.Prelude.{replicate}
 use Rattle.std.specs.List.{list_any}
+use Rattle.dwz_docs.proofs.ListFacts.{item_got}
 use Rattle.dwz_alike.specs.Spots.{FileUnit, Spot, units_of}
 use Rattle.dwz_graph.specs.declared.file.File.{File}
 use Rattle.dwz_graph.specs.Files.{AreKept, docs_of}
@@ -16,7 +17,6 @@ use Rattle.dwz_across.specs.AcrossLaws.{IsAmong}
 use Rattle.dwz_across.proofs.FileCounts.{all_ends, are_many, starts_are}
 use Rattle.dwz_across.proofs.FileEntries.{all_entries, few_entries}
 use Rattle.dwz_across.proofs.FileWalk.{is_among}
-use Rattle.dwz_across.proofs.ListGets.{item_got}
 use Rattle.dwz_across.proofs.TopRows.{units_long}
 use Rattle.dwz_marks.proofs.MarkSteps.{MarkedBy, files_first, files_last, files_next, starts_zero}
 use Rattle.dwz_marks.specs.Named.{AreFlags}
@@ -32,8 +32,10 @@ files_begin docs indexes test marks e =
     let count = (starts_at docs indexes (length indexes)).top in
     subst (λ (s : Starts). MarkedBy units test count s.unit marks) (sym (starts_zero docs indexes)) (files_first units test count marks e)
 
-pub files_all : (contents : List (List ℕ)) (files : List File) (indexes : List Index) (k : ℕ) → AreKept contents files → AreIndexes (docs_of contents) indexes → length files ≤ k → k ≤ length files → (test : ℕ → FileUnit Spot → Bool) (marks : List Bool)
-    → MarkedBy (units_of (docs_of contents)) test (starts_at (docs_of contents) indexes (length indexes)).top (starts_at (docs_of contents) indexes k).unit marks → AreFlags (units_of (docs_of contents)) (λ n. list_any (test n) (units_of (docs_of contents))) marks
+pub files_all : (contents : List (List ℕ)) (files : List File) (indexes : List Index) (k : ℕ) → AreKept contents files → AreIndexes (docs_of contents) indexes → length files ≤ k → k ≤ length files
+    → (test : ℕ → FileUnit Spot → Bool) (marks : List Bool)
+    → MarkedBy (units_of (docs_of contents)) test (starts_at (docs_of contents) indexes (length indexes)).top (starts_at (docs_of contents) indexes k).unit marks
+    → AreFlags (units_of (docs_of contents)) (λ n. list_any (test n) (units_of (docs_of contents))) marks
 files_all contents files indexes k kept is high low test marks h =
     let many = are_many contents files indexes kept is in
     let e : k ≡ length indexes = omega arith in

@@ -7,14 +7,17 @@ use Rattle.dwz_docs.specs.Lists.{In}
 use Rattle.dwz_docs.specs.Trees.{End, Entry, Forest}
 use Rattle.dwz_docs.specs.Units.{RawUnit}
 use Rattle.dwz_docs.specs.Texts.{slot, slot_place}
+use Rattle.dwz_docs.proofs.ListFacts.{in_cases, in_left, in_right}
 use Rattle.dwz_meanings.specs.Documents.{Attr, DwUnit, Entries, Plain, Sec, Value, only}
 use Rattle.dwz_meanings.specs.LocLists.{LocList, SpellsList}
-use Rattle.dwz_meanings.specs.Meanings.{Around, Class, IfSo, IsFileBy, IsListBySlot, IsLocList, MeanAttrs, MeanEntries, MeanUnits, MeansAs, MeansAttr, OfAddress, OfBlock, OfCommonEntry, OfCommonText, OfConstant, OfExpression, OfFlag, OfIndex, OfInfoEntry, OfListIndex, OfOffset, OfSignature, OfText, OfTextBySlot, OfTextInLineStr, OfTextInStr, OfUnitEntry, Scope, Unread, class_of, constant_value, expr_context, list_read, loc_value, loclists_base, names_file, names_list, number_of, offset_of, scope_of, stmt_list, without_siblings}
+use Rattle.dwz_meanings.specs.Meanings.{Around, Class, IfSo, IsFileBy, IsListBySlot, IsLocList, MeanAttrs, MeanEntries, MeanUnits, MeansAs, MeansAttr, OfAddress, OfBlock, OfCommonEntry, OfCommonText}
+use Rattle.dwz_meanings.specs.Meanings.{OfConstant, OfExpression, OfFlag, OfIndex, OfInfoEntry, OfListIndex, OfOffset, OfSignature, OfText, OfTextBySlot, OfTextInLineStr, OfTextInStr, OfUnitEntry}
+use Rattle.dwz_meanings.specs.Meanings.{Scope, Unread, class_of, constant_value, expr_context, list_read, loc_value, loclists_base, names_file, names_list, number_of, offset_of, scope_of, stmt_list}
+use Rattle.dwz_meanings.specs.Meanings.{without_siblings}
 use Rattle.dwz_meanings.specs.NamedLists.{AnyEntryNames, AnyNames, AnyUnitNames, NamesAs, NamesList, by_base, by_offset, list_of_attr, lists_as, lists_of_units, named_by}
 use Rattle.dwz_meanings.specs.Sequences.{StandsFrom}
 use Rattle.dwz_meanings.specs.Shared.{NamedList}
 use Rattle.dwz_meanings.proofs.NamedLemmas.{attr_is, units_name}
-use Rattle.dwz_seen.proofs.Members.{in_cases, in_left, in_right}
 use Rattle.dwz_marks.proofs.UnitAttrs.{entries_attrs, in_list, unit_attrs, units_attrs}
 
 if_true : {P : Type 0} (Q : Type 0) (b : Bool) → b ≡ true → IfSo b P Q → P
@@ -191,8 +194,10 @@ module _ (around : Around ℕ) where
   units_found (u ∷ raw) [] m b there e = absurd m
   units_found (u ∷ raw) (v ∷ said) m b there e = ⊎_elim
       (λ own. ⊎_elim
-      (λ root. (let w = attrs_found (scope_of around u) (without_siblings u.root.attrs) v.root.attrs m.0.root.attrs b root e in record { list = w.list; names = inl (inl w.names); is = record { u = u; in_raw = inl refl; is = w.is } }))
-      (λ below. (let w = entries_found (scope_of around u) u.below v.below m.0.below b below e in record { list = w.list; names = inl (inr w.names); is = record { u = u; in_raw = inl refl; is = w.is } }))
+      (λ root. (let w = attrs_found (scope_of around u) (without_siblings u.root.attrs) v.root.attrs m.0.root.attrs b root e in
+      record { list = w.list; names = inl (inl w.names); is = record { u = u; in_raw = inl refl; is = w.is } }))
+      (λ below. (let w = entries_found (scope_of around u) u.below v.below m.0.below b below e in
+      record { list = w.list; names = inl (inr w.names); is = record { u = u; in_raw = inl refl; is = w.is } }))
       (in_cases b v.root.attrs (entries_attrs v.below) own))
       (λ later. (let w = units_found raw said m.1 b later e in record { list = w.list; names = inr w.names; is = record { u = w.is.u; in_raw = inr w.is.in_raw; is = w.is.is } }))
       (in_cases b (v.root.attrs ++ entries_attrs v.below) (units_attrs said) there)
@@ -213,11 +218,14 @@ module _ (around : Around ℕ) where
   unfolding entries_attrs
   entries_name s End g m l n = absurd n
   entries_name s (Entry r f f') End m l n = absurd m
-  entries_name s (Entry r f f') (Entry d c n') m l (inl is) = let w = attrs_name s (without_siblings r.attrs) d.attrs m.0.attrs l is in record { b = w.b; there = in_left w.b d.attrs (entries_attrs c ++ entries_attrs n') w.there; is = w.is }
+  entries_name s (Entry r f f') (Entry d c n') m l (inl is) = let w = attrs_name s (without_siblings r.attrs) d.attrs m.0.attrs l is in
+      record { b = w.b; there = in_left w.b d.attrs (entries_attrs c ++ entries_attrs n') w.there; is = w.is }
   entries_name s (Entry r f f') (Entry d c n') m l (inr (inl below)) =
-      let w = entries_name s f c m.1 l below in record { b = w.b; there = in_right w.b d.attrs (entries_attrs c ++ entries_attrs n') (in_left w.b (entries_attrs c) (entries_attrs n') w.there); is = w.is }
+      let w = entries_name s f c m.1 l below in
+      record { b = w.b; there = in_right w.b d.attrs (entries_attrs c ++ entries_attrs n') (in_left w.b (entries_attrs c) (entries_attrs n') w.there); is = w.is }
   entries_name s (Entry r f f') (Entry d c n') m l (inr (inr later)) =
-      let w = entries_name s f' n' m.2 l later in record { b = w.b; there = in_right w.b d.attrs (entries_attrs c ++ entries_attrs n') (in_right w.b (entries_attrs c) (entries_attrs n') w.there); is = w.is }
+      let w = entries_name s f' n' m.2 l later in
+      record { b = w.b; there = in_right w.b d.attrs (entries_attrs c ++ entries_attrs n') (in_right w.b (entries_attrs c) (entries_attrs n') w.there); is = w.is }
 
   record NamesIn (raw : List RawUnit) (said : List (DwUnit ℕ)) (l : NamedList) : Type 0 where
     b : Attr ℕ
@@ -230,10 +238,20 @@ module _ (around : Around ℕ) where
   units_names (u ∷ raw) [] m l n = absurd m
   units_names (u ∷ raw) (v ∷ said) m l (inl (inl is)) =
       let w = attrs_name (scope_of around u) (without_siblings u.root.attrs) v.root.attrs m.0.root.attrs l is in
-      record { b = w.b; there = in_left w.b (v.root.attrs ++ entries_attrs v.below) (units_attrs said) (in_left w.b v.root.attrs (entries_attrs v.below) w.there); is = record { u = u; in_raw = inl refl; is = w.is } }
+      record {
+        b = w.b;
+        there = in_left w.b (v.root.attrs ++ entries_attrs v.below) (units_attrs said) (in_left w.b v.root.attrs (entries_attrs v.below) w.there);
+        is =
+            record { u = u; in_raw = inl refl; is = w.is };
+      }
   units_names (u ∷ raw) (v ∷ said) m l (inl (inr below)) =
       let w = entries_name (scope_of around u) u.below v.below m.0.below l below in
-      record { b = w.b; there = in_left w.b (v.root.attrs ++ entries_attrs v.below) (units_attrs said) (in_right w.b v.root.attrs (entries_attrs v.below) w.there); is = record { u = u; in_raw = inl refl; is = w.is } }
+      record {
+        b = w.b;
+        there = in_left w.b (v.root.attrs ++ entries_attrs v.below) (units_attrs said) (in_right w.b v.root.attrs (entries_attrs v.below) w.there);
+        is =
+            record { u = u; in_raw = inl refl; is = w.is };
+      }
   units_names (u ∷ raw) (v ∷ said) m l (inr later) =
       let w = units_names raw said m.1 l later in
       record { b = w.b; there = in_right w.b (v.root.attrs ++ entries_attrs v.below) (units_attrs said) w.there; is = record { u = w.is.u; in_raw = inr w.is.in_raw; is = w.is.is } }

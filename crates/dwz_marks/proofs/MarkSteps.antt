@@ -1,10 +1,12 @@
 -- What is marked after one step more.
-use Rattle.std.proofs.Common.{◌≡◌, ◌↔◌, ◌⊎◌, ℕ, zero, suc, ◌+◌, ◌<◌, ◌≤◌, Bool, true, false, List, [], ◌∷◌, ◌++◌, length, map, take, get_or, Option, Some, None, Ok, slice_get, refl, sym, ap, subst, ◌∙◌, inl, inr, ⊎_elim, arith, if◌then◌else◌}
+use Rattle.std.proofs.Common.{◌≡◌, ◌↔◌, ◌⊎◌, ℕ, zero, suc, ◌+◌, ◌<◌, ◌≤◌, Bool, true, false, List, [], ◌∷◌, ◌++◌, length, map, take, get_or, Option, Some, None, Ok, slice_get, refl, sym, ap, subst}
+use Rattle.std.proofs.Common.{◌∙◌, inl, inr, ⊎_elim, arith, if◌then◌else◌}
 use Rattle.std.specs.Prelude.{◌||◌, replicate, slice_index_or}
 use Rattle.std.specs.List.{list_any}
 use Rattle.std.proofs.lemmas.Bool.{false≢true, or_cases}
 use Rattle.std.proofs.lemmas.List.{append_assoc, map-append, replicate-append-replicate, take_all, take_more}
 use Rattle.std.proofs.lemmas.List.Folds.{list_any-append}
+use Rattle.std.proofs.lemmas.Option.{get_or_from_slice_get}
 use Rattle.dwz_alike.specs.Alike.{any_attr}
 use Rattle.dwz_alike.specs.Spots.{FileUnit, Spot, tops_of}
 use Rattle.dwz_alike.proofs.Targets.{or_first, or_second}
@@ -12,17 +14,18 @@ use Rattle.dwz_docs.specs.Units.{RawUnit}
 use Rattle.dwz_meanings.specs.Documents.{Attr, Doc, DwUnit, unit_map}
 use Rattle.dwz_meanings.specs.Meanings.{Around, MeanUnits, unit_meaning, units_meaning}
 use Rattle.dwz_meanings.proofs.MeaningLemmas.{units_agree}
+use Rattle.dwz_meanings.proofs.UnitMeans.{unit_meant}
 use Rattle.dwz_across.specs.Across.{IsPart, starts_at, starts_from}
 use Rattle.dwz_index.specs.Index.{Index}
 use Rattle.dwz_indexes.specs.Indexed.{first_starts}
-use Rattle.dwz_across.proofs.FileEntries.{unit_meant}
-use Rattle.dwz_across.proofs.ListGets.{get_there, got_below, got_index, take_part}
+use Rattle.dwz_across.proofs.ListGets.{take_part}
 use Rattle.dwz_marks.specs.Named.{AreFlags}
 use Rattle.dwz_scan.specs.Known.{in_unit, tops_of_refs}
 use Rattle.dwz_docs.specs.Lists.{In}
+use Rattle.dwz_docs.proofs.ListFacts.{got_below, got_there, in_cases, in_left, in_right, replicate_long}
+use Rattle.dwz_docs.proofs.CaseFacts.{same_bool}
 use Rattle.dwz_resolve.specs.declared.operands.ListOperand.{ListOperand}
 use Rattle.dwz_scan.specs.Marked.{Marks, MarksIf, if_asked}
-use Rattle.dwz_seen.proofs.Members.{in_cases, in_left, in_right}
 use Rattle.dwz_spread.specs.Spreading.{IsMarked}
 use Rattle.dwz_marks.specs.Lists.{entries_of, uleb_tops}
 
@@ -57,8 +60,11 @@ marks_same Is All old new a all = record {
 
 pub any_more : {X : Type 0} (test : X → Bool) (xs ys zs : List X) → zs ≡ xs ++ ys → (list_any test zs ≡ true) ↔ ((list_any test xs ≡ true) ⊎ (list_any test ys ≡ true))
 any_more test xs ys zs e =
-    let same = ap (list_any test) e ∙ list_any-append test xs ys in
-    (λ h. or_cases (list_any test xs) (list_any test ys) (sym same ∙ h), λ h. ⊎_elim (λ x. same ∙ or_first (list_any test xs) (list_any test ys) x) (λ x. same ∙ or_second (list_any test xs) (list_any test ys) x) h)
+    let same = ap (list_any test) e ∙ list_any-append test xs ys in (
+      λ h. or_cases (list_any test xs) (list_any test ys) (sym same ∙ h),
+      λ h. ⊎_elim (λ x. same ∙ or_first (list_any test xs) (list_any test ys) x)
+          (λ x. same ∙ or_second (list_any test xs) (list_any test ys) x) h,
+    )
 
 pub any_one : (b : Bool) → ((b || false) ≡ true) ↔ (b ≡ true)
 any_one true = (λ h. h, λ h. h)
@@ -94,28 +100,33 @@ first_any tops marks = marks_none (λ n. In (Some n) (take 0 tops)) (λ n h. h) 
 pub first_uleb : (rows : List ListOperand) (tops : List (Option ℕ)) (marks : List Bool) → Marks (uleb_tops (take 0 rows) (take 0 tops)) marks marks
 first_uleb rows tops marks = marks_none (λ n. In (Some n) (uleb_tops (take 0 rows) (take 0 tops))) (λ n h. h) marks
 
-pub next_any : (tops : List (Option ℕ)) (k : ℕ) (t : Option ℕ) → k < length tops → t ≡ slice_index_or tops k None → (old now new : List Bool) → Marks (take k tops) old now → Marks (if_asked true t) now new → Marks (take (k + 1) tops) old new
+pub next_any : (tops : List (Option ℕ)) (k : ℕ) (t : Option ℕ) → k < length tops → t ≡ slice_index_or tops k None → (old now new : List Bool) → Marks (take k tops) old now
+    → Marks (if_asked true t) now new → Marks (take (k + 1) tops) old new
 next_any tops k t lt e old now new a b =
     let more = take_more tops k None lt ∙ ap (λ (w : Option ℕ). take k tops ++ w ∷ []) (sym e) in
-    marks_then (λ n. In (Some n) (take k tops)) (λ n. In (Some n) (t ∷ [])) (λ n. In (Some n) (take (k + 1) tops)) old now new a b (λ n. in_more (Some n) (take k tops) (t ∷ []) (take (k + 1) tops) more)
+    marks_then (λ n. In (Some n) (take k tops)) (λ n. In (Some n) (t ∷ [])) (λ n. In (Some n) (take (k + 1) tops)) old now new a b
+    (λ n. in_more (Some n) (take k tops) (t ∷ []) (take (k + 1) tops) more)
 
 pub next_uleb : (rows : List ListOperand) (tops : List (Option ℕ)) (k : ℕ) (d : ListOperand) (t : Option ℕ) → k < length rows → k < length tops → t ≡ slice_index_or tops k None
-    → (old now new : List Bool) → Marks (uleb_tops (take k rows) (take k tops)) old now → Marks (if_asked (get_or rows k d).uleb t) now new → Marks (uleb_tops (take (k + 1) rows) (take (k + 1) tops)) old new
+    → (old now new : List Bool) → Marks (uleb_tops (take k rows) (take k tops)) old now → Marks (if_asked (get_or rows k d).uleb t) now new
+    → Marks (uleb_tops (take (k + 1) rows) (take (k + 1) tops)) old new
 next_uleb rows tops k d t low lt e old now new a b =
-    let here = get_there rows k low in
+    let here = got_there rows k low in
     let row = get_or rows k d in
-    let is = got_index rows k here.0 d here.1 in
-    let there = get_there tops k lt in
-    let same = e ∙ got_index tops k there.0 None there.1 in
+    let is = get_or_from_slice_get rows k here.0 d here.1 in
+    let there = got_there tops k lt in
+    let same = e ∙ get_or_from_slice_get tops k there.0 None there.1 in
     let one : k + 1 ≡ suc k = omega arith in
     let more = (λ i. uleb_tops (take (one i) rows) (take (one i) tops)) ∙ ulebs_more rows tops k row t (here.1 ∙ ap (λ (o : ListOperand). Some o) (sym is)) (there.1 ∙ ap Some (sym same)) in
-    marks_then (λ n. In (Some n) (uleb_tops (take k rows) (take k tops))) (λ n. In (Some n) (if_asked row.uleb t)) (λ n. In (Some n) (uleb_tops (take (k + 1) rows) (take (k + 1) tops))) old now new a b
+    marks_then (λ n. In (Some n) (uleb_tops (take k rows) (take k tops))) (λ n. In (Some n) (if_asked row.uleb t)) (λ n. In (Some n) (uleb_tops (take (k + 1) rows) (take (k + 1) tops))) old now new a
+    b
     (λ n. in_more (Some n) (uleb_tops (take k rows) (take k tops)) (if_asked row.uleb t) (uleb_tops (take (k + 1) rows) (take (k + 1) tops)) more)
 
 pub last_any : (tops : List (Option ℕ)) (k : ℕ) → length tops ≤ k → (old new : List Bool) → Marks (take k tops) old new → Marks tops old new
 last_any tops k le old new h = subst (λ (w : List (Option ℕ)). Marks w old new) (take_all k tops le) h
 
-pub last_uleb : (rows : List ListOperand) (tops : List (Option ℕ)) (k : ℕ) → length rows ≤ k → length tops ≤ k → (old new : List Bool) → Marks (uleb_tops (take k rows) (take k tops)) old new → Marks (uleb_tops rows tops) old new
+pub last_uleb : (rows : List ListOperand) (tops : List (Option ℕ)) (k : ℕ) → length rows ≤ k → length tops ≤ k → (old new : List Bool) → Marks (uleb_tops (take k rows) (take k tops)) old new
+    → Marks (uleb_tops rows tops) old new
 last_uleb rows tops k low le old new h = subst (λ (w : List (Option ℕ)). Marks w old new) (λ i. uleb_tops (take_all k rows low i) (take_all k tops le i)) h
 
 pub tops_long : (rows : List ListOperand) (name : ℕ → Spot) (raw : List RawUnit) → length (tops_of_refs name raw (entries_of rows)) ≡ length rows
@@ -136,15 +147,16 @@ module _ (around : Around ℕ) (raw : List RawUnit) (said : List (DwUnit ℕ)) (
   units_first marks = marks_none (InUnits 0) (λ n e. false≢true e) marks
 
   pub units_next : (k : ℕ) → k < length raw → (old now new : List Bool) → MarksIf (InUnits k) old now
-      → ((u : RawUnit) (v : DwUnit ℕ) → slice_get raw k ≡ Some u → unit_meaning around u ≡ Ok v → MarksIf (λ t. in_unit (any_attr (test t)) (unit_map name v) ≡ true) now new) → MarksIf (InUnits (k + 1)) old new
+      → ((u : RawUnit) (v : DwUnit ℕ) → slice_get raw k ≡ Some u → unit_meaning around u ≡ Ok v → MarksIf (λ t. in_unit (any_attr (test t)) (unit_map name v) ≡ true) now new)
+      → MarksIf (InUnits (k + 1)) old new
   units_next k lt old now new h one =
-      let u = get_there raw k lt in
+      let u = got_there raw k lt in
       let v = unit_meant around raw said are k u.0 u.1 in
       marks_then (InUnits k) (λ t. in_unit (any_attr (test t)) (unit_map name v.0) ≡ true) (InUnits (k + 1)) old now new h (one u.0 v.0 u.1 v.1) (λ t. split t v.0 v.2)
     where
       taken : (v : DwUnit ℕ) → slice_get said k ≡ Some v → map (unit_map name) (take (k + 1) said) ≡ map (unit_map name) (take k said) ++ unit_map name v ∷ []
       taken v e =
-          ap (map (unit_map name)) (take_more said k v (got_below said k v e) ∙ ap (λ (w : DwUnit ℕ). take k said ++ w ∷ []) (got_index said k v v e))
+          ap (map (unit_map name)) (take_more said k v (got_below said k v e) ∙ ap (λ (w : DwUnit ℕ). take k said ++ w ∷ []) (get_or_from_slice_get said k v v e))
           ∙ map-append (unit_map name) (take k said) (v ∷ [])
 
       split : (t : ℕ) (v : DwUnit ℕ) → slice_get said k ≡ Some v → InUnits (k + 1) t ↔ (InUnits k t ⊎ (in_unit (any_attr (test t)) (unit_map name v) ≡ true))
@@ -177,10 +189,6 @@ none_set zero n = refl
 none_set (suc count) zero = refl
 none_set (suc count) (suc n) = none_set count n
 
-set_long : (count : ℕ) → length (replicate count false) ≡ count
-set_long zero = refl
-set_long (suc count) = ap suc (set_long count)
-
 pub unset_more : (old now new : List Bool) (k : ℕ) → now ≡ old ++ replicate k false → new ≡ now ++ false ∷ [] → new ≡ old ++ replicate (k + 1) false
 unset_more old now new k e f =
     f ∙ ap (λ (w : List Bool). w ++ false ∷ []) e ∙ append_assoc old (replicate k false) (false ∷ []) ∙ ap (λ (w : List Bool). old ++ w) (replicate-append-replicate k 1 false)
@@ -194,14 +202,15 @@ set_both m n = replicate-append-replicate m n false
 
 pub files_first : (units : List (FileUnit Spot)) (test : ℕ → FileUnit Spot → Bool) (count : ℕ) (marks : List Bool) → marks ≡ replicate count false → MarkedBy units test count 0 marks
 files_first units test count marks e = record {
-  len = ap (λ (w : List Bool). length w) e ∙ set_long count;
+  len = ap (λ (w : List Bool). length w) e ∙ replicate_long count;
   each = λ n lt. (
     λ h. absurd (false≢true (sym (none_set count n) ∙ ap (λ (w : List Bool). slice_index_or w n false) (sym e) ∙ h)),
     λ h. absurd (false≢true h),
   );
 }
 
-pub files_next : (units own : List (FileUnit Spot)) (test : ℕ → FileUnit Spot → Bool) (count upto : ℕ) (old new : List Bool) → IsPart units upto own → MarkedBy units test count upto old → MarksIf (λ t. list_any (test t) own ≡ true) old new → MarkedBy units test count (upto + length own) new
+pub files_next : (units own : List (FileUnit Spot)) (test : ℕ → FileUnit Spot → Bool) (count upto : ℕ) (old new : List Bool) → IsPart units upto own → MarkedBy units test count upto old
+    → MarksIf (λ t. list_any (test t) own ≡ true) old new → MarkedBy units test count (upto + length own) new
 files_next units own test count upto old new part h m = record {
   len = m.len ∙ h.len;
   each = λ n lt. (
@@ -214,13 +223,8 @@ files_next units own test count upto old new part h m = record {
       ));
 }
 
-pub same_bool : (a b : Bool) → (a ≡ true) ↔ (b ≡ true) → a ≡ b
-same_bool true true h = refl
-same_bool true false h = sym (h.0 refl)
-same_bool false true h = h.1 refl
-same_bool false false h = refl
-
-pub files_last : (units : List (FileUnit Spot)) (test : ℕ → FileUnit Spot → Bool) (count upto : ℕ) (marks : List Bool) → upto ≡ length units → count ≡ length (tops_of units) → MarkedBy units test count upto marks
+pub files_last : (units : List (FileUnit Spot)) (test : ℕ → FileUnit Spot → Bool) (count upto : ℕ) (marks : List Bool) → upto ≡ length units → count ≡ length (tops_of units)
+    → MarkedBy units test count upto marks
     → AreFlags units (λ n. list_any (test n) units) marks
 files_last units test count upto marks e many h = record {
   len = h.len ∙ many;
@@ -235,7 +239,8 @@ files_last units test count upto marks e many h = record {
 }
 
 -- flags for the tops of one file more
-pub put_more : {X : Type 0} (a b : ℕ) (xs : List X) (now new : List Bool) (ys : List X) → now ≡ replicate a false → ys ≡ xs → b ≡ a + length xs → new ≡ now ++ replicate (length ys) false → new ≡ replicate b false
+pub put_more : {X : Type 0} (a b : ℕ) (xs : List X) (now new : List Bool) (ys : List X) → now ≡ replicate a false → ys ≡ xs → b ≡ a + length xs → new ≡ now ++ replicate (length ys) false
+    → new ≡ replicate b false
 put_more {X} a b xs now new ys e same at f =
     f
     ∙ (λ i. e i ++ replicate (length (same i)) false)

@@ -7,7 +7,9 @@ use Rattle.dwz_model.specs.declared.place.Base.{Base}
 use Rattle.dwz_model.specs.declared.place.Base.TheVariants.{Unit as FromUnit}
 use Rattle.dwz_docs.specs.Lists.{In}
 use Rattle.dwz_meanings.specs.declared.exprs.Operand.{Operand}
-use Rattle.dwz_meanings.specs.Exprs.{AnAddress, AreNamed, Counted, Entry4, EntryOrGeneric, EntryUleb, ExprContext, Expression, Field, Found, Holds, Inside, Located, LocatedBy, Names, Run, Signed, Sized, SpellsExpr, SpellsField, SpellsFields, SpellsOp, SpellsWithin, Unsigned, an_operand, an_operand_or_generic, expressions_in, joined, most_inside, operands_in}
+use Rattle.dwz_meanings.specs.Exprs.{AnAddress, AreNamed, Counted, Entry4, EntryOrGeneric, EntryUleb, ExprContext, Expression, Field, Found, Holds, Inside, Located, LocatedBy, Names, Run, Signed}
+use Rattle.dwz_meanings.specs.Exprs.{Sized, SpellsExpr, SpellsField, SpellsFields, SpellsOp, SpellsWithin, Unsigned, an_operand, an_operand_or_generic, expressions_in, joined, most_inside}
+use Rattle.dwz_meanings.specs.Exprs.{operands_in}
 use Rattle.dwz_meanings.specs.LocLists.{EndsList, LocList, SpellsList, SpellsListEntry}
 use Rattle.dwz_meanings.specs.Sequences.{Spelling, SpellsAll, SpellsRow, StandsFrom}
 use Rattle.dwz_meanings.specs.Shared.{operands_of}
@@ -75,7 +77,8 @@ module _ (section : List ℕ) where
   unfolding operands_in
   an_address_numbered = tt
 
-  operand_numbered : (uleb : Bool) (base : Base) (start number : ℕ) (bytes : List ℕ) → Lies section start bytes → number ≡ value_of uleb bytes → FoundNumbered (an_operand uleb base start (length bytes) number)
+  operand_numbered : (uleb : Bool) (base : Base) (start number : ℕ) (bytes : List ℕ) → Lies section start bytes → number ≡ value_of uleb bytes
+      → FoundNumbered (an_operand uleb base start (length bytes) number)
   unfolding operands_in
   operand_numbered uleb base start number bytes lies e = (e ∙ ap (value_of uleb) (sym (lies_bytes start bytes lies)), tt)
 
@@ -103,7 +106,8 @@ module _ (section : List ℕ) where
     field_numbered (Entry4 base) founds start bytes lies s = subst FoundNumbered (sym s.found) (operand_numbered false base start s.value bytes lies s.spelled.value)
     field_numbered EntryUleb founds start bytes lies s = subst FoundNumbered (sym s.found) (operand_numbered true FromUnit start s.value bytes lies s.spelled.value)
     field_numbered EntryOrGeneric founds start bytes lies s = subst FoundNumbered (sym s.found) (generic_numbered start s.value bytes lies s.spelled.value)
-    field_numbered Inside founds start bytes lies s = subst FoundNumbered (sym s.found) (holds_numbered s.expression (inside s.expression (start + length s.front) s.content (lies_second start bytes s.front s.content s.parts lies) s.is))
+    field_numbered Inside founds start bytes lies s = subst FoundNumbered (sym s.found)
+        (holds_numbered s.expression (inside s.expression (start + length s.front) s.content (lies_second start bytes s.front s.content s.parts lies) s.is))
 
     fields_numbered : (fields : List Field) (founds : List Found) (start : ℕ) (bytes : List ℕ) → Lies section start bytes → SpellsFields IsExpr fields founds start bytes → FoundNumbered founds
     fields_numbered [] founds start bytes lies s = subst FoundNumbered (sym s.0) no_found
@@ -125,23 +129,27 @@ module _ (section : List ℕ) where
   ops_numbered c IsExpr inside (op ∷ ops) start bytes lies s =
       let first = s.first in
       found_both op (joined ops)
-      (fields_numbered IsExpr inside first.fields op (start + 1) first.rest (behind_code start first.code s.first_bytes first.rest first.parts (lies_first start bytes s.first_bytes s.second_bytes s.parts lies)) first.spelled)
+      (fields_numbered IsExpr inside first.fields op (start + 1) first.rest
+      (behind_code start first.code s.first_bytes first.rest first.parts (lies_first start bytes s.first_bytes s.second_bytes s.parts lies)) first.spelled)
       (ops_numbered c IsExpr inside ops (start + length s.first_bytes) s.second_bytes (lies_second start bytes s.first_bytes s.second_bytes s.parts lies) s.second)
 
   within_numbered : (c : ExprContext) (k : ℕ) (e : Expression) (start : ℕ) (bytes : List ℕ) → Lies section start bytes → SpellsWithin c k e start bytes → Numbered e.operands
   within_numbered c zero e start bytes lies s = absurd s
-  within_numbered c (suc k) e start bytes lies s = subst (λ (w : Expression). Numbered w.operands) (sym s.made) (ops_numbered c (SpellsWithin c k) (within_numbered c k) s.ops start bytes lies s.spelled)
+  within_numbered c (suc k) e start bytes lies s = subst (λ (w : Expression). Numbered w.operands) (sym s.made)
+      (ops_numbered c (SpellsWithin c k) (within_numbered c k) s.ops start bytes lies s.spelled)
 
   -- each operand of an expression names an entry
   named_both : (names : Operand → Bool) (a b : List Operand) → AreNamed names a → AreNamed names b → AreNamed names (a ++ b)
   named_both names [] b h k = k
   named_both names (o ∷ a) b h k = (h.0, named_both names a b h.1 k)
 
-  ops_named : (c : ExprContext) (IsExpr : Spelling Expression) (ops : List (List Found)) (start : ℕ) (bytes : List ℕ) → SpellsAll (SpellsOp c IsExpr) ops start bytes → AreNamed c.names (operands_in (joined ops))
+  ops_named : (c : ExprContext) (IsExpr : Spelling Expression) (ops : List (List Found)) (start : ℕ) (bytes : List ℕ) → SpellsAll (SpellsOp c IsExpr) ops start bytes
+      → AreNamed c.names (operands_in (joined ops))
   unfolding joined operands_in
   ops_named c IsExpr [] start bytes is = tt
   ops_named c IsExpr (x ∷ ops) start bytes is =
-      subst (AreNamed c.names) (sym (operands_both x (joined ops))) (named_both c.names (operands_in x) (operands_in (joined ops)) is.first.named (ops_named c IsExpr ops (start + length is.first_bytes) is.second_bytes is.second))
+      subst (AreNamed c.names) (sym (operands_both x (joined ops))) (named_both c.names (operands_in x) (operands_in (joined ops)) is.first.named
+      (ops_named c IsExpr ops (start + length is.first_bytes) is.second_bytes is.second))
 
   -- ---- location lists
 
@@ -193,7 +201,10 @@ module _ (section : List ℕ) where
     field_held (Entry4 base) founds start bytes lies h = subst HoldGood (sym h.found) tt
     field_held EntryUleb founds start bytes lies h = subst HoldGood (sym h.found) tt
     field_held EntryOrGeneric founds start bytes lies h = subst HoldGood (sym h.found) (generic_held (eqb h.value 0) _)
-    field_held Inside founds start bytes lies h = subst HoldGood (sym h.found) (expr_good h.expression (start + length h.front) h.content (lies_second start bytes h.front h.content h.parts lies) h.is, tt)
+    field_held Inside founds start bytes lies h = subst HoldGood (sym h.found) (
+      expr_good h.expression (start + length h.front) h.content (lies_second start bytes h.front h.content h.parts lies) h.is,
+      tt,
+    )
 
     fields_held : (fields : List Field) (founds : List Found) (start : ℕ) (bytes : List ℕ) → Lies section start bytes → SpellsFields (SpellsExpr c) fields founds start bytes → HoldGood founds
     fields_held [] founds start bytes lies h = subst HoldGood (sym h.0) tt
@@ -209,7 +220,8 @@ module _ (section : List ℕ) where
     entries_held (founds ∷ entries) start bytes lies h =
         let first = h.first in
         both_held founds (joined entries)
-        (fields_held first.fields founds (start + 1) first.rest (behind_code start first.kind h.first_bytes first.rest first.parts (lies_first start bytes h.first_bytes h.second_bytes h.parts lies)) first.spelled)
+        (fields_held first.fields founds (start + 1) first.rest (behind_code start first.kind h.first_bytes first.rest first.parts (lies_first start bytes h.first_bytes h.second_bytes h.parts lies))
+        first.spelled)
         (entries_held entries (start + length h.first_bytes) h.second_bytes (lies_second start bytes h.first_bytes h.second_bytes h.parts lies) h.second)
 
     list_good : (l : LocList) (start : ℕ) (bytes : List ℕ) → Lies section start bytes → SpellsList c l start bytes → Good (operands_of l.exprs)

@@ -11,6 +11,7 @@ use Rattle.dwz_alike.specs.Spots.{Spot}
 use Rattle.dwz_alike.proofs.Targets.{or_first, or_second}
 use Rattle.dwz_docs.specs.Lists.{In}
 use Rattle.dwz_docs.specs.Units.{RawUnit}
+use Rattle.dwz_docs.proofs.ListFacts.{in_cases, in_left, in_map, in_right}
 use Rattle.dwz_meanings.specs.declared.exprs.Operand.{Operand}
 use Rattle.dwz_meanings.specs.Documents.{Attr, DwUnit, Loc, Part, Value, attr_map}
 use Rattle.dwz_meanings.specs.Exprs.{Expression, parts_from, parts_of}
@@ -24,7 +25,7 @@ use Rattle.dwz_resolve.specs.ListRows.{number_for, operand_view, start_of}
 use Rattle.dwz_resolve.specs.Resolved.{place_at}
 use Rattle.dwz_resolve.proofs.PlaceLemmas.{unit_and_entries}
 use Rattle.dwz_seen.specs.Lists.{NoneTwice}
-use Rattle.dwz_seen.proofs.Members.{any_from, any_true, in_cases, in_left, in_map, in_map_from, in_right}
+use Rattle.dwz_seen.proofs.Members.{any_from, any_true, in_map_from}
 use Rattle.dwz_seen.proofs.OnceLemmas.{none_left, none_right}
 use Rattle.dwz_marks.proofs.ListNames.{OfUnits, list_from, list_there}
 use Rattle.dwz_marks.proofs.OperandNumbers.{HasNumber, list_stands, one_named, one_numbered, same_number}
@@ -50,15 +51,17 @@ ulebs_append (o ∷ a) b = by o.uleb (ulebs_append a b) where
   by false e = e
 
 module _ (g : Operand → Spot) where
-  expr_ulebs : (at : ℕ) (bytes : List ℕ) (os : List Operand) (rest : List Part) (refs : List Spot) → uleb_targets (parts_from at bytes os ++ rest) (map g os ++ refs) ≡ map g (ulebs_of os) ++ uleb_targets rest refs
+  expr_ulebs : (at : ℕ) (bytes : List ℕ) (os : List Operand) (rest : List Part) (refs : List Spot) → uleb_targets (parts_from at bytes os ++ rest) (map g os ++ refs) ≡ map g (ulebs_of os)
+      ++ uleb_targets rest refs
   unfolding parts_from uleb_targets ulebs_of
   expr_ulebs at bytes [] rest refs = refl
-  expr_ulebs at bytes (o ∷ os) rest refs = by o.uleb (parts_from (o.at + o.width) (drop (o.at + o.width - at) bytes) os ++ rest) (expr_ulebs (o.at + o.width) (drop (o.at + o.width - at) bytes) os rest refs) where
-    by : (b : Bool) (parts : List Part) → uleb_targets parts (map g os ++ refs) ≡ map g (ulebs_of os) ++ uleb_targets rest refs
-        → (elim b as (λ _. List Spot) [ true ↦ g o ∷ uleb_targets parts (map g os ++ refs) | false ↦ uleb_targets parts (map g os ++ refs) ])
-        ≡ map g (elim b as (λ _. List Operand) [ true ↦ o ∷ ulebs_of os | false ↦ ulebs_of os ]) ++ uleb_targets rest refs
-    by true parts e = ap (λ (w : List Spot). g o ∷ w) e
-    by false parts e = e
+  expr_ulebs at bytes (o ∷ os) rest refs = by o.uleb (parts_from (o.at + o.width) (drop (o.at + o.width - at) bytes) os ++ rest)
+      (expr_ulebs (o.at + o.width) (drop (o.at + o.width - at) bytes) os rest refs) where
+        by : (b : Bool) (parts : List Part) → uleb_targets parts (map g os ++ refs) ≡ map g (ulebs_of os) ++ uleb_targets rest refs
+            → (elim b as (λ _. List Spot) [ true ↦ g o ∷ uleb_targets parts (map g os ++ refs) | false ↦ uleb_targets parts (map g os ++ refs) ])
+            ≡ map g (elim b as (λ _. List Operand) [ true ↦ o ∷ ulebs_of os | false ↦ ulebs_of os ]) ++ uleb_targets rest refs
+        by true parts e = ap (λ (w : List Spot). g o ∷ w) e
+        by false parts e = e
 
   list_ulebs : (exprs : List Expression) → uleb_targets (joined_parts (map parts_of exprs)) (map g (operands_of exprs)) ≡ map g (ulebs_of (operands_of exprs))
   unfolding joined_parts operands_of uleb_targets ulebs_of
@@ -84,7 +87,8 @@ uleb_from : (os : List Operand) (o : Operand) → In o (ulebs_of os) → In o os
 unfolding ulebs_of
 uleb_from [] o there = absurd there
 uleb_from (p ∷ os) o there = by p.uleb refl there (uleb_from os o) where
-  by : (b : Bool) → p.uleb ≡ b → In o (elim b as (λ _. List Operand) [ true ↦ p ∷ ulebs_of os | false ↦ ulebs_of os ]) → (In o (ulebs_of os) → In o os × (o.uleb ≡ true)) → In o (p ∷ os) × (o.uleb ≡ true)
+  by : (b : Bool) → p.uleb ≡ b → In o (elim b as (λ _. List Operand) [ true ↦ p ∷ ulebs_of os | false ↦ ulebs_of os ]) → (In o (ulebs_of os) → In o os × (o.uleb ≡ true))
+      → In o (p ∷ os) × (o.uleb ≡ true)
   by true q (inl same) more = (inl same, ap (λ (w : Operand). w.uleb) (sym same) ∙ q)
   by true q (inr later) more = let r = more later in (inr r.0, r.1)
   by false q is more = let r = more is in (inr r.0, r.1)
@@ -131,7 +135,7 @@ unfolding led
 leads_led s FromUnit n = refl
 leads_led s FromInfo n = refl
 
-unit_apart : (raw : List RawUnit) → NoneTwice (unit_and_entries raw) → (u : RawUnit) → In u raw → In u.at (places_of u) → ⊥
+pub unit_apart : (raw : List RawUnit) → NoneTwice (unit_and_entries raw) → (u : RawUnit) → In u raw → In u.at (places_of u) → ⊥
 unfolding unit_and_entries
 unit_apart [] once u there own = absurd there
 unit_apart (v ∷ raw) once u (inl e) own = (none_left (v.at ∷ places_of v) (unit_and_entries raw) once).0 (subst (λ (w : RawUnit). In w.at (places_of w)) (sym e) own)
@@ -171,21 +175,23 @@ module _ (sources : Sources) (raw : List RawUnit) (said : List (DwUnit ℕ)) (me
 
     by : (base : Base) → o.base ≡ base → led (start_of raw o.unit) base (number_for base (start_of raw o.unit) o.place.offset) ≡ o.place.offset
     by FromInfo e = refl
-    by FromUnit e = ⊎_elim (λ lt. absurd (before lt)) (λ ge. (let z : start_of raw o.unit + (o.place.offset - start_of raw o.unit) ≡ o.place.offset = omega arith in z)) (cases_lt o.place.offset (start_of raw o.unit)) where
-      before : o.place.offset < start_of raw o.unit → ⊥
-      before lt =
-          let r = in_lists lists view (are.from view (in_map (operand_view raw) o rows there)) in
-          let l = r.0 in
-          let p = r.2 in
-          let same = r.4 in
-          let is = operand_is l r.1 p r.3 in
-          let base : p.base ≡ FromUnit = ap (λ (w : ListOperand). w.operand.base) same ∙ e in
-          let number : p.number ≡ number_for FromUnit (start_of raw o.unit) o.place.offset = ap (λ (w : ListOperand). w.operand.number) same ∙ ap (λ (b : Base). number_for b (start_of raw o.unit) o.place.offset) e in
-          let none : p.number ≡ 0 = omega arith in
-          let s = scope_of around is.of.u in
-          let here : target_of s p ≡ is.of.u.at = (λ i. leads_to s (base i) (none i)) ∙ (let z : is.of.u.at + 0 ≡ is.of.u.at = omega arith in z) in
-          let own : In (target_of s p) (entries_for s FromUnit) = subst (λ (b : Base). In (target_of s p) (entries_for s b)) base (has_in (target_of s p) (entries_for s p.base) is.names) in
-          unit_apart raw once is.of.u is.of.in_raw (subst (λ (n : ℕ). In n (places_of is.of.u)) here own)
+    by FromUnit e = ⊎_elim (λ lt. absurd (before lt)) (λ ge. (let z : start_of raw o.unit + (o.place.offset - start_of raw o.unit) ≡ o.place.offset = omega arith in z))
+        (cases_lt o.place.offset (start_of raw o.unit)) where
+          before : o.place.offset < start_of raw o.unit → ⊥
+          before lt =
+              let r = in_lists lists view (are.from view (in_map (operand_view raw) o rows there)) in
+              let l = r.0 in
+              let p = r.2 in
+              let same = r.4 in
+              let is = operand_is l r.1 p r.3 in
+              let base : p.base ≡ FromUnit = ap (λ (w : ListOperand). w.operand.base) same ∙ e in
+              let number : p.number ≡ number_for FromUnit (start_of raw o.unit) o.place.offset = ap (λ (w : ListOperand). w.operand.number) same
+              ∙ ap (λ (b : Base). number_for b (start_of raw o.unit) o.place.offset) e in
+              let none : p.number ≡ 0 = omega arith in
+              let s = scope_of around is.of.u in
+              let here : target_of s p ≡ is.of.u.at = (λ i. leads_to s (base i) (none i)) ∙ (let z : is.of.u.at + 0 ≡ is.of.u.at = omega arith in z) in
+              let own : In (target_of s p) (entries_for s FromUnit) = subst (λ (b : Base). In (target_of s p) (entries_for s b)) base (has_in (target_of s p) (entries_for s p.base) is.names) in
+              unit_apart raw once is.of.u is.of.in_raw (subst (λ (n : ℕ). In n (places_of is.of.u)) here own)
 
   -- ---- what passes a test
 
@@ -218,7 +224,8 @@ module _ (sources : Sources) (raw : List RawUnit) (said : List (DwUnit ℕ)) (me
         let a = operand_is h.l h.there h.p h.own in
         let b = operand_is back.0 back.1 q back.3 in
         let of_q = λ (f : Operand → ℕ). ap (λ (w : ListOperand). f w.operand) q_is in
-        let number : q.number ≡ h.p.number = same_number sources.lists q h.p b.number a.number (of_q (λ w. w.at) ∙ same.at) (of_q (λ w. w.width) ∙ same.width) (ap (λ (w : ListOperand). w.operand.uleb) q_is ∙ same.uleb) in
+        let number : q.number ≡ h.p.number = same_number sources.lists q h.p b.number a.number (of_q (λ w. w.at) ∙ same.at) (of_q (λ w. w.width) ∙ same.width)
+        (ap (λ (w : ListOperand). w.operand.uleb) q_is ∙ same.uleb) in
         let view_number : (operand_view raw o).operand.number ≡ h.p.number = ap (λ (w : ListOperand). w.operand.number) (row.is ∙ sym q_is) ∙ number in
         let view_base : o.base ≡ h.p.base = ap (λ (w : ListOperand). w.operand.base) row.is ∙ same.base in
         let view_unit : start_of raw o.unit ≡ h.l.unit = ap (λ (w : ListOperand). w.unit) row.is ∙ same.unit in
@@ -259,7 +266,8 @@ module _ (sources : Sources) (raw : List RawUnit) (said : List (DwUnit ℕ)) (me
         let l = list_there around raw said means b from.there parts.0 in
         let s = scope_of around l.2.u in
         let is = l.2.is in
-        let refs : list_any test (map (spot_of s) (own_operands l.0)) ≡ true = ap (list_any test) (sym (ap (λ (v : Value ℕ). map name v.refs) is.value ∙ spots_are s refl (own_operands l.0))) ∙ more.1 in
+        let refs : list_any test (map (spot_of s) (own_operands l.0)) ≡ true = ap (list_any test) (sym (ap (λ (v : Value ℕ). map name v.refs) is.value ∙ spots_are s refl (own_operands l.0)))
+        ∙ more.1 in
         let g = any_from test (map (spot_of s) (own_operands l.0)) refs in
         let o = in_map_from (spot_of s) g.one (own_operands l.0) g.there in
         record { l = l.0; there = l.1; p = o.source; own = o.there; asked = λ no. absurd (false≢true no); passes = sym (spot_led s l.0 o.source is.unit) ∙ ap test o.is ∙ g.passes }
@@ -271,7 +279,8 @@ module _ (sources : Sources) (raw : List RawUnit) (said : List (DwUnit ℕ)) (me
         let b = f.0 in
         let s = scope_of around f.2.u in
         let is = f.2.is in
-        let here : list_any test (map (spot_of s) (own_operands h.l)) ≡ true = any_true test (spot_of s h.p) (map (spot_of s) (own_operands h.l)) (in_map (spot_of s) h.p (own_operands h.l) h.own) (spot_led s h.l h.p is.unit ∙ h.passes) in
+        let here : list_any test (map (spot_of s) (own_operands h.l)) ≡ true = any_true test (spot_of s h.p) (map (spot_of s) (own_operands h.l)) (in_map (spot_of s) h.p (own_operands h.l) h.own)
+        (spot_led s h.l h.p is.unit ∙ h.passes) in
         let refs : list_any test (map name (targets s (own_operands h.l))) ≡ true = ap (list_any test) (spots_are s refl (own_operands h.l)) ∙ here in
         let some = some_operand h.l.list.exprs h.p h.own in
         let passes : names_by test (attr_map name b) ≡ true = ap (λ (v : Value ℕ). in_list v.plain && (has_operand v.plain && list_any test (map name v.refs))) is.value ∙ (λ i. some i && refs i) in
@@ -279,7 +288,8 @@ module _ (sources : Sources) (raw : List RawUnit) (said : List (DwUnit ℕ)) (me
 
     -- ---- those of ULEB128 numbers
 
-    pins_are : (s : Scope ℕ) → s.around ≡ around → (l : NamedList) → uleb_targets (joined_parts (map parts_of l.list.exprs)) (map name (targets s (own_operands l))) ≡ map (spot_of s) (ulebs_of (own_operands l))
+    pins_are : (s : Scope ℕ) → s.around ≡ around → (l : NamedList) → uleb_targets (joined_parts (map parts_of l.list.exprs)) (map name (targets s (own_operands l)))
+        ≡ map (spot_of s) (ulebs_of (own_operands l))
     pins_are s e l = ap (uleb_targets (joined_parts (map parts_of l.list.exprs))) (spots_are s e (own_operands l)) ∙ list_ulebs (spot_of s) l.list.exprs
 
     pin_leads : list_any (list_pins test) (named_attrs name said) ≡ true → Leads true
@@ -308,8 +318,10 @@ module _ (sources : Sources) (raw : List RawUnit) (said : List (DwUnit ℕ)) (me
         let s = scope_of around f.2.u in
         let is = f.2.is in
         let own = uleb_in (own_operands h.l) h.p h.own (h.asked refl) in
-        let here : list_any test (map (spot_of s) (ulebs_of (own_operands h.l))) ≡ true = any_true test (spot_of s h.p) (map (spot_of s) (ulebs_of (own_operands h.l))) (in_map (spot_of s) h.p (ulebs_of (own_operands h.l)) own) (spot_led s h.l h.p is.unit ∙ h.passes) in
-        let passes : list_pins test (attr_map name b) ≡ true = ap (λ (v : Value ℕ). in_list v.plain && list_any test (uleb_targets (plan_parts v.plain) (map name v.refs))) is.value ∙ ap (list_any test) (pins_are s refl h.l) ∙ here in
+        let here : list_any test (map (spot_of s) (ulebs_of (own_operands h.l))) ≡ true = any_true test (spot_of s h.p) (map (spot_of s) (ulebs_of (own_operands h.l)))
+        (in_map (spot_of s) h.p (ulebs_of (own_operands h.l)) own) (spot_led s h.l h.p is.unit ∙ h.passes) in
+        let passes : list_pins test (attr_map name b) ≡ true = ap (λ (v : Value ℕ). in_list v.plain && list_any test (uleb_targets (plan_parts v.plain) (map name v.refs))) is.value
+        ∙ ap (list_any test) (pins_are s refl h.l) ∙ here in
         any_true (list_pins test) (attr_map name b) (named_attrs name said) (in_map (attr_map name) b (units_attrs said) f.1) passes
 
     -- ---- and so the rows

@@ -75,7 +75,8 @@ filed : (test : DwUnit Spot → Bool) (file : ℕ) (units : List (DwUnit Spot)) 
 filed test file [] = refl
 filed test file (u ∷ units) = ap (λ (b : Bool). test u || b) (filed test file units)
 
-pub any_filed : (test : Attr Spot → Bool) (name : ℕ → Spot) (file : ℕ) (units : List (DwUnit ℕ)) → list_any (λ f. in_unit (any_attr test) f.unit) (map (in_file file) (map (unit_map name) units)) ≡ list_any test (named_attrs name units)
+pub any_filed : (test : Attr Spot → Bool) (name : ℕ → Spot) (file : ℕ) (units : List (DwUnit ℕ)) → list_any (λ f. in_unit (any_attr test) f.unit) (map (in_file file) (map (unit_map name) units))
+    ≡ list_any test (named_attrs name units)
 any_filed test name file units = filed (in_unit (any_attr test)) file (map (unit_map name) units) ∙ any_named test name units
 
 -- ---- an operand is in an expression or in a location list
@@ -113,7 +114,8 @@ names_parts (Expr parts) b = or_nothing (has_operand (Expr parts) && b)
 names_parts (Loc exprs) b = refl
 
 pins_parts : (test : Spot → Bool) (plain : Plain) (refs : List Spot)
-    → list_any test (uleb_targets (parts_of plain) refs) ≡ ((in_expression plain && list_any test (uleb_targets (parts_of plain) refs)) || (in_list plain && list_any test (uleb_targets (parts_of plain) refs)))
+    → list_any test (uleb_targets (parts_of plain) refs) ≡ ((in_expression plain && list_any test (uleb_targets (parts_of plain) refs))
+    || (in_list plain && list_any test (uleb_targets (parts_of plain) refs)))
 unfolding in_list uleb_targets
 pins_parts test (Num w z) refs = refl
 pins_parts test (Flag x) refs = refl

@@ -3,7 +3,5 @@
 
 mod lists;
 mod marks;
-#[cfg(test)]
-mod tests;
 
 pub use marks::named_tops;

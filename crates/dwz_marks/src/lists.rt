@@ -61,8 +61,13 @@ pub(crate) fn mark_lists(
     named: &mut Named,
 ) -> Result<(), NoMemory>
     requires { length index.now.steps < 2 ^ 32 }
-    ensures any { (raw : List RawUnit) (names : List Spot) (name : ℕ → Spot) → IsIndex names index.now → length index.now.steps ≡ entries_in raw → NamesEntries raw name names → AreEntries raw (entries_of rows.now) → OnOk result (Marks (tops_of_refs name raw (entries_of rows.now)) named.old.by_any.items named.new.by_any.items) }
-    ensures uleb { (raw : List RawUnit) (names : List Spot) (name : ℕ → Spot) → IsIndex names index.now → length index.now.steps ≡ entries_in raw → NamesEntries raw name names → AreEntries raw (entries_of rows.now) → OnOk result (Marks (uleb_tops rows.now (tops_of_refs name raw (entries_of rows.now))) named.old.by_uleb.items named.new.by_uleb.items) }
+    ensures any { (raw : List RawUnit) (names : List Spot) (name : ℕ → Spot) → IsIndex names index.now
+        → length index.now.steps ≡ entries_in raw → NamesEntries raw name names → AreEntries raw (entries_of rows.now)
+        → OnOk result (Marks (tops_of_refs name raw (entries_of rows.now)) named.old.by_any.items named.new.by_any.items) }
+    ensures uleb { (raw : List RawUnit) (names : List Spot) (name : ℕ → Spot) → IsIndex names index.now
+        → length index.now.steps ≡ entries_in raw → NamesEntries raw name names → AreEntries raw (entries_of rows.now)
+        → OnOk result (Marks (uleb_tops rows.now (tops_of_refs name raw (entries_of rows.now))) named.old.by_uleb.items
+        named.new.by_uleb.items) }
 {
     let entries = entries_of(alloc, rows)?;
     let tops = tops_of(alloc, index, entries.as_slice())?;

@@ -37,7 +37,8 @@ pub(crate) fn put_unset(flags: &mut Vec<bool>, count: usize) -> Result<(), NoMem
 
 // A flag for each top of all files, which isn't set.
 fn unset(alloc: Global, indexes: &[Index]) -> Result<Vec<bool>, NoMemory>
-    ensures { (docs : List (Doc ℕ)) → AreIndexes docs indexes.now → IfOk result (λ flags. flags.items ≡ replicate (starts_at docs indexes.now (length indexes.now)).top false) }
+    ensures { (docs : List (Doc ℕ)) → AreIndexes docs indexes.now
+        → IfOk result (λ flags. flags.items ≡ replicate (starts_at docs indexes.now (length indexes.now)).top false) }
 {
     let mut flags = Vec::new(alloc);
     for index in indexes {
@@ -55,8 +56,14 @@ pub(crate) fn mark_units(
     named: &mut Named,
     operands: &mut Vec<Operand>,
 ) -> Result<(), NoMemory>
-    ensures any { (around : Around ℕ) (refs : List ℕ) (name : ℕ → Spot) (said : List (DwUnit ℕ)) → KnowsRefs around (raw_units units.now) name refs starts.now into.now → units_meaning around (raw_units units.now) ≡ Ok said → OnOk result (MarksIf (λ t. list_any (in_unit (any_attr (expression_names t))) (map (unit_map name) said) ≡ true) named.old.by_any.items named.new.by_any.items) }
-    ensures uleb { (around : Around ℕ) (refs : List ℕ) (name : ℕ → Spot) (said : List (DwUnit ℕ)) → KnowsRefs around (raw_units units.now) name refs starts.now into.now → units_meaning around (raw_units units.now) ≡ Ok said → OnOk result (MarksIf (λ t. list_any (in_unit (any_attr (expression_pins t))) (map (unit_map name) said) ≡ true) named.old.by_uleb.items named.new.by_uleb.items) }
+    ensures any { (around : Around ℕ) (refs : List ℕ) (name : ℕ → Spot) (said : List (DwUnit ℕ))
+        → KnowsRefs around (raw_units units.now) name refs starts.now into.now → units_meaning around (raw_units units.now) ≡ Ok said
+        → OnOk result (MarksIf (λ t. list_any (in_unit (any_attr (expression_names t))) (map (unit_map name) said) ≡ true)
+        named.old.by_any.items named.new.by_any.items) }
+    ensures uleb { (around : Around ℕ) (refs : List ℕ) (name : ℕ → Spot) (said : List (DwUnit ℕ))
+        → KnowsRefs around (raw_units units.now) name refs starts.now into.now → units_meaning around (raw_units units.now) ≡ Ok said
+        → OnOk result (MarksIf (λ t. list_any (in_unit (any_attr (expression_pins t))) (map (unit_map name) said) ≡ true)
+        named.old.by_uleb.items named.new.by_uleb.items) }
 {
     for n in 0..units.len() {
         mark_unit(units, into, starts, n, named, operands)?;
@@ -73,8 +80,12 @@ fn mark_file(
     operands: &mut Vec<Operand>,
 ) -> Result<(), NoMemory>
     requires { length index.now.steps < 2 ^ 32 }
-    ensures any { (contents : List (List ℕ)) (k : ℕ) (bytes : List ℕ) (is : IsFileAmong contents k bytes file.now index.now) → OnOk result (MarksIf (λ t. list_any (names_in_unit t) (file_units index.now.starts k is.kept.read.doc) ≡ true) named.old.by_any.items named.new.by_any.items) }
-    ensures uleb { (contents : List (List ℕ)) (k : ℕ) (bytes : List ℕ) (is : IsFileAmong contents k bytes file.now index.now) → OnOk result (MarksIf (λ t. list_any (pinned_in (is_in t)) (file_units index.now.starts k is.kept.read.doc) ≡ true) named.old.by_uleb.items named.new.by_uleb.items) }
+    ensures any { (contents : List (List ℕ)) (k : ℕ) (bytes : List ℕ) (is : IsFileAmong contents k bytes file.now index.now)
+        → OnOk result (MarksIf (λ t. list_any (names_in_unit t) (file_units index.now.starts k is.kept.read.doc) ≡ true)
+        named.old.by_any.items named.new.by_any.items) }
+    ensures uleb { (contents : List (List ℕ)) (k : ℕ) (bytes : List ℕ) (is : IsFileAmong contents k bytes file.now index.now)
+        → OnOk result (MarksIf (λ t. list_any (pinned_in (is_in t)) (file_units index.now.starts k is.kept.read.doc) ≡ true)
+        named.old.by_uleb.items named.new.by_uleb.items) }
 {
     let resolved = &file.resolved;
     let into = tops_of(alloc, index, resolved.refs.as_slice())?;

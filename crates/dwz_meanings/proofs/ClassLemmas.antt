@@ -1,15 +1,16 @@
 -- Each form that is read has a class, and no other form has one.
 use Rattle.std.proofs.Common.{◌≡◌, ◌↔◌, ◌⊎◌, ℕ, Bool, true, false, List, [], ◌∷◌, Option, Some, None, refl, sym, ap, ◌∙◌, inl, inr, eqb}
-use Rattle.std.specs.Prelude.{◌&&◌, is_some}
+use Rattle.std.specs.Prelude.{is_some}
 use Rattle.std.specs.List.{list_all}
 use Rattle.std.proofs.lemmas.Bool.{eqb-true}
+use Rattle.dwz_bytes.proofs.GroupLemmas.{chosen}
 use Rattle.dwz_codes.specs.declared.shape.Shape.{Shape}
 use Rattle.dwz_codes.specs.declared.shape.Shape.TheVariants.{Nothing, Fixed1, Fixed2, Fixed3, Fixed4, Fixed8, Fixed16, Uleb, Sleb, ZeroEnded, Block1, Block2, Block4, BlockUleb, Address}
 use Rattle.dwz_codes.specs.Forms.{form_rows}
 use Rattle.dwz_codes.specs.Rows.{RowView, row_of}
 use Rattle.dwz_meanings.specs.Meanings.{Class, ClassRow, Unread, class_in, class_of, class_rows}
 use Rattle.dwz_docs.specs.Values.{IsUnread, shape_in, shape_of, written_rows}
-use Rattle.dwz_docs.proofs.PartLemmas.{chosen}
+use Rattle.dwz_docs.proofs.AbbrevLemmas.{and_true}
 
 -- ---- as tests
 
@@ -84,10 +85,6 @@ rows_agree = refl
 rows_are_there : list_all has_row class_rows ≡ true
 unfolding form_rows class_rows class_in
 rows_are_there = refl
-
-pub and_true : (a b : Bool) → (a && b) ≡ true → (a ≡ true) × (b ≡ true)
-and_true true b e = (refl, e)
-and_true false b e = absurd cc
 
 pub row_checked : (p : RowView → Bool) (rows : List RowView) (code : ℕ) (r : RowView) → list_all p rows ≡ true → row_of rows code ≡ Some r → (p r ≡ true) × (r.code ≡ code)
 row_checked p [] code r all is = absurd cc

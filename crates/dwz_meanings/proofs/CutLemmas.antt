@@ -56,7 +56,17 @@ patch_len at bytes (o ∷ os) h =
     let rest = patch_len (o.at + o.width) (drop (o.at + o.width - at) bytes) os (behind_end at bytes o os h) in
     let tail = patch (o.at + o.width) (drop (o.at + o.width - at) bytes) os in
     let front : length (take (o.at - at) bytes) ≡ o.at - at = length-take-le (o.at - at) bytes (omega (arith, le, h.0)) in
-    omega (arith, length-append (take (o.at - at) bytes) (number_bytes o.uleb o.width o.number ++ tail), length-append (number_bytes o.uleb o.width o.number) tail, number_len o.uleb o.width o.number, rest, front, length-drop (o.at + o.width - at) bytes, le, h.0)
+    omega (
+      arith,
+      length-append (take (o.at - at) bytes) (number_bytes o.uleb o.width o.number ++ tail),
+      length-append (number_bytes o.uleb o.width o.number) tail,
+      number_len o.uleb o.width o.number,
+      rest,
+      front,
+      length-drop (o.at + o.width - at) bytes,
+      le,
+      h.0,
+    )
 
 -- no operand stands in the first bytes
 patch_behind : (at end : ℕ) (a b : List ℕ) (os : List Operand) → Lie (at + length a) end os → patch at (a ++ b) os ≡ a ++ patch (at + length a) b os

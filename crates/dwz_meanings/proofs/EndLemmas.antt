@@ -4,6 +4,7 @@ use Rattle.dwz_docs.specs.Entries.{RawAttr, RawEntry}
 use Rattle.dwz_docs.specs.Lists.{In}
 use Rattle.dwz_docs.specs.Trees.{End, Entry, Forest}
 use Rattle.dwz_docs.specs.Units.{RawUnit}
+use Rattle.dwz_docs.proofs.ListFacts.{in_cases}
 use Rattle.dwz_meanings.specs.declared.exprs.Operand.{Operand}
 use Rattle.dwz_meanings.specs.Exprs.{ExprContext, joined, operands_in}
 use Rattle.dwz_meanings.specs.LocLists.{SpellsList}
@@ -15,7 +16,7 @@ use Rattle.dwz_meanings.specs.Shared.{AreRows, ListOperand, NamedList, of_unit, 
 use Rattle.dwz_meanings.proofs.CutLemmas.{Lie, lie_le}
 use Rattle.dwz_meanings.proofs.ListKindLemmas.{row_only, same_operands}
 use Rattle.dwz_meanings.proofs.NamedAgain.{in_map}
-use Rattle.dwz_meanings.proofs.NamedLemmas.{in_either, units_name}
+use Rattle.dwz_meanings.proofs.NamedLemmas.{units_name}
 use Rattle.dwz_meanings.proofs.PatchedListLemmas.{stood_within}
 use Rattle.dwz_meanings.proofs.StandLemmas.{row_stands}
 
@@ -67,7 +68,7 @@ units_end around (u ∷ units) l (inr later) = units_end around units l later
 of_all : (end : ℕ) (lists : List NamedList) → ((l : NamedList) → In l lists → EndIn end (own_operands l)) → (o : ListOperand) → In o (operands_in_lists lists) → o.operand.at + o.operand.width ≤ end
 unfolding operands_in_lists
 of_all end [] each o there = absurd there
-of_all end (l ∷ lists) each o there = elim (in_either o (map (of_unit l.unit) (own_operands l)) (operands_in_lists lists) there) [
+of_all end (l ∷ lists) each o there = elim (in_cases o (map (of_unit l.unit) (own_operands l)) (operands_in_lists lists) there) [
   | inl own ↦
       let r = in_map (of_unit l.unit) o (own_operands l) own in
       subst (λ (w : ListOperand). w.operand.at + w.operand.width ≤ end) r.2 (each l (inl refl) r.0 r.1)
@@ -80,4 +81,5 @@ each_ends end (o ∷ rows) each = (each o (inl refl), each_ends end rows (λ p t
 
 pub rows_end : {P : Type 0} (around : Around P) (units : List RawUnit) (rows : List ListOperand) → AreRows (lists_of_units around units) rows → EndWithin (length around.sources.lists) rows
 rows_end around units rows are =
-    each_ends (length around.sources.lists) rows (λ o there. of_all (length around.sources.lists) (lists_of_units around units) (λ l is. units_end around units l ((units_name around units l).0 is)) o (are.from o there))
+    each_ends (length around.sources.lists) rows (λ o there. of_all (length around.sources.lists) (lists_of_units around units) (λ l is. units_end around units l ((units_name around units l).0 is)) o
+    (are.from o there))

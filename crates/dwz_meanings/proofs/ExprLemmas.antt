@@ -3,14 +3,16 @@ use Rattle.std.proofs.Common.{◌≡◌, ◌↔◌, ℕ, zero, suc, ◌+◌, ◌
 use Rattle.std.proofs.lemmas.List.{length-append}
 use Rattle.dwz_model.specs.declared.fault.Fault.{Fault}
 use Rattle.dwz_bytes.specs.Input.{Input}
+use Rattle.dwz_bytes.proofs.GroupLemmas.{chosen}
 use Rattle.dwz_codes.specs.Operators.{operator_rows}
 use Rattle.dwz_meanings.specs.declared.exprs.Operand.{Operand}
-use Rattle.dwz_meanings.specs.Exprs.{AreNamed, ExprContext, Expression, Field, Found, InsideReader, IsExprFault, IsFaultWithin, IsFieldsFault, IsFirstUnnamed, IsLaidFault, IsOpFault, SpellsExpr, SpellsFields, SpellsOp, SpellsWithin, bad_expr, bad_operand, expr_at, expr_within, expression_of, fields_of, first_unnamed, most_inside, named_in, op_at, op_by, op_in, operands_in, unless_unnamed, unsupported}
+use Rattle.dwz_meanings.specs.Exprs.{AreNamed, ExprContext, Expression, Field, Found, InsideReader, IsExprFault, IsFaultWithin, IsFieldsFault, IsFirstUnnamed, IsLaidFault, IsOpFault, SpellsExpr}
+use Rattle.dwz_meanings.specs.Exprs.{SpellsFields, SpellsOp, SpellsWithin, bad_expr, bad_operand, expr_at, expr_within, expression_of, fields_of, first_unnamed, most_inside, named_in, op_at, op_by}
+use Rattle.dwz_meanings.specs.Exprs.{op_in, operands_in, unless_unnamed, unsupported}
 use Rattle.dwz_meanings.specs.Sequences.{FaultAt, Spelling, SpellsAll}
 use Rattle.dwz_docs.specs.Values.{shape_of}
 use Rattle.dwz_meanings.proofs.AgreeLemmas.{Agrees, Made, Next, OrNext, agrees_err, agrees_ok, and_with, in_words, then_made}
 use Rattle.dwz_meanings.proofs.FieldLemmas.{fields_read}
-use Rattle.dwz_docs.proofs.PartLemmas.{chosen}
 use Rattle.dwz_meanings.proofs.SequenceLemmas.{IsTaken, ReadsAs, ReadsWhole, all_read, input_of}
 
 -- ---- operands that name entries
@@ -46,9 +48,11 @@ not_all names (q ∷ operands) o all (inl a) = let e : true ≡ false = sym all.
 not_all names (q ∷ operands) o all (inr b) = not_all names operands o all.1 b.1
 
 -- what is read goes on as it is where each operand names an entry
-pub named_agrees : {X : Type 0} (c : ExprContext) (x : X) (operands : List Operand) → Agrees (unless_unnamed c x (first_unnamed c.names operands)) (λ y. AreNamed c.names operands × (y ≡ x)) (λ f. (o : Operand) × IsFirstUnnamed c.names operands o × (f ≡ bad_operand c o.at))
+pub named_agrees : {X : Type 0} (c : ExprContext) (x : X) (operands : List Operand)
+    → Agrees (unless_unnamed c x (first_unnamed c.names operands)) (λ y. AreNamed c.names operands × (y ≡ x)) (λ f. (o : Operand) × IsFirstUnnamed c.names operands o × (f ≡ bad_operand c o.at))
 named_agrees {X} c x operands = by (first_unnamed c.names operands) refl where
-  by : (first : Option Operand) → first_unnamed c.names operands ≡ first → Agrees (unless_unnamed c x first) (λ y. AreNamed c.names operands × (y ≡ x)) (λ f. (o : Operand) × IsFirstUnnamed c.names operands o × (f ≡ bad_operand c o.at))
+  by : (first : Option Operand) → first_unnamed c.names operands ≡ first
+      → Agrees (unless_unnamed c x first) (λ y. AreNamed c.names operands × (y ≡ x)) (λ f. (o : Operand) × IsFirstUnnamed c.names operands o × (f ≡ bad_operand c o.at))
   by None none = in_words (agrees_ok x)
       (λ y. (λ same. (unnamed_none c.names operands none, same), λ h. h.1))
       (λ f. (λ no. absurd no, λ h. not_all c.names operands h.0 (unnamed_none c.names operands none) h.1))
@@ -93,7 +97,8 @@ module _ (c : ExprContext) (inner : InsideReader) (IsExpr : Spelling Expression)
   )
 
   op_faults : (at code : ℕ) (rest : List ℕ) (fields : List Field) (f : Fault)
-      → OrNext (IsFieldsFault IsExpr (ExprFails (bad_expr c at)) (bad_expr c at) fields (at + 1) rest) (IsTaken (SpellsFields IsExpr fields) (input_of (at + 1) rest)) (λ x f. (o : Operand) × IsFirstUnnamed c.names (operands_in x.0) o × (f ≡ bad_operand c o.at)) f
+      → OrNext (IsFieldsFault IsExpr (ExprFails (bad_expr c at)) (bad_expr c at) fields (at + 1) rest) (IsTaken (SpellsFields IsExpr fields) (input_of (at + 1) rest))
+      (λ x f. (o : Operand) × IsFirstUnnamed c.names (operands_in x.0) o × (f ≡ bad_operand c o.at)) f
       ↔ IsLaidFault c IsExpr ExprFails at code (Some fields) (at + 1) rest f
   op_faults at code rest fields f = (
     λ h. elim h [
@@ -143,7 +148,8 @@ unfolding expr_within
 within_reads c zero bad = record { agrees = λ i. agrees_err bad }
 within_reads c (suc k) bad =
     let inner = λ (worse : Fault). within_reads c k worse in
-    let ops = all_read (op_at c (expr_within c k)) (SpellsOp c (SpellsWithin c k)) (IsOpFault c (SpellsWithin c k) (IsFaultWithin c k)) (op_reads c (expr_within c k) (SpellsWithin c k) (IsFaultWithin c k) inner) (op_takes c (expr_within c k) (SpellsWithin c k) (IsFaultWithin c k) inner) in
+    let ops = all_read (op_at c (expr_within c k)) (SpellsOp c (SpellsWithin c k)) (IsOpFault c (SpellsWithin c k) (IsFaultWithin c k))
+    (op_reads c (expr_within c k) (SpellsWithin c k) (IsFaultWithin c k) inner) (op_takes c (expr_within c k) (SpellsWithin c k) (IsFaultWithin c k) inner) in
     record { agrees = λ i. in_words (then_made (ops.agrees i) (expression_of i.at i.rest)) (words i) (λ f. (λ h. h, λ h. h)) } where
       words : (i : Input) (e : Expression) → Made (λ xs. SpellsAll (SpellsOp c (SpellsWithin c k)) xs i.at i.rest) (expression_of i.at i.rest) e ↔ SpellsWithin c (suc k) e i.at i.rest
       words i e = (λ h. record { ops = h.0; spelled = h.1; made = h.2 }, λ s. (s.ops, s.spelled, s.made))

@@ -9,7 +9,7 @@ use Rattle.dwz_bytes.specs.Reading.{groups_at, sleb_at, uleb_at}
 use Rattle.dwz_codes.specs.Forms.{form_rows}
 use Rattle.dwz_codes.specs.ListKinds.{list_kind_rows}
 use Rattle.dwz_codes.specs.Operators.{operator_rows}
-use Rattle.dwz_meanings.specs.Documents.{Expr, File, Loc, Part, Same, Value, only}
+use Rattle.dwz_meanings.specs.Documents.{Expr, File, Loc, Same, Value, only}
 use Rattle.dwz_meanings.specs.Documents as document
 use Rattle.dwz_docs.specs.Entries.{RawAttr}
 use Rattle.dwz_meanings.specs.Exprs.{expr_within, fields_at, first_unnamed, has_address, joined, most_inside, op_at, operands_in, expressions_in, parts_from}
@@ -55,7 +55,8 @@ scope attrs = record {
 }
 
 means : List RawAttr → RawAttr → Result (Value ℕ) Fault
-unfolding meaning class_in class_rows first_raw has text_in operator_rows list_kind_rows form_rows uleb_at sleb_at groups_at shaped_at expr_within most_inside fields_at op_at first_unnamed operands_in has_address joined expressions_in parts_from all_at all_from row_at row_from list_at list_entry_at operands_of file_table_at tables_at times_at values_at rows_said nth_path
+unfolding meaning class_in class_rows first_raw has text_in operator_rows list_kind_rows form_rows uleb_at sleb_at groups_at shaped_at expr_within most_inside fields_at op_at first_unnamed operands_in
+    has_address joined expressions_in parts_from all_at all_from row_at row_from list_at list_entry_at operands_of file_table_at tables_at times_at values_at rows_said nth_path
 means root a = meaning (scope root) a
 
 -- an expression of so many bytes at 0x41
@@ -109,7 +110,8 @@ unfolding means
 cut_inside = refl
 
 -- eight inside one another, and nine
-eight : exprloc (0xa3 ∷ 14 ∷ 0xa3 ∷ 12 ∷ 0xa3 ∷ 10 ∷ 0xa3 ∷ 8 ∷ 0xa3 ∷ 6 ∷ 0xa3 ∷ 4 ∷ 0xa3 ∷ 2 ∷ 0xa3 ∷ 0 ∷ []) ≡ Ok (only (Expr (Same (0xa3 ∷ 14 ∷ 0xa3 ∷ 12 ∷ 0xa3 ∷ 10 ∷ 0xa3 ∷ 8 ∷ 0xa3 ∷ 6 ∷ 0xa3 ∷ 4 ∷ 0xa3 ∷ 2 ∷ 0xa3 ∷ 0 ∷ []) ∷ [])))
+eight : exprloc (0xa3 ∷ 14 ∷ 0xa3 ∷ 12 ∷ 0xa3 ∷ 10 ∷ 0xa3 ∷ 8 ∷ 0xa3 ∷ 6 ∷ 0xa3 ∷ 4 ∷ 0xa3 ∷ 2 ∷ 0xa3 ∷ 0 ∷ [])
+    ≡ Ok (only (Expr (Same (0xa3 ∷ 14 ∷ 0xa3 ∷ 12 ∷ 0xa3 ∷ 10 ∷ 0xa3 ∷ 8 ∷ 0xa3 ∷ 6 ∷ 0xa3 ∷ 4 ∷ 0xa3 ∷ 2 ∷ 0xa3 ∷ 0 ∷ []) ∷ [])))
 unfolding means
 eight = refl
 

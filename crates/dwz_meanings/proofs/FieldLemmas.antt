@@ -8,7 +8,9 @@ use Rattle.dwz_bytes.specs.declared.error.ByteErr.TheVariants.{Short, Wide}
 use Rattle.dwz_bytes.specs.Input.{Input}
 use Rattle.dwz_bytes.specs.Laws.{IsCutShort}
 use Rattle.dwz_bytes.specs.Spelling.{SpellsUleb, fits_u64, groups_value}
-use Rattle.dwz_meanings.specs.Exprs.{Counted, Entry4, EntryOrGeneric, EntryUleb, Expression, Field, Found, Holds, Inside, InsideReader, IsFieldFault, IsFieldsFault, Located, LocatedBy, Run, Signed, Sized, SpellsField, SpellsFields, SpellsInside, SpellsPiece, Unsigned, an_address, an_operand, an_operand_or_generic, field_at, fields_at, inside_at, inside_of, nothing, or_fault, piece_at}
+use Rattle.dwz_meanings.specs.Exprs.{Counted, Entry4, EntryOrGeneric, EntryUleb, Expression, Field, Found, Holds, Inside, InsideReader, IsFieldFault, IsFieldsFault, Located, LocatedBy, Run, Signed}
+use Rattle.dwz_meanings.specs.Exprs.{Sized, SpellsField, SpellsFields, SpellsInside, SpellsPiece, Unsigned, an_address, an_operand, an_operand_or_generic, field_at, fields_at, inside_at, inside_of}
+use Rattle.dwz_meanings.specs.Exprs.{nothing, or_fault, piece_at}
 use Rattle.dwz_docs.specs.Parts.{IsRead}
 use Rattle.dwz_meanings.specs.Sequences.{FaultAt, Spelling}
 use Rattle.dwz_docs.specs.Values.{AreFewer, IsTooBig, SpellsRun}
@@ -22,7 +24,8 @@ abbrev pub CutOrBig : (List ℕ → Type 0) → (List ℕ → Type 0) → Fault 
 CutOrBig IsCut IsBig bad bytes f = (f ≡ bad) × (IsCut bytes ⊎ IsBig bytes)
 
 -- what is spelled at the front of an input is read
-pub read_again : {X : Type 0} {Spells : List ℕ → X → Type 0} {IsCut IsBig : List ℕ → Type 0} {read : Input → Result (X × Input) ByteErr} → Reads Spells IsCut IsBig read → (i : Input) (y : X × Input) → IsRead Spells i y.1 y.0 → read i ≡ Ok y
+pub read_again : {X : Type 0} {Spells : List ℕ → X → Type 0} {IsCut IsBig : List ℕ → Type 0} {read : Input → Result (X × Input) ByteErr} → Reads Spells IsCut IsBig read → (i : Input) (y : X × Input)
+    → IsRead Spells i y.1 y.0 → read i ≡ Ok y
 read_again {X} {Spells} {IsCut} {IsBig} {read} r i y t =
     ap (λ (w : List ℕ). read (input_of i.at w)) t.parts
     ∙ r.again i.at y.0 t.front y.1.rest t.spelled
@@ -52,7 +55,8 @@ bytes_agree {X} {Spells} {IsCut} {IsBig} {read} r bad i = by (read i) refl where
     err = λ f. (λ same. (let e : bad ≡ f = cc in sym e, failed e is), λ h. ap (λ (w : Fault). Err w) (sym h.0));
   }
 
-pub piece_reads : {X : Type 0} {Spells : List ℕ → X → Type 0} {IsCut IsBig : List ℕ → Type 0} {read : Input → Result (X × Input) ByteErr} → Reads Spells IsCut IsBig read → (bad : Fault) (seen : ℕ → ℕ → X → List Found)
+pub piece_reads : {X : Type 0} {Spells : List ℕ → X → Type 0} {IsCut IsBig : List ℕ → Type 0} {read : Input → Result (X × Input) ByteErr} → Reads Spells IsCut IsBig read
+    → (bad : Fault) (seen : ℕ → ℕ → X → List Found)
     → ReadsAs (piece_at bad read seen) (SpellsPiece Spells seen) (λ start bytes f. CutOrBig IsCut IsBig bad bytes f)
 piece_reads {X} {Spells} {IsCut} {IsBig} {read} r bad seen = record { agrees = λ i. in_words (then_made (bytes_agree r bad i) (made i)) (words i) (λ f. (λ h. h, λ h. h)) } where
   made : Input → X × Input → List Found × Input
@@ -82,7 +86,8 @@ piece_reads {X} {Spells} {IsCut} {IsBig} {read} r bad seen = record { agrees = �
 
 module _ (inner : InsideReader) (IsExpr : Spelling Expression) (ExprFails : Fault → FaultAt) (inner_reads : (bad : Fault) → ReadsWhole (inner bad) IsExpr (ExprFails bad)) (bad : Fault) where
   inside_words : (i : Input) (z : List Found × Input)
-      → Next (λ (n : ℕ × Input). IsRead SpellsUleb i n.1 n.0) (λ n. Next (λ (c : List ℕ × Input). IsRead (SpellsRun n.0) n.1 c.1 c.0) (λ c. Made (λ e. IsExpr e n.1.at c.0) (λ e. (Holds e ∷ [], c.1)))) z
+      → Next (λ (n : ℕ × Input). IsRead SpellsUleb i n.1 n.0) (λ n. Next (λ (c : List ℕ × Input). IsRead (SpellsRun n.0) n.1 c.1 c.0) (λ c. Made (λ e. IsExpr e n.1.at c.0) (λ e. (Holds e ∷ [], c.1))))
+      z
       ↔ IsTaken (SpellsInside IsExpr) i z
   inside_words i z = (
     λ h.
@@ -105,7 +110,8 @@ module _ (inner : InsideReader) (IsExpr : Spelling Expression) (ExprFails : Faul
             parts = refl;
             found = ap (λ (w : List Found × Input). w.0) h.2.2.2;
           };
-          parts = tn.parts ∙ ap (λ (w : List ℕ). tn.front ++ w) (tc.parts ∙ ap (λ (w : List ℕ). w ++ c.1.rest) (sym same)) ∙ sym (append_assoc tn.front c.0 c.1.rest) ∙ ap (λ (k : Input). (tn.front ++ c.0) ++ k.rest) (sym behind);
+          parts = tn.parts ∙ ap (λ (w : List ℕ). tn.front ++ w) (tc.parts ∙ ap (λ (w : List ℕ). w ++ c.1.rest) (sym same)) ∙ sym (append_assoc tn.front c.0 c.1.rest)
+              ∙ ap (λ (k : Input). (tn.front ++ c.0) ++ k.rest) (sym behind);
           place = ap (λ (k : Input). k.at) behind ∙ omega (arith, tc.place, tn.place, ap length same, length-append tn.front c.0);
         },
     λ t.
@@ -125,10 +131,13 @@ module _ (inner : InsideReader) (IsExpr : Spelling Expression) (ExprFails : Faul
   UlebFails i = CutOrBig IsCutShort (IsTooBig groups_value fits_u64) bad i.rest
 
   inside_faults : (i : Input) (f : Fault)
-      → OrNext (UlebFails i) (λ (n : ℕ × Input). IsRead SpellsUleb i n.1 n.0) (λ n. OrNext (CutOrBig (AreFewer n.0) Never bad n.1.rest) (λ (c : List ℕ × Input). IsRead (SpellsRun n.0) n.1 c.1 c.0) (λ c. ExprFails bad n.1.at c.0)) f
+      → OrNext (UlebFails i) (λ (n : ℕ × Input). IsRead SpellsUleb i n.1 n.0)
+      (λ n. OrNext (CutOrBig (AreFewer n.0) Never bad n.1.rest) (λ (c : List ℕ × Input). IsRead (SpellsRun n.0) n.1 c.1 c.0) (λ c. ExprFails bad n.1.at c.0)) f
       ↔ IsFieldFault (ExprFails bad) bad Inside i.at i.rest f
   inside_faults i f = (to, from) where
-    to : OrNext (UlebFails i) (λ (n : ℕ × Input). IsRead SpellsUleb i n.1 n.0) (λ n. OrNext (CutOrBig (AreFewer n.0) Never bad n.1.rest) (λ (c : List ℕ × Input). IsRead (SpellsRun n.0) n.1 c.1 c.0) (λ c. ExprFails bad n.1.at c.0)) f → IsFieldFault (ExprFails bad) bad Inside i.at i.rest f
+    to : OrNext (UlebFails i) (λ (n : ℕ × Input). IsRead SpellsUleb i n.1 n.0)
+        (λ n. OrNext (CutOrBig (AreFewer n.0) Never bad n.1.rest) (λ (c : List ℕ × Input). IsRead (SpellsRun n.0) n.1 c.1 c.0) (λ c. ExprFails bad n.1.at c.0)) f
+        → IsFieldFault (ExprFails bad) bad Inside i.at i.rest f
     to (inl (same, inl cut)) = inl (same, inl (inl cut))
     to (inl (same, inr big)) = inl (same, inr big)
     to (inr (n, t, inl (same, inl fewer))) = inl (same, inl (inr (record { front = t.front; rest = n.1.rest; count = n.0; spelled = t.spelled; too_few = fewer; parts = t.parts })))
@@ -145,7 +154,8 @@ module _ (inner : InsideReader) (IsExpr : Spelling Expression) (ExprFails : Faul
           fault = subst (λ (at : ℕ). ExprFails bad at c.0 f) t.place fault;
         })
 
-    from : IsFieldFault (ExprFails bad) bad Inside i.at i.rest f → OrNext (UlebFails i) (λ (n : ℕ × Input). IsRead SpellsUleb i n.1 n.0) (λ n. OrNext (CutOrBig (AreFewer n.0) Never bad n.1.rest) (λ (c : List ℕ × Input). IsRead (SpellsRun n.0) n.1 c.1 c.0) (λ c. ExprFails bad n.1.at c.0)) f
+    from : IsFieldFault (ExprFails bad) bad Inside i.at i.rest f → OrNext (UlebFails i) (λ (n : ℕ × Input). IsRead SpellsUleb i n.1 n.0)
+        (λ n. OrNext (CutOrBig (AreFewer n.0) Never bad n.1.rest) (λ (c : List ℕ × Input). IsRead (SpellsRun n.0) n.1 c.1 c.0) (λ c. ExprFails bad n.1.at c.0)) f
     from (inl (same, inl (inl cut))) = inl (same, inl cut)
     from (inl (same, inl (inr b))) = inr ((b.count, input_of (i.at + length b.front) b.rest), record { front = b.front; spelled = b.spelled; parts = b.parts; place = refl }, inl (same, inl b.too_few))
     from (inl (same, inr big)) = inl (same, inr big)

@@ -1,7 +1,8 @@
 -- Files: what is answered for files is what they say, and their first fault is answered.
-use Rattle.std.proofs.Common.{◌≡◌, ◌≢◌, ◌↔◌, ◌⊎◌, ℕ, suc, ◌<◌, ◌≤◌, Bool, true, false, List, [], ◌∷◌, ◌++◌, length, Option, Some, None, Result, Ok, Err, refl, sym, ap, subst, ◌∙◌, inl, inr, eqb, ltb, arith}
+use Rattle.std.proofs.Common.{◌≡◌, ◌≢◌, ◌↔◌, ◌⊎◌, ℕ, suc, ◌<◌, ◌≤◌, Bool, true, false, List, [], ◌∷◌, ◌++◌, length, Option, Some, None, Result, Ok, Err, refl, sym, ap, subst, ◌∙◌, inl, inr, eqb, ltb}
+use Rattle.std.proofs.Common.{arith}
 use Rattle.std.specs.Prelude.{◌||◌, not}
-use Rattle.std.proofs.lemmas.Bool.{eqb-false, eqb-true, ltb-false, ltb-true}
+use Rattle.std.proofs.lemmas.Bool.{eqb-false, eqb-true, ltb-false, ltb-true, or_parts}
 use Rattle.dwz_model.specs.declared.fault.Fault.{Fault}
 use Rattle.dwz_model.specs.declared.fault.Reason.TheVariants.{FileSize, Machine}
 use Rattle.dwz_model.specs.declared.fault.Refusal.{Refusal}
@@ -15,7 +16,9 @@ use Rattle.dwz_docs.specs.ElfHeaders.{file_header}
 use Rattle.dwz_docs.specs.ElfNames.{sections_in}
 use Rattle.dwz_docs.specs.ElfReading.{elf_fault}
 use Rattle.dwz_docs.specs.Entries.{Mode, given, unless_so}
-use Rattle.dwz_meanings.specs.Files.{First, HaveGoodRanges, IsFileFault, IsForMachine, IsNotTooLong, IsOtherMachine, IsRefusal, IsTooLong, Limits, ReadAll, Reads, around_of, debug_abbrev, debug_aranges, debug_info, doc_with, ends_at, file_meaning, files_meaning, in_file, is_other_machine, is_place_of, is_too_long, limits_after, lists_said, longest_file, machine_at, machine_of, sets_said, units_said}
+use Rattle.dwz_meanings.specs.Files.{First, HaveGoodRanges, IsFileFault, IsForMachine, IsNotTooLong, IsOtherMachine, IsRefusal, IsTooLong, Limits, ReadAll, Reads, around_of, debug_abbrev}
+use Rattle.dwz_meanings.specs.Files.{debug_aranges, debug_info, doc_with, ends_at, file_meaning, files_meaning, in_file, is_other_machine, is_place_of, is_too_long, limits_after, lists_said}
+use Rattle.dwz_meanings.specs.Files.{longest_file, machine_at, machine_of, sets_said, units_said}
 use Rattle.dwz_meanings.specs.Meanings.{HaveUnitFault, MeanUnits}
 use Rattle.dwz_meanings.specs.NamedLists.{lists_of_units}
 use Rattle.dwz_meanings.specs.Ranges.{IsSetsFault, RangeSet, SpellsSets}
@@ -40,7 +43,8 @@ itself First = record { each = λ f h. h }
 weaker : (First Any Then AnyThen : Fault → Type 0) → Covers First Any → Covers Then AnyThen → Covers (Before First Then) (Either Any AnyThen)
 weaker First Any Then AnyThen one others = record { each = λ f h. elim h [ inl is ↦ inl (one.each f is) | inr p ↦ inr (others.each f p.1) ] }
 
-weaker_in_order : {X : Type 0} (One Any : List X → X → Fault → Type 0) → ((before : List X) (x : X) → Covers (One before x) (Any before x)) → (before xs : List X) → Covers (InOrder Before One before xs) (InOrder Either Any before xs)
+weaker_in_order : {X : Type 0} (One Any : List X → X → Fault → Type 0) → ((before : List X) (x : X) → Covers (One before x) (Any before x)) → (before xs : List X)
+    → Covers (InOrder Before One before xs) (InOrder Either Any before xs)
 weaker_in_order One Any each before [] = record { each = λ f h. h }
 weaker_in_order One Any each before (x ∷ xs) = weaker _ _ _ _ (each before x) (weaker_in_order One Any each (before ++ x ∷ []) xs)
 
@@ -85,13 +89,9 @@ test_agrees true f Holds Fails fails holds apart =
 test_agrees false f Holds Fails fails holds apart =
     in_words (agrees_ok tt) (λ u. (λ same. holds refl, λ h. refl)) (λ g. (λ none. absurd none, λ h. apart (holds refl) h.1))
 
-or_true : (a b : Bool) → (a || b) ≡ true → (a ≡ true) ⊎ (b ≡ true)
+pub or_true : (a b : Bool) → (a || b) ≡ true → (a ≡ true) ⊎ (b ≡ true)
 or_true true b e = inl refl
 or_true false b e = inr e
-
-or_false : (a b : Bool) → (a || b) ≡ false → (a ≡ false) × (b ≡ false)
-or_false true b e = absurd cc
-or_false false b e = (refl, e)
 
 not_above : (a b : ℕ) → a ≤ b → b < a → ⊥
 not_above a b le lt = omega arith
@@ -103,7 +103,7 @@ size_agrees l bytes = test_agrees (is_too_long l bytes) (file_fault FileSize 0) 
       | inr h ↦ inr (ltb-true l.bytes (length bytes) h)
     ])
     (λ e.
-    let both = or_false (ltb longest_file (length bytes)) (ltb l.bytes (length bytes)) e in
+    let both = or_parts (ltb longest_file (length bytes)) (ltb l.bytes (length bytes)) e in
     record { file = ltb-false longest_file (length bytes) both.0; files = ltb-false l.bytes (length bytes) both.1 })
     (λ is long. elim long [
       | inl h ↦ not_above (length bytes) longest_file is.file h
@@ -229,7 +229,24 @@ file_agrees l bytes =
               lists = free;
             } in
             subst (λ (y : Read). Reads l bytes y.0 y.1) (sym is) reads,
-        λ r. (r.size, (r.elf, (r.same_machine, (x.0, r.spelled, (x.1.units, r.means, (r.ranges.sets, r.ranges.spelled, (tt, r.lists, λ i. (x.0, record { machine = r.machine i; units = x.1.units })))))))),
+        λ r. (
+          r.size,
+          (
+            r.elf,
+            (
+              r.same_machine,
+              (
+                x.0,
+                r.spelled,
+                (
+                  x.1.units,
+                  r.means,
+                  (r.ranges.sets, r.ranges.spelled, (tt, r.lists, λ i. (x.0, record { machine = r.machine i; units = x.1.units }))),
+                ),
+              ),
+            ),
+          ),
+        ),
       )
 
       -- what is behind the units, in the words of the definition

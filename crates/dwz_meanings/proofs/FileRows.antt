@@ -84,7 +84,10 @@ doc_said machine = record {
 
 -- what files say behind others; whatever unfolds this unfolds all that is read with
 said_behind : Limits → List (List ℕ) → Result (List (Doc ℕ)) Refusal
-unfolding files_meaning file_meaning section_of longest_file longest_files most_entries headers_from number_at name_in elf_fault field_fault first_in first_other header_fault identification_fault missing_fault names_fault section_range unkept_fault units_at units_from unit_at entries_in header_reason tree_at zero_count front_at attrs_at siblings_at forest_at table_at declaration_at pair_at items_at items_from uleb_at groups_at shaped_at text_in form_rows units_meaning entries_meaning attrs_meaning meaning class_in class_rows without_siblings all_places places_in has first_raw file_of unit_places all_at all_from none_shared least_place operands_in_lists lists_of_units lists_of_entries lists_of_attrs list_of_attr lib.Count.ones
+unfolding files_meaning file_meaning section_of longest_file longest_files most_entries headers_from number_at name_in elf_fault field_fault first_in first_other header_fault identification_fault
+    missing_fault names_fault section_range unkept_fault units_at units_from unit_at entries_in header_reason tree_at zero_count front_at attrs_at siblings_at forest_at table_at declaration_at pair_at
+    items_at items_from uleb_at groups_at shaped_at text_in form_rows units_meaning entries_meaning attrs_meaning meaning class_in class_rows without_siblings all_places places_in has first_raw
+    file_of unit_places all_at all_from none_shared least_place operands_in_lists lists_of_units lists_of_entries lists_of_attrs list_of_attr lib.Count.ones
 said_behind l files = files_meaning l 0 files
 
 abbrev refused : ℕ → ℕ → ℕ → Reason → Result (List (Doc ℕ)) Refusal

@@ -1,5 +1,6 @@
 -- What is spelled is spelled with other numbers in its operands, and at another place: field by field, and so by induction.
-use Rattle.std.proofs.Common.{◌≡◌, ℕ, zero, suc, ◌+◌, ◌-◌, ◌^◌, ◌<◌, ◌≤◌, Bool, true, false, ◌||◌, cond, eqb, List, [], ◌∷◌, ◌++◌, length, take, drop, map, refl, sym, ap, subst, ◌∙◌, arith, append-nil}
+use Rattle.std.proofs.Common.{◌≡◌, ℕ, zero, suc, ◌+◌, ◌-◌, ◌^◌, ◌<◌, ◌≤◌, Bool, true, false, ◌||◌, cond, eqb, List, [], ◌∷◌, ◌++◌, length, take, drop, map, refl, sym, ap, subst, ◌∙◌, arith}
+use Rattle.std.proofs.Common.{append-nil}
 use Rattle.std.proofs.lemmas.List.{drop_all, map-append}
 use Rattle.std.proofs.Math.Dec.{eqb-suc-zero}
 use Rattle.dwz_bytes.specs.Spelling.{SpellsFixed, SpellsUleb}
@@ -8,7 +9,9 @@ use Rattle.dwz_bytes.proofs.PaddedLemmas.{padded_spells, some_groups}
 use Rattle.dwz_model.specs.declared.place.Base.{Base}
 use Rattle.dwz_model.specs.declared.place.Base.TheVariants.{Unit as FromUnit}
 use Rattle.dwz_meanings.specs.declared.exprs.Operand.{Operand}
-use Rattle.dwz_meanings.specs.Exprs.{AnAddress, AreNamed, Counted, Entry4, EntryOrGeneric, EntryUleb, ExprContext, Expression, Field, Found, Holds, Inside, Located, LocatedBy, Names, Run, Signed, Sized, SpellsExpr, SpellsField, SpellsFields, SpellsOp, SpellsPiece, SpellsWithin, Unsigned, an_address, an_operand, an_operand_or_generic, expression_of, expressions_in, has_address, joined, most_inside, nothing, operands_in}
+use Rattle.dwz_meanings.specs.Exprs.{AnAddress, AreNamed, Counted, Entry4, EntryOrGeneric, EntryUleb, ExprContext, Expression, Field, Found, Holds, Inside, Located, LocatedBy, Names, Run, Signed}
+use Rattle.dwz_meanings.specs.Exprs.{Sized, SpellsExpr, SpellsField, SpellsFields, SpellsOp, SpellsPiece, SpellsWithin, Unsigned, an_address, an_operand, an_operand_or_generic, expression_of}
+use Rattle.dwz_meanings.specs.Exprs.{expressions_in, has_address, joined, most_inside, nothing, operands_in}
 use Rattle.dwz_meanings.specs.LocLists.{EndsList, SpellsListEntry}
 use Rattle.dwz_meanings.specs.PatchedLists.{with_number}
 use Rattle.dwz_meanings.specs.Patching.{FitsIn, number_bytes}
@@ -129,15 +132,19 @@ module _ (from : ℕ) (there : ℕ → ℕ) (along : GoAlong from there) (number
     Spelled Spells start bytes founds = FoundGood founds → Spells (moved_founds founds) (there start) (again start bytes (operands_in founds))
 
     -- where it holds nothing, or an address
-    plain_piece : {X : Type 0} (Spells : List ℕ → X → Type 0) (start : ℕ) (bytes : List ℕ) (founds : List Found) → SpellsPiece Spells nothing founds start bytes → Spelled (SpellsPiece Spells nothing) start bytes founds
+    plain_piece : {X : Type 0} (Spells : List ℕ → X → Type 0) (start : ℕ) (bytes : List ℕ) (founds : List Found) → SpellsPiece Spells nothing founds start bytes
+        → Spelled (SpellsPiece Spells nothing) start bytes founds
     unfolding operands_in
     plain_piece Spells start bytes founds s good =
-        subst (λ (w : List Found). SpellsPiece Spells nothing (moved_founds w) (there start) (again start bytes (operands_in w))) (sym s.found) (record { value = s.value; spelled = s.spelled; found = refl })
+        subst (λ (w : List Found). SpellsPiece Spells nothing (moved_founds w) (there start) (again start bytes (operands_in w))) (sym s.found)
+        (record { value = s.value; spelled = s.spelled; found = refl })
 
-    address_piece : {X : Type 0} (Spells : List ℕ → X → Type 0) (start : ℕ) (bytes : List ℕ) (founds : List Found) → SpellsPiece Spells an_address founds start bytes → Spelled (SpellsPiece Spells an_address) start bytes founds
+    address_piece : {X : Type 0} (Spells : List ℕ → X → Type 0) (start : ℕ) (bytes : List ℕ) (founds : List Found) → SpellsPiece Spells an_address founds start bytes
+        → Spelled (SpellsPiece Spells an_address) start bytes founds
     unfolding operands_in
     address_piece Spells start bytes founds s good =
-        subst (λ (w : List Found). SpellsPiece Spells an_address (moved_founds w) (there start) (again start bytes (operands_in w))) (sym s.found) (record { value = s.value; spelled = s.spelled; found = refl })
+        subst (λ (w : List Found). SpellsPiece Spells an_address (moved_founds w) (there start) (again start bytes (operands_in w))) (sym s.found)
+        (record { value = s.value; spelled = s.spelled; found = refl })
 
     -- an operand that has all bytes
     whole : (start n : ℕ) (bytes spelled : List ℕ) → take (start - start) bytes ++ (spelled ++ drop (start + length bytes - start) bytes) ≡ spelled
@@ -168,13 +175,16 @@ module _ (from : ℕ) (there : ℕ → ℕ) (along : GoAlong from there) (number
         (record {
           value = number start;
           spelled = spelled good.0.0;
-          found = ap (λ (k : ℕ). an_operand uleb base (there start) k (number start)) (sym (number_len uleb (length bytes) (number start))) ∙ is good.0.0 (length (number_bytes uleb (length bytes) (number start)));
+          found = ap (λ (k : ℕ). an_operand uleb base (there start) k (number start)) (sym (number_len uleb (length bytes) (number start)))
+              ∙ is good.0.0 (length (number_bytes uleb (length bytes) (number start)));
         })
 
-    entry_piece : (uleb : Bool) (base : Base) (Spells : List ℕ → ℕ → Type 0) (start : ℕ) (bytes : List ℕ) (founds : List Found) → ((n m : ℕ) → Spells bytes n → FitsIn uleb (length bytes) m → Spells (number_bytes uleb (length bytes) m) m)
+    entry_piece : (uleb : Bool) (base : Base) (Spells : List ℕ → ℕ → Type 0) (start : ℕ) (bytes : List ℕ) (founds : List Found)
+        → ((n m : ℕ) → Spells bytes n → FitsIn uleb (length bytes) m → Spells (number_bytes uleb (length bytes) m) m)
         → SpellsPiece Spells (an_operand uleb base) founds start bytes → Spelled (SpellsPiece Spells (an_operand uleb base)) start bytes founds
     entry_piece uleb base Spells start bytes founds spelled s =
-        subst (Spelled (SpellsPiece Spells (an_operand uleb base)) start bytes) (sym s.found) (operand_piece uleb base Spells (an_operand uleb base) start s.value bytes (spelled s.value (number start) s.spelled) (λ fits width. refl))
+        subst (Spelled (SpellsPiece Spells (an_operand uleb base)) start bytes) (sym s.found)
+        (operand_piece uleb base Spells (an_operand uleb base) start s.value bytes (spelled s.value (number start) s.spelled) (λ fits width. refl))
 
     -- a number that isn't 0 isn't that of the generic type
     not_generic : (place width n : ℕ) → 0 < n → an_operand true FromUnit place width n ≡ an_operand_or_generic place width n
@@ -186,7 +196,8 @@ module _ (from : ℕ) (there : ℕ → ℕ) (along : GoAlong from there) (number
     generic_stays start bytes n s is good =
         record { value = n; spelled = s; found = ap (λ (b : Bool). cond b [] (an_operand true FromUnit (there start) (length bytes) n)) (sym is) }
 
-    generic_piece : (start : ℕ) (bytes : List ℕ) (founds : List Found) → SpellsPiece SpellsUleb an_operand_or_generic founds start bytes → Spelled (SpellsPiece SpellsUleb an_operand_or_generic) start bytes founds
+    generic_piece : (start : ℕ) (bytes : List ℕ) (founds : List Found) → SpellsPiece SpellsUleb an_operand_or_generic founds start bytes
+        → Spelled (SpellsPiece SpellsUleb an_operand_or_generic) start bytes founds
     generic_piece start bytes founds s = by (eqb s.value 0) refl where
       shown : (b : Bool) → eqb s.value 0 ≡ b → founds ≡ cond b [] (an_operand true FromUnit start (length bytes) s.value)
       shown b is = s.found ∙ ap (λ (b : Bool). cond b [] (an_operand true FromUnit start (length bytes) s.value)) is
@@ -194,7 +205,8 @@ module _ (from : ℕ) (there : ℕ → ℕ) (along : GoAlong from there) (number
       by : (b : Bool) → eqb s.value 0 ≡ b → Spelled (SpellsPiece SpellsUleb an_operand_or_generic) start bytes founds
       by true is = subst (Spelled (SpellsPiece SpellsUleb an_operand_or_generic) start bytes) (sym (shown true is)) (generic_stays start bytes s.value s.spelled is)
       by false is = subst (Spelled (SpellsPiece SpellsUleb an_operand_or_generic) start bytes) (sym (shown false is))
-          (operand_piece true FromUnit SpellsUleb an_operand_or_generic start s.value bytes (uleb_spelled bytes s.value (number start) s.spelled) (λ fits width. not_generic (there start) width (number start) fits.0))
+          (operand_piece true FromUnit SpellsUleb an_operand_or_generic start s.value bytes (uleb_spelled bytes s.value (number start) s.spelled)
+          (λ fits width. not_generic (there start) width (number start) fits.0))
 
     -- ---- fields, where the expressions in them are spelled so
 
@@ -203,7 +215,8 @@ module _ (from : ℕ) (there : ℕ → ℕ) (along : GoAlong from there) (number
     Inner IsExpr IsExpr' = (e : Expression) (start : ℕ) (bytes : List ℕ) → from ≤ start → IsExpr e start bytes → Good e.operands → IsExpr' (moved_expr e) (there start) (again start bytes e.operands)
 
     module _ (IsExpr IsExpr' : Spelling Expression) (stands : (e : Expression) (start : ℕ) (bytes : List ℕ) → IsExpr e start bytes → Stand start bytes e.operands) (inner : Inner IsExpr IsExpr') where
-      holds_inside : (start : ℕ) (bytes : List ℕ) (e : Expression) (front content : List ℕ) → from ≤ start → SpellsUleb front (length content) → IsExpr e (start + length front) content → bytes ≡ front ++ content
+      holds_inside : (start : ℕ) (bytes : List ℕ) (e : Expression) (front content : List ℕ) → from ≤ start → SpellsUleb front (length content) → IsExpr e (start + length front) content
+          → bytes ≡ front ++ content
           → FoundGood (Holds e ∷ []) → SpellsField IsExpr' Inside (moved_founds (Holds e ∷ [])) (there start) (again start bytes (operands_in (Holds e ∷ [])))
       unfolding operands_in
       holds_inside start bytes e front content le count is parts good =
@@ -218,7 +231,8 @@ module _ (from : ℕ) (there : ℕ → ℕ) (along : GoAlong from there) (number
             content = again (start + length front) content e.operands;
             count = subst (SpellsUleb front) (sym len) count;
             expression = moved_expr e;
-            is = subst (λ (n : ℕ). IsExpr' (moved_expr e) n (again (start + length front) content e.operands)) (along start (length front) le) (inner e (start + length front) content (omega (arith, le)) is one);
+            is = subst (λ (n : ℕ). IsExpr' (moved_expr e) n (again (start + length front) content e.operands)) (along start (length front) le)
+                (inner e (start + length front) content (omega (arith, le)) is one);
             parts = all;
             found = refl;
           }
@@ -227,7 +241,8 @@ module _ (from : ℕ) (there : ℕ → ℕ) (along : GoAlong from there) (number
       unfolding operands_in
       no_fields start bytes none good = (refl, none)
 
-      field_moves : (field : Field) (founds : List Found) (start : ℕ) (bytes : List ℕ) → from ≤ start → SpellsField IsExpr field founds start bytes → Spelled (SpellsField IsExpr' field) start bytes founds
+      field_moves : (field : Field) (founds : List Found) (start : ℕ) (bytes : List ℕ) → from ≤ start → SpellsField IsExpr field founds start bytes
+          → Spelled (SpellsField IsExpr' field) start bytes founds
       field_moves (Run n) founds start bytes le s = plain_piece _ start bytes founds s
       field_moves Unsigned founds start bytes le s = plain_piece _ start bytes founds s
       field_moves Signed founds start bytes le s = plain_piece _ start bytes founds s
@@ -238,9 +253,11 @@ module _ (from : ℕ) (there : ℕ → ℕ) (along : GoAlong from there) (number
       field_moves (Entry4 base) founds start bytes le s = entry_piece false base (SpellsFixed 4) start bytes founds (fixed_spelled bytes) s
       field_moves EntryUleb founds start bytes le s = entry_piece true FromUnit SpellsUleb start bytes founds (uleb_spelled bytes) s
       field_moves EntryOrGeneric founds start bytes le s = generic_piece start bytes founds s
-      field_moves Inside founds start bytes le s = subst (Spelled (SpellsField IsExpr' Inside) start bytes) (sym s.found) (holds_inside start bytes s.expression s.front s.content le s.count s.is s.parts)
+      field_moves Inside founds start bytes le s = subst (Spelled (SpellsField IsExpr' Inside) start bytes) (sym s.found)
+          (holds_inside start bytes s.expression s.front s.content le s.count s.is s.parts)
 
-      pub fields_move : (fields : List Field) (founds : List Found) (start : ℕ) (bytes : List ℕ) → from ≤ start → SpellsFields IsExpr fields founds start bytes → Spelled (SpellsFields IsExpr' fields) start bytes founds
+      pub fields_move : (fields : List Field) (founds : List Found) (start : ℕ) (bytes : List ℕ) → from ≤ start → SpellsFields IsExpr fields founds start bytes
+          → Spelled (SpellsFields IsExpr' fields) start bytes founds
       fields_move [] founds start bytes le s good = subst (Spelled (SpellsFields IsExpr' []) start bytes) (sym s.0) (no_fields start bytes s.1) good
       fields_move (field ∷ fields) founds start bytes le s good =
           let p = s.both in
@@ -248,7 +265,8 @@ module _ (from : ℕ) (there : ℕ → ℕ) (along : GoAlong from there) (number
           let first_lies = (field_stands IsExpr stands field s.x start p.first_bytes p.first).lie in
           let second_lies = (fields_stand IsExpr stands fields s.y (start + length p.first_bytes) p.second_bytes p.second).lie in
           let both : again start bytes (operands_in founds) ≡ again start p.first_bytes (operands_in s.x) ++ again (start + length p.first_bytes) p.second_bytes (operands_in s.y) =
-          ap (λ (w : List Found). again start bytes (operands_in w)) s.made ∙ ap (again start bytes) (operands_both s.x s.y) ∙ again_both start bytes p.first_bytes p.second_bytes (operands_in s.x) (operands_in s.y) p.parts first_lies second_lies in
+          ap (λ (w : List Found). again start bytes (operands_in w)) s.made ∙ ap (again start bytes) (operands_both s.x s.y) ∙ again_both start bytes p.first_bytes p.second_bytes (operands_in s.x)
+          (operands_in s.y) p.parts first_lies second_lies in
           record {
             x = moved_founds s.x;
             y = moved_founds s.y;
@@ -256,7 +274,8 @@ module _ (from : ℕ) (there : ℕ → ℕ) (along : GoAlong from there) (number
               first_bytes = again start p.first_bytes (operands_in s.x);
               first = field_moves field s.x start p.first_bytes le p.first (found_left s.x s.y goods);
               second_bytes = again (start + length p.first_bytes) p.second_bytes (operands_in s.y);
-              second = subst (λ (n : ℕ). SpellsFields IsExpr' fields (moved_founds s.y) n (again (start + length p.first_bytes) p.second_bytes (operands_in s.y))) (there_len start p.first_bytes (operands_in s.x) le first_lies)
+              second = subst (λ (n : ℕ). SpellsFields IsExpr' fields (moved_founds s.y) n (again (start + length p.first_bytes) p.second_bytes (operands_in s.y)))
+                  (there_len start p.first_bytes (operands_in s.x) le first_lies)
                   (fields_move fields s.y (start + length p.first_bytes) p.second_bytes (omega (arith, le)) p.second (found_right s.x s.y goods));
               parts = both;
             };
@@ -264,20 +283,24 @@ module _ (from : ℕ) (there : ℕ → ℕ) (along : GoAlong from there) (number
           }
 
       -- behind a code
-      pub code_moves : (fields : List Field) (founds : List Found) (start code : ℕ) (bytes rest : List ℕ) → from ≤ start → bytes ≡ code ∷ rest → SpellsFields IsExpr fields founds (start + 1) rest → FoundGood founds
-          → (again start bytes (operands_in founds) ≡ code ∷ again (start + 1) rest (operands_in founds)) × SpellsFields IsExpr' fields (moved_founds founds) (there start + 1) (again (start + 1) rest (operands_in founds))
+      pub code_moves : (fields : List Field) (founds : List Found) (start code : ℕ) (bytes rest : List ℕ) → from ≤ start → bytes ≡ code ∷ rest → SpellsFields IsExpr fields founds (start + 1) rest
+          → FoundGood founds
+          → (again start bytes (operands_in founds) ≡ code ∷ again (start + 1) rest (operands_in founds)) × SpellsFields IsExpr' fields (moved_founds founds) (there start + 1)
+          (again (start + 1) rest (operands_in founds))
       code_moves fields founds start code bytes rest le parts s good =
           let none : Lie start (start + 1) [] = omega arith in
           let place : there (start + 1) ≡ there start + 1 = along start 1 le in (
             again_both start bytes (code ∷ []) rest [] (operands_in founds) parts none (fields_stand IsExpr stands fields founds (start + 1) rest s).lie,
-            subst (λ (n : ℕ). SpellsFields IsExpr' fields (moved_founds founds) n (again (start + 1) rest (operands_in founds))) place (fields_move fields founds (start + 1) rest (omega (arith, le)) s good),
+            subst (λ (n : ℕ). SpellsFields IsExpr' fields (moved_founds founds) n (again (start + 1) rest (operands_in founds))) place
+                (fields_move fields founds (start + 1) rest (omega (arith, le)) s good),
           )
 
     -- ---- items in order
 
     -- the bytes of an item and of what follows it
     item_moves : (start : ℕ) (bytes a b : List ℕ) (x : List Found) (xs : List (List Found)) → from ≤ start → bytes ≡ a ++ b → FoundStand start a x → FoundStand (start + length a) b (joined xs)
-        → (again start bytes (operands_in (joined (x ∷ xs))) ≡ again start a (operands_in x) ++ again (start + length a) b (operands_in (joined xs))) × (there (start + length a) ≡ there start + length (again start a (operands_in x)))
+        → (again start bytes (operands_in (joined (x ∷ xs))) ≡ again start a (operands_in x) ++ again (start + length a) b (operands_in (joined xs)))
+        × (there (start + length a) ≡ there start + length (again start a (operands_in x)))
     unfolding joined
     item_moves start bytes a b x xs le parts first second = (
       ap (again start bytes) (operands_both x (joined xs)) ∙ again_both start bytes a b (operands_in x) (operands_in (joined xs)) parts first.lie second.lie,
@@ -330,7 +353,8 @@ module _ (from : ℕ) (there : ℕ → ℕ) (along : GoAlong from there) (number
             parts = both.0;
           }
 
-      expression_moves : (start : ℕ) (bytes : List ℕ) (ops : List (List Found)) → moved_expr (expression_of start bytes ops) ≡ expression_of (there start) (again start bytes (operands_in (joined ops))) (map moved_founds ops)
+      expression_moves : (start : ℕ) (bytes : List ℕ) (ops : List (List Found))
+          → moved_expr (expression_of start bytes ops) ≡ expression_of (there start) (again start bytes (operands_in (joined ops))) (map moved_founds ops)
       expression_moves start bytes ops =
           let founds = joined_moved ops in
           let operands : map out (operands_in (joined ops)) ≡ operands_in (joined (map moved_founds ops)) = sym (ap operands_in founds ∙ operands_moved (joined ops)) in
@@ -350,7 +374,8 @@ module _ (from : ℕ) (there : ℕ → ℕ) (along : GoAlong from there) (number
 
       entry_moves : (founds : List Found) (start : ℕ) (bytes : List ℕ) → from ≤ start → SpellsListEntry c founds start bytes → Spelled (SpellsListEntry d) start bytes founds
       entry_moves founds start bytes le s good =
-          let moves = code_moves (SpellsExpr c) (SpellsExpr d) (within_stands c (suc most_inside)) (within_moves (suc most_inside)) s.fields founds start s.kind bytes s.rest le s.parts s.spelled good in
+          let moves = code_moves (SpellsExpr c) (SpellsExpr d) (within_stands c (suc most_inside)) (within_moves (suc most_inside)) s.fields founds start s.kind bytes s.rest le s.parts s.spelled
+          good in
           record { kind = s.kind; rest = again (start + 1) s.rest (operands_in founds); parts = moves.0; no_end = s.no_end; fields = s.fields; laid = s.laid; spelled = moves.1 }
 
       pub row_moves : (entries : List (List Found)) (start : ℕ) (bytes : List ℕ) → from ≤ start → SpellsRow (SpellsListEntry c) EndsList entries start bytes → FoundGood (joined entries)

@@ -24,11 +24,14 @@ between_both from middle to section le more =
     let first : take k (take (to - from) (drop from section)) ≡ take k (drop from section) = take-take k (to - from) (drop from section) (omega (arith, le, more)) in
     let place : k + from ≡ middle = omega (arith, le) in
     let second : drop k (take (to - from) (drop from section)) ≡ take m (drop middle section) =
-    ap (λ (n : ℕ). drop k (take n (drop from section))) whole ∙ drop-take k m (drop from section) ∙ ap (take m) (drop-drop k from section ∙ ap (λ (n : ℕ). drop n section) (let e : from + k ≡ middle = omega (arith, le) in e)) in
-    sym (take-append-drop k (take (to - from) (drop from section))) ∙ ap (λ (w : List ℕ). w ++ drop k (take (to - from) (drop from section))) first ∙ ap (λ (w : List ℕ). take k (drop from section) ++ w) second
+    ap (λ (n : ℕ). drop k (take n (drop from section))) whole ∙ drop-take k m (drop from section)
+    ∙ ap (take m) (drop-drop k from section ∙ ap (λ (n : ℕ). drop n section) (let e : from + k ≡ middle = omega (arith, le) in e)) in
+    sym (take-append-drop k (take (to - from) (drop from section))) ∙ ap (λ (w : List ℕ). w ++ drop k (take (to - from) (drop from section))) first
+    ∙ ap (λ (w : List ℕ). take k (drop from section) ++ w) second
 
 -- where each byte is the same
-pub between_same : (from to : ℕ) (section new : List ℕ) → length new ≡ length section → from ≤ to → to ≤ length section → ((b : ℕ) → from ≤ b → b < to → get_or new b 0 ≡ get_or section b 0) → between from to new ≡ between from to section
+pub between_same : (from to : ℕ) (section new : List ℕ) → length new ≡ length section → from ≤ to → to ≤ length section → ((b : ℕ) → from ≤ b → b < to → get_or new b 0 ≡ get_or section b 0)
+    → between from to new ≡ between from to section
 between_same from to section new len le within same = ext_get_or 0 (between from to new) (between from to section) lens each where
   new_len : length (between from to new) ≡ to - from
   new_len = between_len from to new le (omega (arith, len, within))
@@ -56,13 +59,16 @@ module _ (section new : List ℕ) (len : length new ≡ length section) (number 
   abbrev Others : ℕ → ℕ → List Operand → Type 0
   Others at end os = (b : ℕ) → at ≤ b → b < end → ((o : Operand) → In o os → HasByte o b → ⊥) → get_or new b 0 ≡ get_or section b 0
 
-  pub new_between : (at end : ℕ) (os : List Operand) → Lie at end os → end ≤ length section → Written os → Others at end os → between at end new ≡ patch at (between at end section) (map (with_number number) os)
+  pub new_between : (at end : ℕ) (os : List Operand) → Lie at end os → end ≤ length section → Written os → Others at end os
+      → between at end new ≡ patch at (between at end section) (map (with_number number) os)
   new_between at end [] h within written others = between_same at end section new len h within (λ b from to. others b from to (λ o there. absurd there))
   new_between at end (o ∷ os) h within written others =
       let behind = o.at + o.width in
       let le : behind ≤ end = lie_le behind end os h.2 in
-      let own : between o.at behind new ≡ number_bytes o.uleb o.width (number o.at) = ap (λ (n : ℕ). take n (drop o.at new)) (let e : behind - o.at ≡ o.width = omega arith in e) ∙ written o (inl refl) in
-      let before : between at o.at new ≡ between at o.at section = between_same at o.at section new len h.0 (omega (arith, le, within)) (λ b from to. others b from (omega (arith, to, le)) (none_before b to)) in
+      let own : between o.at behind new ≡ number_bytes o.uleb o.width (number o.at) = ap (λ (n : ℕ). take n (drop o.at new)) (let e : behind - o.at ≡ o.width = omega arith in e)
+      ∙ written o (inl refl) in
+      let before : between at o.at new ≡ between at o.at section = between_same at o.at section new len h.0 (omega (arith, le, within))
+      (λ b from to. others b from (omega (arith, to, le)) (none_before b to)) in
       let rest = new_between behind end os h.2 within (λ p there. written p (inr there)) (λ b from to none. others b (omega (arith, from, h.0)) to (none_behind b from none)) in
       let cut : between at end new ≡ between at o.at new ++ (between o.at behind new ++ between behind end new) =
       between_both at o.at end new h.0 (omega (arith, le)) ∙ ap (λ (w : List ℕ). between at o.at new ++ w) (between_both o.at behind end new (omega arith) le) in

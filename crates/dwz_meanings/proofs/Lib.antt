@@ -31,3 +31,5 @@ mod ExprRows
 mod MeaningRows
 mod FileRows
 mod PatchRows
+pub mod UnitMeans
+pub mod FoundLemmas

@@ -10,7 +10,10 @@ use Rattle.dwz_bytes.specs.Spelling.{SpellsFixed, SpellsUleb, reach}
 use Rattle.dwz_codes.specs.Forms.{form_rows}
 use Rattle.dwz_docs.specs.Entries.{unless_so}
 use Rattle.dwz_meanings.specs.Exprs.{or_fault}
-use Rattle.dwz_meanings.specs.LineTables.{BeginsWith, FileTable, IsFileTable, IsNoFileTable, IsPathText, PathRow, SayRows, SaysRow, SaysTable, SpellsFormat, SpellsFormats, SpellsRows, SpellsTable, SpellsTables, SpellsValues, Tables, TextSections, any_table, are_formats, are_indexes, bad_line_table, byte_or, dirs_after, file_table_at, files_after, first_index, format_at, format_of, formats_at, full_path, is_header, names_strs, one_fault, or_bad, row_after, row_path, row_said, rows_at, rows_said, second, table_at, table_said, table_with, tables_after, tables_at, tables_begin, tables_bytes, tables_with, uleb_or, values_at, with_content, with_row}
+use Rattle.dwz_meanings.specs.LineTables.{BeginsWith, FileTable, IsFileTable, IsNoFileTable, IsPathText, PathRow, SayRows, SaysRow, SaysTable, SpellsFormat, SpellsFormats, SpellsRows, SpellsTable}
+use Rattle.dwz_meanings.specs.LineTables.{SpellsTables, SpellsValues, Tables, TextSections, any_table, are_formats, are_indexes, bad_line_table, byte_or, dirs_after, file_table_at, files_after}
+use Rattle.dwz_meanings.specs.LineTables.{first_index, format_at, format_of, formats_at, full_path, is_header, names_strs, one_fault, or_bad, row_after, row_path, row_said, rows_at, rows_said, second}
+use Rattle.dwz_meanings.specs.LineTables.{table_at, table_said, table_with, tables_after, tables_at, tables_begin, tables_bytes, tables_with, uleb_or, values_at, with_content, with_row}
 use Rattle.dwz_meanings.specs.Sequences.{SpellsTimes, times_at, value_only}
 use Rattle.dwz_docs.specs.Texts.{IsTextAt, text_at}
 use Rattle.dwz_docs.specs.Values.{Bytes, Number, Raw, SpellsValue, shape_of, value_at}
@@ -24,7 +27,8 @@ use Rattle.dwz_docs.proofs.ValueLemmas.{shape_laws}
 -- ---- parts of the tables
 
 -- a number, whichever its fault
-some_number : {X : Type 0} {Spells : List ℕ → X → Type 0} {IsCut IsBig : List ℕ → Type 0} {read : Input → Result (X × Input) ByteErr} → Reads Spells IsCut IsBig read → (bad : Fault) → ReadsSome (λ i. or_fault bad (read i)) (λ x start bytes. Spells bytes x)
+some_number : {X : Type 0} {Spells : List ℕ → X → Type 0} {IsCut IsBig : List ℕ → Type 0} {read : Input → Result (X × Input) ByteErr} → Reads Spells IsCut IsBig read → (bad : Fault)
+    → ReadsSome (λ i. or_fault bad (read i)) (λ x start bytes. Spells bytes x)
 some_number r bad = record {
   agrees = λ i y. (
     λ e. let t = ((bytes_agree r bad i).ok y).0 e in record { front = t.front; spelled = t.spelled; parts = t.parts; place = t.place },
@@ -47,7 +51,8 @@ some_values : (pairs : List Pair) → ReadsSome (values_at pairs) (SpellsValues 
 unfolding values_at
 some_values [] = none_some
 some_values (pair ∷ pairs) =
-    both_some (value_at form_rows pair) (λ _. values_at pairs) (λ raw start bytes. SpellsValue form_rows pair bytes raw) (λ _. SpellsValues pairs) (λ raw raws. raw ∷ raws) (some_value pair) (λ _. some_values pairs)
+    both_some (value_at form_rows pair) (λ _. values_at pairs) (λ raw start bytes. SpellsValue form_rows pair bytes raw) (λ _. SpellsValues pairs) (λ raw raws. raw ∷ raws) (some_value pair)
+    (λ _. some_values pairs)
 
 some_uleb : (bad : Fault) → ReadsSome (uleb_or bad) (λ n start bytes. SpellsUleb bytes n)
 some_uleb bad = some_number uleb_reads bad
@@ -59,10 +64,12 @@ some_format : (bad : Fault) → ReadsSome (format_at bad) SpellsFormat
 some_format bad = both_some (uleb_or bad) (λ _. uleb_or bad) (λ n start bytes. SpellsUleb bytes n) (λ _ n start bytes. SpellsUleb bytes n) format_of (some_uleb bad) (λ _. some_uleb bad)
 
 some_formats : (bad : Fault) → ReadsSome (formats_at bad) SpellsFormats
-some_formats bad = both_some (byte_or bad) (λ n. times_at (format_at bad) n) (λ n start bytes. SpellsFixed 1 bytes n) (λ n. SpellsTimes SpellsFormat n) second (some_byte bad) (λ n. times_read (format_at bad) SpellsFormat (some_format bad) n)
+some_formats bad = both_some (byte_or bad) (λ n. times_at (format_at bad) n) (λ n start bytes. SpellsFixed 1 bytes n) (λ n. SpellsTimes SpellsFormat n) second (some_byte bad)
+    (λ n. times_read (format_at bad) SpellsFormat (some_format bad) n)
 
 some_rows : (bad : Fault) (formats : List Pair) → ReadsSome (rows_at bad formats) (SpellsRows formats)
-some_rows bad formats = both_some (uleb_or bad) (λ n. times_at (values_at formats) n) (λ n start bytes. SpellsUleb bytes n) (λ n. SpellsTimes (SpellsValues formats) n) second (some_uleb bad) (λ n. times_read (values_at formats) (SpellsValues formats) (some_values formats) n)
+some_rows bad formats = both_some (uleb_or bad) (λ n. times_at (values_at formats) n) (λ n start bytes. SpellsUleb bytes n) (λ n. SpellsTimes (SpellsValues formats) n) second (some_uleb bad)
+    (λ n. times_read (values_at formats) (SpellsValues formats) (some_values formats) n)
 
 some_table : (bad : Fault) → ReadsSome (table_at bad) SpellsTable
 some_table bad = both_some (formats_at bad) (rows_at bad) SpellsFormats SpellsRows table_with (some_formats bad) (some_rows bad)
@@ -141,11 +148,13 @@ row_says s bad dirs formats raws = says (itself (tested (are_indexes dirs (with_
   with_dir : List ℕ → PathRow
   with_dir path = record { path = path; dir = first_index (with_content 2 formats raws) }
 
-  inner : Says (row_after s bad formats raws tt) (Made (λ path. (named : Pair × Raw) × (with_content 1 formats raws ≡ named ∷ []) × IsPathText s named.0.form named.1 path) (λ path. record { path = path; dir = first_index (with_content 2 formats raws) }))
+  inner : Says (row_after s bad formats raws tt) (Made (λ path. (named : Pair × Raw) × (with_content 1 formats raws ≡ named ∷ []) × IsPathText s named.0.form named.1 path)
+      (λ path. record { path = path; dir = first_index (with_content 2 formats raws) }))
   inner = says (then_made (itself (path_says s bad (with_content 1 formats raws))) (λ path. record { path = path; dir = first_index (with_content 2 formats raws) })) (λ row. (λ h. h, λ h. h))
 
   words : (row : PathRow)
-      → ((are_indexes dirs (with_content 2 formats raws) ≡ true) × Made (λ path. (named : Pair × Raw) × (with_content 1 formats raws ≡ named ∷ []) × IsPathText s named.0.form named.1 path) (λ path. record { path = path; dir = first_index (with_content 2 formats raws) }) row)
+      → ((are_indexes dirs (with_content 2 formats raws) ≡ true) × Made (λ path. (named : Pair × Raw) × (with_content 1 formats raws ≡ named ∷ []) × IsPathText s named.0.form named.1 path)
+      (λ path. record { path = path; dir = first_index (with_content 2 formats raws) }) row)
       ↔ SaysRow s dirs formats raws row
   words row = (
     λ h.
@@ -168,7 +177,8 @@ rows_say s bad dirs formats [] = says (agrees_ok []) words where
   words [] = (λ same. tt, λ is. refl)
   words (row ∷ rows) = (λ same. absurd cc, λ none. absurd none)
 rows_say s bad dirs formats (raws ∷ table) =
-    says (and_with (itself (row_says s bad dirs formats raws)) (λ row. rows_said s bad dirs formats table >>= with_row row) (λ row. then_made (itself (rows_say s bad dirs formats table)) (λ rows. row ∷ rows))) words where
+    says (and_with (itself (row_says s bad dirs formats raws)) (λ row. rows_said s bad dirs formats table >>= with_row row)
+    (λ row. then_made (itself (rows_say s bad dirs formats table)) (λ rows. row ∷ rows))) words where
       words : (rows : List PathRow) → Next (SaysRow s dirs formats raws) (λ row. Made (SayRows s dirs formats table) (λ rest. row ∷ rest)) rows ↔ SayRows s dirs formats (raws ∷ table) rows
       words [] = (λ h. absurd (let no = h.2.2 in cc), λ none. absurd none)
       words (row ∷ rows) = (
@@ -184,7 +194,8 @@ made_table t dirs files = record { paths = map (full_path dirs) files; has_strp 
 
 table_says : (s : TextSections) (bad : Fault) (t : Tables) → Says (table_said s bad t) (SaysTable s t)
 table_says s bad t = says (itself (tested (are_formats t) bad (dirs_after s bad t) inner)) words where
-  inner : Says (dirs_after s bad t tt) (Next (SayRows s (length t.dirs.rows) t.dirs.formats t.dirs.rows) (λ dirs. Made (SayRows s (length t.dirs.rows) t.files.formats t.files.rows) (made_table t dirs)))
+  inner : Says (dirs_after s bad t tt) (Next (SayRows s (length t.dirs.rows) t.dirs.formats t.dirs.rows)
+      (λ dirs. Made (SayRows s (length t.dirs.rows) t.files.formats t.files.rows) (made_table t dirs)))
   inner = says (and_with (itself (rows_say s bad (length t.dirs.rows) t.dirs.formats t.dirs.rows)) (files_after s bad t)
       (λ dirs. then_made (itself (rows_say s bad (length t.dirs.rows) t.files.formats t.files.rows)) (made_table t dirs)))
       (λ f. (λ h. h, λ h. h))
@@ -207,23 +218,28 @@ any_says s bad line place = says (itself (tested (is_header (drop place line)) b
   Stand : Tables → Type 0
   Stand = BeginsWith SpellsTables (tables_begin (drop place line)) (tables_bytes (drop place line))
 
-  front : Says (tables_at bad (input_of (tables_begin (drop place line)) (tables_bytes (drop place line))) >>= value_only) (BeginsWith SpellsTables (tables_begin (drop place line)) (tables_bytes (drop place line)))
-  front = says (then_made (record { ok = (some_tables bad).agrees (input_of (tables_begin (drop place line)) (tables_bytes (drop place line))); err = λ f. (λ e. e, λ e. e) }) (λ (x : Tables × Input). x.0)) (λ t. (
-    λ h. subst (BeginsWith SpellsTables (tables_begin (drop place line)) (tables_bytes (drop place line))) (sym h.2) (record { front = h.1.front; rest = h.0.1.rest; spelled = h.1.spelled; parts = h.1.parts }),
-    λ b. ((t, input_of (tables_begin (drop place line) + length b.front) b.rest), record { front = b.front; spelled = b.spelled; parts = b.parts; place = refl }, refl),
-  ))
+  front : Says (tables_at bad (input_of (tables_begin (drop place line)) (tables_bytes (drop place line))) >>= value_only)
+      (BeginsWith SpellsTables (tables_begin (drop place line)) (tables_bytes (drop place line)))
+  front = says (then_made (record { ok = (some_tables bad).agrees (input_of (tables_begin (drop place line)) (tables_bytes (drop place line))); err = λ f. (λ e. e, λ e. e) })
+      (λ (x : Tables × Input). x.0)) (λ t. (
+        λ h. subst (BeginsWith SpellsTables (tables_begin (drop place line)) (tables_bytes (drop place line))) (sym h.2)
+            (record { front = h.1.front; rest = h.0.1.rest; spelled = h.1.spelled; parts = h.1.parts }),
+        λ b. ((t, input_of (tables_begin (drop place line) + length b.front) b.rest), record { front = b.front; spelled = b.spelled; parts = b.parts; place = refl }, refl),
+      ))
 
   inner : Says (tables_after s bad (drop place line) tt) (Next (BeginsWith SpellsTables (tables_begin (drop place line)) (tables_bytes (drop place line))) (λ t. SaysTable s t))
   inner = says (and_with (itself front) (table_said s bad) (λ t. itself (table_says s bad t))) (λ f. (λ h. h, λ h. h))
 
-  words : (f : FileTable) → ((is_header (drop place line) ≡ true) × Next (BeginsWith SpellsTables (tables_begin (drop place line)) (tables_bytes (drop place line))) (λ t. SaysTable s t) f) ↔ IsFileTable s line place f
+  words : (f : FileTable) → ((is_header (drop place line) ≡ true) × Next (BeginsWith SpellsTables (tables_begin (drop place line)) (tables_bytes (drop place line))) (λ t. SaysTable s t) f) ↔
+      IsFileTable s line place f
   words f = (λ h. record { header = h.0; tables = h.1.0; stand = h.1.1; says = h.1.2 }, λ r. (r.header, (r.tables, r.stand, r.says)))
 
 -- there is one fault, exactly where no table stands
 pub file_table_agrees : (s : TextSections) (line : List ℕ) (place : ℕ) → Agrees (file_table_at s line place) (IsFileTable s line place) (λ f. (f ≡ bad_line_table place) × IsNoFileTable s line place)
 unfolding file_table_at
 file_table_agrees s line place = by (any_table s (bad_line_table place) (drop place line)) (any_says s (bad_line_table place) line place) where
-  by : (r : Result FileTable Fault) → Says r (IsFileTable s line place) → Agrees (one_fault (bad_line_table place) r) (IsFileTable s line place) (λ f. (f ≡ bad_line_table place) × IsNoFileTable s line place)
+  by : (r : Result FileTable Fault) → Says r (IsFileTable s line place)
+      → Agrees (one_fault (bad_line_table place) r) (IsFileTable s line place) (λ f. (f ≡ bad_line_table place) × IsNoFileTable s line place)
   by (Ok t) a = record { ok = a.ok; err = λ f. (λ e. absurd cc, λ h. absurd (h.1 t ((a.ok t).0 refl))) }
   by (Err e) a = record {
     ok = λ t. (λ is. absurd cc, λ is. absurd (let ok = (a.ok t).1 is in cc));

@@ -1,8 +1,9 @@
 -- A header that is written of paths is a line table with these paths, from row 1 on.
-use Rattle.std.proofs.Common.{◌≡◌, ℕ, pos, suc, ◌+◌, ◌<◌, ◌≤◌, ◌^◌, ◌||◌, ◌&&◌, not, Bool, true, false, List, [], ◌∷◌, ◌++◌, length, map, take, drop, cond, eqb, ltb, refl, sym, ap, subst, ◌∙◌, arith, eq-eqb}
+use Rattle.std.proofs.Common.{◌≡◌, ℕ, pos, ◌+◌, ◌<◌, ◌≤◌, ◌^◌, ◌||◌, not, Bool, true, false, List, [], ◌∷◌, ◌++◌, length, map, take, drop, cond, eqb, ltb, refl, sym, ap, subst, ◌∙◌, arith}
+use Rattle.std.proofs.Common.{eq-eqb}
 use Rattle.std.proofs.lemmas.List.{append-nil, append_assoc, length-append, length-map, take_all}
-use Rattle.std.proofs.lemmas.Bool.{le-ltb, lt-ltb}
-use Rattle.dwz_bytes.specs.Spelling.{SpellsFixed, SpellsUleb, le_bytes, le_value, uleb}
+use Rattle.std.proofs.lemmas.Bool.{and_from, le-ltb, lt-ltb}
+use Rattle.dwz_bytes.specs.Spelling.{SpellsFixed, SpellsUleb, le_bytes, uleb}
 use Rattle.dwz_bytes.proofs.FixedLemmas.{fixed_written}
 use Rattle.dwz_bytes.proofs.PaddedLemmas.{uleb_small, uleb_spells}
 use Rattle.dwz_codes.specs.Forms.{form_rows}
@@ -11,7 +12,9 @@ use Rattle.dwz_docs.specs.Texts.{NoZero}
 use Rattle.dwz_docs.specs.Units.{field}
 use Rattle.dwz_docs.specs.Values.{Bytes, Number, Raw, SpellsValue}
 use Rattle.dwz_model.specs.declared.place.Pair.{Pair}
-use Rattle.dwz_meanings.specs.LineTables.{FileTable, IsFileTable, PathRow, SayRows, SpellsFormat, SpellsFormats, SpellsRows, SpellsTable, SpellsTables, SpellsValues, Table, Tables, TextSections, full_path, format_of, header_length, is_format, is_header, join, line_length, of_header, opcode_base, second, table_with, tables_begin, tables_bytes, tables_with, are_formats, begins_with_slash}
+use Rattle.dwz_meanings.specs.LineTables.{FileTable, IsFileTable, PathRow, SayRows, SpellsFormat, SpellsFormats, SpellsTable, SpellsValues, Table, Tables, TextSections}
+use Rattle.dwz_meanings.specs.LineTables.{full_path, format_of, header_length, is_header, line_length, of_header, opcode_base, second, table_with, tables_bytes}
+use Rattle.dwz_meanings.specs.LineTables.{tables_with, are_formats, begins_with_slash}
 use Rattle.dwz_meanings.specs.LinesWritten.{AreTexts, behind_length, file_formats, header_written, one_directory, rows_bytes, standard, tables_written, with_row_0}
 use Rattle.dwz_meanings.specs.Sequences.{SpellsAll}
 
@@ -218,10 +221,6 @@ paths_long : (paths : List (List ℕ)) → length paths ≤ length (with_row_0 p
 paths_long [] = omega arith
 paths_long (path ∷ paths) = omega arith
 
-and_so : (a b : Bool) → a ≡ true → b ≡ true → (a && b) ≡ true
-and_so true b e f = f
-and_so false b e f = absurd cc
-
 module _ (paths : List (List ℕ)) (some : 0 < length paths) (are : AreTexts paths) (short : length (header_written paths) < 0xfffffff0) where
   abbrev rows : List (List ℕ)
   rows = with_row_0 paths
@@ -266,12 +265,12 @@ module _ (paths : List (List ℕ)) (some : 0 < length paths) (are : AreTexts pat
 
   is_header_is : is_header bytes ≡ true
   is_header_is =
-      and_so _ _ (lt-ltb (line_length bytes) 0xfffffff0 (omega (arith, unit_is, short, bytes_len)))
-      (and_so _ _ (ap not (le-ltb (length bytes) (line_length bytes + 4) (omega (arith, unit_is, bytes_len))))
-      (and_so _ _ (ap not (le-ltb (line_length bytes + 4) (header_length bytes + 12) (omega (arith, unit_is, header_is))))
-      (and_so _ _ (eq-eqb _ _ version_is)
-      (and_so _ _ (eq-eqb _ _ address_is)
-      (and_so _ _ (eq-eqb _ _ segment_is) (ap (λ (n : ℕ). not (eqb n 0)) opcode_is))))))
+      and_from _ _ (lt-ltb (line_length bytes) 0xfffffff0 (omega (arith, unit_is, short, bytes_len)))
+      (and_from _ _ (ap not (le-ltb (length bytes) (line_length bytes + 4) (omega (arith, unit_is, bytes_len))))
+      (and_from _ _ (ap not (le-ltb (line_length bytes + 4) (header_length bytes + 12) (omega (arith, unit_is, header_is))))
+      (and_from _ _ (eq-eqb _ _ version_is)
+      (and_from _ _ (eq-eqb _ _ address_is)
+      (and_from _ _ (eq-eqb _ _ segment_is) (ap (λ (n : ℕ). not (eqb n 0)) opcode_is))))))
 
   whole : of_header bytes ≡ bytes
   whole =

@@ -4,12 +4,14 @@ use Rattle.std.specs.List.{list_all}
 use Rattle.dwz_codes.specs.ListKinds.{list_kind_rows}
 use Rattle.dwz_codes.specs.Rows.{RowView, row_of}
 use Rattle.dwz_docs.specs.Values.{shape_in, shape_of}
+use Rattle.dwz_docs.proofs.AbbrevLemmas.{and_true}
 use Rattle.dwz_meanings.specs.declared.exprs.Operand.{Operand}
-use Rattle.dwz_meanings.specs.Exprs.{AnAddress, Counted, Entry4, EntryOrGeneric, EntryUleb, ExprContext, Expression, Field, Found, Holds, Inside, Located, LocatedBy, Names, Run, Signed, Sized, SpellsExpr, SpellsField, SpellsFields, Unsigned, expressions_in, fields_of, joined, operands_in}
+use Rattle.dwz_meanings.specs.Exprs.{AnAddress, Counted, Entry4, EntryOrGeneric, EntryUleb, ExprContext, Expression, Field, Found, Holds, Inside, Located, LocatedBy, Names, Run, Signed, Sized}
+use Rattle.dwz_meanings.specs.Exprs.{SpellsExpr, SpellsField, SpellsFields, Unsigned, expressions_in, fields_of, joined, operands_in}
 use Rattle.dwz_meanings.specs.LocLists.{EndsList, SpellsListEntry}
 use Rattle.dwz_meanings.specs.Sequences.{SpellsRow}
 use Rattle.dwz_meanings.specs.Shared.{operands_of}
-use Rattle.dwz_meanings.proofs.ClassLemmas.{and_true, row_checked}
+use Rattle.dwz_meanings.proofs.ClassLemmas.{row_checked}
 use Rattle.dwz_meanings.proofs.PatchedLemmas.{own_spelled}
 
 -- what is found names no entry but in expressions, each of which is spelled in its own place
@@ -64,12 +66,14 @@ field_only c EntryUleb founds start bytes is s = absurd cc
 field_only c EntryOrGeneric founds start bytes is s = absurd cc
 field_only c Inside founds start bytes is s = subst (OnlyExprs c) (sym s.found) (own_spelled c s.expression (start + length s.front) s.content s.is, tt)
 
-fields_only : (c : ExprContext) (fields : List Field) (founds : List Found) (start : ℕ) (bytes : List ℕ) → list_all names_none fields ≡ true → SpellsFields (SpellsExpr c) fields founds start bytes → OnlyExprs c founds
+fields_only : (c : ExprContext) (fields : List Field) (founds : List Found) (start : ℕ) (bytes : List ℕ) → list_all names_none fields ≡ true → SpellsFields (SpellsExpr c) fields founds start bytes
+    → OnlyExprs c founds
 fields_only c [] founds start bytes all s = subst (OnlyExprs c) (sym s.0) tt
 fields_only c (field ∷ fields) founds start bytes all s =
     let both = and_true (names_none field) (list_all names_none fields) all in
     let p = s.both in
-    subst (OnlyExprs c) (sym s.made) (only_both c s.x s.y (field_only c field s.x start p.first_bytes both.0 p.first) (fields_only c fields s.y (start + length p.first_bytes) p.second_bytes both.1 p.second))
+    subst (OnlyExprs c) (sym s.made) (only_both c s.x s.y (field_only c field s.x start p.first_bytes both.0 p.first)
+    (fields_only c fields s.y (start + length p.first_bytes) p.second_bytes both.1 p.second))
 
 -- ---- kinds
 

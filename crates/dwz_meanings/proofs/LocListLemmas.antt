@@ -5,15 +5,16 @@ use Rattle.std.proofs.lemmas.List.{length-append, length-take, take-append-drop}
 use Rattle.dwz_model.specs.declared.fault.Fault.{Fault}
 use Rattle.dwz_bytes.specs.Input.{Input, input}
 use Rattle.dwz_bytes.specs.Reading.{◌>>=◌}
+use Rattle.dwz_bytes.proofs.LebLemmas.{drop-front}
 use Rattle.dwz_codes.specs.ListKinds.{list_kind_rows}
 use Rattle.dwz_meanings.specs.Exprs.{ExprContext, Field, Found, IsFaultWithin, SpellsExpr, SpellsFields, expr_within, fields_at, fields_of, most_inside}
-use Rattle.dwz_meanings.specs.LocLists.{EndsList, IsKindFault, IsListEntryFault, IsListFault, LocList, SpellsList, SpellsListEntry, bad_list, behind_kind, entry_by, entry_in, list_at, list_entry_at, list_of}
+use Rattle.dwz_meanings.specs.LocLists.{EndsList, IsKindFault, IsListEntryFault, IsListFault, LocList, SpellsList, SpellsListEntry, bad_list, behind_kind, entry_by, entry_in, list_at, list_entry_at}
+use Rattle.dwz_meanings.specs.LocLists.{list_of}
 use Rattle.dwz_meanings.specs.Sequences.{FaultAt, Reader, Spelling, SpellsRow, StandsFrom, after_item, read_from, row_at}
 use Rattle.dwz_docs.specs.Values.{shape_of}
 use Rattle.dwz_meanings.proofs.AgreeLemmas.{Agrees, Made, agrees_err, agrees_ok, in_words, then_made}
 use Rattle.dwz_meanings.proofs.ExprLemmas.{within_reads}
 use Rattle.dwz_meanings.proofs.FieldLemmas.{fields_read}
-use Rattle.dwz_docs.proofs.PartLemmas.{drop-front}
 use Rattle.dwz_meanings.proofs.SequenceLemmas.{IsTaken, OrEnd, ReadsAs, input_of, row_begins, row_read}
 
 -- ---- at a place of a section
@@ -62,7 +63,8 @@ module _ (c : ExprContext) where
           place = t.place ∙ omega arith;
         })
 
-    from : (z : Option (List Found) × Input) → IsTaken (OrEnd (SpellsListEntry c) EndsList) (input_of at (kind ∷ rest)) z → Made (IsTaken (SpellsFields (SpellsExpr c) fields) (input_of (at + 1) rest)) (λ x. (Some x.0, x.1)) z
+    from : (z : Option (List Found) × Input) → IsTaken (OrEnd (SpellsListEntry c) EndsList) (input_of at (kind ∷ rest)) z
+        → Made (IsTaken (SpellsFields (SpellsExpr c) fields) (input_of (at + 1) rest)) (λ x. (Some x.0, x.1)) z
     from (None, j) t =
         let both : kind ∷ rest ≡ 0 ∷ j.rest = t.parts ∙ ap (λ (w : List ℕ). w ++ j.rest) t.spelled in
         let same : kind ≡ 0 = cc in
@@ -119,12 +121,14 @@ module _ (c : ExprContext) where
         let same_kind : kind ≡ s.kind = cc in
         absurd (s.no_end (sym same_kind ∙ zero))
 
-    by : (b : Bool) → eqb kind 0 ≡ b → Agrees (cond b (Ok (None, behind_kind at rest)) (entry_by c at (fields_of (shape_of list_kind_rows kind)) (behind_kind at rest))) (IsTaken (OrEnd (SpellsListEntry c) EndsList) (input_of at (kind ∷ rest))) (IsListEntryFault c at (kind ∷ rest))
+    by : (b : Bool) → eqb kind 0 ≡ b → Agrees (cond b (Ok (None, behind_kind at rest)) (entry_by c at (fields_of (shape_of list_kind_rows kind)) (behind_kind at rest)))
+        (IsTaken (OrEnd (SpellsListEntry c) EndsList) (input_of at (kind ∷ rest))) (IsListEntryFault c at (kind ∷ rest))
     by true is =
         let zero : kind ≡ 0 = eqb-true kind 0 is in
         in_words (agrees_ok (None, behind_kind at rest))
         (λ z. (
-          λ same. subst (IsTaken (OrEnd (SpellsListEntry c) EndsList) (input_of at (kind ∷ rest))) (sym same) (record { front = kind ∷ []; spelled = ap (λ (k : ℕ). k ∷ []) zero; parts = refl; place = refl }),
+          λ same. subst (IsTaken (OrEnd (SpellsListEntry c) EndsList) (input_of at (kind ∷ rest))) (sym same)
+              (record { front = kind ∷ []; spelled = ap (λ (k : ℕ). k ∷ []) zero; parts = refl; place = refl }),
           ended zero z,
         ))
         (λ f. (λ none. absurd none, λ h. h.0 zero))
@@ -143,7 +147,10 @@ module _ (c : ExprContext) where
 
   pub list_reads : ReadsAs (list_at c) (SpellsList c) (IsListFault c)
   unfolding list_at
-  list_reads = record { agrees = λ i. in_words (then_made ((row_read (list_entry_at c) (SpellsListEntry c) EndsList (IsListEntryFault c) entry_reads entry_takes (bad_list i.at)).agrees i) made) (words i) (λ f. (λ h. h, λ h. h)) } where
+  list_reads = record {
+    agrees = λ i. in_words (then_made ((row_read (list_entry_at c) (SpellsListEntry c) EndsList (IsListEntryFault c) entry_reads entry_takes (bad_list i.at)).agrees i) made)
+        (words i) (λ f. (λ h. h, λ h. h));
+  } where
     made : List (List Found) × Input → LocList × Input
     made x = (list_of x.0 x.1.at, x.1)
 
@@ -152,7 +159,8 @@ module _ (c : ExprContext) where
       λ h.
           let x = h.0 in
           let t = h.1 in
-          subst (IsTaken (SpellsList c) i) (sym h.2) (record { front = t.front; spelled = record { entries = x.0; spelled = t.spelled; exprs = refl; end = t.place }; parts = t.parts; place = t.place }),
+          subst (IsTaken (SpellsList c) i) (sym h.2)
+          (record { front = t.front; spelled = record { entries = x.0; spelled = t.spelled; exprs = refl; end = t.place }; parts = t.parts; place = t.place }),
       λ t.
           let s = t.spelled in
           let end : z.0.end ≡ z.1.at = s.end ∙ sym t.place in

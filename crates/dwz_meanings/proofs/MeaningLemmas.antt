@@ -6,13 +6,21 @@ use Rattle.std.proofs.lemmas.Bool.{eqb-false, eqb-true, ltb-false, ltb-true}
 use Rattle.dwz_model.specs.declared.fault.Fault.{Fault}
 use Rattle.dwz_model.specs.declared.fault.Reason.TheVariants.{BadFile, BadList, BadString, BadReference}
 use Rattle.dwz_bytes.specs.Reading.{◌>>=◌}
+use Rattle.dwz_bytes.proofs.GroupLemmas.{chosen}
 use Rattle.dwz_meanings.specs.Documents.{Addr, Attr, Block, Compile, DwUnit, Entries, File, Index, Kind, Node, OfType, Partial, Sec, Sig, Text, Value, only, ref}
 use Rattle.dwz_docs.specs.Entries.{RawAttr, RawEntry}
 use Rattle.dwz_docs.specs.Faults.{info_fault}
 use Rattle.dwz_meanings.specs.Exprs.{IsExprFault}
 use Rattle.dwz_meanings.specs.LineTables.{FileTable}
-use Rattle.dwz_meanings.specs.Meanings.{Around, Class, Common, HasEntryFault, HasFault, HasFaultAs, HasFileFaultBy, HasKindFault, HasListFault, HasNodeFault, HasSlotFault, HasUnitFault, HaveFault, HaveUnitFault, IfSo, In, IsBadReference, IsBadString, IsCommonEntry, IsCommonText, IsEntryAmong, IsExpression, IsFileBy, IsListBySlot, IsLocList, IsNoCommonEntry, IsNoCommonText, IsNoSlot, IsNoText, IsTextBySlot, IsTextIn, MeanAttrs, MeanEntries, MeanUnits, MeansAs, MeansKind, MeansNode, MeansUnit, MeansValue, Scope, as_class, attr_with, attrs_meaning, bytes_of, class_of, common_entry, common_text, constant_value, content_at, entries_meaning, entry_among, expr_context, expr_meaning, expr_value, file_by, flag_value, has, is_zero, kind_meaning, list_by, list_from, list_meaning, list_read, loc_said, loc_value, loclists_base, meaning, names_file, names_list, node_meaning, number_of, offset_of, path_by, path_or, row_of_table, scope_of, stmt_list, str_offsets_base, text_by, text_from, text_or, texts_of, type_offset_at, unit_meaning, units_meaning, unread, without_siblings}
-use Rattle.dwz_meanings.specs.Meanings.{OfAddress, OfBlock, OfConstant, OfFlag, OfText, OfTextInStr, OfTextInLineStr, OfTextBySlot, OfUnitEntry, OfInfoEntry, OfSignature, OfOffset, OfExpression, OfListIndex, OfIndex, OfCommonEntry, OfCommonText, Unread}
+use Rattle.dwz_meanings.specs.Meanings.{Around, Class, Common, HasEntryFault, HasFault, HasFaultAs, HasFileFaultBy, HasKindFault, HasListFault, HasNodeFault, HasSlotFault, HasUnitFault, HaveFault}
+use Rattle.dwz_meanings.specs.Meanings.{HaveUnitFault, IfSo, In, IsBadReference, IsBadString, IsCommonEntry, IsCommonText, IsEntryAmong, IsExpression, IsFileBy, IsListBySlot, IsLocList}
+use Rattle.dwz_meanings.specs.Meanings.{IsNoCommonEntry, IsNoCommonText, IsNoSlot, IsNoText, IsTextBySlot, IsTextIn, MeanAttrs, MeanEntries, MeanUnits, MeansAs, MeansKind, MeansNode, MeansUnit}
+use Rattle.dwz_meanings.specs.Meanings.{MeansValue, Scope, as_class, attr_with, attrs_meaning, bytes_of, class_of, common_entry, common_text, constant_value, content_at, entries_meaning, entry_among}
+use Rattle.dwz_meanings.specs.Meanings.{expr_context, expr_meaning, expr_value, file_by, flag_value, has, is_zero, kind_meaning, list_by, list_from, list_meaning, list_read, loc_said, loc_value}
+use Rattle.dwz_meanings.specs.Meanings.{loclists_base, meaning, names_file, names_list, node_meaning, number_of, offset_of, path_by, path_or, row_of_table, scope_of, stmt_list, str_offsets_base}
+use Rattle.dwz_meanings.specs.Meanings.{text_by, text_from, text_or, texts_of, type_offset_at, unit_meaning, units_meaning, unread, without_siblings}
+use Rattle.dwz_meanings.specs.Meanings.{OfAddress, OfBlock, OfConstant, OfFlag, OfText, OfTextInStr, OfTextInLineStr, OfTextBySlot, OfUnitEntry, OfInfoEntry, OfSignature, OfOffset, OfExpression}
+use Rattle.dwz_meanings.specs.Meanings.{OfListIndex, OfIndex, OfCommonEntry, OfCommonText, Unread}
 use Rattle.dwz_docs.specs.Texts.{IsSlot, slot, slot_place, text_at}
 use Rattle.dwz_docs.specs.Trees.{End, Entry, Forest}
 use Rattle.dwz_docs.specs.Units.{CompileUnit, PartialUnit, RawKind, RawUnit, TypeUnit}
@@ -20,7 +28,6 @@ use Rattle.dwz_meanings.proofs.AgreeLemmas.{Agrees, Made, Next, agrees_err, agre
 use Rattle.dwz_meanings.proofs.ExprLemmas.{expr_agrees}
 use Rattle.dwz_meanings.proofs.LineTableLemmas.{file_table_agrees}
 use Rattle.dwz_meanings.proofs.LocListLemmas.{list_reads, stands_agree}
-use Rattle.dwz_docs.proofs.PartLemmas.{chosen}
 use Rattle.dwz_docs.proofs.TextLemmas.{here_slot, here_text, no_slot, none_again, none_begins, short_section, slot_here, text_here}
 
 -- ---- one of a list
@@ -96,7 +103,8 @@ module _ {P : Type 0} where
               | inr bad ↦
                   let same : bad.base ≡ base = same_some (str_offsets_base s) bad.base base bad.is_base is_base in
                   elim bad.cause [
-                    | inl short ↦ absurd (some_none _ offset some (short_section s.around.sources.offsets base (offset_of a) (subst (λ (b : ℕ). length s.around.sources.offsets < slot_place b (offset_of a) + 4) same short)))
+                    | inl short ↦ absurd (some_none _ offset some (short_section s.around.sources.offsets base (offset_of a)
+                        (subst (λ (b : ℕ). length s.around.sources.offsets < slot_place b (offset_of a) + 4) same short)))
                     | inr p ↦
                         let at : p.0 ≡ offset = same_some _ p.0 offset (at_base bad.base p.0 bad.is_base p.1) some in
                         subst (λ (n : ℕ). IsNoText s.around.sources.strs n) at p.2
@@ -125,7 +133,8 @@ among_agrees {X} places at p x = by (has p places) refl where
       (λ f. (λ same. (same, not_in p places is_out), λ h. h.0))
 
 -- a value, or what a test stands for
-chosen_agrees : {X : Type 0} (test : Bool) {r : Result X Fault} {M : X → Type 0} {F : Fault → Type 0} (v : X) → Agrees r M F → Agrees (cond test r (Ok v)) (λ w. IfSo test (M w) (w ≡ v)) (λ f. (test ≡ true) × F f)
+chosen_agrees : {X : Type 0} (test : Bool) {r : Result X Fault} {M : X → Type 0} {F : Fault → Type 0} (v : X) → Agrees r M F
+    → Agrees (cond test r (Ok v)) (λ w. IfSo test (M w) (w ≡ v)) (λ f. (test ≡ true) × F f)
 chosen_agrees true v a = in_words a (λ w. (λ h. h, λ h. h)) (λ f. (λ h. (refl, h), λ h. h.1))
 chosen_agrees false v a = in_words (agrees_ok v) (λ w. (λ same. same, λ same. same)) (λ f. (λ no. absurd no, λ h. absurd (let no = h.0 in cc)))
 
@@ -176,9 +185,11 @@ module _ {P : Type 0} (s : Scope P) where
   zero_is (negsuc n) true e = absurd cc
   zero_is (negsuc n) false e = λ same. absurd cc
 
-  row_agrees : (a : RawAttr) (t : FileTable) → Agrees {X = Value P} (row_of_table a t) (λ v. (path : List ℕ) × (path_by t (number_of a.raw) ≡ Some path) × (v ≡ only (File (Some path)))) (λ f. (f ≡ info_fault a.at BadFile) × (path_by t (number_of a.raw) ≡ None))
+  row_agrees : (a : RawAttr) (t : FileTable) → Agrees {X = Value P} (row_of_table a t) (λ v. (path : List ℕ) × (path_by t (number_of a.raw) ≡ Some path) × (v ≡ only (File (Some path))))
+      (λ f. (f ≡ info_fault a.at BadFile) × (path_by t (number_of a.raw) ≡ None))
   row_agrees a t = by (path_by t (number_of a.raw)) refl where
-    by : (o : Option (List ℕ)) → path_by t (number_of a.raw) ≡ o → Agrees {X = Value P} (path_or a o) (λ v. (path : List ℕ) × (path_by t (number_of a.raw) ≡ Some path) × (v ≡ only (File (Some path)))) (λ f. (f ≡ info_fault a.at BadFile) × (path_by t (number_of a.raw) ≡ None))
+    by : (o : Option (List ℕ)) → path_by t (number_of a.raw) ≡ o → Agrees {X = Value P} (path_or a o) (λ v. (path : List ℕ) × (path_by t (number_of a.raw) ≡ Some path) × (v ≡ only (File (Some path))))
+        (λ f. (f ≡ info_fault a.at BadFile) × (path_by t (number_of a.raw) ≡ None))
     by None none = in_words (agrees_err (info_fault a.at BadFile)) (λ v. (λ no. absurd no, λ h. some_none _ h.0 h.1 none)) (λ f. (λ same. (same, none), λ h. h.0))
     by (Some path) some = in_words (agrees_ok (only (File (Some path))))
         (λ v. (λ same. (path, some, same), λ h. let same : h.0 ≡ path = same_some _ h.0 path h.1 some in h.2 ∙ ap (λ (w : List ℕ). only (File (Some w))) same))
@@ -186,7 +197,8 @@ module _ {P : Type 0} (s : Scope P) where
 
   file_agrees : (stmt : Option ℕ) (a : RawAttr) → Agrees (file_by stmt s a) (IsFileBy stmt s (number_of a.raw)) (HasFileFaultBy stmt s a)
   file_agrees None a = by (is_zero (number_of a.raw)) refl where
-    by : (b : Bool) → is_zero (number_of a.raw) ≡ b → Agrees {X = Value P} (cond b (Ok (only (File None))) (Err (info_fault a.at BadFile))) (λ v. (number_of a.raw ≡ pos 0) × (v ≡ only (File None))) (λ f. (f ≡ info_fault a.at BadFile) × (number_of a.raw ≢ pos 0))
+    by : (b : Bool) → is_zero (number_of a.raw) ≡ b → Agrees {X = Value P} (cond b (Ok (only (File None))) (Err (info_fault a.at BadFile))) (λ v. (number_of a.raw ≡ pos 0) × (v ≡ only (File None)))
+        (λ f. (f ≡ info_fault a.at BadFile) × (number_of a.raw ≢ pos 0))
     by true e = let is = zero_is (number_of a.raw) true e in in_words (agrees_ok (only (File None))) (λ v. (λ same. (is, same), λ h. h.1)) (λ f. (λ no. absurd no, λ h. h.1 is))
     by false e = let is = zero_is (number_of a.raw) false e in in_words (agrees_err (info_fault a.at BadFile)) (λ v. (λ no. absurd no, λ h. is h.0)) (λ f. (λ same. (same, is), λ h. h.0))
   file_agrees (Some place) a =
@@ -254,7 +266,8 @@ module _ {P : Type 0} (s : Scope P) where
             | inr bad ↦
                 let same_base : bad.base ≡ base = same_some (loclists_base s) bad.base base bad.is_base is_base in
                 elim bad.cause [
-                  | inl short ↦ absurd (some_none _ offset some (short_section s.around.sources.lists base (offset_of a) (subst (λ (b : ℕ). length s.around.sources.lists < slot_place b (offset_of a) + 4) same_base short.1)))
+                  | inl short ↦ absurd (some_none _ offset some (short_section s.around.sources.lists base (offset_of a)
+                      (subst (λ (b : ℕ). length s.around.sources.lists < slot_place b (offset_of a) + 4) same_base short.1)))
                   | inr p ↦
                       let at : p.0 ≡ offset = same_some _ p.0 offset (at_base bad.base p.0 bad.is_base p.1) some in
                       subst (λ (n : ℕ). HasListFault s a (base + n) f) at (subst (λ (n : ℕ). HasListFault s a (n + p.0) f) same_base p.2)
@@ -303,7 +316,8 @@ attrs_agree {P} s [] = in_words (agrees_ok []) means (λ f. (λ no. no, λ no. n
   means [] = (λ same. tt, λ is. refl)
   means (b ∷ bs) = (λ same. absurd cc, λ no. absurd no)
 attrs_agree {P} s (a ∷ attrs) =
-    in_words (and_then (value_agrees s a) (λ v. attrs_meaning s attrs >>= λ bs. Ok (attr_with a v ∷ bs)) (λ v. then_made (attrs_agree s attrs) (λ bs. attr_with a v ∷ bs))) means (λ f. (λ h. h, λ h. h)) where
+    in_words (and_then (value_agrees s a) (λ v. attrs_meaning s attrs >>= λ bs. Ok (attr_with a v ∷ bs)) (λ v. then_made (attrs_agree s attrs) (λ bs. attr_with a v ∷ bs))) means
+    (λ f. (λ h. h, λ h. h)) where
       means : (bs : List (Attr P)) → Next (MeansValue s a) (λ v. Made (MeanAttrs s attrs) (λ w. attr_with a v ∷ w)) bs ↔ MeanAttrs s (a ∷ attrs) bs
       means [] = (λ h. absurd (let no = h.2.2 in cc), λ no. absurd no)
       means (b ∷ bs) = (

@@ -11,7 +11,8 @@ use Rattle.dwz_meanings.specs.Documents.{Addr, Attr, Block, Compile, DwUnit, Fil
 use Rattle.dwz_docs.specs.Entries.{RawAttr, attrs_at, front_at, given}
 use Rattle.dwz_docs.specs.Faults.{info_fault}
 use Rattle.dwz_docs.specs.Lists.{items_at, items_from}
-use Rattle.dwz_meanings.specs.Meanings.{Scope, Sources, all_places, alone, attrs_meaning, class_in, class_rows, entries_meaning, first_raw, has, kind_meaning, meaning, places_in, units_meaning, without_siblings}
+use Rattle.dwz_meanings.specs.Meanings.{Scope, Sources, all_places, alone, attrs_meaning, class_in, class_rows, entries_meaning, first_raw, has, kind_meaning, meaning, places_in, units_meaning}
+use Rattle.dwz_meanings.specs.Meanings.{without_siblings}
 use Rattle.dwz_docs.specs.Texts.{text_in}
 use Rattle.dwz_docs.specs.Trees.{End, Entry, forest_at, siblings_at}
 use Rattle.dwz_docs.specs.Units.{TypeUnit, header_reason, tree_at, unit_at, units_at, units_from, zero_count}
@@ -64,7 +65,8 @@ unit_said at = record {
 
 -- what bytes of `.debug_info` say; whatever unfolds this unfolds all that is read with
 said_by : List ℕ → Result (List (DwUnit ℕ)) Fault
-unfolding units_at units_from unit_at header_reason tree_at zero_count front_at attrs_at siblings_at forest_at table_at declaration_at pair_at items_at items_from uleb_at groups_at shaped_at text_in form_rows units_meaning entries_meaning attrs_meaning meaning class_in class_rows without_siblings all_places places_in has first_raw
+unfolding units_at units_from unit_at header_reason tree_at zero_count front_at attrs_at siblings_at forest_at table_at declaration_at pair_at items_at items_from uleb_at groups_at shaped_at text_in
+    form_rows units_meaning entries_meaning attrs_meaning meaning class_in class_rows without_siblings all_places places_in has first_raw
 said_by bytes = units_at table (given 12) 0 (input bytes 0) >>= λ units. units_meaning (alone nothing_else units) units
 
 cycle : said_by (a_unit 0x1d ++ (a_unit 0x1d ++ a_unit 0x1d)) ≡ Ok (unit_said 0 ∷ unit_said 0x24 ∷ unit_said 0x48 ∷ [])

@@ -4,6 +4,7 @@ use Rattle.std.proofs.lemmas.List.{map-append}
 use Rattle.dwz_docs.specs.Entries.{RawAttr}
 use Rattle.dwz_docs.specs.Lists.{In}
 use Rattle.dwz_docs.specs.Texts.{IsSlot, slot_place}
+use Rattle.dwz_docs.proofs.ListFacts.{in_map as map_in}
 use Rattle.dwz_meanings.specs.declared.exprs.Operand.{Operand}
 use Rattle.dwz_meanings.specs.Documents.{Loc}
 use Rattle.dwz_meanings.specs.LocLists.{SpellsList}
@@ -21,10 +22,12 @@ module _ {P Q : Type 0} (lists : List NamedList) (number : ℕ → ℕ) (s : Sco
 
   at_again : (slot : Option ℕ) (place other : ℕ) → other ≡ place → IsNamedAt s slot place l → IsNamedAt d slot other again × IsLocList d other (list_value d number l)
   at_again slot place other same n =
-      let stands : StandsFrom (SpellsList (expr_context s 7)) s.around.sources.lists l.from l.list = subst (λ (p : ℕ). StandsFrom (SpellsList (expr_context s 7)) s.around.sources.lists p l.list) (sym n.from) n.stands in
+      let stands : StandsFrom (SpellsList (expr_context s 7)) s.around.sources.lists l.from l.list = subst (λ (p : ℕ). StandsFrom (SpellsList (expr_context s 7)) s.around.sources.lists p l.list)
+      (sym n.from) n.stands in
       let new = list_stands lists number s.around.sources.lists d.around.sources.lists none patched (expr_context s 7) (expr_context d 7) l there stands can in
       let from : l.from ≡ other = n.from ∙ sym same in
-      let moved : StandsFrom (SpellsList (expr_context d 7)) d.around.sources.lists other (list_with number l.list) = subst (λ (p : ℕ). StandsFrom (SpellsList (expr_context d 7)) d.around.sources.lists p (list_with number l.list)) from new in
+      let moved : StandsFrom (SpellsList (expr_context d 7)) d.around.sources.lists other (list_with number l.list) =
+      subst (λ (p : ℕ). StandsFrom (SpellsList (expr_context d 7)) d.around.sources.lists p (list_with number l.list)) from new in
       let within : other < length d.around.sources.lists = omega (arith, same, n.within, patched.len) in
       let parts = list_parts number (expr_context s 7) l.from stands.front l.list stands.spelled in
       let operands = list_operands number l.list.exprs in (
@@ -37,7 +40,8 @@ module _ {P Q : Type 0} (lists : List NamedList) (number : ℕ → ℕ) (s : Sco
       let slot : Some (slot_place n.base index) ≡ Some (slot_place n.base other) = ap (λ (k : ℕ). Some (slot_place n.base k)) (sym same) in
       let base = alike.base ∙ n.is_base in
       let stays : IsSlot d.around.sources.lists n.base other n.offset =
-      subst (λ (k : ℕ). IsSlot d.around.sources.lists n.base k n.offset) (sym same) (slot_stays lists number s.around.sources.lists d.around.sources.lists none patched l n.base index n.offset there n.named.slot_is n.slot) in
+      subst (λ (k : ℕ). IsSlot d.around.sources.lists n.base k n.offset) (sym same)
+      (slot_stays lists number s.around.sources.lists d.around.sources.lists none patched l n.base index n.offset there n.named.slot_is n.slot) in
       let both = at_again (Some (slot_place n.base index)) (n.base + n.offset) (n.base + n.offset) refl n.named in (
         record { base = n.base; is_base = base; offset = n.offset; slot = stays; named = subst (λ (o : Option ℕ). IsNamedAt d o (n.base + n.offset) again) slot both.0 },
         record { base = n.base; is_base = base; offset = n.offset; slot = stays; list = both.1 },
@@ -63,11 +67,6 @@ pub in_map : {X Y : Type 0} (f : X → Y) (y : Y) (xs : List X) → In y (map f 
 in_map f y [] h = absurd h
 in_map f y (x ∷ xs) (inl same) = (x, inl refl, same)
 in_map f y (x ∷ xs) (inr later) = let r = in_map f y xs later in (r.0, inr r.1, r.2)
-
-pub map_in : {X Y : Type 0} (f : X → Y) (x : X) (xs : List X) → In x xs → In (f x) (map f xs)
-map_in f x [] h = absurd h
-map_in f x (y ∷ xs) (inl same) = inl (ap f same)
-map_in f x (y ∷ xs) (inr later) = inr (map_in f x xs later)
 
 module _ (unit number : ℕ → ℕ) where
   abbrev out : ListOperand → ListOperand

@@ -10,7 +10,8 @@ use Rattle.dwz_docs.specs.Lists.{In}
 use Rattle.dwz_meanings.specs.LocLists.{EndsList, LocList, SpellsList, SpellsListEntry, list_at}
 use Rattle.dwz_meanings.specs.Meanings.{Around, Class, Scope, class_of, expr_context, list_read, loclists_base, names_list, offset_of, scope_of, without_siblings}
 use Rattle.dwz_meanings.specs.Meanings.{OfOffset, OfListIndex}
-use Rattle.dwz_meanings.specs.NamedLists.{AnyEntryNames, AnyNames, AnyUnitNames, IsNamedAt, IsNamedBySlot, NamesAs, NamesList, by_base, by_offset, list_of_attr, lists_as, lists_of_attrs, lists_of_entries, lists_of_unit, lists_of_units, named_at, named_by}
+use Rattle.dwz_meanings.specs.NamedLists.{AnyEntryNames, AnyNames, AnyUnitNames, IsNamedAt, IsNamedBySlot, NamesAs, NamesList, by_base, by_offset, list_of_attr, lists_as, lists_of_attrs}
+use Rattle.dwz_meanings.specs.NamedLists.{lists_of_entries, lists_of_unit, lists_of_units, named_at, named_by}
 use Rattle.dwz_meanings.specs.Sequences.{SpellsRow, value_only}
 use Rattle.dwz_meanings.specs.Shared.{NamedList}
 use Rattle.dwz_docs.specs.Texts.{IsSlot, slot, slot_place}
@@ -19,6 +20,7 @@ use Rattle.dwz_docs.specs.Units.{RawUnit}
 use Rattle.dwz_meanings.proofs.LocListLemmas.{list_reads, stands_agree}
 use Rattle.dwz_docs.proofs.PartLemmas.{bind_ok}
 use Rattle.dwz_docs.proofs.TextLemmas.{here_slot, slot_here}
+use Rattle.dwz_docs.proofs.ListFacts.{in_cases, in_left, in_right}
 
 -- ---- a list has a byte
 
@@ -31,24 +33,10 @@ list_some c l start bytes s = let some = row_some c s.entries start bytes s.spel
 
 -- ---- one of several
 
-pub in_either : {X : Type 0} (x : X) (xs ys : List X) → In x (xs ++ ys) → In x xs ⊎ In x ys
-in_either x [] ys h = inr h
-in_either x (z ∷ xs) ys (inl same) = inl (inl same)
-in_either x (z ∷ xs) ys (inr later) = elim (in_either x xs ys later) [ inl a ↦ inl (inr a) | inr b ↦ inr b ]
-
-in_first : {X : Type 0} (x : X) (xs ys : List X) → In x xs → In x (xs ++ ys)
-in_first x [] ys h = absurd h
-in_first x (z ∷ xs) ys (inl same) = inl same
-in_first x (z ∷ xs) ys (inr later) = inr (in_first x xs ys later)
-
-in_second : {X : Type 0} (x : X) (xs ys : List X) → In x ys → In x (xs ++ ys)
-in_second x [] ys h = h
-in_second x (z ∷ xs) ys h = inr (in_second x xs ys h)
-
 in_both : {X : Type 0} {P Q : Type 0} (x : X) (xs ys : List X) → In x xs ↔ P → In x ys ↔ Q → In x (xs ++ ys) ↔ (P ⊎ Q)
 in_both x xs ys p q = (
-  λ h. elim (in_either x xs ys h) [ inl a ↦ inl (p.0 a) | inr b ↦ inr (q.0 b) ],
-  λ h. elim h [ inl a ↦ in_first x xs ys (p.1 a) | inr b ↦ in_second x xs ys (q.1 b) ],
+  λ h. elim (in_cases x xs ys h) [ inl a ↦ inl (p.0 a) | inr b ↦ inr (q.0 b) ],
+  λ h. elim h [ inl a ↦ in_left x xs ys (p.1 a) | inr b ↦ in_right x xs ys (q.1 b) ],
 )
 
 -- ---- an attribute
@@ -72,7 +60,8 @@ module _ {P : Type 0} (s : Scope P) where
         let within = ltb-true place (length s.around.sources.lists) e in
         let agrees = stands_agree (list_reads (expr_context s 7)) s.around.sources.lists place (omega (arith, within)) in
         let made : LocList → NamedList = λ y. record { unit = s.unit; from = place; slot = slot; list = y } in
-        let named : IsNamedAt s slot place (record { unit = s.unit; from = place; slot = slot; list = x }) = record { unit = refl; from = refl; slot_is = refl; within = within; stands = (agrees.ok x).0 is } in (
+        let named : IsNamedAt s slot place (record { unit = s.unit; from = place; slot = slot; list = x }) =
+        record { unit = refl; from = refl; slot_is = refl; within = within; stands = (agrees.ok x).0 is } in (
           λ h. elim h [ inl same ↦ subst (IsNamedAt s slot place) same named | inr none ↦ absurd none ],
           λ n.
               let read = (agrees.ok l.list).1 n.stands in
@@ -88,7 +77,8 @@ module _ {P : Type 0} (s : Scope P) where
     never : {X : Type 0} (o : Option X) (x : X) → o ≡ Some x → o ≡ None → ⊥
     never {X} o x p q = let no : Some x ≡ None = sym p ∙ q in cc
 
-    at_base : (base other number : ℕ) → loclists_base s ≡ Some base → loclists_base s ≡ Some other → IsSlot s.around.sources.lists other index number → slot s.around.sources.lists base index ≡ Some number
+    at_base : (base other number : ℕ) → loclists_base s ≡ Some base → loclists_base s ≡ Some other → IsSlot s.around.sources.lists other index number
+        → slot s.around.sources.lists base index ≡ Some number
     at_base base other number is_base is is_slot =
         let same : other ≡ base = one (loclists_base s) other base is is_base in
         here_slot s.around.sources.lists base index number (subst (λ (b : ℕ). IsSlot s.around.sources.lists b index number) same is_slot)
@@ -96,18 +86,27 @@ module _ {P : Type 0} (s : Scope P) where
     by_o : (base : ℕ) → loclists_base s ≡ Some base → (o : Option ℕ) → slot s.around.sources.lists base index ≡ o → In l (by_offset s base index o) ↔ IsNamedBySlot s index l
     by_o base is_base None none = (λ no. absurd no, λ n. never _ n.offset (at_base base n.base n.offset is_base n.is_base n.slot) none)
     by_o base is_base (Some offset) some = (
-      λ h. record { base = base; is_base = is_base; offset = offset; slot = slot_here s.around.sources.lists base index offset some; named = (named_is (Some (slot_place base index)) (base + offset) l).0 h },
+      λ h. record {
+        base = base;
+        is_base = is_base;
+        offset = offset;
+        slot = slot_here s.around.sources.lists base index offset some;
+        named =
+            (named_is (Some (slot_place base index)) (base + offset) l).0 h;
+      },
       λ n.
           let same_base : n.base ≡ base = one (loclists_base s) n.base base n.is_base is_base in
           let same : n.offset ≡ offset = one _ n.offset offset (at_base base n.base n.offset is_base n.is_base n.slot) some in
-          (named_is (Some (slot_place base index)) (base + offset) l).1 (subst (λ (m : ℕ). IsNamedAt s (Some (slot_place base index)) (base + m) l) same (subst (λ (m : ℕ). IsNamedAt s (Some (slot_place m index)) (m + n.offset) l) same_base n.named)),
+          (named_is (Some (slot_place base index)) (base + offset) l).1
+          (subst (λ (m : ℕ). IsNamedAt s (Some (slot_place base index)) (base + m) l) same (subst (λ (m : ℕ). IsNamedAt s (Some (slot_place m index)) (m + n.offset) l) same_base n.named)),
     )
 
     by_b : (o : Option ℕ) → loclists_base s ≡ o → In l (by_base s index o) ↔ IsNamedBySlot s index l
     by_b None none = (λ no. absurd no, λ n. never (loclists_base s) n.base n.is_base none)
     by_b (Some base) some = by_o base some (slot s.around.sources.lists base index) refl
 
-  offset_is : (a : RawAttr) (b : Bool) → names_list a.pair.name ≡ b → (l : NamedList) → In l (cond b (named_at s None (offset_of a)) []) ↔ ((names_list a.pair.name ≡ true) × IsNamedAt s None (offset_of a) l)
+  offset_is : (a : RawAttr) (b : Bool) → names_list a.pair.name ≡ b → (l : NamedList)
+      → In l (cond b (named_at s None (offset_of a)) []) ↔ ((names_list a.pair.name ≡ true) × IsNamedAt s None (offset_of a) l)
   offset_is a true e l = let n = named_is None (offset_of a) l in (λ h. (e, n.0 h), λ h. n.1 h.1)
   offset_is a false e l = (λ no. absurd no, λ h. let no : true ≡ false = sym h.0 ∙ e in absurd cc)
 
@@ -141,7 +140,8 @@ unfolding lists_of_units
 units_name around [] l = (λ no. no, λ no. no)
 units_name around (u ∷ units) l =
     in_both l (lists_of_unit around u) (lists_of_units around units)
-    (in_both l (lists_of_attrs (scope_of around u) (without_siblings u.root.attrs)) (lists_of_entries (scope_of around u) u.below) (attrs_are (scope_of around u) (without_siblings u.root.attrs) l) (entries_are (scope_of around u) u.below l))
+    (in_both l (lists_of_attrs (scope_of around u) (without_siblings u.root.attrs)) (lists_of_entries (scope_of around u) u.below) (attrs_are (scope_of around u) (without_siblings u.root.attrs) l)
+    (entries_are (scope_of around u) u.below l))
     (units_name around units l)
 
 -- ---- each list that is named has a byte

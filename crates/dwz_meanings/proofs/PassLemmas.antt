@@ -4,7 +4,8 @@ use Rattle.std.specs.List.{list_any}
 use Rattle.std.proofs.lemmas.Bool.{ltb-false, ltb-true}
 use Rattle.dwz_meanings.specs.declared.exprs.Operand.{Operand}
 use Rattle.dwz_docs.specs.Lists.{In}
-use Rattle.dwz_meanings.specs.Shared.{AreRows, Ascend, Clashes, HasByte, IsInSlot, IsSame, IsShared, IsSharedAt, ListOperand, NamedList, NoneShared, OneOf, PassesOver, ReadsInside, StandApart, has_byte, is_same, of_unit, operands_in_lists, own_operands}
+use Rattle.dwz_meanings.specs.Shared.{AreRows, Ascend, Clashes, HasByte, IsInSlot, IsSame, IsShared, IsSharedAt, ListOperand, NamedList, NoneShared, OneOf, PassesOver, ReadsInside, StandApart}
+use Rattle.dwz_meanings.specs.Shared.{has_byte, is_same, of_unit, operands_in_lists, own_operands}
 use Rattle.dwz_meanings.proofs.DecideLemmas.{Decides, decides_any}
 use Rattle.dwz_meanings.proofs.SharedLemmas.{has_decides, same_decides}
 
@@ -69,7 +70,8 @@ unfolding operands_in_lists
 own_in l p [] is there = absurd is
 own_in l p (m ∷ lists) (inl same) there =
     let here : In (of_unit m.unit p) (map (of_unit m.unit) (own_operands m)) = in_mapped m.unit p (own_operands m) (subst (λ (w : NamedList). In p (own_operands w)) (sym same) there) in
-    in_front (of_unit l.unit p) (map (of_unit m.unit) (own_operands m)) (operands_in_lists lists) (subst (λ (n : ℕ). In (of_unit n p) (map (of_unit m.unit) (own_operands m))) (ap (λ (w : NamedList). w.unit) same) here)
+    in_front (of_unit l.unit p) (map (of_unit m.unit) (own_operands m)) (operands_in_lists lists)
+    (subst (λ (n : ℕ). In (of_unit n p) (map (of_unit m.unit) (own_operands m))) (ap (λ (w : NamedList). w.unit) same) here)
 own_in l p (m ∷ lists) (inr later) there = in_back (of_unit l.unit p) (map (of_unit m.unit) (own_operands m)) (operands_in_lists lists) (own_in l p lists later there)
 
 -- ---- a pass, and what is shared
@@ -173,7 +175,8 @@ module _ (lists : List NamedList) (rows : List ListOperand) (are : AreRows lists
           let clash : Clashes o p = record { later = more; shared = (b, h, k); differ = differ } in
           absurd (none o.operand.at (o, there, (refl, inl (p, other, clash))))
 
-  owned : NoneShared lists → (o : ListOperand) (l : NamedList) → In o rows → In l lists → o.operand.at < l.list.end → l.from < o.operand.at + o.operand.width → l.from < l.list.end → OneOf (own_operands l) (λ p. IsSame (of_unit l.unit p) o)
+  owned : NoneShared lists → (o : ListOperand) (l : NamedList) → In o rows → In l lists → o.operand.at < l.list.end → l.from < o.operand.at + o.operand.width → l.from < l.list.end
+      → OneOf (own_operands l) (λ p. IsSame (of_unit l.unit p) o)
   owned none o l there is end from some =
       let c = common o there l.from from in
       let b = c.0 in

@@ -25,7 +25,8 @@ unfolding filled padded le_bytes
 both = refl
 
 -- an expression at 0x41 with an operand at 0x42, at 0x100 with another number
-there : map (moved 0x41 0x100) (renumbered (record { at = 0x42; width = 2; uleb = true; base = FromUnit; number = 0x2a } ∷ []) (0x0d ∷ [])) ≡ record { at = 0x101; width = 2; uleb = true; base = FromUnit; number = 0x0d } ∷ []
+there : map (moved 0x41 0x100) (renumbered (record { at = 0x42; width = 2; uleb = true; base = FromUnit; number = 0x2a } ∷ []) (0x0d ∷ []))
+    ≡ record { at = 0x101; width = 2; uleb = true; base = FromUnit; number = 0x0d } ∷ []
 unfolding renumbered
 there = refl
 
@@ -53,7 +54,8 @@ unfolding with_operands written_at padded
 written = refl
 
 read : List ℕ → Result LocList Fault
-unfolding operator_rows list_kind_rows uleb_at sleb_at groups_at expr_within most_inside fields_at op_at first_unnamed operands_in has_address joined expressions_in all_at all_from row_at row_from list_at list_entry_at
+unfolding operator_rows list_kind_rows uleb_at sleb_at groups_at expr_within most_inside fields_at op_at first_unnamed operands_in has_address joined expressions_in all_at all_from row_at row_from
+    list_at list_entry_at
 read section = read_from (list_at (any_operands 7)) section 0x0c
 
 old : read (lists 0x2a) ≡ Ok (list 0x2a)

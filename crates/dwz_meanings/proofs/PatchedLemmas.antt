@@ -51,7 +51,8 @@ module _ (c : ExprContext) (e : Expression) (s : SpellsExpr c e e.at e.bytes) (n
     pub expr_spelled : (d : ExprContext) → CanPatch d at e numbers → SpellsExpr d (patched_expr at e numbers) at (filled (parts_of e) numbers)
     expr_spelled d can =
         let fit : AllFit (map (with_number by_place) e.operands) = subst AllFit (sym same_numbers) can.fit in
-        let named : AreNamed d.names (map (moved e.at at) (map (with_number by_place) e.operands)) = subst (λ (w : List Operand). AreNamed d.names (map (moved e.at at) w)) (sym same_numbers) can.named in
+        let named : AreNamed d.names (map (moved e.at at) (map (with_number by_place) e.operands)) = subst (λ (w : List Operand). AreNamed d.names (map (moved e.at at) w)) (sym same_numbers)
+        can.named in
         let good = all_good e.at at by_place d.names e.operands fit named in
         let one = within_moves e.at (shift e.at at) (shift_along e.at at) by_place d.names c d refl (suc most_inside) e e.at e.bytes (omega arith) s good in
         subst (λ (w : Expression). SpellsExpr d w at (filled (parts_of e) numbers)) is_patched
@@ -65,13 +66,16 @@ module _ (c : ExprContext) (e : Expression) (s : SpellsExpr c e e.at e.bytes) (n
 
 -- ---- laws
 
-pub patched_spelled : (c d : ExprContext) (e : Expression) (start at : ℕ) (bytes numbers : List ℕ) → SpellsExpr c e start bytes → CanPatch d at e numbers → SpellsExpr d (patched_expr at e numbers) at (filled (parts_of e) numbers)
+pub patched_spelled : (c d : ExprContext) (e : Expression) (start at : ℕ) (bytes numbers : List ℕ) → SpellsExpr c e start bytes → CanPatch d at e numbers
+    → SpellsExpr d (patched_expr at e numbers) at (filled (parts_of e) numbers)
 patched_spelled c d e start at bytes numbers s can = expr_spelled c e (own_spelled c e start bytes s) numbers can.as_many at d can
 
-pub patched_parts : (c : ExprContext) (e : Expression) (start at : ℕ) (bytes numbers : List ℕ) → SpellsExpr c e start bytes → length numbers ≡ length e.operands → parts_of (patched_expr at e numbers) ≡ parts_of e
+pub patched_parts : (c : ExprContext) (e : Expression) (start at : ℕ) (bytes numbers : List ℕ) → SpellsExpr c e start bytes → length numbers ≡ length e.operands
+    → parts_of (patched_expr at e numbers) ≡ parts_of e
 patched_parts c e start at bytes numbers s many = same_parts c e (own_spelled c e start bytes s) numbers many at
 
-pub patched_length : (c : ExprContext) (e : Expression) (start : ℕ) (bytes numbers : List ℕ) → SpellsExpr c e start bytes → length numbers ≡ length e.operands → length (filled (parts_of e) numbers) ≡ length bytes
+pub patched_length : (c : ExprContext) (e : Expression) (start : ℕ) (bytes numbers : List ℕ) → SpellsExpr c e start bytes → length numbers ≡ length e.operands
+    → length (filled (parts_of e) numbers) ≡ length bytes
 patched_length c e start bytes numbers s many = same_length c e (own_spelled c e start bytes s) numbers many ∙ ap length (sym (in_place c e start bytes s).1)
 
 pub own_filled : (c : ExprContext) (e : Expression) (start : ℕ) (bytes : List ℕ) → SpellsExpr c e start bytes → AreBytes bytes → filled (parts_of e) (map (λ o. o.number) e.operands) ≡ bytes
@@ -107,7 +111,8 @@ module _ {P : Type 0} (d : Scope P) (section from to : ℕ) where
         refs_are = (λ i. sym h.2 i ∷ rest.refs_are i);
       }
 
-pub patched_value : {P : Type 0} (d : Scope P) (b : RawAttr) (parts : List Part) (numbers : List ℕ) (refs : List P) → AreParts parts → LeadTo d parts numbers refs → bytes_of b.raw ≡ filled parts numbers
+pub patched_value : {P : Type 0} (d : Scope P) (b : RawAttr) (parts : List Part) (numbers : List ℕ) (refs : List P) → AreParts parts → LeadTo d parts numbers refs
+    → bytes_of b.raw ≡ filled parts numbers
     → IsExpression d b (record { plain = Expr parts; refs = refs })
 patched_value d b parts numbers refs is lead bytes =
     let e = is.expression in

@@ -36,7 +36,8 @@ by_places number [] = refl
 by_places number (o ∷ os) = ap (λ (w : List Operand). with_number number o ∷ w) (by_places number os)
 
 filled_with : (number : ℕ → ℕ) (e : Expression) → filled (parts_of e) (map (λ o. number o.at) e.operands) ≡ patch e.at e.bytes (map (with_number number) e.operands)
-filled_with number e = filled_cut e.at e.bytes e.operands (map (λ o. number o.at) e.operands) (length-map e.operands (λ (o : Operand). number o.at)) ∙ ap (patch e.at e.bytes) (by_places number e.operands)
+filled_with number e = filled_cut e.at e.bytes e.operands (map (λ o. number o.at) e.operands) (length-map e.operands (λ (o : Operand). number o.at))
+    ∙ ap (patch e.at e.bytes) (by_places number e.operands)
 
 same_exprs : (number : ℕ → ℕ) (exprs : List Expression) → map (expr_with number) exprs ≡ map (moved_expr 0 here here_along number) exprs
 same_exprs number [] = refl
@@ -63,7 +64,8 @@ list_parts number c start bytes l s =
 pub list_operands : (number : ℕ → ℕ) (exprs : List Expression) → operands_of (map (expr_with number) exprs) ≡ map (with_number number) (operands_of exprs)
 unfolding operands_of
 list_operands number [] = refl
-list_operands number (e ∷ exprs) = ap (λ (w : List Operand). map (with_number number) e.operands ++ w) (list_operands number exprs) ∙ sym (map-append (with_number number) e.operands (operands_of exprs))
+list_operands number (e ∷ exprs) = ap (λ (w : List Operand). map (with_number number) e.operands ++ w) (list_operands number exprs)
+    ∙ sym (map-append (with_number number) e.operands (operands_of exprs))
 
 -- ---- a list in its place
 
@@ -71,7 +73,8 @@ pub cut_at : (from to : ℕ) (section : List ℕ) → from ≤ to → section �
 cut_at from to section le =
     let place : from + (to - from) ≡ to = omega (arith, le) in
     sym (take-append-drop from section)
-    ∙ ap (λ (w : List ℕ). take from section ++ w) (sym (take-append-drop (to - from) (drop from section)) ∙ ap (λ (w : List ℕ). between from to section ++ w) (drop-drop (to - from) from section ∙ ap (λ (n : ℕ). drop n section) place))
+    ∙ ap (λ (w : List ℕ). take from section ++ w) (sym (take-append-drop (to - from) (drop from section))
+    ∙ ap (λ (w : List ℕ). between from to section ++ w) (drop-drop (to - from) from section ∙ ap (λ (n : ℕ). drop n section) place))
 
 -- what stands behind some bytes and before others
 stood : (section before front after : List ℕ) (place : ℕ) → length before ≡ place → section ≡ before ++ (front ++ after) → between place (place + length front) section ≡ front
@@ -94,7 +97,8 @@ module _ (lists : List NamedList) (number : ℕ → ℕ) (section new : List ℕ
   slot_byte_stays l slot there is_slot b from to =
       patched.others b (λ o is has. none o.operand.at (o, is, (refl, inr (inr (l, there, record { slot = slot; is_slot = is_slot; byte = b; has = has; from = from; to = to })))))
 
-  pub list_stands : (c d : ExprContext) (l : NamedList) → In l lists → StandsFrom (SpellsList c) section l.from l.list → CanHave d number l → StandsFrom (SpellsList d) new l.from (list_with number l.list)
+  pub list_stands : (c d : ExprContext) (l : NamedList) → In l lists → StandsFrom (SpellsList c) section l.from l.list → CanHave d number l
+      → StandsFrom (SpellsList d) new l.from (list_with number l.list)
   list_stands c d l there s can = record {
     before = take l.from new;
     front = between l.from l.list.end new;
@@ -121,7 +125,8 @@ module _ (lists : List NamedList) (number : ℕ → ℕ) (section new : List ℕ
     operands = same_operands c (joined s.spelled.entries) (row_only c s.spelled.entries l.from s.front s.spelled.spelled) ∙ ap operands_of (sym s.spelled.exprs)
 
     lie : Lie l.from l.list.end (own_operands l)
-    lie = subst (Lie l.from l.list.end) operands (subst (λ (n : ℕ). Lie l.from n (operands_in (joined s.spelled.entries))) (sym s.spelled.end) (row_stands c s.spelled.entries l.from s.front s.spelled.spelled).lie)
+    lie = subst (Lie l.from l.list.end) operands (subst (λ (n : ℕ). Lie l.from n (operands_in (joined s.spelled.entries))) (sym s.spelled.end)
+        (row_stands c s.spelled.entries l.from s.front s.spelled.spelled).lie)
 
     old_front : between l.from l.list.end section ≡ s.front
     old_front = ap (λ (n : ℕ). between l.from n section) s.spelled.end ∙ stood section s.before s.front s.after l.from s.length_before s.parts
@@ -135,7 +140,8 @@ module _ (lists : List NamedList) (number : ℕ → ℕ) (section new : List ℕ
     good : Good 0 here here_along number d.names (operands_in (joined s.spelled.entries))
     good = subst (Good 0 here here_along number d.names) (sym operands) (good_here number d (own_operands l) can.fit can.named)
 
-    row : SpellsRow (SpellsListEntry d) EndsList (map (moved_founds 0 here here_along number) s.spelled.entries) l.from (patch l.from s.front (map (with_number number) (operands_in (joined s.spelled.entries))))
+    row : SpellsRow (SpellsListEntry d) EndsList (map (moved_founds 0 here here_along number) s.spelled.entries) l.from
+        (patch l.from s.front (map (with_number number) (operands_in (joined s.spelled.entries))))
     row = row_moves 0 here here_along number d.names c d refl s.spelled.entries l.from s.front (omega arith) s.spelled.spelled good
 
     exprs : map (expr_with number) l.list.exprs ≡ expressions_in (joined (map (moved_founds 0 here here_along number) s.spelled.entries))

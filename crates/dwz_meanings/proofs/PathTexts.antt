@@ -1,15 +1,16 @@
 -- The paths of a line table have no zero byte.
-use Rattle.std.proofs.Common.{◌≡◌, ◌≢◌, ℕ, ℤ, pos, zero, suc, ◌+◌, ◌&&◌, ◌||◌, Bool, true, false, List, [], ◌∷◌, ◌++◌, length, map, drop, Option, Some, None, cond, eqb, eqb-true, refl, sym, ap, subst, ◌∙◌, arith, inl, inr}
+use Rattle.std.proofs.Common.{◌≡◌, ℕ, ℤ, zero, suc, ◌+◌, ◌||◌, Bool, true, false, List, [], ◌∷◌, ◌++◌, length, map, drop, Some, cond, eqb, eqb-true, refl, sym, ap, subst}
+use Rattle.std.proofs.Common.{◌∙◌, arith, inl, inr}
 use Rattle.std.specs.List.{list_all}
-use Rattle.std.proofs.lemmas.Bool.{or_cases}
 use Rattle.dwz_codes.specs.Forms.{form_rows}
 use Rattle.dwz_docs.specs.Lists.{In, has}
 use Rattle.dwz_docs.specs.Texts.{NoZero}
 use Rattle.dwz_docs.specs.Values.{Bytes, Number, Raw, SpellsShape, SpellsValue, constant_of, shape_of}
+use Rattle.dwz_docs.proofs.AbbrevLemmas.{and_true}
 use Rattle.dwz_model.specs.declared.place.Pair.{Pair}
-use Rattle.dwz_meanings.specs.LineTables.{FileTable, IsFileTable, IsPathText, PathRow, SayRows, SaysRow, SpellsTable, SpellsTables, SpellsValues, Table, Tables, TextSections, begins_with_slash, dir_path, forms_for, full_path, is_format, is_no_path, join, nth_path, tables_begin, with_content}
+use Rattle.dwz_meanings.specs.LineTables.{FileTable, IsFileTable, IsPathText, PathRow, SayRows, SaysRow, SpellsTable, SpellsValues, Table, Tables, TextSections, begins_with_slash}
+use Rattle.dwz_meanings.specs.LineTables.{dir_path, forms_for, full_path, is_format, is_no_path, join, nth_path, tables_begin, with_content}
 use Rattle.dwz_meanings.specs.Sequences.{SpellsAll}
-use Rattle.dwz_meanings.proofs.ClassLemmas.{and_true}
 use Rattle.dwz_meanings.specs.LinesWritten.{AreTexts}
 use Rattle.dwz_meanings.proofs.MeaningLemmas.{has_in}
 

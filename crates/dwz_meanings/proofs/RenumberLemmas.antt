@@ -20,7 +20,8 @@ later_numbers o os n numbers at end [] lt h = refl
 later_numbers o os n numbers at end (p ∷ ps) lt h =
     let other : eqb o.at p.at ≡ false = ne_eqb o.at p.at (λ same. omega (arith, same, lt, h.0)) in
     let rest = later_numbers o os n numbers (p.at + p.width) end ps (omega (arith, lt, h.0, h.1)) h.2 in
-    ap (λ (b : Bool). record { at = p.at; width = p.width; uleb = p.uleb; base = p.base; number = cond b n (number_at os numbers p.at) } ∷ map (with_number (number_at (o ∷ os) (n ∷ numbers))) ps) other
+    ap (λ (b : Bool). record { at = p.at; width = p.width; uleb = p.uleb; base = p.base; number = cond b n (number_at os numbers p.at) } ∷ map (with_number (number_at (o ∷ os) (n ∷ numbers))) ps)
+    other
     ∙ ap (λ (w : List Operand). with_number (number_at os numbers) p ∷ w) rest
 
 pub numbered : (at end : ℕ) (os : List Operand) (numbers : List ℕ) → Lie at end os → length numbers ≡ length os → map (with_number (number_at os numbers)) os ≡ renumbered os numbers
@@ -61,9 +62,11 @@ module _ (from : ℕ) (there : ℕ → ℕ) (along : GoAlong from there) (number
       let first : take (there o.at - there at) (front ++ (spelled ++ rest)) ≡ front =
       ap (λ (k : ℕ). take k (front ++ (spelled ++ rest))) (gap at o.at le h.0 ∙ sym front_len) ∙ take-append_seam front (spelled ++ rest) in
       let both_len : there o.at + o.width - there at ≡ length (front ++ spelled) =
-      ap (λ (k : ℕ). k - there at) (sym place) ∙ gap at (o.at + o.width) le (omega (arith, h.0)) ∙ omega (arith, length-append front spelled, front_len, number_len o.uleb o.width (number o.at), h.0) in
+      ap (λ (k : ℕ). k - there at) (sym place) ∙ gap at (o.at + o.width) le (omega (arith, h.0))
+      ∙ omega (arith, length-append front spelled, front_len, number_len o.uleb o.width (number o.at), h.0) in
       let second : drop (there o.at + o.width - there at) (front ++ (spelled ++ rest)) ≡ rest =
-      ap (λ (w : List ℕ). drop (there o.at + o.width - there at) w) (sym (append_assoc front spelled rest)) ∙ ap (λ (k : ℕ). drop k ((front ++ spelled) ++ rest)) both_len ∙ drop-append_seam (front ++ spelled) rest in
+      ap (λ (w : List ℕ). drop (there o.at + o.width - there at) w) (sym (append_assoc front spelled rest)) ∙ ap (λ (k : ℕ). drop k ((front ++ spelled) ++ rest)) both_len
+      ∙ drop-append_seam (front ++ spelled) rest in
       let out : List Operand = map (λ o. with_place there (with_number number o)) os in
       let others : parts_from (there o.at + o.width) rest out ≡ parts_from (o.at + o.width) (drop (o.at + o.width - at) bytes) os =
       ap (λ (n : ℕ). parts_from n rest out) (sym place) ∙ parts_moved (o.at + o.width) (drop (o.at + o.width - at) bytes) os (omega (arith, le, h.0)) (behind_end at bytes o os h) in

@@ -1,11 +1,13 @@
 -- Reading one thing behind another agrees with how they are spelled, where each of them does.
-use Rattle.std.proofs.Common.{◌≡◌, ◌↔◌, ◌⊎◌, ℕ, zero, suc, ◌+◌, ◌<◌, ◌≤◌, List, [], ◌∷◌, ◌++◌, length, Option, Some, None, Result, Ok, Err, cond, refl, sym, ap, subst, ◌∙◌, inl, inr, arith, append_assoc}
+use Rattle.std.proofs.Common.{◌≡◌, ◌↔◌, ◌⊎◌, ℕ, zero, suc, ◌+◌, ◌<◌, ◌≤◌, List, [], ◌∷◌, ◌++◌, length, Option, Some, None, Result, Ok, Err, cond, refl, sym, ap, subst, ◌∙◌, inl, inr, arith}
+use Rattle.std.proofs.Common.{append_assoc}
 use Rattle.std.proofs.lemmas.List.{length-append}
 use Rattle.dwz_model.specs.declared.fault.Fault.{Fault}
 use Rattle.dwz_bytes.specs.Input.{Input}
 use Rattle.dwz_bytes.specs.Reading.{◌>>=◌}
 use Rattle.dwz_docs.specs.Parts.{IsRead}
-use Rattle.dwz_meanings.specs.Sequences.{Behind, BehindItems, Both, FaultAt, Reader, Spelling, SpellsAll, SpellsRow, SpellsTimes, WithBytes, after_item, after_one, all_at, all_from, both_at, row_at, row_from, times_at, then_read, with_item, with_item_before}
+use Rattle.dwz_meanings.specs.Sequences.{Behind, BehindItems, Both, FaultAt, Reader, Spelling, SpellsAll, SpellsRow, SpellsTimes, WithBytes, after_item, after_one, all_at, all_from, both_at, row_at}
+use Rattle.dwz_meanings.specs.Sequences.{row_from, times_at, then_read, with_item, with_item_before}
 use Rattle.dwz_docs.specs.Units.{is_empty}
 use Rattle.dwz_meanings.proofs.AgreeLemmas.{Agrees, Made, Next, OrNext, agrees_ok, and_given, and_with, in_words, then_made}
 
@@ -102,7 +104,8 @@ pub record MadeOf {X Y : Type 0} (Spells : Spelling X) (make : X → Y) (y : Y) 
   pub made : y ≡ make value
 
 -- the same relations in other words
-pub read_words : {X : Type 0} {read : Reader X} {S T : Spelling X} {F G : FaultAt} → ReadsAs read S F → ((x : X) (start : ℕ) (bytes : List ℕ) → S x start bytes ↔ T x start bytes) → ((start : ℕ) (bytes : List ℕ) (f : Fault) → F start bytes f ↔ G start bytes f) → ReadsAs read T G
+pub read_words : {X : Type 0} {read : Reader X} {S T : Spelling X} {F G : FaultAt} → ReadsAs read S F → ((x : X) (start : ℕ) (bytes : List ℕ) → S x start bytes ↔ T x start bytes)
+    → ((start : ℕ) (bytes : List ℕ) (f : Fault) → F start bytes f ↔ G start bytes f) → ReadsAs read T G
 read_words {X} {read} {S} {T} {F} {G} r means faults = record {
   agrees = λ i. in_words (r.agrees i)
       (λ y. (
@@ -112,7 +115,8 @@ read_words {X} {read} {S} {T} {F} {G} r means faults = record {
       (faults i.at i.rest);
 }
 
-pub whole_words : {X : Type 0} {read : Input → Result X Fault} {S T : Spelling X} {F G : FaultAt} → ReadsWhole read S F → ((x : X) (start : ℕ) (bytes : List ℕ) → S x start bytes ↔ T x start bytes) → ((start : ℕ) (bytes : List ℕ) (f : Fault) → F start bytes f ↔ G start bytes f) → ReadsWhole read T G
+pub whole_words : {X : Type 0} {read : Input → Result X Fault} {S T : Spelling X} {F G : FaultAt} → ReadsWhole read S F → ((x : X) (start : ℕ) (bytes : List ℕ) → S x start bytes ↔ T x start bytes)
+    → ((start : ℕ) (bytes : List ℕ) (f : Fault) → F start bytes f ↔ G start bytes f) → ReadsWhole read T G
 whole_words {X} {read} {S} {T} {F} {G} r means faults = record { agrees = λ i. in_words (r.agrees i) (λ x. means x i.at i.rest) (faults i.at i.rest) }
 
 -- ---- items up to the end of the bytes
@@ -135,7 +139,15 @@ module _ {X : Type 0} (item : Reader X) (Item : Spelling X) (Fails : FaultAt) (r
   step_faults : (start : ℕ) (bytes : List ℕ) (f : Fault) → 0 < length bytes → StepFault start bytes f ↔ AllFault start bytes f
   step_faults start bytes f some = (to, from) where
     to : StepFault start bytes f → AllFault start bytes f
-    to (inl is) = record { x = []; front = []; first = refl; rest = bytes; parts = refl; fails = (some, (let same : start + 0 ≡ start = omega arith in subst (λ (n : ℕ). Fails n bytes f) (sym same) is)) }
+    to (inl is) = record {
+      x = [];
+      front = [];
+      first = refl;
+      rest = bytes;
+      parts = refl;
+      fails =
+          (some, (let same : start + 0 ≡ start = omega arith in subst (λ (n : ℕ). Fails n bytes f) (sym same) is));
+    }
     to (inr b) =
         let c = b.fails in
         let place : start + length b.front + length c.front ≡ start + length (b.front ++ c.front) = omega (arith, length-append b.front c.front) in
@@ -175,7 +187,11 @@ module _ {X : Type 0} (item : Reader X) (Item : Spelling X) (Fails : FaultAt) (r
 
     means : (xs : List X) → (xs ≡ []) ↔ SpellsAll Item xs start bytes
     means [] = (λ same. no_bytes bytes empty, λ is. refl)
-    means (x ∷ xs) = (λ same. absurd (let no = same in cc), λ is. absurd (let some = takes x start is.first_bytes is.first in omega (arith, some, empty, ap length is.parts, length-append is.first_bytes is.second_bytes)))
+    means (x ∷ xs) = (
+      λ same. absurd (let no = same in cc),
+      λ is. absurd
+          (let some = takes x start is.first_bytes is.first in omega (arith, some, empty, ap length is.parts, length-append is.first_bytes is.second_bytes)),
+    )
 
     faults : (f : Fault) → ⊥ ↔ AllFault start bytes f
     faults f = (λ no. absurd no, λ b. omega (arith, b.fails.0, empty, ap length b.parts, length-append b.front b.rest))
@@ -268,7 +284,8 @@ abbrev pub OrEnd : {X : Type 0} → Spelling X → (ℕ → List ℕ → Type 0)
 OrEnd Item End None start bytes = End start bytes
 OrEnd Item End (Some x) start bytes = Item x start bytes
 
-module _ {X : Type 0} (item : Reader (Option X)) (Item : Spelling X) (End : ℕ → List ℕ → Type 0) (Fails : FaultAt) (reads : ReadsAs item (OrEnd Item End) Fails) (takes : TakesBytes Item) (stop : Fault) where
+module _ {X : Type 0} (item : Reader (Option X)) (Item : Spelling X) (End : ℕ → List ℕ → Type 0) (Fails : FaultAt) (reads : ReadsAs item (OrEnd Item End) Fails) (takes : TakesBytes Item)
+    (stop : Fault) where
   row_moves : (i j : Input) (x : X) → IsTaken (OrEnd Item End) i (Some x, j) → length j.rest < length i.rest
   row_moves i j x t = let some = takes x i.at t.front t.spelled in omega (arith, some, ap length t.parts, length-append t.front j.rest)
 
@@ -348,7 +365,8 @@ module _ {X : Type 0} (item : Reader (Option X)) (Item : Spelling X) (End : ℕ 
     to : OrNext (Fails i.at i.rest) (IsTaken (OrEnd Item End) i) RestFault f → RowStep i.at i.rest f
     to (inl is) = inl is
     to (inr ((None, j), one, none)) = absurd none
-    to (inr ((Some x, j), one, fault)) = inr (record { x = x; front = one.front; first = one.spelled; rest = j.rest; parts = one.parts; fails = subst (λ (n : ℕ). RowFault n j.rest f) one.place fault })
+    to (inr ((Some x, j), one, fault)) =
+        inr (record { x = x; front = one.front; first = one.spelled; rest = j.rest; parts = one.parts; fails = subst (λ (n : ℕ). RowFault n j.rest f) one.place fault })
 
     from : RowStep i.at i.rest f → OrNext (Fails i.at i.rest) (IsTaken (OrEnd Item End) i) RestFault f
     from (inl is) = inl is

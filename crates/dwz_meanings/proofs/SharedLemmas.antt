@@ -8,7 +8,9 @@ use Rattle.dwz_model.specs.declared.place.Base.TheVariants.{Unit as FromUnit, In
 use Rattle.dwz_meanings.specs.declared.exprs.Operand.{Operand}
 use Rattle.dwz_docs.specs.Abbrevs.{least}
 use Rattle.dwz_docs.specs.Lists.{In}
-use Rattle.dwz_meanings.specs.Shared.{Clashes, HasByte, IsInSlot, IsSame, IsShared, IsSharedAt, IsSharedFault, ListOperand, NamedList, NoneShared, OneOf, ReadsInside, any_byte, clashes, has_byte, is_same, is_shared, is_within, least_place, none_shared, operands_in_lists, own_operands, places_from, reads_inside, same_base, same_truth, shared_list, slot_has, unless_shared}
+use Rattle.dwz_meanings.specs.Shared.{Clashes, HasByte, IsInSlot, IsSame, IsShared, IsSharedAt, IsSharedFault, ListOperand, NamedList, NoneShared, OneOf, ReadsInside, any_byte, clashes, has_byte}
+use Rattle.dwz_meanings.specs.Shared.{is_same, is_shared, is_within, least_place, none_shared, operands_in_lists, own_operands, places_from, reads_inside, same_base, same_truth, shared_list, slot_has}
+use Rattle.dwz_meanings.specs.Shared.{unless_shared}
 use Rattle.dwz_meanings.proofs.AgreeLemmas.{Agrees, agrees_err, agrees_ok, in_words}
 use Rattle.dwz_meanings.proofs.DecideLemmas.{Decides, decides_and, decides_any, decides_eq, decides_le, decides_lt, decides_not, decides_or, decides_words}
 

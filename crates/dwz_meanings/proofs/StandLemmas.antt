@@ -1,13 +1,16 @@
 -- Operands stand in order in the bytes of what they are operands of, and the bytes of each are its number in its width.
-use Rattle.std.proofs.Common.{◌≡◌, ℕ, zero, suc, ◌+◌, ◌-◌, ◌*◌, ◌/◌, ◌%◌, ◌<◌, Bool, true, false, cond, eqb, List, [], ◌∷◌, ◌++◌, length, take, drop, refl, sym, ap, subst, ◌∙◌, arith, append_assoc, append-nil}
+use Rattle.std.proofs.Common.{◌≡◌, ℕ, zero, suc, ◌+◌, ◌-◌, ◌*◌, ◌/◌, ◌%◌, ◌<◌, Bool, true, false, cond, eqb, List, [], ◌∷◌, ◌++◌, length, take, drop, refl, sym, ap, subst, ◌∙◌, arith, append_assoc}
+use Rattle.std.proofs.Common.{append-nil}
 use Rattle.std.proofs.lemmas.List.{drop_all, length-append}
 use Rattle.dwz_bytes.specs.Spelling.{IsGroups, SpellsFixed, SpellsUleb, groups_value, le_bytes, le_value, padded}
 use Rattle.dwz_bytes.proofs.PaddedLemmas.{some_groups}
 use Rattle.dwz_model.specs.declared.place.Base.{Base}
 use Rattle.dwz_model.specs.declared.place.Base.TheVariants.{Unit as FromUnit}
 use Rattle.dwz_docs.specs.Values.{AreBytes}
+use Rattle.dwz_docs.proofs.WrittenLemmas.{front_bytes}
 use Rattle.dwz_meanings.specs.declared.exprs.Operand.{Operand}
-use Rattle.dwz_meanings.specs.Exprs.{AnAddress, Counted, Entry4, EntryOrGeneric, EntryUleb, ExprContext, Expression, Field, Found, Holds, Inside, Located, LocatedBy, Names, Run, Signed, Sized, SpellsExpr, SpellsField, SpellsFields, SpellsOp, SpellsWithin, Unsigned, an_operand, an_operand_or_generic, joined, most_inside, operands_in}
+use Rattle.dwz_meanings.specs.Exprs.{AnAddress, Counted, Entry4, EntryOrGeneric, EntryUleb, ExprContext, Expression, Field, Found, Holds, Inside, Located, LocatedBy, Names, Run, Signed, Sized}
+use Rattle.dwz_meanings.specs.Exprs.{SpellsExpr, SpellsField, SpellsFields, SpellsOp, SpellsWithin, Unsigned, an_operand, an_operand_or_generic, joined, most_inside, operands_in}
 use Rattle.dwz_meanings.specs.LocLists.{EndsList, SpellsListEntry}
 use Rattle.dwz_meanings.specs.Patching.{number_bytes}
 use Rattle.dwz_meanings.specs.Sequences.{Spelling, SpellsAll, SpellsRow}
@@ -31,13 +34,10 @@ padded_again (b ∷ c ∷ bytes) is h =
     let others = groups_value (c ∷ bytes) in
     let low : (b % 128 + 128 * others) % 128 + 128 ≡ b = omega (arith, is.0, h.0) in
     let rest : (b % 128 + 128 * others) / 128 ≡ others = omega arith in
-    ap (λ (n : ℕ). n ∷ padded (length (c ∷ bytes)) ((b % 128 + 128 * others) / 128)) low ∙ ap (λ (n : ℕ). b ∷ padded (length (c ∷ bytes)) n) rest ∙ ap (λ (w : List ℕ). b ∷ w) (padded_again (c ∷ bytes) is.1 h.1)
+    ap (λ (n : ℕ). n ∷ padded (length (c ∷ bytes)) ((b % 128 + 128 * others) / 128)) low ∙ ap (λ (n : ℕ). b ∷ padded (length (c ∷ bytes)) n) rest
+    ∙ ap (λ (w : List ℕ). b ∷ w) (padded_again (c ∷ bytes) is.1 h.1)
 
-bytes_left : (a b : List ℕ) → AreBytes (a ++ b) → AreBytes a
-bytes_left [] b h = tt
-bytes_left (n ∷ a) b h = (h.0, bytes_left a b h.1)
-
-bytes_right : (a b : List ℕ) → AreBytes (a ++ b) → AreBytes b
+pub bytes_right : (a b : List ℕ) → AreBytes (a ++ b) → AreBytes b
 bytes_right [] b h = h
 bytes_right (n ∷ a) b h = bytes_right a b h.1
 
@@ -53,8 +53,10 @@ stand_none start bytes = record { lie = omega arith; same = λ h. refl }
 pub stand_both : (start : ℕ) (bytes a b : List ℕ) (os ps : List Operand) → bytes ≡ a ++ b → Stand start a os → Stand (start + length a) b ps → Stand start bytes (os ++ ps)
 stand_both start bytes a b os ps parts h k =
     let whole : Stand start (a ++ b) (os ++ ps) = record {
-      lie = lie_both start (start + length a) (start + length (a ++ b)) os ps h.lie (let end : start + length a + length b ≡ start + length (a ++ b) = omega (arith, length-append a b) in subst (λ (n : ℕ). Lie (start + length a) n ps) end k.lie);
-      same = λ are. patch_append start (start + length a + length b) a b os ps h.lie k.lie ∙ ap (λ (w : List ℕ). w ++ patch (start + length a) b ps) (h.same (bytes_left a b are)) ∙ ap (λ (w : List ℕ). a ++ w) (k.same (bytes_right a b are));
+      lie = lie_both start (start + length a) (start + length (a ++ b)) os ps h.lie
+          (let end : start + length a + length b ≡ start + length (a ++ b) = omega (arith, length-append a b) in subst (λ (n : ℕ). Lie (start + length a) n ps) end k.lie);
+      same = λ are. patch_append start (start + length a + length b) a b os ps h.lie k.lie ∙ ap (λ (w : List ℕ). w ++ patch (start + length a) b ps) (h.same (front_bytes a b are))
+          ∙ ap (λ (w : List ℕ). a ++ w) (k.same (bytes_right a b are));
     } in
     subst (λ (w : List ℕ). Stand start w (os ++ ps)) (sym parts) whole
 
@@ -95,7 +97,8 @@ address_found : (start : ℕ) (bytes : List ℕ) → FoundStand start bytes (AnA
 unfolding operands_in
 address_found start bytes = stand_none start bytes
 
-operand_found : (uleb : Bool) (base : Base) (start n : ℕ) (bytes : List ℕ) → 0 < length bytes → (AreBytes bytes → number_bytes uleb (length bytes) n ≡ bytes) → FoundStand start bytes (an_operand uleb base start (length bytes) n)
+operand_found : (uleb : Bool) (base : Base) (start n : ℕ) (bytes : List ℕ) → 0 < length bytes → (AreBytes bytes → number_bytes uleb (length bytes) n ≡ bytes)
+    → FoundStand start bytes (an_operand uleb base start (length bytes) n)
 unfolding operands_in
 operand_found uleb base start n bytes some again = stand_one uleb base start n bytes some again
 
@@ -115,7 +118,8 @@ generic_found start n bytes s = by (eqb n 0) where
 
 holds_found : (start : ℕ) (bytes front content : List ℕ) (e : Expression) → bytes ≡ front ++ content → Stand (start + length front) content e.operands → FoundStand start bytes (Holds e ∷ [])
 unfolding operands_in
-holds_found start bytes front content e parts h = subst (λ (w : List Operand). Stand start bytes w) (sym (append-nil e.operands)) (stand_both start bytes front content [] e.operands parts (stand_none start front) h)
+holds_found start bytes front content e parts h = subst (λ (w : List Operand). Stand start bytes w) (sym (append-nil e.operands))
+    (stand_both start bytes front content [] e.operands parts (stand_none start front) h)
 
 module _ (IsExpr : Spelling Expression) (inside : (e : Expression) (start : ℕ) (bytes : List ℕ) → IsExpr e start bytes → Stand start bytes e.operands) where
   pub field_stands : (field : Field) (founds : List Found) (start : ℕ) (bytes : List ℕ) → SpellsField IsExpr field founds start bytes → FoundStand start bytes founds
@@ -129,13 +133,15 @@ module _ (IsExpr : Spelling Expression) (inside : (e : Expression) (start : ℕ)
   field_stands (Entry4 base) founds start bytes s = subst (FoundStand start bytes) (sym s.found) (fixed_found base start s.value bytes s.spelled)
   field_stands EntryUleb founds start bytes s = subst (FoundStand start bytes) (sym s.found) (uleb_found start s.value bytes s.spelled)
   field_stands EntryOrGeneric founds start bytes s = subst (FoundStand start bytes) (sym s.found) (generic_found start s.value bytes s.spelled)
-  field_stands Inside founds start bytes s = subst (FoundStand start bytes) (sym s.found) (holds_found start bytes s.front s.content s.expression s.parts (inside s.expression (start + length s.front) s.content s.is))
+  field_stands Inside founds start bytes s = subst (FoundStand start bytes) (sym s.found)
+      (holds_found start bytes s.front s.content s.expression s.parts (inside s.expression (start + length s.front) s.content s.is))
 
   pub fields_stand : (fields : List Field) (founds : List Found) (start : ℕ) (bytes : List ℕ) → SpellsFields IsExpr fields founds start bytes → FoundStand start bytes founds
   fields_stand [] founds start bytes s = subst (FoundStand start bytes) (sym s.0) (no_found start bytes)
   fields_stand (field ∷ fields) founds start bytes s =
       let p = s.both in
-      subst (FoundStand start bytes) (sym s.made) (found_both start bytes p.first_bytes p.second_bytes s.x s.y p.parts (field_stands field s.x start p.first_bytes p.first) (fields_stand fields s.y (start + length p.first_bytes) p.second_bytes p.second))
+      subst (FoundStand start bytes) (sym s.made) (found_both start bytes p.first_bytes p.second_bytes s.x s.y p.parts (field_stands field s.x start p.first_bytes p.first)
+      (fields_stand fields s.y (start + length p.first_bytes) p.second_bytes p.second))
 
 -- behind a code
 behind_code : (start code : ℕ) (bytes rest : List ℕ) (founds : List Found) → bytes ≡ code ∷ rest → FoundStand (start + 1) rest founds → FoundStand start bytes founds
@@ -143,10 +149,12 @@ behind_code start code bytes rest founds parts h = stand_both start bytes (code 
 
 -- ---- expressions and lists
 
-pub op_stands : (c : ExprContext) (IsExpr : Spelling Expression) → ((e : Expression) (start : ℕ) (bytes : List ℕ) → IsExpr e start bytes → Stand start bytes e.operands) → (founds : List Found) (start : ℕ) (bytes : List ℕ) → SpellsOp c IsExpr founds start bytes → FoundStand start bytes founds
+pub op_stands : (c : ExprContext) (IsExpr : Spelling Expression) → ((e : Expression) (start : ℕ) (bytes : List ℕ) → IsExpr e start bytes → Stand start bytes e.operands)
+    → (founds : List Found) (start : ℕ) (bytes : List ℕ) → SpellsOp c IsExpr founds start bytes → FoundStand start bytes founds
 op_stands c IsExpr inside founds start bytes s = behind_code start s.code bytes s.rest founds s.parts (fields_stand IsExpr inside s.fields founds (start + 1) s.rest s.spelled)
 
-pub ops_stand : (c : ExprContext) (IsExpr : Spelling Expression) → ((e : Expression) (start : ℕ) (bytes : List ℕ) → IsExpr e start bytes → Stand start bytes e.operands) → (ops : List (List Found)) (start : ℕ) (bytes : List ℕ) → SpellsAll (SpellsOp c IsExpr) ops start bytes → FoundStand start bytes (joined ops)
+pub ops_stand : (c : ExprContext) (IsExpr : Spelling Expression) → ((e : Expression) (start : ℕ) (bytes : List ℕ) → IsExpr e start bytes → Stand start bytes e.operands)
+    → (ops : List (List Found)) (start : ℕ) (bytes : List ℕ) → SpellsAll (SpellsOp c IsExpr) ops start bytes → FoundStand start bytes (joined ops)
 unfolding joined
 ops_stand c IsExpr inside [] start bytes s = no_found start bytes
 ops_stand c IsExpr inside (op ∷ ops) start bytes s =
@@ -158,10 +166,12 @@ within_stands c zero e start bytes s = absurd s
 within_stands c (suc k) e start bytes s = subst (λ (w : Expression). Stand start bytes w.operands) (sym s.made) (ops_stand c (SpellsWithin c k) (within_stands c k) s.ops start bytes s.spelled)
 
 pub entry_stands : (c : ExprContext) (founds : List Found) (start : ℕ) (bytes : List ℕ) → SpellsListEntry c founds start bytes → FoundStand start bytes founds
-entry_stands c founds start bytes s = behind_code start s.kind bytes s.rest founds s.parts (fields_stand (SpellsExpr c) (within_stands c (suc most_inside)) s.fields founds (start + 1) s.rest s.spelled)
+entry_stands c founds start bytes s = behind_code start s.kind bytes s.rest founds s.parts
+    (fields_stand (SpellsExpr c) (within_stands c (suc most_inside)) s.fields founds (start + 1) s.rest s.spelled)
 
 pub row_stands : (c : ExprContext) (entries : List (List Found)) (start : ℕ) (bytes : List ℕ) → SpellsRow (SpellsListEntry c) EndsList entries start bytes → FoundStand start bytes (joined entries)
 unfolding joined
 row_stands c [] start bytes s = no_found start bytes
 row_stands c (e ∷ entries) start bytes s =
-    found_both start bytes s.first_bytes s.second_bytes e (joined entries) s.parts (entry_stands c e start s.first_bytes s.first) (row_stands c entries (start + length s.first_bytes) s.second_bytes s.second)
+    found_both start bytes s.first_bytes s.second_bytes e (joined entries) s.parts (entry_stands c e start s.first_bytes s.first)
+    (row_stands c entries (start + length s.first_bytes) s.second_bytes s.second)

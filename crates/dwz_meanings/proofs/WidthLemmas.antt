@@ -1,12 +1,11 @@
 -- Each operand that is read has a byte.
-use Rattle.std.proofs.Common.{◌≡◌, ◌⊎◌, ℕ, zero, suc, ◌+◌, ◌<◌, Bool, true, false, cond, eqb, List, [], ◌∷◌, ◌++◌, length, map, Option, Some, None, refl, sym, ap, subst, inl, inr, arith}
-use Rattle.dwz_bytes.specs.Spelling.{SpellsUleb}
-use Rattle.dwz_bytes.proofs.PaddedLemmas.{some_groups}
+use Rattle.std.proofs.Common.{ℕ, zero, suc, ◌+◌, ◌<◌, Bool, true, false, cond, eqb, List, [], ◌∷◌, ◌++◌, length, map, Option, None, refl, sym, subst, inl, inr, arith}
 use Rattle.dwz_model.specs.declared.place.Base.{Base}
 use Rattle.dwz_model.specs.declared.place.Base.TheVariants.{Unit as FromUnit}
 use Rattle.dwz_meanings.specs.declared.exprs.Operand.{Operand}
 use Rattle.dwz_docs.specs.Entries.{RawAttr, RawEntry}
-use Rattle.dwz_meanings.specs.Exprs.{AnAddress, Counted, Entry4, EntryOrGeneric, EntryUleb, ExprContext, Expression, Field, Found, Holds, Inside, Located, LocatedBy, Names, Run, Signed, Sized, SpellsExpr, SpellsField, SpellsFields, SpellsOp, SpellsWithin, Unsigned, an_operand, an_operand_or_generic, expressions_in, joined, most_inside, operands_in}
+use Rattle.dwz_meanings.specs.Exprs.{AnAddress, Counted, Entry4, EntryOrGeneric, EntryUleb, ExprContext, Expression, Field, Found, Holds, Inside, Located, LocatedBy, Names, Run, Signed, Sized}
+use Rattle.dwz_meanings.specs.Exprs.{SpellsExpr, SpellsField, SpellsFields, SpellsOp, SpellsWithin, Unsigned, an_operand, an_operand_or_generic, expressions_in, joined, most_inside, operands_in}
 use Rattle.dwz_docs.specs.Lists.{In}
 use Rattle.dwz_meanings.specs.LocLists.{EndsList, LocList, SpellsList, SpellsListEntry}
 use Rattle.dwz_meanings.specs.Meanings.{Around, Class, OfListIndex, OfOffset, Scope, class_of, expr_context, scope_of, without_siblings}
@@ -15,7 +14,9 @@ use Rattle.dwz_meanings.specs.Sequences.{Spelling, SpellsAll, SpellsRow}
 use Rattle.dwz_meanings.specs.Shared.{ListOperand, NamedList, of_unit, operands_in_lists, operands_of, own_operands}
 use Rattle.dwz_docs.specs.Trees.{End, Entry, Forest}
 use Rattle.dwz_docs.specs.Units.{RawUnit}
-use Rattle.dwz_meanings.proofs.NamedLemmas.{in_either, units_name}
+use Rattle.dwz_docs.proofs.AbbrevLemmas.{some_uleb}
+use Rattle.dwz_docs.proofs.ListFacts.{in_cases}
+use Rattle.dwz_meanings.proofs.NamedLemmas.{units_name}
 
 abbrev HaveBytes : List Operand → Type 0
 HaveBytes [] = Unit {0}
@@ -62,9 +63,6 @@ holds_has : (e : Expression) → HaveBytes e.operands → FoundHave (Holds e ∷
 unfolding operands_in
 holds_has e h = both_have e.operands [] h tt
 
-uleb_some : (bytes : List ℕ) (n : ℕ) → SpellsUleb bytes n → 0 < length bytes
-uleb_some bytes n s = some_groups bytes s.groups
-
 module _ (IsExpr : Spelling Expression) (inside : (e : Expression) (start : ℕ) (bytes : List ℕ) → IsExpr e start bytes → HaveBytes e.operands) where
   generic_has : (start width number : ℕ) → 0 < width → FoundHave (an_operand_or_generic start width number)
   generic_has start width number some = by (eqb number 0) where
@@ -81,8 +79,8 @@ module _ (IsExpr : Spelling Expression) (inside : (e : Expression) (start : ℕ)
   field_has Located founds start bytes s = subst FoundHave (sym s.found) an_address_has
   field_has LocatedBy founds start bytes s = subst FoundHave (sym s.found) an_address_has
   field_has (Entry4 base) founds start bytes s = let len = s.spelled.len in subst FoundHave (sym s.found) (operand_has false base start (length bytes) s.value (omega (arith, len)))
-  field_has EntryUleb founds start bytes s = subst FoundHave (sym s.found) (operand_has true FromUnit start (length bytes) s.value (uleb_some bytes s.value s.spelled))
-  field_has EntryOrGeneric founds start bytes s = subst FoundHave (sym s.found) (generic_has start (length bytes) s.value (uleb_some bytes s.value s.spelled))
+  field_has EntryUleb founds start bytes s = subst FoundHave (sym s.found) (operand_has true FromUnit start (length bytes) s.value (some_uleb bytes s.value s.spelled))
+  field_has EntryOrGeneric founds start bytes s = subst FoundHave (sym s.found) (generic_has start (length bytes) s.value (some_uleb bytes s.value s.spelled))
   field_has Inside founds start bytes s = subst FoundHave (sym s.found) (holds_has s.expression (inside s.expression (start + length s.front) s.content s.is))
 
   fields_have : (fields : List Field) (founds : List Found) (start : ℕ) (bytes : List ℕ) → SpellsFields IsExpr fields founds start bytes → FoundHave founds
@@ -93,7 +91,8 @@ module _ (IsExpr : Spelling Expression) (inside : (e : Expression) (start : ℕ)
 
 -- ---- expressions and lists
 
-ops_have : (c : ExprContext) (IsExpr : Spelling Expression) → ((e : Expression) (start : ℕ) (bytes : List ℕ) → IsExpr e start bytes → HaveBytes e.operands) → (ops : List (List Found)) (start : ℕ) (bytes : List ℕ) → SpellsAll (SpellsOp c IsExpr) ops start bytes → FoundHave (joined ops)
+ops_have : (c : ExprContext) (IsExpr : Spelling Expression) → ((e : Expression) (start : ℕ) (bytes : List ℕ) → IsExpr e start bytes → HaveBytes e.operands)
+    → (ops : List (List Found)) (start : ℕ) (bytes : List ℕ) → SpellsAll (SpellsOp c IsExpr) ops start bytes → FoundHave (joined ops)
 unfolding joined
 ops_have c IsExpr inside [] start bytes s = no_found
 ops_have c IsExpr inside (op ∷ ops) start bytes s =
@@ -117,7 +116,8 @@ unfolding joined
 row_has c [] start bytes s = no_found
 row_has c (e ∷ entries) start bytes s =
     let first = s.first in
-    found_both e (joined entries) (fields_have (SpellsExpr c) (within_has c (suc most_inside)) first.fields e (start + 1) first.rest first.spelled) (row_has c entries (start + length s.first_bytes) s.second_bytes s.second)
+    found_both e (joined entries) (fields_have (SpellsExpr c) (within_has c (suc most_inside)) first.fields e (start + 1) first.rest first.spelled)
+    (row_has c entries (start + length s.first_bytes) s.second_bytes s.second)
 
 pub list_has : (c : ExprContext) (l : LocList) (start : ℕ) (bytes : List ℕ) → SpellsList c l start bytes → HaveBytes (operands_of l.exprs)
 list_has c l start bytes s = subst (λ (w : List Expression). HaveBytes (operands_of w)) (sym s.exprs) (exprs_have (joined s.entries) (row_has c s.entries start bytes s.spelled))
@@ -158,7 +158,7 @@ of_one unit (p ∷ operands) h o (inr later) = of_one unit operands h.1 o later
 of_all : (lists : List NamedList) → ((l : NamedList) → In l lists → HaveBytes (own_operands l)) → (o : ListOperand) → In o (operands_in_lists lists) → 0 < o.operand.width
 unfolding operands_in_lists
 of_all [] each o there = absurd there
-of_all (l ∷ lists) each o there = elim (in_either o (map (of_unit l.unit) (own_operands l)) (operands_in_lists lists) there) [
+of_all (l ∷ lists) each o there = elim (in_cases o (map (of_unit l.unit) (own_operands l)) (operands_in_lists lists) there) [
   | inl own ↦ of_one l.unit (own_operands l) (each l (inl refl)) o own
   | inr others ↦ of_all lists (λ m is. each m (inr is)) o others
 ]

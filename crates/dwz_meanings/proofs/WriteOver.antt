@@ -1,17 +1,18 @@
 -- Numbers written one by one at the places of operands leave a section that is patched.
-use Rattle.std.proofs.Common.{◌≡◌, ◌⊎◌, ℕ, ◌+◌, ◌-◌, ◌<◌, ◌≤◌, List, [], ◌∷◌, ◌++◌, length, take, drop, get_or, set, map, refl, sym, ap, subst, ◌∙◌, inl, inr, arith}
+use Rattle.std.proofs.Common.{◌≡◌, ◌⊎◌, ℕ, ◌+◌, ◌-◌, ◌<◌, ◌≤◌, List, [], ◌∷◌, ◌++◌, length, take, drop, get_or, set, map, refl, sym, ap, subst, ◌∙◌, inl, inr, arith, zero, suc}
 use Rattle.std.proofs.Math.ListN.{length-set}
 use Rattle.std.proofs.lemmas.Bool.{cases_lt}
-use Rattle.std.proofs.lemmas.List.{get_or-set_other, length-drop, length-map, length-take-le}
+use Rattle.std.proofs.lemmas.List.{get_or-set_other, get_or-set_same, length-drop, length-map, length-take-le}
 use Rattle.std.proofs.Math.Seq.{drop-append_seam, take-append_seam}
 use Rattle.dwz_docs.specs.Lists.{In}
+use Rattle.dwz_docs.proofs.ListFacts.{in_map as map_in}
 use Rattle.dwz_meanings.specs.declared.exprs.Operand.{Operand}
 use Rattle.dwz_meanings.specs.PatchedLists.{EndWithin, IsPatched, number_at, with_number, with_operands}
 use Rattle.dwz_meanings.specs.Patching.{number_bytes, renumbered, written_at}
 use Rattle.dwz_meanings.specs.Shared.{AreRows, HasByte, ListOperand, NamedList, StandApart, operands_in_lists}
 use Rattle.dwz_meanings.proofs.CutLemmas.{Lie, lie_le, number_len}
 use Rattle.dwz_meanings.proofs.InPlaceLemmas.{begins_behind, between, between_same}
-use Rattle.dwz_meanings.proofs.NamedAgain.{in_map, map_in}
+use Rattle.dwz_meanings.proofs.NamedAgain.{in_map}
 use Rattle.dwz_meanings.proofs.PatchedListLemmas.{cut_at}
 use Rattle.dwz_meanings.proofs.PatchedSets.{over}
 use Rattle.dwz_meanings.proofs.RenumberLemmas.{numbered}
@@ -24,7 +25,7 @@ written_len at [] bytes = refl
 written_len at (b ∷ new) bytes = written_len (at + 1) new (set bytes at b) ∙ length-set bytes at b
 
 -- a byte before them or behind them
-written_other : (at : ℕ) (new bytes : List ℕ) (place : ℕ) → (place < at) ⊎ (at + length new ≤ place) → get_or (written_at at new bytes) place 0 ≡ get_or bytes place 0
+pub written_other : (at : ℕ) (new bytes : List ℕ) (place : ℕ) → (place < at) ⊎ (at + length new ≤ place) → get_or (written_at at new bytes) place 0 ≡ get_or bytes place 0
 unfolding written_at
 written_other at [] bytes place out = refl
 written_other at (b ∷ new) bytes place out =
@@ -79,7 +80,8 @@ module _ (number : ℕ → ℕ) where
   after_here : (at end : ℕ) (os : List Operand) (bytes : List ℕ) → Lie at end os → end ≤ length bytes → (o : Operand) → In o os → take o.width (drop o.at (after os bytes)) ≡ spelled o
   unfolding with_operands
   after_here at end [] bytes h le o there = absurd there
-  after_here at end (p ∷ os) bytes h le o (inr later) = after_here (p.at + p.width) end os (written_at p.at (spelled p) bytes) h.2 (let len = written_len p.at (spelled p) bytes in omega (arith, len, le)) o later
+  after_here at end (p ∷ os) bytes h le o (inr later) = after_here (p.at + p.width) end os (written_at p.at (spelled p) bytes) h.2
+      (let len = written_len p.at (spelled p) bytes in omega (arith, len, le)) o later
   after_here at end (p ∷ os) bytes h le o (inl same) = subst (λ (q : Operand). take q.width (drop q.at (after (p ∷ os) bytes)) ≡ spelled q) same own where
     first : List ℕ
     first = written_at p.at (number_bytes p.uleb p.width (number p.at)) bytes
@@ -113,7 +115,8 @@ module _ (number : ℕ → ℕ) where
 abbrev operands : List ListOperand → List Operand
 operands rows = map (λ r. r.operand) rows
 
-rows_lie : (end : ℕ) (rows : List ListOperand) → StandApart rows → ((o : ListOperand) → In o rows → 0 < o.operand.width) → EndWithin end rows → (at : ℕ) → at ≤ end → ((o : ListOperand) (others : List ListOperand) → rows ≡ o ∷ others → at ≤ o.operand.at) → Lie at end (operands rows)
+rows_lie : (end : ℕ) (rows : List ListOperand) → StandApart rows → ((o : ListOperand) → In o rows → 0 < o.operand.width) → EndWithin end rows → (at : ℕ) → at ≤ end
+    → ((o : ListOperand) (others : List ListOperand) → rows ≡ o ∷ others → at ≤ o.operand.at) → Lie at end (operands rows)
 rows_lie end [] apart some within at le first = le
 rows_lie end (o ∷ []) apart some within at le first = (first o [] refl, some o (inl refl), within.0)
 rows_lie end (o ∷ p ∷ rows) apart some within at le first = (
@@ -135,7 +138,8 @@ rows_patched lists rows numbers section are apart many within = subst (IsPatched
   same : map (with_number number) (operands rows) ≡ renumbered (operands rows) numbers
   same = numbered 0 (length section) (operands rows) numbers lie (many ∙ sym (length-map rows (λ (r : ListOperand). r.operand)))
 
-  written : (o : ListOperand) → In o (operands_in_lists lists) → take o.operand.width (drop o.operand.at (after number (operands rows) section)) ≡ number_bytes o.operand.uleb o.operand.width (number o.operand.at)
+  written : (o : ListOperand) → In o (operands_in_lists lists) → take o.operand.width (drop o.operand.at (after number (operands rows) section))
+      ≡ number_bytes o.operand.uleb o.operand.width (number o.operand.at)
   written o there =
       let new = after number (operands rows) section in
       let r = are.all o there in
@@ -150,3 +154,16 @@ rows_patched lists rows numbers section are apart many within = subst (IsPatched
 
   patched : IsPatched lists number section (after number (operands rows) section)
   patched = record { len = after_len number (operands rows) section; written = written; others = others }
+
+pub written_in : (at : ℕ) (new bytes : List ℕ) (k : ℕ) → k < length new → at + length new ≤ length bytes → get_or (written_at at new bytes) (at + k) 0 ≡ get_or new k 0
+unfolding written_at
+written_in at [] bytes k lt le = absurd (omega (arith, lt))
+written_in at (n ∷ new) bytes zero lt le =
+    let here : at + 0 ≡ at = omega arith in
+    ap (λ (b : ℕ). get_or (written_at (at + 1) new (set bytes at n)) b 0) here
+    ∙ written_other (at + 1) new (set bytes at n) at (inl (omega arith))
+    ∙ get_or-set_same bytes at n 0 (omega (arith, le))
+written_in at (n ∷ new) bytes (suc k) lt le =
+    let next : at + suc k ≡ at + 1 + k = omega arith in
+    ap (λ (b : ℕ). get_or (written_at (at + 1) new (set bytes at n)) b 0) next
+    ∙ written_in (at + 1) new (set bytes at n) k (omega (arith, lt)) (omega (arith, le, length-set bytes at n))

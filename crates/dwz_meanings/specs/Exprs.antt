@@ -1,5 +1,6 @@
 -- Expressions (DWARF 5, 2.5 and 7.7.1): how they are spelled, how they are read, and why one isn't.
-use Rattle.std.specs.Prelude.{◌≡◌, ◌⊎◌, ℕ, zero, suc, ◌+◌, ◌-◌, Bool, true, false, List, [], ◌∷◌, ◌++◌, length, take, drop, Option, Some, None, Result, Ok, Err, ◌==◌, ◌||◌, if◌then◌else◌}
+use Rattle.std.specs.Prelude.{◌≡◌, ◌⊎◌, ℕ, zero, suc, ◌+◌, ◌-◌, Bool, true, false, List, [], ◌∷◌, ◌++◌, length, take, drop, Option, Some}
+use Rattle.std.specs.Prelude.{None, Result, Ok, Err, ◌==◌, ◌||◌, if◌then◌else◌}
 use Rattle.dwz_model.specs.declared.fault.Fault.{Fault}
 use Rattle.dwz_model.specs.declared.fault.Reason.TheVariants.{BadExpr, BadOperand, UnsupportedOp}
 use Rattle.dwz_model.specs.declared.place.Base.{Base}
@@ -10,7 +11,10 @@ use Rattle.dwz_bytes.specs.Laws.{IsCutShort}
 use Rattle.dwz_bytes.specs.Reading.{◌>>=◌, fixed_at, sleb_at, take_at, uleb_at}
 use Rattle.dwz_bytes.specs.Spelling.{SpellsFixed, SpellsSleb, SpellsUleb, fits_i64, fits_u64, groups_value, signed_value}
 use Rattle.dwz_codes.specs.declared.shape.Shape.{Shape}
-use Rattle.dwz_codes.specs.declared.shape.Shape.TheVariants.{Nothing, Fixed1, Fixed2, Fixed4, Fixed8, Uleb, Sleb, UlebSleb, UlebUleb, BlockUleb, Address, AddressIndex, NestedExpr, UnitEntry4, InfoEntry4, InfoEntry4Sleb, UlebEntryConst, RegisterUlebEntry, SizeUlebEntry, UlebEntryOrGeneric, UlebUlebExpr, AddressAddressExpr, AddressUlebExpr}
+use Rattle.dwz_codes.specs.declared.shape.Shape.TheVariants.{Nothing, Fixed1, Fixed2, Fixed4, Fixed8, Uleb, Sleb, UlebSleb, UlebUleb}
+use Rattle.dwz_codes.specs.declared.shape.Shape.TheVariants.{BlockUleb, Address, AddressIndex, NestedExpr, UnitEntry4, InfoEntry4}
+use Rattle.dwz_codes.specs.declared.shape.Shape.TheVariants.{InfoEntry4Sleb, UlebEntryConst, RegisterUlebEntry, SizeUlebEntry}
+use Rattle.dwz_codes.specs.declared.shape.Shape.TheVariants.{UlebEntryOrGeneric, UlebUlebExpr, AddressAddressExpr, AddressUlebExpr}
 use Rattle.dwz_codes.specs.Operators.{operator_rows}
 use Rattle.dwz_meanings.specs.declared.exprs.Operand.{Operand}
 use Rattle.dwz_meanings.specs.Documents.{Part, Same}
@@ -127,7 +131,8 @@ bad_operand c at = record { section = c.section; at = at; reason = BadOperand }
 -- ---- how a field is spelled
 
 -- some bytes spell a value, in which a field holds that
-pub record SpellsPiece {X : Type 0} (Spells : List ℕ → X → Type 0) (seen : ℕ → ℕ → X → List Found) (founds : List Found) (start : ℕ) (bytes : List ℕ) : Type 0 where
+pub record SpellsPiece {X : Type 0} (Spells : List ℕ → X → Type 0) (seen : ℕ → ℕ → X → List Found) (founds : List Found) (start : ℕ)
+    (bytes : List ℕ) : Type 0 where
   pub value : X
   pub spelled : Spells bytes value
   pub found : founds ≡ seen start (length bytes) value
@@ -323,7 +328,8 @@ IsFieldFault IsExprFault bad field start bytes f = ((f ≡ bad) × IsCutOrWide f
 abbrev pub IsFieldsFault : Spelling Expression → FaultAt → Fault → List Field → FaultAt
 IsFieldsFault IsExpr IsExprFault bad [] start bytes f = ⊥
 IsFieldsFault IsExpr IsExprFault bad (field ∷ fields) start bytes f =
-    IsFieldFault IsExprFault bad field start bytes f ⊎ Behind (SpellsField IsExpr field) (λ _. IsFieldsFault IsExpr IsExprFault bad fields) start bytes f
+    IsFieldFault IsExprFault bad field start bytes f ⊎ Behind (SpellsField IsExpr field) (λ _. IsFieldsFault IsExpr IsExprFault bad fields)
+    start bytes f
 
 -- that operand is the first that names no entry
 abbrev pub IsFirstUnnamed : (Operand → Bool) → List Operand → Operand → Type 0
@@ -331,7 +337,8 @@ IsFirstUnnamed names [] o = ⊥
 IsFirstUnnamed names (p ∷ operands) o = ((names p ≡ false) × (o ≡ p)) ⊎ ((names p ≡ true) × IsFirstUnnamed names operands o)
 
 -- the fields are spelled, and an operand names no entry
-pub record IsUnnamed (c : ExprContext) (IsExpr : Spelling Expression) (fields : List Field) (start : ℕ) (bytes : List ℕ) (f : Fault) : Type 0 where
+pub record IsUnnamed (c : ExprContext) (IsExpr : Spelling Expression) (fields : List Field) (start : ℕ) (bytes : List ℕ) (f : Fault) : Type
+    0 where
   pub founds : List Found
   pub front : List ℕ
   pub spelled : SpellsFields IsExpr fields founds start front
@@ -350,7 +357,8 @@ IsLaidFault c IsExpr IsExprFault at code (Some fields) start bytes f =
 
 abbrev pub IsOpFault : ExprContext → Spelling Expression → (Fault → FaultAt) → FaultAt
 IsOpFault c IsExpr IsExprFault start [] f = f ≡ bad_expr c start
-IsOpFault c IsExpr IsExprFault start (code ∷ rest) f = IsLaidFault c IsExpr IsExprFault start code (fields_of (shape_of operator_rows code)) (start + 1) rest f
+IsOpFault c IsExpr IsExprFault start (code ∷ rest) f = IsLaidFault c IsExpr IsExprFault start code (fields_of (shape_of operator_rows code))
+    (start + 1) rest f
 
 -- operators stand there, and the one behind them isn't read; where no expression may stand, the operator that has it is at fault
 abbrev pub IsFaultWithin : ExprContext → ℕ → Fault → FaultAt
@@ -366,7 +374,8 @@ IsExprFault c start bytes f = IsFaultWithin c (suc most_inside) (bad_expr c star
 unfoldable pub parts_from : ℕ → List ℕ → List Operand → List Part
 parts_from at bytes [] = Same bytes ∷ []
 parts_from at bytes (o ∷ operands) =
-    Same (take (o.at - at) bytes) ∷ document.Operand o.width o.uleb o.base ∷ parts_from (o.at + o.width) (drop (o.at + o.width - at) bytes) operands
+    Same (take (o.at - at) bytes) ∷ document.Operand o.width o.uleb o.base ∷ parts_from (o.at + o.width) (drop (o.at + o.width - at) bytes)
+    operands
 
 abbrev pub parts_of : Expression → List Part
 parts_of e = parts_from e.at e.bytes e.operands

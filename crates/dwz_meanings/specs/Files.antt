@@ -1,6 +1,7 @@
 -- Files: what the debug information of files says, or the first fault. One file after the other, and in a file the ELF faults come
 -- before those of the units, and those before the faults of meanings.
-use Rattle.std.specs.Prelude.{◌≡◌, ◌≢◌, ◌⊎◌, ℕ, suc, ◌-◌, ◌^◌, ◌<◌, ◌≤◌, Bool, false, List, [], ◌∷◌, ◌++◌, length, take, drop, Option, Some, None, Result, Ok, Err, ◌==◌, ◌||◌, not, nat_lt}
+use Rattle.std.specs.Prelude.{◌≡◌, ◌≢◌, ◌⊎◌, ℕ, suc, ◌-◌, ◌^◌, ◌<◌, ◌≤◌, Bool, false, List, [], ◌∷◌, ◌++◌, length, Option, Some}
+use Rattle.std.specs.Prelude.{None, Result, Ok, Err, ◌==◌, ◌||◌, not, nat_lt}
 use Rattle.dwz_model.specs.declared.fault.Fault.{Fault}
 use Rattle.dwz_model.specs.declared.fault.Reason.TheVariants.{FileSize, Machine}
 use Rattle.dwz_model.specs.declared.fault.Refusal.{Refusal}
@@ -71,7 +72,12 @@ abbrev pub no_files_before : Limits
 no_files_before = record { bytes = longest_files; entries = most_entries; machine = None }
 
 abbrev pub limits_after : Limits → List ℕ → List RawUnit → Limits
-limits_after l bytes units = record { bytes = l.bytes - length bytes; entries = l.entries - entries_in units; machine = Some (machine_of bytes) }
+limits_after l bytes units = record {
+  bytes = l.bytes - length bytes;
+  entries = l.entries - entries_in units;
+  machine =
+      Some (machine_of bytes);
+}
 
 -- ---- the relation: what a file says
 
@@ -152,7 +158,8 @@ abbrev pub lists_said : List ℕ → List RawUnit → Result (Unit {0}) Fault
 lists_said bytes units = none_shared (lists_of_units (around_of bytes units) units)
 
 abbrev pub units_said : List ℕ → List RawUnit → Result (List RawUnit × Doc ℕ) Fault
-units_said bytes units = units_meaning (around_of bytes units) units >>= λ said. sets_said bytes units >>= λ sets. lists_said bytes units >>= λ good. doc_with bytes units said
+units_said bytes units = units_meaning (around_of bytes units) units >>= λ said. sets_said bytes units >>= λ sets. lists_said bytes units
+    >>= λ good. doc_with bytes units said
 
 -- the units of a file as they are stored, and its document
 unfoldable pub file_meaning : Limits → List ℕ → Result (List RawUnit × Doc ℕ) Fault

@@ -1,5 +1,6 @@
 -- The directories and files of a line table (DWARF 5, 6.2.4): how its header is spelled, how it is read, and what the rows of files are.
-use Rattle.std.specs.Prelude.{◌≡◌, ℕ, pos, zero, suc, ◌+◌, Bool, true, false, List, [], ◌∷◌, ◌++◌, length, map, take, drop, Option, Some, None, Result, Ok, Err, ◌==◌, ◌&&◌, ◌||◌, not, nat_lt, if◌then◌else◌}
+use Rattle.std.specs.Prelude.{◌≡◌, ℕ, pos, zero, suc, ◌+◌, Bool, true, false, List, [], ◌∷◌, ◌++◌, length, map, take, drop, Option, Some}
+use Rattle.std.specs.Prelude.{None, Result, Ok, Err, ◌==◌, ◌&&◌, ◌||◌, not, nat_lt, if◌then◌else◌}
 use Rattle.std.specs.List.{list_all}
 use Rattle.dwz_model.specs.declared.fault.Fault.{Fault}
 use Rattle.dwz_model.specs.declared.fault.Reason.TheVariants.{BadLineTable}
@@ -27,8 +28,8 @@ pub record FileTable : Type 0 where
 
 -- ---- formats: what a directory or a file consists of (6.2.4.1)
 
--- DW_LNCT_path is 1, DW_LNCT_directory_index is 2. A path is a text that stands there or in a section; the index of a directory is a small number; anything else is a text, a number or
--- bytes
+-- DW_LNCT_path is 1, DW_LNCT_directory_index is 2. A path is a text that stands there or in a section; the index of a directory is a small
+-- number; anything else is a text, a number or bytes
 abbrev pub forms_for : ℕ → List ℕ
 forms_for content =
     if content == 1 then 0x08 ∷ 0x0e ∷ 0x1f ∷ []
@@ -49,13 +50,15 @@ SpellsFormat = Both (λ n start bytes. SpellsUleb bytes n) (λ _ n start bytes. 
 -- a value for each format, in order
 abbrev pub SpellsValues : List Pair → Spelling (List Raw)
 SpellsValues [] raws start bytes = (raws ≡ []) × (bytes ≡ [])
-SpellsValues (pair ∷ pairs) raws start bytes = Both (λ raw start bytes. SpellsValue form_rows pair bytes raw) (λ _. SpellsValues pairs) (λ raw raws. raw ∷ raws) raws start bytes
+SpellsValues (pair ∷ pairs) raws start bytes = Both (λ raw start bytes. SpellsValue form_rows pair bytes raw) (λ _. SpellsValues pairs)
+    (λ raw raws. raw ∷ raws) raws start bytes
 
 -- the values with a content type, with their formats
 abbrev pub with_content : ℕ → List Pair → List Raw → List (Pair × Raw)
 with_content content [] raws = []
 with_content content (pair ∷ pairs) [] = []
-with_content content (pair ∷ pairs) (raw ∷ raws) = if pair.name == content then (pair, raw) ∷ with_content content pairs raws else with_content content pairs raws
+with_content content (pair ∷ pairs) (raw ∷ raws) = if pair.name == content then (pair, raw) ∷ with_content content pairs raws else
+    with_content content pairs raws
 
 -- directories or files, as they are stored
 pub record Table : Type 0 where
@@ -148,11 +151,13 @@ dir_path (row ∷ rows) (suc n) = dir_path rows n
 
 -- the first directory is the one in which the unit was compiled; the others are seen from there
 abbrev pub full_path : List PathRow → PathRow → List ℕ
-full_path dirs row = if row.dir == 0 then join (dir_path dirs 0) row.path else join (join (dir_path dirs 0) (dir_path dirs row.dir)) row.path
+full_path dirs row = if row.dir == 0 then join (dir_path dirs 0) row.path else join (join (dir_path dirs 0) (dir_path dirs row.dir))
+    row.path
 
 -- each form is one for its content; there is a directory wherever there is a file
 abbrev pub are_formats : Tables → Bool
-are_formats t = list_all is_format t.dirs.formats && (list_all is_format t.files.formats && (not (nat_lt 0 (length t.files.rows)) || nat_lt 0 (length t.dirs.rows)))
+are_formats t = list_all is_format t.dirs.formats
+    && (list_all is_format t.files.formats && (not (nat_lt 0 (length t.files.rows)) || nat_lt 0 (length t.dirs.rows)))
 
 abbrev pub names_strs : List Pair → Bool
 names_strs [] = false
@@ -262,7 +267,8 @@ abbrev pub row_with : ℕ → List ℕ → Result PathRow Fault
 row_with dir path = Ok (record { path = path; dir = dir })
 
 abbrev pub row_after : TextSections → Fault → List Pair → List Raw → Unit {0} → Result PathRow Fault
-row_after s bad formats raws good = or_bad bad (row_path s (with_content 1 formats raws)) >>= row_with (first_index (with_content 2 formats raws))
+row_after s bad formats raws good = or_bad bad (row_path s (with_content 1 formats raws)) >>= row_with
+    (first_index (with_content 2 formats raws))
 
 abbrev pub row_said : TextSections → Fault → ℕ → List Pair → List Raw → Result PathRow Fault
 row_said s bad dirs formats raws = unless_so (not (are_indexes dirs (with_content 2 formats raws))) bad >>= row_after s bad formats raws
@@ -272,10 +278,15 @@ with_row row rows = Ok (row ∷ rows)
 
 unfoldable pub rows_said : TextSections → Fault → ℕ → List Pair → List (List Raw) → Result (List PathRow) Fault
 rows_said s bad dirs formats [] = Ok []
-rows_said s bad dirs formats (raws ∷ table) = row_said s bad dirs formats raws >>= λ row. rows_said s bad dirs formats table >>= with_row row
+rows_said s bad dirs formats (raws ∷ table) = row_said s bad dirs formats raws >>= λ row. rows_said s bad dirs formats table >>= with_row
+    row
 
 abbrev pub file_table : Tables → List PathRow → List PathRow → Result FileTable Fault
-file_table t dirs files = Ok (record { paths = map (full_path dirs) files; has_strp = names_strs t.dirs.formats || names_strs t.files.formats })
+file_table t dirs files = Ok (record {
+  paths = map (full_path dirs) files;
+  has_strp = names_strs t.dirs.formats
+      || names_strs t.files.formats;
+})
 
 abbrev pub files_after : TextSections → Fault → Tables → List PathRow → Result FileTable Fault
 files_after s bad t dirs = rows_said s bad (length t.dirs.rows) t.files.formats t.files.rows >>= file_table t dirs
@@ -287,7 +298,8 @@ abbrev pub table_said : TextSections → Fault → Tables → Result FileTable F
 table_said s bad t = unless_so (not (are_formats t)) bad >>= dirs_after s bad t
 
 abbrev pub tables_after : TextSections → Fault → List ℕ → Unit {0} → Result FileTable Fault
-tables_after s bad bytes good = tables_at bad (record { at = tables_begin bytes; rest = tables_bytes bytes }) >>= value_only >>= table_said s bad
+tables_after s bad bytes good = tables_at bad (record { at = tables_begin bytes; rest = tables_bytes bytes }) >>= value_only >>= table_said
+    s bad
 
 -- the first fault, whichever it is
 abbrev pub any_table : TextSections → Fault → List ℕ → Result FileTable Fault

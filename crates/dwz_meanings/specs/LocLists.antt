@@ -5,7 +5,8 @@ use Rattle.dwz_model.specs.declared.fault.Reason.TheVariants.{BadList}
 use Rattle.dwz_bytes.specs.Input.{Input}
 use Rattle.dwz_bytes.specs.Reading.{◌>>=◌}
 use Rattle.dwz_codes.specs.ListKinds.{list_kind_rows}
-use Rattle.dwz_meanings.specs.Exprs.{ExprContext, Expression, Field, Found, IsFaultWithin, IsFieldsFault, SpellsExpr, SpellsFields, expr_within, expressions_in, fields_at, fields_of, joined, most_inside}
+use Rattle.dwz_meanings.specs.Exprs.{ExprContext, Expression, Field, Found, IsFaultWithin, IsFieldsFault, SpellsExpr, SpellsFields}
+use Rattle.dwz_meanings.specs.Exprs.{expr_within, expressions_in, fields_at, fields_of, joined, most_inside}
 use Rattle.dwz_meanings.specs.Sequences.{BehindItems, FaultAt, Reader, SpellsRow, row_at}
 use Rattle.dwz_docs.specs.Values.{shape_of}
 
@@ -55,7 +56,8 @@ behind_kind at rest = record { at = at + 1; rest = rest }
 
 abbrev pub entry_in : ExprContext → ℕ → List ℕ → Result (Option (List Found) × Input) Fault
 entry_in c at [] = Err (bad_list at)
-entry_in c at (kind ∷ rest) = if kind == 0 then Ok (None, behind_kind at rest) else entry_by c at (fields_of (shape_of list_kind_rows kind)) (behind_kind at rest)
+entry_in c at (kind ∷ rest) = if kind == 0 then Ok (None, behind_kind at rest) else entry_by c at (fields_of (shape_of list_kind_rows kind))
+    (behind_kind at rest)
 
 -- an entry, or the end
 unfoldable pub list_entry_at : ExprContext → Reader (Option (List Found))
@@ -74,7 +76,8 @@ list_at c i = row_at (list_entry_at c) (bad_list i.at) i >>= with_entries
 
 abbrev pub IsKindFault : ExprContext → ℕ → Option (List Field) → FaultAt
 IsKindFault c at None start bytes f = f ≡ bad_list at
-IsKindFault c at (Some fields) start bytes f = IsFieldsFault (SpellsExpr c) (IsFaultWithin c (suc most_inside) (bad_list at)) (bad_list at) fields start bytes f
+IsKindFault c at (Some fields) start bytes f = IsFieldsFault (SpellsExpr c) (IsFaultWithin c (suc most_inside) (bad_list at)) (bad_list at)
+    fields start bytes f
 
 -- no kind stands there, or one that isn't in the table, or the first of its fields that isn't spelled has the fault: that of an
 -- expression is its own, and any other is placed at the kind

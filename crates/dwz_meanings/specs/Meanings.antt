@@ -1,5 +1,6 @@
 -- What stored values mean (DWARF 5, 7.5.4 to 7.5.6): the relation, the function, and why a value means nothing.
-use Rattle.std.specs.Prelude.{◌≡◌, ◌≢◌, ◌⊎◌, ℕ, ℤ, pos, negsuc, ◌+◌, ◌-◌, ◌*◌, ◌^◌, ◌<◌, ◌≤◌, Bool, true, false, List, [], ◌∷◌, ◌++◌, length, drop, map, Option, Some, None, Result, Ok, Err, ◌==◌, ◌&&◌, ◌||◌, not, nat_lt, if◌then◌else◌}
+use Rattle.std.specs.Prelude.{◌≡◌, ◌≢◌, ◌⊎◌, ℕ, ℤ, pos, negsuc, ◌+◌, ◌-◌, ◌*◌, ◌^◌, ◌<◌, ◌≤◌, Bool, true, false, List, [], ◌∷◌, ◌++◌}
+use Rattle.std.specs.Prelude.{length, drop, map, Option, Some, None, Result, Ok, Err, ◌==◌, ◌&&◌, ◌||◌, not, nat_lt, if◌then◌else◌}
 use Rattle.dwz_model.specs.declared.fault.Fault.{Fault}
 use Rattle.dwz_model.specs.declared.fault.Reason.TheVariants.{BadFile, BadList, BadReference, BadString, UnsupportedForm}
 use Rattle.dwz_model.specs.declared.place.Base.{Base}
@@ -7,7 +8,8 @@ use Rattle.dwz_model.specs.declared.place.Base.TheVariants.{Unit as FromUnit, In
 use Rattle.dwz_bytes.specs.Reading.{◌>>=◌}
 use Rattle.dwz_bytes.specs.Spelling.{reach}
 use Rattle.dwz_meanings.specs.declared.exprs.Operand.{Operand}
-use Rattle.dwz_meanings.specs.Documents.{Addr, Attr, Block, Compile, DwUnit, Entries, Expr, File, Flag, Index, Kind, Loc, Node, Num, OfType, Partial, Sec, Sig, Text, Value, only, ref}
+use Rattle.dwz_meanings.specs.Documents.{Addr, Attr, Block, Compile, DwUnit, Entries, Expr, File, Flag, Index, Kind, Loc, Node, Num, OfType}
+use Rattle.dwz_meanings.specs.Documents.{Partial, Sec, Sig, Text, Value, only, ref}
 use Rattle.dwz_docs.specs.Entries.{RawAttr, RawEntry}
 use Rattle.dwz_meanings.specs.Exprs.{ExprContext, Expression, IsExprFault, SpellsExpr, expr_at, parts_of}
 use Rattle.dwz_docs.specs.Faults.{info_fault}
@@ -372,7 +374,8 @@ MeanEntries s _ _ = ⊥
 abbrev pub MeansKind : {P : Type 0} → Scope P → RawKind → Kind P → Type 0
 MeansKind s CompileUnit k = k ≡ Compile
 MeansKind s PartialUnit k = k ≡ Partial
-MeansKind s (TypeUnit signature type_offset) k = In (s.unit + type_offset) s.own × (k ≡ OfType signature (s.around.place (s.unit + type_offset)))
+MeansKind s (TypeUnit signature type_offset) k = In (s.unit + type_offset) s.own
+    × (k ≡ OfType signature (s.around.place (s.unit + type_offset)))
 
 -- the places of entries, in order
 unfoldable pub places_in : Forest RawEntry → List ℕ
@@ -462,7 +465,8 @@ abbrev pub list_read : {P : Type 0} → Scope P → ℕ → Result LocList Fault
 list_read s place = read_from (list_at (expr_context s 7)) s.around.sources.lists place
 
 abbrev pub list_meaning : {P : Type 0} → Scope P → RawAttr → ℕ → Result (Value P) Fault
-list_meaning s a place = if nat_lt place (length s.around.sources.lists) then list_read s place >>= loc_said s else Err (info_fault a.at BadList)
+list_meaning s a place = if nat_lt place (length s.around.sources.lists) then list_read s place >>= loc_said s else Err
+    (info_fault a.at BadList)
 
 abbrev pub list_by : {P : Type 0} → Scope P → RawAttr → ℕ → Option ℕ → Result (Value P) Fault
 list_by s a base None = Err (info_fault a.at BadList)
@@ -528,7 +532,8 @@ abbrev pub kind_meaning : {P : Type 0} → Scope P → RawKind → Result (Kind 
 kind_meaning s CompileUnit = Ok Compile
 kind_meaning s PartialUnit = Ok Partial
 kind_meaning s (TypeUnit signature type_offset) =
-    if has (s.unit + type_offset) s.own then Ok (OfType signature (s.around.place (s.unit + type_offset))) else Err (info_fault (type_offset_at s.unit) BadReference)
+    if has (s.unit + type_offset) s.own then Ok (OfType signature (s.around.place (s.unit + type_offset))) else Err
+    (info_fault (type_offset_at s.unit) BadReference)
 
 abbrev pub unit_with : {P : Type 0} → Around P → RawUnit → Kind P → Node P → Entries P → Result (DwUnit P) Fault
 unit_with around u kind root below = Ok (record { at = around.place u.at; kind = kind; root = root; below = below })
@@ -536,7 +541,8 @@ unit_with around u kind root below = Ok (record { at = around.place u.at; kind =
 abbrev pub unit_meaning : {P : Type 0} → Around P → RawUnit → Result (DwUnit P) Fault
 unit_meaning around u =
     kind_meaning (scope_of around u) u.kind
-    >>= λ kind. node_meaning (scope_of around u) u.root >>= λ root. entries_meaning (scope_of around u) u.below >>= unit_with around u kind root
+    >>= λ kind. node_meaning (scope_of around u) u.root >>= λ root. entries_meaning (scope_of around u) u.below >>= unit_with around u kind
+    root
 
 abbrev pub with_units : {P : Type 0} → DwUnit P → List (DwUnit P) → Result (List (DwUnit P)) Fault
 with_units u units = Ok (u ∷ units)

@@ -3,7 +3,8 @@ use Rattle.std.specs.Prelude.{◌≡◌, ◌⊎◌, ℕ, ◌+◌, ◌<◌, true,
 use Rattle.dwz_model.specs.declared.fault.Fault.{Fault}
 use Rattle.dwz_docs.specs.Entries.{RawAttr, RawEntry}
 use Rattle.dwz_meanings.specs.LocLists.{LocList, SpellsList}
-use Rattle.dwz_meanings.specs.Meanings.{Around, Class, OfListIndex, OfOffset, Scope, class_of, expr_context, list_read, loclists_base, names_list, offset_of, scope_of, without_siblings}
+use Rattle.dwz_meanings.specs.Meanings.{Around, Class, OfListIndex, OfOffset, Scope, class_of, expr_context, list_read, loclists_base}
+use Rattle.dwz_meanings.specs.Meanings.{names_list, offset_of, scope_of, without_siblings}
 use Rattle.dwz_meanings.specs.Sequences.{StandsFrom}
 use Rattle.dwz_meanings.specs.Shared.{NamedList}
 use Rattle.dwz_docs.specs.Texts.{IsSlot, slot, slot_place}
@@ -48,7 +49,8 @@ AnyEntryNames s (Entry e children next) l = AnyNames s (without_siblings e.attrs
 
 abbrev pub AnyUnitNames : {P : Type 0} → Around P → List RawUnit → NamedList → Type 0
 AnyUnitNames around [] l = ⊥
-AnyUnitNames around (u ∷ units) l = (AnyNames (scope_of around u) (without_siblings u.root.attrs) l ⊎ AnyEntryNames (scope_of around u) u.below l) ⊎ AnyUnitNames around units l
+AnyUnitNames around (u ∷ units) l = (AnyNames (scope_of around u) (without_siblings u.root.attrs) l
+    ⊎ AnyEntryNames (scope_of around u) u.below l) ⊎ AnyUnitNames around units l
 
 -- ---- all of them
 
@@ -82,7 +84,8 @@ lists_of_attrs s (a ∷ attrs) = list_of_attr s a ++ lists_of_attrs s attrs
 
 unfoldable pub lists_of_entries : {P : Type 0} → Scope P → Forest RawEntry → List NamedList
 lists_of_entries s End = []
-lists_of_entries s (Entry e children next) = lists_of_attrs s (without_siblings e.attrs) ++ (lists_of_entries s children ++ lists_of_entries s next)
+lists_of_entries s (Entry e children next) = lists_of_attrs s (without_siblings e.attrs)
+    ++ (lists_of_entries s children ++ lists_of_entries s next)
 
 abbrev pub lists_of_unit : {P : Type 0} → Around P → RawUnit → List NamedList
 lists_of_unit around u = lists_of_attrs (scope_of around u) (without_siblings u.root.attrs) ++ lists_of_entries (scope_of around u) u.below

@@ -19,7 +19,12 @@ with_number number o = record { at = o.at; width = o.width; uleb = o.uleb; base 
 -- an expression, and a list, with these numbers in their operands
 abbrev pub expr_with : (ℕ → ℕ) → Expression → Expression
 expr_with number e =
-    record { at = e.at; bytes = filled (parts_of e) (map (λ o. number o.at) e.operands); operands = map (with_number number) e.operands; address = e.address }
+    record {
+      at = e.at;
+      bytes = filled (parts_of e) (map (λ o. number o.at) e.operands);
+      operands = map (with_number number) e.operands;
+      address = e.address;
+    }
 
 abbrev pub list_with : (ℕ → ℕ) → LocList → LocList
 list_with number l = record { exprs = map (expr_with number) l.exprs; end = l.end }
@@ -33,8 +38,10 @@ named_with unit number l = record { unit = unit l.unit; from = l.from; slot = l.
 -- at each operand of the lists stands the number for its place, in the operand's width; bytes that are in no operand are the old ones
 pub record IsPatched (lists : List NamedList) (number : ℕ → ℕ) (section new : List ℕ) : Type 0 where
   pub len : length new ≡ length section
-  pub written : (o : ListOperand) → In o (operands_in_lists lists) → take o.operand.width (drop o.operand.at new) ≡ number_bytes o.operand.uleb o.operand.width (number o.operand.at)
-  pub others : (b : ℕ) → ((o : ListOperand) → In o (operands_in_lists lists) → HasByte o.operand b → ⊥) → slice_index new b ≡ slice_index section b
+  pub written : (o : ListOperand) → In o (operands_in_lists lists) → take o.operand.width (drop o.operand.at new)
+      ≡ number_bytes o.operand.uleb o.operand.width (number o.operand.at)
+  pub others : (b : ℕ) → ((o : ListOperand) → In o (operands_in_lists lists) → HasByte o.operand b → ⊥)
+      → slice_index new b ≡ slice_index section b
 
 -- the numbers fit the operands of the list and name entries
 pub record CanHave (c : ExprContext) (number : ℕ → ℕ) (l : NamedList) : Type 0 where

@@ -32,7 +32,8 @@ FitsIn false width number = number < 256 ^ width
 unfoldable pub renumbered : List Operand → List ℕ → List Operand
 renumbered [] numbers = []
 renumbered (o ∷ operands) [] = []
-renumbered (o ∷ operands) (n ∷ numbers) = record { at = o.at; width = o.width; uleb = o.uleb; base = o.base; number = n } ∷ renumbered operands numbers
+renumbered (o ∷ operands) (n ∷ numbers) = record { at = o.at; width = o.width; uleb = o.uleb; base = o.base; number = n }
+    ∷ renumbered operands numbers
 
 abbrev pub AllFit : List Operand → Type 0
 AllFit [] = Unit {0}
@@ -45,7 +46,13 @@ moved from to o = record { at = to + (o.at - from); width = o.width; uleb = o.ul
 -- the expression at a place, with these numbers in its operands
 abbrev pub patched_expr : ℕ → Expression → List ℕ → Expression
 patched_expr at e numbers =
-    record { at = at; bytes = filled (parts_of e) numbers; operands = map (moved e.at at) (renumbered e.operands numbers); address = e.address }
+    record {
+      at = at;
+      bytes = filled (parts_of e) numbers;
+      operands = map (moved e.at at) (renumbered e.operands numbers);
+      address =
+          e.address;
+    }
 
 -- there is a number for each operand that fits and names an entry
 pub record CanPatch (c : ExprContext) (at : ℕ) (e : Expression) (numbers : List ℕ) : Type 0 where
@@ -69,7 +76,8 @@ abbrev pub LeadTo : {P : Type 0} → Scope P → List Part → List ℕ → List
 LeadTo s [] [] [] = Unit {0}
 LeadTo s (Same bytes ∷ parts) numbers refs = LeadTo s parts numbers refs
 LeadTo s (document.Operand width uleb base ∷ parts) (n ∷ numbers) (p ∷ refs) =
-    FitsIn uleb width n × (has (leads_to s base n) (entries_for s base) ≡ true) × (p ≡ s.around.place (leads_to s base n)) × LeadTo s parts numbers refs
+    FitsIn uleb width n × (has (leads_to s base n) (entries_for s base) ≡ true) × (p ≡ s.around.place (leads_to s base n))
+    × LeadTo s parts numbers refs
 LeadTo s _ _ _ = ⊥
 
 -- ---- sets of address ranges

@@ -1,5 +1,6 @@
 -- Location lists that share bytes with operands of others, so that their numbers can't be changed one by one.
-use Rattle.std.specs.Prelude.{◌≡◌, ◌⊎◌, ℕ, zero, suc, ◌+◌, ◌<◌, ◌≤◌, Bool, true, false, List, [], ◌∷◌, ◌++◌, map, Option, Some, None, Result, Ok, Err, ◌==◌, ◌&&◌, ◌||◌, not, nat_lt, if◌then◌else◌}
+use Rattle.std.specs.Prelude.{◌≡◌, ◌⊎◌, ℕ, zero, suc, ◌+◌, ◌<◌, ◌≤◌, Bool, true, false, List, [], ◌∷◌, ◌++◌, map, Option, Some, None}
+use Rattle.std.specs.Prelude.{Result, Ok, Err, ◌==◌, ◌&&◌, ◌||◌, not, nat_lt, if◌then◌else◌}
 use Rattle.std.specs.List.{list_any}
 use Rattle.dwz_model.specs.declared.fault.Fault.{Fault}
 use Rattle.dwz_model.specs.declared.fault.Reason.TheVariants.{SharedList}
@@ -148,7 +149,8 @@ slot_has o None = false
 slot_has o (Some slot) = any_byte o (is_within slot (slot + 4))
 
 abbrev pub is_shared : List NamedList → ListOperand → Bool
-is_shared lists o = list_any (clashes o) (operands_in_lists lists) || (list_any (reads_inside o.operand) lists || list_any (λ l. slot_has o.operand l.slot) lists)
+is_shared lists o = list_any (clashes o) (operands_in_lists lists)
+    || (list_any (reads_inside o.operand) lists || list_any (λ l. slot_has o.operand l.slot) lists)
 
 -- the least place of the operands that pass a test
 unfoldable pub least_place : (ListOperand → Bool) → List ListOperand → Option ℕ
@@ -187,5 +189,7 @@ StandApart (o ∷ p ∷ rows) = (o.operand.at + o.operand.width ≤ p.operand.at
 -- tests this: the rows of a list, or of a slot, are those from the first that ends behind where it begins.
 pub record PassesOver (lists : List NamedList) (rows : List ListOperand) : Type 0 where
   pub apart : StandApart rows
-  pub owned : (o : ListOperand) (l : NamedList) → In o rows → In l lists → o.operand.at < l.list.end → l.from < o.operand.at + o.operand.width → OneOf (own_operands l) (λ p. IsSame (of_unit l.unit p) o)
-  pub free : (o : ListOperand) (l : NamedList) (slot : ℕ) → In o rows → In l lists → l.slot ≡ Some slot → o.operand.at < slot + 4 → slot < o.operand.at + o.operand.width → ⊥
+  pub owned : (o : ListOperand) (l : NamedList) → In o rows → In l lists → o.operand.at < l.list.end
+      → l.from < o.operand.at + o.operand.width → OneOf (own_operands l) (λ p. IsSame (of_unit l.unit p) o)
+  pub free : (o : ListOperand) (l : NamedList) (slot : ℕ) → In o rows → In l lists → l.slot ≡ Some slot → o.operand.at < slot + 4
+      → slot < o.operand.at + o.operand.width → ⊥

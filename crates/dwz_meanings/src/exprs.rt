@@ -28,5 +28,6 @@ pub struct Operand {
 pub fn expr_laws()
     ensures read { (c : ExprContext) (i : Input) (e : Expression) → (expr_at c i ≡ Ok e) ↔ SpellsExpr c e i.at i.rest }
     ensures fault { (c : ExprContext) (i : Input) (f : Fault) → (expr_at c i ≡ Err f) ↔ IsExprFault c i.at i.rest f }
-    ensures one { (c : ExprContext) (start : ℕ) (bytes : List ℕ) → ExactlyOne (λ e. SpellsExpr c e start bytes) (IsExprFault c start bytes) }
+    ensures one { (c : ExprContext) (start : ℕ) (bytes : List ℕ)
+        → ExactlyOne (λ e. SpellsExpr c e start bytes) (IsExprFault c start bytes) }
 {}

@@ -10,7 +10,10 @@ ghost use Rattle.dwz_meanings.specs.Sequences.{StandsFrom, read_from};
 /// Location lists, at a place of the section: what is read stands there, what stands there is read, and a fault is answered
 /// exactly where it is the first. So just one list stands there, or there is just one fault.
 pub fn list_laws()
-    ensures read { (c : ExprContext) (section : List ℕ) (place : ℕ) (l : LocList) → place ≤ length section → (read_from (list_at c) section place ≡ Ok l) ↔ StandsFrom (SpellsList c) section place l }
-    ensures fault { (c : ExprContext) (section : List ℕ) (place : ℕ) (f : Fault) → place ≤ length section → (read_from (list_at c) section place ≡ Err f) ↔ IsListFault c place (drop place section) f }
-    ensures one { (c : ExprContext) (section : List ℕ) (place : ℕ) → place ≤ length section → ExactlyOne (StandsFrom (SpellsList c) section place) (IsListFault c place (drop place section)) }
+    ensures read { (c : ExprContext) (section : List ℕ) (place : ℕ) (l : LocList) → place ≤ length section
+        → (read_from (list_at c) section place ≡ Ok l) ↔ StandsFrom (SpellsList c) section place l }
+    ensures fault { (c : ExprContext) (section : List ℕ) (place : ℕ) (f : Fault) → place ≤ length section
+        → (read_from (list_at c) section place ≡ Err f) ↔ IsListFault c place (drop place section) f }
+    ensures one { (c : ExprContext) (section : List ℕ) (place : ℕ) → place ≤ length section
+        → ExactlyOne (StandsFrom (SpellsList c) section place) (IsListFault c place (drop place section)) }
 {}

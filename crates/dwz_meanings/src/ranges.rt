@@ -8,6 +8,7 @@ ghost use Rattle.dwz_meanings.specs.Ranges.{IsSetsFault, RangeSet, SpellsSets, s
 /// Sets of address ranges, whichever numbers are those of units: what is read of all bytes is spelled by them, what is spelled
 /// is read, and a fault is answered exactly where it is that of the first bad set.
 pub fn range_laws()
-    ensures read { (is_unit : ℕ → Bool) (i : Input) (sets : List RangeSet) → (sets_at is_unit i ≡ Ok sets) ↔ SpellsSets is_unit sets i.at i.rest }
+    ensures read { (is_unit : ℕ → Bool) (i : Input) (sets : List RangeSet)
+        → (sets_at is_unit i ≡ Ok sets) ↔ SpellsSets is_unit sets i.at i.rest }
     ensures fault { (is_unit : ℕ → Bool) (i : Input) (f : Fault) → (sets_at is_unit i ≡ Err f) ↔ IsSetsFault is_unit i.at i.rest f }
 {}

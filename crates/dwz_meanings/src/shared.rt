@@ -6,7 +6,8 @@ ghost use Rattle.dwz_docs.specs.Lists.{In};
 ghost use Rattle.dwz_meanings.specs.Meanings.{Around};
 ghost use Rattle.dwz_meanings.specs.NamedLists.{AnyUnitNames, lists_of_units};
 ghost use Rattle.dwz_docs.specs.Units.{RawUnit};
-ghost use Rattle.dwz_meanings.specs.Shared.{AreRows, IsSharedFault, ListOperand, NamedList, NoneShared, PassesOver, none_shared, operands_in_lists};
+ghost use Rattle.dwz_meanings.specs.Shared.{AreRows, IsSharedFault, ListOperand, NamedList, NoneShared, PassesOver, none_shared};
+ghost use Rattle.dwz_meanings.specs.Shared.{operands_in_lists};
 
 /// Location lists that attributes name: none shares a byte with an operand of another, or the fault stands at the least place of
 /// an operand that shares one. A pass over their operands in order of place, each once, decides it: where it finds nothing,
@@ -18,8 +19,11 @@ pub fn shared_laws()
     ensures none { (lists : List NamedList) → (none_shared lists ≡ Ok tt) ↔ NoneShared lists }
     ensures fault { (lists : List NamedList) (f : Fault) → (none_shared lists ≡ Err f) ↔ IsSharedFault lists f }
     ensures passes { (lists : List NamedList) (rows : List ListOperand) → AreRows lists rows → PassesOver lists rows → NoneShared lists }
-    ensures apart { (lists : List NamedList) (rows : List ListOperand) → AreRows lists rows → ((l : NamedList) → In l lists → l.from < l.list.end) → NoneShared lists → PassesOver lists rows }
-    ensures named { (around : Around ℕ) (units : List RawUnit) (l : NamedList) → In l (lists_of_units around units) ↔ AnyUnitNames around units l }
+    ensures apart { (lists : List NamedList) (rows : List ListOperand) → AreRows lists rows
+        → ((l : NamedList) → In l lists → l.from < l.list.end) → NoneShared lists → PassesOver lists rows }
+    ensures named { (around : Around ℕ) (units : List RawUnit) (l : NamedList)
+        → In l (lists_of_units around units) ↔ AnyUnitNames around units l }
     ensures some { (around : Around ℕ) (units : List RawUnit) (l : NamedList) → AnyUnitNames around units l → l.from < l.list.end }
-    ensures wide { (around : Around ℕ) (units : List RawUnit) (o : ListOperand) → In o (operands_in_lists (lists_of_units around units)) → 0 < o.operand.width }
+    ensures wide { (around : Around ℕ) (units : List RawUnit) (o : ListOperand) → In o (operands_in_lists (lists_of_units around units))
+        → 0 < o.operand.width }
 {}

@@ -60,7 +60,12 @@ module _ (units : List (FileUnit Spot)) (targets : List (List ℕ)) (seeds marks
       let more = bound_leads k b.1 b.5 in
       ⊎_elim
       (λ (e : binds_itself units b.0 ≡ true). leads_at n (sym (ap (λ (i : ℕ). get_or seeds i false) b.3) ∙ begin.each b.0 b.2 ∙ e) (suc k))
-      (λ (e : binds_itself units b.0 ≡ false). inr (b.1, subst (λ (i : ℕ). In i (sources_of (sources_by targets) b.1)) b.3 (target_source targets b.1 b.0.number (omega arith) ((shown.each b.0 b.2 e b.1).1 b.4)), more))
+      (λ (e : binds_itself units b.0 ≡ false). inr (
+        b.1,
+        subst (λ (i : ℕ). In i (sources_of (sources_by targets) b.1)) b.3
+            (target_source targets b.1 b.0.number (omega arith) ((shown.each b.0 b.2 e b.1).1 b.4)),
+        more,
+      ))
       (cases_Bool (binds_itself units b.0))
 
   pub marked_bound : IsSpread (sources_by targets) seeds marks → (t : Top) → In t (tops_of units) → IsMarked marks t.number ↔ ((k : ℕ) × Bound units k t.number)
@@ -70,7 +75,8 @@ module _ (units : List (FileUnit Spot)) (targets : List (List ℕ)) (seeds marks
         λ r. (spread.each t.number).1 (r.0, bound_leads r.0 t.number r.1),
       )
 
-  movable_unmarked : IsSpread (sources_by targets) seeds marks → (t : Top) → In t (tops_of units) → (is_movable units t ≡ true → IsMarked marks t.number → ⊥) × ((IsMarked marks t.number → ⊥) → is_movable units t ≡ true)
+  movable_unmarked : IsSpread (sources_by targets) seeds marks → (t : Top) → In t (tops_of units) → (is_movable units t ≡ true → IsMarked marks t.number → ⊥)
+      × ((IsMarked marks t.number → ⊥) → is_movable units t ≡ true)
   movable_unmarked spread t i = (
     λ e h. (let m = (movable_decides units t i).0 e in let r = (marked_bound spread t i).0 h in m.free r.0 r.1),
     λ f. (movable_decides units t i).1 (record { top = t; is_top = i; number = refl; free = λ k b. f ((marked_bound spread t i).1 (k, b)) }),
@@ -91,7 +97,8 @@ module _ (units : List (FileUnit Spot)) (targets : List (List ℕ)) (seeds marks
       same_flag false true h = refl
       same_flag false false h = sym (h.1 (λ e. false≢true e))
 
-pub flags_by : (units : List (FileUnit Spot)) (targets : List (List ℕ)) (seeds marks : List Bool) (sources : List (List ℕ)) (flags : List Bool) → sources ≡ sources_by targets → IsSpread sources seeds marks → flags ≡ map not marks → ShowTargets units targets → AreSeeds units seeds → AreMovable units flags
+pub flags_by : (units : List (FileUnit Spot)) (targets : List (List ℕ)) (seeds marks : List Bool) (sources : List (List ℕ)) (flags : List Bool) → sources ≡ sources_by targets
+    → IsSpread sources seeds marks → flags ≡ map not marks → ShowTargets units targets → AreSeeds units seeds → AreMovable units flags
 flags_by units targets seeds marks sources flags made spread turned shown begin =
     subst (λ (w : List Bool). AreMovable units w) (sym turned) (movable_flags units targets seeds marks shown begin (subst (λ (w : List (List ℕ)). IsSpread w seeds marks) made spread))
 

@@ -2,9 +2,9 @@
 use Rattle.std.proofs.Common.{◌≡◌, ℕ, zero, suc, ◌+◌, ◌<◌, All, List, [], ◌∷◌, ◌++◌, length, map, get_or, take, sym, ap, subst, ◌∙◌, inl, inr, ⊎_elim, arith}
 use Rattle.std.proofs.lemmas.List.{append-nil, append_assoc}
 use Rattle.dwz_docs.specs.Lists.{In}
+use Rattle.dwz_docs.proofs.ListFacts.{in_cases, in_left, in_right}
 use Rattle.dwz_groups.specs.declared.groups.Pair.{Pair}
 use Rattle.dwz_groups.specs.Groups.{grouped}
-use Rattle.dwz_seen.proofs.Members.{in_cases, in_left, in_right}
 use Rattle.dwz_spread.specs.Spreading.{AreInside, sources_of}
 use Rattle.dwz_spread.proofs.PairLemmas.{each_pair, edge_grouped, grouped_edge, grouped_length, inside_at}
 use Rattle.dwz_move.specs.Sources.{source, sources_from}

@@ -12,4 +12,5 @@ pub record AreSeeds (units : List (FileUnit Spot)) (seeds : List Bool) : Type 0 
 -- of each top just the tops that it refers into; of one that binds itself any
 pub record ShowTargets (units : List (FileUnit Spot)) (targets : List (List ℕ)) : Type 0 where
   pub len : length targets ≡ length (tops_of units)
-  pub each : (t : Top) → In t (tops_of units) → binds_itself units t ≡ false → (n : ℕ) → In n (slice_index_or targets t.number []) ↔ (refers_to n t ≡ true)
+  pub each : (t : Top) → In t (tops_of units) → binds_itself units t ≡ false → (n : ℕ)
+      → In n (slice_index_or targets t.number []) ↔ (refers_to n t ≡ true)

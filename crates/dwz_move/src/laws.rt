@@ -9,5 +9,6 @@ ghost use Rattle.dwz_alike.specs.Spots.{FileUnit, Spot, Top, tops_of};
 /// A law on flags of the tops of any units: where they say which tops the test of bound tops finds movable, the flag of a top is set
 /// exactly if no chain of references binds it, however long.
 pub fn move_laws()
-    ensures { (units : List (FileUnit Spot)) (flags : List Bool) → AreMovable units flags → (t : Top) → In t (tops_of units) → (slice_index_or flags t.number false ≡ true) ↔ Movable units t.number }
+    ensures { (units : List (FileUnit Spot)) (flags : List Bool) → AreMovable units flags → (t : Top) → In t (tops_of units)
+        → (slice_index_or flags t.number false ≡ true) ↔ Movable units t.number }
 {}

@@ -54,7 +54,8 @@ pub fn movable_by(alloc: Global, targets: &Groups, seeds: &[bool]) -> Result<Fla
     requires few { length targets.now < 2 ^ 32 }
     requires len { length seeds.now ≡ length targets.now }
     requires inside { AreInside targets.now }
-    ensures { IfOk result (λ flags. (units : List (FileUnit Spot)) → ShowTargets units targets.now → AreSeeds units seeds.now → AreMovable units flags) }
+    ensures { IfOk result (λ flags. (units : List (FileUnit Spot)) → ShowTargets units targets.now → AreSeeds units seeds.now
+        → AreMovable units flags) }
 {
     let pairs = sources_of(alloc, targets)?;
     let sources = group(alloc, targets.len(), pairs.as_slice())?;

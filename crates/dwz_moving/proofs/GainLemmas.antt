@@ -3,7 +3,7 @@ use Rattle.std.proofs.Common.{◌≡◌, ◌↔◌, ℕ, zero, suc, ◌+◌, ◌
 use Rattle.std.proofs.lemmas.Bool.{and_from, and_parts}
 use Rattle.std.proofs.lemmas.Bool.Decides.{Decides-like, Decides-ltb}
 use Rattle.dwz_docs.specs.Lists.{In}
-use Rattle.dwz_alike.specs.Alike.{IsAlike, Scope, refers_to}
+use Rattle.dwz_alike.specs.Alike.{IsAlike, TopScope, refers_to}
 use Rattle.dwz_alike.specs.Deciding.{Test}
 use Rattle.dwz_alike.specs.Spots.{FileUnit, Spot, Top, same_numbers, tops_of}
 use Rattle.dwz_seen.proofs.Members.{any_true}
@@ -44,7 +44,8 @@ module _ (alike : Test) (units : List (FileUnit Spot)) where
         let g = group_from h vs o.0 q.1 in
         record { there = is; home = p.0; target = o.0; is_top = o.1; refers = q.0; home_is = g.0; users_are = g.1 }),
     (λ r. and_from (is_home (cand t)) (refers_into alike units h vs t) r.home
-        (any_true (λ u. refers_to u.number t && in_group alike units h vs u) r.target tops r.is_top (and_from (refers_to r.target.number t) (in_group alike units h vs r.target) r.refers (group_to h vs r.target r.home_is r.users_are)))),
+        (any_true (λ u. refers_to u.number t && in_group alike units h vs u) r.target tops r.is_top
+        (and_from (refers_to r.target.number t) (in_group alike units h vs r.target) r.refers (group_to h vs r.target r.home_is r.users_are)))),
   )
 
   abbrev Step : ℕ → Home → List ℕ → Top → Type 0
@@ -55,8 +56,10 @@ module _ (alike : Test) (units : List (FileUnit Spot)) where
   gain_decides zero h vs = Decides-ltb (spent vs) (saved alike units h vs)
   gain_decides (suc k) h vs =
       Decides-either (gain_test alike units k h vs) _ (gain_decides k h vs)
-      (Decides-like _ (λ (r : (t : Top) × In t tops × Step k h vs t). (r.0, r.2.0, r.2.1)) (λ (r : (t : Top) × RefersInto alike units t h vs × Gain alike units k (cand t) (us t)). (r.0, r.1.there, (r.1, r.2)))
-      (any_decides _ (Step k h vs) tops (λ t is. Decides-both (is_home (cand t) && refers_into alike units h vs t) (gain_test alike units k (cand t) (us t)) (into_decides h vs t is) (gain_decides k (cand t) (us t)))))
+      (Decides-like _ (λ (r : (t : Top) × In t tops × Step k h vs t). (r.0, r.2.0, r.2.1))
+      (λ (r : (t : Top) × RefersInto alike units t h vs × Gain alike units k (cand t) (us t)). (r.0, r.1.there, (r.1, r.2)))
+      (any_decides _ (Step k h vs) tops (λ t is. Decides-both (is_home (cand t) && refers_into alike units h vs t) (gain_test alike units k (cand t) (us t)) (into_decides h vs t is)
+      (gain_decides k (cand t) (us t)))))
 
   -- ---- longer chains
 
@@ -118,12 +121,13 @@ module _ (alike : Test) (units : List (FileUnit Spot)) where
       let into : RefersInto alike units t (cand u) (us u) = record { there = is; home = home; target = u; is_top = there; refers = refers; home_is = refl; users_are = refl } in
       (gains_decided u there).1 (suc g.0, inr (t, into, g.1))
 
-gains_same : (alike : Test) (units : List (FileUnit Spot)) (m n : ℕ) → candidate alike units m ≡ candidate alike units n → users alike units m ≡ users alike units n → gains_test alike units m ≡ gains_test alike units n
+gains_same : (alike : Test) (units : List (FileUnit Spot)) (m n : ℕ) → candidate alike units m ≡ candidate alike units n → users alike units m ≡ users alike units n
+    → gains_test alike units m ≡ gains_test alike units n
 unfolding gains_test
 gains_same alike units m n a b =
     ap (λ (w : Home). gain_test alike units (length (tops_of units)) w (users alike units m)) a ∙ ap (λ (w : List ℕ). gain_test alike units (length (tops_of units)) (candidate alike units n) w) b
 
-pub gain_choice : (scope : Scope) (units : List (FileUnit Spot)) (alike : Test) → IsAlike scope units alike → IsChoice units (gain_rule alike units)
+pub gain_choice : (scope : TopScope) (units : List (FileUnit Spot)) (alike : Test) → IsAlike scope units alike → IsChoice units (gain_rule alike units)
 gain_choice scope units alike is =
     let per = alike_per scope units alike is in
     record {

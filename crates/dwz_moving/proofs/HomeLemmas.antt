@@ -1,7 +1,8 @@
 -- Users, representative and home are as they are asked for.
 use Rattle.std.proofs.Common.{◌≡◌, ◌≢◌, ℕ, zero, suc, ◌+◌, ◌==◌, not, Bool, true, false, List, [], ◌∷◌, map, refl, sym, ap, subst, ◌∙◌, arith, inl, inr, eqb-true, eq-eqb}
 use Rattle.dwz_docs.specs.Lists.{In}
-use Rattle.dwz_alike.specs.Alike.{Apart, IsAlike, Movable, Scope}
+use Rattle.dwz_docs.proofs.ListFacts.{in_map}
+use Rattle.dwz_alike.specs.Alike.{Apart, IsAlike, Movable, TopScope}
 use Rattle.dwz_alike.specs.Deciding.{Test}
 use Rattle.dwz_seen.specs.Lists.{Nth, Rising}
 use Rattle.dwz_moving.specs.IsPlan.{AreUsers, HasAlike, IsHome, IsRep}
@@ -9,7 +10,7 @@ use Rattle.dwz_moving.specs.Homes.{Common, Home, Local, candidate, file_of, home
 use Rattle.dwz_alike.specs.Spots.{FileUnit, Spot, Top, tops_of}
 use Rattle.dwz_alike.proofs.AlikeLaws.{alike_self}
 use Rattle.dwz_alike.proofs.AlikePer.{alike_per, scope_file}
-use Rattle.dwz_seen.proofs.Members.{any_false, any_from, in_map, in_map_from, nth_from}
+use Rattle.dwz_seen.proofs.Members.{any_false, any_from, in_map_from, nth_from}
 use Rattle.dwz_alike.proofs.Tops.{tops_rise, unit_of}
 use Rattle.dwz_moving.proofs.UserLemmas.{rep_is, used, used_by, user_unit, users_rise}
 
@@ -95,7 +96,7 @@ not_common units alike is n e =
 
 -- ---- users and representatives
 
-module _ (scope : Scope) (units : List (FileUnit Spot)) (alike : Test) (is : IsAlike scope units alike) where
+module _ (scope : TopScope) (units : List (FileUnit Spot)) (alike : Test) (is : IsAlike scope units alike) where
   has_alike : (t : Top) → In t (tops_of units) → (unit : ℕ) → In unit (users alike units t.number) → HasAlike scope units t unit
   has_alike t there unit h =
       let u = used_by alike units t.number unit h in

@@ -2,7 +2,7 @@
 use Rattle.std.proofs.Common.{◌≡◌, ℕ, suc, List, [], ◌∷◌, map, refl, sym, ap, ◌∙◌}
 use Rattle.dwz_meanings.specs.Documents.{Attr, Entries, Plain, attr_map, entries_map, node_map, value_map}
 use Rattle.dwz_docs.specs.Trees.{End, Entry}
-use Rattle.dwz_seen.specs.Lists.{Each}
+use Rattle.dwz_docs.specs.Lists.{Each}
 use Rattle.dwz_alike.specs.Alike.{SameAttrs, SameEntries, SameRefs, SameTarget, SameTop}
 use Rattle.dwz_moving.specs.Plan.{image_by}
 use Rattle.dwz_seen.specs.Seen.{Named, Seen, heads, named_value, see, seen}
@@ -42,7 +42,8 @@ module _ (stand : ℕ → ℕ) where
       ∙ ap (λ (w : Plain). record { name = b.name; value = record { plain = w; refs = map (image_by stand) a.value.refs } }) p
       ∙ ap (λ (w : List Spot). record { name = b.name; value = record { plain = b.value.plain; refs = w } }) (refs_same Q a.value.refs b.value.refs z r)
 
-  attrs_same : (Q : ℕ → Type 0) (xs ys : List (Attr Spot)) → Each (RefsOfAttr Q) ys → SameAttrs OneStand xs ys → map named_value (map (attr_map (image_by stand)) xs) ≡ map named_value (map (attr_map (image_by stand)) ys)
+  attrs_same : (Q : ℕ → Type 0) (xs ys : List (Attr Spot)) → Each (RefsOfAttr Q) ys → SameAttrs OneStand xs ys → map named_value (map (attr_map (image_by stand)) xs)
+      ≡ map named_value (map (attr_map (image_by stand)) ys)
   attrs_same Q [] [] z h = refl
   attrs_same Q (a ∷ xs) (b ∷ ys) z h = (let x : moved a ≡ moved b = attr_same Q a b z.0 h.0 h.1.0 h.1.1 in let y = attrs_same Q xs ys z.1 h.2 in cc)
   attrs_same Q _ _ z h = absurd h
@@ -60,7 +61,8 @@ module _ (stand : ℕ → ℕ) where
       cc
   heads_same m n path i _ _ h x y s = absurd s
 
-  seen_same : (Q : ℕ → Type 0) (m n : ℕ) (path : List ℕ) (i : ℕ) (f g : Entries Spot) → stand m ≡ stand n → Labelled (Within m) path i f → Labelled (Within n) path i g → RefsOf Q g → SameEntries OneStand f g
+  seen_same : (Q : ℕ → Type 0) (m n : ℕ) (path : List ℕ) (i : ℕ) (f g : Entries Spot) → stand m ≡ stand n → Labelled (Within m) path i f → Labelled (Within n) path i g → RefsOf Q g
+      → SameEntries OneStand f g
       → seen (entries_map (image_by stand) f) ≡ seen (entries_map (image_by stand) g)
   unfolding seen entries_map
   seen_same Q m n path i End End h x y z s = refl
@@ -68,17 +70,20 @@ module _ (stand : ℕ → ℕ) where
       let a = at_same m n d.at e.at (i ∷ path) h x.0 y.0 in
       let attrs = attrs_same Q d.attrs e.attrs z.0 s.0.1 in
       let inner = heads_same m n (i ∷ path) 0 f f' h x.1 y.1 s.1 in
-      let first : see (node_map (image_by stand) d) (entries_map (image_by stand) f) ≡ see (node_map (image_by stand) e) (entries_map (image_by stand) f') = entry_by _ _ _ _ _ _ _ _ a s.0.0 attrs inner in
+      let first : see (node_map (image_by stand) d) (entries_map (image_by stand) f) ≡ see (node_map (image_by stand) e) (entries_map (image_by stand) f') =
+      entry_by _ _ _ _ _ _ _ _ a s.0.0 attrs inner in
       let below = seen_same Q m n (i ∷ path) 0 f f' h x.1 y.1 z.1 s.1 in
       let behind = seen_same Q m n path (suc i) g g' h x.2 y.2 z.2 s.2 in
       cc
   seen_same Q m n path i _ _ h x y z s = absurd s
 
-  pub top_same : (Q : ℕ → Type 0) (a b : Top) → stand a.number ≡ stand b.number → LabelledTop a → LabelledTop b → RefsOfTop Q b → SameTop OneStand a b → seen_top (image_by stand) a ≡ seen_top (image_by stand) b
+  pub top_same : (Q : ℕ → Type 0) (a b : Top) → stand a.number ≡ stand b.number → LabelledTop a → LabelledTop b → RefsOfTop Q b → SameTop OneStand a b
+      → seen_top (image_by stand) a ≡ seen_top (image_by stand) b
   top_same Q a b h x y z s =
       let at = at_same a.number b.number a.node.at b.node.at [] h x.0 y.0 in
       let attrs = attrs_same Q a.node.attrs b.node.attrs z.0 s.2.1 in
       let inner = heads_same a.number b.number [] 0 a.below b.below h x.1 y.1 s.3 in
-      let first : see (node_map (image_by stand) a.node) (entries_map (image_by stand) a.below) ≡ see (node_map (image_by stand) b.node) (entries_map (image_by stand) b.below) = entry_by _ _ _ _ _ _ _ _ at s.2.0 attrs inner in
+      let first : see (node_map (image_by stand) a.node) (entries_map (image_by stand) a.below) ≡ see (node_map (image_by stand) b.node) (entries_map (image_by stand) b.below) =
+      entry_by _ _ _ _ _ _ _ _ at s.2.0 attrs inner in
       let below = seen_same Q a.number b.number [] 0 a.below b.below h x.1 y.1 z.1 s.3 in
       cc

@@ -1,17 +1,18 @@
 -- What is kept, and the imports, are as they are asked for.
-use Rattle.std.proofs.Common.{◌≡◌, ℕ, suc, ◌<◌, ◌≤◌, ◌==◌, ◌&&◌, not, Bool, true, false, if◌then◌else◌, List, [], ◌∷◌, map, refl, sym, ap, subst, arith, inl, inr, eqb-true, eq-eqb}
+use Rattle.std.proofs.Common.{◌≡◌, ℕ, suc, ◌<◌, ◌≤◌, ◌==◌, ◌&&◌, not, Bool, true, false, List, [], ◌∷◌, map, refl, sym, ap, subst, arith, inl, inr, eqb-true, eq-eqb}
 use Rattle.std.proofs.lemmas.Bool.{and_from, and_parts, not-true}
 use Rattle.std.specs.List.{filter}
 use Rattle.dwz_meanings.specs.Documents.{Entries}
 use Rattle.dwz_docs.specs.Lists.{In, has}
 use Rattle.dwz_docs.specs.Trees.{End, Entry}
+use Rattle.dwz_docs.proofs.ListFacts.{in_cases, in_left, in_right}
 use Rattle.dwz_seen.specs.Lists.{EachPair, Nth, Rising}
 use Rattle.dwz_moving.specs.IsPlan.{AreImports, AreKept, Stays, numbers, row}
 use Rattle.dwz_moving.specs.Homes.{Rule, moves}
 use Rattle.dwz_moving.specs.Plan.{PartialUnit, import_of, imports, is_pinned, kept, staying}
 use Rattle.dwz_alike.specs.Spots.{FileUnit, Spot, Top, tops_of}
 use Rattle.dwz_meanings.proofs.MeaningLemmas.{has_in}
-use Rattle.dwz_seen.proofs.Members.{each_of, in_cases, in_filter, in_filter_from, in_has, in_left, in_right, pair_filter, pair_map}
+use Rattle.dwz_seen.proofs.Members.{each_of, in_filter, in_filter_from, in_has, pair_filter, pair_map}
 use Rattle.dwz_alike.proofs.Tops.{tops_rise}
 
 -- ---- tops that stay
@@ -42,7 +43,8 @@ module _ (rule : Rule) (units : List (FileUnit Spot)) where
   in_kept unit t s = go (is_pinned units t.number) refl where
     go : (b : Bool) → is_pinned units t.number ≡ b → In t (kept rule units unit)
     go true q = in_left t (filter pinned_test (staying rule units unit)) (filter other_test (staying rule units unit)) (in_filter pinned_test t (staying rule units unit) (in_staying unit t s) q)
-    go false q = in_right t (filter pinned_test (staying rule units unit)) (filter other_test (staying rule units unit)) (in_filter other_test t (staying rule units unit) (in_staying unit t s) (ap not q))
+    go false q = in_right t (filter pinned_test (staying rule units unit)) (filter other_test (staying rule units unit))
+        (in_filter other_test t (staying rule units unit) (in_staying unit t s) (ap not q))
 
   pub kept_is : (unit : ℕ) (t : Top) → In t (kept rule units unit) → Stays rule units unit t
   unfolding kept
@@ -69,7 +71,8 @@ module _ (rule : Rule) (units : List (FileUnit Spot)) where
     parts = refl;
     are = λ t. (kept_is unit t, in_kept unit t);
     are_pinned = each_of (λ t. is_pinned units t.number ≡ true) (filter pinned_test (staying rule units unit)) (λ t is. (in_filter_from pinned_test t (staying rule units unit) is).1);
-    are_not = each_of (λ t. is_pinned units t.number ≡ false) (filter other_test (staying rule units unit)) (λ t is. not-true (is_pinned units t.number) (in_filter_from other_test t (staying rule units unit) is).1);
+    are_not = each_of (λ t. is_pinned units t.number ≡ false) (filter other_test (staying rule units unit))
+        (λ t is. not-true (is_pinned units t.number) (in_filter_from other_test t (staying rule units unit) is).1);
     pinned_rising = part_rises unit pinned_test;
     others_rising = part_rises unit other_test;
   }

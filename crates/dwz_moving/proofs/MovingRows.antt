@@ -7,7 +7,7 @@ use Rattle.dwz_meanings.specs.Documents.{Block, Expr, File, Flag, Num, Plain, Re
 use Rattle.dwz_docs.specs.Lists.{has}
 use Rattle.dwz_docs.specs.Values.{value_bytes}
 use Rattle.dwz_seen.specs.Spaces.{space_text, tops_under}
-use Rattle.dwz_alike.specs.Alike.{Apart, Together, Scope, any_entry, is_addressed, unit_in}
+use Rattle.dwz_alike.specs.Alike.{Apart, Together, TopScope, any_entry, is_addressed, unit_in}
 use Rattle.dwz_alike.specs.Deciding.{alike_test, bound_test, look_test, same_by, same_entries, same_int, same_part, same_plain, top_in}
 use Rattle.dwz_alike.specs.Spots.{FileUnit, Spot, entry_spots, named_files, row_in, row_tops, same_numbers, spot_in, spots_from, top_spots, tops_among, tops_from, tops_of}
 use Rattle.dwz_moving.specs.Gain.{attrs_weight, bare_bytes, entries_weight, gain_rule, gain_test, gains_test, group_weight, top_weight, value_weight, weights}
@@ -20,15 +20,17 @@ use Rattle.dwz_docs.specs.Trees.{End}
 -- ---- what is computed
 
 -- all tops with a home move, or those whose groups gain
-abbrev all_in : Scope → List (FileUnit Spot) → Rule
+abbrev all_in : TopScope → List (FileUnit Spot) → Rule
 all_in scope units = all_rule (alike_test scope units)
 
-abbrev gained_in : Scope → List (FileUnit Spot) → Rule
+abbrev gained_in : TopScope → List (FileUnit Spot) → Rule
 gained_in scope units = gain_rule (alike_test scope units) units
 
 -- which tops move
 moving : Rule → List (FileUnit Spot) → List Bool
-unfolding entries_map first_named has any_entry unit_in alike_test bound_test look_test same_by same_entries same_int same_part same_plain top_in entry_spots named_files tops_under space_text same_numbers spot_in spots_from top_spots tops_among tops_from row_in row_tops is_addressed candidate file_of first_alike home numbers_from users attrs_weight bare_bytes entries_weight gain_test gains_test group_weight weights value_bytes form_rows le_bytes padded groups_in
+unfolding entries_map first_named has any_entry unit_in alike_test bound_test look_test same_by same_entries same_int same_part same_plain top_in entry_spots named_files tops_under space_text
+    same_numbers spot_in spots_from top_spots tops_among tops_from row_in row_tops is_addressed candidate file_of first_alike home numbers_from users attrs_weight bare_bytes entries_weight gain_test
+    gains_test group_weight weights value_bytes form_rows le_bytes padded groups_in
 moving rule units = map (λ t. moves rule units t.number) (tops_of units)
 
 -- where each partial unit is, which units use it, and which tops it holds

@@ -2,9 +2,9 @@
 use Rattle.std.proofs.Common.{◌≡◌, ◌≢◌, ℕ, suc, ◌<◌, ◌==◌, not, cond, Bool, true, false, List, [], ◌∷◌, map, refl, sym, ap, subst, ◌∙◌, arith, inl, inr, eqb-true, eq-eqb}
 use Rattle.std.proofs.lemmas.Bool.{and_from, and_parts, not-true}
 use Rattle.std.specs.List.{filter}
-use Rattle.dwz_docs.specs.Lists.{In}
-use Rattle.dwz_seen.specs.Lists.{Each}
-use Rattle.dwz_alike.specs.Alike.{IsAlike, Scope}
+use Rattle.dwz_docs.specs.Lists.{Each, In}
+use Rattle.dwz_docs.proofs.ListFacts.{in_cases, in_left, in_map, in_right}
+use Rattle.dwz_alike.specs.Alike.{IsAlike, TopScope}
 use Rattle.dwz_seen.specs.Lists.{EachPair, Nth, Rising}
 use Rattle.dwz_moving.specs.IsPlan.{BelongsTo, HasRep, IsPart, IsPlan, Precedes, first_number, rank}
 use Rattle.dwz_moving.specs.Homes.{Common, Home, IsChoice, Local, Rule, Stay, home, is_home, moves, rep, same_home, users}
@@ -12,7 +12,7 @@ use Rattle.dwz_moving.specs.Plan.{PartialUnit, distinct, local_partials, partial
 use Rattle.dwz_alike.specs.Spots.{FileUnit, Spot, Top, same_numbers, tops_of}
 use Rattle.dwz_alike.proofs.SpotLemmas.{numbers_same, numbers_true}
 use Rattle.dwz_moving.proofs.HomeLemmas.{home_file}
-use Rattle.dwz_seen.proofs.Members.{each_append, each_in, each_of, in_cases, in_filter, in_filter_from, in_left, in_map, in_map_from, in_right, nth_in, nth_pair, pair_append, pair_filter, pair_map, pair_more}
+use Rattle.dwz_seen.proofs.Members.{each_append, each_in, each_of, in_filter, in_filter_from, in_map_from, nth_in, nth_pair, pair_append, pair_filter, pair_map, pair_more}
 use Rattle.dwz_alike.proofs.Tops.{tops_rise}
 use Rattle.dwz_moving.proofs.UserLemmas.{Fair, home_same, leads, moving, users_same}
 use Rattle.dwz_moving.proofs.StandLemmas.{fair}
@@ -38,7 +38,7 @@ home_own Stay = refl
 
 -- ---- each list of users once
 
-distinct_in : (us : List ℕ) (others : List (List ℕ)) → In us (distinct others) → In us others
+pub distinct_in : (us : List ℕ) (others : List (List ℕ)) → In us (distinct others) → In us others
 unfolding distinct
 distinct_in us [] h = absurd h
 distinct_in us (vs ∷ others) (inl e) = inl e
@@ -77,7 +77,8 @@ module _ (of_top : Top → List ℕ) where
   first_behind : (n : ℕ) (us : List ℕ) (tops : List Top) → Each (λ t. n < t.number) tops → In us (map of_top tops) → n < first_number (with_users us tops)
   first_behind n us [] later is = absurd is
   first_behind n us (t ∷ tops) later is = go (first_behind n us tops later.1) is (same_numbers (of_top t) us) refl where
-    go : (In us (map of_top tops) → n < first_number (with_users us tops)) → In us (map of_top (t ∷ tops)) → (b : Bool) → same_numbers (of_top t) us ≡ b → n < first_number (cond b (t ∷ with_users us tops) (with_users us tops))
+    go : (In us (map of_top tops) → n < first_number (with_users us tops)) → In us (map of_top (t ∷ tops)) → (b : Bool) → same_numbers (of_top t) us ≡ b
+        → n < first_number (cond b (t ∷ with_users us tops) (with_users us tops))
     go more here true q = later.0
     go more (inl e) false q = absurd (let s : same_numbers (of_top t) us ≡ true = ap (same_numbers (of_top t)) (sym e) ∙ numbers_same (of_top t) in cc)
     go more (inr r) false q = more r
@@ -112,7 +113,8 @@ module _ (rule : Rule) (units : List (FileUnit Spot)) where
   unfolding representatives
   in_reps h t is e r =
       let a : same_home (home rule units t.number) h ≡ true = ap (λ (w : Home). same_home w h) e ∙ home_own h in
-      in_filter (stands_for rule units h) t (tops_of units) is (and_from (same_home (home rule units t.number) h) (rep rule.alike units t.number == t.number) a (eq-eqb (rep rule.alike units t.number) t.number r))
+      in_filter (stands_for rule units h) t (tops_of units) is (and_from (same_home (home rule units t.number) h) (rep rule.alike units t.number == t.number) a
+      (eq-eqb (rep rule.alike units t.number) t.number r))
 
   pub record Represents (h : Home) (t : Top) : Type 0 where
     pub there : In t (tops_of units)
@@ -152,7 +154,8 @@ module _ (rule : Rule) (units : List (FileUnit Spot)) where
         moves = moving;
         tops = λ t. (belongs h us t, belonging h us t);
         some = (o.source, in_filter (of_users us) o.source (representatives rule units h) o.there (ap (λ (w : List ℕ). same_numbers w us) o.is ∙ numbers_same us));
-        rising = pair_map (λ a b. a.number < b.number) (λ m n. m < n) (λ t. t.number) (filter (of_users us) (representatives rule units h)) (pair_filter (λ a b. a.number < b.number) (of_users us) (representatives rule units h) (reps_rise h)) (λ a b p q lt. lt);
+        rising = pair_map (λ a b. a.number < b.number) (λ m n. m < n) (λ t. t.number) (filter (of_users us) (representatives rule units h))
+            (pair_filter (λ a b. a.number < b.number) (of_users us) (representatives rule units h) (reps_rise h)) (λ a b p q lt. lt);
       }
 
   pub record At (h : Home) (part : PartialUnit) : Type 0 where
@@ -179,7 +182,8 @@ module _ (rule : Rule) (units : List (FileUnit Spot)) where
 
   ordered_at : (h : Home) → EachPair Precedes (partials_at rule units h)
   unfolding partials_at
-  ordered_at h = pair_map (Sooner (users_of rule.alike units) (representatives rule units h)) Precedes (partial_with rule units h) (lists_at h) (by_first (users_of rule.alike units) (representatives rule units h) (reps_rise h)) (λ us vs p q lt. inr (refl, lt))
+  ordered_at h = pair_map (Sooner (users_of rule.alike units) (representatives rule units h)) Precedes (partial_with rule units h) (lists_at h)
+      (by_first (users_of rule.alike units) (representatives rule units h) (reps_rise h)) (λ us vs p q lt. inr (refl, lt))
 
   -- ---- those of files
 
@@ -208,7 +212,8 @@ module _ (rule : Rule) (units : List (FileUnit Spot)) where
   local_parts (f ∷ files) = each_append (IsPart rule units) (partials_at rule units (Local f)) (local_partials rule units files) (parts_at (Local f) refl) (local_parts files)
 
   -- what holds in each home, and where the first home's rank is less, holds of all
-  local_pairs : (R : PartialUnit → PartialUnit → Type 0) → ((h : Home) → EachPair R (partials_at rule units h)) → ((p q : PartialUnit) → rank p.home < rank q.home → R p q) → (files : List ℕ) → Rising files → EachPair R (local_partials rule units files)
+  local_pairs : (R : PartialUnit → PartialUnit → Type 0) → ((h : Home) → EachPair R (partials_at rule units h)) → ((p q : PartialUnit) → rank p.home < rank q.home → R p q) → (files : List ℕ)
+      → Rising files → EachPair R (local_partials rule units files)
   unfolding local_partials
   local_pairs R at_one between [] rises = tt
   local_pairs R at_one between (f ∷ files) rises =
@@ -219,7 +224,8 @@ module _ (rule : Rule) (units : List (FileUnit Spot)) where
       let lt : f < o.file = each_in (λ g. f < g) o.file files rises.0 o.there in
       between p q (omega (arith, a, b, lt)))
 
-  pub all_pairs : (R : PartialUnit → PartialUnit → Type 0) → ((h : Home) → EachPair R (partials_at rule units h)) → ((p q : PartialUnit) → rank p.home < rank q.home → R p q) → (files : List ℕ) → Rising files → EachPair R (partials rule units files)
+  pub all_pairs : (R : PartialUnit → PartialUnit → Type 0) → ((h : Home) → EachPair R (partials_at rule units h)) → ((p q : PartialUnit) → rank p.home < rank q.home → R p q) → (files : List ℕ)
+      → Rising files → EachPair R (partials rule units files)
   unfolding partials
   all_pairs R at_one between files rises =
       pair_append R (partials_at rule units Common) (local_partials rule units files) (at_one Common) (local_pairs R at_one between files rises) (λ p q x y.
@@ -235,7 +241,8 @@ module _ (rule : Rule) (units : List (FileUnit Spot)) where
   pub parts_differ : (files : List ℕ) → Rising files → EachPair Differ (partials rule units files)
   parts_differ files rises = all_pairs Differ differ_at (λ p q lt same. absurd (omega (arith, lt, ap rank same))) files rises
 
-  pub one_place : (files : List ℕ) → Rising files → (m n : ℕ) (p q : PartialUnit) (t : Top) → Nth 0 (partials rule units files) m p → Nth 0 (partials rule units files) n q → In t p.tops → In t q.tops → m ≡ n
+  pub one_place : (files : List ℕ) → Rising files → (m n : ℕ) (p q : PartialUnit) (t : Top) → Nth 0 (partials rule units files) m p → Nth 0 (partials rule units files) n q → In t p.tops → In t q.tops
+      → m ≡ n
   one_place files rises m n p q t x y a b =
       let parts = partials rule units files in
       let i = ((each_in (IsPart rule units) p parts (are_parts files) (nth_in 0 parts m p x)).tops t).0 a in
@@ -246,7 +253,8 @@ module _ (rule : Rule) (units : List (FileUnit Spot)) where
 
   -- ---- the plan
 
-  pub in_partials : (files : List ℕ) (h : Home) (part : PartialUnit) → is_home h ≡ true → ((f : ℕ) → h ≡ Local f → In f files) → In part (partials_at rule units h) → In part (partials rule units files)
+  pub in_partials : (files : List ℕ) (h : Home) (part : PartialUnit) → is_home h ≡ true → ((f : ℕ) → h ≡ Local f → In f files) → In part (partials_at rule units h)
+      → In part (partials rule units files)
   unfolding partials
   in_partials files Common part moving known is = in_left part (partials_at rule units Common) (local_partials rule units files) is
   in_partials files (Local f) part moving known is = in_right part (partials_at rule units Common) (local_partials rule units files) (in_local files f part (known f refl) is)
@@ -258,14 +266,16 @@ module _ (rule : Rule) (units : List (FileUnit Spot)) where
       in_map (partial_with rule units h) (users rule.alike units t.number) (lists_at h)
       (in_distinct (users rule.alike units t.number) (map (users_of rule.alike units) (representatives rule units h)) (in_map (users_of rule.alike units) t (representatives rule units h) is))
 
-  pub has_rep : Fair units rule → (files : List ℕ) → ((i : ℕ) (u : FileUnit Spot) → Nth 0 units i u → In u.file files) → (t : Top) → In t (tops_of units) → moves rule units t.number ≡ true → HasRep rule units (partials rule units files) t
+  pub has_rep : Fair units rule → (files : List ℕ) → ((i : ℕ) (u : FileUnit Spot) → Nth 0 units i u → In u.file files) → (t : Top) → In t (tops_of units) → moves rule units t.number ≡ true
+      → HasRep rule units (partials rule units files) t
   has_rep fair files known t is mv =
       let l = leads units rule fair t is mv in
       let r = l.top in
       let h = home rule units r.number in
       let us = users rule.alike units r.number in
       let place = at_place h r (in_reps h r l.there refl l.own) in
-      let here : (f : ℕ) → h ≡ Local f → In f files = λ f e. (let o = home_file rule.alike units r.number f (sym (moving units rule r.number l.moves_is).at_home ∙ e) in subst (λ (w : ℕ). In w files) o.file_is (known o.number o.unit o.nth)) in
+      let here : (f : ℕ) → h ≡ Local f → In f files = λ f e. (let o = home_file rule.alike units r.number f (sym (moving units rule r.number l.moves_is).at_home ∙ e) in subst (λ (w : ℕ). In w files)
+      o.file_is (known o.number o.unit o.nth)) in
       record {
         part = partial_with rule units h us;
         there = in_partials files h (partial_with rule units h us) l.moves_is here place;
@@ -276,7 +286,8 @@ module _ (rule : Rule) (units : List (FileUnit Spot)) where
         is_rep = l.number;
       }
 
-pub is_plan : (scope : Scope) (units : List (FileUnit Spot)) (rule : Rule) → IsAlike scope units rule.alike → IsChoice units rule → (files : List ℕ) → Rising files → ((i : ℕ) (u : FileUnit Spot) → Nth 0 units i u → In u.file files) → IsPlan rule units (partials rule units files)
+pub is_plan : (scope : TopScope) (units : List (FileUnit Spot)) (rule : Rule) → IsAlike scope units rule.alike → IsChoice units rule → (files : List ℕ) → Rising files
+    → ((i : ℕ) (u : FileUnit Spot) → Nth 0 units i u → In u.file files) → IsPlan rule units (partials rule units files)
 is_plan scope units rule is choice files rises known = record {
   are = are_parts rule units files;
   all = has_rep rule units (fair scope units rule is choice) files known;

@@ -18,7 +18,8 @@ module _ (moving : ℕ → Bool) where
   unfolding row_staying
   stays_to Nothing names x h r = absurd h
   stays_to (ATop t next) names x h r = go (stays_to next names x) h (moving t.number) refl where
-    go : (Has names x next → Remains moving x → Has names x (row_staying moving next)) → Has names x (ATop t next) → (b : Bool) → moving t.number ≡ b → Has names x (elim b as (λ _. Row) [ true ↦ row_staying moving next | false ↦ ATop t (row_staying moving next) ])
+    go : (Has names x next → Remains moving x → Has names x (row_staying moving next)) → Has names x (ATop t next) → (b : Bool) → moving t.number ≡ b
+        → Has names x (elim b as (λ _. Row) [ true ↦ row_staying moving next | false ↦ ATop t (row_staying moving next) ])
     go more (inl y) true q = absurd (let z : moving t.number ≡ false = subst (Remains moving) (sym y.1) r in cc)
     go more (inr y) true q = more y r
     go more (inl y) false q = inl y
@@ -31,7 +32,8 @@ module _ (moving : ℕ → Bool) where
   unfolding row_staying
   stays_from Nothing names x h = absurd h
   stays_from (ATop t next) names x h = go (stays_from next names x) (moving t.number) refl h where
-    go : (Has names x (row_staying moving next) → Has names x next × Remains moving x) → (b : Bool) → moving t.number ≡ b → Has names x (elim b as (λ _. Row) [ true ↦ row_staying moving next | false ↦ ATop t (row_staying moving next) ]) → Has names x (ATop t next) × Remains moving x
+    go : (Has names x (row_staying moving next) → Has names x next × Remains moving x) → (b : Bool) → moving t.number ≡ b
+        → Has names x (elim b as (λ _. Row) [ true ↦ row_staying moving next | false ↦ ATop t (row_staying moving next) ]) → Has names x (ATop t next) × Remains moving x
     go more true q y = let o = more y in (inr o.0, o.1)
     go more false q (inl y) = (inl y, subst (Remains moving) y.1 q)
     go more false q (inr y) = let o = more y in (inr o.0, o.1)
@@ -54,7 +56,8 @@ module _ (p : Pinned) where
     go y true = inr y
     go y false = y
   part_last want (ASpace e inner next) last names x h = go (part_last want next last names x h) (same_bool (p.space e.at || row_pinned p inner) want) where
-    go : Has names x (row_part p want next last) → (b : Bool) → Has names x (elim b as (λ _. Row) [ true ↦ ASpace e (pinned_row inner) (row_part p want next last) | false ↦ row_part p want next last ])
+    go : Has names x (row_part p want next last) → (b : Bool) → Has names x
+        (elim b as (λ _. Row) [ true ↦ ASpace e (pinned_row inner) (row_part p want next last) | false ↦ row_part p want next last ])
     go y true = inr (inr y)
     go y false = y
 
@@ -76,7 +79,8 @@ module _ (p : Pinned) where
   later_space : (e : Node Spot) (inner next : Row) (names : List (List ℕ)) (x : Item) → InPart names x next → InPart names x (ASpace e inner next)
   unfolding row_part
   later_space e inner next names x h = (h.0, λ last. go last (h.1 last) (same_bool (p.space e.at || row_pinned p inner) h.0)) where
-    go : (last : Row) → Has names x (row_part p h.0 next last) → (b : Bool) → Has names x (elim b as (λ _. Row) [ true ↦ ASpace e (pinned_row inner) (row_part p h.0 next last) | false ↦ row_part p h.0 next last ])
+    go : (last : Row) → Has names x (row_part p h.0 next last) → (b : Bool)
+        → Has names x (elim b as (λ _. Row) [ true ↦ ASpace e (pinned_row inner) (row_part p h.0 next last) | false ↦ row_part p h.0 next last ])
     go last y true = inr (inr y)
     go last y false = y
 
@@ -84,7 +88,8 @@ module _ (p : Pinned) where
   unfolding row_part
   first_top t next names x h = (
     p.top t.number,
-    λ last. subst (λ (b : Bool). Has names x (elim b as (λ _. Row) [ true ↦ ATop t (row_part p (p.top t.number) next last) | false ↦ row_part p (p.top t.number) next last ])) (sym (same_own (p.top t.number))) (inl h),
+    λ last. subst (λ (b : Bool). Has names x (elim b as (λ _. Row) [ true ↦ ATop t (row_part p (p.top t.number) next last) | false ↦ row_part p (p.top t.number) next last ]))
+        (sym (same_own (p.top t.number))) (inl h),
   )
 
   first_space : (e : Node Spot) (inner next : Row) (names : List (List ℕ)) (x : Item) → ((next' : Row) → Has names x (ASpace e (pinned_row inner) next')) → InPart names x (ASpace e inner next)
@@ -92,7 +97,8 @@ module _ (p : Pinned) where
   first_space e inner next names x h =
       let own = p.space e.at || row_pinned p inner in (
         own,
-        λ last. subst (λ (b : Bool). Has names x (elim b as (λ _. Row) [ true ↦ ASpace e (pinned_row inner) (row_part p own next last) | false ↦ row_part p own next last ])) (sym (same_own own)) (h (row_part p own next last)),
+        λ last. subst (λ (b : Bool). Has names x (elim b as (λ _. Row) [ true ↦ ASpace e (pinned_row inner) (row_part p own next last) | false ↦ row_part p own next last ])) (sym (same_own own))
+            (h (row_part p own next last)),
       )
 
   joined : (names : List (List ℕ)) (x : Item) (row : Row) → InPart names x row → Has names x (pinned_row row)
@@ -116,24 +122,29 @@ module _ (p : Pinned) where
     later (inl a) = inl (inr a)
     later (inr b) = inr b
 
-    go : (Has names x (row_part p want next last) → Has names x next ⊎ Has names x last) → (b : Bool) → Has names x (elim b as (λ _. Row) [ true ↦ ATop t (row_part p want next last) | false ↦ row_part p want next last ]) → Has names x (ATop t next) ⊎ Has names x last
+    go : (Has names x (row_part p want next last) → Has names x next ⊎ Has names x last) → (b : Bool)
+        → Has names x (elim b as (λ _. Row) [ true ↦ ATop t (row_part p want next last) | false ↦ row_part p want next last ]) → Has names x (ATop t next) ⊎ Has names x last
     go more true (inl y) = inl (inl y)
     go more true (inr y) = later (more y)
     go more false y = later (more y)
   part_from want (ASpace e inner next) last names x h =
-      go (part_from want next last names x) (λ others. part_from true inner (row_part p false inner Nothing) others x) (λ others. part_from false inner Nothing others x) (same_bool (p.space e.at || row_pinned p inner) want) h
+      go (part_from want next last names x) (λ others. part_from true inner (row_part p false inner Nothing) others x) (λ others. part_from false inner Nothing others x)
+      (same_bool (p.space e.at || row_pinned p inner) want) h
     where
       later : Has names x next ⊎ Has names x last → Has names x (ASpace e inner next) ⊎ Has names x last
       later (inl a) = inl (inr (inr a))
       later (inr b) = inr b
 
-      both : (others : List (List ℕ)) → (Has others x (row_part p false inner Nothing) → Has others x inner ⊎ ⊥) → Has others x inner ⊎ Has others x (row_part p false inner Nothing) → Has others x inner
+      both : (others : List (List ℕ)) → (Has others x (row_part p false inner Nothing) → Has others x inner ⊎ ⊥) → Has others x inner ⊎ Has others x (row_part p false inner Nothing)
+          → Has others x inner
       both others f (inl a) = a
       both others f (inr b) = elim (f b) [ inl c ↦ c | inr d ↦ absurd d ]
 
-      go : (Has names x (row_part p want next last) → Has names x next ⊎ Has names x last) → ((others : List (List ℕ)) → Has others x (pinned_row inner) → Has others x inner ⊎ Has others x (row_part p false inner Nothing))
+      go : (Has names x (row_part p want next last) → Has names x next ⊎ Has names x last)
+          → ((others : List (List ℕ)) → Has others x (pinned_row inner) → Has others x inner ⊎ Has others x (row_part p false inner Nothing))
           → ((others : List (List ℕ)) → Has others x (row_part p false inner Nothing) → Has others x inner ⊎ ⊥)
-          → (b : Bool) → Has names x (elim b as (λ _. Row) [ true ↦ ASpace e (pinned_row inner) (row_part p want next last) | false ↦ row_part p want next last ]) → Has names x (ASpace e inner next) ⊎ Has names x last
+          → (b : Bool) → Has names x (elim b as (λ _. Row) [ true ↦ ASpace e (pinned_row inner) (row_part p want next last) | false ↦ row_part p want next last ])
+          → Has names x (ASpace e inner next) ⊎ Has names x last
       go more f g true (inl y) = inl (inl y)
       go more f g true (inr (inl i)) = inl (inr (inl (i.0, i.1, i.2, i.3, both i.1 (g i.1) (f i.1 i.4))))
       go more f g true (inr (inr y)) = later (more y)
@@ -257,7 +268,8 @@ down_from part chain depth (s ∷ spaces) inner names x (inr (inl i)) =
         is = o.is;
         from = inr o.from;
         others = o.others;
-        names_are = ap (λ (w : List (List ℕ)). s.text ∷ w) o.names_are ∙ ap (λ (w : List ℕ). w ∷ (i.1 ++ o.name.text ∷ o.others)) same ∙ ap (λ (w : List (List ℕ)). w ++ o.name.text ∷ o.others) (sym i.3);
+        names_are = ap (λ (w : List (List ℕ)). s.text ∷ w) o.names_are ∙ ap (λ (w : List ℕ). w ∷ (i.1 ++ o.name.text ∷ o.others)) same ∙ ap (λ (w : List (List ℕ)). w ++ o.name.text ∷ o.others)
+            (sym i.3);
       })
       | inr o ↦ inr (o.0, i.3 ∙ ap (λ (w : List ℕ). w ∷ i.1) (sym same) ∙ ap (λ (w : List (List ℕ)). s.text ∷ w) o.1, o.2)
     ]
@@ -363,7 +375,11 @@ top_item : (t u : Top) → OfTop t ≡ OfTop u → t ≡ u
 top_item t u e = cc
 
 pub part_is : (n : ℕ) (part : PartialUnit) → RowHolds n part.tops (part_row n part)
-part_is n part = record { tops_are = λ names t. (top_there names t, (λ h. subst (λ (w : List (List ℕ)). Has w (OfTop t) (part_row n part)) h.1 (there t h.0))); spaces_are = λ names e h. space_there names e h } where
+part_is n part = record {
+  tops_are = λ names t. (top_there names t, (λ h. subst (λ (w : List (List ℕ)). Has w (OfTop t) (part_row n part)) h.1 (there t h.0)));
+  spaces_are =
+      λ names e h. space_there names e h;
+} where
   roots : List Top
   roots = filter in_root part.tops
 
@@ -388,7 +404,8 @@ part_is n part = record { tops_are = λ names t. (top_there names t, (λ h. subs
 
   place : (t : Top) → In t part.tops → (b : Bool) → in_root t ≡ b → Has (name_list t) (OfTop t) (part_row n part)
   place t is true q = subst (λ (w : List (List ℕ)). Has w (OfTop t) (part_row n part)) (sym (root_names t q)) (top_row_to roots last t (in_filter in_root t part.tops is q))
-  place t is false q = top_row_last roots last (name_list t) (OfTop t) (chains_to n part.tops 0 leads t is (led (filter (λ u. not (in_root u)) part.tops) t (in_filter (λ u. not (in_root u)) t part.tops is (ap not q))))
+  place t is false q = top_row_last roots last (name_list t) (OfTop t)
+      (chains_to n part.tops 0 leads t is (led (filter (λ u. not (in_root u)) part.tops) t (in_filter (λ u. not (in_root u)) t part.tops is (ap not q))))
 
   there : (t : Top) → In t part.tops → Has (name_list t) (OfTop t) (part_row n part)
   there t is = place t is (in_root t) refl

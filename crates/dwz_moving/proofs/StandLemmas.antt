@@ -1,7 +1,7 @@
 -- What moves refers only to what moves; so it is seen equal to what stands for it.
 use Rattle.std.proofs.Common.{◌≡◌, ◌≢◌, ℕ, true, List, refl, sym, ap, subst, ◌∙◌}
 use Rattle.dwz_docs.specs.Lists.{In}
-use Rattle.dwz_alike.specs.Alike.{IsAlike, SameTop, Scope, refers_to}
+use Rattle.dwz_alike.specs.Alike.{IsAlike, SameTop, TopScope, refers_to}
 use Rattle.dwz_alike.specs.Deciding.{Test}
 use Rattle.dwz_alike.specs.Spots.{FileUnit, LabelledTop, Spot, Top, tops_of}
 use Rattle.dwz_moving.specs.Homes.{IsChoice, Rule, candidate, is_home, moves, users}
@@ -12,7 +12,7 @@ use Rattle.dwz_alike.proofs.Targets.{Inside, RefsOfTop, inside, refers_one, targ
 use Rattle.dwz_moving.proofs.ImageLemmas.{seen_top, top_same}
 use Rattle.dwz_moving.proofs.UserLemmas.{Fair, chosen_moves, moves_other, stands_same, two_candidate, used, used_by}
 
-module _ (scope : Scope) (units : List (FileUnit Spot)) (alike : Test) (is : IsAlike scope units alike) where
+module _ (scope : TopScope) (units : List (FileUnit Spot)) (alike : Test) (is : IsAlike scope units alike) where
   abbrev Target : ℕ → ℕ → Type 0
   Target unit m = Inside units unit m × (is_home (candidate alike units m) ≡ true)
 
@@ -31,7 +31,8 @@ module _ (scope : Scope) (units : List (FileUnit Spot)) (alike : Test) (is : IsA
       a b (inside units a x d.first) (inside units b y d.second) (alike_step scope units alike is a b x y e)
 
   -- the targets of what has alike tops in two units have too
-  pub targets_home : (a b : Top) → In a (tops_of units) → In b (tops_of units) → alike a.number b.number ≡ true → a.unit ≢ b.unit → RefsOfTop (λ m. Inside units a.unit m × (is_home (candidate alike units m) ≡ true)) a
+  pub targets_home : (a b : Top) → In a (tops_of units) → In b (tops_of units) → alike a.number b.number ≡ true → a.unit ≢ b.unit
+      → RefsOfTop (λ m. Inside units a.unit m × (is_home (candidate alike units m) ≡ true)) a
   targets_home a b x y e ne =
       let d = is.decides a.number b.number e in
       tells_top (Inside units b.unit) (λ m n. Target a.unit m) (Target a.unit) (λ m n h. h) a b (inside units b y d.second) (both_move a b x y e ne)
@@ -50,13 +51,13 @@ module _ (scope : Scope) (units : List (FileUnit Spot)) (alike : Test) (is : IsA
   target_used t there m refers unit user = refers_one (λ n. In unit (users alike units n)) t (targets_used t there unit user) m refers
 
 -- what a moving top refers to has a home, and is a top of its unit
-pub target_home : (scope : Scope) (units : List (FileUnit Spot)) (rule : Rule) → IsAlike scope units rule.alike → (a : Top) → In a (tops_of units) → moves rule units a.number ≡ true
+pub target_home : (scope : TopScope) (units : List (FileUnit Spot)) (rule : Rule) → IsAlike scope units rule.alike → (a : Top) → In a (tops_of units) → moves rule units a.number ≡ true
     → RefsOfTop (λ m. Inside units a.unit m × (is_home (candidate rule.alike units m) ≡ true)) a
 target_home scope units rule is a x mv =
     let o = moves_other units rule a.number a.unit mv in
     targets_home scope units rule.alike is a o.used_by.top x o.used_by.there o.used_by.alike_is (λ same. o.apart (sym o.used_by.unit_is ∙ sym same))
 
-module _ (scope : Scope) (units : List (FileUnit Spot)) (rule : Rule) (is : IsAlike scope units rule.alike) (choice : IsChoice units rule) where
+module _ (scope : TopScope) (units : List (FileUnit Spot)) (rule : Rule) (is : IsAlike scope units rule.alike) (choice : IsChoice units rule) where
   pub fair : Fair units rule
   fair = record { per = alike_per scope units rule.alike is; choice = choice }
 
@@ -70,7 +71,8 @@ module _ (scope : Scope) (units : List (FileUnit Spot)) (rule : Rule) (is : IsAl
       (λ m refers h. (h.0, chosen_moves units rule m (choice.targets a x mv m refers) h.1)) (target_home scope units rule is a x mv)
 
   -- a top that moves is seen as one that is alike to it
-  pub stand_seen : ((t : Top) → In t (tops_of units) → LabelledTop t) → (a r : Top) → In a (tops_of units) → In r (tops_of units) → moves rule units a.number ≡ true → rule.alike a.number r.number ≡ true
+  pub stand_seen : ((t : Top) → In t (tops_of units) → LabelledTop t) → (a r : Top) → In a (tops_of units) → In r (tops_of units) → moves rule units a.number ≡ true
+      → rule.alike a.number r.number ≡ true
       → seen_top (image_by (stand_in rule units)) a ≡ seen_top (image_by (stand_in rule units)) r
   stand_seen labelled a r x y mv e =
       let d = is.decides a.number r.number e in
@@ -82,7 +84,8 @@ module _ (scope : Scope) (units : List (FileUnit Spot)) (rule : Rule) (is : IsAl
       top_same stand (Inside units r.unit) a r (stands_same units rule fair a.number r.number a x refl e mv) (labelled a x) (labelled r y) within stands
 
   -- a reference of what moves
-  pub target_moves : (t : Top) → In t (tops_of units) → moves rule units t.number ≡ true → (m : ℕ) → refers_to m t ≡ true → (moves rule units m ≡ true) × ((unit : ℕ) → In unit (users rule.alike units t.number) → In unit (users rule.alike units m))
+  pub target_moves : (t : Top) → In t (tops_of units) → moves rule units t.number ≡ true → (m : ℕ) → refers_to m t ≡ true
+      → (moves rule units m ≡ true) × ((unit : ℕ) → In unit (users rule.alike units t.number) → In unit (users rule.alike units m))
   target_moves t there mv m refers = (
     (refers_one (Moves t.unit) t (targets_move t there mv) m refers).1,
     target_used scope units rule.alike is t there m refers,

@@ -3,6 +3,7 @@ use Rattle.std.proofs.Common.{◌≡◌, ◌≢◌, ℕ, suc, ◌<◌, ◌≤◌
 use Rattle.std.proofs.lemmas.Bool.{and_parts, cases_eq}
 use Rattle.std.specs.List.{list_any}
 use Rattle.dwz_docs.specs.Lists.{In}
+use Rattle.dwz_docs.proofs.CaseFacts.{same_test}
 use Rattle.dwz_alike.specs.Deciding.{Test}
 use Rattle.dwz_seen.specs.Lists.{EachPair, Nth, Rising}
 use Rattle.dwz_moving.specs.Homes.{Common, Home, IsChoice, Local, Rule, Stay, candidate, file_of, first_alike, home, home_in, in_two_files, is_home, moves, numbers_from, rep, users, uses}
@@ -14,14 +15,8 @@ use Rattle.dwz_alike.proofs.Tops.{unit_of}
 
 -- ---- alike tops
 
-same_bool : (a b : Bool) → (a ≡ true → b ≡ true) → (b ≡ true → a ≡ true) → a ≡ b
-same_bool true true f g = refl
-same_bool false false f g = refl
-same_bool true false f g = sym (f refl)
-same_bool false true f g = g refl
-
 pub rows_same : (alike : Test) → IsPer alike → (m n s : ℕ) → alike m n ≡ true → alike m s ≡ alike n s
-rows_same alike per m n s e = same_bool (alike m s) (alike n s) (per.joins n m s (per.turns m n e)) (per.joins m n s e)
+rows_same alike per m n s e = same_test (alike m s) (alike n s) (per.joins n m s (per.turns m n e)) (per.joins m n s e)
 
 any_same : {X : Type 0} (p q : X → Bool) (xs : List X) → ((x : X) → p x ≡ q x) → list_any p xs ≡ list_any q xs
 any_same p q [] h = refl
@@ -83,7 +78,8 @@ pub first_is : (alike : Test) (n : ℕ) (t : Top) (tops : List Top) → In t top
 unfolding first_alike
 first_is alike n t [] is a = absurd is
 first_is alike n t (u ∷ tops) is a = go (first_is alike n t tops) is (alike n u.number) refl where
-  go : (In t tops → alike n t.number ≡ true → IsFirst alike tops n (first_alike alike n tops)) → In t (u ∷ tops) → (b : Bool) → alike n u.number ≡ b → IsFirst alike (u ∷ tops) n (elim b as (λ _. ℕ) [ true ↦ u.number | false ↦ first_alike alike n tops ])
+  go : (In t tops → alike n t.number ≡ true → IsFirst alike tops n (first_alike alike n tops)) → In t (u ∷ tops) → (b : Bool) → alike n u.number ≡ b
+      → IsFirst alike (u ∷ tops) n (elim b as (λ _. ℕ) [ true ↦ u.number | false ↦ first_alike alike n tops ])
   go more here true q = record {
     top = u;
     there = inl refl;
@@ -124,7 +120,8 @@ first_same alike per m n t (u ∷ tops) is a e = go (first_same alike per m n t 
   go more (inr s) false false q r = more s a e
 
 -- alike tops have one representative
-pub rep_same : (alike : Test) → IsPer alike → (units : List (FileUnit Spot)) (m n : ℕ) (t : Top) → In t (tops_of units) → alike m t.number ≡ true → alike m n ≡ true → rep alike units m ≡ rep alike units n
+pub rep_same : (alike : Test) → IsPer alike → (units : List (FileUnit Spot)) (m n : ℕ) (t : Top) → In t (tops_of units) → alike m t.number ≡ true → alike m n ≡ true
+    → rep alike units m ≡ rep alike units n
 rep_same alike per units m n t is a e = first_same alike per m n t (tops_of units) is a e
 
 -- ---- numbers of units
@@ -232,7 +229,8 @@ moves_other units rule n i e =
     record { unit = o.other; used_by = used_by rule.alike units n o.other o.there; apart = o.apart }
 
 -- what has alike tops in two units has a home
-pub two_candidate : (alike : Test) (units : List (FileUnit Spot)) (n : ℕ) (a b : Top) → In a (tops_of units) → In b (tops_of units) → alike n a.number ≡ true → alike n b.number ≡ true → a.unit ≢ b.unit → is_home (candidate alike units n) ≡ true
+pub two_candidate : (alike : Test) (units : List (FileUnit Spot)) (n : ℕ) (a b : Top) → In a (tops_of units) → In b (tops_of units) → alike n a.number ≡ true → alike n b.number ≡ true
+    → a.unit ≢ b.unit → is_home (candidate alike units n) ≡ true
 unfolding candidate
 two_candidate alike units n a b x y p q ne = two_users units (users alike units n) a.unit b.unit (used alike units n a x p) (used alike units n b y q) ne
 
@@ -253,7 +251,8 @@ unfolding stand_in
 move_stand units rule n e = rw (e, stand_in) refl
 
 -- alike tops that move have one stand-in
-pub stands_same : (units : List (FileUnit Spot)) (rule : Rule) → Fair units rule → (m n : ℕ) (t : Top) → In t (tops_of units) → t.number ≡ m → rule.alike m n ≡ true → moves rule units m ≡ true → stand_in rule units m ≡ stand_in rule units n
+pub stands_same : (units : List (FileUnit Spot)) (rule : Rule) → Fair units rule → (m n : ℕ) (t : Top) → In t (tops_of units) → t.number ≡ m → rule.alike m n ≡ true → moves rule units m ≡ true
+    → stand_in rule units m ≡ stand_in rule units n
 stands_same units rule fair m n t is number e mv =
     let mv' : moves rule units n ≡ true = sym (moves_same units rule fair m n e) ∙ mv in
     let self : rule.alike m t.number ≡ true = ap (rule.alike m) number ∙ moves_self units rule fair m mv in

@@ -1,5 +1,6 @@
 -- What gains nothing stays: weights, groups, and which groups gain.
-use Rattle.std.specs.Prelude.{◌≡◌, ◌⊎◌, ℕ, ℤ, zero, suc, ◌+◌, ◌-◌, ◌*◌, ◌<◌, Bool, true, false, List, [], ◌∷◌, ◌++◌, length, ◌==◌, ◌&&◌, nat_lt, if◌then◌else◌}
+use Rattle.std.specs.Prelude.{◌≡◌, ◌⊎◌, ℕ, ℤ, zero, suc, ◌+◌, ◌-◌, ◌*◌, ◌<◌, Bool, true, false, List, [], ◌∷◌, ◌++◌, length, ◌==◌, ◌&&◌}
+use Rattle.std.specs.Prelude.{nat_lt, if◌then◌else◌}
 use Rattle.std.specs.List.{filter, list_any}
 use Rattle.dwz_bytes.specs.Spelling.{le_bytes}
 use Rattle.dwz_meanings.specs.Documents.{Attr, Block, Entries, Expr, File, Node, Operand, Part, Plain, Ref, Same, Text}
@@ -84,7 +85,8 @@ pub record RefersInto (alike : Test) (units : List (FileUnit Spot)) (t : Top) (h
 -- it gains by itself, or by a chain of so many references from one that does
 unfoldable pub Gain : Test → List (FileUnit Spot) → ℕ → Home → List ℕ → Type 0
 Gain alike units zero h us = spent us < saved alike units h us
-Gain alike units (suc k) h us = Gain alike units k h us ⊎ ((t : Top) × RefersInto alike units t h us × Gain alike units k (candidate alike units t.number) (users alike units t.number))
+Gain alike units (suc k) h us = Gain alike units k h us
+    ⊎ ((t : Top) × RefersInto alike units t h us × Gain alike units k (candidate alike units t.number) (users alike units t.number))
 
 -- a top's group gains
 abbrev pub Gains : Test → List (FileUnit Spot) → ℕ → Type 0

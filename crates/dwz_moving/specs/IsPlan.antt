@@ -1,11 +1,11 @@
 -- What is asked of users, representatives, homes, partial units and what is kept; the functions of Plan meet it.
 use Rattle.std.specs.Prelude.{◌⊎◌, ◌≡◌, ◌≢◌, ◌↔◌, ℕ, suc, ◌<◌, ◌≤◌, Bool, true, false, List, [], ◌∷◌, ◌++◌, map, Some}
 use Rattle.dwz_meanings.specs.Documents.{Entries, Node}
-use Rattle.dwz_docs.specs.Lists.{In}
+use Rattle.dwz_docs.specs.Lists.{Each, In}
 use Rattle.dwz_docs.specs.Trees.{End, Entry}
-use Rattle.dwz_seen.specs.Lists.{Each, EachPair, Nth, Rising}
+use Rattle.dwz_seen.specs.Lists.{EachPair, Nth, Rising}
 use Rattle.dwz_seen.specs.Spaces.{space_text}
-use Rattle.dwz_alike.specs.Alike.{Alike, InScope, Scope}
+use Rattle.dwz_alike.specs.Alike.{Alike, InScope, TopScope}
 use Rattle.dwz_alike.specs.Spots.{ASpace, ATop, FileUnit, Nothing, Row, SpaceName, Spot, Top, name_list, tops_of}
 use Rattle.dwz_moving.specs.Homes.{Common, Home, Local, Rule, Stay, candidate, file_of, home, is_home, moves, rep, users}
 use Rattle.dwz_moving.specs.Plan.{PartialUnit, import_of, is_pinned, space_entry}
@@ -17,7 +17,7 @@ numbers tops = map (λ t. t.number) tops
 -- ---- users, representative, home
 
 -- a top of the unit is in scope and alike
-pub record HasAlike (scope : Scope) (units : List (FileUnit Spot)) (t : Top) (unit : ℕ) : Type 0 where
+pub record HasAlike (scope : TopScope) (units : List (FileUnit Spot)) (t : Top) (unit : ℕ) : Type 0 where
   pub top : Top
   pub there : In top (tops_of units)
   pub unit_is : top.unit ≡ unit
@@ -25,12 +25,12 @@ pub record HasAlike (scope : Scope) (units : List (FileUnit Spot)) (t : Top) (un
   pub alike : Alike units t.number top.number
 
 -- the units that have one, in order
-pub record AreUsers (scope : Scope) (units : List (FileUnit Spot)) (t : Top) (us : List ℕ) : Type 0 where
+pub record AreUsers (scope : TopScope) (units : List (FileUnit Spot)) (t : Top) (us : List ℕ) : Type 0 where
   pub rising : Rising us
   pub are : (unit : ℕ) → In unit us ↔ HasAlike scope units t unit
 
 -- the first top that is in scope and alike
-pub record IsRep (scope : Scope) (units : List (FileUnit Spot)) (t : Top) (n : ℕ) : Type 0 where
+pub record IsRep (scope : TopScope) (units : List (FileUnit Spot)) (t : Top) (n : ℕ) : Type 0 where
   pub top : Top
   pub there : In top (tops_of units)
   pub number : top.number ≡ n

@@ -7,7 +7,8 @@ use Rattle.dwz_docs.specs.Trees.{End, Entry}
 use Rattle.dwz_alike.specs.Alike.{any_attr, any_entry, is_in}
 unfoldable pub use Rattle.dwz_alike.specs.Alike.{joined_parts}
 use Rattle.dwz_alike.specs.Deciding.{Test, same_bool, same_by}
-use Rattle.dwz_alike.specs.Spots.{ASpace, ATop, FileUnit, Import, InChain, Nothing, PartialRoot, Row, SpaceName, Spot, Top, Within, name_list, row_of, same_numbers, same_spot, tops_of}
+use Rattle.dwz_alike.specs.Spots.{ASpace, ATop, FileUnit, Import, InChain, Nothing, PartialRoot, Row, SpaceName, Spot, Top, Within}
+use Rattle.dwz_alike.specs.Spots.{name_list, row_of, same_numbers, same_spot, tops_of}
 use Rattle.dwz_moving.specs.Homes.{Common, Home, Local, Rule, home, moves, rep, same_home, users}
 
 -- ---- partial units
@@ -65,12 +66,18 @@ beside (ASpace e inner next) last = ASpace e inner (beside next last)
 -- DW_TAG_namespace with DW_AT_name, in the form of the space that the name comes from until its form is chosen
 abbrev pub space_entry : ℕ → ℕ → ℕ → SpaceName → Node Spot
 space_entry part chain depth s =
-    record { at = InChain part chain depth; tag = 0x39; attrs = record { name = 0x03; form = s.form; raw = s.raw; value = only (Text s.text) } ∷ [] }
+    record {
+      at = InChain part chain depth;
+      tag = 0x39;
+      attrs =
+          record { name = 0x03; form = s.form; raw = s.raw; value = only (Text s.text) } ∷ [];
+    }
 
 -- spaces one in the other
 unfoldable pub chain_down : ℕ → ℕ → ℕ → List SpaceName → Row → Row
 chain_down part chain depth [] inner = inner
-chain_down part chain depth (s ∷ spaces) inner = ASpace (space_entry part chain depth s) (chain_down part chain (suc depth) spaces inner) Nothing
+chain_down part chain depth (s ∷ spaces) inner = ASpace (space_entry part chain depth s) (chain_down part chain (suc depth) spaces inner)
+    Nothing
 
 abbrev pub same_names : Top → Top → Bool
 same_names t u = same_by same_numbers (name_list t) (name_list u)
@@ -83,7 +90,8 @@ leading (t ∷ tops) = t ∷ filter (λ u. not (same_names t u)) (leading tops)
 -- the chains of these first tops, each with all tops of its name list
 unfoldable pub chains : ℕ → List Top → ℕ → List Top → Row
 chains part tops chain [] = Nothing
-chains part tops chain (t ∷ leads) = beside (chain_down part chain 0 t.spaces (top_row (filter (same_names t) tops) Nothing)) (chains part tops (suc chain) leads)
+chains part tops chain (t ∷ leads) = beside (chain_down part chain 0 t.spaces (top_row (filter (same_names t) tops) Nothing))
+    (chains part tops (suc chain) leads)
 
 abbrev pub none_of : List SpaceName → Bool
 none_of [] = true
@@ -107,7 +115,10 @@ unfoldable pub uleb_targets : List Part → List Spot → List Spot
 uleb_targets [] refs = []
 uleb_targets (Same bytes ∷ parts) refs = uleb_targets parts refs
 uleb_targets (Operand width uleb base ∷ parts) [] = []
-uleb_targets (Operand width uleb base ∷ parts) (r ∷ refs) = elim uleb as (λ _. List Spot) [ true ↦ r ∷ uleb_targets parts refs | false ↦ uleb_targets parts refs ]
+uleb_targets (Operand width uleb base ∷ parts) (r ∷ refs) = elim uleb as (λ _. List Spot) [
+  | true ↦ r ∷ uleb_targets parts refs
+  | false ↦ uleb_targets parts refs
+]
 
 abbrev pub parts_of : Plain → List Part
 parts_of (Expr parts) = parts
@@ -135,12 +146,16 @@ staying rule units unit = filter (λ t. t.unit == unit && not (moves rule units 
 -- pinned ones first, both in order
 unfoldable pub kept : Rule → List (FileUnit Spot) → ℕ → List Top
 kept rule units unit =
-    filter (λ t. is_pinned units t.number) (staying rule units unit) ++ filter (λ t. not (is_pinned units t.number)) (staying rule units unit)
+    filter (λ t. is_pinned units t.number) (staying rule units unit) ++ filter (λ t. not (is_pinned units t.number))
+    (staying rule units unit)
 
 -- what stays of a row: each space with what stays in it, and each top that doesn't move
 unfoldable pub row_staying : (ℕ → Bool) → Row → Row
 row_staying moving Nothing = Nothing
-row_staying moving (ATop t next) = elim (moving t.number) as (λ _. Row) [ true ↦ row_staying moving next | false ↦ ATop t (row_staying moving next) ]
+row_staying moving (ATop t next) = elim (moving t.number) as (λ _. Row) [
+  | true ↦ row_staying moving next
+  | false ↦ ATop t (row_staying moving next)
+]
 row_staying moving (ASpace e inner next) = ASpace e (row_staying moving inner) (row_staying moving next)
 
 -- which tops, and which spaces, are pinned
@@ -157,7 +172,10 @@ row_pinned p (ASpace e inner next) = p.space e.at || (row_pinned p inner || row_
 -- follows them
 unfoldable pub row_part : Pinned → Bool → Row → Row → Row
 row_part p want Nothing last = last
-row_part p want (ATop t next) last = elim (same_bool (p.top t.number) want) as (λ _. Row) [ true ↦ ATop t (row_part p want next last) | false ↦ row_part p want next last ]
+row_part p want (ATop t next) last = elim (same_bool (p.top t.number) want) as (λ _. Row) [
+  | true ↦ ATop t (row_part p want next last)
+  | false ↦ row_part p want next last
+]
 row_part p want (ASpace e inner next) last = elim (same_bool (p.space e.at || row_pinned p inner) want) as (λ _. Row) [
   | true ↦ ASpace e (row_part p true inner (row_part p false inner Nothing)) (row_part p want next last)
   | false ↦ row_part p want next last
@@ -200,4 +218,8 @@ import_of unit n = record { at = Import unit n; tag = 0x3d; attrs = import_attr 
 -- an import of each partial unit that has the unit among its users; the first has that number
 unfoldable pub imports : ℕ → ℕ → List PartialUnit → Entries Spot
 imports unit n [] = End
-imports unit n (part ∷ parts) = elim (has unit part.users) as (λ _. Entries Spot) [ true ↦ Entry (import_of unit n) End (imports unit (suc n) parts) | false ↦ imports unit (suc n) parts ]
+imports unit n (part ∷ parts) = elim (has unit part.users) as (λ _. Entries Spot) [
+  | true ↦ Entry (import_of unit n) End
+      (imports unit (suc n) parts)
+  | false ↦ imports unit (suc n) parts
+]

@@ -5,8 +5,8 @@ use Rattle.std.proofs.lemmas.List.{append_assoc, drop_all, map-append}
 use Rattle.dwz_bytes.specs.Reading.{◌>>=◌}
 use Rattle.dwz_docs.specs.Entries.{RawAttr}
 use Rattle.dwz_docs.proofs.PartLemmas.{bind_ok}
+use Rattle.dwz_docs.proofs.ListFacts.{drop_first, drop_here}
 use Rattle.dwz_flat.specs.Rows.{RowsMean, node_refs, nodes_refs}
-use Rattle.dwz_flat.proofs.StepLemmas.{first_of}
 use Rattle.dwz_flat.proofs.TreeLemmas.{node_attrs}
 use Rattle.dwz_meanings.specs.Documents.{Attr, Node, Value}
 use Rattle.dwz_meanings.specs.Meanings.{Scope, attr_with, attrs_meaning, meaning, node_meaning, with_attr, without_siblings}
@@ -16,7 +16,6 @@ use Rattle.dwz_narrow.specs.Walked.{NotesOperands, row_operands, rows_operands}
 use Rattle.dwz_narrow.proofs.FirstLemmas.{Noted, noted_end, noted_some, units_append}
 use Rattle.dwz_out.specs.Refusals.{all_of_unit, operands_of_attr, operands_of_attrs}
 use Rattle.dwz_resolve.specs.Named.{attrs_refs, value_refs}
-use Rattle.dwz_resolve.proofs.RowLemmas.{drop_here}
 use Rattle.dwz_unit.specs.Rows.{EntryRow}
 
 module _ (s : Scope ℕ) (after : ℕ → ℕ) (more : List ℕ) (old : Option ℕ) where
@@ -40,7 +39,8 @@ module _ (s : Scope ℕ) (after : ℕ → ℕ) (more : List ℕ) (old : Option �
     unfolding without_siblings
     values_sibling e =
         let rest = drop (j + 1) values in
-        let same : without_siblings (drop j values) ≡ without_siblings rest = ap without_siblings split ∙ cond-true (eqb a.pair.name 1) (without_siblings rest) (a ∷ without_siblings rest) (eq-eqb a.pair.name 1 e) in
+        let same : without_siblings (drop j values) ≡ without_siblings rest = ap without_siblings split ∙ cond-true (eqb a.pair.name 1) (without_siblings rest) (a ∷ without_siblings rest)
+        (eq-eqb a.pair.name 1 e) in
         record {
           attrs = h.attrs;
           means = ap (attrs_meaning s) (sym same) ∙ h.means;
@@ -54,7 +54,8 @@ module _ (s : Scope ℕ) (after : ℕ → ℕ) (more : List ℕ) (old : Option �
     unfolding without_siblings attrs_meaning operands_of_attrs
     values_more ne new rest_left notes =
         let rest = drop (j + 1) values in
-        let same : without_siblings (drop j values) ≡ a ∷ without_siblings rest = ap without_siblings split ∙ cond-false (eqb a.pair.name 1) (without_siblings rest) (a ∷ without_siblings rest) (ne_eqb a.pair.name 1 ne) in
+        let same : without_siblings (drop j values) ≡ a ∷ without_siblings rest = ap without_siblings split ∙ cond-false (eqb a.pair.name 1) (without_siblings rest) (a ∷ without_siblings rest)
+        (ne_eqb a.pair.name 1 ne) in
         let m = ap (attrs_meaning s) (sym same) ∙ h.means in
         let x = bind_ok (meaning s a) (λ v. attrs_meaning s (without_siblings rest) >>= with_attr a v) h.attrs m in
         let y = bind_ok (attrs_meaning s (without_siblings rest)) (with_attr a x.0) h.attrs x.2 in
@@ -69,11 +70,13 @@ module _ (s : Scope ℕ) (after : ℕ → ℕ) (more : List ℕ) (old : Option �
           attrs = y.0;
           means = y.1;
           targets = n.behind;
-          noted = noted_some (number_by after) (all_of_unit s.unit (operands_of_attrs s (without_siblings values))) (all_of_unit s.unit (operands_of_attrs s (without_siblings (drop j values)))) (all_of_unit s.unit own) (all_of_unit s.unit others)
+          noted = noted_some (number_by after) (all_of_unit s.unit (operands_of_attrs s (without_siblings values))) (all_of_unit s.unit (operands_of_attrs s (without_siblings (drop j values))))
+              (all_of_unit s.unit own) (all_of_unit s.unit others)
               old now new (ap (λ (w : List RawAttr). all_of_unit s.unit (operands_of_attrs s w)) same ∙ units_append s.unit own others) n.first h.noted;
         }
 
-  pub values_end : (row : EntryRow) (j : ℕ) (now : Option ℕ) (left : List ℕ) → length row.entry.attrs ≤ j → ValuesLeft row.entry.attrs j now left → NotesOperands after s.unit (row_operands s row) old now more left
+  pub values_end : (row : EntryRow) (j : ℕ) (now : Option ℕ) (left : List ℕ) → length row.entry.attrs ≤ j → ValuesLeft row.entry.attrs j now left
+      → NotesOperands after s.unit (row_operands s row) old now more left
   unfolding without_siblings attrs_meaning operands_of_attrs
   values_end row j now left le h =
       let none : drop j row.entry.attrs ≡ [] = drop_all j row.entry.attrs le in
@@ -99,16 +102,19 @@ module _ (s : Scope ℕ) (after : ℕ → ℕ) (more : List ℕ) (old : Option �
 
   pub rows_all : (all rows after_them : List EntryRow) (from end : ℕ) (ds : List (Node ℕ)) (targets : List ℕ) → drop from all ≡ rows ++ after_them → from + length rows ≡ end → RowsMean s rows ds
       → targets ≡ map after (nodes_refs ds) ++ more → RowsLeft all rows from end old targets
-  rows_all all rows after_them from end ds targets found count means are = record { rows = rows; after_them = after_them; ds = ds; found = found; count = count; means = means; targets = are; noted = refl }
+  rows_all all rows after_them from end ds targets found count means are =
+      record { rows = rows; after_them = after_them; ds = ds; found = found; count = count; means = means; targets = are; noted = refl }
 
-  rows_step : (all first_rows rows after_them : List EntryRow) (i end : ℕ) (ds : List (Node ℕ)) (now new : Option ℕ) (left rest_left : List ℕ) → i < end → drop i all ≡ rows ++ after_them → i + length rows ≡ end → RowsMean s rows ds
+  rows_step : (all first_rows rows after_them : List EntryRow) (i end : ℕ) (ds : List (Node ℕ)) (now new : Option ℕ) (left rest_left : List ℕ) → i < end → drop i all ≡ rows ++ after_them
+      → i + length rows ≡ end → RowsMean s rows ds
       → left ≡ map after (nodes_refs ds) ++ more → Noted (number_by after) old (all_of_unit s.unit (rows_operands s first_rows)) now (all_of_unit s.unit (rows_operands s rows))
-      → ((row : EntryRow) (d : Node ℕ) (others : List ℕ) → slice_get all i ≡ Some row → node_meaning s row.entry ≡ Ok d → left ≡ map after (node_refs d) ++ others → NotesOperands after s.unit (row_operands s row) now new others rest_left)
+      → ((row : EntryRow) (d : Node ℕ) (others : List ℕ) → slice_get all i ≡ Some row → node_meaning s row.entry ≡ Ok d → left ≡ map after (node_refs d) ++ others
+      → NotesOperands after s.unit (row_operands s row) now new others rest_left)
       → RowsLeft all first_rows (i + 1) end new rest_left
   rows_step all first_rows [] after_them i end ds now new left rest_left lt found count means are noted notes = absurd (omega (arith, lt, count))
   rows_step all first_rows (row ∷ rows) after_them i end [] now new left rest_left lt found count means are noted notes = absurd means
   rows_step all first_rows (row ∷ rows) after_them i end (d ∷ ds) now new left rest_left lt found count means are noted notes =
-      let f = first_of all i row (rows ++ after_them) found in
+      let f = drop_first all i row (rows ++ after_them) found in
       let targets : left ≡ map after (node_refs d) ++ (map after (nodes_refs ds) ++ more) =
       are ∙ ap (λ (w : List ℕ). w ++ more) (map-append after (node_refs d) (nodes_refs ds)) ∙ append_assoc (map after (node_refs d)) (map after (nodes_refs ds)) more in
       let n = notes row d (map after (nodes_refs ds) ++ more) f.0 means.0 targets in
@@ -120,21 +126,25 @@ module _ (s : Scope ℕ) (after : ℕ → ℕ) (more : List ℕ) (old : Option �
         count = omega (arith, count);
         means = means.1;
         targets = n.behind;
-        noted = noted_some (number_by after) (all_of_unit s.unit (rows_operands s first_rows)) (all_of_unit s.unit (rows_operands s (row ∷ rows))) (all_of_unit s.unit (row_operands s row)) (all_of_unit s.unit (rows_operands s rows))
+        noted = noted_some (number_by after) (all_of_unit s.unit (rows_operands s first_rows)) (all_of_unit s.unit (rows_operands s (row ∷ rows))) (all_of_unit s.unit (row_operands s row))
+            (all_of_unit s.unit (rows_operands s rows))
             old now new (units_append s.unit (row_operands s row) (rows_operands s rows)) n.first noted;
       }
 
   pub rows_more : (all first_rows : List EntryRow) (i end : ℕ) (now new : Option ℕ) (left rest_left : List ℕ) → i < end → RowsLeft all first_rows i end now left
-      → ((row : EntryRow) (d : Node ℕ) (others : List ℕ) → slice_get all i ≡ Some row → node_meaning s row.entry ≡ Ok d → left ≡ map after (node_refs d) ++ others → NotesOperands after s.unit (row_operands s row) now new others rest_left)
+      → ((row : EntryRow) (d : Node ℕ) (others : List ℕ) → slice_get all i ≡ Some row → node_meaning s row.entry ≡ Ok d → left ≡ map after (node_refs d) ++ others
+      → NotesOperands after s.unit (row_operands s row) now new others rest_left)
       → RowsLeft all first_rows (i + 1) end new rest_left
   rows_more all first_rows i end now new left rest_left lt h notes = rows_step all first_rows h.rows h.after_them i end h.ds now new left rest_left lt h.found h.count h.means h.targets h.noted notes
 
   ends_at : (first_rows rows : List EntryRow) (i end : ℕ) (ds : List (Node ℕ)) (now : Option ℕ) (left : List ℕ) → end ≤ i → i + length rows ≡ end → RowsMean s rows ds
       → left ≡ map after (nodes_refs ds) ++ more → Noted (number_by after) old (all_of_unit s.unit (rows_operands s first_rows)) now (all_of_unit s.unit (rows_operands s rows))
       → NotesOperands after s.unit (rows_operands s first_rows) old now more left
-  ends_at first_rows [] i end [] now left le count means are noted = record { first = noted_end (number_by after) (all_of_unit s.unit (rows_operands s first_rows)) [] old now refl noted; behind = are }
+  ends_at first_rows [] i end [] now left le count means are noted =
+      record { first = noted_end (number_by after) (all_of_unit s.unit (rows_operands s first_rows)) [] old now refl noted; behind = are }
   ends_at first_rows [] i end (d ∷ ds) now left le count means are noted = absurd means
   ends_at first_rows (row ∷ rows) i end ds now left le count means are noted = absurd (omega (arith, le, count))
 
-  pub rows_end : (all first_rows : List EntryRow) (i end : ℕ) (now : Option ℕ) (left : List ℕ) → end ≤ i → RowsLeft all first_rows i end now left → NotesOperands after s.unit (rows_operands s first_rows) old now more left
+  pub rows_end : (all first_rows : List EntryRow) (i end : ℕ) (now : Option ℕ) (left : List ℕ) → end ≤ i → RowsLeft all first_rows i end now left
+      → NotesOperands after s.unit (rows_operands s first_rows) old now more left
   rows_end all first_rows i end now left le h = ends_at first_rows h.rows i end h.ds now left le h.count h.means h.targets h.noted

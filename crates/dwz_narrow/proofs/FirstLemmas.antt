@@ -1,5 +1,6 @@
 -- The first place is the least of those of narrow operands; that of two rows is the lesser of theirs.
-use Rattle.std.proofs.Common.{◌≡◌, ◌↔◌, ℕ, zero, suc, ◌+◌, ◌^◌, ◌<◌, ◌≤◌, min, Bool, true, false, List, [], ◌∷◌, ◌++◌, drop, get_or, length, map, Option, Some, None, refl, sym, ap, subst, ◌∙◌, inl, inr, arith}
+use Rattle.std.proofs.Common.{◌≡◌, ◌↔◌, ℕ, zero, suc, ◌+◌, ◌^◌, ◌<◌, ◌≤◌, min, Bool, true, false, List, [], ◌∷◌, ◌++◌, drop, get_or, length, map, Option, Some, None, refl, sym, ap, subst, ◌∙◌, inl}
+use Rattle.std.proofs.Common.{inr, arith}
 use Rattle.std.specs.Prelude.{nat_le}
 use Rattle.std.proofs.Math.Nat.{pow-le-pow_right}
 use Rattle.std.proofs.lemmas.Bool.Decides.{leb_tells}
@@ -35,7 +36,8 @@ first_append number (o ∷ xs) ys =
 abbrev pub Noted : (ListOperand → ℕ) → Option ℕ → List ListOperand → Option ℕ → List ListOperand → Type 0
 Noted number old all now left = lesser old (first_over number all) ≡ lesser now (first_over number left)
 
-pub noted_more : (number : ListOperand → ℕ) (o : ListOperand) (all left rest : List ListOperand) (old now new : Option ℕ) → left ≡ o ∷ rest → new ≡ lesser now (place_if (is_over o.operand.uleb o.operand.width (number o)) o.operand.at)
+pub noted_more : (number : ListOperand → ℕ) (o : ListOperand) (all left rest : List ListOperand) (old now new : Option ℕ) → left ≡ o ∷ rest
+    → new ≡ lesser now (place_if (is_over o.operand.uleb o.operand.width (number o)) o.operand.at)
     → Noted number old all now left → Noted number old all new rest
 unfolding first_over
 noted_more number o all left rest old now new is made so =

@@ -1,5 +1,5 @@
 -- The rows of a unit, and units one after the other.
-use Rattle.std.proofs.Common.{◌≡◌, ℕ, zero, suc, ◌+◌, ◌<◌, ◌≤◌, List, [], ◌∷◌, ◌++◌, drop, get_or, length, map, Option, None, Some, Result, Ok, Err, IfOk, slice_get, refl, sym, ap, ◌∙◌, arith}
+use Rattle.std.proofs.Common.{◌≡◌, ℕ, zero, suc, ◌+◌, ◌≤◌, List, [], ◌∷◌, ◌++◌, drop, get_or, length, map, Option, None, Some, Ok, slice_get, refl, sym, ap, ◌∙◌, arith}
 use Rattle.std.proofs.lemmas.List.{append-nil, drop_all, drop_at, map-append}
 use Rattle.std.proofs.lemmas.List.Concat.{flat_map-append}
 use Rattle.dwz_bytes.specs.Reading.{◌>>=◌}
@@ -7,11 +7,13 @@ use Rattle.dwz_docs.specs.Entries.{RawEntry, root_position}
 use Rattle.dwz_docs.specs.Trees.{End, Entry, Forest, Position, behind, first_below}
 use Rattle.dwz_docs.specs.Units.{RawUnit, entry_count}
 use Rattle.dwz_docs.proofs.PartLemmas.{bind_ok}
+use Rattle.dwz_docs.proofs.ListFacts.{drop_here}
 use Rattle.dwz_flat.specs.Rows.{RowsMean, nodes, nodes_refs}
 use Rattle.dwz_flat.proofs.TreeLemmas.{tree_means, tree_refs}
 use Rattle.dwz_meanings.specs.declared.exprs.Operand.{Operand}
 use Rattle.dwz_meanings.specs.Documents.{DwUnit}
-use Rattle.dwz_meanings.specs.Meanings.{Around, Scope, entries_meaning, kind_meaning, node_meaning, scope_of, unit_meaning, unit_with, units_meaning, with_next, with_units, without_siblings}
+use Rattle.dwz_meanings.specs.Meanings.{Around, Scope, scope_of, unit_meaning, units_meaning, with_units, without_siblings}
+use Rattle.dwz_meanings.proofs.UnitMeans.{root_is}
 use Rattle.dwz_narrow.specs.First.{first_over, lesser}
 use Rattle.dwz_narrow.specs.Narrow.{FirstPlace, number_by}
 use Rattle.dwz_narrow.specs.Walked.{NotesOperands, row_operands, rows_operands}
@@ -20,10 +22,10 @@ use Rattle.dwz_out.specs.Refusals.{all_of_unit, operands_of_attrs, operands_of_e
 use Rattle.dwz_resolve.specs.Named.{attrs_refs, entries_refs, unit_refs, units_refs}
 use Rattle.dwz_resolve.specs.Resolved.{IsUnitHere}
 use Rattle.dwz_resolve.specs.declared.here.Here.{Here}
-use Rattle.dwz_resolve.proofs.RowLemmas.{drop_here, in-length}
 use Rattle.dwz_resolve.proofs.UnitThere.{same_unit, unit_there}
 use Rattle.dwz_unit.specs.declared.rows.RawUnit.{RawUnit as UnitOfCode}
 use Rattle.dwz_unit.specs.Rows.{EntryRow, rows_below, rows_in, rows_of, shown_units}
+use Rattle.dwz_unit.proofs.ShownLemmas.{rows_in-length}
 
 -- ---- trees and rows
 
@@ -45,18 +47,6 @@ refs_of : (v : DwUnit ℕ) → nodes_refs (nodes (Entry v.root v.below End)) ≡
 unfolding entries_refs
 refs_of v = tree_refs (Entry v.root v.below End) ∙ ap (λ (w : List ℕ). attrs_refs v.root.attrs ++ w) (append-nil (entries_refs v.below))
 
-root_is : (around : Around ℕ) (u : RawUnit) (v : DwUnit ℕ) → unit_meaning around u ≡ Ok v → entries_meaning (scope_of around u) (Entry u.root u.below End) ≡ Ok (Entry v.root v.below End)
-unfolding entries_meaning
-root_is around u v e =
-    let s = scope_of around u in
-    let x = bind_ok (kind_meaning s u.kind) (λ kind. node_meaning s u.root >>= λ root. entries_meaning s u.below >>= unit_with around u kind root) v e in
-    let y = bind_ok (node_meaning s u.root) (λ root. entries_meaning s u.below >>= unit_with around u x.0 root) v x.2 in
-    let z = bind_ok (entries_meaning s u.below) (unit_with around u x.0 y.0) v y.2 in
-    let is : record { at = around.place u.at; kind = x.0; root = y.0; below = z.0 } ≡ v = cc in
-    (λ i. y.1 i >>= λ d. entries_meaning s u.below >>= λ below. Ok End >>= with_next d below)
-    ∙ (λ i. z.1 i >>= λ below. Ok End >>= with_next y.0 below)
-    ∙ (λ i. Ok (Entry (is i).root (is i).below End))
-
 -- ---- a unit
 
 pub record UnitNotes (around : Around ℕ) (raw : List RawUnit) (u : RawUnit) (v : DwUnit ℕ) (h : Here) : Type 0 where
@@ -76,7 +66,7 @@ unit_notes around raw n x u v h is_unit means shown here =
     let same : place.u ≡ u = same_unit raw n place.u u place.is_unit is_unit in
     let rows = rows_in u place.unit x.first in
     let many : length place.before ≡ x.first = (let m = place.many in omega arith) in
-    let long = in-length u place.unit x.first in
+    let long = rows_in-length u place.unit x.first in
     let first = here.first in
     let end : h.end ≡ x.first + entry_count u = here.end ∙ ap (λ (w : RawUnit). x.first + entry_count w) own in
     record {
@@ -93,7 +83,8 @@ unit_notes around raw n x u v h is_unit means shown here =
 
 pub unit_noted : (around : Around ℕ) (raw : List RawUnit) (u : RawUnit) (v : DwUnit ℕ) (h : Here) (n : UnitNotes around raw u v h) (after : ℕ → ℕ) (old new : Option ℕ) (more left : List ℕ)
     → NotesOperands after u.at (rows_operands (scope_of around u) n.rows) old new more left → NotesOperands after u.at (operands_of_unit around u) old new more left
-unit_noted around raw u v h n after old new more left k = record { first = k.first ∙ ap (λ (w : List Operand). lesser old (first_over (number_by after) (all_of_unit u.at w))) n.operands; behind = k.behind }
+unit_noted around raw u v h n after old new more left k =
+    record { first = k.first ∙ ap (λ (w : List Operand). lesser old (first_over (number_by after) (all_of_unit u.at w))) n.operands; behind = k.behind }
 
 -- ---- units
 
@@ -118,13 +109,15 @@ module _ (around : Around ℕ) (after : ℕ → ℕ) (raw : List RawUnit) where
       let x = bind_ok (unit_meaning around u) (λ v. units_meaning around rest >>= with_units v) h.said m in
       let y = bind_ok (units_meaning around rest) (with_units x.0) h.said x.2 in
       let made : x.0 ∷ y.0 ≡ h.said = cc in
-      let targets : left ≡ map after (unit_refs x.0) ++ map after (units_refs y.0) = h.targets ∙ ap (λ (w : List (DwUnit ℕ)). map after (units_refs w)) (sym made) ∙ map-append after (unit_refs x.0) (units_refs y.0) in
+      let targets : left ≡ map after (unit_refs x.0) ++ map after (units_refs y.0) = h.targets ∙ ap (λ (w : List (DwUnit ℕ)). map after (units_refs w)) (sym made)
+      ∙ map-append after (unit_refs x.0) (units_refs y.0) in
       let k = notes x.0 (map after (units_refs y.0)) x.1 targets in
       record {
         said = y.0;
         means = y.1;
         targets = k.behind;
-        noted = noted_some (number_by after) (operands_of_units around raw) (operands_of_units around (drop n raw)) (all_of_unit u.at (operands_of_unit around u)) (operands_of_units around rest) None now new
+        noted = noted_some (number_by after) (operands_of_units around raw) (operands_of_units around (drop n raw)) (all_of_unit u.at (operands_of_unit around u)) (operands_of_units around rest) None
+            now new
             (ap (operands_of_units around) split) k.first h.noted;
       }
 
@@ -136,11 +129,6 @@ module _ (around : Around ℕ) (after : ℕ → ℕ) (raw : List RawUnit) where
 
 -- ---- what is found by a number
 
-pub got_there : {X : Type 0} (xs : List X) (n : ℕ) → n < length xs → (x : X) × (slice_get xs n ≡ Some x)
-got_there [] n lt = absurd (omega (arith, lt))
-got_there (x ∷ xs) zero lt = (x, refl)
-got_there (x ∷ xs) (suc n) lt = got_there xs n (omega (arith, lt))
-
 -- the place after of the unit with a number
 pub place_of : (f : RawUnit → ℕ) (raw : List RawUnit) (n : ℕ) (u : RawUnit) (places : List ℕ) → places ≡ map f raw → slice_get raw n ≡ Some u → get_or places n 0 ≡ f u
 place_of f raw n u places are is = ap (λ (w : List ℕ). get_or w n 0) are ∙ by raw n is where
@@ -148,7 +136,3 @@ place_of f raw n u places are is = ap (λ (w : List ℕ). get_or w n 0) are ∙ 
   by [] k e = absurd cc
   by (w ∷ us) zero e = (let same : w ≡ u = cc in ap f same)
   by (w ∷ us) (suc k) e = by us k e
-
-pub if_ok : {X E : Type 0} (r : Result X E) (P Q : X → Type 0) → ((x : X) → P x → Q x) → IfOk r P → IfOk r Q
-if_ok (Ok x) P Q to h = to x h
-if_ok (Err e) P Q to h = tt

@@ -48,7 +48,8 @@ module _ (s : Scope ℕ) (plain : KeepsPlaces s) (a : RawAttr) (v : Value ℕ) (
     behind = drops ∙ left_behind 1 ((value_kinds s a v e).0 is).1;
   }
 
-  pub of_other : (first : Option ℕ) → is_entry (class_of a.pair.form) ≡ false → is_expression (class_of a.pair.form) ≡ false → NotesOperands after s.unit (operands_of_attr s a) first first more targets
+  pub of_other : (first : Option ℕ) → is_entry (class_of a.pair.form) ≡ false → is_expression (class_of a.pair.form) ≡ false
+      → NotesOperands after s.unit (operands_of_attr s a) first first more targets
   of_other first other none = record {
     first = nothing first none;
     behind = left_behind 0 ((value_kinds s a v e).1 other none).1;
@@ -88,5 +89,6 @@ module _ (s : Scope ℕ) (plain : KeepsPlaces s) (a : RawAttr) (v : Value ℕ) (
         → left ≡ drop (length operands) targets → NotesOperands after s.unit (operands_of_attr s a) old new more left
     of_expression operands same old new left made drops = record {
       first = made ∙ ap (λ (w : List Operand). lesser old (first_over (number_by after) (all_of_unit s.unit w))) (same ∙ sym operands_are);
-      behind = drops ∙ ap (drop (length operands)) (targets_are operands same) ∙ drop_at (map (λ (o : Operand). after (led_to s.unit o)) operands) more (length operands) (length-map operands (λ (o : Operand). after (led_to s.unit o)));
+      behind = drops ∙ ap (drop (length operands)) (targets_are operands same) ∙ drop_at (map (λ (o : Operand). after (led_to s.unit o)) operands) more (length operands)
+          (length-map operands (λ (o : Operand). after (led_to s.unit o)));
     }

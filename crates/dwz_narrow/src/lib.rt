@@ -10,6 +10,3 @@ mod values;
 pub use laws::first_laws;
 pub use listed::first_listed;
 pub use spoken::first_spoken;
-
-#[cfg(test)]
-mod tests;

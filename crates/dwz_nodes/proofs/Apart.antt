@@ -15,7 +15,8 @@ range-other ns s e at v (inr l) = between_is (set ns at v) s e ∙ (ap (drop s) 
 pub range-here : {X : Type 0} (ns : List X) (s at : ℕ) (v : X) → s ≤ at → at < length ns → slice_range (set ns at v) s (at + 1) ≡ slice_range ns s at ++ v ∷ []
 range-here {X} ns s at v l in' =
     let len : length (take at ns) ≡ at = length-take-le at ns (omega arith) in
-    between_is (set ns at v) s (at + 1) ∙ (ap (drop s) (take_more_set ns at v in') ∙ (drop-append-le s (take at ns) (v ∷ []) (omega (arith, len)) ∙ ap (λ (xs : List X). xs ++ v ∷ []) (sym (between_is ns s at))))
+    between_is (set ns at v) s (at + 1) ∙ (ap (drop s) (take_more_set ns at v in')
+    ∙ (drop-append-le s (take at ns) (v ∷ []) (omega (arith, len)) ∙ ap (λ (xs : List X). xs ++ v ∷ []) (sym (between_is ns s at))))
 
 module _ (ts : List ℕ) where
   pub rooms-none : (spans : List Span) → ((a : ℕ) → a < length spans → span_at spans a ≡ span (count_below ts a) (count_below ts a)) → AreRooms ts [] spans
@@ -35,7 +36,8 @@ module _ (ts : List ℕ) where
     }
 
     -- a target whose span stays, or grows by a place
-    pub rooms-set : (t : ℕ) (s : Span) → t < length spans → s.start ≡ (span_at spans t).start → (span_at spans t).end ≤ s.end → s.end ≤ (span_at spans t).end + 1 → AreRooms ts (seen ++ t ∷ []) (set spans t s)
+    pub rooms-set : (t : ℕ) (s : Span) → t < length spans → s.start ≡ (span_at spans t).start → (span_at spans t).end ≤ s.end → s.end ≤ (span_at spans t).end + 1
+        → AreRooms ts (seen ++ t ∷ []) (set spans t s)
     rooms-set t s l start more most = record {
       starts = λ a in'. by_starts a (omega (arith, in', length-set spans t s)) (cases_eq a t);
       rising = λ a in'. by_rising a (omega (arith, in', length-set spans t s)) (cases_eq a t);

@@ -1,13 +1,12 @@
 -- How often a number is among targets, and how many targets are less: a room for each number, one behind the other.
-use Rattle.std.proofs.Common.{◌≡◌, ℕ, zero, suc, ◌+◌, ◌<◌, ◌≤◌, ◌==◌, cond, Bool, false, List, [], ◌∷◌, ◌++◌, length, get_or, set, take, sum, replicate, refl, sym, ap, subst, ◌∙◌, arith, length-take, length-set, eq-eqb, ◌⊎◌, inl, inr}
+use Rattle.std.proofs.Common.{◌≡◌, ℕ, zero, suc, ◌+◌, ◌<◌, ◌≤◌, ◌==◌, cond, Bool, false, List, [], ◌∷◌, ◌++◌, length, get_or, set, take, sum, replicate, refl, sym, ap, subst, ◌∙◌, arith, length-take}
+use Rattle.std.proofs.Common.{length-set, eq-eqb, ◌⊎◌, inl, inr}
 use Rattle.std.specs.Prelude.{nat_lt}
 use Rattle.std.proofs.lemmas.Bool.{cases_eq, le-ltb, ne_eqb}
 use Rattle.std.proofs.lemmas.List.{take_all, get_or-set_same, get_or-set_other, get_or-replicate, length-replicate}
 use Rattle.std.proofs.lemmas.List.Sums.{count_by-le-length, sum_by-cons, sum_by-append, sum_by_more, sum_by-le-sum_by}
+use Rattle.dwz_model.proofs.ListFacts.{one_more}
 use Rattle.dwz_nodes.specs.Rooms.{count_at, count_below}
-
-one_more : (m k : ℕ) → cond (nat_lt m (suc k)) 1 0 ≡ cond (nat_lt m k) 1 0 + cond (m == k) 1 0
-one_more m k = grind arith
 
 pub count_below-zero : (ts : List ℕ) → count_below ts 0 ≡ 0
 unfolding count_below
@@ -68,7 +67,8 @@ counted-none n ts counts is = record {
   each = λ a l. ap (λ (ns : List ℕ). get_or ns a 0) is ∙ (get_or-replicate n a 0 0 l ∙ sym (count_at-none a));
 }
 
-pub counted-more : (n : ℕ) (ts : List ℕ) (i : ℕ) (counts : List ℕ) (t c : ℕ) → i < length ts → t ≡ get_or ts i 0 → t < n → c ≡ get_or counts t 0 → Counted n ts i counts → Counted n ts (i + 1) (set counts t (c + 1))
+pub counted-more : (n : ℕ) (ts : List ℕ) (i : ℕ) (counts : List ℕ) (t c : ℕ) → i < length ts → t ≡ get_or ts i 0 → t < n → c ≡ get_or counts t 0 → Counted n ts i counts
+    → Counted n ts (i + 1) (set counts t (c + 1))
 counted-more n ts i counts t c l is there at h = record {
   len = length-set counts t (c + 1) ∙ h.len;
   each = λ a in'. by a in' (cases_eq a t);

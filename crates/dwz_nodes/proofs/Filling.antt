@@ -1,5 +1,6 @@
 -- Noting one node at one more of its targets keeps every list what it is to be.
-use Rattle.std.proofs.Common.{◌≡◌, ◌≢◌, ℕ, ◌+◌, ◌<◌, ◌≤◌, ◌⊎◌, List, [], ◌∷◌, ◌++◌, length, set, take, drop, inl, inr, ⊎_elim, sym, ap, subst, ◌∙◌, arith, length-set, get_or-set_other, get_or-set_same}
+use Rattle.std.proofs.Common.{◌≡◌, ◌≢◌, ℕ, ◌+◌, ◌<◌, ◌≤◌, ◌⊎◌, List, [], ◌∷◌, ◌++◌, length, set, take, drop, inl, inr, ⊎_elim, sym, ap, subst, ◌∙◌, arith, length-set, get_or-set_other}
+use Rattle.std.proofs.Common.{get_or-set_same}
 use Rattle.std.specs.Prelude.{slice_index, slice_range}
 use Rattle.std.proofs.lemmas.Bool.{cases_eq}
 use Rattle.std.proofs.lemmas.List.{take_all}
@@ -84,7 +85,8 @@ module _ (g : List Node) (n : ℕ) (l : n < length g) where
         new_list = ap (λ (q : Span). slice_range row' q.start q.end) (get_or-set_same spans t s (span 0 0) there)
 
         -- the target's list has the node at its end
-        here : ((list_at (set spans t s) row' t ≡ list_at spans row t) × EndsIn (list_at spans row t) n) ⊎ ((list_at (set spans t s) row' t ≡ list_at spans row t ++ n ∷ []) × (¬ (EndsIn (list_at spans row t) n)))
+        here : ((list_at (set spans t s) row' t ≡ list_at spans row t) × EndsIn (list_at spans row t) n)
+            ⊎ ((list_at (set spans t s) row' t ≡ list_at spans row t ++ n ∷ []) × (¬ (EndsIn (list_at spans row t) n)))
         here = ⊎_elim
             (λ e. inl (new_list ∙ (λ i. slice_range (e.1 i) ((e.0 i).start) ((e.0 i).end)), e.2))
             (λ e. inr (new_list ∙ ((λ i. slice_range (e.1 i) ((e.0 i).start) ((e.0 i).end)) ∙ range-here row (span_at spans t).start (span_at spans t).end n filled-rising filled-place), e.2))
@@ -109,6 +111,7 @@ module _ (g : List Node) (n : ℕ) (l : n < length g) where
         filled-more = record {
           len = length-set spans t s ∙ f.len;
           room = len_row ∙ f.room;
-          rooms = subst (λ (xs : List ℕ). AreRooms (all_targets g) xs (set spans t s)) (sym (seen-more g n j inside)) (rooms-set (all_targets g) (seen_at g n j) spans f.rooms t s there start grows by_one);
+          rooms = subst (λ (xs : List ℕ). AreRooms (all_targets g) xs (set spans t s)) (sym (seen-more g n j inside))
+              (rooms-set (all_targets g) (seen_at g n j) spans f.rooms t s there start grows by_one);
           listed = λ a in'. by a in' (cases_eq a t);
         }

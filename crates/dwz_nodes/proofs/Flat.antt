@@ -1,13 +1,14 @@
 -- The targets of all nodes in one row: which stand before a target, and which behind it.
-use Rattle.std.proofs.Common.{◌≡◌, ℕ, ◌+◌, ◌-◌, ◌<◌, ◌≤◌, List, [], ◌∷◌, ◌++◌, length, take, drop, refl, sym, ap, ◌∙◌, arith, append_assoc, take-append-drop}
+use Rattle.std.proofs.Common.{◌≡◌, ℕ, ◌+◌, ◌<◌, List, [], ◌∷◌, ◌++◌, length, take, drop, refl, sym, ap, ◌∙◌, arith, append_assoc, take-append-drop}
 use Rattle.std.specs.Prelude.{slice_index, slice_range}
 use Rattle.std.specs.List.{flat_map}
-use Rattle.std.proofs.lemmas.List.{append-nil, drop-drop, drop_all, take_more}
+use Rattle.std.proofs.lemmas.List.{append-nil, drop_all, take_more}
 use Rattle.std.proofs.lemmas.List.Concat.{flat_map-append, length-flat_map}
+use Rattle.dwz_model.proofs.ListFacts.{split-drop}
 use Rattle.dwz_nodes.specs.declared.Row.{Row}
 use Rattle.dwz_nodes.specs.Graph.{Node, node, node_at, targets_at}
 use Rattle.dwz_nodes.specs.Rooms.{all_targets}
-use Rattle.dwz_nodes.specs.Rows.{nodes_of, Ends}
+use Rattle.dwz_nodes.specs.Rows.{nodes_of, AreEnds}
 use Rattle.dwz_nodes.specs.Uses.{target_count}
 
 pub all_targets-none : (g : List Node) → all_targets (take 0 g) ≡ []
@@ -47,18 +48,13 @@ seen-rest g n j l =
     ∙ (ap (λ (xs : List ℕ). xs ++ after) (all_targets-suc g n l ∙ ap (λ (xs : List ℕ). before ++ xs) (sym (take-append-drop j ts)) ∙ sym (append_assoc before (take j ts) (drop j ts)))
     ∙ append_assoc (before ++ take j ts) (drop j ts) after)
 
-split-drop : (ns : List ℕ) (start e : ℕ) → start ≤ e → slice_range ns start e ++ drop e ns ≡ drop start ns
-split-drop ns start e l =
-    let rest : drop e ns ≡ drop (e - start) (drop start ns) = (let s : e ≡ start + (e - start) = omega arith in ap (λ k. drop k ns) s ∙ sym (drop-drop (e - start) start ns)) in
-    ap (λ (xs : List ℕ). take (e - start) (drop start ns) ++ xs) rest ∙ take-append-drop (e - start) (drop start ns)
-
-all_targets-from : (start : ℕ) (rs : List Row) (ts : List ℕ) → Ends start rs (length ts) → all_targets (nodes_of start rs ts) ≡ drop start ts
+all_targets-from : (start : ℕ) (rs : List Row) (ts : List ℕ) → AreEnds start rs (length ts) → all_targets (nodes_of start rs ts) ≡ drop start ts
 unfolding all_targets
 all_targets-from start [] ts e = sym (drop_all start ts (omega arith))
 all_targets-from start (r ∷ rs) ts e = ap (λ (xs : List ℕ). slice_range ts start r.end ++ xs) (all_targets-from r.end rs ts e.1) ∙ split-drop ts start r.end e.0
 
 -- the row of targets is that of all nodes
-pub all_targets-nodes_of : (rs : List Row) (ts : List ℕ) → Ends 0 rs (length ts) → all_targets (nodes_of 0 rs ts) ≡ ts
+pub all_targets-nodes_of : (rs : List Row) (ts : List ℕ) → AreEnds 0 rs (length ts) → all_targets (nodes_of 0 rs ts) ≡ ts
 all_targets-nodes_of rs ts e = all_targets-from 0 rs ts e
 
 -- they are as many as those of each node together

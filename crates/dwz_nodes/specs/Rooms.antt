@@ -1,5 +1,6 @@
 -- Inner: what holds of the row while sources are noted in it. No public clause cites it.
-use Rattle.std.specs.Prelude.{◌≡◌, ℕ, ◌+◌, ◌-◌, ◌<◌, ◌≤◌, ◌==◌, ◌⊎◌, List, count_by, length, nat_lt, slice_index, slice_index_or, slice_range, slice_set, take}
+use Rattle.std.specs.Prelude.{◌≡◌, ℕ, ◌+◌, ◌-◌, ◌<◌, ◌≤◌, ◌==◌, ◌⊎◌, List, count_by, length, nat_lt, slice_index, slice_index_or}
+use Rattle.std.specs.Prelude.{slice_range, slice_set, take}
 use Rattle.std.specs.List.{flat_map}
 use Rattle.dwz_nodes.specs.declared.back.Span.{Span}
 use Rattle.dwz_nodes.specs.Graph.{Node}

@@ -113,31 +113,3 @@ fn fill(spans: &mut [Span], row: &mut [Use], nodes: &Nodes)
         note_all(spans, row, nodes, source);
     }
 }
-
-#[cfg(test)]
-mod tests {
-    use crate::{Nodes, Use};
-    use std::test::Fail;
-
-    // Whether a place is this one.
-    fn is(place: &Use, source: u32, position: u32) -> bool {
-        place.source == source && place.position == position
-    }
-
-    #[test]
-    fn finds_the_places(rt: HostRuntime) -> Result<(), Fail> {
-        let mut nodes = Nodes::new(rt.alloc());
-        nodes.push(0, &[1, 1])?;
-        nodes.push(1, &[2, 1, 4_294_967_295])?;
-        nodes.push(0, &[])?;
-        let uses = nodes.uses(rt.alloc())?.ok_or("fewer than 2^32 targets")?;
-        assert!(rt; uses.of(0).is_empty());
-        assert!(rt; uses.of(1).len() == 3);
-        assert!(rt; is(&uses.of(1)[0], 0, 0));
-        assert!(rt; is(&uses.of(1)[1], 0, 1));
-        assert!(rt; is(&uses.of(1)[2], 1, 1));
-        assert!(rt; uses.of(2).len() == 1);
-        assert!(rt; is(&uses.of(2)[0], 1, 0));
-        Ok(())
-    }
-}

@@ -3,7 +3,7 @@ use Rattle.std.proofs.Common.{◌≡◌, ℕ, suc, ◌+◌, Bool, true, false, L
 use Rattle.std.proofs.lemmas.Bool.{eq-eqb, eqb-true}
 use Rattle.dwz_meanings.specs.Documents.{DwUnit, Node, unit_map}
 use Rattle.dwz_meanings.specs.Meanings.{IfSo}
-use Rattle.dwz_seen.specs.Lists.{Each}
+use Rattle.dwz_docs.specs.Lists.{Each}
 use Rattle.dwz_alike.specs.Spots.{FileUnit, Spot, in_file}
 use Rattle.dwz_moving.specs.Moves.{Move}
 use Rattle.dwz_places.specs.declared.order.UnitItems.{UnitItems}
@@ -19,7 +19,8 @@ module _ (e : Entered) (m : Move) (all : List (FileUnit Spot)) (file : ℕ) wher
     by false is = q
     by true is = absurd (other (eqb-true f.file file is))
 
-  skip : (i : ℕ) (before rest : List (FileUnit Spot)) (order : List UnitItems) → Each (IsOther file) before → KeptShown e m all file (i + length before) rest order → KeptShown e m all file i (before ++ rest) order
+  skip : (i : ℕ) (before rest : List (FileUnit Spot)) (order : List UnitItems) → Each (IsOther file) before → KeptShown e m all file (i + length before) rest order
+      → KeptShown e m all file i (before ++ rest) order
   skip i [] rest order others h = (let none : i + 0 ≡ i = omega arith in subst (λ (k : ℕ). KeptShown e m all file k rest order) none h)
   skip i (f ∷ before) rest order others h =
       let next : i + suc (length before) ≡ suc i + length before = omega arith in
@@ -45,15 +46,18 @@ module _ (e : Entered) (m : Move) (all : List (FileUnit Spot)) (file : ℕ) wher
 pub all_kept : KeptLaw
 all_kept e m units marks parts raw from next order is known moves imported kept =
     let each : EachKept e m units (length is.before) (named_units from.file is.name is.said) order =
-    each_kept is.around is.plain e m raw is.name from.file units marks known moves parts imported from next from.start is.top is.before is.after raw is.said order refl refl is.number is.units_are is.next_is is.means is.whole is.names kept in
+    each_kept is.around is.plain e m raw is.name from.file units marks known moves parts imported from next from.start is.top is.before is.after raw is.said order refl refl is.number is.units_are
+    is.next_is is.means is.whole is.names kept in
     let none : length is.before ≡ 0 + length is.before = omega arith in
     subst (λ (w : List (FileUnit Spot)). KeptShown e m units from.file 0 w order) (sym is.units_are)
     (skip e m units from.file 0 is.before (named_units from.file is.name is.said ++ is.after) order is.others.0
-    (subst (λ (k : ℕ). KeptShown e m units from.file k (named_units from.file is.name is.said ++ is.after) order) none (mine e m units from.file (length is.before) is.name is.said is.after order each is.others.1)))
+    (subst (λ (k : ℕ). KeptShown e m units from.file k (named_units from.file is.name is.said ++ is.after) order) none
+    (mine e m units from.file (length is.before) is.name is.said is.after order each is.others.1)))
 
 -- ---- spaces
 
-said_from : (units : List (FileUnit Spot)) (n : ℕ) (xs : List (Node Spot)) → ((k : ℕ) (x : Node Spot) → slice_get xs k ≡ Some x → slice_get (spaces_of units) (n + k) ≡ Some x) → Numbered (SaidIs (said_of units)) n xs
+said_from : (units : List (FileUnit Spot)) (n : ℕ) (xs : List (Node Spot)) → ((k : ℕ) (x : Node Spot) → slice_get xs k ≡ Some x → slice_get (spaces_of units) (n + k) ≡ Some x)
+    → Numbered (SaidIs (said_of units)) n xs
 said_from units n [] h = tt
 said_from units n (x ∷ xs) h =
     let none : n + 0 ≡ n = omega arith in (

@@ -1,7 +1,7 @@
 -- Rows of spaces lead from each top out to the spaces that it stands in.
 use Rattle.std.proofs.Common.{◌≡◌, ℕ, ℤ, zero, suc, ◌+◌, true, false, List, [], ◌∷◌, ◌++◌, length, map, drop, Option, Some, None, slice_get, refl, sym, ap, subst, ◌∙◌, arith}
 use Rattle.std.specs.Option.{is_some}
-use Rattle.std.proofs.lemmas.List.{append_assoc, drop_all, drop_at}
+use Rattle.std.proofs.lemmas.List.{append_assoc, drop_at}
 use Rattle.dwz_docs.specs.Trees.{End, Entry, size}
 use Rattle.dwz_meanings.specs.Documents.{Entries, Node, entries_map, node_map}
 use Rattle.dwz_seen.specs.Spaces.{space_text, tops_under}
@@ -11,6 +11,7 @@ use Rattle.dwz_index.specs.declared.index.SpaceEntry.{SpaceEntry}
 use Rattle.dwz_index.specs.declared.index.TopEntry.{TopEntry}
 use Rattle.dwz_index.specs.Steps.{is_space, space_entry, spaces_among, spaces_by, top_entry, tops_among}
 use Rattle.dwz_index.proofs.AmongLemmas.{spaces_many, spaces_space, spaces_top, tops_space, tops_top}
+use Rattle.dwz_index.proofs.ListLemmas.{drop_more}
 use Rattle.dwz_layout.specs.declared.partial.SpaceRow.{SpaceRow}
 use Rattle.dwz_layout.specs.Chains.{Up, down}
 use Rattle.dwz_order.specs.Lists.{row_from, rows_from}
@@ -64,19 +65,15 @@ from_first [] (suc i) x rest e = absurd cc
 from_first (y ∷ xs) zero x rest e = (let same : y ≡ x = cc in ap Some same, cc)
 from_first (y ∷ xs) (suc i) x rest e = from_first xs i x rest e
 
-pub from_more : {X : Type 0} (xs : List X) (i j : ℕ) → drop (i + j) xs ≡ drop j (drop i xs)
-from_more xs zero j = (let e : 0 + j ≡ j = omega arith in ap (λ (n : ℕ). drop n xs) e)
-from_more [] (suc i) j = drop_all (suc i + j) [] (omega arith) ∙ sym (drop_all j [] (omega arith))
-from_more (x ∷ xs) (suc i) j = (let e : suc i + j ≡ suc (i + j) = omega arith in ap (λ (n : ℕ). drop n (x ∷ xs)) e ∙ from_more xs i j)
-
 -- ---- what leads to spaces
 
 pub rows_parted : (rows : List SpaceRow) (k n : ℕ) (xs ys : List SpaceEntry) → length xs ≡ n → RowsFrom rows k (xs ++ ys) → RowsFrom rows k xs × RowsFrom rows (k + n) ys
 rows_parted rows k n xs ys long h =
     let part : drop k rows ≡ rows_from k xs ++ (rows_from (k + n) ys ++ h.after) =
-    h.rest ∙ ap (λ (w : List SpaceRow). w ++ h.after) (rows_append k xs ys ∙ ap (λ (j : ℕ). rows_from k xs ++ rows_from (k + j) ys) long) ∙ append_assoc (rows_from k xs) (rows_from (k + n) ys) h.after in (
+    h.rest ∙ ap (λ (w : List SpaceRow). w ++ h.after) (rows_append k xs ys ∙ ap (λ (j : ℕ). rows_from k xs ++ rows_from (k + j) ys) long) ∙ append_assoc (rows_from k xs) (rows_from (k + n) ys)
+    h.after in (
       record { after = rows_from (k + n) ys ++ h.after; rest = part },
-      record { after = h.after; rest = from_more rows k n ∙ ap (drop n) part ∙ drop_at (rows_from k xs) (rows_from (k + n) ys ++ h.after) n (rows_long k xs ∙ long) },
+      record { after = h.after; rest = drop_more rows k n ∙ ap (drop n) part ∙ drop_at (rows_from k xs) (rows_from (k + n) ys ++ h.after) n (rows_long k xs ∙ long) },
     )
 
 -- how many spaces there are, with names or with places
@@ -88,12 +85,14 @@ map_push said [] k = refl
 map_push said (u ∷ ups) k = ap (λ (w : List SpaceName). said u ∷ w) (map_push said ups k)
 
 module _ (rows : List SpaceRow) (said : ℕ → SpaceName) (file unit : ℕ) (tongue : Option ℤ) (name : ℕ → Spot) where
-  pub chain : (g : Entries ℕ) (spaces : List SpaceName) (ups : List ℕ) (inner n k at : ℕ) → Up rows inner ups → spaces ≡ map said (down ups) → RowsFrom rows k (spaces_among is_space inner k at g) → Numbered (SaidIs said) k (spaces_under (entries_map name g))
+  pub chain : (g : Entries ℕ) (spaces : List SpaceName) (ups : List ℕ) (inner n k at : ℕ) → Up rows inner ups → spaces ≡ map said (down ups) → RowsFrom rows k (spaces_among is_space inner k at g)
+      → Numbered (SaidIs said) k (spaces_under (entries_map name g))
       → Pairs (LeadsUp rows said) (tops_among is_space unit inner k at g) (row_tops (row_in file unit tongue spaces n (entries_map name g)))
   unfolding entries_map row_in row_tops tops_among rows_from down
   chain End spaces ups inner n k at up is from under = tt
   chain (Entry d c x) spaces ups inner n k at up is from under =
-      by (λ n' k' at' from' under'. chain x spaces ups inner n' k' at' up is from' under') (λ sp us up' is' from' under'. chain c sp us (suc k) n (suc k) (at + 1) up' is' from' under') (space_text d) refl
+      by (λ n' k' at' from' under'. chain x spaces ups inner n' k' at' up is from' under') (λ sp us up' is' from' under'. chain c sp us (suc k) n (suc k) (at + 1) up' is' from' under') (space_text d)
+      refl
     where
       d' : Node Spot
       d' = node_map name d
@@ -104,15 +103,18 @@ module _ (rows : List SpaceRow) (said : ℕ → SpaceName) (file unit : ℕ) (to
       x' : Entries Spot
       x' = entries_map name x
 
-      by : ((n' k' at' : ℕ) → RowsFrom rows k' (spaces_among is_space inner k' at' x) → Numbered (SaidIs said) k' (spaces_under x') → Pairs (LeadsUp rows said) (tops_among is_space unit inner k' at' x) (row_tops (row_in file unit tongue spaces n' x')))
-          → ((sp : List SpaceName) (us : List ℕ) → Up rows (suc k) us → sp ≡ map said (down us) → RowsFrom rows (suc k) (spaces_among is_space (suc k) (suc k) (at + 1) c) → Numbered (SaidIs said) (suc k) (spaces_under c')
+      by : ((n' k' at' : ℕ) → RowsFrom rows k' (spaces_among is_space inner k' at' x) → Numbered (SaidIs said) k' (spaces_under x')
+          → Pairs (LeadsUp rows said) (tops_among is_space unit inner k' at' x) (row_tops (row_in file unit tongue spaces n' x')))
+          → ((sp : List SpaceName) (us : List ℕ) → Up rows (suc k) us → sp ≡ map said (down us) → RowsFrom rows (suc k) (spaces_among is_space (suc k) (suc k) (at + 1) c)
+          → Numbered (SaidIs said) (suc k) (spaces_under c')
           → Pairs (LeadsUp rows said) (tops_among is_space unit (suc k) (suc k) (at + 1) c) (row_tops (row_in file unit tongue sp n c')))
           → (o : Option (List ℕ)) → space_text d ≡ o
           → Pairs (LeadsUp rows said) (tops_among is_space unit inner k at (Entry d c x)) (row_tops (row_in file unit tongue spaces n (Entry d' c' x')))
       by on_next on_inner None e =
           let plain : is_space d ≡ false = ap (λ (o : Option (List ℕ)). is_some o) e in
           let named : space_text d' ≡ None = text_map name d ∙ e in
-          let rest = on_next (suc n) k (at + 1 + size c) (subst (RowsFrom rows k) (spaces_top is_space d c x inner k at plain) from) (subst (Numbered (SaidIs said) k) (under_top d' c' x' named) under) in
+          let rest = on_next (suc n) k (at + 1 + size c) (subst (RowsFrom rows k) (spaces_top is_space d c x inner k at plain) from)
+          (subst (Numbered (SaidIs said) k) (under_top d' c' x' named) under) in
           let tops = tops_top is_space d c x unit inner k at plain in
           let row = row_top file unit tongue spaces n d' c' x' named in
           subst (λ (w : List TopEntry). Pairs (LeadsUp rows said) w (row_tops (row_in file unit tongue spaces n (Entry d' c' x')))) (sym tops)
@@ -139,6 +141,7 @@ module _ (rows : List SpaceRow) (said : ℕ → SpaceName) (file unit : ℕ) (to
           let tops = tops_space is_space d c x unit inner k at space in
           let row = row_space file unit tongue spaces n d' c' x' text named in
           subst (λ (w : List TopEntry). Pairs (LeadsUp rows said) w (row_tops (row_in file unit tongue spaces n (Entry d' c' x')))) (sym tops)
-          (subst (λ (r : Row). Pairs (LeadsUp rows said) (tops_among is_space unit (suc k) (suc k) (at + 1) c ++ tops_among is_space unit inner (suc k + spaces_by is_space c) (at + 1 + size c) x) (row_tops r)) (sym row)
+          (subst (λ (r : Row). Pairs (LeadsUp rows said) (tops_among is_space unit (suc k) (suc k) (at + 1) c ++ tops_among is_space unit inner (suc k + spaces_by is_space c) (at + 1 + size c) x)
+          (row_tops r)) (sym row)
           (pairs_append (LeadsUp rows said) (tops_among is_space unit (suc k) (suc k) (at + 1) c) (tops_among is_space unit inner (suc k + spaces_by is_space c) (at + 1 + size c) x)
           (row_tops (row_in file unit tongue (spaces ++ name_of text d' ∷ []) n c')) (row_tops (row_in file unit tongue spaces (n + tops_under c') x')) a b))

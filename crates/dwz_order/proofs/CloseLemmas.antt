@@ -4,7 +4,8 @@ use Rattle.std.proofs.lemmas.List.{get_or_at, length-append, set_at}
 use Rattle.dwz_layout.specs.declared.order.Outer.{Outer}
 use Rattle.dwz_order.specs.Outline.{closed}
 
-pub shut : (items before inner : List Outer) (x read : Outer) (at : ℕ) (pinned : Bool) (len : ℕ) (any : Bool) → items ≡ before ++ x ∷ inner → at ≡ length before → read ≡ get_or items at read → len ≡ length items → any ≡ (read.pinned || pinned)
+pub shut : (items before inner : List Outer) (x read : Outer) (at : ℕ) (pinned : Bool) (len : ℕ) (any : Bool) → items ≡ before ++ x ∷ inner → at ≡ length before → read ≡ get_or items at read
+    → len ≡ length items → any ≡ (read.pinned || pinned)
     → slice_set items at (record { what = read.what; inside = len - at - 1; stays = read.stays; pinned = any }) ≡ before ++ closed x (length inner) pinned ∷ inner
 shut items before inner x read at pinned len any is place found long either =
     let same : read ≡ x = found ∙ (λ i. get_or (is i) at read) ∙ get_or_at before x inner read at (sym place) in

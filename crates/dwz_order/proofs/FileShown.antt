@@ -2,16 +2,17 @@
 use Rattle.std.proofs.Common.{◌≡◌, ℕ, suc, ◌+◌, ◌<◌, true, List, [], ◌∷◌, ◌++◌, length, drop, Some, slice_get, refl, sym, ap, subst, ◌∙◌, arith}
 use Rattle.std.proofs.lemmas.List.{append_assoc, drop_at, length-append}
 use Rattle.dwz_docs.specs.Units.{CompileUnit, PartialUnit, RawKind, RawUnit, TypeUnit, entries_in, entry_count}
+use Rattle.dwz_docs.proofs.ListFacts.{drop_first}
 use Rattle.dwz_meanings.specs.Documents.{Compile, DwUnit, Entries, Kind, Node, OfType, Partial, entries_map, kind_map, unit_map}
 use Rattle.dwz_meanings.specs.Meanings.{Around, MeanUnits, MeansKind, MeansUnit, places_of, scope_of}
-use Rattle.dwz_seen.specs.Lists.{Each}
+use Rattle.dwz_docs.specs.Lists.{Each}
 use Rattle.dwz_seen.proofs.Members.{in_has}
 use Rattle.dwz_seen.specs.Seen.{IsPartial}
 use Rattle.dwz_alike.specs.Spots.{FileUnit, RootOf, Spot, in_file, top_count}
 use Rattle.dwz_index.specs.Names.{names_from}
 use Rattle.dwz_index.specs.Spaces.{stored_space}
 use Rattle.dwz_index.specs.Steps.{is_space}
-use Rattle.dwz_index.proofs.ListLemmas.{drop_first, drop_more}
+use Rattle.dwz_index.proofs.ListLemmas.{drop_more}
 use Rattle.dwz_index.proofs.ListMeans.{means_size}
 use Rattle.dwz_index.proofs.ShowLemmas.{unit_many, unit_names}
 use Rattle.dwz_layout.specs.Order.{Names, ShowsUnit}
@@ -45,7 +46,7 @@ EachKept e m all i _ _ = ⊥
 
 -- ---- the next top and the next space
 
-next_behind : (around : Around ℕ) (name : ℕ → Spot) (before : List (FileUnit Spot)) (file : ℕ) (u : RawUnit) (v : DwUnit ℕ) (next : Next) → MeansUnit around u v → IsNext before next
+pub next_behind : (around : Around ℕ) (name : ℕ → Spot) (before : List (FileUnit Spot)) (file : ℕ) (u : RawUnit) (v : DwUnit ℕ) (next : Next) → MeansUnit around u v → IsNext before next
     → IsNext (before ++ in_file file (unit_map name v) ∷ []) (behind_unit u next)
 unfolding tops_in spaces_of
 next_behind around name before file u v next means is = by u.kind v.kind means.kind where
@@ -93,7 +94,8 @@ next_behind around name before file u v next means is = by u.kind v.kind means.k
 
 -- ---- sorts
 
-names_next : (around : Around ℕ) (e : Entered) (file start : ℕ) (name : ℕ → Spot) (all : List RawUnit) (first unit top : ℕ) (u : RawUnit) (v : DwUnit ℕ) (said : List (DwUnit ℕ)) → MeansUnit around u v → IsWholeUnit v
+names_next : (around : Around ℕ) (e : Entered) (file start : ℕ) (name : ℕ → Spot) (all : List RawUnit) (first unit top : ℕ) (u : RawUnit) (v : DwUnit ℕ) (said : List (DwUnit ℕ)) → MeansUnit around u v
+    → IsWholeUnit v
     → NamesFile e file start name all first unit top (v ∷ said)
     → (slice_get (e.names file) first ≡ Some (RootOf unit)) × NamesFile e file start name all (first + entry_count u) (suc unit) (top + top_count v.kind v.below) said
 unfolding names_from
@@ -121,9 +123,11 @@ kind_back name Partial e = absurd cc
 
 module _ (around : Around ℕ) (plain : (p : ℕ) → around.place p ≡ p) (e : Entered) (m : Move) (raw : List RawUnit) (name : ℕ → Spot) (file start : ℕ) where
   sort_shown : (first i : ℕ) (u : RawUnit) (v : DwUnit ℕ) (sort : Sort) → MeansUnit around u v → IsWholeUnit v → slice_get (e.names file) first ≡ Some (RootOf i) → e.start file ≡ start
-      → ((entry : ℕ) → entry < entries_in raw → IsNamed e file entry (name (place_at raw entry))) → SortOf raw file start first u sort → ShowsSort e m i sort (kind_map (image_in m) (kind_map name v.kind))
+      → ((entry : ℕ) → entry < entries_in raw → IsNamed e file entry (name (place_at raw entry))) → SortOf raw file start first u sort
+      → ShowsSort e m i sort (kind_map (image_in m) (kind_map name v.kind))
   sort_shown first i u v sort means whole root from each is = by u.kind v.kind means.kind is whole where
-    by : (k : RawKind) (kind : Kind ℕ) → MeansKind (scope_of around u) k kind → SortBy raw file start first u k sort → (IsPartial kind → ⊥) → ShowsSort e m i sort (kind_map (image_in m) (kind_map name kind))
+    by : (k : RawKind) (kind : Kind ℕ) → MeansKind (scope_of around u) k kind → SortBy raw file start first u k sort → (IsPartial kind → ⊥)
+        → ShowsSort e m i sort (kind_map (image_in m) (kind_map name kind))
     by CompileUnit kind means is whole =
         subst (λ (k : Kind ℕ). ShowsSort e m i sort (kind_map (image_in m) (kind_map name k))) (sym means) (subst (λ (w : Sort). ShowsSort e m i w Compile) (sym is) root)
     by (TypeUnit signature type_offset) kind means is whole =
@@ -141,9 +145,11 @@ module _ (around : Around ℕ) (plain : (p : ℕ) → around.place p ≡ p) (e :
 
 -- ---- unit by unit
 
-module _ (around : Around ℕ) (plain : (p : ℕ) → around.place p ≡ p) (e : Entered) (m : Move) (raw : List RawUnit) (name : ℕ → Spot) (file : ℕ) (units : List (FileUnit Spot)) (marks : Marks) (known : MarksAll m units marks)
+module _ (around : Around ℕ) (plain : (p : ℕ) → around.place p ≡ p) (e : Entered) (m : Move) (raw : List RawUnit) (name : ℕ → Spot) (file : ℕ) (units : List (FileUnit Spot)) (marks : Marks)
+    (known : MarksAll m units marks)
     (moves : changes m units file ≡ true) (parts : ℕ → List ℕ) (imported : (i : ℕ) → i < length units → imports i 0 m.parts ≡ import_row i (parts i)) where
-  kept_one : (from : From) (next : Next) (before after : List (FileUnit Spot)) (u : RawUnit) (v : DwUnit ℕ) (o : UnitItems) → from.unit ≡ length before → units ≡ before ++ in_file file (unit_map name v) ∷ after
+  kept_one : (from : From) (next : Next) (before after : List (FileUnit Spot)) (u : RawUnit) (v : DwUnit ℕ) (o : UnitItems) → from.unit ≡ length before
+      → units ≡ before ++ in_file file (unit_map name v) ∷ after
       → IsNext before next → MeansUnit around u v → UnitKept raw marks parts from next u o → (n : Names Spot) → NamesAll (image_in m) units n → NamesKept m (length before) (unit_map name v) n
       → ShowsUnit n o.items (kept_unit m units (length before) (in_file file (unit_map name v)))
   kept_one from next before after u v o number is next_is means kept n names mine = by u.kind means.kind kept.items where
@@ -169,13 +175,16 @@ module _ (around : Around ℕ) (plain : (p : ℕ) → around.place p ≡ p) (e :
 
     by : (k : RawKind) → MeansKind (scope_of around u) k v.kind → IsKept marks k u.below next (parts from.unit) [] o.items → ShowsUnit n o.items (kept_unit m units (length before) f)
     by CompileUnit kind items =
-        let all : Wanted (before ++ f ∷ after) = λ known names moves. compile_shown m before f after marks n next u.below (parts from.unit) o.items next_is agree (ap (kind_map name) kind) moves same items known names mine in
+        let all : Wanted (before ++ f ∷ after) = λ known names moves. compile_shown m before f after marks n next u.below (parts from.unit) o.items next_is agree (ap (kind_map name) kind) moves same
+        items known names mine in
         subst Wanted (sym is) all known names moves
     by (TypeUnit signature type_offset) kind items = not_compile (TypeUnit signature type_offset) (λ c. cc) (λ c. (let e = sym c ∙ kind.1 in cc)) items
     by PartialUnit kind items = not_compile PartialUnit (λ c. cc) (λ c. (let e = sym c ∙ kind in cc)) items
 
-  pub each_kept : (from : From) (next : Next) (start top : ℕ) (before after : List (FileUnit Spot)) (us : List RawUnit) (said : List (DwUnit ℕ)) (order : List UnitItems) → from.file ≡ file → from.start ≡ start → from.unit ≡ length before
-      → units ≡ before ++ (named_units file name said ++ after) → IsNext before next → MeanUnits around us said → Each IsWholeUnit said → NamesFile e file start name raw from.first (length before) top said
+  pub each_kept : (from : From) (next : Next) (start top : ℕ) (before after : List (FileUnit Spot)) (us : List RawUnit) (said : List (DwUnit ℕ)) (order : List UnitItems) → from.file ≡ file
+      → from.start ≡ start → from.unit ≡ length before
+      → units ≡ before ++ (named_units file name said ++ after) → IsNext before next → MeanUnits around us said → Each IsWholeUnit said
+      → NamesFile e file start name raw from.first (length before) top said
       → AreKept raw marks parts from next us order → EachKept e m units (length before) (named_units file name said) order
   each_kept from next start top before after [] [] [] own begin number is next_is means whole named kept = tt
   each_kept from next start top before after [] [] (o ∷ order) own begin number is next_is means whole named kept = absurd kept
@@ -190,7 +199,8 @@ module _ (around : Around ℕ) (plain : (p : ℕ) → around.place p ≡ p) (e :
       let sort : SortOf raw file start from.first u o.sort =
       subst (λ (k : ℕ). SortOf raw k start from.first u o.sort) own (subst (λ (k : ℕ). SortOf raw from.file k from.first u o.sort) begin kept.0.sort) in
       let rest = each_kept (behind_from from u) (behind_unit u next) start (top + top_count v.kind v.below) (before ++ f ∷ []) after us said order own begin (ap suc number ∙ sym long) parted
-      (next_behind around name before file u v next means.0 next_is) means.1 whole.1 (subst (λ (k : ℕ). NamesFile e file start name raw (from.first + entry_count u) k (top + top_count v.kind v.below) said) (sym long) n.1) kept.1 in (
+      (next_behind around name before file u v next means.0 next_is) means.1 whole.1
+      (subst (λ (k : ℕ). NamesFile e file start name raw (from.first + entry_count u) k (top + top_count v.kind v.below) said) (sym long) n.1) kept.1 in (
         record {
           lines = kept_one from next before (named_units file name said ++ after) u v o number is next_is means.0 kept.0;
           sort = sort_shown around plain e m raw name file start from.first (length before) u v o.sort means.0 whole.0 n.0 named.begins named.each sort;

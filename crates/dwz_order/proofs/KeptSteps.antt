@@ -2,9 +2,9 @@
 use Rattle.std.proofs.Common.{◌≡◌, ℕ, zero, suc, ◌+◌, ◌<◌, ◌≤◌, List, [], ◌∷◌, ◌++◌, length, drop, Some, slice_get, refl, sym, ap, subst, ◌∙◌, arith}
 use Rattle.std.proofs.lemmas.List.{append-nil, append_assoc, drop_all}
 use Rattle.dwz_docs.specs.Units.{CompileUnit, PartialUnit, RawKind, RawUnit, TypeUnit, entries_in, entry_count}
+use Rattle.dwz_docs.proofs.ListFacts.{drop_here}
 use Rattle.dwz_index.specs.Spaces.{stored_space}
 use Rattle.dwz_places.specs.declared.order.UnitItems.{UnitItems}
-use Rattle.dwz_resolve.proofs.RowLemmas.{drop_here}
 use Rattle.dwz_resolve.proofs.UnitThere.{unit_there}
 use Rattle.dwz_unit.specs.declared.rows.RawUnit.{RawUnit as UnitOfCode}
 use Rattle.dwz_unit.specs.Rows.{shown_from, shown_units, unit_shown}
@@ -41,14 +41,16 @@ module _ (raw : List RawUnit) (m : Marks) (imports : ℕ → List ℕ) (from : F
       }
 
   module _ (n : ℕ) (next : Next) (new : List UnitItems) (g : Going raw m imports from begin old n next new) where
-    pub next_first : (x : UnitOfCode) → slice_get (shown_units raw) n ≡ Some x → (u : RawUnit) × (slice_get raw n ≡ Some u) × (x.first ≡ g.first) × (drop (n + 1) (shown_units raw) ≡ shown_from (drop (n + 1) raw) (g.first + entry_count u))
+    pub next_first : (x : UnitOfCode) → slice_get (shown_units raw) n ≡ Some x → (u : RawUnit) × (slice_get raw n ≡ Some u) × (x.first ≡ g.first)
+        × (drop (n + 1) (shown_units raw) ≡ shown_from (drop (n + 1) raw) (g.first + entry_count u))
     unfolding shown_from
     next_first x shown =
         let t = unit_there raw n x shown in
         let first = g.first in
         let here = drop_here raw n t.u t.is_unit in
         let there = drop_here (shown_units raw) n x shown in
-        let both : x ∷ drop (n + 1) (shown_units raw) ≡ unit_shown first t.u ∷ shown_from (drop (n + 1) raw) (first + entry_count t.u) = sym there ∙ g.shown ∙ ap (λ (w : List RawUnit). shown_from w first) here in
+        let both : x ∷ drop (n + 1) (shown_units raw) ≡ unit_shown first t.u ∷ shown_from (drop (n + 1) raw) (first + entry_count t.u) = sym there ∙ g.shown
+        ∙ ap (λ (w : List RawUnit). shown_from w first) here in
         let one : x ≡ unit_shown first t.u = cc in
         (t.u, t.is_unit, ap (λ (w : UnitOfCode). w.first) one, cc)
 
@@ -66,7 +68,8 @@ module _ (raw : List RawUnit) (m : Marks) (imports : ℕ → List ℕ) (from : F
       by (TypeUnit signature type_offset) = (let tops = g.room.tops in let spaces = g.room.spaces in record { tops = omega arith; spaces = omega arith })
       by PartialUnit = (let tops = g.room.tops in let spaces = g.room.spaces in record { tops = omega arith; spaces = omega arith })
 
-    pub going_on : (x : UnitOfCode) (after : Next) (put : List UnitItems) (o : UnitItems) → slice_get (shown_units raw) n ≡ Some x → ((u : RawUnit) → slice_get raw n ≡ Some u → after ≡ behind_unit u next)
+    pub going_on : (x : UnitOfCode) (after : Next) (put : List UnitItems) (o : UnitItems) → slice_get (shown_units raw) n ≡ Some x
+        → ((u : RawUnit) → slice_get raw n ≡ Some u → after ≡ behind_unit u next)
         → ((u : RawUnit) → slice_get raw n ≡ Some u → UnitKept raw m imports (from_at from n x.first) next u o) → put ≡ new ++ o ∷ [] → Going raw m imports from begin old (n + 1) after put
     going_on x after put o shown behind kept put_is =
         let r = next_first x shown in
@@ -75,7 +78,8 @@ module _ (raw : List RawUnit) (m : Marks) (imports : ℕ → List ℕ) (from : F
         let after_is = behind u r.1 in
         let here = drop_here raw n u r.1 in
         let one : suc (from.unit + n) ≡ from.unit + (n + 1) = omega arith in
-        let next_from : behind_from (from_at from n first) u ≡ from_at from (n + 1) (first + entry_count u) = (λ i. record { file = from.file; start = from.start; unit = one i; first = first + entry_count u }) in
+        let next_from : behind_from (from_at from n first) u ≡ from_at from (n + 1) (first + entry_count u) =
+        (λ i. record { file = from.file; start = from.start; unit = one i; first = first + entry_count u }) in
         let mine : UnitKept raw m imports (from_at from n first) next u o = subst (λ (k : ℕ). UnitKept raw m imports (from_at from n k) next u o) r.2 (kept u r.1) in
         record {
           first = first + entry_count u;
@@ -85,9 +89,11 @@ module _ (raw : List RawUnit) (m : Marks) (imports : ℕ → List ℕ) (from : F
           room = subst (λ (w : Next). HasRoom w (first + entry_count u) (entries_in raw)) (sym after_is) (room_behind u);
           all = λ rest h. (
               let rest_kept : AreKept raw m imports (behind_from (from_at from n first) u) (behind_unit u next) (drop (n + 1) raw) rest =
-              subst (λ (f : From). AreKept raw m imports f (behind_unit u next) (drop (n + 1) raw) rest) (sym next_from) (subst (λ (w : Next). AreKept raw m imports (from_at from (n + 1) (first + entry_count u)) w (drop (n + 1) raw) rest) after_is h) in
+              subst (λ (f : From). AreKept raw m imports f (behind_unit u next) (drop (n + 1) raw) rest) (sym next_from)
+              (subst (λ (w : Next). AreKept raw m imports (from_at from (n + 1) (first + entry_count u)) w (drop (n + 1) raw) rest) after_is h) in
               let both : AreKept raw m imports (from_at from n first) next (u ∷ drop (n + 1) raw) (o ∷ rest) = (mine, rest_kept) in
-              subst (AreKept raw m imports from begin raw) (sym (append_assoc g.more (o ∷ []) rest)) (g.all (o ∷ rest) (subst (λ (w : List RawUnit). AreKept raw m imports (from_at from n first) next w (o ∷ rest)) (sym here) both))
+              subst (AreKept raw m imports from begin raw) (sym (append_assoc g.more (o ∷ []) rest))
+              (g.all (o ∷ rest) (subst (λ (w : List RawUnit). AreKept raw m imports (from_at from n first) next w (o ∷ rest)) (sym here) both))
               );
         }
 

@@ -17,3 +17,4 @@ pub mod PairLemmas
 pub mod UnitKinds
 pub mod KeptSteps
 pub mod AllShown
+pub mod SpaceNumbers

@@ -1,5 +1,6 @@
 -- Name lists get their numbers one after the other: each new list the next one.
-use Rattle.std.proofs.Common.{◌≡◌, ◌⊎◌, ℕ, zero, suc, ◌+◌, ◌*◌, ◌^◌, ◌<◌, ◌≤◌, List, [], ◌∷◌, ◌++◌, length, get_or, Option, Some, None, slice_get, slice_index, inl, inr, refl, sym, ap, subst, ◌∙◌, arith}
+use Rattle.std.proofs.Common.{◌≡◌, ◌⊎◌, ℕ, zero, suc, ◌+◌, ◌*◌, ◌^◌, ◌<◌, ◌≤◌, List, [], ◌∷◌, ◌++◌, length, get_or, Option, Some, None, slice_get, slice_index, inl, inr, refl, sym, ap, subst, ◌∙◌}
+use Rattle.std.proofs.Common.{arith}
 use Rattle.std.proofs.lemmas.Bool.Decides.{eqb_tells}
 use Rattle.std.proofs.lemmas.List.{get_or_append_left, get_or_push, length-append}
 use Rattle.std.specs.Ordering.{nat_cmp}
@@ -60,7 +61,8 @@ none_numbered rows texts seen none = record {
   apart = λ i j lt. absurd (omega arith);
 }
 
-module _ (rows : List SpaceRow) (texts : List ℕ) (rising : IsRising rows) (n : ℕ) (within : n < length rows) (lists : List ℕ) (seen after : Numbers) (key number : ℕ) (h : Numbering rows texts n lists seen)
+module _ (rows : List SpaceRow) (texts : List ℕ) (rising : IsRising rows) (n : ℕ) (within : n < length rows) (lists : List ℕ) (seen after : Numbers) (key number : ℕ)
+    (h : Numbering rows texts n lists seen)
     (is_key : key ≡ key_at rows texts lists n) (put : IsNumberUnder seen after key (n + 1) number) where
   abbrev pub more : List ℕ
   more = lists ++ number ∷ []
@@ -117,11 +119,16 @@ module _ (rows : List SpaceRow) (texts : List ℕ) (rising : IsRising rows) (n :
             | inl q ↦ ap (get nat_cmp after) q.1 ∙ put.under ∙ ap Some (met j p q.1 ∙ sym (old_at j p))
             | inr q ↦ put.others (key_at rows texts lists j) q.1 ∙ h.under j p ∙ ap Some (sym (old_at j p))
           ]
-      | inr e ↦ ap (λ (k : ℕ). get nat_cmp after (key_at rows texts more k)) e ∙ ap (get nat_cmp after) (same_key n (omega arith) ∙ sym is_key) ∙ put.under ∙ ap Some (sym new_at ∙ ap (slice_index more) (sym e))
+      | inr e ↦ ap (λ (k : ℕ). get nat_cmp after (key_at rows texts more k)) e ∙ ap (get nat_cmp after) (same_key n (omega arith) ∙ sym is_key) ∙ put.under
+          ∙ ap Some (sym new_at ∙ ap (slice_index more) (sym e))
     ];
     back = λ k m e. elim (eqb_tells k key) [
-      | inl q ↦
-          (n, omega arith, same_key n (omega arith) ∙ sym is_key ∙ sym q.1, (let f : Some number ≡ Some m = sym put.under ∙ ap (get nat_cmp after) (sym q.1) ∙ e in let same : number ≡ m = cc in new_at ∙ same))
+      | inl q ↦ (
+        n,
+        omega arith,
+        same_key n (omega arith) ∙ sym is_key ∙ sym q.1,
+        (let f : Some number ≡ Some m = sym put.under ∙ ap (get nat_cmp after) (sym q.1) ∙ e in let same : number ≡ m = cc in new_at ∙ same),
+      )
       | inr q ↦ (let b = h.back k m (sym (put.others k q.1) ∙ e) in let lt = b.1 in (b.0, omega arith, same_key b.0 (omega arith) ∙ b.2, old_at b.0 b.1 ∙ b.3))
     ];
     apart = λ i j li lj e. elim (one_more i n li) [

@@ -17,7 +17,8 @@ pinned_there [] n row lt e = absurd (omega arith)
 pinned_there (x ∷ rows) zero row lt e = ap (λ (w : TopRow). w.pinned) e
 pinned_there (x ∷ rows) (suc n) row lt e = pinned_there rows n row (omega arith) e
 
-pub marks_more : (rows : List TopRow) (homes : List Home) (n : ℕ) (marks new : List TopMark) (x : TopMark) → AreMarks rows homes n marks → new ≡ marks ++ x ∷ [] → x ≡ mark_of rows homes n → AreMarks rows homes (n + 1) new
+pub marks_more : (rows : List TopRow) (homes : List Home) (n : ℕ) (marks new : List TopMark) (x : TopMark) → AreMarks rows homes n marks → new ≡ marks ++ x ∷ [] → x ≡ mark_of rows homes n
+    → AreMarks rows homes (n + 1) new
 marks_more rows homes n marks new x h put is = record {
   len = (let long = ap (λ (w : List TopMark). length w) put in let one = length-append marks (x ∷ []) in let len = h.len in omega arith);
   each = λ k lt. elim (eqb_tells k n) [

@@ -92,7 +92,8 @@ module _ (rows : List SpaceRow) (said : ℕ → SpaceName) (texts lists : List �
   tests_same false true f g = g refl
   tests_same false false f g = refl
 
-  pub names_numbered : (t u : Top) (ups vps : List ℕ) (i j : ℕ) → Up rows i ups → Up rows j vps → t.spaces ≡ map said (down ups) → u.spaces ≡ map said (down vps) → same_names t u ≡ (list_above lists i == list_above lists j)
+  pub names_numbered : (t u : Top) (ups vps : List ℕ) (i j : ℕ) → Up rows i ups → Up rows j vps → t.spaces ≡ map said (down ups) → u.spaces ≡ map said (down vps)
+      → same_names t u ≡ (list_above lists i == list_above lists j)
   names_numbered t u ups vps i j a b x y =
       let same = lists_same ups vps i j a b in
       let mine : name_list t ≡ texts_down said ups = ap (λ (w : List SpaceName). map text_of w) x in

@@ -74,7 +74,8 @@ module _ {E : Type 0} (test : E → Bool) where
   few End = omega arith
   few (Entry e c x) = by (test e) (few c) (few x) where
     by : (b : Bool) → tops_by test c + spaces_by test c ≤ size c → tops_by test x + spaces_by test x ≤ size x
-        → (elim b as (λ _. ℕ) [ false ↦ suc (tops_by test x) | true ↦ tops_by test c + tops_by test x ]) + (elim b as (λ _. ℕ) [ false ↦ spaces_by test x | true ↦ suc (spaces_by test c + spaces_by test x) ])
+        → (elim b as (λ _. ℕ) [ false ↦ suc (tops_by test x) | true ↦ tops_by test c + tops_by test x ])
+        + (elim b as (λ _. ℕ) [ false ↦ spaces_by test x | true ↦ suc (spaces_by test c + spaces_by test x) ])
         ≤ size c + size x + 1
     by false p q = omega arith
     by true p q = omega arith
@@ -89,11 +90,13 @@ module _ {E : Type 0} (test : E → Bool) where
     others : List Outer
     others = outers_in test m (behind_list test c (behind_space n)) x
 
-    by : (b : Bool) → length (outers_in test m (behind_top n) x) ≡ tops_by test x + spaces_by test x → length inner ≡ tops_by test c + spaces_by test c → length others ≡ tops_by test x + spaces_by test x
+    by : (b : Bool) → length (outers_in test m (behind_top n) x) ≡ tops_by test x + spaces_by test x → length inner ≡ tops_by test c + spaces_by test c
+        → length others ≡ tops_by test x + spaces_by test x
         → length (elim b as (λ _. List Outer) [
           | false ↦ top_outer m n.top ∷ outers_in test m (behind_top n) x
           | true ↦ closed (space_opened m n.space) (length inner) (pinned_in test m (behind_space n) c) ∷ (inner ++ others)
         ])
-        ≡ (elim b as (λ _. ℕ) [ false ↦ suc (tops_by test x) | true ↦ tops_by test c + tops_by test x ]) + (elim b as (λ _. ℕ) [ false ↦ spaces_by test x | true ↦ suc (spaces_by test c + spaces_by test x) ])
+        ≡ (elim b as (λ _. ℕ) [ false ↦ suc (tops_by test x) | true ↦ tops_by test c + tops_by test x ])
+        + (elim b as (λ _. ℕ) [ false ↦ spaces_by test x | true ↦ suc (spaces_by test c + spaces_by test x) ])
     by false p q r = omega (arith, p)
     by true p q r = omega (arith, q, r, length-append inner others)

@@ -54,10 +54,12 @@ module _ (raw : List RawUnit) (first end : ℕ) (m : Marks) (old new : List Oute
     by (Entry d c n) is e b a = absurd (let z = is.ends in omega arith)
 
   -- an entry is no space just where the test says so
-  tested : (x : EntryOfCode) (d : RawEntry) (c n : Forest RawEntry) (b t : Bool) → NextEntry raw entry end x d c n → ((row : EntryRow) → slice_get (rows_of raw) entry ≡ Some row → b ≡ stored_space row.entry) → b ≡ t → stored_space d ≡ t
+  tested : (x : EntryOfCode) (d : RawEntry) (c n : Forest RawEntry) (b t : Bool) → NextEntry raw entry end x d c n
+      → ((row : EntryRow) → slice_get (rows_of raw) entry ≡ Some row → b ≡ stored_space row.entry) → b ≡ t → stored_space d ≡ t
   tested x d c n b t next says is = sym (ap stored_space next.entry) ∙ sym (says next.row next.found) ∙ is
 
-  module _ (x : EntryOfCode) (b : Bool) (lt : entry < end) (shown : slice_get (shown_entries raw) entry ≡ Some x) (says : (row : EntryRow) → slice_get (rows_of raw) entry ≡ Some row → b ≡ stored_space row.entry) where
+  module _ (x : EntryOfCode) (b : Bool) (lt : entry < end) (shown : slice_get (shown_entries raw) entry ≡ Some x) (says : (row : EntryRow) → slice_get (rows_of raw) entry ≡ Some row
+      → b ≡ stored_space row.entry) where
     pub with_top : (put : List Outer) (after : Next) (found any : Bool) → b ≡ false → put ≡ new ++ top_outer m next.top ∷ [] → after ≡ behind_top next
         → found ≡ ((mark_at m.tops.now next.top).stays && (mark_at m.tops.now next.top).pinned) → any ≡ (pinned || found) → Goes raw first end m old put from after any x.end
     with_top put after found any is put_is after_is found_is any_is =
@@ -83,7 +85,8 @@ module _ (raw : List RawUnit) (first end : ℕ) (m : Marks) (old new : List Oute
               record {
                 left = n;
                 is = r.next_are;
-                outers = (λ i. put_is i ++ outers_in stored_space m (after_is i) n) ∙ append_assoc new (top_outer m next.top ∷ []) others ∙ ap (λ (w : List Outer). new ++ w) (sym (outers_top stored_space m d c n next plain)) ∙ e;
+                outers = (λ i. put_is i ++ outers_in stored_space m (after_is i) n) ∙ append_assoc new (top_outer m next.top ∷ []) others
+                    ∙ ap (λ (w : List Outer). new ++ w) (sym (outers_top stored_space m d c n next plain)) ∙ e;
                 behind = ap (behind_list stored_space n) after_is ∙ behind_one_top stored_space d c n next plain ∙ f;
                 any = (λ i. (any_is ∙ ap (λ (w : Bool). pinned || w) found_is) i || pinned_in stored_space m (after_is i) n)
                     ∙ or_assoc pinned _ (pinned_in stored_space m (behind_top next) n)
@@ -111,7 +114,8 @@ module _ (raw : List RawUnit) (first end : ℕ) (m : Marks) (old new : List Oute
         let spaces = g.room.spaces in
         subst (λ (w : Next). HasRoom w (entry + 1) x.end) (sym is) (record { tops = omega arith; spaces = omega arith })
 
-    pub put_long : (opened put : List Outer) (inside : Next) → opened ≡ new ++ space_opened m next.space ∷ [] → ((list : Forest RawEntry) → IsList raw (entry + 1) x.end list → put ≡ opened ++ outers_in stored_space m inside list)
+    pub put_long : (opened put : List Outer) (inside : Next) → opened ≡ new ++ space_opened m next.space ∷ []
+        → ((list : Forest RawEntry) → IsList raw (entry + 1) x.end list → put ≡ opened ++ outers_in stored_space m inside list)
         → (length new < length put) × (length put ≤ length new + (x.end - entry))
     put_long opened put inside open_is put_is =
         let s = some_entry raw entry end g.list lt in
@@ -126,7 +130,8 @@ module _ (raw : List RawUnit) (first end : ℕ) (m : Marks) (old new : List Oute
         let to = n.ends in
         (omega arith, omega arith)
 
-    pub with_space : (opened put shut : List Outer) (inside after : Next) (inner found any : Bool) → b ≡ true → Spaced opened put shut inside after inner found any → Goes raw first end m old shut from after any x.end
+    pub with_space : (opened put shut : List Outer) (inside after : Next) (inner found any : Bool) → b ≡ true → Spaced opened put shut inside after inner found any
+        → Goes raw first end m old shut from after any x.end
     with_space opened put shut inside after inner found any is w =
         let h = next_list raw entry end x g.list lt shown in
         let s = some_entry raw entry end g.list lt in
@@ -176,7 +181,8 @@ module _ (raw : List RawUnit) (first end : ℕ) (m : Marks) (old new : List Oute
               }
 
 -- no more were appended than there are entries
-pub long_enough : (raw : List RawUnit) (first end : ℕ) (m : Marks) (old new : List Outer) (from : Next) → HasList raw first end → ((list : Forest RawEntry) → IsList raw first end list → new ≡ old ++ outers_in stored_space m from list) → length new + first ≤ length old + end
+pub long_enough : (raw : List RawUnit) (first end : ℕ) (m : Marks) (old new : List Outer) (from : Next) → HasList raw first end
+    → ((list : Forest RawEntry) → IsList raw first end list → new ≡ old ++ outers_in stored_space m from list) → length new + first ≤ length old + end
 long_enough raw first end m old new from has put =
     let to = has.is.ends in
     let same = ap (λ (w : List Outer). length w) (put has.list has.is) in

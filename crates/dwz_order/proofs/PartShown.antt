@@ -1,8 +1,7 @@
 -- What is written of a partial unit shows the unit after.
 use Rattle.std.proofs.Common.{◌≡◌, ℕ, zero, suc, ◌+◌, ◌<◌, Bool, true, false, List, [], ◌∷◌, map, ◌==◌, Some, slice_get, slice_index_or, inl, inr, refl, sym, ap, subst, ◌∙◌, arith}
 use Rattle.std.proofs.lemmas.Bool.{eq-eqb, eqb-true}
-use Rattle.dwz_docs.specs.Lists.{In}
-use Rattle.dwz_seen.specs.Lists.{Each}
+use Rattle.dwz_docs.specs.Lists.{Each, In}
 use Rattle.dwz_alike.specs.Spots.{FileUnit, SpaceName, Spot, Top, tops_of}
 use Rattle.dwz_alike.proofs.TopNumbers.{Numbered, tops_numbers}
 use Rattle.dwz_index.specs.declared.index.TopEntry.{TopEntry}
@@ -94,7 +93,8 @@ at_number lists [] k x e = absurd cc
 at_number lists (y ∷ xs) zero x e = (let same : y ≡ x = cc in ap (spaces_at lists) same)
 at_number lists (y ∷ xs) (suc k) x e = at_number lists xs k x e
 
-module _ (units : List (FileUnit Spot)) (rows : List SpaceRow) (texts lists : List ℕ) (xs : List TopEntry) (own : AreOwn rows) (numbers : NumbersTexts rows (said_of units) texts) (are : AreLists rows texts lists)
+module _ (units : List (FileUnit Spot)) (rows : List SpaceRow) (texts lists : List ℕ) (xs : List TopEntry) (own : AreOwn rows) (numbers : NumbersTexts rows (said_of units) texts)
+    (are : AreLists rows texts lists)
     (pairs : Pairs (LeadsUp rows (said_of units)) xs (tops_of units)) where
   abbrev of_tops : List TopSpaces
   of_tops = map (spaces_at lists) xs
@@ -111,7 +111,8 @@ module _ (units : List (FileUnit Spot)) (rows : List SpaceRow) (texts lists : Li
   names_there : (t : Top) (a : AtTop rows (said_of units) 0 xs ups t) → names_at of_tops t.number ≡ list_above lists a.x.inner
   names_there t a = ap (λ (w : TopSpaces). w.names) (kept_at t a)
 
-  pub spaced : (f : Spot → Spot) (n : Names Spot) (tops : List Top) → ((t : Top) → In t tops → In t (tops_of units)) → NamesAll f units n → ShowsSpaced f (said_of units) n (λ t. down (ups t)) (names_at of_tops) tops
+  pub spaced : (f : Spot → Spot) (n : Names Spot) (tops : List Top) → ((t : Top) → In t tops → In t (tops_of units)) → NamesAll f units n
+      → ShowsSpaced f (said_of units) n (λ t. down (ups t)) (names_at of_tops) tops
   spaced f n tops among names = record {
     node = λ t i. (each_at (NamesTop f n) (tops_of units) t names.tops (among t i)).node;
     below = λ t i. (each_at (NamesTop f n) (tops_of units) t names.tops (among t i)).below;
@@ -119,7 +120,8 @@ module _ (units : List (FileUnit Spot)) (rows : List SpaceRow) (texts lists : Li
     root = λ t i. (let a = there t (among t i) in
         root_numbered rows (said_of units) texts lists own numbers are t (ups t.number) a.x.inner a.up a.spaces ∙ ap (λ (k : ℕ). k == 0) (sym (names_there t a)));
     same = λ t u i j. (let a = there t (among t i) in let b = there u (among u j) in
-        names_numbered rows (said_of units) texts lists own numbers are t u (ups t.number) (ups u.number) a.x.inner b.x.inner a.up b.up a.spaces b.spaces ∙ (λ k. sym (names_there t a) k == sym (names_there u b) k));
+        names_numbered rows (said_of units) texts lists own numbers are t u (ups t.number) (ups u.number) a.x.inner b.x.inner a.up b.up a.spaces b.spaces
+        ∙ (λ k. sym (names_there t a) k == sym (names_there u b) k));
   }
 
   number_in : (tops : List Top) (m : ℕ) → In m (map (λ t. t.number) tops) → (t : Top) × In t tops × (t.number ≡ m)
@@ -127,7 +129,8 @@ module _ (units : List (FileUnit Spot)) (rows : List SpaceRow) (texts lists : Li
   number_in (t ∷ tops) m (inl e) = (t, inl refl, e)
   number_in (t ∷ tops) m (inr i) = (let r = number_in tops m i in (r.0, inr r.1, r.2))
 
-  pub part_shown : (m : Move) (k : ℕ) (part : PartialUnit) (items : List Item) → m.rows k ≡ part_row k part → ((t : Top) → In t part.tops → In t (tops_of units)) → IsPart rows of_tops (map (λ t. t.number) part.tops) items
+  pub part_shown : (m : Move) (k : ℕ) (part : PartialUnit) (items : List Item) → m.rows k ≡ part_row k part → ((t : Top) → In t part.tops → In t (tops_of units))
+      → IsPart rows of_tops (map (λ t. t.number) part.tops) items
       → (n : Names Spot) → NamesAll (image_in m) units n → NamesPartial m k (said_of units) n → ShowsUnit n items (partial_unit m k)
   part_shown m k part items row among put n names mine =
       put n ups (λ j i. (let r = number_in part.tops j i in let a = there r.0 (among r.0 r.1) in

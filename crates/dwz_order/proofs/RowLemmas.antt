@@ -4,7 +4,7 @@ use Rattle.std.specs.Option.{is_some}
 use Rattle.std.proofs.lemmas.List.{drop_at, length-append, take_at}
 use Rattle.dwz_docs.specs.Trees.{End, Entry}
 use Rattle.dwz_meanings.specs.Documents.{Entries, Node}
-use Rattle.dwz_seen.specs.Lists.{Each}
+use Rattle.dwz_docs.specs.Lists.{Each}
 use Rattle.dwz_seen.specs.Spaces.{space_text, tops_under}
 use Rattle.dwz_seen.proofs.Members.{each_split}
 use Rattle.dwz_alike.specs.Spots.{ASpace, ATop, Row, SpaceName, Spot, Top, name_of, row_in, row_tops}
@@ -43,7 +43,8 @@ unfolding tops_by tops_under
 tops_counted End = refl
 tops_counted (Entry e c n) = go (tops_counted c) (tops_counted n) (space_text e) where
   go : tops_by is_space c ≡ tops_under c → tops_by is_space n ≡ tops_under n → (o : Option (List ℕ))
-      → (elim (is_some o) as (λ _. ℕ) [ false ↦ suc (tops_by is_space n) | true ↦ tops_by is_space c + tops_by is_space n ]) ≡ (elim o as (λ _. ℕ) [ None ↦ suc (tops_under n) | Some text ↦ tops_under c + tops_under n ])
+      → (elim (is_some o) as (λ _. ℕ) [ false ↦ suc (tops_by is_space n) | true ↦ tops_by is_space c + tops_by is_space n ])
+      ≡ (elim o as (λ _. ℕ) [ None ↦ suc (tops_under n) | Some text ↦ tops_under c + tops_under n ])
   go p q None = ap suc q
   go p q (Some text) = (λ j. p j + q j)
 
@@ -103,7 +104,8 @@ module _ (file unit : ℕ) (tongue : Option ℤ) where
     unfolding row_tops
     both_rows e inner next h = each_split (IsTop v m) (row_tops inner) (row_tops next) h
 
-    pub row_shown : (f : Entries Spot) (spaces : List SpaceName) (n : Next) → Each (IsTop v m) (row_tops (row_in file unit tongue spaces n.top f)) → Numbered (IsSpace v m) n.space (spaces_under f) → IsShown v m spaces n f
+    pub row_shown : (f : Entries Spot) (spaces : List SpaceName) (n : Next) → Each (IsTop v m) (row_tops (row_in file unit tongue spaces n.top f)) → Numbered (IsSpace v m) n.space (spaces_under f)
+        → IsShown v m spaces n f
     unfolding row_in outers_in pinned_in row_pinned row_staying
     row_shown End spaces n tops under = record { row = refl; pinned = refl }
     row_shown (Entry e c x) spaces n tops under = by (λ k. row_shown x spaces k) (λ more k. row_shown c more k) (space_text e) refl where

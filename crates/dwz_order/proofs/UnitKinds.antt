@@ -6,12 +6,11 @@ use Rattle.dwz_docs.specs.Units.{CompileUnit, PartialUnit, RawKind, RawUnit, Typ
 use Rattle.dwz_alike.specs.Spots.{Row, Spot}
 use Rattle.dwz_index.specs.Building.{IsList}
 use Rattle.dwz_index.proofs.ListLemmas.{within}
-use Rattle.dwz_index.proofs.UnitBuilding.{root_within, some_list}
+use Rattle.dwz_index.proofs.UnitBuilding.{kind_is, root_within, some_list}
 use Rattle.dwz_layout.specs.declared.order.Item.{Item}
 use Rattle.dwz_layout.specs.Order.{Names}
 use Rattle.dwz_layout.specs.Outline.{View}
 use Rattle.dwz_places.specs.declared.order.Sort.TheVariants.{Compile, OfType}
-use Rattle.dwz_resolve.proofs.UnitThere.{same_unit, unit_there}
 use Rattle.dwz_unit.specs.declared.rows.RawEntry.{RawEntry as EntryOfCode}
 use Rattle.dwz_unit.specs.declared.rows.RawUnit.{RawUnit as UnitOfCode}
 use Rattle.dwz_unit.specs.Rows.{kind_number, shown_entries, shown_units, unit_shown}
@@ -20,33 +19,29 @@ use Rattle.dwz_order.specs.declared.outline.Next.{Next}
 use Rattle.dwz_order.specs.Kept.{IsKept, IsWhole, behind_kind, behind_unit}
 use Rattle.dwz_order.specs.Sorts.{IsMainOf, SortBy, SortOf, row_of}
 
-pub shown_is : (raw : List RawUnit) (n : ℕ) (x : UnitOfCode) (u : RawUnit) → slice_get (shown_units raw) n ≡ Some x → slice_get raw n ≡ Some u → unit_shown x.first u ≡ x
-shown_is raw n x u shown found =
-    let t = unit_there raw n x shown in
-    subst (λ (v : RawUnit). unit_shown x.first v ≡ x) (same_unit raw n t.u u t.is_unit found) t.shown
-
 abbrev kind_in : UnitOfCode → ℕ
 kind_in x = x.kind
 
 pub is_compile : (raw : List RawUnit) (n : ℕ) (x : UnitOfCode) (u : RawUnit) → slice_get (shown_units raw) n ≡ Some x → slice_get raw n ≡ Some u → x.kind ≡ 1 → u.kind ≡ CompileUnit
-is_compile raw n x u shown found one = by u.kind (ap kind_in (shown_is raw n x u shown found) ∙ one) where
+is_compile raw n x u shown found one = by u.kind (ap kind_in (kind_is raw n x u shown found) ∙ one) where
   by : (k : RawKind) → kind_number k ≡ 1 → k ≡ CompileUnit
   by CompileUnit e = refl
   by (TypeUnit signature type_offset) e = absurd (omega (arith, e))
   by PartialUnit e = absurd (omega (arith, e))
 
 pub not_compile : (raw : List RawUnit) (n : ℕ) (x : UnitOfCode) (u : RawUnit) → slice_get (shown_units raw) n ≡ Some x → slice_get raw n ≡ Some u → (x.kind ≡ 1 → ⊥) → kind_number u.kind ≡ 1 → ⊥
-not_compile raw n x u shown found other e = other (sym (ap kind_in (shown_is raw n x u shown found)) ∙ e)
+not_compile raw n x u shown found other e = other (sym (ap kind_in (kind_is raw n x u shown found)) ∙ e)
 
 -- ---- sorts
 
 pub sort_compile : (raw : List RawUnit) (file start first : ℕ) (u : RawUnit) → u.kind ≡ CompileUnit → SortOf raw file start first u (Compile (row_of file first))
 sort_compile raw file start first u e = subst (λ (k : RawKind). SortBy raw file start first u k (Compile (row_of file first))) (sym e) refl
 
-pub sort_type : (raw : List RawUnit) (n file start main : ℕ) (x : UnitOfCode) (u : RawUnit) → slice_get (shown_units raw) n ≡ Some x → slice_get raw n ≡ Some u → (x.kind ≡ 1 → ⊥) → main < entries_in raw → IsMainOf raw u x.type_offset main
+pub sort_type : (raw : List RawUnit) (n file start main : ℕ) (x : UnitOfCode) (u : RawUnit) → slice_get (shown_units raw) n ≡ Some x → slice_get raw n ≡ Some u → (x.kind ≡ 1 → ⊥)
+    → main < entries_in raw → IsMainOf raw u x.type_offset main
     → SortOf raw file start x.first u (OfType (row_of file x.first) x.signature (start + main))
 sort_type raw n file start main x u shown found other lt is =
-    let same = shown_is raw n x u shown found in
+    let same = kind_is raw n x u shown found in
     subst (λ (y : UnitOfCode). SortOf raw file start x.first u (OfType (row_of file x.first) y.signature (start + main))) same
     (by u.kind (not_compile raw n x u shown found other) (subst (λ (y : UnitOfCode). IsMainOf raw u y.type_offset main) (sym same) is))
   where
@@ -70,11 +65,8 @@ end_within raw n x e shown entry =
 
 -- ---- what is written
 
-pub on_ok : {X E : Type 0} (r : Result X E) (P Q : Type 0) → (P → Q) → OnOk r P → OnOk r Q
-on_ok (Ok x) P Q f h = f h
-on_ok (Err e) P Q f h = tt
-
-pub on_shown : {X E : Type 0} (r : Result X E) (Shows Says : View → Row → Type 0) → ((v : View) (row : Row) → Shows v row → OnOk r (Says v row)) → OnOk r ((v : View) (row : Row) → Shows v row → Says v row)
+pub on_shown : {X E : Type 0} (r : Result X E) (Shows Says : View → Row → Type 0) → ((v : View) (row : Row) → Shows v row → OnOk r (Says v row))
+    → OnOk r ((v : View) (row : Row) → Shows v row → Says v row)
 on_shown (Ok x) Shows Says h = h
 on_shown (Err e) Shows Says h = tt
 

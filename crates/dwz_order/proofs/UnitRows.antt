@@ -3,7 +3,7 @@ use Rattle.std.proofs.Common.{◌≡◌, ℕ, suc, ◌+◌, Bool, true, false, L
 use Rattle.std.proofs.lemmas.Bool.{eq-eqb, eqb-true}
 use Rattle.std.proofs.lemmas.List.{append_assoc}
 use Rattle.dwz_meanings.specs.Documents.{Node}
-use Rattle.dwz_seen.specs.Lists.{Each}
+use Rattle.dwz_docs.specs.Lists.{Each}
 use Rattle.dwz_seen.proofs.Members.{each_split}
 use Rattle.dwz_alike.specs.Spots.{FileUnit, Row, Spot, Top, row_below, row_from, row_of, row_tops, top_count, tops_from, tops_of}
 use Rattle.dwz_order.specs.Shown.{tops_in}
@@ -21,7 +21,8 @@ tops_append (f ∷ before) after = omega (arith, tops_append before after)
 pub spaces_append : (before after : List (FileUnit Spot)) → spaces_of (before ++ after) ≡ spaces_of before ++ spaces_of after
 unfolding spaces_of
 spaces_append [] after = refl
-spaces_append (f ∷ before) after = ap (λ (w : List (Node Spot)). spaces_below f.unit.kind f.unit.below ++ w) (spaces_append before after) ∙ sym (append_assoc (spaces_below f.unit.kind f.unit.below) (spaces_of before) (spaces_of after))
+spaces_append (f ∷ before) after = ap (λ (w : List (Node Spot)). spaces_below f.unit.kind f.unit.below ++ w) (spaces_append before after)
+    ∙ sym (append_assoc (spaces_below f.unit.kind f.unit.below) (spaces_of before) (spaces_of after))
 
 -- the row of the unit behind those before it
 row_behind : (unit n : ℕ) (before : List (FileUnit Spot)) (f : FileUnit Spot) (after : List (FileUnit Spot))
@@ -32,7 +33,8 @@ row_behind unit n [] f after =
     let none : n + 0 ≡ n = omega arith in
     (λ i. row_from unit n (f ∷ after) (same i)) ∙ here (unit == unit) (same_number unit) ∙ (λ i. row_below f.file (sym same i) (sym none i) f.unit f.unit.kind)
   where
-    here : (b : Bool) → b ≡ true → (elim b as (λ _. Row) [ true ↦ row_below f.file unit n f.unit f.unit.kind | false ↦ row_from (suc unit) (n + top_count f.unit.kind f.unit.below) after unit ]) ≡ row_below f.file unit n f.unit f.unit.kind
+    here : (b : Bool) → b ≡ true → (elim b as (λ _. Row) [ true ↦ row_below f.file unit n f.unit f.unit.kind | false ↦ row_from (suc unit) (n + top_count f.unit.kind f.unit.below) after unit ])
+        ≡ row_below f.file unit n f.unit f.unit.kind
     here true e = refl
     here false e = absurd cc
 row_behind unit n (g ∷ before) f after =
@@ -54,7 +56,8 @@ row_behind unit n (g ∷ before) f after =
     there false e = refl
     there true e = absurd cc
 
-pub row_at : (before : List (FileUnit Spot)) (f : FileUnit Spot) (after : List (FileUnit Spot)) → row_of (before ++ f ∷ after) (length before) ≡ row_below f.file (length before) (tops_in before) f.unit f.unit.kind
+pub row_at : (before : List (FileUnit Spot)) (f : FileUnit Spot) (after : List (FileUnit Spot))
+    → row_of (before ++ f ∷ after) (length before) ≡ row_below f.file (length before) (tops_in before) f.unit f.unit.kind
 row_at before f after =
     let none : 0 + length before ≡ length before = omega arith in
     let same : 0 + tops_in before ≡ tops_in before = omega arith in
@@ -73,7 +76,8 @@ tops_behind P unit n (g ∷ before) f after h =
     let next : suc unit + length before ≡ unit + suc (length before) = omega arith in
     let count : n + top_count g.unit.kind g.unit.below + tops_in before ≡ n + (top_count g.unit.kind g.unit.below + tops_in before) = omega arith in
     subst (λ (r : Row). Each P (row_tops r)) (λ i. row_below f.file (next i) (count i) f.unit f.unit.kind)
-    (tops_behind P (suc unit) (n + top_count g.unit.kind g.unit.below) before f after (each_split P (row_tops (row_below g.file unit n g.unit g.unit.kind)) (tops_from (suc unit) (n + top_count g.unit.kind g.unit.below) (before ++ f ∷ after)) h).1)
+    (tops_behind P (suc unit) (n + top_count g.unit.kind g.unit.below) before f after
+    (each_split P (row_tops (row_below g.file unit n g.unit g.unit.kind)) (tops_from (suc unit) (n + top_count g.unit.kind g.unit.below) (before ++ f ∷ after)) h).1)
 
 pub tops_there : (P : Top → Type 0) (before : List (FileUnit Spot)) (f : FileUnit Spot) (after : List (FileUnit Spot)) → Each P (tops_of (before ++ f ∷ after))
     → Each P (row_tops (row_below f.file (length before) (tops_in before) f.unit f.unit.kind))

@@ -4,7 +4,7 @@ use Rattle.dwz_docs.specs.Entries.{RawEntry}
 use Rattle.dwz_docs.specs.Trees.{Forest}
 use Rattle.dwz_docs.specs.Units.{CompileUnit}
 use Rattle.dwz_meanings.specs.Documents.{Compile, Kind, language}
-use Rattle.dwz_seen.specs.Lists.{Each}
+use Rattle.dwz_docs.specs.Lists.{Each}
 use Rattle.dwz_alike.specs.Spots.{FileUnit, Row, Spot, row_below, row_in, row_of, row_tops, tops_of}
 use Rattle.dwz_index.specs.Spaces.{stored_space}
 use Rattle.dwz_index.specs.Steps.{is_space}
@@ -79,8 +79,10 @@ module _ (m : Move) (before : List (FileUnit Spot)) (f : FileUnit Spot) (after :
   unfolding order_lines
   from_nothing items xs e = e
 
-  pub compile_shown : (next : Next) (below : Forest RawEntry) (parts : List ℕ) (items : List Item) → IsNext before next → Agree stored_space is_space below f.unit.below → f.unit.kind ≡ Compile → changes m units f.file ≡ true
-      → imports i 0 m.parts ≡ import_row i parts → IsKept marks CompileUnit below next parts [] items → MarksAll m units marks → NamesAll (image_in m) units n → NamesKept m i f.unit n → ShowsUnit n items (kept_unit m units i f)
+  pub compile_shown : (next : Next) (below : Forest RawEntry) (parts : List ℕ) (items : List Item) → IsNext before next → Agree stored_space is_space below f.unit.below → f.unit.kind ≡ Compile
+      → changes m units f.file ≡ true
+      → imports i 0 m.parts ≡ import_row i parts → IsKept marks CompileUnit below next parts [] items → MarksAll m units marks → NamesAll (image_in m) units n → NamesKept m i f.unit n
+      → ShowsUnit n items (kept_unit m units i f)
   compile_shown next below parts items is agree kind moves same kept known names own =
       from_nothing items _ (kept v (row_of units i) (shows next below is agree kind names known)) ∙ kept_lines m units i f n parts own kind moves same
 

@@ -35,7 +35,8 @@ IsWhole old new = (n : Names Spot) → order_lines n new ≡ order_lines n old +
 abbrev pub IsKept : Marks → RawKind → Forest RawEntry → Next → List ℕ → List Item → List Item → Type 0
 IsKept m CompileUnit below next imports old new =
     (v : View) (row : Row) → ShowsRow v row (outers_in stored_space m next below)
-    → order_lines v.names new ≡ order_lines v.names old ++ (line 1 v.names.root ∷ row_lines v.image 2 (pinned_first v.pinned (row_staying v.gone row)) ++ import_lines v.names imports)
+    → order_lines v.names new ≡ order_lines v.names old
+    ++ (line 1 v.names.root ∷ row_lines v.image 2 (pinned_first v.pinned (row_staying v.gone row)) ++ import_lines v.names imports)
 IsKept m (TypeUnit signature type_offset) below next imports old new = IsWhole old new
 IsKept m PartialUnit below next imports old new = IsWhole old new
 
@@ -49,18 +50,21 @@ pub record From : Type 0 where
 abbrev pub behind_from : From → RawUnit → From
 behind_from f u = record { file = f.file; start = f.start; unit = suc f.unit; first = f.first + entry_count u }
 
-pub record UnitKept (all : List RawUnit) (m : Marks) (imports : ℕ → List ℕ) (from : From) (next : Next) (u : RawUnit) (o : UnitItems) : Type 0 where
+pub record UnitKept (all : List RawUnit) (m : Marks) (imports : ℕ → List ℕ) (from : From) (next : Next) (u : RawUnit) (o : UnitItems) : Type
+    0 where
   pub items : IsKept m u.kind u.below next (imports from.unit) [] o.items
   pub sort : SortOf all from.file from.start from.first u o.sort
 
 -- unit by unit
 abbrev pub AreKept : List RawUnit → Marks → (imports : ℕ → List ℕ) → From → Next → List RawUnit → List UnitItems → Type 0
 AreKept all m imports from next [] [] = Unit {0}
-AreKept all m imports from next (u ∷ raw) (o ∷ order) = UnitKept all m imports from next u o × AreKept all m imports (behind_from from u) (behind_unit u next) raw order
+AreKept all m imports from next (u ∷ raw) (o ∷ order) = UnitKept all m imports from next u o × AreKept all m imports (behind_from from u)
+    (behind_unit u next) raw order
 AreKept all m imports from next _ _ = ⊥
 
 -- units were appended
-pub record PutsKept (raw : List RawUnit) (m : Marks) (imports : ℕ → List ℕ) (from : From) (next : Next) (old new : List UnitItems) : Type 0 where
+pub record PutsKept (raw : List RawUnit) (m : Marks) (imports : ℕ → List ℕ) (from : From) (next : Next) (old new : List UnitItems) : Type
+    0 where
   pub more : List UnitItems
   pub order : new ≡ old ++ more
   pub kept : AreKept raw m imports from next raw more

@@ -2,7 +2,7 @@
 use Rattle.std.specs.Prelude.{◌≡◌, ℕ, Bool, List, not}
 use Rattle.dwz_meanings.specs.Documents.{Node, entries_map, node_map}
 use Rattle.dwz_alike.specs.Spots.{FileUnit, Spot, Top, tops_of}
-use Rattle.dwz_seen.specs.Lists.{Each}
+use Rattle.dwz_docs.specs.Lists.{Each}
 use Rattle.dwz_layout.specs.Order.{Names}
 use Rattle.dwz_layout.specs.Outline.{View}
 use Rattle.dwz_moving.specs.Moves.{Move}

@@ -65,10 +65,12 @@ First P Q (o ∷ order) = P o × Q order
 abbrev pub KeptShown : Entered → Move → (all : List (FileUnit Spot)) → (file i : ℕ) → List (FileUnit Spot) → List UnitItems → Type 0
 KeptShown e m all file i [] order = order ≡ []
 KeptShown e m all file i (f ∷ units) order =
-    IfSo (f.file == file) (First (ShowsKept e m all i f) (KeptShown e m all file (suc i) units) order) (KeptShown e m all file (suc i) units order)
+    IfSo (f.file == file) (First (ShowsKept e m all i f) (KeptShown e m all file (suc i) units) order)
+    (KeptShown e m all file (suc i) units order)
 
 -- of these partial units those with a home
 abbrev pub PartsShown : Move → (all : List (FileUnit Spot)) → Home → (k : ℕ) → List PartialUnit → List UnitItems → Type 0
 PartsShown m all h k [] order = order ≡ []
 PartsShown m all h k (part ∷ parts) order =
-    IfSo (same_home part.home h) (First (ShowsPart m all k) (PartsShown m all h (suc k) parts) order) (PartsShown m all h (suc k) parts order)
+    IfSo (same_home part.home h) (First (ShowsPart m all k) (PartsShown m all h (suc k) parts) order)
+    (PartsShown m all h (suc k) parts order)

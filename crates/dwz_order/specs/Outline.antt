@@ -42,7 +42,8 @@ unfoldable pub pinned_in : {E : Type 0} → (E → Bool) → Marks → Next → 
 pinned_in test m n End = false
 pinned_in test m n (Entry e children next) = elim (test e) as (λ _. Bool) [
   | false ↦ (mark_at m.tops.now n.top).stays && (mark_at m.tops.now n.top).pinned || pinned_in test m (behind_top n) next
-  | true ↦ (flag_at m.spaces.now n.space || pinned_in test m (behind_space n) children) || pinned_in test m (behind_list test children (behind_space n)) next
+  | true ↦ (flag_at m.spaces.now n.space || pinned_in test m (behind_space n) children)
+      || pinned_in test m (behind_list test children (behind_space n)) next
 ]
 
 -- each with what is in it behind it

@@ -1,6 +1,6 @@
 -- What has to be known of a file, and of the spaces of all files, so that what is written of units shows the units after.
 use Rattle.std.specs.Prelude.{◌≡◌, ◌↔◌, ℕ, ◌+◌, ◌<◌, true, List, [], ◌∷◌, ◌++◌, drop, length, map, slice_get, slice_index, Some}
-use Rattle.dwz_docs.specs.Lists.{In}
+use Rattle.dwz_docs.specs.Lists.{Each, In}
 use Rattle.dwz_docs.specs.Units.{RawUnit, entries_in}
 use Rattle.dwz_index.specs.declared.index.SpaceEntry.{SpaceEntry}
 use Rattle.dwz_index.specs.declared.index.Starts.{Starts}
@@ -20,7 +20,6 @@ use Rattle.dwz_places.specs.declared.order.UnitItems.{UnitItems}
 use Rattle.dwz_plan.specs.Shows.{import_row}
 use Rattle.dwz_resolve.specs.Resolved.{place_at}
 use Rattle.dwz_same.specs.Units.{changes, partial_unit}
-use Rattle.dwz_seen.specs.Lists.{Each}
 use Rattle.dwz_seen.specs.Seen.{IsPartial}
 use Rattle.dwz_order.specs.declared.marks.Marks.{Marks}
 use Rattle.dwz_order.specs.declared.outline.Next.{Next}
@@ -49,8 +48,10 @@ named_units file name said = map (in_file file) (map (unit_map name) said)
 abbrev pub IsWholeUnit : DwUnit ℕ → Type 0
 IsWholeUnit v = IsPartial v.kind → ⊥
 
--- the names of the entries of a file: those of its units from one on are left behind so many entries, and each entry has the name of its place
-pub record NamesFile (e : Entered) (file start : ℕ) (name : ℕ → Spot) (raw : List RawUnit) (first unit top : ℕ) (said : List (DwUnit ℕ)) : Type 0 where
+-- the names of the entries of a file: those of its units from one on are left behind so many entries, and each entry has the name of its
+-- place
+pub record NamesFile (e : Entered) (file start : ℕ) (name : ℕ → Spot) (raw : List RawUnit) (first unit top : ℕ)
+    (said : List (DwUnit ℕ)) : Type 0 where
   pub begins : e.start file ≡ start
   pub rest : drop first (e.names file) ≡ names_from unit top said
   pub each : (entry : ℕ) → entry < entries_in raw → IsNamed e file entry (name (place_at raw entry))
@@ -58,8 +59,8 @@ pub record NamesFile (e : Entered) (file start : ℕ) (name : ℕ → Spot) (raw
 abbrev pub IsOther : ℕ → FileUnit Spot → Type 0
 IsOther file f = f.file ≡ file → ⊥
 
--- The file says these units, which are those of it among all, the first with that number; the next top, the next space and the entries of the
--- file have the numbers that come behind those of the files before.
+-- The file says these units, which are those of it among all, the first with that number; the next top, the next space and the entries of
+-- the file have the numbers that come behind those of the files before.
 pub record IsFile (e : Entered) (units : List (FileUnit Spot)) (raw : List RawUnit) (from : From) (next : Next) : Type 0 where
   pub around : Around ℕ
   pub plain : (p : ℕ) → around.place p ≡ p
@@ -83,8 +84,10 @@ ShowsImports m units parts = (i : ℕ) → i < length units → imports i 0 m.pa
 -- what is written of the old units of a file of which something moves shows these units after
 abbrev pub KeptLaw : Type 0
 KeptLaw =
-    (e : Entered) (m : Move) (units : List (FileUnit Spot)) (marks : Marks) (parts : ℕ → List ℕ) (raw : List RawUnit) (from : From) (next : Next) (order : List UnitItems) → IsFile e units raw from next → MarksAll m units marks
-    → changes m units from.file ≡ true → ShowsImports m units parts → AreKept raw marks parts from next raw order → KeptShown e m units from.file 0 units order
+    (e : Entered) (m : Move) (units : List (FileUnit Spot)) (marks : Marks) (parts : ℕ → List ℕ) (raw : List RawUnit) (from : From)
+    (next : Next) (order : List UnitItems) → IsFile e units raw from next → MarksAll m units marks
+    → changes m units from.file ≡ true → ShowsImports m units parts → AreKept raw marks parts from next raw order
+    → KeptShown e m units from.file 0 units order
 
 -- ---- the spaces of all files
 
@@ -111,8 +114,10 @@ pub record RowsFrom (rows : List SpaceRow) (k : ℕ) (spaces : List SpaceEntry) 
 -- so it is of the tops of a file, where the rows have its spaces from its first one on, which have these names
 abbrev pub LeadLaw : Type 0
 LeadLaw =
-    (rows : List SpaceRow) (said : ℕ → SpaceName) (file : ℕ) (name : ℕ → Spot) (s : Starts) (units : List (DwUnit ℕ)) → RowsFrom rows s.space (all_spaces is_space s 0 (map below_root units))
-    → Numbered (SaidIs said) s.space (spaces_of (named_units file name units)) → Pairs (LeadsUp rows said) (all_tops is_space s 0 (map below_root units)) (tops_from s.unit s.top (named_units file name units))
+    (rows : List SpaceRow) (said : ℕ → SpaceName) (file : ℕ) (name : ℕ → Spot) (s : Starts) (units : List (DwUnit ℕ))
+    → RowsFrom rows s.space (all_spaces is_space s 0 (map below_root units))
+    → Numbered (SaidIs said) s.space (spaces_of (named_units file name units))
+    → Pairs (LeadsUp rows said) (all_tops is_space s 0 (map below_root units)) (tops_from s.unit s.top (named_units file name units))
 
 -- and each space has its name by its number
 abbrev pub SaidLaw : Type 0
@@ -123,7 +128,8 @@ text_of s = s.text
 
 -- equal texts alone have one number
 pub record NumbersTexts (rows : List SpaceRow) (said : ℕ → SpaceName) (texts : List ℕ) : Type 0 where
-  pub same : (j k : ℕ) → j < length rows → k < length rows → (slice_index texts j ≡ slice_index texts k) ↔ (text_of (said j) ≡ text_of (said k))
+  pub same : (j k : ℕ) → j < length rows → k < length rows
+      → (slice_index texts j ≡ slice_index texts k) ↔ (text_of (said j) ≡ text_of (said k))
 
 -- each row is of the space with its number
 abbrev pub AreOwn : List SpaceRow → Type 0
@@ -138,6 +144,8 @@ pub record KnowsSpaces (units : List (FileUnit Spot)) (rows : List SpaceRow) (te
 -- what is written of a partial unit shows the unit after
 abbrev pub PartLaw : Type 0
 PartLaw =
-    (units : List (FileUnit Spot)) (rows : List SpaceRow) (texts lists : List ℕ) (tops : List TopEntry) (m : Move) (k : ℕ) (part : PartialUnit) (items : List Item) → KnowsSpaces units rows texts lists tops → m.rows k ≡ part_row k part
-    → ((t : Top) → In t part.tops → In t (tops_of units)) → IsPart rows (map (spaces_at lists) tops) (map (λ t. t.number) part.tops) items → (n : Names Spot) → NamesAll (image_in m) units n → NamesPartial m k (said_of units) n
+    (units : List (FileUnit Spot)) (rows : List SpaceRow) (texts lists : List ℕ) (tops : List TopEntry) (m : Move) (k : ℕ)
+    (part : PartialUnit) (items : List Item) → KnowsSpaces units rows texts lists tops → m.rows k ≡ part_row k part
+    → ((t : Top) → In t part.tops → In t (tops_of units)) → IsPart rows (map (spaces_at lists) tops) (map (λ t. t.number) part.tops) items
+    → (n : Names Spot) → NamesAll (image_in m) units n → NamesPartial m k (said_of units) n
     → ShowsUnit n items (partial_unit m k)

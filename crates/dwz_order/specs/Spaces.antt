@@ -8,7 +8,10 @@ use Rattle.dwz_alike.specs.Spots.{FileUnit, SpaceName, Spot, name_of}
 -- those in a row, and in the spaces of it
 unfoldable pub spaces_under : {P : Type 0} → Entries P → List (Node P)
 spaces_under End = []
-spaces_under {P} (Entry e children next) = elim (space_text e) as (λ _. List (Node P)) [ None ↦ spaces_under next | Some text ↦ e ∷ (spaces_under children ++ spaces_under next) ]
+spaces_under {P} (Entry e children next) = elim (space_text e) as (λ _. List (Node P)) [
+  | None ↦ spaces_under next
+  | Some text ↦ e ∷ (spaces_under children ++ spaces_under next)
+]
 
 -- a compile unit has spaces
 abbrev pub spaces_below : {P : Type 0} → Kind P → Entries P → List (Node P)

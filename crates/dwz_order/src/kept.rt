@@ -44,7 +44,8 @@ pub(crate) fn put_unit(
     requires shown { slice_get (shown_units (units_of units.now)) n ≡ Some unit.now }
     requires few { entries_in (units_of units.now) < 2 ^ 31 }
     requires room { HasRoom next.old unit.now.first (entries_in (units_of units.now)) }
-    ensures items { (u : RawUnit) → slice_get (units_of units.now) n ≡ Some u → OnOk result (IsKept marks.now u.kind u.below next.old imports.now items.old.items items.new.items) }
+    ensures items { (u : RawUnit) → slice_get (units_of units.now) n ≡ Some u
+        → OnOk result (IsKept marks.now u.kind u.below next.old imports.now items.old.items items.new.items) }
     ensures next { (u : RawUnit) → slice_get (units_of units.now) n ≡ Some u → OnOk result (next.new ≡ behind_unit u next.old) }
 {
     if unit.kind != COMPILE_UNIT {
@@ -68,9 +69,14 @@ fn unit_items(
 ) -> Result<UnitItems, NoMemory>
     requires there { n < length (units_of source.now.units.now) }
     requires few { source.now.start + entries_in (units_of source.now.units.now) < 2 ^ 31 }
-    requires room { (x : UnitOfCode) → slice_get (shown_units (units_of source.now.units.now)) n ≡ Some x → HasRoom next.old x.first (entries_in (units_of source.now.units.now)) }
-    ensures items { (u : RawUnit) (x : UnitOfCode) → slice_get (units_of source.now.units.now) n ≡ Some u → slice_get (shown_units (units_of source.now.units.now)) n ≡ Some x → IfOk result (λ o. IsKept marks.now u.kind u.below next.old imports.now [] o.items) }
-    ensures sort { (u : RawUnit) (x : UnitOfCode) → slice_get (units_of source.now.units.now) n ≡ Some u → slice_get (shown_units (units_of source.now.units.now)) n ≡ Some x → IfOk result (λ o. SortOf (units_of source.now.units.now) source.now.file source.now.start x.first u o.sort) }
+    requires room { (x : UnitOfCode) → slice_get (shown_units (units_of source.now.units.now)) n ≡ Some x
+        → HasRoom next.old x.first (entries_in (units_of source.now.units.now)) }
+    ensures items { (u : RawUnit) (x : UnitOfCode) → slice_get (units_of source.now.units.now) n ≡ Some u
+        → slice_get (shown_units (units_of source.now.units.now)) n ≡ Some x
+        → IfOk result (λ o. IsKept marks.now u.kind u.below next.old imports.now [] o.items) }
+    ensures sort { (u : RawUnit) (x : UnitOfCode) → slice_get (units_of source.now.units.now) n ≡ Some u
+        → slice_get (shown_units (units_of source.now.units.now)) n ≡ Some x
+        → IfOk result (λ o. SortOf (units_of source.now.units.now) source.now.file source.now.start x.first u o.sort) }
     ensures next { (u : RawUnit) → slice_get (units_of source.now.units.now) n ≡ Some u → OnOk result (next.new ≡ behind_unit u next.old) }
 {
     let unit = source.units.unit(n);
@@ -112,7 +118,8 @@ pub fn put_units(
     requires room { HasRoom from.now 0 (entries_in (units_of source.now.units.now)) }
     requires few_units { source.now.unit + length (units_of source.now.units.now) < 2 ^ 32 }
     requires imports { source.now.unit + length (units_of source.now.units.now) ≤ length plan.now.imports }
-    ensures { OnOk result (PutsKept (units_of source.now.units.now) marks.now (imports_at plan.now) (from_source source.now) from.now order.old.items order.new.items) }
+    ensures { OnOk result (PutsKept (units_of source.now.units.now) marks.now (imports_at plan.now) (from_source source.now) from.now
+        order.old.items order.new.items) }
 {
     let mut outers = Vec::new(alloc);
     let mut next = *from;

@@ -8,8 +8,6 @@ mod outline;
 mod parts;
 mod sorts;
 mod spaces;
-#[cfg(test)]
-mod tests;
 
 pub use kept::{Source, put_units};
 pub use laws::{kept_laws, part_laws};

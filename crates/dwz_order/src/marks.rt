@@ -43,7 +43,8 @@ pub fn marks_of(alloc: Global, tops: &Tops, plan: &Plan) -> Result<Vec<TopMark>,
     requires many { length plan.now.homes ≡ length tops.now.rows }
     requires few { length tops.now.rows < 2 ^ 32 }
     ensures len { IfOk result (λ marks. length marks.items ≡ length tops.now.rows) }
-    ensures each { IfOk result (λ marks. (k : ℕ) → k < length tops.now.rows → mark_at marks.items k ≡ mark_of tops.now.rows plan.now.homes k) }
+    ensures each { IfOk result (λ marks. (k : ℕ) → k < length tops.now.rows
+        → mark_at marks.items k ≡ mark_of tops.now.rows plan.now.homes k) }
 {
     let rows = tops.rows.as_slice();
     let mut marks = Vec::with_capacity(alloc, rows.len())?;

@@ -6,7 +6,8 @@ ghost use Rattle.dwz_docs.specs.Trees.{Forest};
 ghost use Rattle.dwz_index.specs.Building.{HasList, IsList};
 ghost use Rattle.dwz_index.specs.Spaces.{stored_space};
 ghost use Rattle.dwz_layout.specs.declared.order.Outer.{Outer};
-ghost use Rattle.dwz_order.specs.Outline.{HasRoom, behind_list, behind_space, behind_top, closed, outers_in, pinned_in, space_opened, top_outer};
+ghost use Rattle.dwz_order.specs.Outline.{HasRoom, behind_list, behind_space, behind_top, closed, outers_in, pinned_in, space_opened};
+ghost use Rattle.dwz_order.specs.Outline.{top_outer};
 ghost use Rattle.dwz_unit.specs.Rows.{units_of};
 
 use crate::marks::Marks;
@@ -71,8 +72,10 @@ fn open(outers: &mut Vec<Outer>, next: &mut Next, marks: &Marks) -> Result<usize
 fn close(outers: &mut Vec<Outer>, at: usize, pinned: bool) -> bool
     requires there { at < length outers.old.items }
     requires few { length outers.old.items < 2 ^ 32 + at }
-    ensures outers { (before inner : List Outer) (x : Outer) → outers.old.items ≡ before ++ (x ∷ inner) → at ≡ length before → outers.new.items ≡ before ++ (closed x (length inner) pinned ∷ inner) }
-    ensures is { (before inner : List Outer) (x : Outer) → outers.old.items ≡ before ++ (x ∷ inner) → at ≡ length before → result ≡ (x.pinned || pinned) }
+    ensures outers { (before inner : List Outer) (x : Outer) → outers.old.items ≡ before ++ (x ∷ inner) → at ≡ length before
+        → outers.new.items ≡ before ++ (closed x (length inner) pinned ∷ inner) }
+    ensures is { (before inner : List Outer) (x : Outer) → outers.old.items ≡ before ++ (x ∷ inner) → at ≡ length before
+        → result ≡ (x.pinned || pinned) }
 {
     let mut outer = outers[at];
     outer.inside = (outers.len() - at - 1) as u32;
@@ -93,9 +96,12 @@ pub(crate) fn put_list(
 ) -> Result<bool, NoMemory>
     requires rows { HasList (units_of units.now) first end }
     requires room { HasRoom next.old first end }
-    ensures outers { (list : Forest RawEntry) → IsList (units_of units.now) first end list → OnOk result (outers.new.items ≡ outers.old.items ++ outers_in stored_space marks.now next.old list) }
-    ensures next { (list : Forest RawEntry) → IsList (units_of units.now) first end list → OnOk result (next.new ≡ behind_list stored_space list next.old) }
-    ensures pinned { (list : Forest RawEntry) → IsList (units_of units.now) first end list → IfOk result (λ b. b ≡ pinned_in stored_space marks.now next.old list) }
+    ensures outers { (list : Forest RawEntry) → IsList (units_of units.now) first end list
+        → OnOk result (outers.new.items ≡ outers.old.items ++ outers_in stored_space marks.now next.old list) }
+    ensures next { (list : Forest RawEntry) → IsList (units_of units.now) first end list
+        → OnOk result (next.new ≡ behind_list stored_space list next.old) }
+    ensures pinned { (list : Forest RawEntry) → IsList (units_of units.now) first end list
+        → IfOk result (λ b. b ≡ pinned_in stored_space marks.now next.old list) }
     ensures few { OnOk result (length outers.new.items + first ≤ length outers.old.items + end) }
 {
     let mut entry = first;

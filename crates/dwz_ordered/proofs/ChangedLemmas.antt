@@ -1,15 +1,17 @@
 -- A file has its flag exactly where one of its tops leaves its unit: top by top, and then by the plan.
-use Rattle.std.proofs.Common.{◌≡◌, ◌↔◌, ◌⊎◌, ℕ, zero, suc, ◌+◌, ◌<◌, ◌≤◌, ◌==◌, ◌&&◌, not, Bool, true, false, List, [], ◌∷◌, Option, Some, length, map, get_or, slice_get, refl, sym, ap, subst, ◌∙◌, inl, inr, ⊎_elim, arith, eqb-true, eq-eqb}
+use Rattle.std.proofs.Common.{◌≡◌, ◌↔◌, ◌⊎◌, ℕ, zero, suc, ◌+◌, ◌<◌, ◌==◌, ◌&&◌, not, Bool, true, false, List, [], ◌∷◌, Option, Some, length, map, get_or, slice_get, refl, sym, ap, subst, ◌∙◌, inl}
+use Rattle.std.proofs.Common.{inr, ⊎_elim, arith, eqb-true, eq-eqb}
 use Rattle.std.specs.Prelude.{replicate, slice_index_or}
 use Rattle.std.proofs.lemmas.Bool.{and_from, and_parts}
 use Rattle.std.proofs.lemmas.Option.{slice_get-get_or}
 use Rattle.dwz_docs.specs.Lists.{In}
+use Rattle.dwz_docs.proofs.ListFacts.{replicate_long}
+use Rattle.dwz_docs.proofs.CaseFacts.{same_test}
 use Rattle.dwz_meanings.specs.Documents.{Doc}
-use Rattle.dwz_seen.specs.Lists.{Nth}
 use Rattle.dwz_seen.proofs.Members.{any_from, any_true}
 use Rattle.dwz_alike.specs.Spots.{FileUnit, Spot, Top, file_numbers, tops_of, units_of}
-use Rattle.dwz_alike.proofs.RowLemmas.{top_of}
 use Rattle.dwz_alike.proofs.TopNumbers.{Numbered, tops_numbers}
+use Rattle.dwz_alike.proofs.TopOrder.{unit_file}
 use Rattle.dwz_groups.specs.declared.tops.TopRow.{TopRow}
 use Rattle.dwz_groups.specs.declared.tops.Tops.{Tops}
 use Rattle.dwz_moving.specs.Homes.{Rule, is_home, moves}
@@ -45,10 +47,6 @@ none_set zero k e = cc
 none_set (suc n) zero e = cc
 none_set (suc n) (suc k) e = none_set n k e
 
-pub replicate_long : (n : ℕ) → length (replicate n false) ≡ n
-replicate_long zero = refl
-replicate_long (suc n) = ap suc (replicate_long n)
-
 pub none_flagged : (rows : List TopRow) (homes : List Place) (files : List ℕ) (count : ℕ) (flags : List Bool) → flags ≡ replicate count false → Flagged rows homes files count 0 flags
 none_flagged rows homes files count flags e =
     subst (λ (w : List Bool). Flagged rows homes files count 0 w) (sym e) (record {
@@ -70,7 +68,8 @@ was_asked true o n e f = inl f
 was_asked false o n e f = absurd cc
 
 pub flag_more : (rows : List TopRow) (homes : List Place) (files : List ℕ) (count i : ℕ) (d : TopRow) (b : Bool) (o : Option ℕ) (old new : List Bool) → i < length rows
-    → b ≡ not (stays_in (slice_index_or homes i InUnit)) → o ≡ slice_get files (get_or rows i d).unit → Flagged rows homes files count i old → Marks (if_asked b o) old new → Flagged rows homes files count (i + 1) new
+    → b ≡ not (stays_in (slice_index_or homes i InUnit)) → o ≡ slice_get files (get_or rows i d).unit → Flagged rows homes files count i old → Marks (if_asked b o) old new
+    → Flagged rows homes files count (i + 1) new
 flag_more rows homes files count i d b o old new lt b_is o_is h m =
     let here = slice_get-get_or rows i d lt in
     record {
@@ -105,28 +104,6 @@ place_gone rule units parts n (InCommon p) is = ap is_home (sym is.0)
 place_gone rule units parts n (InFile p) is = ap is_home (sym is.1)
 place_gone rule units parts n InUnit is = ap is_home (sym is)
 
-pub nth_get : {X : Type 0} (s : ℕ) (xs : List X) (n k : ℕ) (x : X) → Nth s xs n x → n ≡ s + k → slice_get xs k ≡ Some x
-nth_get s [] n k x h e = absurd h
-nth_get s (y ∷ xs) n zero x (inl h) e = ap (λ w. Some w) h.1
-nth_get s (y ∷ xs) n (suc k) x (inl h) e = absurd (let same = h.0 in omega arith)
-nth_get s (y ∷ xs) n zero x (inr h) e = absurd (let high = nth_high (suc s) xs n x h in omega arith) where
-  nth_high : {X : Type 0} (s : ℕ) (xs : List X) (n : ℕ) (x : X) → Nth s xs n x → s ≤ n
-  nth_high s [] n x h = absurd h
-  nth_high s (y ∷ xs) n x (inl h) = (let same = h.0 in omega arith)
-  nth_high s (y ∷ xs) n x (inr h) = (let more = nth_high (suc s) xs n x h in omega arith)
-nth_get s (y ∷ xs) n (suc k) x (inr h) e = nth_get (suc s) xs n k x h (omega arith)
-
-got_map : {X Y : Type 0} (f : X → Y) (xs : List X) (k : ℕ) (x : X) → slice_get xs k ≡ Some x → slice_get (map f xs) k ≡ Some (f x)
-got_map f [] k x e = absurd cc
-got_map f (y ∷ xs) zero x e = ap (λ w. Some (f w)) (let same : y ≡ x = cc in same)
-got_map f (y ∷ xs) (suc k) x e = got_map f xs k x e
-
--- the file of the unit that a top stands in
-unit_file : (units : List (FileUnit Spot)) (t : Top) → In t (tops_of units) → slice_get (map (λ f. f.file) units) t.unit ≡ Some t.file
-unit_file units t there =
-    let o = top_of 0 0 units t there in
-    got_map (λ (f : FileUnit Spot). f.file) units t.unit o.unit (nth_get 0 units t.unit t.unit o.unit o.nth (omega arith)) ∙ ap (λ (k : ℕ). Some k) (sym o.file_is)
-
 -- the row of a top, and the top of a row
 row_there : (units : List (FileUnit Spot)) (n : ℕ) (rows : List TopRow) (tops : List Top) → ShowsRows units rows tops → Numbered n tops → (t : Top) → In t tops
     → (k : ℕ) × (t.number ≡ n + k) × ((row : TopRow) × (slice_get rows k ≡ Some row) × (row.unit ≡ t.unit))
@@ -153,12 +130,8 @@ top_there units n (x ∷ rows) (u ∷ tops) h m (suc k) row e =
     let at = r.2 in
     (r.0, inr r.1, omega arith, r.3)
 
-pub same_test : (x y : Bool) → (x ≡ true → y ≡ true) → (y ≡ true → x ≡ true) → x ≡ y
-same_test true y f g = sym (f refl)
-same_test false true f g = g refl
-same_test false false f g = refl
-
-pub flags_are : (f : ℕ → Bool) (flags : List Bool) (s : ℕ) (docs : List (Doc ℕ)) → length flags ≡ length docs → ((k : ℕ) → k < length docs → slice_index_or flags k false ≡ f (s + k)) → flags ≡ map f (file_numbers s docs)
+pub flags_are : (f : ℕ → Bool) (flags : List Bool) (s : ℕ) (docs : List (Doc ℕ)) → length flags ≡ length docs → ((k : ℕ) → k < length docs → slice_index_or flags k false ≡ f (s + k))
+    → flags ≡ map f (file_numbers s docs)
 unfolding file_numbers
 flags_are f [] s [] len h = refl
 flags_are f [] s (d ∷ docs) len h = absurd (omega arith)
@@ -221,7 +194,8 @@ module _ (docs : List (Doc ℕ)) (rule : Rule) (tops : Tops) (plan : Planned) (s
       got_below (y ∷ xs) zero x e = omega arith
       got_below (y ∷ xs) (suc k) x e = let r = got_below xs k x e in omega arith
 
-  pub flags_so : (count i : ℕ) (flags : List Bool) → length docs ≡ count → length tops.rows ≡ i → Flagged tops.rows plan.homes tops.files_of_units count i flags → flags ≡ map (changes (move_of rule docs) (units_of docs)) (file_numbers 0 docs)
+  pub flags_so : (count i : ℕ) (flags : List Bool) → length docs ≡ count → length tops.rows ≡ i → Flagged tops.rows plan.homes tops.files_of_units count i flags
+      → flags ≡ map (changes (move_of rule docs) (units_of docs)) (file_numbers 0 docs)
   flags_so count i flags many all h =
       flags_are (changes (move_of rule docs) units) flags 0 docs (h.len ∙ sym many) (λ k lt.
       let each = h.each k (omega arith) in

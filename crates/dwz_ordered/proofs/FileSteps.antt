@@ -2,6 +2,7 @@
 use Rattle.std.proofs.Common.{◌≡◌, ℕ, zero, suc, ◌+◌, ◌<◌, ◌≤◌, Bool, true, false, List, [], ◌∷◌, ◌++◌, Some, length, drop, get_or, slice_get, refl, sym, ap, subst, ◌∙◌, arith}
 use Rattle.std.proofs.lemmas.List.{append-nil, append_assoc, drop_all, length-append}
 use Rattle.dwz_docs.specs.Units.{entries_in}
+use Rattle.dwz_docs.proofs.ListFacts.{item_got}
 use Rattle.dwz_alike.specs.Spots.{FileUnit, Spot, units_of}
 use Rattle.dwz_graph.specs.declared.file.File.{File}
 use Rattle.dwz_graph.specs.Files.{AreKept, docs_of}
@@ -23,7 +24,6 @@ use Rattle.dwz_order.specs.Marks.{flag_at}
 use Rattle.dwz_ordered.specs.declared.orders.Settled.{Settled}
 use Rattle.dwz_ordered.specs.Ordered.{AreOrders, FilePut, FilesPut, FirstFile, PartsPut, from_index, next_index}
 use Rattle.dwz_ordered.specs.Steps.{PutsFile}
-use Rattle.dwz_ordered.proofs.PartSteps.{got_there}
 
 abbrev pub IsPut : Settled → (number start : ℕ) → File → Index → List UnitItems → Type 0
 IsPut s number start f x = FilePut s (raw_units f.units) (from_index number start x) (next_index x)
@@ -40,7 +40,8 @@ pub record Going (s : Settled) (files : List File) (indexes : List Index) (commo
 
 -- what a file appends
 more_of : (P : List UnitItems → Type 0) (written : Bool) (old new : List (List UnitItems)) → PutsFile P written old new
-    → (more : List (List UnitItems)) × (new ≡ old ++ more) × ((Q : List (List UnitItems) → Type 0) (rest : List (List UnitItems)) → Q rest → IfSo written (FirstFile P Q (more ++ rest)) (Q (more ++ rest)))
+    → (more : List (List UnitItems)) × (new ≡ old ++ more) × ((Q : List (List UnitItems) → Type 0) (rest : List (List UnitItems)) → Q rest
+    → IfSo written (FirstFile P Q (more ++ rest)) (Q (more ++ rest)))
 more_of P true old new h = (h.0 ∷ [], h.1, λ Q rest q. (h.2, q))
 more_of P false old new h = ([], h ∙ sym (append-nil old), λ Q rest q. q)
 
@@ -54,14 +55,17 @@ drop_there (y ∷ xs) zero x e = ap (λ w. w ∷ xs) (let same : y ≡ x = cc in
 drop_there (y ∷ xs) (suc i) x e = drop_there xs i x e
 
 -- as many files as there are contents, and each has an index
-pub many : (contents : List (List ℕ)) (files : List File) (indexes : List Index) → AreKept contents files → AreIndexes (docs_of contents) indexes → (length contents ≡ length files) × (length indexes ≡ length files)
+pub many : (contents : List (List ℕ)) (files : List File) (indexes : List Index) → AreKept contents files → AreIndexes (docs_of contents) indexes
+    → (length contents ≡ length files) × (length indexes ≡ length files)
 many contents files indexes kept are = let m = are_many contents files indexes kept are in (m.2 ∙ sym m.0, m.1 ∙ sym m.0)
 
-module _ (contents : List (List ℕ)) (files : List File) (indexes : List Index) (kept : AreKept contents files) (are : AreIndexes (docs_of contents) indexes) (s : Settled) (common : List UnitItems) where
+module _ (contents : List (List ℕ)) (files : List File) (indexes : List Index) (kept : AreKept contents files) (are : AreIndexes (docs_of contents) indexes) (s : Settled)
+    (common : List UnitItems) where
   pub begins : Going s files indexes common 0 0 (common ∷ [])
   begins = record { before = []; long = refl; begin = refl; others = []; orders_are = refl; all = λ rest h. h }
 
-  module _ (number start : ℕ) (orders : List (List UnitItems)) (g : Going s files indexes common number start orders) (f : File) (x : Index) (got : slice_get files number ≡ Some f) (x_got : slice_get indexes number ≡ Some x) where
+  module _ (number start : ℕ) (orders : List (List UnitItems)) (g : Going s files indexes common number start orders) (f : File) (x : Index) (got : slice_get files number ≡ Some f)
+      (x_got : slice_get indexes number ≡ Some x) where
     start_there : slice_get (starts_from 0 indexes) number ≡ Some start
     unfolding starts_from
     start_there =
@@ -89,7 +93,8 @@ module _ (contents : List (List ℕ)) (files : List File) (indexes : List Index)
     pub steps : length x.steps ≡ entries_in (raw_units f.units)
     steps = let a = is_among contents files indexes number f x kept are got x_got in all_entries contents number a.bytes f x a.is
 
-    pub goes_on : (new : List (List UnitItems)) (next : ℕ) → next ≡ start + length x.steps → PutsFile (IsPut s number start f x) (flag_at s.files.now number) orders new → Going s files indexes common (number + 1) next new
+    pub goes_on : (new : List (List UnitItems)) (next : ℕ) → next ≡ start + length x.steps → PutsFile (IsPut s number start f x) (flag_at s.files.now number) orders new
+        → Going s files indexes common (number + 1) next new
     unfolding starts_from
     goes_on new next e put =
         let one : suc number ≡ number + 1 = omega arith in
@@ -105,7 +110,8 @@ module _ (contents : List (List ℕ)) (files : List File) (indexes : List Index)
           others = g.others ++ m.0;
           orders_are = m.1 ∙ ap (λ (w : List (List UnitItems)). w ++ m.0) g.orders_are;
           all = λ rest h. (
-              let both : FilesPut s number start (f ∷ drop (suc number) files) (x ∷ drop (suc number) indexes) (m.0 ++ rest) = m.2 (FilesPut s (suc number) end (drop (suc number) files) (drop (suc number) indexes)) rest h in
+              let both : FilesPut s number start (f ∷ drop (suc number) files) (x ∷ drop (suc number) indexes) (m.0 ++ rest) =
+              m.2 (FilesPut s (suc number) end (drop (suc number) files) (drop (suc number) indexes)) rest h in
               let mine : FilesPut s number start (drop number files) (drop number indexes) (m.0 ++ rest) =
               subst (λ (xs : List Index). FilesPut s number start (drop number files) xs (m.0 ++ rest)) (sym x_here)
               (subst (λ (fs : List File). FilesPut s number start fs (x ∷ drop (suc number) indexes) (m.0 ++ rest)) (sym here) both) in
@@ -140,15 +146,16 @@ module _ (contents : List (List ℕ)) (files : List File) (indexes : List Index)
     going = subst (Going s files indexes common 0 0) (sym e) (begins contents files indexes kept are s common);
   }
 
-  module _ (number start : ℕ) (orders : List (List UnitItems)) (h : Started s files indexes number start orders) (f : File) (x : Index) (lt : number < length files) (f_is : f ≡ get_or files number f) (x_is : x ≡ get_or indexes number x) where
+  module _ (number start : ℕ) (orders : List (List UnitItems)) (h : Started s files indexes number start orders) (f : File) (x : Index) (lt : number < length files) (f_is : f ≡ get_or files number f)
+      (x_is : x ≡ get_or indexes number x) where
     x_lt : number < length indexes
     x_lt = let m = many contents files indexes kept are in let b = m.1 in omega arith
 
     f_got : slice_get files number ≡ Some f
-    f_got = got_there files number f lt f_is
+    f_got = item_got files number f lt f_is
 
     x_got : slice_get indexes number ≡ Some x
-    x_got = got_there indexes number x x_lt x_is
+    x_got = item_got indexes number x x_lt x_is
 
     pub file_is_small : HasSmallNumbers x.starts start (entries_in (raw_units f.units)) × (length (raw_units f.units) ≤ entries_in (raw_units f.units))
     file_is_small = small contents files indexes kept are s h.common number start orders h.going f x f_got x_got
@@ -159,7 +166,8 @@ module _ (contents : List (List ℕ)) (files : List File) (indexes : List Index)
     pub steps_many : length x.steps ≡ entries_in (raw_units f.units)
     steps_many = steps contents files indexes kept are s h.common number start orders h.going f x f_got x_got
 
-    pub one_more : (new : List (List UnitItems)) (next : ℕ) → next ≡ start + length x.steps → PutsFile (IsPut s number start f x) (flag_at s.files.now number) orders new → Started s files indexes (number + 1) next new
+    pub one_more : (new : List (List UnitItems)) (next : ℕ) → next ≡ start + length x.steps → PutsFile (IsPut s number start f x) (flag_at s.files.now number) orders new
+        → Started s files indexes (number + 1) next new
     one_more new next e put = record {
       common = h.common;
       common_put = h.common_put;

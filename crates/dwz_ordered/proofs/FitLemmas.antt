@@ -3,11 +3,11 @@ use Rattle.std.proofs.Common.{◌≡◌, ◌⊎◌, ℕ, zero, suc, ◌+◌, ◌
 use Rattle.std.specs.List.{range_with_len}
 use Rattle.std.proofs.lemmas.Option.{slice_get-get_or}
 use Rattle.dwz_docs.specs.Lists.{In}
+use Rattle.dwz_docs.proofs.ListFacts.{got_in, in_cases}
 use Rattle.dwz_seen.specs.Lists.{Rising}
-use Rattle.dwz_seen.proofs.Members.{each_in, in_cases, in_map_from}
+use Rattle.dwz_seen.proofs.Members.{each_in, in_map_from}
 use Rattle.dwz_alike.specs.Spots.{FileUnit, Spot, Top, tops_of, units_of}
 use Rattle.dwz_alike.proofs.TopNumbers.{number_below, tops_numbers}
-use Rattle.dwz_across.proofs.ListGets.{got_in}
 use Rattle.dwz_graph.specs.declared.file.File.{File}
 use Rattle.dwz_graph.specs.Files.{AreKept, docs_of}
 use Rattle.dwz_index.specs.Index.{Index}
@@ -30,12 +30,9 @@ rising_few (n ∷ ns) low high r le h =
     let first = h n (inl refl) in
     let a = first.0 in
     let b = first.1 in
-    let more = rising_few ns (suc n) high r.1 (omega arith) (λ m there. (let above = each_in (λ (k : ℕ). n < k) m ns r.0 there in let o = h m (inr there) in let c = o.1 in (omega arith, omega arith))) in
+    let more = rising_few ns (suc n) high r.1 (omega arith) (λ m there. (let above = each_in (λ (k : ℕ). n < k) m ns r.0 there in let o = h m (inr there) in let c =
+    o.1 in (omega arith, omega arith))) in
     omega arith
-
-map_long : {X Y : Type 0} (f : X → Y) (xs : List X) → length (map f xs) ≡ length xs
-map_long f [] = refl
-map_long f (x ∷ xs) = ap suc (map_long f xs)
 
 -- ---- homes
 
@@ -81,7 +78,8 @@ from_map f (x ∷ xs) zero y e = (x, inl refl, (let same : f x ≡ y = cc in sam
 from_map f (x ∷ xs) (suc k) y e = (let o = from_map f xs k y e in (o.0, inr o.1, o.2))
 
 -- what holds of what the partial units show holds of all
-all_shown : (P : Partial → Type 0) (files : ℕ) (ps : List PartialUnit) (parts : List Partial) → map (shown_part files) ps ≡ parts → ((p : PartialUnit) → In p ps → P (shown_part files p)) → (k : ℕ) (d : Partial) → k < length parts → P (get_or parts k d)
+all_shown : (P : Partial → Type 0) (files : ℕ) (ps : List PartialUnit) (parts : List Partial) → map (shown_part files) ps ≡ parts → ((p : PartialUnit) → In p ps → P (shown_part files p))
+    → (k : ℕ) (d : Partial) → k < length parts → P (get_or parts k d)
 all_shown P files ps parts e h k d lt =
     let got = slice_get-get_or parts k d lt in
     let o = from_map (shown_part files) ps k (get_or parts k d) (ap (λ (w : List Partial). slice_get w k) e ∙ got) in
@@ -110,7 +108,9 @@ parts_fit contents files indexes rule plan kept is shows =
     let small = (all_small contents files indexes kept is).tops in
     record {
       few_tops = all_shown (λ part. length part.tops < 2 ^ 32) count ps plan.partials shows.partials
-          (λ p there. (let few = rising_few (map (λ (t : Top). t.number) p.tops) 0 (length (tops_of units)) (part p there).rising (omega arith) (λ n has. ((let z : 0 ≤ n = omega arith in z), low p there n has)) in omega arith));
-      inside = all_shown (λ part. Below (length (tops_of units)) part.tops) count ps plan.partials shows.partials (λ p there. all_below (length (tops_of units)) (map (λ (t : Top). t.number) p.tops) (low p there));
+          (λ p there. (let few = rising_few (map (λ (t : Top). t.number) p.tops) 0 (length (tops_of units)) (part p there).rising (omega arith)
+          (λ n has. ((let z : 0 ≤ n = omega arith in z), low p there n has)) in omega arith));
+      inside = all_shown (λ part. Below (length (tops_of units)) part.tops) count ps plan.partials shows.partials
+          (λ p there. all_below (length (tops_of units)) (map (λ (t : Top). t.number) p.tops) (low p there));
       files = all_shown (λ part. part.file ≤ count) count ps plan.partials shows.partials (λ p there. file_low count p.home (home_of rule units (range_with_len 0 count) p there));
     }

@@ -5,26 +5,27 @@ use Rattle.std.specs.Prelude.{replicate, slice_index_or}
 use Rattle.std.specs.List.{list_any, range_with_len}
 use Rattle.std.proofs.lemmas.Bool.{and_from, and_parts}
 use Rattle.std.proofs.lemmas.List.{take_all}
+use Rattle.std.proofs.lemmas.Option.{get_or_from_slice_get}
 use Rattle.dwz_docs.specs.Lists.{In}
+use Rattle.dwz_docs.proofs.ListFacts.{got_map, in_cases, in_left, in_map, in_right, replicate_long}
+use Rattle.dwz_docs.proofs.CaseFacts.{same_test}
 use Rattle.dwz_meanings.specs.Documents.{Doc}
-use Rattle.dwz_seen.proofs.Members.{any_from, any_true, in_cases, in_left, in_map, in_map_from, in_right}
+use Rattle.dwz_seen.proofs.Members.{any_from, any_true, in_map_from, nth_get}
 use Rattle.dwz_alike.specs.Spots.{FileUnit, Spot, file_numbers, units_of}
 use Rattle.dwz_groups.specs.declared.tops.Tops.{Tops}
 use Rattle.dwz_moving.specs.Homes.{Common, Home, Local, Rule, file_of, same_home}
 use Rattle.dwz_moving.specs.Plan.{PartialUnit, distinct, local_partials, partial_with, partials, partials_at, representatives, users_of}
-use Rattle.dwz_moving.proofs.PlanLemmas.{home_true}
+use Rattle.dwz_moving.proofs.PlanLemmas.{distinct_in, home_true}
 use Rattle.dwz_moving.proofs.UserLemmas.{Numbered, user_unit}
 use Rattle.dwz_back.specs.Files.{imports_common}
 use Rattle.dwz_plan.specs.declared.plan.Partial.{Partial}
 use Rattle.dwz_plan.specs.Planned.{Planned, file_of_home}
 use Rattle.dwz_plan.specs.Shows.{ShowsPlan, ShowsTops, shown_part}
 use Rattle.dwz_plan.proofs.BridgeLemmas.{file_is, file_numbers_are}
-use Rattle.dwz_plan.proofs.DistinctLemmas.{from_distinct}
 use Rattle.dwz_spread.specs.Spreading.{IsMarked}
 use Rattle.dwz_scan.specs.Marked.{Marks, if_asked}
 use Rattle.dwz_known.specs.Owners.{move_of}
-use Rattle.dwz_across.proofs.ListGets.{got_index, got_map}
-use Rattle.dwz_ordered.proofs.ChangedLemmas.{flags_are, none_set, nth_get, replicate_long, same_test}
+use Rattle.dwz_ordered.proofs.ChangedLemmas.{flags_are, none_set}
 use Rattle.dwz_ordered.proofs.FitLemmas.{IsHomeOf, home_of, in_range}
 use Rattle.dwz_scan.proofs.MarkLemmas.{marks_append, marks_empty}
 
@@ -133,7 +134,7 @@ at_users : (rule : Rule) (units : List (FileUnit Spot)) (h : Home) (p : PartialU
 unfolding partials_at
 at_users rule units h p there u is =
     let o = in_map_from (partial_with rule units h) p (distinct (map (users_of rule.alike units) (representatives rule units h))) there in
-    let t = in_map_from (users_of rule.alike units) o.source (representatives rule units h) (from_distinct o.source (map (users_of rule.alike units) (representatives rule units h)) o.there) in
+    let t = in_map_from (users_of rule.alike units) o.source (representatives rule units h) (distinct_in o.source (map (users_of rule.alike units) (representatives rule units h)) o.there) in
     let same : p.users ≡ users_of rule.alike units t.source = sym (ap (λ (w : PartialUnit). w.users) o.is) ∙ sym t.is in
     user_unit rule.alike units t.source.number u (subst (In u) same is)
 
@@ -156,7 +157,7 @@ users_there rule units files p there u is = elim (in_cases p (partials_at rule u
 file_got : (units : List (FileUnit Spot)) (u : ℕ) → Numbered 0 units u → slice_get (map (λ (f : FileUnit Spot). f.file) units) u ≡ Some (file_of units u)
 file_got units u n =
     let got = got_map (λ (f : FileUnit Spot). f.file) units u n.one (nth_get 0 units u u n.one n.nth (omega arith)) in
-    got ∙ ap (λ (k : ℕ). Some k) (sym (file_is units u ∙ got_index (map (λ (f : FileUnit Spot). f.file) units) u n.one.file 0 got))
+    got ∙ ap (λ (k : ℕ). Some k) (sym (file_is units u ∙ get_or_from_slice_get (map (λ (f : FileUnit Spot). f.file) units) u n.one.file 0 got))
 
 some_same : (m n : ℕ) → Some m ≡ Some n → m ≡ n
 some_same m n e = cc

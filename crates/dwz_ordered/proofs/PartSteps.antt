@@ -1,5 +1,6 @@
 -- The partial units of a file by their numbers, one by one.
-use Rattle.std.proofs.Common.{◌≡◌, ℕ, zero, suc, ◌+◌, ◌<◌, ◌≤◌, ◌==◌, cond, Bool, true, false, All, List, [], ◌∷◌, ◌++◌, Some, length, map, filter, take, get_or, slice_get, refl, sym, ap, subst, ◌∙◌, arith}
+use Rattle.std.proofs.Common.{◌≡◌, ℕ, zero, suc, ◌+◌, ◌<◌, ◌≤◌, ◌==◌, cond, Bool, true, false, All, List, [], ◌∷◌, ◌++◌, Some, length, map, filter, take, get_or, slice_get, refl, sym, ap, subst, ◌∙◌}
+use Rattle.std.proofs.Common.{arith}
 use Rattle.std.specs.Prelude.{slice_index_or}
 use Rattle.std.specs.List.{range_with_len}
 use Rattle.std.proofs.lemmas.List.{take_all, take_more}
@@ -14,11 +15,6 @@ use Rattle.dwz_ordered.specs.declared.orders.Settled.{Settled}
 use Rattle.dwz_ordered.specs.Ordered.{PartPut, PartsPut}
 use Rattle.dwz_ordered.specs.Steps.{NumberPut, NumbersPut}
 
-pub got_there : {X : Type 0} (xs : List X) (i : ℕ) (x : X) → i < length xs → x ≡ get_or xs i x → slice_get xs i ≡ Some x
-got_there [] i x lt e = absurd (omega arith)
-got_there (y ∷ xs) zero x lt e = ap (λ w. Some w) (sym e)
-got_there (y ∷ xs) (suc i) x lt e = got_there xs i x (omega arith) e
-
 -- ---- what is written of them
 
 put_append : (s : Settled) (numbers : List ℕ) (order : List UnitItems) (n : ℕ) (o : UnitItems) → NumbersPut s numbers order → NumberPut s n o → NumbersPut s (numbers ++ n ∷ []) (order ++ o ∷ [])
@@ -27,7 +23,8 @@ put_append s [] (x ∷ order) n o h p = absurd h
 put_append s (m ∷ numbers) [] n o h p = absurd h
 put_append s (m ∷ numbers) (x ∷ order) n o h p = (h.0, put_append s numbers order n o h.1 p)
 
-pub put_more : (s : Settled) (numbers : List ℕ) (i n : ℕ) (part : Partial) (now new : List UnitItems) (o : UnitItems) → i < length numbers → n ≡ get_or numbers i 0 → slice_get s.plan.now.partials n ≡ Some part → PartPut s n part o
+pub put_more : (s : Settled) (numbers : List ℕ) (i n : ℕ) (part : Partial) (now new : List UnitItems) (o : UnitItems) → i < length numbers → n ≡ get_or numbers i 0
+    → slice_get s.plan.now.partials n ≡ Some part → PartPut s n part o
     → NumbersPut s (take i numbers) now → new ≡ now ++ o ∷ [] → NumbersPut s (take (i + 1) numbers) new
 put_more s numbers i n part now new o lt is there put h e =
     let taken : take (i + 1) numbers ≡ take i numbers ++ n ∷ [] = take_more numbers i 0 lt ∙ ap (λ (k : ℕ). take i numbers ++ k ∷ []) (sym is) in
@@ -39,11 +36,14 @@ put_all s numbers i order le h = subst (λ (w : List ℕ). NumbersPut s w order)
 
 -- ---- by their files
 
-values_step : (n : ℕ) (part : Partial) (parts : List Partial) (file : ℕ) → values_at (file_pairs n (part ∷ parts)) file ≡ cond (part.file == file) (n ∷ values_at (file_pairs (suc n) parts) file) (values_at (file_pairs (suc n) parts) file)
+values_step : (n : ℕ) (part : Partial) (parts : List Partial) (file : ℕ) → values_at (file_pairs n (part ∷ parts)) file ≡ cond (part.file == file) (n ∷ values_at (file_pairs (suc n) parts) file)
+    (values_at (file_pairs (suc n) parts) file)
 unfolding values_at file_pairs
 values_step n part parts file = by (part.file == file) where
-  by : (b : Bool) → map (λ (p : Pair). p.value) (cond b (file_pair n part ∷ filter (λ (p : Pair). p.key == file) (file_pairs (suc n) parts)) (filter (λ (p : Pair). p.key == file) (file_pairs (suc n) parts)))
-      ≡ cond b (n ∷ map (λ (p : Pair). p.value) (filter (λ (p : Pair). p.key == file) (file_pairs (suc n) parts))) (map (λ (p : Pair). p.value) (filter (λ (p : Pair). p.key == file) (file_pairs (suc n) parts)))
+  by : (b : Bool) → map (λ (p : Pair). p.value) (cond b (file_pair n part ∷ filter (λ (p : Pair). p.key == file) (file_pairs (suc n) parts))
+      (filter (λ (p : Pair). p.key == file) (file_pairs (suc n) parts)))
+      ≡ cond b (n ∷ map (λ (p : Pair). p.value) (filter (λ (p : Pair). p.key == file) (file_pairs (suc n) parts)))
+      (map (λ (p : Pair). p.value) (filter (λ (p : Pair). p.key == file) (file_pairs (suc n) parts)))
   by true = refl
   by false = refl
 
@@ -79,7 +79,8 @@ from_numbers s file n (part ∷ parts) order from h =
         (subst (λ (w : Partial). PartPut s n w o) same h.0.put, rest order h.1)
     by false order h rest = rest order h
 
-pub parts_put : (s : Settled) (file : ℕ) (numbers : List ℕ) (order : List UnitItems) → numbers ≡ values_at (file_pairs 0 s.plan.now.partials) file → NumbersPut s numbers order → PartsPut s file 0 s.plan.now.partials order
+pub parts_put : (s : Settled) (file : ℕ) (numbers : List ℕ) (order : List UnitItems) → numbers ≡ values_at (file_pairs 0 s.plan.now.partials) file → NumbersPut s numbers order
+    → PartsPut s file 0 s.plan.now.partials order
 parts_put s file numbers order e h =
     from_numbers s file 0 s.plan.now.partials order (λ k part got. (let z : 0 + k ≡ k = omega arith in ap (slice_get s.plan.now.partials) z ∙ got)) (subst (λ (w : List ℕ). NumbersPut s w order) e h)
 
@@ -112,14 +113,16 @@ range_long f s zero = refl
 range_long f s (suc n) = ap suc (range_long f (s + 1) n)
 
 -- the list under each key
-pub grouped_at : (count key : ℕ) (pairs : List Pair) (groups : List (List ℕ)) → groups ≡ grouped count pairs → key < count → (key < length groups) × (slice_index_or groups key [] ≡ values_at pairs key)
+pub grouped_at : (count key : ℕ) (pairs : List Pair) (groups : List (List ℕ)) → groups ≡ grouped count pairs → key < count
+    → (key < length groups) × (slice_index_or groups key [] ≡ values_at pairs key)
 unfolding grouped
 grouped_at count key pairs groups e lt =
     let long : length groups ≡ count = ap (λ (w : List (List ℕ)). length w) e ∙ range_long (values_at pairs) 0 count in
     (omega arith, ap (λ (w : List (List ℕ)). get_or w key []) e ∙ map_range (values_at pairs) 0 count key [] lt ∙ (let z : 0 + key ≡ key = omega arith in ap (values_at pairs) z))
 
 -- each is of one of so many files
-pub files_low : (m n : ℕ) (xs ys : List Partial) → ys ≡ xs → n ≡ m → ((k : ℕ) (d : Partial) → k < length xs → (get_or xs k d).file ≤ n) → (k : ℕ) (d : Partial) → k < length ys → (get_or ys k d).file ≤ m
+pub files_low : (m n : ℕ) (xs ys : List Partial) → ys ≡ xs → n ≡ m → ((k : ℕ) (d : Partial) → k < length xs → (get_or xs k d).file ≤ n) → (k : ℕ) (d : Partial) → k < length ys
+    → (get_or ys k d).file ≤ m
 files_low m n xs ys e f h =
     subst (λ (w : List Partial). (k : ℕ) (d : Partial) → k < length w → (get_or w k d).file ≤ m) (sym e)
     (subst (λ (w : ℕ). (k : ℕ) (d : Partial) → k < length xs → (get_or xs k d).file ≤ w) f h)
@@ -127,4 +130,5 @@ files_low m n xs ys e f h =
 -- the numbers of a file, where they are grouped
 pub numbers_of : (s : Settled) (files file : ℕ) (parts : List Partial) (groups : List (List ℕ)) → parts ≡ s.plan.now.partials → groups ≡ grouped (files + 1) (file_pairs 0 parts) → file ≤ files
     → (file < length groups) × (slice_index_or groups file [] ≡ values_at (file_pairs 0 s.plan.now.partials) file)
-numbers_of s files file parts groups e g le = grouped_at (files + 1) file (file_pairs 0 s.plan.now.partials) groups (g ∙ ap (λ (w : List Partial). grouped (files + 1) (file_pairs 0 w)) e) (omega arith)
+numbers_of s files file parts groups e g le = grouped_at (files + 1) file (file_pairs 0 s.plan.now.partials) groups (g ∙ ap (λ (w : List Partial). grouped (files + 1) (file_pairs 0 w)) e)
+    (omega arith)

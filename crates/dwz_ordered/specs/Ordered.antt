@@ -72,7 +72,8 @@ abbrev pub FilesPut : Settled → (number start : ℕ) → List File → List In
 FilesPut s number start [] [] orders = orders ≡ []
 FilesPut s number start (f ∷ files) (x ∷ indexes) orders =
     IfSo (flag_at s.files.now number)
-    (FirstFile (FilePut s (raw_units f.units) (from_index number start x) (next_index x)) (FilesPut s (suc number) (start + length x.steps) files indexes) orders)
+    (FirstFile (FilePut s (raw_units f.units) (from_index number start x) (next_index x))
+    (FilesPut s (suc number) (start + length x.steps) files indexes) orders)
     (FilesPut s (suc number) (start + length x.steps) files indexes orders)
 FilesPut s number start _ _ orders = ⊥
 
@@ -96,5 +97,6 @@ pub record PartsFit (docs : List (Doc ℕ)) (parts : List Partial) : Type 0 wher
 
 abbrev pub FitLaw : Type 0
 FitLaw =
-    (contents : List (List ℕ)) (files : List File) (indexes : List Index) (rule : Rule) (plan : Planned) → AreKept contents files → AreIndexes (docs_of contents) indexes
+    (contents : List (List ℕ)) (files : List File) (indexes : List Index) (rule : Rule) (plan : Planned) → AreKept contents files
+    → AreIndexes (docs_of contents) indexes
     → ShowsPlan rule (units_of (docs_of contents)) (length (docs_of contents)) plan → PartsFit (docs_of contents) plan.partials

@@ -44,7 +44,9 @@ pub fn changed_files(
 ) -> Result<Vec<bool>, NoMemory>
     requires homes { length plan.now.homes ≡ length tops.now.rows }
     requires few { length tops.now.rows < 2 ^ 32 }
-    ensures { (docs : List (Doc ℕ)) (rule : Rule) → length docs ≡ files → ShowsTops (units_of docs) tops.now → ShowsPlan rule (units_of docs) (length docs) plan.now → IfOk result (λ flags. flags.items ≡ map (changes (move_of rule docs) (units_of docs)) (file_numbers 0 docs)) }
+    ensures { (docs : List (Doc ℕ)) (rule : Rule) → length docs ≡ files → ShowsTops (units_of docs) tops.now
+        → ShowsPlan rule (units_of docs) (length docs) plan.now
+        → IfOk result (λ flags. flags.items ≡ map (changes (move_of rule docs) (units_of docs)) (file_numbers 0 docs)) }
 {
     let files_of_units = tops.files_of_units.as_slice();
     let mut flags = vec![in alloc; false; files as usize]?;

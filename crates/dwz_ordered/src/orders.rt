@@ -140,7 +140,8 @@ fn put_file(
     requires small { HasSmallNumbers index.now.starts start (entries_in (raw_units file.now.units)) }
     requires few_units { length (raw_units file.now.units) ≤ entries_in (raw_units file.now.units) }
     requires imports { index.now.starts.unit + length (raw_units file.now.units) ≤ length settled.now.plan.now.imports }
-    ensures { OnOk result (PutsFile (FilePut settled.now (raw_units file.now.units) (from_index number start index.now) (next_index index.now)) (flag_at settled.now.files.now number) orders.old.items orders.new.items) }
+    ensures { OnOk result (PutsFile (FilePut settled.now (raw_units file.now.units) (from_index number start index.now)
+        (next_index index.now)) (flag_at settled.now.files.now number) orders.old.items orders.new.items) }
 {
     if !is_written(settled.files, number as usize) {
         return Ok(());

@@ -1,17 +1,18 @@
 -- Where nothing refuses them, all files are made as is asked.
-use Rattle.std.proofs.Common.{◌≡◌, ◌&&◌, ◌==◌, ℕ, suc, ◌+◌, Bool, true, List, [], ◌∷◌, length, map, refl, sym, ap, subst, ◌∙◌, inl, inr, eqb-true, ◌^◌, ◌<◌, ◌++◌, Some, None, unwrap_or, arith, false, Option}
+use Rattle.std.proofs.Common.{◌≡◌, ◌&&◌, ◌==◌, ℕ, suc, ◌+◌, Bool, true, List, [], ◌∷◌, length, map, refl, sym, ap, subst, ◌∙◌, inl, inr, eqb-true, ◌^◌, ◌<◌, ◌++◌, Some, None, unwrap_or, arith, false}
+use Rattle.std.proofs.Common.{Option}
 use Rattle.std.specs.Prelude.{if◌then◌else◌}
 use Rattle.std.proofs.lemmas.Bool.{and_parts}
 use Rattle.std.specs.List.{list_any}
 use Rattle.dwz_model.specs.declared.fault.Refusal.{Refusal}
-use Rattle.dwz_docs.specs.Lists.{In}
+use Rattle.dwz_docs.specs.Lists.{Each, In}
 use Rattle.dwz_docs.specs.Units.{RawUnit}
 use Rattle.dwz_docs.specs.Values.{AreBytes}
 use Rattle.dwz_meanings.specs.Documents.{Doc, DwUnit}
-use Rattle.dwz_meanings.specs.Files.{around_of}
-use Rattle.dwz_meanings.specs.Meanings.{MeanUnits}
-use Rattle.dwz_seen.specs.Lists.{Each, Nth}
-use Rattle.dwz_seen.proofs.Members.{any_from, in_cases, nth_in}
+use Rattle.dwz_meanings.specs.Files.{around_of, debug_info, section_of}
+use Rattle.dwz_meanings.specs.Meanings.{MeanUnits, Sources}
+use Rattle.dwz_seen.specs.Lists.{Nth}
+use Rattle.dwz_seen.proofs.Members.{any_from, nth_in}
 use Rattle.dwz_alike.specs.Spots.{FileUnit, Spot, Top, file_numbers, in_file, named, named_files, tops_among, tops_of, units_of}
 use Rattle.dwz_alike.proofs.Tops.{unit_of}
 use Rattle.dwz_same.specs.Units.{changes, common_units}
@@ -37,11 +38,10 @@ use Rattle.dwz_rebuilt.specs.Changed.{changes_by}
 use Rattle.dwz_docs.specs.Supplementary.{SpellsSup, sup_bytes}
 use Rattle.dwz_docs.specs.Texts.{NoZero}
 use Rattle.dwz_docs.proofs.SupLemmas.{sup_written}
+use Rattle.dwz_docs.proofs.ListFacts.{in_cases}
 use Rattle.dwz_sup.specs.Common.{common_sum}
 use Rattle.dwz_sup.proofs.LengthLemmas.{sum_len}
 use Rattle.sha2.specs.Sha256.{sha256}
-use Rattle.dwz_meanings.specs.Files.{debug_info, section_of}
-use Rattle.dwz_meanings.specs.Meanings.{Sources}
 use Rattle.dwz_writing.specs.Placing.{texts_bytes}
 use Rattle.dwz_out.specs.Contents.{common_after, if_some, listed, sections_after}
 use Rattle.dwz_out.proofs.FilesMade.{has_sections, has_sup, sections_fit}

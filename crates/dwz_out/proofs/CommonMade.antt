@@ -4,7 +4,7 @@ use Rattle.std.proofs.lemmas.Bool.{cases_lt}
 use Rattle.std.proofs.Math.Nat.{pow-le-pow_right}
 use Rattle.std.proofs.lemmas.List.{length-take}
 use Rattle.std.specs.List.{list_any}
-use Rattle.dwz_model.specs.declared.sections.Sections.{Sections}
+use Rattle.dwz_model.specs.declared.sections.NewSections.{NewSections}
 use Rattle.dwz_docs.specs.declared.elf.FileHeader.{FileHeader}
 use Rattle.dwz_docs.specs.declared.elf.NewContent.{NewContent}
 use Rattle.dwz_docs.specs.ElfHeaders.{file_header, number_at}
@@ -15,6 +15,7 @@ use Rattle.dwz_docs.specs.Lists.{In}
 use Rattle.dwz_docs.specs.Supplementary.{sup_bytes}
 use Rattle.dwz_docs.specs.Values.{AreBytes}
 use Rattle.dwz_docs.proofs.WrittenLemmas.{drop_bytes, le_value-less}
+use Rattle.dwz_docs.proofs.ListFacts.{in_right}
 use Rattle.dwz_meanings.specs.Documents.{DwUnit}
 use Rattle.dwz_meanings.specs.Files.{section_of, sources_of}
 use Rattle.dwz_meanings.specs.Meanings.{Sources}
@@ -23,7 +24,6 @@ use Rattle.dwz_rebuilt.proofs.PlainBackLemmas.{abbrev_read, aranges_read, common
 use Rattle.dwz_sup.specs.Common.{common_file, common_sum}
 use Rattle.dwz_sup.proofs.CommonReads.{common_fits, common_known}
 use Rattle.dwz_sup.proofs.LengthLemmas.{length_common}
-use Rattle.dwz_seen.proofs.Members.{in_right}
 use Rattle.dwz_alike.specs.Spots.{Spot}
 use Rattle.dwz_moving.specs.Homes.{Common}
 use Rattle.dwz_moving.specs.Moves.{Move}
@@ -32,6 +32,7 @@ use Rattle.dwz_same.specs.Units.{common_units, partial_unit, partial_units}
 use Rattle.dwz_writing.specs.Placing.{FitsSections, UnitSections, fit_units, lines_bytes, paths_of, sections, texts_bytes, texts_of, units_with}
 use Rattle.dwz_writing.specs.Writing.{joined, tables_of, units_bytes}
 use Rattle.dwz_writing.proofs.ReadAgain.{take_bytes}
+use Rattle.dwz_writing.proofs.WriteLengths.{no_lines}
 use Rattle.dwz_back.specs.Files.{HasCommon, Run, common_fitted, common_forms, common_sections, common_sources, paths, places, texts}
 use Rattle.dwz_out.specs.Contents.{common_after, if_some}
 use Rattle.dwz_out.specs.FilesAfter.{common_bytes, has_common, is_common}
@@ -40,7 +41,7 @@ use Rattle.dwz_out.proofs.FreeLemmas.{Nothing, is_short, not_first, not_then}
 
 -- ---- where no top has its home there, it would hold nothing
 
-no_parts : (m : Move) (n : ℕ) (parts : List PartialUnit) → list_any is_common parts ≡ false → partial_units m Common n parts ≡ []
+pub no_parts : (m : Move) (n : ℕ) (parts : List PartialUnit) → list_any is_common parts ≡ false → partial_units m Common n parts ≡ []
 unfolding partial_units
 no_parts m n [] none = refl
 no_parts m n (part ∷ parts) none = by (no_parts m (suc n) parts) (is_common part) none where
@@ -66,7 +67,7 @@ number_fits bytes at k are =
 -- ---- it holds what it is to hold
 
 module _ (r : Run) (are : AreBytes (r.input.bytes 0)) where
-  abbrev s : Sections
+  abbrev s : NewSections
   s = common_after r
 
   abbrev machine : ℕ
@@ -122,12 +123,8 @@ large_lines : (ts : List (List ℕ)) → ((n : NewContent) → In n (if_new 6 (i
 large_lines [] short = lit< tt
 large_lines (t ∷ ts) short = short (record { code = 6; bytes = lines_bytes (t ∷ ts) }) (inl refl)
 
-no_lines : length (lines_bytes (paths_of {K = Spot} [] [])) < too_large
-unfolding units_with
-no_lines = lit< tt
-
 -- a file without units
-abbrev empty : Sections
+abbrev empty : NewSections
 empty = record { info = []; «abbrev» = []; strs = None; offsets = None; line = None; loclists = None; aranges = None }
 
 empty_file : (machine flags : ℕ) → length (common_file machine flags empty) < too_large
@@ -197,7 +194,7 @@ module _ (r : Run) (free : has_common r ≡ true → Nothing (CommonFault r)) wh
       let none = no_units r e in
       let lines : length (lines_bytes (paths r)) < too_large = subst (λ (units : List (DwUnit Spot)). length (lines_bytes (paths_of [] units)) < too_large) (sym none) no_lines in
       record {
-        file = subst (λ (w : Sections). length (common_file first.machine first.flags w) < too_large) (sym (empty_sections r none)) (empty_file first.machine first.flags);
+        file = subst (λ (w : NewSections). length (common_file first.machine first.flags w) < too_large) (sym (empty_sections r none)) (empty_file first.machine first.flags);
         lines = lines;
         sections = subst (λ (w : UnitSections). FitsSections w) (sym (empty_units r none)) (lit< tt, lit< tt);
       }

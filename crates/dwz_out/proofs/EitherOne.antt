@@ -11,7 +11,8 @@ use Rattle.dwz_same.specs.Units.{changes}
 use Rattle.dwz_back.specs.Files.{Run}
 use Rattle.dwz_out.specs.Contents.{common_after, listed, sections_after}
 use Rattle.dwz_out.specs.FilesAfter.{changes_after, common_bytes, has_common, order_of}
-use Rattle.dwz_out.specs.Refusals.{CommonFault, CommonRefusal, FileFault, FirstNarrow, InFile, IsLargeCommon, IsLargeFile, IsLargeSection, IsUnplaced, OfFirst, OrElse, OutFault, SectionsFault, narrow_at, spoken, too_large_at}
+use Rattle.dwz_out.specs.Refusals.{CommonFault, CommonRefusal, FileFault, FirstNarrow, InFile, IsLargeCommon, IsLargeFile, IsLargeSection, IsUnplaced, OfFirst, OrElse, OutFault, SectionsFault}
+use Rattle.dwz_out.specs.Refusals.{narrow_at, spoken, too_large_at}
 use Rattle.dwz_out.proofs.FreeLemmas.{Nothing}
 use Rattle.dwz_out.proofs.NoneNarrow.{least_of, not_narrow}
 

@@ -2,7 +2,7 @@
 use Rattle.std.proofs.Common.{◌≡◌, ℕ, ◌<◌, true, List, [], ◌∷◌, length, Option, Some, None, unwrap_or, refl, sym, ap, subst, ◌∙◌, inl, inr}
 use Rattle.std.proofs.lemmas.Bool.{cases_lt}
 use Rattle.dwz_model.specs.declared.fault.Fault.{Fault}
-use Rattle.dwz_model.specs.declared.sections.Sections.{Sections}
+use Rattle.dwz_model.specs.declared.sections.NewSections.{NewSections}
 use Rattle.dwz_docs.specs.ElfLayout.{layout_fault, rebuilt_length, too_large}
 use Rattle.dwz_docs.specs.ElfReading.{elf_of}
 use Rattle.dwz_docs.specs.Values.{AreBytes}
@@ -19,6 +19,7 @@ use Rattle.dwz_rebuilt.proofs.RebuiltLemmas.{back}
 use Rattle.dwz_same.specs.Units.{changes}
 use Rattle.dwz_writing.specs.Meant.{AreRenumbered}
 use Rattle.dwz_writing.specs.Placing.{FitsSections}
+use Rattle.dwz_writing.proofs.ReadAgain.{section_bytes}
 use Rattle.dwz_back.specs.AllFiles.{IsRead}
 use Rattle.dwz_back.specs.Files.{AreRanged, HasSections, OffsetsIf, Run, places, sections_of, sources, tells}
 use Rattle.dwz_out.specs.Contents.{lists_after, offsets_after, ranges_after, sections_after, strs_after}
@@ -29,7 +30,6 @@ use Rattle.dwz_out.proofs.FreeLemmas.{Nothing, is_short, not_first, not_then}
 use Rattle.dwz_out.proofs.GivenSections.{can_give, can_give_other, none_if_none, other_is, reads_sound, some_bytes}
 use Rattle.dwz_out.proofs.Orders.{is_order}
 use Rattle.dwz_out.proofs.SlotsMade.{no_offsets, no_strs, offsets_made}
-use Rattle.dwz_out.proofs.FilesRead.{section_bytes}
 use Rattle.dwz_out.proofs.SectionsMade.{lists_len, lists_made, ranges_len, ranges_made}
 
 module _ (name : List ℕ) (r : Run) (file : ℕ) (doc : Doc ℕ) (read : IsRead (r.input.bytes file) (r.input.raw file) (r.input.prunes file) doc) (are : AreBytes (r.input.bytes file))
@@ -37,7 +37,7 @@ module _ (name : List ℕ) (r : Run) (file : ℕ) (doc : Doc ℕ) (read : IsRead
   abbrev input : List ℕ
   input = r.input.bytes file
 
-  abbrev s : Sections
+  abbrev s : NewSections
   s = sections_after r file
 
   have_bytes : (0 < length (debug_info input)) × (0 < length (debug_abbrev input))

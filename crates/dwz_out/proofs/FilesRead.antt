@@ -1,26 +1,16 @@
 -- Contents that read, file by file, with the units as they are stored.
-use Rattle.std.proofs.Common.{◌≡◌, ℕ, zero, suc, ◌+◌, List, [], ◌∷◌, drop, get_or, Option, Some, None, Result, Ok, Err, sym, ap, subst, inl, inr, arith, Bool, false}
+use Rattle.std.proofs.Common.{◌≡◌, ℕ, zero, suc, ◌+◌, List, [], ◌∷◌, get_or, Result, Ok, Err, sym, ap, subst, inl, inr, arith, Bool, false}
 use Rattle.dwz_model.specs.declared.fault.Fault.{Fault}
-use Rattle.dwz_docs.specs.ElfNames.{sections_in}
-use Rattle.dwz_docs.specs.ElfReading.{bytes_in, section_range}
 use Rattle.dwz_docs.specs.Units.{RawUnit}
 use Rattle.dwz_docs.specs.Values.{AreBytes}
-use Rattle.dwz_docs.proofs.WrittenLemmas.{drop_bytes}
 use Rattle.dwz_meanings.specs.Documents.{Doc}
-use Rattle.dwz_meanings.specs.Files.{Limits, ReadAll, Reads, limits_after, no_files_before, section_of}
+use Rattle.dwz_meanings.specs.Files.{Limits, ReadAll, Reads, limits_after, no_files_before}
 use Rattle.dwz_meanings.proofs.FileLemmas.{file_agrees}
-use Rattle.dwz_seen.specs.Lists.{Each, Nth}
-use Rattle.dwz_writing.proofs.ReadAgain.{take_bytes}
+use Rattle.dwz_seen.specs.Lists.{Nth}
+use Rattle.dwz_docs.specs.Lists.{Each}
+use Rattle.dwz_writing.proofs.ReadAgain.{section_bytes}
 use Rattle.dwz_back.specs.AllFiles.{AreRead, IsRead}
 use Rattle.dwz_out.specs.Out.{ArePrunable, ReadAs, raws, stored_of}
-
-in_bytes : (input : List ℕ) (range : Option (ℕ × ℕ)) → AreBytes input → AreBytes (bytes_in input range)
-in_bytes input None are = tt
-in_bytes input (Some range) are = take_bytes range.1 (drop range.0 input) (drop_bytes range.0 input are)
-
-pub section_bytes : (input : List ℕ) (code : ℕ) → AreBytes input → AreBytes (section_of input code)
-unfolding section_of
-section_bytes input code are = in_bytes input (section_range (sections_in input) code) are
 
 -- the content with a number is of bytes
 pub content_bytes : (contents : List (List ℕ)) → Each AreBytes contents → (n : ℕ) → AreBytes (get_or contents n [])

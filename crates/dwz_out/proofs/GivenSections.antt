@@ -23,7 +23,7 @@ use Rattle.dwz_out.specs.Contents.{if_other}
 
 -- ---- a file that reads has no fault
 
-no_fault_at : (o : Option Fault) (u : Unit {0}) → ends_at o ≡ Ok u → o ≡ None
+pub no_fault_at : (o : Option Fault) (u : Unit {0}) → ends_at o ≡ Ok u → o ≡ None
 no_fault_at None u e = refl
 no_fault_at (Some f) u e = absurd cc
 

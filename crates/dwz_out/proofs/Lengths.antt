@@ -7,7 +7,7 @@ use Rattle.dwz_docs.specs.ElfReading.{elf_of}
 use Rattle.dwz_docs.specs.Values.{AreBytes}
 use Rattle.dwz_meanings.specs.Documents.{Doc}
 use Rattle.dwz_meanings.specs.Files.{Limits, ReadAll, limits_after, longest_file, no_files_before}
-use Rattle.dwz_seen.specs.Lists.{Each}
+use Rattle.dwz_docs.specs.Lists.{Each}
 use Rattle.dwz_same.specs.Units.{changes}
 use Rattle.dwz_back.specs.Files.{Run}
 use Rattle.dwz_back.proofs.StillPlaces.{nth_number}
@@ -22,7 +22,7 @@ use Rattle.dwz_out.proofs.FilesMade.{can_be_made}
 use Rattle.dwz_out.proofs.FilesRead.{content_bytes}
 
 -- what reads is short
-read_small : (l : Limits) (contents : List (List ℕ)) (docs : List (Doc ℕ)) → ReadAll l contents docs → (n : ℕ) → length (get_or contents n []) ≤ longest_file
+pub read_small : (l : Limits) (contents : List (List ℕ)) (docs : List (Doc ℕ)) → ReadAll l contents docs → (n : ℕ) → length (get_or contents n []) ≤ longest_file
 read_small l [] docs all n = omega arith
 read_small l (c ∷ contents) [] all n = absurd all
 read_small l (c ∷ contents) (d ∷ docs) all zero = all.1.size.file

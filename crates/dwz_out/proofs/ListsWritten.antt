@@ -1,10 +1,11 @@
 -- Numbers that are written over the operands of lists that share nothing, in whatever order, leave a section that is patched; and there is
 -- just one such section.
-use Rattle.std.proofs.Common.{◌≡◌, ◌⊎◌, ℕ, zero, suc, ◌+◌, ◌-◌, ◌<◌, ◌≤◌, Bool, true, false, List, [], ◌∷◌, ◌++◌, length, take, drop, get_or, set, map, refl, sym, ap, subst, ◌∙◌, inl, inr, arith, eqb, eq-eqb, eqb-true}
-use Rattle.std.proofs.Math.ListN.{length-set}
+use Rattle.std.proofs.Common.{◌≡◌, ◌⊎◌, ℕ, ◌+◌, ◌-◌, ◌<◌, ◌≤◌, Bool, true, false, List, [], ◌∷◌, ◌++◌, length, take, drop, get_or, map, refl, sym, ap, subst, ◌∙◌, inl, inr, arith, eqb, eq-eqb}
+use Rattle.std.proofs.Common.{eqb-true}
 use Rattle.std.proofs.lemmas.Bool.{cases_lt}
-use Rattle.std.proofs.lemmas.List.{ext_get_or, get_or-drop, get_or-set_other, get_or-set_same, get_or-take, length-drop, length-take-le}
+use Rattle.std.proofs.lemmas.List.{ext_get_or, get_or-drop, get_or-take, length-drop, length-take-le}
 use Rattle.dwz_docs.specs.Lists.{In}
+use Rattle.dwz_docs.proofs.ListFacts.{in_map as map_in}
 use Rattle.dwz_meanings.specs.declared.exprs.Operand.{Operand}
 use Rattle.dwz_meanings.specs.Exprs.{ExprContext}
 use Rattle.dwz_meanings.specs.LocLists.{SpellsList}
@@ -13,33 +14,10 @@ use Rattle.dwz_meanings.specs.Patching.{number_bytes, written_at}
 use Rattle.dwz_meanings.specs.Sequences.{StandsFrom}
 use Rattle.dwz_meanings.specs.Shared.{HasByte, IsSame, ListOperand, NamedList, NoneShared, has_byte, is_same, of_unit, operands_in_lists, own_operands}
 use Rattle.dwz_meanings.proofs.CutLemmas.{number_len}
-use Rattle.dwz_meanings.proofs.NamedAgain.{in_map, map_in}
+use Rattle.dwz_meanings.proofs.NamedAgain.{in_map}
 use Rattle.dwz_meanings.proofs.SharedLemmas.{has_decides, same_decides}
-use Rattle.dwz_meanings.proofs.WriteOver.{written_len}
+use Rattle.dwz_meanings.proofs.WriteOver.{written_in, written_len, written_other}
 use Rattle.dwz_out.proofs.OperandNumbers.{number_stands, operand_within, value_of}
-
--- ---- bytes written over others
-
-written_out : (at : ℕ) (new bytes : List ℕ) (b : ℕ) → (b < at) ⊎ (at + length new ≤ b) → get_or (written_at at new bytes) b 0 ≡ get_or bytes b 0
-unfolding written_at
-written_out at [] bytes b out = refl
-written_out at (n ∷ new) bytes b out =
-    let apart : b ≡ at → ⊥ = λ same. elim out [ inl before ↦ omega (arith, same, before) | inr behind ↦ omega (arith, same, behind) ] in
-    let rest : (b < at + 1) ⊎ (at + 1 + length new ≤ b) = elim out [ inl before ↦ inl (omega (arith, before)) | inr behind ↦ inr (omega (arith, behind)) ] in
-    written_out (at + 1) new (set bytes at n) b rest ∙ get_or-set_other bytes at b n 0 apart
-
-written_in : (at : ℕ) (new bytes : List ℕ) (k : ℕ) → k < length new → at + length new ≤ length bytes → get_or (written_at at new bytes) (at + k) 0 ≡ get_or new k 0
-unfolding written_at
-written_in at [] bytes k lt le = absurd (omega (arith, lt))
-written_in at (n ∷ new) bytes zero lt le =
-    let here : at + 0 ≡ at = omega arith in
-    ap (λ (b : ℕ). get_or (written_at (at + 1) new (set bytes at n)) b 0) here
-    ∙ written_out (at + 1) new (set bytes at n) at (inl (omega arith))
-    ∙ get_or-set_same bytes at n 0 (omega (arith, le))
-written_in at (n ∷ new) bytes (suc k) lt le =
-    let next : at + suc k ≡ at + 1 + k = omega arith in
-    ap (λ (b : ℕ). get_or (written_at (at + 1) new (set bytes at n)) b 0) next
-    ∙ written_in (at + 1) new (set bytes at n) k (omega (arith, lt)) (omega (arith, le, length-set bytes at n))
 
 -- ---- operand by operand, in whatever order
 
@@ -97,7 +75,7 @@ over_byte (o ∷ os) bytes within b = elim (over_byte os first (λ p there. (let
         | inl before ↦ inl before
         | inr from ↦ elim (cases_lt b (o.at + o.width)) [ inl to ↦ absurd (lacks (from, to)) | inr behind ↦ inr (omega (arith, behind, len)) ]
       ] in
-      inr (λ p there has. elim there [ inl same ↦ lacks (subst (λ (q : Operand). HasByte q b) (sym same) has) | inr later ↦ none.0 p later has ], none.1 ∙ written_out o.at (spelled o) bytes b out)
+      inr (λ p there has. elim there [ inl same ↦ lacks (subst (λ (q : Operand). HasByte q b) (sym same) has) | inr later ↦ none.0 p later has ], none.1 ∙ written_other o.at (spelled o) bytes b out)
 
 -- ---- the operands of lists
 

@@ -3,7 +3,7 @@ use Rattle.std.proofs.Common.{◌≡◌, ℕ, ◌≤◌, Bool, true, false, List
 use Rattle.dwz_model.specs.declared.fault.Fault.{Fault}
 use Rattle.dwz_model.specs.declared.fault.Reason.TheVariants.{Layout}
 use Rattle.dwz_model.specs.declared.fault.Refusal.{Refusal}
-use Rattle.dwz_model.specs.declared.sections.Sections.{Sections}
+use Rattle.dwz_model.specs.declared.sections.NewSections.{NewSections}
 use Rattle.dwz_docs.specs.declared.elf.NewContent.{NewContent}
 use Rattle.dwz_docs.specs.declared.elf.Section.{Section}
 use Rattle.dwz_docs.specs.ElfFaults.{file_fault}
@@ -44,7 +44,7 @@ last_new code None n small there = absurd there
 last_new code (Some bytes) n small (inl same) = subst (λ (m : NewContent). m.code ≤ 9) same small
 last_new code (Some bytes) n small (inr there) = absurd there
 
-few_codes : (s : Sections) (n : NewContent) → In n (changes_by s None).new → n.code ≤ 9
+few_codes : (s : NewSections) (n : NewContent) → In n (changes_by s None).new → n.code ≤ 9
 few_codes s n =
     let last = if_new 8 s.aranges in
     let lists = if_new 7 s.loclists ++ last in
@@ -57,7 +57,7 @@ few_codes s n =
     (of_new 3 s.strs offsets n (lit≤ tt)
     (of_new 5 s.offsets lines n (lit≤ tt) (of_new 6 s.line lists n (lit≤ tt) (of_new 7 s.loclists last n (lit≤ tt) (last_new 8 s.aranges n (lit≤ tt)))))))
 
-large : (s : Sections) → Gives (OfFirst IsLargeSection (changes_by s None).new) OfSection
+large : (s : NewSections) → Gives (OfFirst IsLargeSection (changes_by s None).new) OfSection
 large s = of_first IsLargeSection OfSection (changes_by s None).new (λ n there f is. subst OfSection (sym is.0) (few_codes s n there))
 
 -- ---- a file

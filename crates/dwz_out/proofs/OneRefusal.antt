@@ -6,7 +6,8 @@ use Rattle.dwz_meanings.specs.Shared.{ListOperand}
 use Rattle.dwz_rebuilt.specs.Changed.{changes_by}
 use Rattle.dwz_back.specs.Files.{Run}
 use Rattle.dwz_out.specs.Contents.{common_after, listed, sections_after}
-use Rattle.dwz_out.specs.Refusals.{CommonFault, CommonRefusal, FileFault, FirstNarrow, InFile, IsLargeCommon, IsLargeFile, IsLargeSection, IsUnplaced, OfFirst, OrElse, OutFault, SectionsFault, narrow_at, spoken}
+use Rattle.dwz_out.specs.Refusals.{CommonFault, CommonRefusal, FileFault, FirstNarrow, InFile, IsLargeCommon, IsLargeFile, IsLargeSection, IsUnplaced, OfFirst, OrElse, OutFault, SectionsFault}
+use Rattle.dwz_out.specs.Refusals.{narrow_at, spoken}
 
 abbrev pub AtMostOne : {X : Type 0} → (X → Type 0) → Type 0
 AtMostOne {X} P = (x y : X) → P x → P y → x ≡ y

@@ -1,14 +1,15 @@
 -- Where no operand of a file is too narrow, the units that are written of it have room for their operands.
-use Rattle.std.proofs.Common.{◌≡◌, ℕ, suc, ◌+◌, ◌≤◌, Bool, true, false, List, [], ◌∷◌, length, map, refl, sym, ap, subst, ◌∙◌, inl, inr, arith, eq-eqb, ne_eqb}
-use Rattle.dwz_docs.specs.Lists.{In}
+use Rattle.std.proofs.Common.{◌≡◌, ℕ, suc, ◌+◌, Bool, true, false, List, [], ◌∷◌, length, map, refl, sym, ap, subst, ◌∙◌, inl, inr, arith, eq-eqb, ne_eqb}
+use Rattle.dwz_docs.specs.Lists.{Each, In}
 use Rattle.dwz_docs.specs.Pruning.{new_number}
+use Rattle.dwz_docs.proofs.ListFacts.{in_cases}
 use Rattle.dwz_meanings.specs.Documents.{Attr, Doc, DwUnit, attr_map, unit_map}
 use Rattle.dwz_meanings.specs.Files.{sources_of}
 use Rattle.dwz_meanings.specs.Meanings.{Class}
 use Rattle.dwz_meanings.specs.Shared.{ListOperand}
-use Rattle.dwz_seen.specs.Lists.{Each, Nth}
-use Rattle.dwz_seen.proofs.Members.{each_append, each_in, each_more, each_of, each_split, in_cases, nth_in}
-use Rattle.dwz_alike.specs.Alike.{IsAlike, Scope}
+use Rattle.dwz_seen.specs.Lists.{Nth}
+use Rattle.dwz_seen.proofs.Members.{each_append, each_in, each_more, each_of, each_split, nth_in}
+use Rattle.dwz_alike.specs.Alike.{IsAlike, TopScope}
 use Rattle.dwz_alike.specs.Spots.{FileUnit, Spot, in_file, named, named_files, spot_in, spots_from, tops_among, units_of}
 use Rattle.dwz_moving.specs.Homes.{IsChoice, Local, Rule}
 use Rattle.dwz_moving.specs.Moves.{Move, image_in}
@@ -33,6 +34,7 @@ use Rattle.dwz_back.proofs.LineLemmas.{local_roots}
 use Rattle.dwz_back.proofs.OriginLemmas.{bases_mapped}
 use Rattle.dwz_back.proofs.OutsCarried.{out_carried}
 use Rattle.dwz_back.proofs.ReadPlaces.{read_from}
+use Rattle.dwz_back.proofs.NamedOperands.{later_file}
 use Rattle.dwz_out.specs.Contents.{listed}
 use Rattle.dwz_out.specs.Refusals.{spoken}
 use Rattle.dwz_out.proofs.RoomFormed.{attr_named, fitted_room, unit_named}
@@ -59,15 +61,6 @@ in_block : (file : ℕ) (names : ℕ → Spot) (units : List (DwUnit ℕ)) (u : 
 in_block file names [] u there = absurd there
 in_block file names (v ∷ units) u (inl e) = record { file_is = ap (λ (w : FileUnit Spot). w.file) (sym e); old = v; there = inl refl; is = ap (λ (w : FileUnit Spot). w.unit) e }
 in_block file names (v ∷ units) u (inr r) = (let b = in_block file names units u r in record { file_is = b.file_is; old = b.old; there = inr b.there; is = b.is })
-
-later_file : (own unit top : ℕ) (docs : List (Doc ℕ)) (u : FileUnit Spot) → In u (named_files own unit top docs) → own ≤ u.file
-unfolding named_files
-later_file own unit top [] u there = absurd there
-later_file own unit top (doc ∷ docs) u there = elim (in_cases u (map (in_file own) (named unit top doc.units)) (named_files (suc own) (unit + length doc.units)
-    (top + tops_among doc.units) docs) there) [
-      | inl a ↦ (let e = (in_block own (spot_in (spots_from unit top doc.units)) doc.units u a).file_is in omega (arith, e))
-      | inr b ↦ (let le = later_file (suc own) (unit + length doc.units) (top + tops_among doc.units) docs u b in omega (arith, le))
-    ]
 
 named_from : (own unit top : ℕ) (docs : List (Doc ℕ)) (u : FileUnit Spot) → In u (named_files own unit top docs) → NamedFrom own unit top docs u
 unfolding named_files name_from
@@ -103,7 +96,8 @@ named_from own unit top (doc ∷ docs) u there =
 
 -- ---- all files
 
-module _ (scope : Scope) (docs : List (Doc ℕ)) (input : Stored) (are : AreRead input docs) (rule : Rule) (is : IsAlike scope (units_of docs) rule.alike) (choice : IsChoice (units_of docs) rule) where
+module _ (scope : TopScope) (docs : List (Doc ℕ)) (input : Stored) (are : AreRead input docs) (rule : Rule) (is : IsAlike scope (units_of docs) rule.alike)
+    (choice : IsChoice (units_of docs) rule) where
   abbrev r : Run
   r = run_of rule docs input
 

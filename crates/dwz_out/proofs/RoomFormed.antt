@@ -3,12 +3,14 @@ use Rattle.std.proofs.Common.{◌≡◌, ℕ, ◌-◌, Bool, true, false, List, 
 use Rattle.dwz_bytes.specs.Spelling.{reach}
 use Rattle.dwz_docs.specs.Trees.{End, Entry}
 use Rattle.dwz_meanings.specs.Documents.{Attr, DwUnit, Entries, Expr, Loc, Operand, Part, Plain, Same, attr_map, entries_map, unit_map}
-use Rattle.dwz_meanings.specs.Meanings.{Class, OfCommonEntry, OfConstant, OfExpression, OfInfoEntry, OfListIndex, OfOffset, OfTextBySlot, OfTextInLineStr, OfTextInStr, OfUnitEntry, class_in, class_of, class_rows, names_file}
-use Rattle.dwz_seen.specs.Lists.{Each}
+use Rattle.dwz_meanings.specs.Meanings.{Class, OfCommonEntry, OfConstant, OfExpression, OfInfoEntry, OfListIndex, OfOffset, OfTextBySlot, OfTextInLineStr, OfTextInStr, OfUnitEntry, class_in, class_of}
+use Rattle.dwz_meanings.specs.Meanings.{class_rows, names_file}
+use Rattle.dwz_docs.specs.Lists.{Each}
 use Rattle.dwz_seen.specs.Shown.{units_keys}
 use Rattle.dwz_alike.specs.Alike.{joined_parts}
 use Rattle.dwz_writing.specs.Fitting.{EachAttr, FitsWidth, HasRoom, HasRoomAs, OperandsHaveRoom, PlainHasRoom, UnitHasRoom}
-use Rattle.dwz_writing.specs.Placing.{CommonUnit, FileFit, Fit, Forms, Holder, InCommon, InFile, InUnit, NewUnit, OldUnit, Reach, as_constant, as_file, as_line_text, as_slot, as_strp_if, as_text, fit, fit_as, fit_attr, fit_unit, fit_units, has_text, reach_of, ref_form, slot_number, unit_fit, with_form, with_keys}
+use Rattle.dwz_writing.specs.Placing.{CommonUnit, FileFit, Fit, Forms, Holder, InCommon, InFile, InUnit, NewUnit, OldUnit, Reach, as_constant, as_file, as_line_text, as_slot, as_strp_if, as_text, fit}
+use Rattle.dwz_writing.specs.Placing.{fit_as, fit_attr, fit_unit, fit_units, has_text, reach_of, ref_form, slot_number, unit_fit, with_form, with_keys}
 use Rattle.dwz_writing.specs.Writing.{Numbering, base_place, text_in}
 
 -- ---- where places get names that have the same numbers

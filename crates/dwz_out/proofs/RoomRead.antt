@@ -4,25 +4,25 @@ use Rattle.std.proofs.lemmas.List.{map-append}
 use Rattle.dwz_model.specs.declared.place.Base.{Base}
 use Rattle.dwz_model.specs.declared.place.Base.TheVariants.{Unit as FromUnit, Info as FromInfo}
 use Rattle.dwz_docs.specs.Entries.{RawAttr, RawEntry}
-use Rattle.dwz_docs.specs.Lists.{In}
+use Rattle.dwz_docs.specs.Lists.{Each, In}
 use Rattle.dwz_docs.specs.Trees.{End, Entry, Forest}
 use Rattle.dwz_docs.specs.Units.{RawUnit}
+use Rattle.dwz_docs.proofs.ListFacts.{in_left, in_right}
 use Rattle.dwz_meanings.specs.declared.exprs.Operand.{Operand}
 use Rattle.dwz_meanings.specs.Documents.{Attr, DwUnit, Entries, Part, Value}
 use Rattle.dwz_meanings.specs.Exprs.{Expression, parts_from, parts_of}
-use Rattle.dwz_meanings.specs.Meanings.{Around, Class, IsExpression, IsListBySlot, IsLocList, MeanAttrs, MeanEntries, MeanUnits, MeansAs, MeansAttr, MeansUnit, OfExpression, OfListIndex, OfOffset, Scope, Sources, alone, class_of, content_at, bytes_of, expr_context, leads_to, names_list, offset_of, scope_of, target_of, targets, without_siblings}
+use Rattle.dwz_meanings.specs.Meanings.{Around, Class, IsExpression, IsListBySlot, IsLocList, MeanAttrs, MeanEntries, MeanUnits, MeansAs, MeansAttr, MeansUnit, OfExpression, OfListIndex, OfOffset}
+use Rattle.dwz_meanings.specs.Meanings.{Scope, Sources, alone, class_of, content_at, bytes_of, expr_context, leads_to, names_list, offset_of, scope_of, target_of, targets, without_siblings}
 use Rattle.dwz_meanings.specs.NamedLists.{AnyEntryNames, AnyNames, AnyUnitNames, NamesAs, NamesList, lists_of_units}
 use Rattle.dwz_meanings.specs.Shared.{ListOperand, NamedList, of_unit, operands_in_lists, operands_of, own_operands}
 use Rattle.dwz_meanings.proofs.ExprLemmas.{expr_agrees}
 use Rattle.dwz_meanings.proofs.NamedLemmas.{units_name}
 use Rattle.dwz_meanings.proofs.PassLemmas.{own_in}
-use Rattle.dwz_seen.specs.Lists.{Each}
-use Rattle.dwz_seen.proofs.Members.{in_left, in_right}
+use Rattle.dwz_meanings.proofs.DecideLemmas.{if_false, if_true}
 use Rattle.dwz_alike.specs.Alike.{joined_parts}
 use Rattle.dwz_writing.specs.Fitting.{EachAttr, FitsWidth, HasRoom, HasRoomAs, OperandsHaveRoom, PlainHasRoom, UnitHasRoom}
 use Rattle.dwz_writing.specs.Meant.{by_base, led_to}
 use Rattle.dwz_writing.specs.Writing.{Numbering, base_place}
-use Rattle.dwz_writing.proofs.ValuesMean.{not_so, so_true}
 use Rattle.dwz_out.specs.Refusals.{all_of_unit, operands_as, operands_of_attr, operands_of_attrs, operands_of_entries, operands_of_unit, operands_of_units, operands_read}
 
 -- an operand of a unit has room for its new number, under new places
@@ -82,9 +82,9 @@ module _ (n : Numbering ℕ) (s : Scope ℕ) (place : s.around.place ≡ (λ p. 
         subst (λ (x : Value ℕ). PlainHasRoom n (n.place s.unit) x.plain x.refs) (sym m.value) (exprs_room m.list.exprs room)
 
     offset_room : class_of r.pair.form ≡ OfOffset → (x : Bool) → names_list r.pair.name ≡ x → MeansAs OfOffset s r b.value → PlainHasRoom n (n.place s.unit) b.value.plain b.value.refs
-    offset_room class false names m = subst (λ (v : Value ℕ). PlainHasRoom n (n.place s.unit) v.plain v.refs) (sym (not_so (names_list r.pair.name) _ _ names m)) tt
+    offset_room class false names m = subst (λ (v : Value ℕ). PlainHasRoom n (n.place s.unit) v.plain v.refs) (sym (if_false (names_list r.pair.name) _ _ names m)) tt
     offset_room class true names m =
-        let is = so_true (names_list r.pair.name) _ _ names m in
+        let is = if_true (names_list r.pair.name) _ _ names m in
         let l : NamedList = record { unit = s.unit; from = offset_of r; slot = _; list = is.list } in
         let named : NamesList s r l = subst (λ (c : Class). NamesAs c s r l) (sym class) (names, record { unit = refl; from = refl; slot_is = refl; within = is.within; stands = is.stands }) in
         list_room l refl named (offset_of r) is refl

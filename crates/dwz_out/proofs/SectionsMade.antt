@@ -23,7 +23,7 @@ use Rattle.dwz_out.proofs.ListsWritten.{GivesOne, number_for, number_own, one_pa
 
 -- ---- location lists
 
-gives_one : (r : Run) (file : ℕ) → GivesOne (new_number r file)
+pub gives_one : (r : Run) (file : ℕ) → GivesOne (new_number r file)
 gives_one r file o p unit base number =
     let by : ℕ → Base → ℕ → ℕ = λ u b n. (places r).place (name_after r file (by_base b u n)) - base_place ((places r).place (name_after r file u)) b in
     ap (λ (u : ℕ). by u o.operand.base o.operand.number) unit ∙ ap (λ (b : Base). by p.unit b o.operand.number) base ∙ ap (by p.unit p.operand.base) number

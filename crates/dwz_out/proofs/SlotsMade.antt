@@ -1,5 +1,6 @@
 -- The slots of `.debug_str_offsets` get their new numbers, and all other bytes of it stay; of `.debug_str` nothing is left where it was empty.
-use Rattle.std.proofs.Common.{◌≡◌, ◌⊎◌, ℕ, zero, suc, ◌+◌, ◌-◌, ◌*◌, ◌^◌, ◌<◌, ◌≤◌, Bool, true, false, cond, List, [], ◌∷◌, ◌++◌, length, take, drop, get_or, map, refl, sym, ap, subst, ◌∙◌, inl, inr, arith, lit<}
+use Rattle.std.proofs.Common.{◌≡◌, ◌⊎◌, ℕ, zero, suc, ◌+◌, ◌-◌, ◌*◌, ◌^◌, ◌<◌, ◌≤◌, Bool, true, false, cond, List, [], ◌∷◌, ◌++◌, length, take, drop, get_or, map, refl, sym, ap, subst, ◌∙◌, inl, inr}
+use Rattle.std.proofs.Common.{arith, lit<}
 use Rattle.std.specs.Prelude.{is_some}
 use Rattle.std.proofs.lemmas.List.{ext_get_or, get_or-drop, get_or-take, length-append, length-drop, length-take, length-take-le, map-append}
 use Rattle.std.proofs.Math.Nat.{pow-le-pow_right}
@@ -16,12 +17,13 @@ use Rattle.dwz_docs.specs.Values.{AreBytes}
 use Rattle.dwz_docs.proofs.PruneLemmas.{length_kept}
 use Rattle.dwz_docs.proofs.OffsetLemmas.{slots_again}
 use Rattle.dwz_docs.proofs.WrittenLemmas.{drop_bytes, le_value-less}
+use Rattle.dwz_docs.proofs.ListFacts.{in_map as map_in}
 use Rattle.dwz_meanings.specs.declared.exprs.Operand.{Operand}
 use Rattle.dwz_meanings.specs.PatchedLists.{with_operands}
 use Rattle.dwz_meanings.specs.Patching.{written_at}
 use Rattle.dwz_meanings.specs.Shared.{HasByte}
 use Rattle.dwz_meanings.proofs.CutLemmas.{Lie, le_len, lie_from}
-use Rattle.dwz_meanings.proofs.NamedAgain.{in_map, map_in}
+use Rattle.dwz_meanings.proofs.NamedAgain.{in_map}
 use Rattle.dwz_meanings.proofs.PatchedListLemmas.{cut_at}
 use Rattle.dwz_meanings.specs.Documents.{Doc}
 use Rattle.dwz_writing.specs.Pruned.{AreNewSlots, known_slots, number_in_slot, slot_after, slots_or_none}

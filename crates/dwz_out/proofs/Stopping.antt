@@ -3,7 +3,7 @@ use Rattle.std.proofs.Common.{◌≡◌, ◌⊎◌, ℕ, zero, suc, Bool, true, 
 use Rattle.std.specs.Prelude.{◌||◌, ◌&&◌, ◌==◌, not, is_none, if◌then◌else◌}
 use Rattle.std.specs.Option.{option_map_or}
 use Rattle.std.specs.Str.{bytes_eq}
-use Rattle.std.proofs.lemmas.Bool.{and_parts, eqb-true}
+use Rattle.std.proofs.lemmas.Bool.{and_parts, eqb-true, or_parts}
 use Rattle.std.proofs.lemmas.Slice.Eq.{bytes_eq-Decides}
 use Rattle.dwz_meanings.specs.Documents.{Doc}
 use Rattle.dwz_seen.specs.Lists.{Nth}
@@ -15,7 +15,7 @@ use Rattle.dwz_words.specs.Conditions.{FitTogether, are_distinct, is_among}
 use Rattle.dwz_words.specs.declared.options.Options.{Options}
 use Rattle.dwz_course.specs.Gets.{gets}
 use Rattle.dwz_course.specs.Puts.{AreApart, AreOthers, Prefixes}
-use Rattle.dwz_course.proofs.StopLemmas.{first, prefixes}
+use Rattle.dwz_course.proofs.StopLemmas.{first, prefixes, text_of_same, untouched}
 use Rattle.dwz_out.specs.FilesAfter.{bytes_after, bytes_by, common_bytes, file_after, has_common}
 use Rattle.dwz_out.specs.Out.{IsWritten, all_puts, common_puts, file_puts, files_puts, put_of, puts_by, run_for, sup_name}
 use Rattle.dwz_out.specs.Stops.{AreOldOrMade, IsMade}
@@ -23,54 +23,42 @@ use Rattle.dwz_out.proofs.Gotten.{are_held}
 
 -- ---- names that differ
 
-same_name : (a b : List ℕ) → bytes_eq a b ≡ true → a ≡ b
-same_name a b e = (bytes_eq-Decides a b).0 e
-
 own_name : (a : List ℕ) → bytes_eq a a ≡ true
 own_name a = (bytes_eq-Decides a a).1 refl
 
-other_way : (a b : List ℕ) → bytes_eq a b ≡ false → bytes_eq b a ≡ false
+pub other_way : (a b : List ℕ) → bytes_eq a b ≡ false → bytes_eq b a ≡ false
 other_way a b e = by (bytes_eq b a) refl where
   by : (t : Bool) → bytes_eq b a ≡ t → t ≡ false
   by false is = refl
-  by true is = absurd (let yes = subst (λ (x : List ℕ). bytes_eq a x ≡ true) (sym (same_name b a is)) (own_name a) in let z : true ≡ false = sym yes ∙ e in cc)
-
-neither : (a b : Bool) → (a || b) ≡ false → (a ≡ false) × (b ≡ false)
-neither true b e = absurd cc
-neither false b e = (refl, e)
+  by true is = absurd (let yes = subst (λ (x : List ℕ). bytes_eq a x ≡ true) (sym (text_of_same b a is)) (own_name a) in let z : true ≡ false = sym yes ∙ e in cc)
 
 not_false : (b : Bool) → not b ≡ true → b ≡ false
 not_false true e = absurd cc
 not_false false e = refl
 
 -- a word that isn't among these is none of them
-not_named : (x : List ℕ) (names : List (List ℕ)) → is_among names x ≡ false → (s n : ℕ) (name : List ℕ) → Nth s names n name → bytes_eq name x ≡ false
+pub not_named : (x : List ℕ) (names : List (List ℕ)) → is_among names x ≡ false → (s n : ℕ) (name : List ℕ) → Nth s names n name → bytes_eq name x ≡ false
 not_named x [] e s n name nth = absurd nth
-not_named x (y ∷ names) e s n name (inl is) = subst (λ (w : List ℕ). bytes_eq w x ≡ false) is.1 (neither (bytes_eq y x) (is_among names x) e).0
-not_named x (y ∷ names) e s n name (inr later) = not_named x names (neither (bytes_eq y x) (is_among names x) e).1 (suc s) n name later
+not_named x (y ∷ names) e s n name (inl is) = subst (λ (w : List ℕ). bytes_eq w x ≡ false) is.1 (or_parts (bytes_eq y x) (is_among names x) e).0
+not_named x (y ∷ names) e s n name (inr later) = not_named x names (or_parts (bytes_eq y x) (is_among names x) e).1 (suc s) n name later
 
 others_append : (x : List ℕ) (ps qs : List Put) → AreOthers x ps → AreOthers x qs → AreOthers x (ps ++ qs)
 others_append x [] qs h k = k
 others_append x (p ∷ ps) qs h k = (h.0, others_append x ps qs h.1 k)
 
 -- a put that leaves a name
-put_other : (name x bytes : List ℕ) (store : Store) → bytes_eq name x ≡ false → put_in x bytes store name ≡ store name
+pub put_other : (name x bytes : List ℕ) (store : Store) → bytes_eq name x ≡ false → put_in x bytes store name ≡ store name
 put_other name x bytes store e = ap (λ (b : Bool). if b then Some bytes else store name) e
 
-put_own : (name bytes : List ℕ) (store : Store) → put_in name bytes store name ≡ Some bytes
+pub put_own : (name bytes : List ℕ) (store : Store) → put_in name bytes store name ≡ Some bytes
 put_own name bytes store = ap (λ (b : Bool). if b then Some bytes else store name) (own_name name)
 
-done_append : (ps qs : List Put) (store : Store) → done (ps ++ qs) store ≡ done qs (done ps store)
+pub done_append : (ps qs : List Put) (store : Store) → done (ps ++ qs) store ≡ done qs (done ps store)
 done_append [] qs store = refl
 done_append (p ∷ ps) qs store = done_append ps qs (put_in p.name p.bytes store)
 
 one_some : (a b : List ℕ) → Some a ≡ Some b → a ≡ b
 one_some a b e = cc
-
--- puts of other names leave a name
-untouched : (name : List ℕ) (puts : List Put) (store : Store) → AreOthers name puts → done puts store name ≡ store name
-untouched name [] store h = refl
-untouched name (p ∷ puts) store h = untouched name puts (put_in p.name p.bytes store) h.1 ∙ put_other name p.name p.bytes store h.0
 
 -- ---- files in place
 
@@ -85,7 +73,7 @@ module _ (o : Options) (r : Run) (in_place : o.out ≡ None) where
   unfolding files_puts
   others x s [] e = tt
   others x s (n ∷ names) e =
-      let both = neither (bytes_eq n x) (is_among names x) e in
+      let both = or_parts (bytes_eq n x) (is_among names x) e in
       others_append x (file_puts o r s n) (files_puts o r (suc s) names) (subst (AreOthers x) (sym (one_put s n)) (by (changes r.move r.units s) (other_way n x both.0))) (others x
       (suc s) names both.1) where
         by : (b : Bool) → bytes_eq x n ≡ false → AreOthers x (puts_by b None n (new s))

@@ -2,7 +2,7 @@
 use Rattle.std.specs.Prelude.{ℕ, Bool, true, false, List, [], ◌∷◌, Option, Some, None, Result, Ok, Err, map, if◌then◌else◌}
 use Rattle.dwz_bytes.specs.Spelling.{le_bytes}
 use Rattle.dwz_model.specs.declared.fault.Fault.{Fault}
-use Rattle.dwz_model.specs.declared.sections.Sections.{Sections}
+use Rattle.dwz_model.specs.declared.sections.NewSections.{NewSections}
 use Rattle.dwz_meanings.specs.declared.exprs.Operand.{Operand}
 use Rattle.dwz_meanings.specs.Files.{debug_aranges, sets_said}
 use Rattle.dwz_meanings.specs.PatchedLists.{with_number, with_operands}
@@ -78,7 +78,7 @@ abbrev pub if_other : (old new : List ℕ) → Option (List ℕ)
 if_other old new = if same_numbers old new then None else Some new
 
 -- The sections of a file of which something moves. None stands for one that isn't there or keeps its bytes.
-unfoldable pub sections_after : Run → ℕ → Sections
+unfoldable pub sections_after : Run → ℕ → NewSections
 sections_after r file = record {
   info = (sections_of r file).info;
   «abbrev» = (sections_of r file).abbrevs;
@@ -95,7 +95,7 @@ if_some [] bytes = None
 if_some (t ∷ texts) bytes = Some bytes
 
 -- The sections of the common file. None stands for one that isn't there.
-unfoldable pub common_after : Run → Sections
+unfoldable pub common_after : Run → NewSections
 common_after r = record {
   info = (common_sections r).info;
   «abbrev» = (common_sections r).abbrevs;

@@ -3,11 +3,10 @@ use Rattle.std.specs.Prelude.{◌≡◌, ◌↔◌, ◌⊎◌, ℕ, ◌≤◌, B
 use Rattle.dwz_model.specs.declared.fault.Refusal.{Refusal}
 use Rattle.dwz_docs.specs.ElfLayout.{IsOrder}
 use Rattle.dwz_docs.specs.ElfReading.{ElfView}
-use Rattle.dwz_docs.specs.Lists.{In}
+use Rattle.dwz_docs.specs.Lists.{Each, In}
 use Rattle.dwz_docs.specs.Texts.{NoZero}
 use Rattle.dwz_docs.specs.Values.{AreBytes}
 use Rattle.dwz_meanings.specs.Documents.{Doc}
-use Rattle.dwz_seen.specs.Lists.{Each}
 use Rattle.dwz_writing.specs.Meant.{AreRenumbered}
 use Rattle.dwz_docs.specs.Units.{RawUnit}
 use Rattle.dwz_meanings.specs.Files.{Limits, Reads}
@@ -52,7 +51,8 @@ OneOutcomeLaw = (o : Options) (contents : List (List ℕ)) (a b : Outcome) → O
 -- and something does, where it can be told of files that read which are prunable
 abbrev pub SomeOutcomeLaw : Type 0
 SomeOutcomeLaw =
-    ((l : Limits) (bytes : List ℕ) (raw : List RawUnit) (doc : Doc ℕ) → Reads l bytes raw doc → (flag : Bool) × ((flag ≡ true) ↔ IsPrunable bytes doc.units))
+    ((l : Limits) (bytes : List ℕ) (raw : List RawUnit) (doc : Doc ℕ) → Reads l bytes raw doc
+    → (flag : Bool) × ((flag ≡ true) ↔ IsPrunable bytes doc.units))
     → (o : Options) (contents : List (List ℕ)) → (outcome : Outcome) × Out o contents outcome
 
 -- in the location lists of a file that reads stand the numbers of where things stand, and in no other bytes do

@@ -1,10 +1,11 @@
 -- What a run puts, by its options and the contents of its files; or the refusal of these.
-use Rattle.std.specs.Prelude.{◌≡◌, ◌↔◌, ◌⊎◌, ℕ, suc, Bool, true, false, List, [], ◌∷◌, ◌++◌, length, get_or, Option, Some, None, unwrap_or, Ok, Err, if◌then◌else◌}
+use Rattle.std.specs.Prelude.{◌≡◌, ◌↔◌, ◌⊎◌, ℕ, suc, Bool, true, false, List, [], ◌∷◌, ◌++◌, length, get_or, Option, Some, None, unwrap_or}
+use Rattle.std.specs.Prelude.{Ok, Err, if◌then◌else◌}
 use Rattle.dwz_model.specs.declared.fault.Refusal.{Refusal}
 use Rattle.dwz_docs.specs.Units.{RawUnit}
 use Rattle.dwz_meanings.specs.Documents.{Doc}
 use Rattle.dwz_meanings.specs.Files.{First, Limits, ReadAll, file_meaning, limits_after, no_files_before}
-use Rattle.dwz_alike.specs.Alike.{Apart, Scope, Together}
+use Rattle.dwz_alike.specs.Alike.{Apart, TopScope, Together}
 use Rattle.dwz_alike.specs.Deciding.{alike_test}
 use Rattle.dwz_alike.specs.Spots.{units_of}
 use Rattle.dwz_moving.specs.Gain.{gain_rule}
@@ -51,11 +52,11 @@ pub record ReadAs (contents : List (List ℕ)) (docs : List (Doc ℕ)) (prunes :
   pub prunable : ArePrunable contents docs prunes
 
 -- with a common file all files are one scope, and else each file is one
-abbrev pub scope_by : Option (List ℕ) → Scope
+abbrev pub scope_by : Option (List ℕ) → TopScope
 scope_by None = Apart
 scope_by (Some common) = Together
 
-abbrev pub scope_of : Options → Scope
+abbrev pub scope_of : Options → TopScope
 scope_of o = scope_by o.common
 
 -- alike tops move whose groups gain

@@ -1,6 +1,7 @@
 //! What a run puts, or why it puts nothing.
 
-ghost use Rattle.dwz_out.specs.Laws.{EitherLaw, LengthsLaw, ListsLaw, MadeLaw, OneOutcomeLaw, OneRefusalLaw, OrderLaw, RangesLaw, ReadBackLaw, SectionLaw, SomeOutcomeLaw, StopLaw, TiedLaw};
+ghost use Rattle.dwz_out.specs.Laws.{EitherLaw, LengthsLaw, ListsLaw, MadeLaw, OneOutcomeLaw, OneRefusalLaw, OrderLaw, RangesLaw};
+ghost use Rattle.dwz_out.specs.Laws.{ReadBackLaw, SectionLaw, SomeOutcomeLaw, StopLaw, TiedLaw};
 
 /// Laws on what a run puts. There is one order of the sections that are written again. The numbers that are changed in place leave
 /// just one `.debug_loclists`, and one `.debug_aranges`. At most one refusal is the first, and where none is nothing refuses the files; it

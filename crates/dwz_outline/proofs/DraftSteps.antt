@@ -1,25 +1,24 @@
 -- What is known of the tops that are gathered, after one more.
-use Rattle.std.proofs.Common.{◌≡◌, ◌≢◌, ◌⊎◌, ℕ, zero, suc, ◌+◌, ◌<◌, ◌≤◌, Bool, true, false, All, List, [], ◌∷◌, ◌++◌, length, map, min, Option, Some, None, Result, Ok, Err, slice_get, refl, sym, ap, subst, ◌∙◌, inl, inr, ⊎_elim, arith}
-use Rattle.std.specs.Prelude.{◌||◌, IfOk, OnOk, slice_index, slice_index_or, slice_range}
+use Rattle.std.proofs.Common.{◌≡◌, ◌≢◌, ◌⊎◌, ℕ, zero, suc, ◌+◌, ◌<◌, ◌≤◌, Bool, true, false, All, List, [], ◌∷◌, ◌++◌, length, map, Option, Some, None, Result, Ok, Err, slice_get, refl, sym, ap}
+use Rattle.std.proofs.Common.{subst, ◌∙◌, inl, inr, ⊎_elim, arith}
+use Rattle.std.specs.Prelude.{◌||◌, OnOk, slice_index, slice_range}
 use Rattle.std.proofs.lemmas.Bool.{cases_lt, false≢true}
 use Rattle.std.proofs.lemmas.List.{append-nil, length-append, length-map}
 use Rattle.dwz_alike.specs.Alike.{any_in, binds_itself, entry_binds, is_named}
 use Rattle.dwz_alike.specs.Spots.{Spot, Top, Within, tops_among, tops_of, units_of}
 use Rattle.dwz_alike.specs.Targets.{targets_of}
-use Rattle.dwz_alike.proofs.Targets.{or_left, or_second}
-use Rattle.dwz_alike.proofs.TopNumbers.{Numbered, tops_numbers}
-use Rattle.dwz_docs.specs.Lists.{In}
+use Rattle.dwz_alike.proofs.Targets.{or_second}
 use Rattle.dwz_docs.specs.Units.{RawUnit, entries_in}
+use Rattle.dwz_docs.proofs.ListFacts.{all_more, got_below, got_there}
+use Rattle.dwz_docs.proofs.CaseFacts.{or_left}
 use Rattle.dwz_gain.specs.Groups.{IsWeight}
 use Rattle.dwz_graph.specs.declared.file.File.{File}
 use Rattle.dwz_graph.specs.Files.{docs_of}
-use Rattle.dwz_groups.specs.declared.groups.Pair.{Pair}
 use Rattle.dwz_groups.specs.declared.tops.TopRow.{TopRow}
 use Rattle.dwz_index.specs.declared.index.TopEntry.{TopEntry}
 use Rattle.dwz_index.specs.Index.{Index}
 use Rattle.dwz_index.specs.Names.{top_in}
 use Rattle.dwz_index.proofs.TopLemmas.{get_cases, many}
-use Rattle.dwz_marks.specs.Named.{AreNamed}
 use Rattle.dwz_meanings.specs.Documents.{Doc}
 use Rattle.dwz_meanings.specs.Files.{around_of}
 use Rattle.dwz_moving.specs.Gain.{top_weight}
@@ -33,11 +32,10 @@ use Rattle.dwz_scan.specs.Weights.{capped}
 use Rattle.dwz_unit.specs.declared.rows.RawEntry.{RawEntry}
 use Rattle.dwz_unit.specs.Rows.{entry_shown, rows_of, shown_entries, units_of as raw_units}
 use Rattle.dwz_across.specs.Across.{IsFileAmong, IsTopOf, file_tops, name_at}
-use Rattle.dwz_across.proofs.ListGets.{get_there, got_below}
 use Rattle.dwz_across.proofs.TopRows.{file_many}
 use Rattle.dwz_outline.specs.declared.draft.Draft.{Draft}
 use Rattle.dwz_outline.specs.Drafts.{AreInto, IsDraft, IsGathered, IsRowOf, pairs_from}
-use Rattle.dwz_outline.proofs.ListParts.{all_more, all_none, range_map}
+use Rattle.dwz_outline.proofs.ListParts.{all_none, range_map}
 use Rattle.dwz_across.proofs.OwnNames.{Own, names_own}
 use Rattle.dwz_outline.proofs.PairLemmas.{pairs_more}
 use Rattle.dwz_outline.proofs.TargetLemmas.{starts_end, starts_rise, targets_there}
@@ -106,10 +104,6 @@ one_more docs first count n old new t row b ts sum there is d rows binds pairs =
 
 -- ---- a top of a file
 
-pub if_ok : {X E : Type 0} (r : Result X E) (P Q : X → Type 0) → ((x : X) → P x → Q x) → IfOk r P → IfOk r Q
-if_ok (Ok x) P Q f h = f x h
-if_ok (Err e) P Q f h = h
-
 -- whichever it is
 pub either : {X E : Type 0} (r : Result X E) (b : Bool) (A B G : Type 0) → (b ≡ true → OnOk r A) → (b ≡ false → OnOk r B) → (b ≡ true → A → G) → (b ≡ false → B → G) → OnOk r G
 either (Ok x) true A B G h k f g = f refl (h refl)
@@ -139,8 +133,14 @@ module _ (contents : List (List ℕ)) (number : ℕ) (bytes : List ℕ) (f : Fil
   pub knows : (into : List (Option ℕ)) → AreInto contents number bytes f x is into → KnowsRefs (around_of bytes raw) raw name f.resolved.refs.items f.resolved.starts.items into
   knows into e = record { parted = is.kept.read.parts; entries = is.kept.read.within; into_are = e }
 
-  pub knows_at : (into : List (Option ℕ)) → AreInto contents number bytes f x is into → (starts : List ℕ) → starts ≡ f.resolved.starts.items → KnowsRefs (around_of bytes raw) raw name f.resolved.refs.items starts into
-  knows_at into e starts same = record { parted = subst (λ (w : List ℕ). AreParted (around_of bytes raw) raw (entries_in raw) f.resolved.refs.items w) (sym same) is.kept.read.parts; entries = is.kept.read.within; into_are = e }
+  pub knows_at : (into : List (Option ℕ)) → AreInto contents number bytes f x is into → (starts : List ℕ) → starts ≡ f.resolved.starts.items
+      → KnowsRefs (around_of bytes raw) raw name f.resolved.refs.items starts into
+  knows_at into e starts same = record {
+    parted = subst (λ (w : List ℕ). AreParted (around_of bytes raw) raw (entries_in raw) f.resolved.refs.items w) (sym same) is.kept.read.parts;
+    entries =
+        is.kept.read.within;
+    into_are = e;
+  }
 
   pub knows_own : KnowsRefs (around_of bytes raw) raw name f.resolved.refs.items f.resolved.starts.items (tops_of_refs name raw f.resolved.refs.items)
   knows_own = knows (tops_of_refs name raw f.resolved.refs.items) refl
@@ -167,11 +167,12 @@ module _ (contents : List (List ℕ)) (number : ℕ) (bytes : List ℕ) (f : Fil
     pub stands_so : (r : RawEntry) (end : ℕ) → slice_get (shown_entries raw) top.entry ≡ Some r → r.end ≡ end → StandsAt (around_of bytes raw) name raw doc.units number x.starts.unit t top.entry end
     stands_so r end shown e = subst (λ (n : ℕ). StandsAt (around_of bytes raw) name raw doc.units number x.starts.unit t top.entry n) e (top_is.stands r shown)
 
-    pub stands_end : (end : ℕ) → ((r : RawEntry) → slice_get (shown_entries raw) top.entry ≡ Some r → r.end ≡ end) → StandsAt (around_of bytes raw) name raw doc.units number x.starts.unit t top.entry end
+    pub stands_end : (end : ℕ) → ((r : RawEntry) → slice_get (shown_entries raw) top.entry ≡ Some r → r.end ≡ end)
+        → StandsAt (around_of bytes raw) name raw doc.units number x.starts.unit t top.entry end
     stands_end end ends =
         let len = length-map (rows_of raw) entry_shown ∙ rows-length raw in
         let low = top_is.within in
-        let r = get_there (shown_entries raw) top.entry (omega arith) in
+        let r = got_there (shown_entries raw) top.entry (omega arith) in
         stands_so r.0 end r.1 (ends r.0 r.1)
 
     pub number_low : t.number < length (tops_of (units_of docs))
@@ -194,7 +195,8 @@ module _ (contents : List (List ℕ)) (number : ℕ) (bytes : List ℕ) (f : Fil
     free_so e = or_left (any_in (entry_binds (tops_of (units_of docs)) t.unit) t) _ e
 
     -- one that binds itself is put with no targets
-    pub put_bound : (first count n : ℕ) → first + count ≡ n → n ≡ t.number → (row : TopRow) → IsRowOf docs row t → (b : Bool) → b ≡ true → b ≡ binds_itself (units_of docs) t → (old new : Draft) → IsDraft docs first count old
+    pub put_bound : (first count n : ℕ) → first + count ≡ n → n ≡ t.number → (row : TopRow) → IsRowOf docs row t → (b : Bool) → b ≡ true → b ≡ binds_itself (units_of docs) t → (old new : Draft)
+        → IsDraft docs first count old
         → new.rows.items ≡ old.rows.items ++ row ∷ [] → new.binds.items ≡ old.binds.items ++ b ∷ [] → new.pairs.items ≡ old.pairs.items → IsDraft docs first (count + 1) new
     put_bound first count n sum at row row_is b bound binds_is old new d rows binds pairs =
         let here : slice_get (tops_of (units_of docs)) n ≡ Some t = ap (slice_get (tops_of (units_of docs))) (at ∙ top_is.number) ∙ top_is.there in
@@ -210,15 +212,18 @@ module _ (contents : List (List ℕ)) (number : ℕ) (bytes : List ℕ) (f : Fil
       rise = starts_rise (around_of bytes raw) raw name f.resolved.refs.items f.resolved.starts.items into (knows into into_is) doc.units number x.starts.unit t top.entry r.end (top_is.stands r shown)
 
       pub within : start r.end ≤ length into
-      within = starts_end (around_of bytes raw) raw name f.resolved.refs.items f.resolved.starts.items into (knows into into_is) doc.units number x.starts.unit t top.entry r.end (top_is.stands r shown) (top_is.ends r shown)
+      within = starts_end (around_of bytes raw) raw name f.resolved.refs.items f.resolved.starts.items into (knows into into_is) doc.units number x.starts.unit t top.entry r.end
+          (top_is.stands r shown) (top_is.ends r shown)
 
       pub targets_so : binds_itself (units_of docs) t ≡ false → somes (slice_range into (start top.entry) (start r.end)) ≡ targets_of t
-      targets_so free = targets_there (around_of bytes raw) raw name f.resolved.refs.items f.resolved.starts.items into (knows into into_is) doc.units number x.starts.unit t top.entry r.end (top_is.stands r shown) (tops_of (units_of docs)) (free_so free)
+      targets_so free = targets_there (around_of bytes raw) raw name f.resolved.refs.items f.resolved.starts.items into (knows into into_is) doc.units number x.starts.unit t top.entry r.end
+          (top_is.stands r shown) (tops_of (units_of docs)) (free_so free)
 
       inside_some : (numbers : List ℕ) → All (λ n. n < length (tops_of (units_of docs))) (somes (tops_of_refs name raw numbers))
       inside_some [] = all_none (λ (n : ℕ). n < length (tops_of (units_of docs)))
       inside_some (i ∷ numbers) = by (top_in (name (place_at raw i))) refl (inside_some numbers) where
-        by : (o : Option ℕ) → top_in (name (place_at raw i)) ≡ o → All (λ n. n < length (tops_of (units_of docs))) (somes (tops_of_refs name raw numbers)) → All (λ n. n < length (tops_of (units_of docs))) (some_of o ++ somes (tops_of_refs name raw numbers))
+        by : (o : Option ℕ) → top_in (name (place_at raw i)) ≡ o → All (λ n. n < length (tops_of (units_of docs))) (somes (tops_of_refs name raw numbers))
+            → All (λ n. n < length (tops_of (units_of docs))) (some_of o ++ somes (tops_of_refs name raw numbers))
         by None e h = h
         by (Some n) e h = all_more (λ (n : ℕ). n < length (tops_of (units_of docs))) n (somes (tops_of_refs name raw numbers)) (own_top (place_at raw i) n e) h
 
@@ -229,8 +234,10 @@ module _ (contents : List (List ℕ)) (number : ℕ) (bytes : List ℕ) (f : Fil
           (inside_some (slice_range f.resolved.refs.items a b))
 
       -- one that doesn't is put with the tops that its references go into
-      pub put_free : (first count n : ℕ) → first + count ≡ n → n ≡ t.number → (row : TopRow) → IsRowOf docs row t → (b : Bool) → b ≡ false → b ≡ binds_itself (units_of docs) t → (old new : Draft) → IsDraft docs first count old
-          → new.rows.items ≡ old.rows.items ++ row ∷ [] → new.binds.items ≡ old.binds.items ++ b ∷ [] → (part : List (Option ℕ)) → part ≡ slice_range into (start top.entry) (start r.end) → new.pairs.items ≡ old.pairs.items ++ map (target_of n) (somes part)
+      pub put_free : (first count n : ℕ) → first + count ≡ n → n ≡ t.number → (row : TopRow) → IsRowOf docs row t → (b : Bool) → b ≡ false → b ≡ binds_itself (units_of docs) t → (old new : Draft)
+          → IsDraft docs first count old
+          → new.rows.items ≡ old.rows.items ++ row ∷ [] → new.binds.items ≡ old.binds.items ++ b ∷ [] → (part : List (Option ℕ)) → part ≡ slice_range into (start top.entry) (start r.end)
+          → new.pairs.items ≡ old.pairs.items ++ map (target_of n) (somes part)
           → IsDraft docs first (count + 1) new
       put_free first count n sum at row row_is b unbound binds_is old new d rows binds part part_is pairs =
           let here : slice_get (tops_of (units_of docs)) n ≡ Some t = ap (slice_get (tops_of (units_of docs))) (at ∙ top_is.number) ∙ top_is.there in

@@ -1,21 +1,18 @@
 -- The tops of one file are gathered behind those of the files before it.
 use Rattle.std.proofs.Common.{◌≡◌, ℕ, ◌+◌, ◌<◌, ◌≤◌, ◌^◌, List, length, get_or, Some, slice_get, sym, ap, subst, ◌∙◌, arith}
+use Rattle.dwz_docs.proofs.ListFacts.{item_got}
 use Rattle.dwz_alike.specs.Spots.{tops_of, units_of}
 use Rattle.dwz_graph.specs.declared.file.File.{File}
 use Rattle.dwz_graph.specs.Files.{AreKept, docs_of}
 use Rattle.dwz_index.specs.declared.index.Starts.{Starts}
-use Rattle.dwz_index.specs.declared.index.TopEntry.{TopEntry}
 use Rattle.dwz_index.specs.Index.{Index}
-use Rattle.dwz_index.specs.Names.{names_from}
 use Rattle.dwz_indexes.specs.Indexed.{AreIndexes}
-use Rattle.dwz_resolve.specs.Resolved.{AreEntries}
 use Rattle.dwz_unit.specs.Rows.{units_of as raw_units}
 use Rattle.dwz_across.specs.Across.{IsFileAmong, starts_at}
 use Rattle.dwz_across.specs.AcrossLaws.{IsAmong}
 use Rattle.dwz_across.proofs.FileCounts.{all_ends, are_many, starts_are}
 use Rattle.dwz_across.proofs.FileEntries.{all_entries, few_entries, gives_top}
 use Rattle.dwz_across.proofs.FileRoom.{tops_small}
-use Rattle.dwz_across.proofs.ListGets.{item_got}
 use Rattle.dwz_marks.proofs.FilesKnown.{below}
 use Rattle.dwz_marks.proofs.MarkSteps.{starts_zero}
 use Rattle.dwz_outline.specs.declared.draft.Draft.{Draft}
@@ -25,7 +22,8 @@ use Rattle.dwz_across.proofs.FileWalk.{is_among}
 pub begin : (contents : List (List ℕ)) (indexes : List Index) (draft : Draft) → IsDraft (docs_of contents) 0 0 draft → IsDraft (docs_of contents) 0 (starts_at (docs_of contents) indexes 0).top draft
 begin contents indexes draft d = subst (λ (s : Starts). IsDraft (docs_of contents) 0 s.top draft) (sym (starts_zero (docs_of contents) indexes)) d
 
-pub all_gathered : (contents : List (List ℕ)) (files : List File) (indexes : List Index) (k : ℕ) → AreKept contents files → AreIndexes (docs_of contents) indexes → length files ≤ k → k ≤ length files → (draft : Draft)
+pub all_gathered : (contents : List (List ℕ)) (files : List File) (indexes : List Index) (k : ℕ) → AreKept contents files → AreIndexes (docs_of contents) indexes → length files ≤ k → k ≤ length files
+    → (draft : Draft)
     → IsDraft (docs_of contents) 0 (starts_at (docs_of contents) indexes k).top draft → IsDraft (docs_of contents) 0 (length (tops_of (units_of (docs_of contents)))) draft
 all_gathered contents files indexes k kept is high low draft d =
     let many = are_many contents files indexes kept is in

@@ -1,18 +1,17 @@
 -- Few tops, and the numbers of files are below how many there are.
-use Rattle.std.proofs.Common.{◌≡◌, ℕ, zero, suc, ◌+◌, ◌<◌, ◌≤◌, ◌^◌, All, List, [], ◌∷◌, ◌++◌, length, map, sym, subst, arith}
+use Rattle.std.proofs.Common.{ℕ, zero, suc, ◌+◌, ◌<◌, ◌≤◌, ◌^◌, All, List, [], ◌∷◌, length, map, sym, subst, arith}
 use Rattle.std.specs.Prelude.{replicate}
+use Rattle.dwz_docs.proofs.ListFacts.{all_more}
 use Rattle.dwz_alike.specs.Spots.{tops_of, units_of}
 use Rattle.dwz_graph.specs.declared.file.File.{File}
 use Rattle.dwz_graph.specs.Files.{AreKept, docs_of}
-use Rattle.dwz_graph.proofs.GraphLemmas.{as_many}
-use Rattle.dwz_meanings.specs.Files.{no_files_before}
 use Rattle.dwz_index.specs.Index.{Index}
 use Rattle.dwz_indexes.specs.Indexed.{AreIndexes}
 use Rattle.dwz_meanings.specs.Documents.{Doc}
 use Rattle.dwz_across.proofs.FileCounts.{all_ends}
 use Rattle.dwz_across.proofs.FileRoom.{tops_small}
 use Rattle.dwz_across.proofs.UnitFiles.{all_files, files_from}
-use Rattle.dwz_outline.proofs.ListParts.{all_both, all_more, all_none}
+use Rattle.dwz_outline.proofs.ListParts.{all_both, all_none}
 
 all_same : (m n k : ℕ) → n < m → All (λ n. n < m) (replicate k n)
 all_same m n zero lt = all_none (λ (n : ℕ). n < m)
@@ -26,8 +25,6 @@ low m n (doc ∷ docs) le = all_both (λ (n : ℕ). n < m) (replicate (length do
 pub files_low : (docs : List (Doc ℕ)) (m : ℕ) → length docs ≤ m → All (λ n. n < m) (map (λ f. f.file) (units_of docs))
 files_low docs m le = subst (λ (w : List ℕ). All (λ n. n < m) w) (sym (all_files docs)) (low m 0 docs (omega arith))
 
-pub tops_few : (contents : List (List ℕ)) (files : List File) (indexes : List Index) → AreKept contents files → AreIndexes (docs_of contents) indexes → length (tops_of (units_of (docs_of contents))) < 2 ^ 32
+pub tops_few : (contents : List (List ℕ)) (files : List File) (indexes : List Index) → AreKept contents files → AreIndexes (docs_of contents) indexes
+    → length (tops_of (units_of (docs_of contents))) < 2 ^ 32
 tops_few contents files indexes kept is = (let e = (all_ends contents indexes is).1 in let small = tops_small contents files indexes kept is (length indexes) in omega arith)
-
-pub files_few : (contents : List (List ℕ)) (files : List File) → AreKept contents files → length files ≡ length contents
-files_few contents files kept = as_many no_files_before 0 contents files kept.end kept.are

@@ -1,8 +1,8 @@
 -- Parts of lists, one behind the other.
-use Rattle.std.proofs.Common.{◌≡◌, ℕ, zero, suc, ◌+◌, ◌-◌, ◌<◌, ◌≤◌, All, List, [], ◌∷◌, ◌++◌, length, map, get_or, take, drop, Some, slice_get, refl, sym, ap, ◌∙◌, arith}
+use Rattle.std.proofs.Common.{◌≡◌, ℕ, zero, suc, ◌+◌, ◌-◌, ◌≤◌, All, List, [], ◌∷◌, ◌++◌, length, map, take, drop, refl, sym, ap, ◌∙◌, arith}
 use Rattle.std.specs.Prelude.{replicate, slice_range}
 use Rattle.std.proofs.lemmas.List.{append_assoc, drop-drop, drop-map, replicate-append-replicate, take_all}
-use Rattle.dwz_across.proofs.ListGets.{get_there, got_index}
+use Rattle.dwz_docs.proofs.ListFacts.{all_more}
 
 take_map : {X Y : Type 0} (f : X → Y) (n : ℕ) (xs : List X) → take n (map f xs) ≡ map f (take n xs)
 take_map f zero xs = refl
@@ -28,9 +28,6 @@ range_split {X} xs a b c low high =
     ∙ take_more (b - a) (c - b) (drop a xs)
     ∙ ap (λ (w : List X). take (b - a) (drop a xs) ++ take (c - b) w) (drop-drop (b - a) a xs ∙ ap (λ (k : ℕ). drop k xs) two)
 
-pub range_none : {X : Type 0} (xs : List X) (a b : ℕ) → b ≤ a → slice_range xs a b ≡ []
-range_none xs a b le = let z : b - a ≡ 0 = omega arith in ap (λ (k : ℕ). take k (drop a xs)) z
-
 -- one number more
 pub one_more_of : (n : ℕ) (old now new : List ℕ) (k : ℕ) → now ≡ old ++ replicate k n → new ≡ now ++ n ∷ [] → new ≡ old ++ replicate (k + 1) n
 one_more_of n old now new k e f =
@@ -41,20 +38,9 @@ one_more_of n old now new k e f =
 pub all_none : {X : Type 0} (P : X → Type 0) → All P []
 all_none {X} P k d lt = absurd (omega arith)
 
-pub all_more : {X : Type 0} (P : X → Type 0) (x : X) (xs : List X) → P x → All P xs → All P (x ∷ xs)
-all_more {X} P x xs h r = by where
-  by : (k : ℕ) (d : X) → k < suc (length xs) → P (get_or (x ∷ xs) k d)
-  by zero d lt = h
-  by (suc k) d lt = r k d (omega arith)
-
 pub all_after : {X : Type 0} (P : X → Type 0) (x : X) (xs : List X) → All P (x ∷ xs) → All P xs
 all_after {X} P x xs h k d lt = h (suc k) d (omega arith)
 
 pub all_both : {X : Type 0} (P : X → Type 0) (xs ys : List X) → All P xs → All P ys → All P (xs ++ ys)
 all_both {X} P [] ys h k = k
 all_both {X} P (x ∷ xs) ys h k = all_more P x (xs ++ ys) (h 0 x (omega arith)) (all_both P xs ys (all_after P x xs h) k)
-
--- ---- an item that is there
-
-pub got_here : {X : Type 0} (xs : List X) (k : ℕ) (d : X) → k < length xs → slice_get xs k ≡ Some (get_or xs k d)
-got_here {X} xs k d lt = (let r = get_there xs k lt in r.1 ∙ ap (λ (x : X). Some x) (sym (got_index xs k r.0 d r.1)))

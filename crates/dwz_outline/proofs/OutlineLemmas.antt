@@ -1,14 +1,16 @@
 -- What is gathered of all tops shows them; with the flags of those that may move it is their outline.
-use Rattle.std.proofs.Common.{◌≡◌, ◌↔◌, ℕ, zero, suc, ◌+◌, ◌<◌, ◌≤◌, Bool, true, false, All, List, [], ◌∷◌, length, map, get_or, Some, slice_get, refl, sym, ap, subst, ◌∙◌, inl, inr, ⊎_elim, arith}
+use Rattle.std.proofs.Common.{◌≡◌, ◌↔◌, ℕ, zero, suc, ◌<◌, ◌≤◌, Bool, true, false, All, List, [], ◌∷◌, length, map, Some, slice_get, refl, sym, ap, subst, ◌∙◌, inl, inr, ⊎_elim, arith}
 use Rattle.std.specs.Prelude.{slice_index_or}
 use Rattle.std.proofs.lemmas.Bool.{cases_lt}
-use Rattle.dwz_alike.specs.Alike.{Bound, Movable, binds_itself, refers_to}
-use Rattle.dwz_alike.specs.Deciding.{AreMovable, bound_test, is_movable}
+use Rattle.dwz_alike.specs.Alike.{Movable, binds_itself, refers_to}
+use Rattle.dwz_alike.specs.Deciding.{AreMovable}
 use Rattle.dwz_alike.specs.Spots.{FileUnit, Spot, Top, Within, tops_of, units_of}
 use Rattle.dwz_alike.specs.Targets.{targets_of}
 use Rattle.dwz_alike.proofs.IntoLemmas.{targets_find, targets_found}
-use Rattle.dwz_alike.proofs.TopNumbers.{Numbered, tops_numbers}
+use Rattle.dwz_alike.proofs.TopNumbers.{top_there}
+use Rattle.dwz_alike.proofs.AlikeBound.{free_top}
 use Rattle.dwz_docs.specs.Lists.{In}
+use Rattle.dwz_docs.proofs.ListFacts.{got_below, got_index_or, got_there}
 use Rattle.dwz_gain.specs.Gaining.{weight_at, weights_of}
 use Rattle.dwz_gain.specs.Groups.{IsWeight}
 use Rattle.dwz_groups.specs.declared.tops.TopRow.{TopRow}
@@ -22,36 +24,20 @@ use Rattle.dwz_moving.specs.Gain.{top_weight}
 use Rattle.dwz_plan.specs.Shows.{ShowsRows, ShowsTop, ShowsTops, may_move}
 use Rattle.dwz_same.specs.After.{at_file, name_in}
 use Rattle.dwz_spread.specs.Spreading.{AreInside}
-use Rattle.dwz_across.proofs.ListGets.{get_there, got_below}
+use Rattle.dwz_spread.proofs.PairLemmas.{grouped_length}
 use Rattle.dwz_outline.specs.declared.draft.Draft.{Draft}
-use Rattle.dwz_outline.specs.Drafts.{IsDraft, IsGathered, pairs_from}
+use Rattle.dwz_outline.specs.Drafts.{IsDraft, IsGathered}
 use Rattle.dwz_outline.specs.Outlines.{IsOutline, StandsFor}
 use Rattle.dwz_outline.specs.Rows.{with_flags}
 use Rattle.dwz_outline.proofs.ListParts.{all_after}
-use Rattle.dwz_outline.proofs.PairLemmas.{grouped_at, grouped_long}
+use Rattle.dwz_outline.proofs.PairLemmas.{grouped_at}
 
 -- ---- items by their numbers
-
-pub got_index : {X : Type 0} (xs : List X) (i : ℕ) (x d : X) → slice_get xs i ≡ Some x → slice_index_or xs i d ≡ x
-got_index [] i x d e = absurd cc
-got_index (y ∷ xs) zero x d e = cc
-got_index (y ∷ xs) (suc i) x d e = got_index xs i x d e
 
 none_index : {X : Type 0} (xs : List X) (i : ℕ) (d : X) → length xs ≤ i → slice_index_or xs i d ≡ d
 none_index [] i d le = refl
 none_index (y ∷ xs) zero d le = absurd (omega arith)
 none_index (y ∷ xs) (suc i) d le = none_index xs i d (omega arith)
-
-at_number : (n : ℕ) (tops : List Top) → Numbered n tops → (t : Top) → In t tops → (k : ℕ) × (slice_get tops k ≡ Some t) × (t.number ≡ n + k)
-at_number n [] h t there = absurd there
-at_number n (x ∷ tops) h t (inl e) = (let first = h.0 in (0, ap (λ (w : Top). Some w) e, (let same : x.number ≡ t.number = ap (λ (w : Top). w.number) e in omega arith)))
-at_number n (x ∷ tops) h t (inr later) = (let r = at_number (suc n) tops h.1 t later in (suc r.0, r.1, (let at = r.2 in omega arith)))
-
-pub top_there : (units : List (FileUnit Spot)) (t : Top) → In t (tops_of units) → slice_get (tops_of units) t.number ≡ Some t
-top_there units t there =
-    let r = at_number 0 (tops_of units) (tops_numbers units) t there in
-    let at : r.0 ≡ t.number = (let e = r.2 in omega arith) in
-    subst (λ (k : ℕ). slice_get (tops_of units) k ≡ Some t) at r.1
 
 all_in : (m : ℕ) (ns : List ℕ) → All (λ n. n < m) ns → (n : ℕ) → In n ns → n < m
 all_in m [] h n there = absurd there
@@ -89,19 +75,29 @@ flags_row [] flags k row e = absurd cc
 flags_row (old ∷ rows) [] k row e = absurd cc
 flags_row (old ∷ rows) (b ∷ flags) zero row e =
     let same : row ≡ record old { movable = b } = (let back : record old { movable = b } ≡ row = cc in sym back) in
-    record { old = old; there = refl; place = ap (λ (w : TopRow). w.place) same; unit = ap (λ (w : TopRow). w.unit) same; weight = ap (λ (w : TopRow). w.weight) same; pinned = ap (λ (w : TopRow). w.pinned) same }
+    record {
+      old = old;
+      there = refl;
+      place = ap (λ (w : TopRow). w.place) same;
+      unit = ap (λ (w : TopRow). w.unit) same;
+      weight = ap (λ (w : TopRow). w.weight) same;
+      pinned =
+          ap (λ (w : TopRow). w.pinned) same;
+    }
 flags_row (old ∷ rows) (b ∷ flags) (suc k) row e = let r = flags_row rows flags k row e in record { old = r.old; there = r.there; place = r.place; unit = r.unit; weight = r.weight; pinned = r.pinned }
 
 -- ---- one row for each top
 
-shows_rows : (units : List (FileUnit Spot)) (rows : List TopRow) (tops : List Top) → length rows ≡ length tops → ((k : ℕ) (row : TopRow) (t : Top) → slice_get rows k ≡ Some row → slice_get tops k ≡ Some t → ShowsTop units row t) → ShowsRows units rows tops
+shows_rows : (units : List (FileUnit Spot)) (rows : List TopRow) (tops : List Top) → length rows ≡ length tops
+    → ((k : ℕ) (row : TopRow) (t : Top) → slice_get rows k ≡ Some row → slice_get tops k ≡ Some t → ShowsTop units row t) → ShowsRows units rows tops
 shows_rows units [] [] e h = tt
 shows_rows units [] (t ∷ tops) e h = absurd (omega (arith, e))
 shows_rows units (row ∷ rows) [] e h = absurd (omega (arith, e))
 shows_rows units (row ∷ rows) (t ∷ tops) e h = (h 0 row t refl refl, shows_rows units rows tops (omega (arith, e)) (λ k r s p q. h (suc k) r s p q))
 
 stands_for : (docs : List (Doc ℕ)) (rows : List TopRow) (tops : List Top) → length rows ≡ length tops
-    → ((k : ℕ) (row : TopRow) (t : Top) → slice_get rows k ≡ Some row → slice_get tops k ≡ Some t → name_in docs (at_file row.place.file row.place.offset) ≡ Within t.number []) → StandsFor docs rows tops
+    → ((k : ℕ) (row : TopRow) (t : Top) → slice_get rows k ≡ Some row → slice_get tops k ≡ Some t → name_in docs (at_file row.place.file row.place.offset) ≡ Within t.number [])
+    → StandsFor docs rows tops
 stands_for docs [] [] e h = tt
 stands_for docs [] (t ∷ tops) e h = absurd (omega (arith, e))
 stands_for docs (row ∷ rows) [] e h = absurd (omega (arith, e))
@@ -111,10 +107,6 @@ weight_got : (rows : List TopRow) (k : ℕ) (row : TopRow) → slice_get rows k 
 weight_got [] k row e = absurd cc
 weight_got (r ∷ rows) zero row e = ap (λ (w : TopRow). w.weight) (let same : r ≡ row = cc in same)
 weight_got (r ∷ rows) (suc k) row e = weight_got rows k row e
-
-unbound : (units : List (FileUnit Spot)) (t : Top) → In t (tops_of units) → Movable units t.number → binds_itself units t ≡ true → ⊥
-unfolding Bound
-unbound units t there m q = m.free 0 (t, there, refl, q)
 
 -- ---- all tops are gathered
 
@@ -144,9 +136,9 @@ module _ (docs : List (Doc ℕ)) (draft : Draft) (d : IsDraft docs 0 (length (to
       let a = d.rows_len in
       let b = d.binds_len in
       let c = d.targets_len in
-      let row = get_there draft.rows.items n (omega arith) in
-      let binds = get_there draft.binds.items n (omega arith) in
-      let ts = get_there d.targets n (omega arith) in
+      let row = got_there draft.rows.items n (omega arith) in
+      let binds = got_there draft.binds.items n (omega arith) in
+      let ts = got_there d.targets n (omega arith) in
       record { row = row.0; binds = binds.0; ts = ts.0; row_there = row.1; binds_there = binds.1; ts_there = ts.1; is = d.each n n t row.0 binds.0 ts.0 (omega arith) e row.1 binds.1 ts.1 }
 
   of_top : (t : Top) → In t tops → Of t.number t
@@ -155,12 +147,12 @@ module _ (docs : List (Doc ℕ)) (draft : Draft) (d : IsDraft docs 0 (length (to
   pub are_seeds : AreSeeds units draft.binds.items
   are_seeds = record {
     len = d.binds_len;
-    each = λ t there. (let o = of_top t there in got_index draft.binds.items t.number o.binds false o.binds_there ∙ o.is.binds_is);
+    each = λ t there. (let o = of_top t there in got_index_or draft.binds.items t.number o.binds false o.binds_there ∙ o.is.binds_is);
   }
 
   module _ (targets : List (List ℕ)) (grouped_is : targets ≡ grouped (length draft.rows.items) draft.pairs.items) where
     pub long : length targets ≡ count
-    long = ap (λ (w : List (List ℕ)). length w) grouped_is ∙ grouped_long (length draft.rows.items) draft.pairs.items ∙ d.rows_len
+    long = ap (λ (w : List (List ℕ)). length w) grouped_is ∙ grouped_length (length draft.rows.items) draft.pairs.items ∙ d.rows_len
 
     under : (n : ℕ) → n < count → slice_index_or targets n [] ≡ slice_index_or d.targets n []
     under n lt =
@@ -172,7 +164,7 @@ module _ (docs : List (Doc ℕ)) (draft : Draft) (d : IsDraft docs 0 (length (to
     targets_are t there free =
         let o = of_top t there in
         let lt = got_below tops t.number t (top_there units t there) in
-        under t.number lt ∙ got_index d.targets t.number o.ts [] o.ts_there ∙ o.is.targets_are (o.is.binds_is ∙ free)
+        under t.number lt ∙ got_index_or d.targets t.number o.ts [] o.ts_there ∙ o.is.targets_are (o.is.binds_is ∙ free)
 
     pub shown_targets : ShowTargets units targets
     shown_targets = record {
@@ -185,16 +177,17 @@ module _ (docs : List (Doc ℕ)) (draft : Draft) (d : IsDraft docs 0 (length (to
     pub inside : AreInside targets
     inside m n there = ⊎_elim
         (λ lt. (
-        let t = get_there tops m lt in
+        let t = got_there tops m lt in
         let o = of_number m t.0 t.1 in
-        let here : In n o.ts = subst (λ (w : List ℕ). In n w) (under m lt ∙ got_index d.targets m o.ts [] o.ts_there) there in
+        let here : In n o.ts = subst (λ (w : List ℕ). In n w) (under m lt ∙ got_index_or d.targets m o.ts [] o.ts_there) there in
         let low = all_in count o.ts o.is.inside n here in
         let len = long in
         omega arith))
         (λ ge. absurd (let len = long in let none : slice_index_or targets m [] ≡ [] = none_index targets m [] (omega arith) in subst (λ (w : List ℕ). In n w) none there))
         (cases_lt m count)
 
-    module _ (flags : List Bool) (movable : AreMovable units flags) (files_of_units : List ℕ) (files : ℕ) (of_files : files_of_units ≡ map (λ f. f.file) units) (few : All (λ file. file < files) files_of_units) where
+    module _ (flags : List Bool) (movable : AreMovable units flags) (files_of_units : List ℕ) (files : ℕ) (of_files : files_of_units ≡ map (λ f. f.file) units)
+        (few : All (λ file. file < files) files_of_units) where
       abbrev rows : List TopRow
       rows = with_flags draft.rows.items flags
 
@@ -227,7 +220,7 @@ module _ (docs : List (Doc ℕ)) (draft : Draft) (d : IsDraft docs 0 (length (to
         where
           not_bound : (b : Bool) → binds_itself units t ≡ b → Movable units t.number → binds_itself units t ≡ false
           not_bound false q m = q
-          not_bound true q m = absurd (unbound (units_of docs) t there m q)
+          not_bound true q m = absurd (free_top (units_of docs) t there m q)
 
       row_shows : (k : ℕ) (row : TopRow) (t : Top) → slice_get rows k ≡ Some row → slice_get tops k ≡ Some t → ShowsTop units row t
       row_shows k row t e there = let s = shown k row t e there in record { unit = s.same.unit ∙ s.is.row_is.unit; pinned = s.same.pinned ∙ s.is.row_is.pinned }
@@ -240,7 +233,7 @@ module _ (docs : List (Doc ℕ)) (draft : Draft) (d : IsDraft docs 0 (length (to
           let here = top_there units t there in
           let lt = got_below tops t.number t here in
           let len = rows_len in
-          let row = get_there rows t.number (omega arith) in
+          let row = got_there rows t.number (omega arith) in
           let s = shown t.number row.0 t row.1 here in
           subst (λ (w : ℕ). IsWeight w (top_weight t)) (sym (weight_got rows t.number row.0 row.1 ∙ s.same.weight)) s.is.row_is.weight
 

@@ -1,14 +1,15 @@
 -- Lists that are kept as pairs come back under their numbers.
-use Rattle.std.proofs.Common.{◌≡◌, ℕ, zero, suc, ◌+◌, ◌<◌, ◌≤◌, Bool, true, false, All, List, [], ◌∷◌, ◌++◌, length, map, cond, refl, sym, ap, subst, ◌∙◌, arith, eqb, slice_get, Some}
+use Rattle.std.proofs.Common.{◌≡◌, ℕ, zero, suc, ◌+◌, ◌<◌, ◌≤◌, Bool, true, false, All, List, [], ◌∷◌, ◌++◌, length, map, cond, refl, sym, ap, ◌∙◌, arith}
 use Rattle.std.specs.Prelude.{◌==◌, filter, slice_index_or}
 use Rattle.std.specs.List.{range_with_len}
 use Rattle.std.proofs.lemmas.Bool.{eq-eqb, ne_eqb}
 use Rattle.std.proofs.lemmas.List.{append-nil, append_assoc, map-append}
+use Rattle.dwz_docs.proofs.ListFacts.{all_more}
 use Rattle.dwz_groups.specs.declared.groups.Pair.{Pair}
 use Rattle.dwz_groups.specs.Groups.{grouped, values_at}
 use Rattle.dwz_scan.specs.Bound.{target_of}
 use Rattle.dwz_outline.specs.Drafts.{pairs_from}
-use Rattle.dwz_outline.proofs.ListParts.{all_both, all_more, all_none}
+use Rattle.dwz_outline.proofs.ListParts.{all_both, all_none}
 
 -- ---- the values under a key
 
@@ -21,7 +22,8 @@ values pairs k = map (λ p. p.value) (filter (at_key k) pairs)
 filter_append : (k : ℕ) (xs ys : List Pair) → filter (at_key k) (xs ++ ys) ≡ filter (at_key k) xs ++ filter (at_key k) ys
 filter_append k [] ys = refl
 filter_append k (x ∷ xs) ys = by (at_key k x) (filter_append k xs ys) where
-  by : (b : Bool) → filter (at_key k) (xs ++ ys) ≡ filter (at_key k) xs ++ filter (at_key k) ys → cond b (x ∷ filter (at_key k) (xs ++ ys)) (filter (at_key k) (xs ++ ys)) ≡ cond b (x ∷ filter (at_key k) xs) (filter (at_key k) xs) ++ filter (at_key k) ys
+  by : (b : Bool) → filter (at_key k) (xs ++ ys) ≡ filter (at_key k) xs ++ filter (at_key k) ys → cond b (x ∷ filter (at_key k) (xs ++ ys)) (filter (at_key k) (xs ++ ys))
+      ≡ cond b (x ∷ filter (at_key k) xs) (filter (at_key k) xs) ++ filter (at_key k) ys
   by true e = ap (λ (w : List Pair). x ∷ w) e
   by false e = e
 
@@ -65,22 +67,10 @@ values_from m (suc j) (ts ∷ targets) =
 
 -- ---- all keys
 
-range_long : (a n : ℕ) → length (range_with_len a n) ≡ n
-range_long a zero = refl
-range_long a (suc n) = ap suc (range_long (a + 1) n)
-
 range_at : (a n k : ℕ) (pairs : List Pair) → k < n → slice_index_or (map (values pairs) (range_with_len a n)) k [] ≡ values pairs (a + k)
 range_at a zero k pairs lt = absurd (omega arith)
 range_at a (suc n) zero pairs lt = let z : a ≡ a + 0 = omega arith in ap (values pairs) z
 range_at a (suc n) (suc k) pairs lt = let z : a + 1 + k ≡ a + suc k = omega arith in range_at (a + 1) n k pairs (omega arith) ∙ ap (values pairs) z
-
-map_long : (f : ℕ → List ℕ) (xs : List ℕ) → length (map f xs) ≡ length xs
-map_long f [] = refl
-map_long f (x ∷ xs) = ap suc (map_long f xs)
-
-pub grouped_long : (n : ℕ) (pairs : List Pair) → length (grouped n pairs) ≡ n
-unfolding grouped values_at
-grouped_long n pairs = map_long (values pairs) (range_with_len 0 n) ∙ range_long 0 n
 
 -- the list under a number
 pub grouped_at : (n k : ℕ) (targets : List (List ℕ)) → k < n → slice_index_or (grouped n (pairs_from 0 targets)) k [] ≡ slice_index_or targets k []

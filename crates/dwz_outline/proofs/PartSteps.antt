@@ -3,13 +3,13 @@ use Rattle.std.proofs.Common.{◌≡◌, ℕ, suc, ◌+◌, ◌-◌, ◌<◌, Bo
 use Rattle.std.specs.Prelude.{IfSome, OnOk, is_ok, slice_index_or, if◌then◌else◌}
 use Rattle.std.proofs.lemmas.Bool.{cases_lt}
 use Rattle.std.proofs.lemmas.List.{length-append}
+use Rattle.dwz_docs.proofs.ListFacts.{got_below}
 use Rattle.dwz_groups.specs.declared.tops.TopRow.{TopRow}
 use Rattle.dwz_index.specs.declared.index.Starts.{Starts}
 use Rattle.dwz_index.specs.Index.{Index}
 use Rattle.dwz_index.proofs.TopLemmas.{get_cases}
 use Rattle.dwz_meanings.specs.Documents.{Doc}
 use Rattle.dwz_across.specs.Across.{starts_at}
-use Rattle.dwz_across.proofs.ListGets.{got_below}
 use Rattle.dwz_marks.proofs.MarkSteps.{starts_zero}
 use Rattle.dwz_outline.specs.declared.draft.Draft.{Draft}
 use Rattle.dwz_outline.specs.Drafts.{AreParts, IsDraft, IsFileDraft}

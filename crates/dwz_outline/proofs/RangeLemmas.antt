@@ -1,14 +1,14 @@
 -- The tops of a unit stand one behind the other.
-use Rattle.std.proofs.Common.{◌≡◌, ◌≢◌, ◌⊎◌, ℕ, zero, suc, ◌+◌, ◌-◌, ◌<◌, ◌≤◌, Bool, true, false, List, [], ◌∷◌, length, drop, Option, Some, None, slice_get, refl, sym, ap, subst, ◌∙◌, inl, inr, ⊎_elim, arith}
+use Rattle.std.proofs.Common.{◌≡◌, ◌≢◌, ◌⊎◌, ℕ, zero, suc, ◌+◌, ◌-◌, ◌<◌, ◌≤◌, Bool, true, false, List, [], ◌∷◌, length, drop, Option, Some, None, slice_get, refl, sym, ap, subst, ◌∙◌}
+use Rattle.std.proofs.Common.{⊎_elim, arith}
 use Rattle.std.proofs.lemmas.List.{length-drop}
 use Rattle.std.specs.Prelude.{◌↔◌, ◌==◌, ◌&&◌, nat_lt, not}
 use Rattle.std.proofs.lemmas.Bool.{cases_lt, eq-eqb, eqb-true, false≢true, le-ltb, lt-ltb, ne_eqb}
+use Rattle.dwz_docs.proofs.ListFacts.{got_below, got_there, same_got}
 use Rattle.dwz_alike.specs.Alike.{is_number, unit_in}
 use Rattle.dwz_alike.specs.Spots.{Top}
 use Rattle.dwz_index.specs.declared.index.TopEntry.{TopEntry}
 use Rattle.dwz_scan.specs.Bound.{HasTops}
-use Rattle.dwz_scan.specs.declared.bind.TopRange.{TopRange}
-use Rattle.dwz_across.proofs.ListGets.{get_there, got_below, same_got}
 use Rattle.dwz_outline.specs.Ranges.{Continues, HaveUnits}
 
 -- ---- what a number's unit is
@@ -65,7 +65,8 @@ get_drop {X} zero k xs = (let z : k ≡ 0 + k = omega arith in ap (slice_get xs)
 get_drop {X} (suc i) k [] = refl
 get_drop {X} (suc i) k (x ∷ xs) = get_drop i k xs ∙ (let z : suc (i + k) ≡ suc i + k = omega arith in ap (slice_get (x ∷ xs)) z)
 
-pub one_before : (tops : List TopEntry) (i : ℕ) (x a b : TopEntry) (r : Bool) → 0 < i → slice_get tops (i - 1) ≡ Some a → slice_get tops i ≡ Some b → r ≡ (a.unit == b.unit) → slice_get tops i ≡ Some x → (r ≡ true) ↔ Continues tops i x
+pub one_before : (tops : List TopEntry) (i : ℕ) (x a b : TopEntry) (r : Bool) → 0 < i → slice_get tops (i - 1) ≡ Some a → slice_get tops i ≡ Some b → r ≡ (a.unit == b.unit) → slice_get tops i ≡ Some x
+    → (r ≡ true) ↔ Continues tops i x
 one_before tops i x a b r lt p here e got =
     let same : b ≡ x = same_got tops i b x here got in
     let at : suc (i - 1) ≡ i = omega arith in (
@@ -96,7 +97,7 @@ module _ (all : List Top) (first : ℕ) (tops : List TopEntry) (h : HaveUnits al
   top_of k y e =
       let lt = got_below tops k y e in
       let within = h.within in
-      let t = get_there all (first + k) (omega arith) in
+      let t = got_there all (first + k) (omega arith) in
       (t.0, t.1, h.there k y t.0 e t.1)
 
   -- it is the first of its unit
@@ -116,7 +117,7 @@ module _ (all : List Top) (first : ℕ) (tops : List TopEntry) (h : HaveUnits al
       (λ high. (
       let k = n - first in
       let at = got_below tops i x got in
-      let y = get_there tops (i - 1) (omega arith) in
+      let y = got_there tops (i - 1) (omega arith) in
       let one : suc (i - 1) ≡ i = omega arith in
       let t = top_of (i - 1) y.0 y.1 in
       let here = top_of i x got in
@@ -132,7 +133,7 @@ module _ (all : List Top) (first : ℕ) (tops : List TopEntry) (h : HaveUnits al
   behind_it run r n s le e q = ⊎_elim
       (λ low. (
       let within = r.within in
-      let y = get_there tops (i + run) (omega arith) in
+      let y = got_there tops (i + run) (omega arith) in
       let t = top_of (i + run) y.0 y.1 in
       let here = top_of i x got in
       let up = h.rise (first + i) (first + (i + run)) here.0 t.0 (omega arith) here.1 t.1 in
@@ -145,7 +146,8 @@ module _ (all : List Top) (first : ℕ) (tops : List TopEntry) (h : HaveUnits al
       (cases_lt n (first + length tops))
 
   -- what stands from it on
-  pub run_is : (part : List TopEntry) (unit run : ℕ) → part ≡ drop i tops → unit ≡ x.unit → run ≤ length part → ((k : ℕ) (y : TopEntry) → k < run → slice_get part k ≡ Some y → y.unit ≡ unit) → ((y : TopEntry) → slice_get part run ≡ Some y → y.unit ≢ unit) → IsRun run
+  pub run_is : (part : List TopEntry) (unit run : ℕ) → part ≡ drop i tops → unit ≡ x.unit → run ≤ length part → ((k : ℕ) (y : TopEntry) → k < run → slice_get part k ≡ Some y → y.unit ≡ unit)
+      → ((y : TopEntry) → slice_get part run ≡ Some y → y.unit ≢ unit) → IsRun run
   run_is part unit run part_is unit_is within same next =
       let at : (k : ℕ) (y : TopEntry) → slice_get tops (i + k) ≡ Some y → slice_get part k ≡ Some y = (λ k y e. ap (λ (w : List TopEntry). slice_get w k) part_is ∙ get_drop i k tops ∙ e) in
       let long = ap (λ (w : List TopEntry). length w) part_is in
@@ -170,14 +172,14 @@ module _ (all : List Top) (first : ℕ) (tops : List TopEntry) (h : HaveUnits al
     below lt =
         let at = got_below tops i x got in
         let within = h.within in
-        let s = get_there all n (omega arith) in
+        let s = got_there all n (omega arith) in
         no_unit n s.0 s.1 (before_it is n s.0 lt s.1) ∙ sym (below_range (first + i) (first + (i + run)) n lt)
 
     inside : first + i ≤ n → n < first + (i + run) → is_number (unit_in all n) x.unit ≡ (not (nat_lt n (first + i)) && nat_lt n (first + (i + run)))
     inside ge lt =
         let within = r.within in
         let k = n - (first + i) in
-        let y = get_there tops (i + (n - (first + i))) (omega arith) in
+        let y = got_there tops (i + (n - (first + i))) (omega arith) in
         let t = top_of (i + (n - (first + i))) y.0 y.1 in
         let at : first + (i + (n - (first + i))) ≡ n = omega arith in
         let here : slice_get all n ≡ Some t.0 = subst (λ (j : ℕ). slice_get all j ≡ Some t.0) at t.1 in
@@ -185,7 +187,7 @@ module _ (all : List Top) (first : ℕ) (tops : List TopEntry) (h : HaveUnits al
 
     behind : first + i ≤ n → first + (i + run) ≤ n → is_number (unit_in all n) x.unit ≡ (not (nat_lt n (first + i)) && nat_lt n (first + (i + run)))
     behind ge le = ⊎_elim
-        (λ lt. (let s = get_there all n lt in no_unit n s.0 s.1 (behind_it run r n s.0 (omega arith) s.1)))
+        (λ lt. (let s = got_there all n lt in no_unit n s.0 s.1 (behind_it run r n s.0 (omega arith) s.1)))
         (λ out. none_there n out)
         (cases_lt n (length all))
         ∙ sym (behind_range (first + i) (first + (i + run)) n ge le)

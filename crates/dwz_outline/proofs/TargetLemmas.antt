@@ -1,38 +1,39 @@
 -- The tops that the references of a top go into, where it doesn't bind itself, are the tops of a part of the file's references.
-use Rattle.std.proofs.Common.{◌≡◌, ℕ, ◌+◌, ◌<◌, ◌≤◌, Bool, true, false, List, [], ◌∷◌, ◌++◌, length, map, drop, Option, Some, None, Ok, slice_get, refl, sym, ap, subst, ◌∙◌, ⊎_elim, arith}
-use Rattle.std.specs.Prelude.{◌||◌, slice_index, slice_range}
-use Rattle.std.specs.List.{flat_map, list_any}
+use Rattle.std.proofs.Common.{◌≡◌, ℕ, ◌+◌, ◌<◌, ◌≤◌, Bool, true, false, List, [], ◌∷◌, ◌++◌, length, map, drop, Option, Some, Ok, slice_get, refl, sym, ap, subst, ◌∙◌, ⊎_elim, arith}
+use Rattle.std.specs.Prelude.{slice_index, slice_range}
+use Rattle.std.specs.List.{list_any}
 use Rattle.std.proofs.lemmas.Bool.{cases_lt}
 use Rattle.std.proofs.lemmas.Grind.{flat_map-append}
 use Rattle.std.proofs.lemmas.List.{append-nil, append_assoc, length-map, map-append}
 use Rattle.dwz_alike.specs.Alike.{any_attr, any_in, attr_binds, binding_forms, entry_binds}
 use Rattle.dwz_alike.specs.Spots.{Import, InChain, InType, PartialOf, PartialRoot, RootOf, SpaceAt, Spot, Top, UnitOf, Within}
 use Rattle.dwz_alike.specs.Targets.{attrs_into, entries_into, refs_into, targets_of}
-use Rattle.dwz_alike.proofs.Targets.{or_left, or_right}
 use Rattle.dwz_docs.specs.Entries.{RawAttr}
-use Rattle.dwz_docs.specs.Lists.{has}
+use Rattle.dwz_docs.specs.Lists.{Each, has}
 use Rattle.dwz_docs.specs.Trees.{End, Entry}
 use Rattle.dwz_docs.specs.Units.{RawUnit, entries_in}
+use Rattle.dwz_docs.proofs.ListFacts.{drop_first, got_below, range_none}
+use Rattle.dwz_docs.proofs.CaseFacts.{or_left, or_right}
 use Rattle.dwz_flat.specs.Rows.{RowsMean, node_refs, nodes, nodes_refs}
 use Rattle.dwz_flat.specs.Tops.{HasTopOfFile}
 use Rattle.dwz_flat.proofs.PartLemmas.{rows_unit}
-use Rattle.dwz_flat.proofs.StepLemmas.{first_of}
 use Rattle.dwz_flat.proofs.TreeLemmas.{tree_means}
 use Rattle.dwz_index.specs.Names.{top_in}
-use Rattle.dwz_meanings.specs.Documents.{Attr, DwUnit, Entries, Loc, Node, Plain, Value, attr_map, entries_map, node_map}
+use Rattle.dwz_meanings.specs.Documents.{Attr, DwUnit, Entries, Node, Value, attr_map, entries_map, node_map}
 use Rattle.dwz_meanings.specs.Meanings.{Around, MeanAttrs, MeansAttr, Scope, class_of, meaning, scope_of, without_siblings}
 use Rattle.dwz_meanings.proofs.MeaningLemmas.{node_agrees, value_agrees}
 use Rattle.dwz_resolve.specs.Named.{attrs_refs, refs_beside, value_refs}
-use Rattle.dwz_resolve.specs.Resolved.{Each, place_at}
-use Rattle.dwz_resolve.proofs.RowLemmas.{below-length, rows-length}
+use Rattle.dwz_resolve.specs.Resolved.{place_at}
+use Rattle.dwz_resolve.proofs.RowLemmas.{rows-length}
+use Rattle.dwz_resolve.proofs.PlainBeside.{none_beside}
 use Rattle.dwz_unit.specs.Rows.{EntryRow, rows_below, rows_of}
+use Rattle.dwz_unit.proofs.RowLemmas.{shown-length}
 use Rattle.dwz_scan.specs.Bound.{is_expression, some_of, somes}
 use Rattle.dwz_scan.specs.Known.{KnowsRefs, StandsAt, tops_of_refs}
 use Rattle.dwz_scan.specs.Values.{is_entry}
 use Rattle.dwz_scan.proofs.BindLemmas.{said_expression, value_says}
 use Rattle.dwz_scan.proofs.TreeBinds.{any_top}
-use Rattle.dwz_across.proofs.ListGets.{got_below}
-use Rattle.dwz_outline.proofs.ListParts.{range_map, range_none, range_split}
+use Rattle.dwz_outline.proofs.ListParts.{range_map, range_split}
 
 -- ---- tops of names
 
@@ -105,7 +106,8 @@ module _ (name : ℕ → Spot) where
       ((λ i. entries_free c (each_left FreeNode (nodes c) (nodes n) h.1) i ++ entries_free n (each_right FreeNode (nodes c) (nodes n) h.1) i) ∙ sym (two_parts (nodes c) (nodes n)))
       ∙ one_node d (nodes c ++ nodes n) h.0
 
-  targets_free : (t : Top) (d : Node ℕ) (g : Entries ℕ) → t.node ≡ node_map name d → t.below ≡ entries_map name g → Each FreeNode (nodes (Entry d g End)) → targets_of t ≡ refs_into (map name (nodes_refs (nodes (Entry d g End))))
+  targets_free : (t : Top) (d : Node ℕ) (g : Entries ℕ) → t.node ≡ node_map name d → t.below ≡ entries_map name g → Each FreeNode (nodes (Entry d g End))
+      → targets_of t ≡ refs_into (map name (nodes_refs (nodes (Entry d g End))))
   unfolding nodes
   targets_free t d g node below h =
       (λ i. attrs_into (node i).attrs ++ entries_into (below i))
@@ -114,10 +116,6 @@ module _ (name : ℕ → Spot) where
       ∙ ap (λ (w : List (Node ℕ)). refs_into (map name (nodes_refs (d ∷ w)))) (sym (append-nil (nodes g)))
 
 -- ---- what doesn't bind holds none
-
-none_beside : (plain : Plain) → refs_beside {P = ℕ} plain [] ≡ []
-none_beside (Loc exprs) = refl
-none_beside _ = refl
 
 module _ (tops : List Top) (unit : ℕ) (name : ℕ → Spot) (s : Scope ℕ) where
   value_free : (r : RawAttr) (b : Attr ℕ) → MeansAttr s r b → attr_binds tops unit (attr_map name b) ≡ false → Free b
@@ -165,7 +163,8 @@ module _ (around : Around ℕ) (raw : List RawUnit) (name : ℕ → Spot) (refs 
   PartsAre i k ds = (start i ≤ start k) × (map (place_at raw) (slice_range refs (start i) (start k)) ≡ nodes_refs ds)
 
   module _ (n : ℕ) (u : RawUnit) (is_unit : slice_get raw n ≡ Some u) where
-    parts_are : (i k : ℕ) (rows after : List EntryRow) (ds : List (Node ℕ)) → Each (λ row. row.unit ≡ n) rows → i + length rows ≡ k → drop i (rows_of raw) ≡ rows ++ after → RowsMean (scope_of around u) rows ds → PartsAre i k ds
+    parts_are : (i k : ℕ) (rows after : List EntryRow) (ds : List (Node ℕ)) → Each (λ row. row.unit ≡ n) rows → i + length rows ≡ k → drop i (rows_of raw) ≡ rows ++ after
+        → RowsMean (scope_of around u) rows ds → PartsAre i k ds
     parts_are i k [] after [] own count found means =
         let same : i ≡ k = omega arith in
         let le : start i ≤ start k = subst (λ (j : ℕ). start i ≤ start j) same (omega arith) in
@@ -174,7 +173,7 @@ module _ (around : Around ℕ) (raw : List RawUnit) (name : ℕ → Spot) (refs 
     parts_are i k [] after (d ∷ ds) own count found means = absurd means
     parts_are i k (row ∷ rows) after [] own count found means = absurd means
     parts_are i k (row ∷ rows) after (d ∷ ds) own count found means =
-        let f = first_of (rows_of raw) i row (rows ++ after) found in
+        let f = drop_first (rows_of raw) i row (rows ++ after) found in
         let within : i < entries_in raw = (let lt = got_below (rows_of raw) i row f.0 in let len = rows-length raw in omega arith) in
         let rise = knows.parted.rise i within in
         let low = rise.0 in
@@ -213,7 +212,7 @@ module _ (around : Around ℕ) (raw : List RawUnit) (name : ℕ → Spot) (refs 
 
     count : first + length rows ≡ end
     count =
-        let many = below-length (Entry h.top.e h.top.c End) h.n h.top.p in
+        let many = shown-length (Entry h.top.e h.top.c End) h.n h.top.p in
         let to = stands.to in
         omega arith
 

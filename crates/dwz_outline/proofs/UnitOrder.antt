@@ -1,45 +1,24 @@
 -- The tops of all files are in order of their units, and those of a file are of units of their own.
-use Rattle.std.proofs.Common.{◌≡◌, ◌≢◌, ◌⊎◌, ℕ, zero, suc, ◌+◌, ◌-◌, ◌<◌, ◌≤◌, List, [], ◌∷◌, ◌++◌, length, Some, slice_get, refl, sym, ap, subst, ◌∙◌, inl, inr, ⊎_elim, arith}
+use Rattle.std.proofs.Common.{◌≡◌, ◌⊎◌, ℕ, zero, suc, ◌+◌, ◌-◌, ◌<◌, ◌≤◌, List, [], ◌∷◌, ◌++◌, length, Some, slice_get, sym, ap, subst, ◌∙◌, ⊎_elim, arith}
 use Rattle.std.proofs.lemmas.Bool.{cases_lt}
 use Rattle.std.proofs.lemmas.List.{length-append}
-use Rattle.dwz_alike.specs.Spots.{FileUnit, Spot, Top, row_below, row_tops, top_count, tops_among, tops_from, tops_of, units_of}
-use Rattle.dwz_alike.proofs.RowLemmas.{below_unit}
-use Rattle.dwz_alike.proofs.TopNumbers.{Numbered, tops_numbers}
-use Rattle.dwz_docs.specs.Lists.{In}
+use Rattle.dwz_alike.specs.Spots.{Top, tops_of, units_of}
+use Rattle.dwz_alike.proofs.TopNumbers.{tops_numbers}
+use Rattle.dwz_alike.proofs.TopOrder.{InOrder, later_unit, units_rise}
+use Rattle.dwz_docs.proofs.ListFacts.{got_below, got_in, same_got}
 use Rattle.dwz_graph.specs.declared.file.File.{File}
 use Rattle.dwz_graph.specs.Files.{docs_of}
 use Rattle.dwz_index.specs.declared.index.TopEntry.{TopEntry}
 use Rattle.dwz_index.specs.Index.{Index}
 use Rattle.dwz_index.proofs.TopLemmas.{get_cases, many}
+use Rattle.dwz_index.proofs.TopUnits.{numbered_at}
 use Rattle.dwz_meanings.specs.Documents.{Doc}
-use Rattle.dwz_seen.specs.Lists.{Each, EachPair}
-use Rattle.dwz_seen.proofs.Members.{pair_append}
+use Rattle.dwz_seen.specs.Lists.{EachPair}
+use Rattle.dwz_docs.specs.Lists.{Each}
 use Rattle.dwz_across.specs.Across.{IsFileAmong, file_tops, file_units}
 use Rattle.dwz_across.proofs.FileEntries.{gives_top}
-use Rattle.dwz_across.proofs.ListGets.{get_there, got_below, got_in, same_got}
-use Rattle.dwz_across.proofs.TopRows.{file_many, unit_high, unit_low, units_long}
+use Rattle.dwz_across.proofs.TopRows.{file_many, unit_high, units_long}
 use Rattle.dwz_outline.specs.Ranges.{HaveUnits}
-
-abbrev InOrder : Top → Top → Type 0
-InOrder a b = a.unit ≤ b.unit
-
-all_same : (unit : ℕ) (tops : List Top) → ((t : Top) → In t tops → t.unit ≡ unit) → EachPair InOrder tops
-all_same unit [] h = tt
-all_same unit (x ∷ tops) h = (each tops (λ t there. h t (inr there)), all_same unit tops (λ t there. h t (inr there))) where
-  each : (some : List Top) → ((t : Top) → In t some → t.unit ≡ unit) → Each (InOrder x) some
-  each [] k = tt
-  each (t ∷ some) k = ((let a = h x (inl refl) in let b = k t (inl refl) in omega arith), each some (λ u there. k u (inr there)))
-
-rises : (s n : ℕ) (units : List (FileUnit Spot)) → EachPair InOrder (tops_from s n units)
-unfolding tops_from
-rises s n [] = tt
-rises s n (f ∷ units) =
-    let own = row_tops (row_below f.file s n f.unit f.unit.kind) in
-    let rest = tops_from (suc s) (n + top_count f.unit.kind f.unit.below) units in
-    pair_append InOrder own rest
-    (all_same s own (λ t there. (below_unit f s n f.unit.kind t there).1))
-    (rises (suc s) (n + top_count f.unit.kind f.unit.below) units)
-    (λ a b p q. (let x = (below_unit f s n f.unit.kind a p).1 in let y = unit_low (suc s) (n + top_count f.unit.kind f.unit.below) units b q in omega arith))
 
 each_got : (P : Top → Type 0) (tops : List Top) → Each P tops → (k : ℕ) (t : Top) → slice_get tops k ≡ Some t → P t
 each_got P [] h k t e = absurd cc
@@ -51,11 +30,6 @@ pair_got [] h m n s t lt e f = absurd cc
 pair_got (x ∷ tops) h m zero s t lt e f = absurd (omega arith)
 pair_got (x ∷ tops) h zero (suc n) s t lt e f = subst (λ (w : Top). w.unit ≤ t.unit) (let same : x ≡ s = cc in same) (each_got (InOrder x) tops h.0 n t f)
 pair_got (x ∷ tops) h (suc m) (suc n) s t lt e f = pair_got tops h.1 m n s t (omega arith) e f
-
-numbered_got : (n : ℕ) (tops : List Top) → Numbered n tops → (k : ℕ) (t : Top) → slice_get tops k ≡ Some t → t.number ≡ n + k
-numbered_got n [] h k t e = absurd cc
-numbered_got n (x ∷ tops) h zero t e = (let same : x ≡ t = cc in let first = h.0 in let number = ap (λ (w : Top). w.number) same in omega arith)
-numbered_got n (x ∷ tops) h (suc k) t e = (let more = numbered_got (suc n) tops h.1 k t e in omega arith)
 
 module _ (contents : List (List ℕ)) (file : ℕ) (bytes : List ℕ) (f : File) (x : Index) (is : IsFileAmong contents file bytes f x) where
   abbrev all : List Top
@@ -82,7 +56,7 @@ module _ (contents : List (List ℕ)) (file : ℕ) (bytes : List ℕ) (f : File)
   unit_in k e got =
       let g = gives_top contents file bytes f x is k e got in
       let there = got_in part k g.top g.top_is.of_file in
-      let low = unit_low x.starts.unit x.starts.top (file_units x.starts file doc) g.top there in
+      let low = later_unit x.starts.unit x.starts.top (file_units x.starts file doc) g.top there in
       let high = unit_high x.starts.unit x.starts.top (file_units x.starts file doc) g.top there in
       let len = units_long x.starts file doc in
       let same = g.top_is.unit in
@@ -106,13 +80,15 @@ module _ (contents : List (List ℕ)) (file : ℕ) (bytes : List ℕ) (f : File)
 
   pub have_units : HaveUnits all x.starts.top x.tops
   have_units = record {
-    numbered = λ n t e. (let z = numbered_got 0 all (tops_numbers (units_of (docs_of contents))) n t e in omega arith);
+    numbered = λ n t e. (let z = numbered_at 0 all (tops_numbers (units_of (docs_of contents))) n t e in omega arith);
     rise = λ m n s t le e q. ⊎_elim
-        (λ lt. pair_got all (rises 0 0 (units_of (docs_of contents))) m n s t lt e q)
-        (λ ge. (let same : m ≡ n = omega arith in let one : s ≡ t = same_got all n s t (subst (λ (k : ℕ). slice_get all k ≡ Some s) same e) q in subst (λ (w : Top). s.unit ≤ w.unit) one (omega arith)))
+        (λ lt. pair_got all (units_rise 0 0 (units_of (docs_of contents))) m n s t lt e q)
+        (λ ge. (let same : m ≡ n = omega arith in let one : s ≡ t = same_got all n s t (subst (λ (k : ℕ). slice_get all k ≡ Some s) same e) q in subst (λ (w : Top). s.unit ≤ w.unit) one
+        (omega arith)))
         (cases_lt m n);
     within = whole;
-    there = λ k e t got q. (let g = gives_top contents file bytes f x is k e got in let same : g.top ≡ t = same_got all (x.starts.top + k) g.top t g.top_is.there q in ap (λ (w : Top). w.unit) (sym same) ∙ g.top_is.unit);
+    there = λ k e t got q. (let g = gives_top contents file bytes f x is k e got in let same : g.top ≡ t = same_got all (x.starts.top + k) g.top t g.top_is.there q in ap (λ (w : Top). w.unit)
+        (sym same) ∙ g.top_is.unit);
     before = λ n k s e lt q got same. (let low = (unit_in k e got).0 in let high = front_top n s lt q in omega arith);
     behind = λ n k s e le q got same. (let high = (unit_in k e got).1 in let low = back_top n s le q in omega arith);
   }

@@ -1,5 +1,6 @@
 -- What is gathered of tops, one after the other.
-use Rattle.std.specs.Prelude.{◌≡◌, ℕ, suc, ◌+◌, ◌<◌, ◌≤◌, Bool, false, All, List, [], ◌∷◌, ◌++◌, length, map, Option, Some, slice_get, IfSome}
+use Rattle.std.specs.Prelude.{◌≡◌, ℕ, suc, ◌+◌, ◌<◌, ◌≤◌, Bool, false, All, List, [], ◌∷◌, ◌++◌, length, map, Option, Some, slice_get}
+use Rattle.std.specs.Prelude.{IfSome}
 use Rattle.dwz_alike.specs.Alike.{binds_itself}
 use Rattle.dwz_alike.specs.Spots.{Top, Within, tops_of, units_of}
 use Rattle.dwz_alike.specs.Targets.{targets_of}
@@ -38,11 +39,14 @@ pub record IsGathered (docs : List (Doc ℕ)) (row : TopRow) (binds : Bool) (tar
 
 -- each of these tops begins and ends among the entries
 abbrev pub AreWithin : List RawUnit → List TopEntry → Type 0
-AreWithin raw tops = (k : ℕ) (x : TopEntry) → slice_get tops k ≡ Some x → (x.entry < entries_in raw) × ((r : RawEntry) → slice_get (shown_entries raw) x.entry ≡ Some r → r.end ≤ entries_in raw)
+AreWithin raw tops = (k : ℕ) (x : TopEntry) → slice_get tops k ≡ Some x
+    → (x.entry < entries_in raw) × ((r : RawEntry) → slice_get (shown_entries raw) x.entry ≡ Some r → r.end ≤ entries_in raw)
 
 -- the tops that the references of a file go into
-abbrev pub AreInto : (contents : List (List ℕ)) (number : ℕ) (bytes : List ℕ) (f : File) (x : Index) → IsFileAmong contents number bytes f x → List (Option ℕ) → Type 0
-AreInto contents number bytes f x is into = into ≡ tops_of_refs (name_at x.starts is.kept.read.doc) (raw_units f.units) f.resolved.refs.items
+abbrev pub AreInto : (contents : List (List ℕ)) (number : ℕ) (bytes : List ℕ) (f : File) (x : Index) → IsFileAmong contents number bytes f x
+    → List (Option ℕ) → Type 0
+AreInto contents number bytes f x is into = into ≡ tops_of_refs (name_at x.starts is.kept.read.doc) (raw_units f.units)
+    f.resolved.refs.items
 
 -- each list of targets under its top; the first top has that number
 unfoldable pub pairs_from : ℕ → List (List ℕ) → List Pair
@@ -56,7 +60,8 @@ pub record IsDraft (docs : List (Doc ℕ)) (first count : ℕ) (draft : Draft) :
   pub binds_len : length draft.binds.items ≡ count
   pub targets_len : length targets ≡ count
   pub pairs_are : draft.pairs.items ≡ pairs_from first targets
-  pub each : (k n : ℕ) (t : Top) (row : TopRow) (binds : Bool) (ts : List ℕ) → first + k ≡ n → slice_get (tops_of (units_of docs)) n ≡ Some t → slice_get draft.rows.items k ≡ Some row → slice_get draft.binds.items k ≡ Some binds
+  pub each : (k n : ℕ) (t : Top) (row : TopRow) (binds : Bool) (ts : List ℕ) → first + k ≡ n → slice_get (tops_of (units_of docs)) n
+      ≡ Some t → slice_get draft.rows.items k ≡ Some row → slice_get draft.binds.items k ≡ Some binds
       → slice_get targets k ≡ Some ts → IsGathered docs row binds ts t
 
 -- the tops of the file with a number are gathered

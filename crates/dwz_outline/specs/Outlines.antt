@@ -15,7 +15,8 @@ use Rattle.dwz_spread.specs.Spreading.{AreInside}
 -- the row stands for the place of the top
 abbrev pub StandsFor : List (Doc ℕ) → List TopRow → List Top → Type 0
 StandsFor docs [] [] = Unit {0}
-StandsFor docs (row ∷ rows) (t ∷ tops) = (name_in docs (at_file row.place.file row.place.offset) ≡ Within t.number []) × StandsFor docs rows tops
+StandsFor docs (row ∷ rows) (t ∷ tops) = (name_in docs (at_file row.place.file row.place.offset) ≡ Within t.number [])
+    × StandsFor docs rows tops
 StandsFor docs _ _ = ⊥
 
 -- The rows show the tops of all files and the places of these, and say which of them may move. The targets of a top that doesn't bind
@@ -24,5 +25,6 @@ pub record IsOutline (docs : List (Doc ℕ)) (tops : Tops) : Type 0 where
   pub shows : ShowsTops (units_of docs) tops
   pub places : StandsFor docs tops.rows (tops_of (units_of docs))
   pub movable : AreMovable (units_of docs) (map (λ row. row.movable) tops.rows)
-  pub targets : (t : Top) → In t (tops_of (units_of docs)) → binds_itself (units_of docs) t ≡ false → slice_index_or tops.targets t.number [] ≡ targets_of t
+  pub targets : (t : Top) → In t (tops_of (units_of docs)) → binds_itself (units_of docs) t ≡ false
+      → slice_index_or tops.targets t.number [] ≡ targets_of t
   pub inside : AreInside tops.targets

@@ -10,7 +10,8 @@ pub record HaveUnits (all : List Top) (first : ℕ) (tops : List TopEntry) : Typ
   pub within : first + length tops ≤ length all
   pub there : (k : ℕ) (x : TopEntry) (t : Top) → slice_get tops k ≡ Some x → slice_get all (first + k) ≡ Some t → t.unit ≡ x.unit
   pub before : (n k : ℕ) (s : Top) (x : TopEntry) → n < first → slice_get all n ≡ Some s → slice_get tops k ≡ Some x → s.unit ≢ x.unit
-  pub behind : (n k : ℕ) (s : Top) (x : TopEntry) → first + length tops ≤ n → slice_get all n ≡ Some s → slice_get tops k ≡ Some x → s.unit ≢ x.unit
+  pub behind : (n k : ℕ) (s : Top) (x : TopEntry) → first + length tops ≤ n → slice_get all n ≡ Some s → slice_get tops k ≡ Some x
+      → s.unit ≢ x.unit
 
 -- the i-th of these tops, x, is of the unit of the one before it
 abbrev pub Continues : List TopEntry → ℕ → TopEntry → Type 0

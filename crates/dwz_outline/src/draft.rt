@@ -1,6 +1,7 @@
 //! What is gathered of tops, file by file.
 
-ghost use Rattle.std.specs.Prelude.{◌≡◌, ℕ, ◌+◌, ◌<◌, ◌≤◌, ◌++◌, ◌^◌, false, true, List, Some, length, map, slice_get, slice_index, slice_index_or, slice_range, IfOk, OnOk};
+ghost use Rattle.std.specs.Prelude.{◌≡◌, ℕ, ◌+◌, ◌<◌, ◌≤◌, ◌++◌, ◌^◌, false, true, List, Some, length, map, slice_get, slice_index};
+ghost use Rattle.std.specs.Prelude.{slice_index_or, slice_range, IfOk, OnOk};
 ghost use Rattle.dwz_across.specs.Across.{IsFileAmong, IsTopOf};
 ghost use Rattle.dwz_alike.specs.Alike.{binds_itself};
 ghost use Rattle.dwz_alike.specs.Spots.{Top, tops_of, units_of};
@@ -68,7 +69,8 @@ fn start_of(starts: &[u32], i: u32) -> usize
 // The tops of references of the entries from one number to before another.
 #[inline(always)]
 fn part<'a>(into: &'a [Option<u32>], starts: &[u32], first: u32, end: u32) -> &'a [Option<u32>]
-    ensures { slice_index starts.now first ≤ slice_index starts.now end → slice_index starts.now end ≤ length into.now → result.now ≡ slice_range into.now (slice_index starts.now first) (slice_index starts.now end) }
+    ensures { slice_index starts.now first ≤ slice_index starts.now end → slice_index starts.now end ≤ length into.now
+        → result.now ≡ slice_range into.now (slice_index starts.now first) (slice_index starts.now end) }
 {
     match into.get(start_of(starts, first)..start_of(starts, end)) {
         Some(part) => part,
@@ -80,7 +82,10 @@ fn part<'a>(into: &'a [Option<u32>], starts: &[u32], first: u32, end: u32) -> &'
 fn row_of(file: &File, number: u32, n: u32, top: TopEntry, end: u32, named: &Named) -> TopRow
     requires entry { top.entry < entries_in (raw_units file.now.units) }
     requires end { end ≤ entries_in (raw_units file.now.units) }
-    ensures { (contents : List (List ℕ)) (bytes : List ℕ) (x : Index) (is : IsFileAmong contents number bytes file.now x) (k : ℕ) (t : Top) → IsTopOf contents number bytes file.now x is.kept.read.doc k top t → n ≡ t.number → ((r : RawEntry) → slice_get (shown_entries (raw_units file.now.units)) top.entry ≡ Some r → r.end ≡ end) → AreNamed (units_of (docs_of contents)) named.now → IsRowOf (docs_of contents) result t }
+    ensures { (contents : List (List ℕ)) (bytes : List ℕ) (x : Index) (is : IsFileAmong contents number bytes file.now x) (k : ℕ) (t : Top)
+        → IsTopOf contents number bytes file.now x is.kept.read.doc k top t → n ≡ t.number
+        → ((r : RawEntry) → slice_get (shown_entries (raw_units file.now.units)) top.entry ≡ Some r → r.end ≡ end)
+        → AreNamed (units_of (docs_of contents)) named.now → IsRowOf (docs_of contents) result t }
 {
     let units = &file.units;
     TopRow {
@@ -107,7 +112,11 @@ fn binds(
     operands: &mut Vec<Operand>,
 ) -> Result<bool, NoMemory>
     requires { end ≤ entries_in (raw_units file.now.units) }
-    ensures { (contents : List (List ℕ)) (number : ℕ) (bytes : List ℕ) (x : Index) (is : IsFileAmong contents number bytes file.now x) (k : ℕ) (t : Top) → IsTopOf contents number bytes file.now x is.kept.read.doc k top t → n ≡ t.number → ((r : RawEntry) → slice_get (shown_entries (raw_units file.now.units)) top.entry ≡ Some r → r.end ≡ end) → AreInto contents number bytes file.now x is into.now → HasTops (tops_of (units_of (docs_of contents))) t.unit own.now → AreNamed (units_of (docs_of contents)) named.now → IfOk result (λ b. b ≡ binds_itself (units_of (docs_of contents)) t) }
+    ensures { (contents : List (List ℕ)) (number : ℕ) (bytes : List ℕ) (x : Index) (is : IsFileAmong contents number bytes file.now x)
+        (k : ℕ) (t : Top) → IsTopOf contents number bytes file.now x is.kept.read.doc k top t → n ≡ t.number
+        → ((r : RawEntry) → slice_get (shown_entries (raw_units file.now.units)) top.entry ≡ Some r → r.end ≡ end)
+        → AreInto contents number bytes file.now x is into.now → HasTops (tops_of (units_of (docs_of contents))) t.unit own.now
+        → AreNamed (units_of (docs_of contents)) named.now → IfOk result (λ b. b ≡ binds_itself (units_of (docs_of contents)) t) }
 {
     let starts = file.resolved.starts.as_slice();
     if flag(named.by_any.as_slice(), n) {
@@ -146,8 +155,14 @@ fn put_top(
     operands: &mut Vec<Operand>,
 ) -> Result<(), NoMemory>
     requires entry { top.entry < entries_in (raw_units file.now.units) }
-    requires end { (r : RawEntry) → slice_get (shown_entries (raw_units file.now.units)) top.entry ≡ Some r → r.end ≤ entries_in (raw_units file.now.units) }
-    ensures { (contents : List (List ℕ)) (bytes : List ℕ) (x : Index) (is : IsFileAmong contents number bytes file.now x) (k : ℕ) (t : Top) → IsTopOf contents number bytes file.now x is.kept.read.doc k top t → n ≡ t.number → AreInto contents number bytes file.now x is into.now → HasTops (tops_of (units_of (docs_of contents))) t.unit own.now → AreNamed (units_of (docs_of contents)) named.now → slice_get (tops_of (units_of (docs_of contents))) n ≡ Some t → (from count : ℕ) → from + count ≡ n → IsDraft (docs_of contents) from count draft.old → OnOk result (IsDraft (docs_of contents) from (count + 1) draft.new) }
+    requires end { (r : RawEntry) → slice_get (shown_entries (raw_units file.now.units)) top.entry ≡ Some r
+        → r.end ≤ entries_in (raw_units file.now.units) }
+    ensures { (contents : List (List ℕ)) (bytes : List ℕ) (x : Index) (is : IsFileAmong contents number bytes file.now x) (k : ℕ) (t : Top)
+        → IsTopOf contents number bytes file.now x is.kept.read.doc k top t → n ≡ t.number
+        → AreInto contents number bytes file.now x is into.now → HasTops (tops_of (units_of (docs_of contents))) t.unit own.now
+        → AreNamed (units_of (docs_of contents)) named.now → slice_get (tops_of (units_of (docs_of contents))) n ≡ Some t → (from count : ℕ)
+        → from + count ≡ n → IsDraft (docs_of contents) from count draft.old
+        → OnOk result (IsDraft (docs_of contents) from (count + 1) draft.new) }
 {
     let end = file.units.entry(top.entry).end;
     let bound = binds(file, own, into, n, top, end, named, operands)?;
@@ -175,7 +190,10 @@ pub(crate) fn put_file(
     requires few { length index.now.steps < 2 ^ 32 }
     requires room { index.now.starts.top + length index.now.tops < 2 ^ 32 }
     requires tops { AreWithin (raw_units file.now.units) index.now.tops }
-    ensures { (contents : List (List ℕ)) (bytes : List ℕ) (is : IsFileAmong contents number bytes file.now index.now) → AreNamed (units_of (docs_of contents)) named.now → (from count : ℕ) → from + count ≡ index.now.starts.top → IsDraft (docs_of contents) from count draft.old → OnOk result (IsDraft (docs_of contents) from (count + length index.now.tops) draft.new) }
+    ensures { (contents : List (List ℕ)) (bytes : List ℕ) (is : IsFileAmong contents number bytes file.now index.now)
+        → AreNamed (units_of (docs_of contents)) named.now → (from count : ℕ) → from + count ≡ index.now.starts.top
+        → IsDraft (docs_of contents) from count draft.old
+        → OnOk result (IsDraft (docs_of contents) from (count + length index.now.tops) draft.new) }
 {
     let into = tops_of(alloc, index, file.resolved.refs.as_slice())?;
     let first = index.starts().top;
@@ -208,7 +226,8 @@ pub(crate) fn gathered(
 ) -> Result<Draft, NoMemory>
     requires few { length graph.now < 2 ^ 32 }
     requires indexes { AreIndexes (docs_of graph.now) indexes.now }
-    ensures { AreNamed (units_of (docs_of graph.now)) named.now → IfOk result (IsDraft (docs_of graph.now) 0 (length (tops_of (units_of (docs_of graph.now))))) }
+    ensures { AreNamed (units_of (docs_of graph.now)) named.now
+        → IfOk result (IsDraft (docs_of graph.now) 0 (length (tops_of (units_of (docs_of graph.now))))) }
 {
     let mut draft = nothing(alloc);
     let mut operands = Vec::new(alloc);

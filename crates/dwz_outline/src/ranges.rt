@@ -39,7 +39,8 @@ fn continues_unit(tops: &[TopEntry], i: usize) -> bool
 pub(crate) fn range_at(own: TopRange, tops: &[TopEntry], i: usize, first: u32) -> TopRange
     requires within { i < length tops.now }
     requires room { first + length tops.now < 2 ^ 32 }
-    ensures { (all : List Top) (x : TopEntry) → HaveUnits all first tops.now → slice_get tops.now i ≡ Some x → ((j : ℕ) (y : TopEntry) → suc j ≡ i → slice_get tops.now j ≡ Some y → HasTops all y.unit own) → HasTops all x.unit result }
+    ensures { (all : List Top) (x : TopEntry) → HaveUnits all first tops.now → slice_get tops.now i ≡ Some x
+        → ((j : ℕ) (y : TopEntry) → suc j ≡ i → slice_get tops.now j ≡ Some y → HasTops all y.unit own) → HasTops all x.unit result }
 {
     if continues_unit(tops, i) {
         return own;

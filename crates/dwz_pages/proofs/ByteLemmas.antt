@@ -1,12 +1,14 @@
 -- What is appended, byte by byte and part by part: numbers, expressions, headers, entries.
-use Rattle.std.proofs.Common.{◌≡◌, ◌⊎◌, inl, inr, ℕ, zero, suc, ◌+◌, ◌-◌, ◌/◌, ◌%◌, ◌<◌, ◌≤◌, Bool, true, false, List, [], ◌∷◌, ◌++◌, cond, drop, eqb, eqb-true, get_or, length, replicate, slice_index, take, Some, slice_get, refl, sym, ap, ◌∙◌, append_assoc, append-nil, arith}
+use Rattle.std.proofs.Common.{◌≡◌, ◌⊎◌, inl, inr, ℕ, zero, suc, ◌+◌, ◌-◌, ◌/◌, ◌%◌, ◌<◌, ◌≤◌, List, [], ◌∷◌, ◌++◌, drop, eqb, get_or, length, replicate, slice_index, take, Some, slice_get, refl, sym}
+use Rattle.std.proofs.Common.{ap, ◌∙◌, append_assoc, append-nil, arith}
 use Rattle.std.proofs.lemmas.List.{drop_all}
 use Rattle.std.proofs.lemmas.Option.{slice_get-get_or}
 use Rattle.dwz_bytes.specs.Spelling.{le_bytes, padded, uleb}
+use Rattle.dwz_bytes.proofs.PaddedLemmas.{group_of, padded_first}
+use Rattle.dwz_docs.proofs.ListFacts.{drop_here}
 use Rattle.dwz_meanings.specs.declared.exprs.Operand.{Operand}
 use Rattle.dwz_meanings.specs.Exprs.{parts_from}
 use Rattle.dwz_meanings.specs.Patching.{filled, number_bytes}
-use Rattle.dwz_resolve.proofs.RowLemmas.{drop_here}
 use Rattle.dwz_writing.specs.Writing.{base_place}
 use Rattle.dwz_places.specs.declared.known.Known.{Known}
 use Rattle.dwz_places.specs.declared.layout.OutUnit.{OutUnit}
@@ -30,7 +32,8 @@ below (suc a) (suc b) = elim (below a b) [ inl l ↦ inl (omega (arith, l)) | in
 pub le_start : (old : List ℕ) (w number : ℕ) → old ++ le_bytes (w - 0) number ≡ old ++ le_bytes w number
 le_start old w number = (let none : w - 0 ≡ w = omega arith in ap (λ (k : ℕ). old ++ le_bytes k number) none)
 
-pub le_step : (old out new : List ℕ) (w c byte rest next number : ℕ) → c < w → byte ≡ rest % 256 → next ≡ rest / 256 → new ≡ out ++ byte ∷ [] → out ++ le_bytes (w - c) rest ≡ old ++ le_bytes w number → new ++ le_bytes (w - (c + 1)) next ≡ old ++ le_bytes w number
+pub le_step : (old out new : List ℕ) (w c byte rest next number : ℕ) → c < w → byte ≡ rest % 256 → next ≡ rest / 256 → new ≡ out ++ byte ∷ [] → out ++ le_bytes (w - c) rest ≡ old ++ le_bytes w number
+    → new ++ le_bytes (w - (c + 1)) next ≡ old ++ le_bytes w number
 unfolding le_bytes
 le_step old out new w c byte rest next number lt low high is so =
     let one : w - c ≡ suc (w - (c + 1)) = omega arith in
@@ -46,22 +49,8 @@ le_done old out w c rest number le so =
     let none : w - c ≡ 0 = omega arith in
     sym (append-nil out) ∙ sym (ap (λ (k : ℕ). out ++ le_bytes k rest) none) ∙ so
 
-abbrev pub group_of : Bool → ℕ → ℕ
-group_of last rest = cond last (rest % 128) (rest % 128 + 128)
-
-padded_first : (left rest : ℕ) → 0 < left → padded left rest ≡ group_of (eqb left 1) rest ∷ padded (left - 1) (rest / 128)
-unfolding padded
-padded_first zero rest lt = absurd (omega (arith, lt))
-padded_first (suc zero) rest lt = refl
-padded_first (suc (suc k)) rest lt =
-    let one : suc (suc k) - 1 ≡ suc k = omega arith in
-    let no : eqb (suc (suc k)) 1 ≡ false = other (eqb (suc (suc k)) 1) refl in
-    sym (λ i. group_of (no i) rest ∷ padded (one i) (rest / 128)) where
-      other : (b : Bool) → eqb (suc (suc k)) 1 ≡ b → b ≡ false
-      other true e = absurd (let same = eqb-true (suc (suc k)) 1 e in omega (arith, same))
-      other false e = refl
-
-pub padded_step : (out new : List ℕ) (left byte rest next fewer : ℕ) (whole : List ℕ) → 0 < left → byte ≡ group_of (eqb left 1) rest → next ≡ rest / 128 → fewer ≡ left - 1 → new ≡ out ++ byte ∷ [] → out ++ padded left rest ≡ whole → new ++ padded fewer next ≡ whole
+pub padded_step : (out new : List ℕ) (left byte rest next fewer : ℕ) (whole : List ℕ) → 0 < left → byte ≡ group_of (eqb left 1) rest → next ≡ rest / 128 → fewer ≡ left - 1 → new ≡ out ++ byte ∷ []
+    → out ++ padded left rest ≡ whole → new ++ padded fewer next ≡ whole
 padded_step out new left byte rest next fewer whole lt low high less is so =
     (λ i. is i ++ padded (less i) (high i))
     ∙ append_assoc out (byte ∷ []) (padded (left - 1) (rest / 128))
@@ -95,7 +84,8 @@ parts_left k file n next at bytes os =
 
 parts_first : (k : Known) (file : ℕ) (n : Numbers) (next at : ℕ) (bytes : List ℕ) (o : Operand) (os : List Operand)
     → parts_left k file n next at bytes (o ∷ os)
-    ≡ take (o.at - at) bytes ++ (number_bytes o.uleb o.width (slice_index n.places (reference_at k file next) - base_place n.unit o.base) ++ parts_left k file n (next + 1) (o.at + o.width) (drop (o.at + o.width - at) bytes) os)
+    ≡ take (o.at - at) bytes ++ (number_bytes o.uleb o.width (slice_index n.places (reference_at k file next) - base_place n.unit o.base)
+    ++ parts_left k file n (next + 1) (o.at + o.width) (drop (o.at + o.width - at) bytes) os)
 unfolding parts_from filled operand_numbers operand_count references_from
 parts_first k file n next at bytes o os = refl
 
@@ -104,7 +94,8 @@ unfolding parts_from filled operand_numbers operand_count references_from
 parts_none k file n next at bytes = append-nil bytes
 
 pub parts_step : (k : Known) (file : ℕ) (n : Numbers) (os : List Operand) (i next more at behind : ℕ) (o : Operand) (bytes rest out one two front all : List ℕ) (number : ℕ) → slice_get os i ≡ Some o
-    → one ≡ out ++ front → front ≡ take (o.at - at) bytes → two ≡ one ++ number_bytes o.uleb o.width number → number ≡ slice_index n.places (reference_at k file next) - base_place n.unit o.base → more ≡ next + 1 → behind ≡ o.at + o.width
+    → one ≡ out ++ front → front ≡ take (o.at - at) bytes → two ≡ one ++ number_bytes o.uleb o.width number → number ≡ slice_index n.places (reference_at k file next) - base_place n.unit o.base
+    → more ≡ next + 1 → behind ≡ o.at + o.width
     → rest ≡ drop (behind - at) bytes → out ++ parts_left k file n next at bytes (drop i os) ≡ all → two ++ parts_left k file n more behind rest (drop (i + 1) os) ≡ all
 parts_step k file n os i next more at behind o bytes rest out one two front all number found first same second is step end left so =
     let shown = slice_index n.places (reference_at k file next) - base_place n.unit o.base in
@@ -116,7 +107,8 @@ parts_step k file n os i next more at behind o bytes rest out one two front all 
     ∙ sym (ap (λ (w : List ℕ). out ++ w) (ap (parts_left k file n next at bytes) (drop_here os i o found) ∙ parts_first k file n next at bytes o (drop (i + 1) os)))
     ∙ so
 
-pub parts_done : (k : Known) (file : ℕ) (n : Numbers) (os : List Operand) (i next at : ℕ) (bytes out new all : List ℕ) → length os ≤ i → new ≡ out ++ bytes → out ++ parts_left k file n next at bytes (drop i os) ≡ all → new ≡ all
+pub parts_done : (k : Known) (file : ℕ) (n : Numbers) (os : List Operand) (i next at : ℕ) (bytes out new all : List ℕ) → length os ≤ i → new ≡ out ++ bytes
+    → out ++ parts_left k file n next at bytes (drop i os) ≡ all → new ≡ all
 parts_done k file n os i next at bytes out new all le is so =
     is ∙ sym (ap (λ (w : List ℕ). out ++ w) (ap (parts_left k file n next at bytes) (drop_all i os le) ∙ parts_none k file n next at bytes)) ∙ so
 
@@ -144,7 +136,8 @@ header_put n sort o old one two three last size type s t p q r e =
 
 -- ---- entries
 
-pub entry_put : (old one two three : List ℕ) (code : ℕ) (c : Call) → one ≡ old ++ uleb code → two ≡ one ++ values_bytes c.attrs → three ≡ two ++ replicate {A = ℕ} c.ends 0 → three ≡ old ++ entry_page code c
+pub entry_put : (old one two three : List ℕ) (code : ℕ) (c : Call) → one ≡ old ++ uleb code → two ≡ one ++ values_bytes c.attrs → three ≡ two ++ replicate {A = ℕ} c.ends 0
+    → three ≡ old ++ entry_page code c
 entry_put old one two three code c p q r =
     two_parts old one three (uleb code) (values_bytes c.attrs ++ replicate {A = ℕ} c.ends 0) p (two_parts one two three (values_bytes c.attrs) (replicate {A = ℕ} c.ends 0) q r)
 
@@ -152,7 +145,8 @@ module _ (k : Known) (here : Here) (n : Numbers) where
   abbrev pub entries_left : List ℕ → List Slot → List ℕ
   entries_left codes slots = entries_page codes (calls_of k here n (entries_of slots))
 
-  pub entries_step : (codes : List ℕ) (i : ℕ) (e : Entry) (slots more : List Slot) (out new all : List ℕ) → i < length codes → entries_of slots ≡ e ∷ entries_of more → new ≡ out ++ entry_page (get_or codes i 0) (call_of k here n e)
+  pub entries_step : (codes : List ℕ) (i : ℕ) (e : Entry) (slots more : List Slot) (out new all : List ℕ) → i < length codes → entries_of slots ≡ e ∷ entries_of more
+      → new ≡ out ++ entry_page (get_or codes i 0) (call_of k here n e)
       → out ++ entries_left (drop i codes) slots ≡ all → new ++ entries_left (drop (i + 1) codes) more ≡ all
   unfolding entries_page
   entries_step codes i e slots more out new all lt first is so =
@@ -182,8 +176,10 @@ module _ (k : Known) (here : Here) (n : Numbers) where
 -- ---- units
 
 module _ (k : Known) (places roots : List ℕ) where
-  pub pages_step : (info new all : List ℕ) (order : List UnitItems) (outs : List OutUnit) (i here next : ℕ) (u : UnitItems) (o : OutUnit) → next ≡ here + 1 → slice_get order i ≡ Some u → slice_get outs i ≡ Some o
-      → new ≡ info ++ unit_page k places roots here u o → info ++ units_page k places roots here (drop i order) (drop i outs) ≡ all → new ++ units_page k places roots next (drop (i + 1) order) (drop (i + 1) outs) ≡ all
+  pub pages_step : (info new all : List ℕ) (order : List UnitItems) (outs : List OutUnit) (i here next : ℕ) (u : UnitItems) (o : OutUnit) → next ≡ here + 1 → slice_get order i ≡ Some u
+      → slice_get outs i ≡ Some o
+      → new ≡ info ++ unit_page k places roots here u o → info ++ units_page k places roots here (drop i order) (drop i outs) ≡ all
+      → new ++ units_page k places roots next (drop (i + 1) order) (drop (i + 1) outs) ≡ all
   unfolding units_page
   pages_step info new all order outs i here next u o step a b is so =
       let one : next ≡ suc here = omega (arith, step) in
@@ -209,5 +205,6 @@ module _ (k : Known) (places roots : List ℕ) where
   pages_end : (order : List UnitItems) (outs : List OutUnit) (i h : ℕ) (info all : List ℕ) → length outs ≤ i → info ++ units_page k places roots h (drop i order) (drop i outs) ≡ all → info ≡ all
   pages_end order outs i h info all le so = sym (append-nil info) ∙ ap (λ (w : List ℕ). info ++ w) (sym (no_page (drop i order) (drop i outs) h (drop_all i outs le))) ∙ so
 
-  pub pages_done : (order : List UnitItems) (outs : List OutUnit) (i h : ℕ) (info all : List ℕ) → (i < length order → length outs ≤ i) → info ++ units_page k places roots h (drop i order) (drop i outs) ≡ all → info ≡ all
+  pub pages_done : (order : List UnitItems) (outs : List OutUnit) (i h : ℕ) (info all : List ℕ) → (i < length order → length outs ≤ i)
+      → info ++ units_page k places roots h (drop i order) (drop i outs) ≡ all → info ≡ all
   pages_done order outs i h info all some so = elim (below i (length order)) [ inl lt ↦ pages_end order outs i h info all (some lt) so | inr le ↦ pages_over order outs i h info all le so ]

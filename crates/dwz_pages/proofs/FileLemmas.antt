@@ -1,7 +1,7 @@
 -- Files one after the other: where all stands, and what is written of each.
-use Rattle.std.proofs.Common.{◌≡◌, ◌⊎◌, inl, inr, ℕ, zero, suc, ◌+◌, ◌-◌, ◌<◌, ◌≤◌, List, [], ◌∷◌, ◌++◌, length, replicate, slice_index, refl, sym, ap, ◌∙◌, append_assoc, append-nil, arith}
+use Rattle.std.proofs.Common.{◌≡◌, ◌⊎◌, inl, inr, ℕ, suc, ◌+◌, ◌-◌, ◌<◌, ◌≤◌, List, [], ◌∷◌, ◌++◌, length, replicate, slice_index, sym, ap, ◌∙◌, append_assoc, append-nil, arith}
 use Rattle.std.proofs.lemmas.List.{get_or-append_right, get_or_append_left}
-use Rattle.dwz_seen.specs.Lists.{Each}
+use Rattle.dwz_docs.specs.Lists.{Each}
 use Rattle.dwz_writing.specs.Placing.{FileOut, UnitsStand}
 use Rattle.dwz_writing.specs.Writing.{Numbering, tables_of, units_bytes}
 use Rattle.dwz_writing.proofs.WriteLengths.{FixedUnit}
@@ -19,6 +19,7 @@ use Rattle.dwz_pages.specs.Shown.{ContentRefers, IsWritten, Keys, Refer, RowRefe
 use Rattle.dwz_pages.proofs.SectionLemmas.{AllAgree, IsRight, bytes_are, end_is, end_of, outs_of, places_len, places_of, places_right, roots_len, roots_of, roots_right, units_made}
 use Rattle.dwz_pages.proofs.StepLemmas.{AttrAgrees, ContentAgrees, RowAgrees, SlotAgrees}
 use Rattle.dwz_pages.proofs.UnitLemmas.{SortAgrees}
+use Rattle.dwz_pages.proofs.PassLemmas.{length-zeros}
 
 abbrev pub AllFixed : {K : Type 0} → List (FileOut K) → Type 0
 AllFixed files = Each (λ f. Each FixedUnit f.units) files
@@ -73,7 +74,8 @@ module _ {K : Type 0} (keys : Keys K) (k : Known) where
   -- ---- places and roots
 
   module _ (n : Numbering K) where
-    pub row_right : (here : ℕ) (order : List (List UnitItems)) (files : List (FileOut K)) (i : ℕ) (places : List ℕ) → i < length places → ShowFiles keys k here order files → AllFixed files → AllStand n files
+    pub row_right : (here : ℕ) (order : List (List UnitItems)) (files : List (FileOut K)) (i : ℕ) (places : List ℕ) → i < length places → ShowFiles keys k here order files → AllFixed files
+        → AllStand n files
         → (IsRight keys n k i places) ⊎ IsWritten k i order → IsRight keys n k i (file_places k here order files places)
     unfolding file_places
     row_right here [] [] i places lt shows fixed there right = elim right [ inl r ↦ r | inr none ↦ absurd none ]
@@ -88,7 +90,8 @@ module _ {K : Type 0} (keys : Keys K) (k : Known) where
         ] in
         row_right (here + length units) order files i more less shows.1 fixed.1 there.1 now
 
-    root_there : (here : ℕ) (units : List UnitItems) (f : FileOut K) (later : List ℕ) (j many : ℕ) → ShowUnits keys k here units f.units → Each FixedUnit f.units → UnitsStand n f.units 0 → j < length units + many
+    root_there : (here : ℕ) (units : List UnitItems) (f : FileOut K) (later : List ℕ) (j many : ℕ) → ShowUnits keys k here units f.units → Each FixedUnit f.units → UnitsStand n f.units 0
+        → j < length units + many
         → (length units ≤ j → j - length units < many → slice_index later (j - length units) ≡ n.place (keys.root (here + length units + (j - length units)))) → (j < length units) ⊎ (length units ≤ j)
         → slice_index (roots_of k 0 units f.units ++ later) j ≡ n.place (keys.root (here + j))
     root_there here units f later j many shows fixed there lt other (inl less) =
@@ -112,11 +115,8 @@ module _ {K : Type 0} (keys : Keys K) (k : Known) where
 
 -- ---- numbers agree with what was kept
 
-length-places : (count : ℕ) → length (replicate {A = ℕ} count 0) ≡ count
-length-places zero = refl
-length-places (suc count) = (let rest = length-places count in omega (arith, rest))
-
-module _ {K : Type 0} (keys : Keys K) (n : Numbering K) (k : Known) (all : List (List UnitItems)) (files : List (FileOut K)) (shows : ShowFiles keys k 0 all files) (fixed : AllFixed files) (there : AllStand n files) where
+module _ {K : Type 0} (keys : Keys K) (n : Numbering K) (k : Known) (all : List (List UnitItems)) (files : List (FileOut K)) (shows : ShowFiles keys k 0 all files) (fixed : AllFixed files)
+    (there : AllStand n files) where
   abbrev pub Whole : AllMade
   Whole = record { files = files_of k 0 all files; places = file_places k 0 all files (replicate (length k.owners.items) 0); roots = file_roots k all files }
 
@@ -125,7 +125,7 @@ module _ {K : Type 0} (keys : Keys K) (n : Numbering K) (k : Known) (all : List 
 
   pub row_is : (i : ℕ) → RowRefers k all i → n.place (keys.row i) ≡ slice_index Whole.places i
   row_is i refers =
-      sym (row_right keys k n 0 all files i (replicate (length k.owners.items) 0) (omega (arith, refers.0, length-places (length k.owners.items))) shows fixed there (inr refers.1))
+      sym (row_right keys k n 0 all files i (replicate (length k.owners.items) 0) (omega (arith, refers.0, length-zeros (length k.owners.items))) shows fixed there (inr refers.1))
 
   root_is : (j : ℕ) → j < unit_count all → n.place (keys.root j) ≡ slice_index Whole.roots j
   root_is j lt =
@@ -164,7 +164,8 @@ module _ {K : Type 0} (keys : Keys K) (n : Numbering K) (k : Known) (all : List 
   pub file_bytes : (here : ℕ) (order : List UnitItems) (f : FileOut K) → UnitsStand n f.units 0 → Each FixedUnit f.units → ShowUnits keys k here order f.units → Refer k all here order
       → units_page k Whole.places Whole.roots here order (outs_of k here 0 [] order f.units) ≡ units_bytes n (tables_of [] f.units) f.units
   file_bytes here order f stand fix show refer =
-      bytes_are k keys n Whole.places Whole.roots here 0 [] (tables_of [] f.units) order f.units show fix stand (all_agree here order refer) (record { more = []; is = sym (append-nil (tables_of [] f.units)) })
+      bytes_are k keys n Whole.places Whole.roots here 0 [] (tables_of [] f.units) order f.units show fix stand (all_agree here order refer)
+      (record { more = []; is = sym (append-nil (tables_of [] f.units)) })
 
   pub file_end : (f : FileOut K) → Each FixedUnit f.units → end_of k 0 f.units ≡ length (units_bytes n (tables_of [] f.units) f.units)
   file_end f fix = (let e = end_is k n 0 (tables_of [] f.units) f.units fix in omega (arith, e))

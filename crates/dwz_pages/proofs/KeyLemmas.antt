@@ -84,7 +84,8 @@ module _ {K : Type 0} where
 
   module _ (n : Numbering K) (unit : ℕ) where
     -- an entry, and what follows
-    entry_at : (e : Node K) (children : Entries K) (shapes table : List Shape) (at : ℕ) → Grown (with_shape shapes (shape_of e children)) table → n.place e.at ≡ at → (rest : List (Step K)) (es : List Event)
+    entry_at : (e : Node K) (children : Entries K) (shapes table : List Shape) (at : ℕ) → Grown (with_shape shapes (shape_of e children)) table → n.place e.at ≡ at
+        → (rest : List (Step K)) (es : List Event)
         → KeysAt n rest (event_places (with_shape shapes (shape_of e children)) (at + length (node_bytes zeros 0 table e children)) es)
         → KeysAt n (Enter e (line_any children) ∷ rest) (event_places shapes at (entry_event zeros 0 e children ∷ es))
     unfolding event_places
@@ -93,7 +94,8 @@ module _ {K : Type 0} where
         let attrs = map (stored_attr zeros 0) e.attrs in
         let same = shape_same e children in
         let next : event_places (with_shape shapes s) (at + length (node_bytes zeros 0 table e children)) es
-        ≡ event_places (with_shape shapes (shape_for e.tag (any children) attrs)) (at + length (entry_bytes (with_shape shapes (shape_for e.tag (any children) attrs)) (shape_for e.tag (any children) attrs) attrs)) es =
+        ≡ event_places (with_shape shapes (shape_for e.tag (any children) attrs))
+        (at + length (entry_bytes (with_shape shapes (shape_for e.tag (any children) attrs)) (shape_for e.tag (any children) attrs) attrs)) es =
         ap (λ (b : List ℕ). event_places (with_shape shapes s) (at + length b) es) (sym (entry_is e children shapes table grown))
         ∙ sym (ap (λ (t : Shape). event_places (with_shape shapes t) (at + length (entry_bytes (with_shape shapes t) t attrs)) es) same) in
         (place, subst (KeysAt n rest) next keys)
@@ -102,7 +104,8 @@ module _ {K : Type 0} where
     NodesKeys f = (shapes table : List Shape) (at : ℕ) → Grown (shapes_in shapes f) table → Stands n unit table at f → (rest : List (Step K)) (es : List Event)
         → KeysAt n rest (event_places (shapes_in shapes f) (at + length (spelled zeros 0 table f)) es) → KeysAt n (steps f ++ rest) (event_places shapes at (events zeros 0 f ++ es))
 
-    children_at : (children : Entries K) → NodesKeys children → (shapes table : List Shape) (at : ℕ) → Grown (shapes_in shapes children) table → Stands n unit table at children → (rest : List (Step K)) (es : List Event)
+    children_at : (children : Entries K) → NodesKeys children → (shapes table : List Shape) (at : ℕ) → Grown (shapes_in shapes children) table → Stands n unit table at children
+        → (rest : List (Step K)) (es : List Event)
         → KeysAt n rest (event_places (shapes_in shapes children) (at + length (if_any children (spelled zeros 0 table children))) es)
         → KeysAt n (if_steps children (steps children) ++ rest) (event_places shapes at (if_children children (events zeros 0 children) ++ es))
     unfolding shapes_in
@@ -132,8 +135,10 @@ module _ {K : Type 0} where
         subst (λ (p : ℕ). KeysAt n rest (event_places (shapes_in two next) p es)) whole more in
         let behind = entries_at next fixed.2 two table (at + length node + length inner) grown second rest es last in
         let below = children_at children (entries_at children fixed.1) one table (at + length node) two_grown first (steps next ++ rest) (events zeros 0 next ++ es) behind in
-        let here = entry_at e children shapes table at one_grown stands.0 (if_steps children (steps children) ++ (steps next ++ rest)) (if_children children (events zeros 0 children) ++ (events zeros 0 next ++ es)) below in
-        subst (λ (w : List (Step K)). KeysAt n (Enter e (line_any children) ∷ w) (event_places shapes at (entry_event zeros 0 e children ∷ ((if_children children (events zeros 0 children) ++ events zeros 0 next) ++ es))))
+        let here = entry_at e children shapes table at one_grown stands.0 (if_steps children (steps children) ++ (steps next ++ rest))
+        (if_children children (events zeros 0 children) ++ (events zeros 0 next ++ es)) below in
+        subst (λ (w : List (Step K)). KeysAt n (Enter e (line_any children) ∷ w)
+        (event_places shapes at (entry_event zeros 0 e children ∷ ((if_children children (events zeros 0 children) ++ events zeros 0 next) ++ es))))
         (sym (append_assoc (if_steps children (steps children)) (steps next) rest))
         (subst (λ (w : List Event). KeysAt n (Enter e (line_any children) ∷ (if_steps children (steps children) ++ (steps next ++ rest))) (event_places shapes at (entry_event zeros 0 e children ∷ w)))
         (sym (append_assoc (if_children children (events zeros 0 children)) (events zeros 0 next) es)) here)
@@ -149,9 +154,11 @@ module _ {K : Type 0} where
       let below : Stands n at table (start + length (node_bytes zeros 0 table u.root u.below)) u.below = subst (λ (p : ℕ). Stands n at table (start + p) u.below) front stands.below in
       let same : Grown (shapes_in one u.below) table = record { more = []; is = sym (append-nil table) } in
       let inner = children_at n at u.below (entries_at n at u.below fixed.1) one table (start + length (node_bytes zeros 0 table u.root u.below)) same below [] [] tt in
-      let here = entry_at n at u.root u.below [] table start (shapes_cover u.below one).1 stands.root (if_steps u.below (steps u.below) ++ []) (if_children u.below (events zeros 0 u.below) ++ []) inner in
+      let here = entry_at n at u.root u.below [] table start (shapes_cover u.below one).1 stands.root (if_steps u.below (steps u.below) ++ []) (if_children u.below (events zeros 0 u.below) ++ [])
+      inner in
       subst (λ (w : List (Step K)). KeysAt n (Enter u.root (line_any u.below) ∷ w) (event_places [] start (unit_events zeros 0 u))) (append-nil (if_steps u.below (steps u.below)))
-      (subst (λ (w : List Event). KeysAt n (Enter u.root (line_any u.below) ∷ (if_steps u.below (steps u.below) ++ [])) (event_places [] start (entry_event zeros 0 u.root u.below ∷ w))) (append-nil (if_children u.below (events zeros 0 u.below))) here)
+      (subst (λ (w : List Event). KeysAt n (Enter u.root (line_any u.below) ∷ (if_steps u.below (steps u.below) ++ [])) (event_places [] start (entry_event zeros 0 u.root u.below ∷ w)))
+      (append-nil (if_children u.below (events zeros 0 u.below))) here)
 
 -- ---- the same of lines
 
@@ -162,7 +169,8 @@ HeldAt n (Begin l children ∷ ss) (p ∷ ps) = (n.place l.key ≡ p) × HeldAt 
 HeldAt n (Finish ∷ ss) ps = HeldAt n ss ps
 
 module _ {K : Type 0} (n : Numbering K) where
-  leaves_held : (count others : ℕ) (ss : List (Step K)) (hs : List (HeldStep K)) (ps : List ℕ) → (KeysAt n ss ps → HeldAt n hs ps) → KeysAt n (replicate count Leave ++ ss) ps → HeldAt n (replicate others Finish ++ hs) ps
+  leaves_held : (count others : ℕ) (ss : List (Step K)) (hs : List (HeldStep K)) (ps : List ℕ) → (KeysAt n ss ps → HeldAt n hs ps) → KeysAt n (replicate count Leave ++ ss) ps
+      → HeldAt n (replicate others Finish ++ hs) ps
   leaves_held zero zero ss hs ps go keys = go keys
   leaves_held zero (suc others) ss hs ps go keys = leaves_held zero others ss hs ps go keys
   leaves_held (suc count) others ss hs ps go keys = leaves_held count others ss hs ps go keys

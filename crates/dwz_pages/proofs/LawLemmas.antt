@@ -1,10 +1,10 @@
 -- The laws on layouts of files and on their bytes.
-use Rattle.std.proofs.Common.{◌≡◌, ◌<◌, ℕ, ◌+◌, List, [], ◌∷◌, length, slice_index, refl, sym, ap, subst, ◌∙◌, inl, inr, Bool, true, false, cond, Option, Some, None, nat_lt}
+use Rattle.std.proofs.Common.{◌≡◌, ◌<◌, ℕ, ◌+◌, List, [], ◌∷◌, length, slice_index, refl, sym, ap, subst, ◌∙◌, Bool, true, false, cond, Option, Some, None, nat_lt}
 use Rattle.std.proofs.lemmas.Bool.{ltb-true}
 use Rattle.dwz_alike.specs.Spots.{Spot, same_spot}
 use Rattle.dwz_docs.specs.ElfLayout.{too_large}
-use Rattle.dwz_docs.specs.Lists.{In}
-use Rattle.dwz_seen.specs.Lists.{Each}
+use Rattle.dwz_docs.specs.Lists.{Each}
+use Rattle.dwz_seen.proofs.Members.{each_of}
 use Rattle.dwz_writing.specs.Placing.{FileOut, UnitsStand, numbering, sections}
 use Rattle.dwz_writing.specs.Writing.{Numbering}
 use Rattle.dwz_writing.proofs.Places.{numbering_stands}
@@ -26,24 +26,21 @@ room_in info abbrevs true true p q e = (ltb-true info too_large p, ltb-true abbr
 room_in info abbrevs true false p q e = absurd cc
 room_in info abbrevs false b p q e = absurd cc
 
-each_in : {X : Type 0} (P : X → Type 0) (xs : List X) → ((x : X) → In x xs → P x) → Each P xs
-each_in P [] all = tt
-each_in P (x ∷ xs) all = (all x (inl refl), each_in P xs (λ y there. all y (inr there)))
-
 module _ (keys : Keys Spot) (k : Known) (order : List (List UnitItems)) (files : List (FileOut Spot)) (is : IsOrderOf keys k order files) where
   n : Numbering Spot
   n = numbering same_spot files
 
   fixed : AllFixed files
-  fixed = each_in (λ f. Each FixedUnit f.units) files (λ f there. sound_units f.units (is.sound f there))
+  fixed = each_of (λ f. Each FixedUnit f.units) files (λ f there. sound_units f.units (is.sound f there))
 
   stand : AllStand (numbering same_spot files) files
-  stand = each_in (λ f. UnitsStand (numbering same_spot files) f.units 0) files (λ f there. numbering_stands same_spot spots_same files is.apart f there (sound_units f.units (is.sound f there)))
+  stand = each_of (λ f. UnitsStand (numbering same_spot files) f.units 0) files (λ f there. numbering_stands same_spot spots_same files is.apart f there (sound_units f.units (is.sound f there)))
 
   abbrev All : AllMade
   All = Whole keys (numbering same_spot files) k order files is.shows fixed stand
 
-  files_are : (here : ℕ) (some : List (List UnitItems)) (outs : List (FileOut Spot)) → ShowFiles keys k here some outs → AllFixed outs → AllStand (numbering same_spot files) outs → FilesRefer k order here some
+  files_are : (here : ℕ) (some : List (List UnitItems)) (outs : List (FileOut Spot)) → ShowFiles keys k here some outs → AllFixed outs → AllStand (numbering same_spot files) outs
+      → FilesRefer k order here some
       → FilesAre (numbering same_spot files) k All.places All.roots here some (files_of k here some outs) outs
   unfolding files_of sections
   files_are here [] [] shows fix there refer = tt

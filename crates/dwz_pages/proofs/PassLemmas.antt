@@ -55,7 +55,8 @@ module _ (k : Known) (here : Here) where
 
   pub entries_laid : (entries : List Entry) (shapes : List Shape) (at : ℕ) (codes places : List ℕ)
       → with_entries k here entries (laying shapes at codes places)
-      ≡ laying (shapes_after shapes (First entries)) (end_after shapes at (First entries)) (codes ++ codes_of (laid_from shapes at (First entries))) (noted k entries (laid_from shapes at (First entries)) places)
+      ≡ laying (shapes_after shapes (First entries)) (end_after shapes at (First entries)) (codes ++ codes_of (laid_from shapes at (First entries)))
+      (noted k entries (laid_from shapes at (First entries)) places)
   unfolding with_entries shapes_after laid_from end_after noted
   entries_laid [] shapes at codes places = ap (λ (w : List ℕ). laying shapes at w places) (sym (append-nil codes))
   entries_laid (e ∷ entries) shapes at codes places =
@@ -130,7 +131,7 @@ calls_run (a ∷ first) (c ∷ calls) same w at =
 
 -- ---- where they end
 
-length-zeros : (count : ℕ) → length (replicate {A = ℕ} count 0) ≡ count
+pub length-zeros : (count : ℕ) → length (replicate {A = ℕ} count 0) ≡ count
 length-zeros zero = refl
 length-zeros (suc count) = ap suc (length-zeros count)
 

@@ -1,9 +1,10 @@
 -- Units one after the other, file by file: where all stands, the tables, and the bytes.
-use Rattle.std.proofs.Common.{◌≡◌, ◌⊎◌, inl, inr, ℕ, zero, suc, ◌+◌, ◌<◌, Bool, true, false, List, [], ◌∷◌, ◌++◌, length, slice_index, slice_set, refl, sym, ap, subst, ◌∙◌, append_assoc, append-nil, arith, eqb, eqb-true, get_or}
+use Rattle.std.proofs.Common.{◌≡◌, ◌⊎◌, inl, inr, ℕ, zero, suc, ◌+◌, ◌<◌, Bool, true, false, List, [], ◌∷◌, ◌++◌, length, slice_index, slice_set, refl, sym, ap, subst, ◌∙◌, append_assoc, append-nil}
+use Rattle.std.proofs.Common.{arith, eqb, eqb-true, get_or}
 use Rattle.std.proofs.lemmas.List.{get_or-set_other, get_or-set_same, length-append, length-set}
 use Rattle.dwz_meanings.specs.Documents.{DwUnit}
 use Rattle.dwz_alike.proofs.SpotLemmas.{eqb_same}
-use Rattle.dwz_seen.specs.Lists.{Each}
+use Rattle.dwz_docs.specs.Lists.{Each}
 use Rattle.dwz_tables.specs.Shapes.{table_for}
 use Rattle.dwz_writing.specs.Placing.{UnitsStand, zeros}
 use Rattle.dwz_writing.specs.Writing.{Numbering, abbrevs_of, or_zero, table_in, table_offset, tables_of, unit_bytes, unit_size, units_bytes, with_table}
@@ -68,7 +69,14 @@ module _ {K : Type 0} (k : Known) where
   module _ (keys : Keys K) where
     pub units_made : (here : ℕ) (order : List UnitItems) (units : List (DwUnit K)) (m : Made) → ShowUnits keys k here order units → Each FixedUnit units
         → with_units k here order m
-        ≡ record { units = m.units ++ outs_of here m.at m.tables order units; tables = tables_of m.tables units; at = end_of m.at units; places = places_of here m.at order units m.places; roots = m.roots ++ roots_of m.at order units }
+        ≡ record {
+          units = m.units ++ outs_of here m.at m.tables order units;
+          tables = tables_of m.tables units;
+          at = end_of m.at units;
+          places = places_of here m.at order units m.places;
+          roots =
+              m.roots ++ roots_of m.at order units;
+        }
     unfolding with_units outs_of tables_of places_of roots_of end_of
     units_made here [] [] m shows fixed =
         let units = sym (append-nil m.units) in
@@ -100,8 +108,10 @@ module _ {K : Type 0} (k : Known) where
         let has = (with_table-has tables t).0 in
         has.is ∙ sym (ap (λ (ts : List (List ℕ)). table_in 0 ts t) grown.is ∙ table_grows 0 (with_table tables t) grown.more t has.offset has.is)
 
-    pub bytes_are : (n : Numbering K) (places roots : List ℕ) (here at : ℕ) (tables all : List (List ℕ)) (order : List UnitItems) (units : List (DwUnit K)) → ShowUnits keys k here order units → Each FixedUnit units
-        → UnitsStand n units at → AllAgree n places roots here order → Grown (tables_of tables units) all → units_page k places roots here order (outs_of here at tables order units) ≡ units_bytes n all units
+    pub bytes_are : (n : Numbering K) (places roots : List ℕ) (here at : ℕ) (tables all : List (List ℕ)) (order : List UnitItems) (units : List (DwUnit K)) → ShowUnits keys k here order units
+        → Each FixedUnit units
+        → UnitsStand n units at → AllAgree n places roots here order → Grown (tables_of tables units) all → units_page k places roots here order (outs_of here at tables order units)
+        ≡ units_bytes n all units
     unfolding units_page outs_of units_bytes tables_of
     bytes_are n places roots here at tables all [] [] shows fixed there agrees grown = refl
     bytes_are n places roots here at tables all [] (u ∷ units) shows fixed there agrees grown = absurd shows
@@ -152,13 +162,15 @@ module _ {K : Type 0} (keys : Keys K) (n : Numbering K) (k : Known) where
       let other : i ≡ j → ⊥ = λ same. (let yes : eqb i j ≡ true = ap (λ (x : ℕ). eqb i x) (sym same) ∙ eqb_same i in cc) in
       get_or-set_other places j i at 0 other ∙ elim right [ inl r ↦ r | inr same ↦ absurd (other (sym same)) ]
 
-  note_right : (here depth : ℕ) (origin : Origin) (i at : ℕ) (places : List ℕ) → i < length places → n.place (key_of keys k here depth origin) ≡ at → (IsRight i places) ⊎ IsRow k i origin → IsRight i (note k origin at places)
+  note_right : (here depth : ℕ) (origin : Origin) (i at : ℕ) (places : List ℕ) → i < length places → n.place (key_of keys k here depth origin) ≡ at → (IsRight i places) ⊎ IsRow k i origin
+      → IsRight i (note k origin at places)
   note_right here depth (Read r) i at places lt is right = row_same (number_of k r) i at places lt is (eqb i (number_of k r)) refl right
   note_right here depth (OwnRoot line) i at places lt is right = elim right [ inl r ↦ r | inr e ↦ absurd e ]
   note_right here depth (Chained chain space) i at places lt is right = elim right [ inl r ↦ r | inr e ↦ absurd e ]
   note_right here depth (Imported part) i at places lt is right = elim right [ inl r ↦ r | inr e ↦ absurd e ]
 
-  noted_right : (here : Here) (slots : List Slot) (laid : List Stand) (i : ℕ) (places : List ℕ) → i < length places → SlotsAt keys n k here slots laid → (IsRight i places) ⊎ HasRow k i slots → IsRight i (noted k (entries_of slots) laid places)
+  noted_right : (here : Here) (slots : List Slot) (laid : List Stand) (i : ℕ) (places : List ℕ) → i < length places → SlotsAt keys n k here slots laid → (IsRight i places) ⊎ HasRow k i slots
+      → IsRight i (noted k (entries_of slots) laid places)
   unfolding noted entries_of
   noted_right here [] laid i places lt at right = elim right [ inl r ↦ r | inr none ↦ absurd none ]
   noted_right here (s ∷ slots) [] i places lt at right = absurd at
@@ -177,7 +189,8 @@ module _ {K : Type 0} (keys : Keys K) (n : Numbering K) (k : Known) where
   places_len here at (o ∷ order) (u ∷ units) places =
       places_len (suc here) (at + unit_size zeros 0 u) order units (noted k (unit_entries k o) (stands k here o at) places) ∙ noted_len (unit_entries k o) (stands k here o at) places
 
-  pub places_right : (here at : ℕ) (order : List UnitItems) (units : List (DwUnit K)) (i : ℕ) (places : List ℕ) → i < length places → ShowUnits keys k here order units → Each FixedUnit units → UnitsStand n units at
+  pub places_right : (here at : ℕ) (order : List UnitItems) (units : List (DwUnit K)) (i : ℕ) (places : List ℕ) → i < length places → ShowUnits keys k here order units → Each FixedUnit units
+      → UnitsStand n units at
       → (IsRight i places) ⊎ InUnits k i order → IsRight i (places_of k here at order units places)
   unfolding places_of
   places_right here at [] [] i places lt shows fixed there right = elim right [ inl r ↦ r | inr none ↦ absurd none ]

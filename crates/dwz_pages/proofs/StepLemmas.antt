@@ -9,7 +9,7 @@ use Rattle.dwz_meanings.specs.Documents as document
 use Rattle.dwz_meanings.specs.Meanings.{Class, OfCommonEntry, OfExpression, OfInfoEntry, OfUnitEntry, class_of}
 use Rattle.dwz_meanings.specs.Patching.{filled, number_bytes}
 use Rattle.dwz_layout.specs.Lines.{Enter, Leave, Line, Step, depth_of as line_depth, if_steps, steps, steps_of, unit_steps, any as line_any}
-use Rattle.dwz_seen.specs.Lists.{Each}
+use Rattle.dwz_docs.specs.Lists.{Each}
 use Rattle.dwz_writing.specs.Writing.{Numbering, any, base_place, expr_bytes, first_place, parts_bytes, stored_as}
 use Rattle.dwz_writing.proofs.WriteLengths.{Fixed, FixedAs, FixedEntries, FixedUnit}
 use Rattle.dwz_places.specs.declared.known.Known.{Known}
@@ -123,7 +123,8 @@ module _ {K : Type 0} (n : Numbering K) (unit : ℕ) where
   any_same End = refl
   any_same (Entry e c next) = refl
 
-  if_events : (children : Entries K) → map (step_event n unit) (steps children) ≡ events n unit children → map (step_event n unit) (if_steps children (steps children)) ≡ if_children children (events n unit children)
+  if_events : (children : Entries K) → map (step_event n unit) (steps children) ≡ events n unit children → map (step_event n unit) (if_steps children (steps children))
+      ≡ if_children children (events n unit children)
   if_events End e = refl
   if_events (Entry d c next) e = e
 

@@ -5,7 +5,7 @@ use Rattle.dwz_meanings.specs.Documents.{Compile, DwUnit, Kind, OfType, Partial}
 use Rattle.dwz_model.specs.declared.place.Pair.{Pair}
 use Rattle.dwz_layout.specs.Lines.{Step, unit_lines}
 use Rattle.dwz_layout.proofs.LineLemmas.{unit_steps_are}
-use Rattle.dwz_seen.specs.Lists.{Each}
+use Rattle.dwz_docs.specs.Lists.{Each}
 use Rattle.dwz_writing.specs.Placing.{UnitStands, zeros}
 use Rattle.dwz_writing.specs.Writing.{Numbering, Shape, header_size, kind_bytes, table_of, tree_bytes, type_of, unit_bytes, unit_size}
 use Rattle.dwz_writing.proofs.WriteLengths.{FixedUnit, size_len}
@@ -160,7 +160,8 @@ module _ {K : Type 0} (keys : Keys K) (k : Known) (here : ℕ) (o : UnitItems) (
   -- ---- how it is laid
 
   pub unit_laid : (at : ℕ) (places : List ℕ)
-      → laid_unit k here at places o ≡ record { shapes = table_of u; at = at + unit_size zeros 0 u; codes = codes_of (stands k here o at); places = noted k (unit_entries k o) (stands k here o at) places }
+      → laid_unit k here at places o ≡
+      record { shapes = table_of u; at = at + unit_size zeros 0 u; codes = codes_of (stands k here o at); places = noted k (unit_entries k o) (stands k here o at) places }
   unit_laid at places =
       let start = at + sort_size o.sort in
       let body = pages_are zeros no_numbers (no_slots keys k Of (items_slots k o.sort o.items)) start in

@@ -19,7 +19,8 @@ use Rattle.dwz_places.specs.declared.known.Row.{Row}
 use Rattle.dwz_places.specs.declared.known.TextAt.{TextAt}
 use Rattle.dwz_places.specs.declared.walk.Origin.TheVariants.{Read}
 use Rattle.dwz_places.specs.declared.ways.Way.{Way}
-use Rattle.dwz_places.specs.Attributes.{Here, Numbers, OfEntry, OutAttr, after, attrs_of, counted, entry_attr, expr_attr, expr_parts, file_attr, form_to, import_attr, line_attrs, operand_count, operand_numbers, out_attr, out_by, parts_or, raw_of, read_attr, references_from, stored_all, stored_of, text_attr, text_offset, value_read}
+use Rattle.dwz_places.specs.Attributes.{Here, Numbers, OfEntry, OutAttr, after, attrs_of, counted, entry_attr, expr_attr, expr_parts, file_attr, form_to, import_attr, line_attrs, operand_count}
+use Rattle.dwz_places.specs.Attributes.{operand_numbers, out_attr, out_by, parts_or, raw_of, read_attr, references_from, stored_all, stored_of, text_attr, text_offset, value_read}
 use Rattle.dwz_places.specs.Known.{HasValues, firsts_of, owner_of, row_at}
 use Rattle.dwz_places.specs.Stored.{values_bytes}
 use Rattle.dwz_places.specs.Ways.{way_of}
@@ -50,15 +51,19 @@ put_file n name number old new is = put_one n (file_attr name number) old new (u
 pub put_line : (n : Numbers) (line : ℕ) (old new : List ℕ) → new ≡ old ++ le_bytes 4 line → Put n old new (line_attrs (Some line))
 put_line n line old new is = is ∙ ap (λ (w : List ℕ). old ++ w) (sym (line_bytes line) ∙ sym (one_value _))
 
-pub put_number_of : (n : Numbers) (k : Known) (here name number named : ℕ) → number ≡ named → (old new : List ℕ) → (let form = form_to k here (owner_of k number) in new ≡ old ++ value_bytes form (raw_of n form (OfEntry number))) → Put n old new (entry_attr k here name named ∷ [])
-put_number_of n k here name number named same old new is = (let form = form_to k here (owner_of k number) in put_one n (entry_attr k here name number) old new (value_bytes form (raw_of n form (OfEntry number))) is refl) ∙ ap (λ (m : ℕ). old ++ values_bytes (stored_all n (entry_attr k here name m ∷ []))) same
+pub put_number_of : (n : Numbers) (k : Known) (here name number named : ℕ) → number ≡ named → (old new : List ℕ)
+    → (let form = form_to k here (owner_of k number) in new ≡ old ++ value_bytes form (raw_of n form (OfEntry number))) → Put n old new (entry_attr k here name named ∷ [])
+put_number_of n k here name number named same old new is = (let form = form_to k here (owner_of k number) in put_one n (entry_attr k here name number) old new
+    (value_bytes form (raw_of n form (OfEntry number))) is refl) ∙ ap (λ (m : ℕ). old ++ values_bytes (stored_all n (entry_attr k here name m ∷ []))) same
 
 pub put_expr : (n : Numbers) (k : Known) (file name next : ℕ) (a : RawAttr) (bytes : List ℕ) → bytes ≡ bytes_of a.raw → (os given : List Operand) → given ≡ os
     → parts_from (a.end - length bytes) bytes os ≡ parts_or bytes (expr_at (any_operands 1) (record { at = a.end - length bytes; rest = bytes })) → (old new : List ℕ)
-    → new ≡ old ++ (uleb (length bytes) ++ filled (parts_from (a.end - length bytes) bytes given) (operand_numbers n (parts_from (a.end - length bytes) bytes given) (references_from k file next (operand_count (parts_from (a.end - length bytes) bytes given)))))
+    → new ≡ old ++ (uleb (length bytes) ++ filled (parts_from (a.end - length bytes) bytes given)
+    (operand_numbers n (parts_from (a.end - length bytes) bytes given) (references_from k file next (operand_count (parts_from (a.end - length bytes) bytes given)))))
     → Put n old new (expr_attr k file name next (expr_parts a) ∷ [])
 put_expr n k file name next a bytes same os given there read old new is =
-    let parts : parts_from (a.end - length bytes) bytes given ≡ expr_parts a = ap (parts_from (a.end - length bytes) bytes) there ∙ read ∙ ap (λ (w : List ℕ). parts_or w (expr_at (any_operands 1) (record { at = a.end - length w; rest = w }))) same in
+    let parts : parts_from (a.end - length bytes) bytes given ≡ expr_parts a = ap (parts_from (a.end - length bytes) bytes) there ∙ read
+    ∙ ap (λ (w : List ℕ). parts_or w (expr_at (any_operands 1) (record { at = a.end - length w; rest = w }))) same in
     let shown : List Part → List ℕ = λ (p : List Part). filled p (operand_numbers n p (references_from k file next (operand_count p))) in
     let out = shown (expr_parts a) in
     let len : length bytes ≡ length out = ap (λ (w : List ℕ). length w) same ∙ sym (expr_len k file next n a) in
@@ -67,7 +72,8 @@ put_expr n k file name next a bytes same os given there read old new is =
 
 -- ---- numbers of entries and roots
 
-pub entry_bytes : (n : Numbers) (k : Known) (here target owner form place count : ℕ) → owner ≡ owner_of k target → form ≡ form_to k here owner → place ≡ slice_index n.places target → count ≡ counted n form place
+pub entry_bytes : (n : Numbers) (k : Known) (here target owner form place count : ℕ) → owner ≡ owner_of k target → form ≡ form_to k here owner → place ≡ slice_index n.places target
+    → count ≡ counted n form place
     → le_bytes 4 count ≡ value_bytes (form_to k here (owner_of k target)) (raw_of n (form_to k here (owner_of k target)) (OfEntry target))
 entry_bytes n k here target owner form place count owned formed placed is =
     let same : form ≡ form_to k here (owner_of k target) = formed ∙ ap (form_to k here) owned in
@@ -97,10 +103,12 @@ put_mapped (Err e) go p = tt
 
 -- ---- by the way of a value
 
-pub put_by : (n : Numbers) (k : Known) (file : ℕ) (here : Here) (next : Firsts) (a : RawAttr) (way : Way) → way ≡ way_of here.holder a.pair → (old new : List ℕ) → Put n old new (out_by k file here.unit next a way) → Put n old new (out_attr k file here next a)
+pub put_by : (n : Numbers) (k : Known) (file : ℕ) (here : Here) (next : Firsts) (a : RawAttr) (way : Way) → way ≡ way_of here.holder a.pair → (old new : List ℕ)
+    → Put n old new (out_by k file here.unit next a way) → Put n old new (out_attr k file here next a)
 put_by n k file here next a way is old new put = put ∙ ap (λ (w : Way). old ++ values_bytes (stored_all n (out_by k file here.unit next a w))) is
 
-pub put_ok : {T E : Type 0} (r : Result T E) (n : Numbers) (old new bytes : List ℕ) (attrs : List OutAttr) → OnOk r (new ≡ old ++ bytes) → (new ≡ old ++ bytes → Put n old new attrs) → OnOk r (new ≡ old ++ values_bytes (stored_all n attrs))
+pub put_ok : {T E : Type 0} (r : Result T E) (n : Numbers) (old new bytes : List ℕ) (attrs : List OutAttr) → OnOk r (new ≡ old ++ bytes) → (new ≡ old ++ bytes → Put n old new attrs)
+    → OnOk r (new ≡ old ++ values_bytes (stored_all n attrs))
 put_ok (Ok x) n old new bytes attrs is go = go is
 put_ok (Err e) n old new bytes attrs is go = tt
 
@@ -119,8 +127,10 @@ module _ (n : Numbers) (k : Known) (here : Here) (r : Row) (pairs : List Pair) (
   pub so_far_none : (at : Input) → HasValues k r pairs at → PutSoFar n k here r pairs 0 at (firsts_of k r) old old
   so_far_none at has = record { done = []; left = left_start k here r pairs at has; put = put_none n old }
 
-  pub so_far_more : (j : ℕ) (d : Pair) (at place : Input) (next : Firsts) (out : List ℕ) → PutSoFar n k here r pairs j at next old out → j < length pairs → (raw : Raw) → value_at form_rows (get_or pairs j d) at ≡ Ok (raw, place)
-      → (new : Firsts) (more : List ℕ) (end : ℕ) → end ≡ place.at → new ≡ after here next (value_read end (get_or pairs j d) raw) → Put n out more (out_attr k r.file here next (value_read end (get_or pairs j d) raw)) → PutSoFar n k here r pairs (j + 1) place new old more
+  pub so_far_more : (j : ℕ) (d : Pair) (at place : Input) (next : Firsts) (out : List ℕ) → PutSoFar n k here r pairs j at next old out → j < length pairs → (raw : Raw)
+      → value_at form_rows (get_or pairs j d) at ≡ Ok (raw, place)
+      → (new : Firsts) (more : List ℕ) (end : ℕ) → end ≡ place.at → new ≡ after here next (value_read end (get_or pairs j d) raw)
+      → Put n out more (out_attr k r.file here next (value_read end (get_or pairs j d) raw)) → PutSoFar n k here r pairs (j + 1) place new old more
   so_far_more j d at place next out m lt raw value new more end same step put =
       let a = value_read place.at (get_or pairs j d) raw in
       let attrs = out_attr k r.file here next a in

@@ -46,7 +46,8 @@ if_children (Entry e children next) events = events
 
 unfoldable pub events : {K : Type 0} → Numbering K → ℕ → Entries K → List Event
 events n unit End = EndOfList ∷ []
-events n unit (Entry e children next) = entry_event n unit e children ∷ (if_children children (events n unit children) ++ events n unit next)
+events n unit (Entry e children next) = entry_event n unit e children
+    ∷ (if_children children (events n unit children) ++ events n unit next)
 
 abbrev pub unit_events : {K : Type 0} → Numbering K → ℕ → DwUnit K → List Event
 unit_events n unit u = entry_event n unit u.root u.below ∷ if_children u.below (events n unit u.below)

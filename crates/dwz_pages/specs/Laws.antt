@@ -1,8 +1,8 @@
 -- What a layout and its bytes are, of files whose units the order shows.
 use Rattle.std.specs.Prelude.{◌≡◌, ℕ, ◌+◌, ◌<◌, List, [], ◌∷◌, length, slice_index, None}
-use Rattle.dwz_docs.specs.Lists.{In}
+use Rattle.dwz_docs.specs.Lists.{Each, In}
 use Rattle.dwz_alike.specs.Spots.{Spot, same_spot}
-use Rattle.dwz_seen.specs.Lists.{Each, NoneTwice}
+use Rattle.dwz_seen.specs.Lists.{NoneTwice}
 use Rattle.dwz_writing.specs.Placing.{FileOut, FitsSections, files_keys, numbering, sections}
 use Rattle.dwz_writing.specs.Sound.{SoundUnit}
 use Rattle.dwz_writing.specs.Writing.{Numbering, joined}
@@ -20,17 +20,20 @@ pub record IsOrderOf (keys : Keys Spot) (k : Known) (order : List (List UnitItem
   pub apart : NoneTwice (files_keys files)
   pub refer : FilesRefer k order 0 order
 
--- What is laid of a file, the first unit of which has that number, and the bytes of its units, are its sections; its units end where these do;
--- and where neither is found too large, both have room.
-pub record FileIs (n : Numbering Spot) (k : Known) (places roots : List ℕ) (first : ℕ) (order : List UnitItems) (m : FileMade) (f : FileOut Spot) : Type 0 where
+-- What is laid of a file, the first unit of which has that number, and the bytes of its units, are its sections; its units end where these
+-- do; and where neither is found too large, both have room.
+pub record FileIs (n : Numbering Spot) (k : Known) (places roots : List ℕ) (first : ℕ) (order : List UnitItems) (m : FileMade)
+    (f : FileOut Spot) : Type 0 where
   pub info : units_page k places roots first order m.units ≡ (sections n f.units).info
   pub abbrevs : joined m.tables ≡ (sections n f.units).abbrevs
   pub end : m.end ≡ length (sections n f.units).info
   pub room : too_large_in m.end (length (joined m.tables)) ≡ None → FitsSections (sections n f.units)
 
-abbrev pub FilesAre : Numbering Spot → Known → (places roots : List ℕ) → ℕ → List (List UnitItems) → List FileMade → List (FileOut Spot) → Type 0
+abbrev pub FilesAre : Numbering Spot → Known → (places roots : List ℕ) → ℕ → List (List UnitItems) → List FileMade → List (FileOut Spot)
+    → Type 0
 FilesAre n k places roots first [] [] [] = Unit {0}
-FilesAre n k places roots first (units ∷ order) (m ∷ made) (f ∷ files) = FileIs n k places roots first units m f × FilesAre n k places roots (first + length units) order made files
+FilesAre n k places roots first (units ∷ order) (m ∷ made) (f ∷ files) = FileIs n k places roots first units m f
+    × FilesAre n k places roots (first + length units) order made files
 FilesAre n k places roots first _ _ _ = ⊥
 
 -- each file is laid as the definitions of what is written say
@@ -40,4 +43,5 @@ SectionsAre k order files = let all = made_of k order in FilesAre (numbering sam
 -- the place that is kept of an entry is that of its name
 abbrev pub PlacesAre : Keys Spot → Known → List (List UnitItems) → List (FileOut Spot) → Type 0
 PlacesAre keys k order files =
-    (i : ℕ) → i < length k.owners.items → IsWritten k i order → slice_index (made_of k order).places i ≡ (numbering same_spot files).place (keys.row i)
+    (i : ℕ) → i < length k.owners.items → IsWritten k i order → slice_index (made_of k order).places i
+    ≡ (numbering same_spot files).place (keys.row i)

@@ -33,7 +33,8 @@ sort_page n _ = []
 
 -- the length without its own 4 bytes, version 5, the type, address size 8, the offset of the table
 abbrev pub header_page : Numbers → Sort → OutUnit → List ℕ
-header_page n sort o = le_bytes 4 (o.end - o.at - 4) ++ (le_bytes 2 5 ++ (type_byte sort ∷ 8 ∷ [] ++ (le_bytes 4 o.«abbrev» ++ sort_page n sort)))
+header_page n sort o = le_bytes 4 (o.end - o.at - 4)
+    ++ (le_bytes 2 5 ++ (type_byte sort ∷ 8 ∷ [] ++ (le_bytes 4 o.«abbrev» ++ sort_page n sort)))
 
 -- the numbers of a unit that begins at a place
 abbrev pub numbers_in : (places roots : List ℕ) → ℕ → Numbers

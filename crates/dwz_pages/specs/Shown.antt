@@ -5,7 +5,7 @@ use Rattle.dwz_meanings.specs.Documents.{Attr, Compile, DwUnit, Expr, Kind, OfTy
 use Rattle.dwz_meanings.specs.Meanings.{Class, OfCommonEntry, OfExpression, OfInfoEntry, OfUnitEntry, class_of}
 use Rattle.dwz_model.specs.declared.place.Pair.{Pair}
 use Rattle.dwz_layout.specs.Lines.{Line, unit_lines}
-use Rattle.dwz_seen.specs.Lists.{Each}
+use Rattle.dwz_docs.specs.Lists.{Each}
 use Rattle.dwz_writing.specs.Placing.{FileOut, zeros}
 use Rattle.dwz_writing.specs.Writing.{pair_of, stored_as}
 use Rattle.dwz_places.specs.declared.known.Known.{Known}
@@ -86,7 +86,13 @@ key_of keys k unit depth (Chained chain space) = keys.chained unit chain (depth 
 key_of keys k unit depth (Imported part) = keys.import unit part
 
 abbrev pub slot_held : {K : Type 0} → Keys K → Known → Here → Slot → HeldLine K
-slot_held keys k here s = record { depth = s.depth; key = key_of keys k here.unit s.depth s.origin; tag = tag_of k s.origin; attrs = map (attr_held keys) (attrs_of k here s.origin) }
+slot_held keys k here s = record {
+  depth = s.depth;
+  key = key_of keys k here.unit s.depth s.origin;
+  tag = tag_of k s.origin;
+  attrs =
+      map (attr_held keys) (attrs_of k here s.origin);
+}
 
 abbrev pub unit_held : {K : Type 0} → Keys K → Known → ℕ → UnitItems → List (HeldLine K)
 unit_held keys k unit o = map (slot_held keys k (here_of k unit o.sort)) (items_slots k o.sort o.items)

@@ -11,6 +11,8 @@ ghost use Rattle.dwz_pages.specs.Shown.{Keys};
 /// Where an order shows the units of files, the common one first, what is laid of each file and written by it are the very sections that
 /// the definitions of the output name, and each entry has the place of its name.
 pub fn layout_laws()
-    ensures sections { (keys : Keys Spot) (k : Known) (order : List (List UnitItems)) (files : List (FileOut Spot)) → IsOrderOf keys k order files → SectionsAre k order files }
-    ensures places { (keys : Keys Spot) (k : Known) (order : List (List UnitItems)) (files : List (FileOut Spot)) → IsOrderOf keys k order files → PlacesAre keys k order files }
+    ensures sections { (keys : Keys Spot) (k : Known) (order : List (List UnitItems)) (files : List (FileOut Spot))
+        → IsOrderOf keys k order files → SectionsAre k order files }
+    ensures places { (keys : Keys Spot) (k : Known) (order : List (List UnitItems)) (files : List (FileOut Spot))
+        → IsOrderOf keys k order files → PlacesAre keys k order files }
 {}

@@ -27,8 +27,8 @@ fn back(bytes: &[u8], count: u64) -> &[u8]
     &bytes[count.min(bytes.len() as u64) as usize..]
 }
 
-/// Appends the bytes of an expression that began at a place, with the numbers of the entries that its operands name: these are references of
-/// a file, from the one with that number on.
+/// Appends the bytes of an expression that began at a place, with the numbers of the entries that its operands name: these are references
+/// of a file, from the one with that number on.
 pub(crate) fn put_parts(
     out: &mut Vec<u8>,
     known: &Known,
@@ -39,7 +39,9 @@ pub(crate) fn put_parts(
     bytes: &[u8],
     operands: &[Operand],
 ) -> Result<(), NoMemory>
-    ensures { let parts = parts_from start bytes.now operands.now in OnOk result (out.new.items ≡ out.old.items ++ filled parts (operand_numbers (numbers_view numbers.entry) parts (references_from known.now file first (operand_count parts)))) }
+    ensures { let parts = parts_from start bytes.now operands.now in OnOk result
+        (out.new.items ≡ out.old.items ++ filled parts
+        (operand_numbers (numbers_view numbers.entry) parts (references_from known.now file first (operand_count parts)))) }
 {
     let mut at = start;
     let mut left = bytes;

@@ -83,7 +83,8 @@ fn put_entry(
     entry: &Entry,
     code: u32,
 ) -> Result<(), NoMemory>
-    ensures { OnOk result (out.new.items ≡ out.old.items ++ entry_page code (call_of known.now (here_view here) (numbers_view numbers.entry) entry.now)) }
+    ensures { OnOk result (out.new.items ≡ out.old.items
+        ++ entry_page code (call_of known.now (here_view here) (numbers_view numbers.entry) entry.now)) }
 {
     put_uleb(out, code as u64)?;
     put_values(out, room, known, here, numbers, entry.origin)?;
@@ -100,7 +101,8 @@ fn put_entries(
     walk: &mut Walk,
     codes: &[u32],
 ) -> Result<(), NoMemory>
-    ensures { OnOk result (out.new.items ≡ out.old.items ++ entries_page codes.now (calls_of known.now (here_view here) (numbers_view numbers.entry) (entries_of walk.old))) }
+    ensures { OnOk result (out.new.items ≡ out.old.items
+        ++ entries_page codes.now (calls_of known.now (here_view here) (numbers_view numbers.entry) (entries_of walk.old))) }
 {
     for code in codes {
         let Some(entry) = walk.next() else {
@@ -121,7 +123,8 @@ pub fn put_unit(
     unit: &UnitItems,
     laid: &OutUnit,
 ) -> Result<(), NoMemory>
-    ensures { OnOk result (out.new.items ≡ out.old.items ++ unit_page known.now spots.now.places.items spots.now.roots.items here unit.now laid.now) }
+    ensures { OnOk result (out.new.items ≡ out.old.items ++ unit_page known.now spots.now.places.items spots.now.roots.items here unit.now
+        laid.now) }
 {
     let numbers = Numbers {
         places: spots.places.as_slice(),
@@ -150,7 +153,8 @@ pub fn info_of(
     units: &[UnitItems],
     laid: &FileLayout,
 ) -> Result<Vec<u8>, NoMemory>
-    ensures { IfOk result (λ info. info.items ≡ units_page known.now spots.now.places.items spots.now.roots.items first units.now laid.now.units.items) }
+    ensures { IfOk result (λ info. info.items ≡ units_page known.now spots.now.places.items spots.now.roots.items first units.now
+        laid.now.units.items) }
 {
     let mut info = Vec::with_capacity(alloc, laid.end as usize)?;
     let mut room = Vec::new(alloc);

@@ -9,7 +9,8 @@ ghost use Rattle.dwz_forms.specs.RawValues.{raw_view};
 ghost use Rattle.dwz_places.specs.declared.walk.Origin.TheVariants.{Read};
 ghost use Rattle.dwz_places.specs.Attributes;
 ghost use Rattle.dwz_places.specs.Known.{owner_of};
-ghost use Rattle.dwz_places.specs.Attributes.{OfEntry, after, attrs_of, here_view, line_attrs, name_by, operand_count, operand_numbers, out_attr, raw_of, references_from, space_attrs, stored_all, text_offset, value_read};
+ghost use Rattle.dwz_places.specs.Attributes.{OfEntry, after, attrs_of, here_view, line_attrs, name_by, operand_count, operand_numbers};
+ghost use Rattle.dwz_places.specs.Attributes.{out_attr, raw_of, references_from, space_attrs, stored_all, text_offset, value_read};
 ghost use Rattle.dwz_places.specs.Stored.{values_bytes};
 ghost use Rattle.dwz_places.specs.Ways;
 ghost use Rattle.dwz_places.specs.Ways.{holder_view};
@@ -39,7 +40,8 @@ fn put_entry(
     target: u32,
     numbers: Numbers,
 ) -> Result<(), NoMemory>
-    ensures { let form = Attributes.form_to known.now here (owner_of known.now target) in OnOk result (out.new.items ≡ out.old.items ++ value_bytes form (raw_of (numbers_view numbers.entry) form (OfEntry target))) }
+    ensures { let form = Attributes.form_to known.now here (owner_of known.now target) in OnOk result
+        (out.new.items ≡ out.old.items ++ value_bytes form (raw_of (numbers_view numbers.entry) form (OfEntry target))) }
 {
     let form = form_to(known, here, known.owner(target));
     put_four(
@@ -72,7 +74,10 @@ fn put_expr(
     end: u64,
     operands: &[Operand],
 ) -> Result<(), NoMemory>
-    ensures { let parts = parts_from (end - length bytes.now) bytes.now operands.now in OnOk result (out.new.items ≡ out.old.items ++ (uleb (length bytes.now) ++ filled parts (operand_numbers (numbers_view numbers.entry) parts (references_from known.now file first (operand_count parts))))) }
+    ensures { let parts = parts_from (end - length bytes.now) bytes.now operands.now in OnOk result
+        (out.new.items ≡ out.old.items ++ (uleb (length bytes.now)
+        ++ filled parts (operand_numbers (numbers_view numbers.entry) parts
+        (references_from known.now file first (operand_count parts))))) }
 {
     let len = bytes.len() as u64;
     put_uleb(out, len)?;
@@ -103,7 +108,9 @@ fn put_value(
     end: u64,
 ) -> Result<(), NoMemory>
     requires { HasSpelling pair.now.form (raw_view raw.now) }
-    ensures bytes { OnOk result (out.new.items ≡ out.old.items ++ values_bytes (stored_all (numbers_view numbers.entry) (out_attr known.now file (here_view here) next.old (value_read end pair.now (raw_view raw.now))))) }
+    ensures bytes { OnOk result (out.new.items ≡ out.old.items
+        ++ values_bytes (stored_all (numbers_view numbers.entry)
+        (out_attr known.now file (here_view here) next.old (value_read end pair.now (raw_view raw.now))))) }
     ensures next { OnOk result (next.new ≡ after (here_view here) next.old (value_read end pair.now (raw_view raw.now))) }
 {
     match way_of(here.holder, pair) {
@@ -147,7 +154,8 @@ fn put_row(
     numbers: Numbers,
     row: Row,
 ) -> Result<(), NoMemory>
-    ensures { OnOk result (out.new.items ≡ out.old.items ++ values_bytes (stored_all (numbers_view numbers.entry) (attrs_of known.now (here_view here) (Read row)))) }
+    ensures { OnOk result (out.new.items ≡ out.old.items
+        ++ values_bytes (stored_all (numbers_view numbers.entry) (attrs_of known.now (here_view here) (Read row)))) }
 {
     let Some(Values { pairs, mut cursor }) = known.values(row) else {
         return Ok(());
@@ -173,7 +181,9 @@ fn put_as_name(
     text: TextAt,
 ) -> Result<(), NoMemory>
     requires { HasSpelling pair.now.form (raw_view raw.now) }
-    ensures { (n : Attributes.Numbers) (end : ℕ) → OnOk result (out.new.items ≡ out.old.items ++ values_bytes (stored_all n (name_by text (value_read end pair.now (raw_view raw.now)) (Ways.way_of (holder_view holder) pair.now) ∷ []))) }
+    ensures { (n : Attributes.Numbers) (end : ℕ) → OnOk result
+        (out.new.items ≡ out.old.items ++ values_bytes
+        (stored_all n (name_by text (value_read end pair.now (raw_view raw.now)) (Ways.way_of (holder_view holder) pair.now) ∷ []))) }
 {
     match way_of(holder, pair) {
         Way::AsText => put_text(out, text),
@@ -188,7 +198,8 @@ fn put_name(
     holder: Holder,
     space: SpaceRow,
 ) -> Result<(), NoMemory>
-    ensures { (n : Attributes.Numbers) → OnOk result (out.new.items ≡ out.old.items ++ values_bytes (stored_all n (space_attrs known.now (holder_view holder) space))) }
+    ensures { (n : Attributes.Numbers) → OnOk result
+        (out.new.items ≡ out.old.items ++ values_bytes (stored_all n (space_attrs known.now (holder_view holder) space))) }
 {
     let Some(Values { pairs, mut cursor }) = known.values(space.row) else {
         return Ok(());
@@ -221,7 +232,8 @@ fn put_root(
     unit: u32,
     numbers: Numbers,
 ) -> Result<(), NoMemory>
-    ensures { OnOk result (out.new.items ≡ out.old.items ++ values_bytes (stored_all (numbers_view numbers.entry) (Attributes.import_attr known.now here unit ∷ []))) }
+    ensures { OnOk result (out.new.items ≡ out.old.items
+        ++ values_bytes (stored_all (numbers_view numbers.entry) (Attributes.import_attr known.now here unit ∷ []))) }
 {
     let form = form_to(known, here, unit);
     put_four(out, counted(numbers, form, at_or_zero(numbers.roots, unit)))
@@ -237,7 +249,8 @@ pub(crate) fn put_values(
     numbers: Numbers,
     origin: Origin,
 ) -> Result<(), NoMemory>
-    ensures { OnOk result (out.new.items ≡ out.old.items ++ values_bytes (stored_all (numbers_view numbers.entry) (attrs_of known.now (here_view here) origin))) }
+    ensures { OnOk result (out.new.items ≡ out.old.items
+        ++ values_bytes (stored_all (numbers_view numbers.entry) (attrs_of known.now (here_view here) origin))) }
 {
     match origin {
         Origin::Read(row) => put_row(out, room, known, here, numbers, row),

@@ -2,7 +2,7 @@
 use Rattle.std.proofs.Common.{◌≡◌, ℕ, suc, ◌+◌, ◌-◌, ◌<◌, ◌≤◌, List, [], ◌∷◌, ◌++◌, drop, get_or, length, map, replicate, take, Some, slice_get, sym, ap, ◌∙◌, arith}
 use Rattle.std.proofs.lemmas.List.{drop_all, map-append}
 use Rattle.std.proofs.lemmas.Option.{slice_get-get_or}
-use Rattle.dwz_resolve.proofs.RowLemmas.{drop_here}
+use Rattle.dwz_docs.proofs.ListFacts.{drop_here}
 use Rattle.dwz_places.specs.declared.known.Known.{Known}
 use Rattle.dwz_places.specs.declared.layout.FileLayout.{FileLayout}
 use Rattle.dwz_places.specs.declared.order.UnitItems.{UnitItems}
@@ -15,7 +15,8 @@ use Rattle.dwz_places.proofs.WalkLemmas.{entries_many, entries_none, take_nil}
 
 -- ---- entries
 
-pub entries_more : (k : Known) (here of : Here) (e : Entry) (old new : List Slot) (l m w : Laying) → of ≡ here → entries_of old ≡ e ∷ entries_of new → m ≡ with_call k e.origin (call_of k of no_numbers e) l
+pub entries_more : (k : Known) (here of : Here) (e : Entry) (old new : List Slot) (l m w : Laying) → of ≡ here → entries_of old ≡ e ∷ entries_of new
+    → m ≡ with_call k e.origin (call_of k of no_numbers e) l
     → with_entries k here (entries_of old) l ≡ w → with_entries k here (entries_of new) m ≡ w
 unfolding with_entries
 entries_more k here of e old new l m w same first is so =
@@ -53,7 +54,8 @@ abbrev pub all_made : List FileLayout → (places roots : List ℕ) → AllMade
 all_made laid places roots = record { files = map file_view laid; places = places; roots = roots }
 
 module _ (k : Known) (files : List (List UnitItems)) where
-  pub files_more : (here next i : ℕ) (f : List UnitItems) (old new : List FileLayout) (one : FileLayout) (m : Made) (places roots : List ℕ) (all : AllMade) → i < length files → f ≡ get_or files i f → next ≡ here + length f
+  pub files_more : (here next i : ℕ) (f : List UnitItems) (old new : List FileLayout) (one : FileLayout) (m : Made) (places roots : List ℕ) (all : AllMade) → i < length files → f ≡ get_or files i f
+      → next ≡ here + length f
       → new ≡ old ++ one ∷ [] → m ≡ with_units k here f (no_unit places roots) → m.units ≡ one.units.items → m.tables ≡ one.tables → m.at ≡ one.end
       → with_files k here (drop i files) (all_made old places roots) ≡ all → with_files k next (drop (i + 1) files) (all_made new m.places m.roots) ≡ all
   unfolding with_files
@@ -63,7 +65,8 @@ module _ (k : Known) (files : List (List UnitItems)) where
       let mapped : map file_view new ≡ map file_view old ++ record { units = m.units; tables = m.tables; end = m.at } ∷ [] =
       ap (map file_view) grown ∙ map-append file_view old (one ∷ []) ∙ ap (λ (v : FileMade). map file_view old ++ v ∷ []) view in
       (λ j. with_files k (step j) (drop (i + 1) files) (let a : AllMade = record { files = mapped j; places = m.places; roots = m.roots } in a))
-      ∙ ap (λ (n : Made). with_files k (here + length f) (drop (i + 1) files) (let a : AllMade = record { files = map file_view old ++ record { units = n.units; tables = n.tables; end = n.at } ∷ []; places = n.places; roots = n.roots } in a)) is
+      ∙ ap (λ (n : Made). with_files k (here + length f) (drop (i + 1) files)
+      (let a : AllMade = record { files = map file_view old ++ record { units = n.units; tables = n.tables; end = n.at } ∷ []; places = n.places; roots = n.roots } in a)) is
       ∙ sym (ap (λ (w : List (List UnitItems)). with_files k here w (all_made old places roots)) (drop_here files i f found))
       ∙ so
 

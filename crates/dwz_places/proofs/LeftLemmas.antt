@@ -8,8 +8,8 @@ use Rattle.dwz_codes.specs.Forms.{form_rows}
 use Rattle.dwz_docs.specs.Entries.{RawAttr}
 use Rattle.dwz_docs.specs.Values.{Raw, value_at, value_bytes}
 use Rattle.dwz_docs.proofs.PartLemmas.{same_input, same_value}
+use Rattle.dwz_docs.proofs.ListFacts.{drop_here}
 use Rattle.dwz_model.specs.declared.place.Pair.{Pair}
-use Rattle.dwz_resolve.proofs.RowLemmas.{drop_here}
 use Rattle.dwz_unit.specs.Rows.{EntryRow}
 use Rattle.dwz_unit.specs.Values.{Reads}
 use Rattle.dwz_unit.proofs.ReadsLemmas.{reads_count, reads_next}

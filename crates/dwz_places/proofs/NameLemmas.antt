@@ -1,5 +1,6 @@
 -- A loop over the values of a space, up to its name.
-use Rattle.std.proofs.Common.{◌≡◌, ◌≢◌, ℕ, ◌+◌, ◌<◌, ◌≤◌, Bool, true, false, List, [], ◌∷◌, drop, get_or, length, Option, Some, None, slice_get, Ok, refl, sym, ap, subst, ◌∙◌, arith, cond, eqb, eqb-true}
+use Rattle.std.proofs.Common.{◌≡◌, ◌≢◌, ℕ, ◌+◌, ◌<◌, ◌≤◌, Bool, true, false, List, [], ◌∷◌, drop, get_or, length, Option, Some, None, slice_get, Ok, refl, sym, ap, subst, ◌∙◌, arith, cond, eqb}
+use Rattle.std.proofs.Common.{eqb-true}
 use Rattle.std.specs.Prelude.{IsOk}
 use Rattle.std.specs.Option.{option_map_or}
 use Rattle.std.proofs.lemmas.List.{drop_all}
@@ -8,8 +9,8 @@ use Rattle.dwz_codes.specs.Forms.{form_rows}
 use Rattle.dwz_docs.specs.Entries.{RawAttr}
 use Rattle.dwz_docs.specs.Values.{Raw, value_at}
 use Rattle.dwz_docs.proofs.PartLemmas.{same_input, same_value}
+use Rattle.dwz_docs.proofs.ListFacts.{drop_here}
 use Rattle.dwz_model.specs.declared.place.Pair.{Pair}
-use Rattle.dwz_resolve.proofs.RowLemmas.{drop_here}
 use Rattle.dwz_unit.specs.Rows.{EntryRow}
 use Rattle.dwz_unit.specs.Values.{Reads}
 use Rattle.dwz_unit.proofs.ReadsLemmas.{reads_count, reads_next}

@@ -17,6 +17,7 @@ use Rattle.dwz_places.specs.declared.known.TextAt.TheVariants.{Own, Pooled, Shar
 use Rattle.dwz_places.specs.Attributes.{text_form, text_offset}
 use Rattle.dwz_writing.specs.Placing.{Reach, InCommon, InFile, InUnit, ref_form}
 use Rattle.dwz_writing.proofs.WriteLengths.{le_len}
+use Rattle.dwz_writing.proofs.StoredClasses.{two_tests}
 
 padded-bytes : (k n : ℕ) → AreBytes (padded k n)
 unfolding padded
@@ -104,14 +105,10 @@ rows_small : are_small written_rows ≡ true
 unfolding form_rows
 rows_small = refl
 
-both : (a b : Bool) → cond a b false ≡ true → (a ≡ true) × (b ≡ true)
-both true b e = (refl, e)
-both false b e = absurd cc
-
 code_small : (rows : List RowView) (form : ℕ) (number : _) (bytes : List ℕ) (raw : Raw) → are_small rows ≡ true → SpellsShape (shape_of rows form) number bytes raw → form < 0x10000
 code_small [] form number bytes raw small is = absurd is
 code_small (r ∷ rows) form number bytes raw small is =
-    let two = both (ltb r.code 0x10000) (are_small rows) small in
+    let two = two_tests (ltb r.code 0x10000) (are_small rows) small in
     go two (code_small rows form number bytes raw two.1) (eqb r.code form) refl is where
       go : (ltb r.code 0x10000 ≡ true) × (are_small rows ≡ true) → (SpellsShape (shape_of rows form) number bytes raw → form < 0x10000)
           → (t : Bool) → eqb r.code form ≡ t → SpellsShape (shape_in (cond t (Some r) (row_of rows form))) number bytes raw → form < 0x10000

@@ -41,21 +41,25 @@ same_len : (bytes numbers : List ℕ) → length (filled (Same bytes ∷ []) num
 unfolding filled
 same_len bytes numbers = ap (λ (w : List ℕ). length w) (append-nil bytes)
 
-pub parts_len : (at : ℕ) (bytes numbers : List ℕ) (r : Result Expression Fault) → expr_at (any_operands 1) (record { at = at; rest = bytes }) ≡ r → length numbers ≡ operand_count (parts_or bytes r) → length (filled (parts_or bytes r) numbers) ≡ length bytes
+pub parts_len : (at : ℕ) (bytes numbers : List ℕ) (r : Result Expression Fault) → expr_at (any_operands 1) (record { at = at; rest = bytes }) ≡ r → length numbers ≡ operand_count (parts_or bytes r)
+    → length (filled (parts_or bytes r) numbers) ≡ length bytes
 unfolding operand_count
 parts_len at bytes numbers (Ok e) is many =
     patched_length (any_operands 1) e at bytes numbers (((expr_agrees (any_operands 1) (record { at = at; rest = bytes })).ok e).0 is) (many ∙ count_from e.at e.bytes e.operands)
 parts_len at bytes numbers (Err f) is many = same_len bytes numbers
 
 -- the expression that an attribute stores, with the numbers of what it names
-pub expr_len : (k : Known) (file next : ℕ) (n : Numbers) (a : RawAttr) → length (filled (expr_parts a) (operand_numbers n (expr_parts a) (references_from k file next (operand_count (expr_parts a))))) ≡ length (bytes_of a.raw)
+pub expr_len : (k : Known) (file next : ℕ) (n : Numbers) (a : RawAttr) → length (filled (expr_parts a) (operand_numbers n (expr_parts a) (references_from k file next (operand_count (expr_parts a)))))
+    ≡ length (bytes_of a.raw)
 expr_len k file next n a =
     let parts = expr_parts a in
-    parts_len (content_at a) (bytes_of a.raw) (operand_numbers n parts (references_from k file next (operand_count parts))) (expr_at (any_operands 1) (record { at = content_at a; rest = bytes_of a.raw })) refl
+    parts_len (content_at a) (bytes_of a.raw) (operand_numbers n parts (references_from k file next (operand_count parts)))
+    (expr_at (any_operands 1) (record { at = content_at a; rest = bytes_of a.raw })) refl
     (numbers_many n parts (references_from k file next (operand_count parts)) (references_many k file next (operand_count parts)))
 
 -- bytes that are no expression are one part
-pub refused_parts : (at : ℕ) (bytes : List ℕ) (start : ℕ) → start ≡ at → (f : Fault) (e : ReadErr) → e ≡ Refused f → (found : List Operand) → ReadsInto 1 (record { at = start; rest = bytes }) found (Err e) → (os : List Operand) → os ≡ []
+pub refused_parts : (at : ℕ) (bytes : List ℕ) (start : ℕ) → start ≡ at → (f : Fault) (e : ReadErr) → e ≡ Refused f → (found : List Operand)
+    → ReadsInto 1 (record { at = start; rest = bytes }) found (Err e) → (os : List Operand) → os ≡ []
     → parts_from at bytes os ≡ parts_or bytes (expr_at (any_operands 1) (record { at = at; rest = bytes }))
 refused_parts at bytes start same f e is found reads os none =
     let fault = (subst (λ (x : ReadErr). ReadsInto 1 (record { at = start; rest = bytes }) found (Err x)) is reads).0 in

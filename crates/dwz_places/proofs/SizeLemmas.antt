@@ -21,7 +21,8 @@ use Rattle.dwz_places.specs.declared.known.TextAt.{TextAt}
 use Rattle.dwz_places.specs.declared.walk.Origin.TheVariants.{Read}
 use Rattle.dwz_places.specs.declared.ways.Way.{Way}
 use Rattle.dwz_places.specs.declared.ways.Way.TheVariants.{AsEntry, AsExpression, AsFile, AsRead, AsText, Dropped, KeepsText}
-use Rattle.dwz_places.specs.Attributes.{Here, Numbers, OutAttr, Read as Stored, plain_pair, after, after_by, attrs_of, entry_attr, expr_attr, expr_parts, file_attr, import_attr, line_attrs, name_by, no_numbers, operand_count, operand_numbers, out_attr, out_by, parts_or, raw_of, read_attr, references_from, stored_all, stored_of, text_attr, value_read}
+use Rattle.dwz_places.specs.Attributes.{Here, Numbers, OutAttr, Read as Stored, plain_pair, after, after_by, attrs_of, entry_attr, expr_attr, expr_parts, file_attr, import_attr, line_attrs, name_by}
+use Rattle.dwz_places.specs.Attributes.{no_numbers, operand_count, operand_numbers, out_attr, out_by, parts_or, raw_of, read_attr, references_from, stored_all, stored_of, text_attr, value_read}
 use Rattle.dwz_places.specs.Known.{HasValues, firsts_of, row_at}
 use Rattle.dwz_places.specs.Stored.{pairs_of, values_bytes}
 use Rattle.dwz_places.specs.Ways.{way_of}
@@ -59,7 +60,8 @@ pub expr_bytes_are : (bytes : List ℕ) → value_bytes 0x18 (Bytes bytes) ≡ u
 unfolding value_bytes form_rows
 expr_bytes_are bytes = refl
 
-pub expr_sized : (n : Numbers) (k : Known) (file name next : ℕ) (a : RawAttr) (size : ℕ) → size ≡ length (uleb (length (bytes_of a.raw)) ++ bytes_of a.raw) → Sized n (expr_attr k file name next (expr_parts a) ∷ []) size
+pub expr_sized : (n : Numbers) (k : Known) (file name next : ℕ) (a : RawAttr) (size : ℕ) → size ≡ length (uleb (length (bytes_of a.raw)) ++ bytes_of a.raw)
+    → Sized n (expr_attr k file name next (expr_parts a) ∷ []) size
 expr_sized n k file name next a size is =
     let parts = expr_parts a in
     let out = filled parts (operand_numbers n parts (references_from k file next (operand_count parts))) in
@@ -80,7 +82,8 @@ module _ (k : Known) (file : ℕ) (here : Here) (next : Firsts) (a : RawAttr) (w
   pub out_sized : (size : ℕ) → Sized no_numbers (out_by k file here.unit next a way) size → Sized no_numbers (out_attr k file here next a) size
   out_sized size sized = sized ∙ ap (λ (attrs : List OutAttr). length (values_bytes (stored_all no_numbers attrs))) out_is
 
-pub ok_sized : {E : Type 0} (r : Result ℕ E) (size : ℕ) (attrs : List OutAttr) → IfOk r (λ s. s ≡ size) → Sized no_numbers attrs size → IfOk r (λ s. s ≡ length (values_bytes (stored_all no_numbers attrs)))
+pub ok_sized : {E : Type 0} (r : Result ℕ E) (size : ℕ) (attrs : List OutAttr) → IfOk r (λ s. s ≡ size) → Sized no_numbers attrs size
+    → IfOk r (λ s. s ≡ length (values_bytes (stored_all no_numbers attrs)))
 ok_sized (Ok s) size attrs is sized = is ∙ sized
 ok_sized (Err e) size attrs is sized = tt
 
@@ -95,7 +98,8 @@ expr_size bytes = length (uleb (length bytes) ++ bytes)
 
 -- as many more are named as operands are read
 pub expr_next : (k : Known) (file : ℕ) (here : Here) (next : Firsts) (a : RawAttr) → AsExpression ≡ way_of here.holder a.pair → (bytes : List ℕ) → bytes ≡ bytes_of a.raw → (os : List Operand)
-    → parts_from (a.end - length bytes) bytes os ≡ parts_or bytes (expr_at (any_operands 1) (record { at = a.end - length bytes; rest = bytes })) → (more len : ℕ) → len ≡ length os → more ≡ next.reference + len
+    → parts_from (a.end - length bytes) bytes os ≡ parts_or bytes (expr_at (any_operands 1) (record { at = a.end - length bytes; rest = bytes })) → (more len : ℕ) → len ≡ length os
+    → more ≡ next.reference + len
     → record { reference = more; text = next.text; file = next.file } ≡ after here next a
 expr_next k file here next a way bytes same os read more len many is =
     let parts : parts_from (a.end - length bytes) bytes os ≡ expr_parts a = read ∙ ap (λ (w : List ℕ). parts_or w (expr_at (any_operands 1) (record { at = a.end - length w; rest = w }))) same in
@@ -123,8 +127,10 @@ module _ (k : Known) (here : Here) (r : Row) (pairs : List Pair) where
       × (names ≡ room ++ pairs_of (stored_all no_numbers (out_attr k r.file here next (value_read end pair raw))))
       × (one ≡ length (values_bytes (stored_all no_numbers (out_attr k r.file here next (value_read end pair raw)))))
 
-  pub measured_more : (j : ℕ) (d : Pair) (at place : Input) (next : Firsts) (room : List Pair) (size : ℕ) → Measured k here r pairs j at next room size → j < length pairs → (raw : Raw) → value_at form_rows (get_or pairs j d) at ≡ Ok (raw, place)
-      → (new : Firsts) (names : List Pair) (one sum end : ℕ) → Added next room (get_or pairs j d) raw new names one end → end ≡ place.at → sum ≡ size + one → All IsPlainPair names → Measured k here r pairs (j + 1) place new names sum
+  pub measured_more : (j : ℕ) (d : Pair) (at place : Input) (next : Firsts) (room : List Pair) (size : ℕ) → Measured k here r pairs j at next room size → j < length pairs → (raw : Raw)
+      → value_at form_rows (get_or pairs j d) at ≡ Ok (raw, place)
+      → (new : Firsts) (names : List Pair) (one sum end : ℕ) → Added next room (get_or pairs j d) raw new names one end → end ≡ place.at → sum ≡ size + one → All IsPlainPair names
+      → Measured k here r pairs (j + 1) place new names sum
   measured_more j d at place next room size m lt raw value new names one sum end added same add plain =
       let a = value_read place.at (get_or pairs j d) raw in
       let attrs = out_attr k r.file here next a in
@@ -138,10 +144,12 @@ module _ (k : Known) (here : Here) (r : Row) (pairs : List Pair) where
         plain = plain;
       }
 
-  pub measured_names : (j : ℕ) (at : Input) (next : Firsts) (room : List Pair) (size : ℕ) → Measured k here r pairs j at next room size → length pairs ≤ j → room ≡ pairs_of (stored_all no_numbers (attrs_of k here (Read r)))
+  pub measured_names : (j : ℕ) (at : Input) (next : Firsts) (room : List Pair) (size : ℕ) → Measured k here r pairs j at next room size → length pairs ≤ j
+      → room ≡ pairs_of (stored_all no_numbers (attrs_of k here (Read r)))
   measured_names j at next room size m le = m.names ∙ ap (λ (w : List OutAttr). pairs_of (stored_all no_numbers w)) (sym (left_end k here r pairs j at next m.done m.left le))
 
-  pub measured_size : (j : ℕ) (at : Input) (next : Firsts) (room : List Pair) (size : ℕ) → Measured k here r pairs j at next room size → length pairs ≤ j → Sized no_numbers (attrs_of k here (Read r)) size
+  pub measured_size : (j : ℕ) (at : Input) (next : Firsts) (room : List Pair) (size : ℕ) → Measured k here r pairs j at next room size → length pairs ≤ j
+      → Sized no_numbers (attrs_of k here (Read r)) size
   measured_size j at next room size m le = m.sized ∙ ap (λ (w : List OutAttr). length (values_bytes (stored_all no_numbers w))) (sym (left_end k here r pairs j at next m.done m.left le))
 
   pub nothing_sized : row_at k r ≡ None → Sized no_numbers (attrs_of k here (Read r)) 0
@@ -155,7 +163,8 @@ line_sized n line = line_len line ∙ sym (one_len n (record { pair = plain_pair
 
 -- ---- names of spaces
 
-pub ok_named : {T E : Type 0} (r : Result T E) (new old : List Pair) (p : Pair) (attrs : List OutAttr) → OnOk r (new ≡ old ++ p ∷ []) → old ≡ [] → p ∷ [] ≡ pairs_of (stored_all no_numbers attrs) → OnOk r (new ≡ pairs_of (stored_all no_numbers attrs))
+pub ok_named : {T E : Type 0} (r : Result T E) (new old : List Pair) (p : Pair) (attrs : List OutAttr) → OnOk r (new ≡ old ++ p ∷ []) → old ≡ [] → p ∷ [] ≡ pairs_of (stored_all no_numbers attrs)
+    → OnOk r (new ≡ pairs_of (stored_all no_numbers attrs))
 ok_named (Ok x) new old p attrs is none same = is ∙ ap (λ (w : List Pair). w ++ p ∷ []) none ∙ same
 ok_named (Err e) new old p attrs is none same = tt
 
@@ -186,8 +195,10 @@ sized_same x y size same sized = sized ∙ ap (λ (z : OutAttr). length (values_
 pub space_sized : (xs ys : List OutAttr) (size : ℕ) → xs ≡ ys → Sized no_numbers ys size → Sized no_numbers xs size
 space_sized xs ys size same sized = sized ∙ ap (λ (z : List OutAttr). length (values_bytes (stored_all no_numbers z))) (sym same)
 
-pub space_ok : {T E : Type 0} (r : Result T E) (new : List Pair) (xs ys : List OutAttr) → xs ≡ ys → OnOk r (new ≡ pairs_of (stored_all no_numbers ys)) → OnOk r (new ≡ pairs_of (stored_all no_numbers xs))
+pub space_ok : {T E : Type 0} (r : Result T E) (new : List Pair) (xs ys : List OutAttr) → xs ≡ ys → OnOk r (new ≡ pairs_of (stored_all no_numbers ys))
+    → OnOk r (new ≡ pairs_of (stored_all no_numbers xs))
 space_ok r new xs ys same is = subst (λ (z : List OutAttr). OnOk r (new ≡ pairs_of (stored_all no_numbers z))) (sym same) is
 
-pub space_named : {E : Type 0} (r : Result ℕ E) (xs ys : List OutAttr) → xs ≡ ys → IfOk r (λ s. s ≡ length (values_bytes (stored_all no_numbers ys))) → IfOk r (λ s. s ≡ length (values_bytes (stored_all no_numbers xs)))
+pub space_named : {E : Type 0} (r : Result ℕ E) (xs ys : List OutAttr) → xs ≡ ys → IfOk r (λ s. s ≡ length (values_bytes (stored_all no_numbers ys)))
+    → IfOk r (λ s. s ≡ length (values_bytes (stored_all no_numbers xs)))
 space_named r xs ys same is = subst (λ (z : List OutAttr). IfOk r (λ s. s ≡ length (values_bytes (stored_all no_numbers z)))) (sym same) is

@@ -1,9 +1,9 @@
 -- How a walk goes: what is left of the entries of a file begins with the next one.
-use Rattle.std.proofs.Common.{◌≡◌, ℕ, zero, suc, ◌+◌, ◌-◌, ◌<◌, ◌≤◌, List, [], ◌∷◌, ◌++◌, drop, length, take, Option, Some, None, slice_get, refl, sym, ap, ◌∙◌, arith}
+use Rattle.std.proofs.Common.{◌≡◌, ℕ, zero, suc, ◌+◌, ◌-◌, ◌<◌, ◌≤◌, List, [], ◌∷◌, ◌++◌, length, take, Option, Some, None, slice_get, refl, sym, ap, ◌∙◌, arith}
 use Rattle.std.specs.Prelude.{nat_lt, slice_range}
 use Rattle.std.specs.Option.{option_map, option_map_or, option_to_list}
 use Rattle.std.proofs.lemmas.List.{drop_all}
-use Rattle.dwz_resolve.proofs.RowLemmas.{drop_here}
+use Rattle.dwz_docs.proofs.ListFacts.{range_here, range_none}
 use Rattle.dwz_unit.specs.Rows.{EntryRow, entry_shown}
 use Rattle.dwz_unit.specs.declared.rows.RawEntry.{RawEntry as EntryOfCode}
 use Rattle.dwz_places.specs.declared.known.Known.{Known}
@@ -20,13 +20,6 @@ use Rattle.dwz_places.specs.Walking.{IsNext, IsWhole, below, empty_run, run_slot
 
 -- ---- a part of a list
 
-take_zero : {X : Type 0} (xs : List X) → take 0 xs ≡ []
-take_zero [] = refl
-take_zero (x ∷ xs) = refl
-
-pub range_none : {X : Type 0} (xs : List X) (i j : ℕ) → j ≤ i → slice_range xs i j ≡ []
-range_none {X = X} xs i j le = (let none : j - i ≡ 0 = omega arith in ap (λ (m : ℕ). take m (drop i xs)) none) ∙ take_zero (drop i xs)
-
 pub take_nil : {X : Type 0} (n : ℕ) → take {A = X} n [] ≡ []
 take_nil zero = refl
 take_nil (suc n) = refl
@@ -34,18 +27,14 @@ take_nil (suc n) = refl
 pub range_past : {X : Type 0} (xs : List X) (i j : ℕ) → length xs ≤ i → slice_range xs i j ≡ []
 range_past {X = X} xs i j le = ap (λ (w : List X). take (j - i) w) (drop_all i xs le) ∙ take_nil {X = X} (j - i)
 
-pub range_here : {X : Type 0} (xs : List X) (i j : ℕ) (x : X) → i < j → slice_get xs i ≡ Some x → slice_range xs i j ≡ x ∷ slice_range xs (i + 1) j
-range_here {X = X} xs i j x lt e =
-    let one : j - i ≡ suc (j - (i + 1)) = omega arith in
-    ap (λ (w : List X). take (j - i) w) (drop_here xs i x e) ∙ ap (λ (n : ℕ). take n (x ∷ drop (i + 1) xs)) one
-
 -- ---- entries of a file
 
 pub none_left : (file depth base entry : ℕ) → row_slots file depth base entry [] ≡ []
 unfolding row_slots
 none_left file depth base entry = refl
 
-pub one_left : (file depth base entry : ℕ) (r : EntryRow) (rows : List EntryRow) → row_slots file depth base entry (r ∷ rows) ≡ slot (depth + (r.depth - base)) (Read (row file entry)) ∷ row_slots file depth base (suc entry) rows
+pub one_left : (file depth base entry : ℕ) (r : EntryRow) (rows : List EntryRow) → row_slots file depth base entry (r ∷ rows) ≡ slot (depth + (r.depth - base)) (Read (row file entry))
+    ∷ row_slots file depth base (suc entry) rows
 unfolding row_slots
 one_left file depth base entry r rows = refl
 
@@ -77,7 +66,8 @@ module _ (k : Known) (file depth base next end : ℕ) where
         ∙ one_left file depth base next r (slice_range (rows_in k file) (next + 1) end)
         ∙ (λ i. slot (depth + ((sym same i).depth - base)) (Read (row file next)) ∷ row_slots file depth base (one i) (slice_range (rows_in k file) (next + 1) end))
 
-  pub run_next : (e : EntryOfCode) (d : ℕ) → next < end → Some e ≡ option_map entry_shown (row_at k (row file next)) → d ≡ e.depth - base → Left next ≡ slot (depth + d) (Read (row file next)) ∷ Left (next + 1)
+  pub run_next : (e : EntryOfCode) (d : ℕ) → next < end → Some e ≡ option_map entry_shown (row_at k (row file next)) → d ≡ e.depth - base
+      → Left next ≡ slot (depth + d) (Read (row file next)) ∷ Left (next + 1)
   run_next e d lt is same = run_go e lt is ∙ ap (λ (m : ℕ). slot (depth + m) (Read (row file next)) ∷ Left (next + 1)) (sym same)
 
 -- ---- entries of a unit
@@ -86,7 +76,8 @@ pub entries_none : entries_of [] ≡ []
 unfolding entries_of
 entries_none = refl
 
-pub entries_first : (s : Slot) (rest : List Slot) → entries_of (s ∷ rest) ≡ record { origin = s.origin; depth = s.depth; children = nat_lt s.depth (depth_of rest); ends = s.depth - depth_of rest } ∷ entries_of rest
+pub entries_first : (s : Slot) (rest : List Slot) → entries_of (s ∷ rest) ≡ record { origin = s.origin; depth = s.depth; children = nat_lt s.depth (depth_of rest); ends = s.depth - depth_of rest }
+    ∷ entries_of rest
 unfolding entries_of
 entries_first s rest = refl
 
@@ -104,9 +95,11 @@ module _ (k : Known) (depth : ℕ) (r : Row) where
     go None e = refl
     go (Some x) e = absurd cc
 
-  pub below_some : (e : EntryOfCode) → Some e ≡ option_map entry_shown (row_at k r) → run_slots k (record { file = r.file; next = r.entry + 1; end = e.end; depth = depth; base = e.depth }) ≡ below k depth r
+  pub below_some : (e : EntryOfCode) → Some e ≡ option_map entry_shown (row_at k r) → run_slots k (record { file = r.file; next = r.entry + 1; end = e.end; depth = depth; base = e.depth })
+      ≡ below k depth r
   below_some e is = go (row_at k r) is where
-    go : (o : Option EntryRow) → Some e ≡ option_map entry_shown o → run_slots k (record { file = r.file; next = r.entry + 1; end = e.end; depth = depth; base = e.depth }) ≡ option_map_or (slots_below k depth r) o []
+    go : (o : Option EntryRow) → Some e ≡ option_map entry_shown o → run_slots k (record { file = r.file; next = r.entry + 1; end = e.end; depth = depth; base = e.depth })
+        ≡ option_map_or (slots_below k depth r) o []
     go None e = absurd cc
     go (Some x) found =
         let same : e ≡ entry_shown x = cc in
@@ -167,7 +160,8 @@ none_view (Some s) rest view is whole same = absurd cc
 pub some_view : (o : Option Slot) (s : Slot) (rest view : List Slot) → o ≡ Some s → option_to_list o ++ rest ≡ view → view ≡ s ∷ rest
 some_view o s rest view is same = sym same ∙ ap (λ (p : Option Slot). option_to_list p ++ rest) is
 
-pub pulled : (k : Known) (sort : Sort) (run : List Slot) (item : Item) (items all : List Item) (s : Slot) (left : List Slot) → run ≡ [] → all ≡ item ∷ items → what_slots k sort item.depth item.what ≡ s ∷ left
+pub pulled : (k : Known) (sort : Sort) (run : List Slot) (item : Item) (items all : List Item) (s : Slot) (left : List Slot) → run ≡ [] → all ≡ item ∷ items
+    → what_slots k sort item.depth item.what ≡ s ∷ left
     → run ++ items_slots k sort all ≡ s ∷ (left ++ items_slots k sort items)
 pulled k sort run item items all s left none is first =
     (λ i. none i ++ items_slots k sort (is i)) ∙ items_first k sort item items ∙ ap (λ (w : List Slot). w ++ items_slots k sort items) first

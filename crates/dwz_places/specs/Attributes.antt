@@ -1,5 +1,6 @@
 -- What is written of an entry: its attributes, with numbers of entries in place of places.
-use Rattle.std.specs.Prelude.{ℕ, zero, suc, pos, ◌+◌, ◌-◌, Bool, true, false, List, [], ◌∷◌, ◌++◌, map, nat_lt, ◌==◌, if◌then◌else◌, Option, Some, None, Result, Ok, Err, slice_index}
+use Rattle.std.specs.Prelude.{ℕ, zero, suc, pos, ◌+◌, ◌-◌, Bool, true, false, List, [], ◌∷◌, ◌++◌, map, nat_lt, ◌==◌, if◌then◌else◌, Option}
+use Rattle.std.specs.Prelude.{Some, None, Result, Ok, Err, slice_index}
 use Rattle.std.specs.Option.{option_map_or}
 use Rattle.dwz_model.specs.declared.fault.Fault.{Fault}
 use Rattle.dwz_model.specs.declared.place.Pair.{Pair}
@@ -99,7 +100,8 @@ references_from k file n (suc count) = reference_at k file n ∷ references_from
 
 -- DW_FORM_exprloc
 abbrev pub expr_attr : Known → ℕ → ℕ → ℕ → List Part → OutAttr
-expr_attr k file name n parts = record { pair = plain_pair name 0x18; content = OfParts parts (references_from k file n (operand_count parts)) }
+expr_attr k file name n parts =
+    record { pair = plain_pair name 0x18; content = OfParts parts (references_from k file n (operand_count parts)) }
 
 -- ---- texts and files
 
@@ -222,7 +224,8 @@ unfoldable pub operand_numbers : Numbers → List Part → List ℕ → List ℕ
 operand_numbers n [] numbers = []
 operand_numbers n (Same bytes ∷ parts) numbers = operand_numbers n parts numbers
 operand_numbers n (document.Operand width uleb base ∷ parts) [] = []
-operand_numbers n (document.Operand width uleb base ∷ parts) (x ∷ numbers) = (slice_index n.places x - base_place n.unit base) ∷ operand_numbers n parts numbers
+operand_numbers n (document.Operand width uleb base ∷ parts) (x ∷ numbers) = (slice_index n.places x - base_place n.unit base)
+    ∷ operand_numbers n parts numbers
 
 abbrev pub raw_of : Numbers → ℕ → Content → Raw
 raw_of n form (Read raw) = raw
@@ -246,7 +249,13 @@ pub record Call : Type 0 where
   pub ends : ℕ
 
 abbrev pub call_of : Known → Here → Numbers → Entry → Call
-call_of k here n e = record { tag = tag_of k e.origin; children = e.children; attrs = stored_all n (attrs_of k here e.origin); ends = e.ends }
+call_of k here n e = record {
+  tag = tag_of k e.origin;
+  children = e.children;
+  attrs = stored_all n (attrs_of k here e.origin);
+  ends =
+      e.ends;
+}
 
 abbrev pub calls_of : Known → Here → Numbers → List Entry → List Call
 calls_of k here n entries = map (call_of k here n) entries

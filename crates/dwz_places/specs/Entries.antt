@@ -25,7 +25,8 @@ row file entry = record { file = file; entry = entry }
 -- entries of a file, the first of which has that number; what stood as deep as `base` stands at `depth`
 unfoldable pub row_slots : (file depth base entry : ℕ) → List EntryRow → List Slot
 row_slots file depth base entry [] = []
-row_slots file depth base entry (r ∷ rows) = slot (depth + (r.depth - base)) (Read (row file entry)) ∷ row_slots file depth base (suc entry) rows
+row_slots file depth base entry (r ∷ rows) = slot (depth + (r.depth - base)) (Read (row file entry)) ∷ row_slots file depth base (suc entry)
+    rows
 
 -- all entries below one
 abbrev pub slots_below : Known → ℕ → Row → EntryRow → List Slot
@@ -65,7 +66,13 @@ depth_of (s ∷ slots) = s.depth
 -- An entry has children if the next one stands deeper, and behind it as many lists end as the next one stands higher.
 unfoldable pub entries_of : List Slot → List Entry
 entries_of [] = []
-entries_of (s ∷ slots) = record { origin = s.origin; depth = s.depth; children = nat_lt s.depth (depth_of slots); ends = s.depth - depth_of slots } ∷ entries_of slots
+entries_of (s ∷ slots) = record {
+  origin = s.origin;
+  depth = s.depth;
+  children = nat_lt s.depth (depth_of slots);
+  ends =
+      s.depth - depth_of slots;
+} ∷ entries_of slots
 
 abbrev pub unit_entries : Known → UnitItems → List Entry
 unit_entries k u = entries_of (items_slots k u.sort u.items)

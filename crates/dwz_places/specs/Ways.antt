@@ -23,8 +23,8 @@ pub record WayRow : Type 0 where
 abbrev pub way_row : ℕ → Way → Way → Way → WayRow
 way_row form old new common = record { form = form; old = old; new = new; common = common }
 
--- data2, data4, data8, data1, sdata; strp; udata; ref_addr, and ref1 to ref_udata; exprloc; strx; line_strp; implicit_const; strx1 to strx4.
--- A form without a row is written as it was read.
+-- data2, data4, data8, data1, sdata; strp; udata; ref_addr, and ref1 to ref_udata; exprloc; strx; line_strp; implicit_const; strx1 to
+-- strx4. A form without a row is written as it was read.
 abbrev pub way_rows : List WayRow
 way_rows =
     way_row 0x05 AsRead AsRead AsFile

@@ -13,7 +13,8 @@ use dwz_model::{NoMemory, ReadErr};
 /// Puts the operands of an expression that name entries into the room, in order. The expression ends before a place of `.debug_info`, from
 /// which the places of operands are counted. Bytes that are no expression have none.
 pub fn read_operands(room: &mut Vec<Operand>, bytes: &[u8], end: u64) -> Result<(), NoMemory>
-    ensures { OnOk result (parts_from (end - length bytes.now) bytes.now room.new.items ≡ parts_or bytes.now (expr_at (any_operands 1) (record { at = end - length bytes.now; rest = bytes.now }))) }
+    ensures { OnOk result (parts_from (end - length bytes.now) bytes.now room.new.items
+        ≡ parts_or bytes.now (expr_at (any_operands 1) (record { at = end - length bytes.now; rest = bytes.now }))) }
 {
     room.clear();
     let at = end.saturating_sub(bytes.len() as u64);

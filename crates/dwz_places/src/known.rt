@@ -4,7 +4,8 @@ ghost use Rattle.std.specs.Prelude.{◌≡◌, ◌+◌, ◌<◌, ◌^◌, All, I
 ghost use Rattle.std.specs.Option.{option_map};
 ghost use Rattle.dwz_docs.specs.Abbrevs.{IsPlainPair};
 ghost use Rattle.dwz_unit.specs.Rows.{entry_shown};
-ghost use Rattle.dwz_places.specs.Known.{HasValues, file_at, firsts_of, number_of, owner_of, reference_at, row_at, space_at, text_at, text_held, top_row, unit_of_part};
+ghost use Rattle.dwz_places.specs.Known.{HasValues, file_at, firsts_of, number_of, owner_of, reference_at, row_at, space_at, text_at};
+ghost use Rattle.dwz_places.specs.Known.{text_held, top_row, unit_of_part};
 ghost use Rattle.dwz_places.specs.Ways.{holder_view};
 
 use crate::ways::Holder;

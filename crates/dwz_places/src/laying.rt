@@ -58,7 +58,8 @@ impl Laying {
         entry: &Entry,
         places: &mut [u64],
     ) -> Result<(), NoMemory>
-        ensures { OnOk result (laying_of self.new places.new ≡ with_call known.now entry.now.origin (call_of known.now (here_view here) no_numbers entry.now) (laying_of self.old places.old)) }
+        ensures { OnOk result (laying_of self.new places.new ≡ with_call known.now entry.now.origin
+            (call_of known.now (here_view here) no_numbers entry.now) (laying_of self.old places.old)) }
     {
         let values = measure(room, known, here, entry.origin)?;
         let tag = tag_of(known, entry.origin);

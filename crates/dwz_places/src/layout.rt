@@ -122,7 +122,8 @@ fn lay_file(
     units: &[UnitItems],
     spots: &mut Spots,
 ) -> Result<FileLayout, NoMemory>
-    ensures { IfOk result (λ file. made file spots.new ≡ with_units known.now first units.now (no_unit spots.old.places.items spots.old.roots.items)) }
+    ensures { IfOk result (λ file. made file spots.new ≡ with_units known.now first units.now
+        (no_unit spots.old.places.items spots.old.roots.items)) }
 {
     let mut file = FileLayout::new(alloc);
     let mut here = first;
@@ -134,8 +135,8 @@ fn lay_file(
 }
 
 impl Layout {
-    /// Lays the units of files one behind the other, in each file from 0. A file's units come in order, and files are counted with the common
-    /// one first. It fails only for want of memory; more bytes or units than 64 or 32 bits can count are such a want.
+    /// Lays the units of files one behind the other, in each file from 0. A file's units come in order, and files are counted with the
+    /// common one first. It fails only for want of memory; more bytes or units than 64 or 32 bits can count are such a want.
     pub fn make(alloc: Global, known: &Known, files: &[FileItems]) -> Result<Layout, NoMemory>
         ensures { IfOk result (λ layout. layout ≡ made_of known.now files.now) }
     {

@@ -7,7 +7,8 @@ ghost use Rattle.dwz_docs.specs.Values.{HasSpelling};
 ghost use Rattle.dwz_forms.specs.RawValues.{raw_view};
 ghost use Rattle.dwz_meanings.specs.Meanings.{bytes_of};
 ghost use Rattle.dwz_places.specs.declared.walk.Origin.TheVariants.{Read};
-ghost use Rattle.dwz_places.specs.Attributes.{after, attrs_of, here_view, line_attrs, name_by, no_numbers, out_attr, space_attrs, stored_all, value_read};
+ghost use Rattle.dwz_places.specs.Attributes.{after, attrs_of, here_view, line_attrs, name_by, no_numbers, out_attr, space_attrs};
+ghost use Rattle.dwz_places.specs.Attributes.{stored_all, value_read};
 ghost use Rattle.dwz_places.specs.Ways;
 ghost use Rattle.dwz_places.specs.Ways.{holder_view};
 ghost use Rattle.dwz_places.specs.Attributes;
@@ -119,8 +120,12 @@ fn measure_value(
     requires writable { HasSpelling pair.now.form (raw_view raw.now) }
     requires plain { IsPlainPair pair.now }
     requires room { All IsPlainPair room.old.pairs.items }
-    ensures pairs { OnOk result (room.new.pairs.items ≡ room.old.pairs.items ++ pairs_of (stored_all no_numbers (out_attr known.now file (here_view here) next.old (value_read end pair.now (raw_view raw.now))))) }
-    ensures size { IfOk result (λ size. size ≡ length (values_bytes (stored_all no_numbers (out_attr known.now file (here_view here) next.old (value_read end pair.now (raw_view raw.now)))))) }
+    ensures pairs { OnOk result (room.new.pairs.items ≡ room.old.pairs.items
+        ++ pairs_of (stored_all no_numbers (out_attr known.now file (here_view here) next.old
+        (value_read end pair.now (raw_view raw.now))))) }
+    ensures size { IfOk result (λ size. size ≡ length
+        (values_bytes (stored_all no_numbers (out_attr known.now file (here_view here) next.old
+        (value_read end pair.now (raw_view raw.now)))))) }
     ensures next { OnOk result (next.new ≡ after (here_view here) next.old (value_read end pair.now (raw_view raw.now))) }
     ensures plain { OnOk result (All IsPlainPair room.new.pairs.items) }
 {
@@ -164,7 +169,8 @@ fn measure_value(
 fn measure_row(room: &mut Room, known: &Known, here: Here, row: Row) -> Result<u64, NoMemory>
     requires { room.old.pairs.items ≡ [] }
     ensures pairs { OnOk result (room.new.pairs.items ≡ pairs_of (stored_all no_numbers (attrs_of known.now (here_view here) (Read row)))) }
-    ensures size { IfOk result (λ size. size ≡ length (values_bytes (stored_all no_numbers (attrs_of known.now (here_view here) (Read row))))) }
+    ensures size { IfOk result (λ size. size ≡ length
+        (values_bytes (stored_all no_numbers (attrs_of known.now (here_view here) (Read row))))) }
     ensures plain { OnOk result (All IsPlainPair room.new.pairs.items) }
 {
     let Some(Values { pairs, mut cursor }) = known.values(row) else {
@@ -193,8 +199,12 @@ fn measure_as_name(
     requires empty { room.old.pairs.items ≡ [] }
     requires writable { HasSpelling pair.now.form (raw_view raw.now) }
     requires plain { IsPlainPair pair.now }
-    ensures pairs { (end : ℕ) → OnOk result (room.new.pairs.items ≡ pairs_of (stored_all no_numbers (name_by text (value_read end pair.now (raw_view raw.now)) (Ways.way_of (holder_view holder) pair.now) ∷ []))) }
-    ensures size { (end : ℕ) → IfOk result (λ size. size ≡ length (values_bytes (stored_all no_numbers (name_by text (value_read end pair.now (raw_view raw.now)) (Ways.way_of (holder_view holder) pair.now) ∷ [])))) }
+    ensures pairs { (end : ℕ) → OnOk result (room.new.pairs.items
+        ≡ pairs_of (stored_all no_numbers (name_by text (value_read end pair.now (raw_view raw.now))
+        (Ways.way_of (holder_view holder) pair.now) ∷ []))) }
+    ensures size { (end : ℕ) → IfOk result (λ size. size
+        ≡ length (values_bytes (stored_all no_numbers
+        (name_by text (value_read end pair.now (raw_view raw.now)) (Ways.way_of (holder_view holder) pair.now) ∷ [])))) }
     ensures plain { OnOk result (All IsPlainPair room.new.pairs.items) }
 {
     match way_of(holder, pair) {
@@ -211,8 +221,10 @@ fn measure_name(
     space: SpaceRow,
 ) -> Result<u64, NoMemory>
     requires { room.old.pairs.items ≡ [] }
-    ensures pairs { OnOk result (room.new.pairs.items ≡ pairs_of (stored_all no_numbers (space_attrs known.now (holder_view holder) space))) }
-    ensures size { IfOk result (λ size. size ≡ length (values_bytes (stored_all no_numbers (space_attrs known.now (holder_view holder) space)))) }
+    ensures pairs { OnOk result (room.new.pairs.items
+        ≡ pairs_of (stored_all no_numbers (space_attrs known.now (holder_view holder) space))) }
+    ensures size { IfOk result (λ size. size ≡ length
+        (values_bytes (stored_all no_numbers (space_attrs known.now (holder_view holder) space)))) }
     ensures plain { OnOk result (All IsPlainPair room.new.pairs.items) }
 {
     let Some(Values { pairs, mut cursor }) = known.values(space.row) else {

@@ -1,5 +1,6 @@
 -- The plan of rows and the plan of the units whose tops they show.
-use Rattle.std.proofs.Common.{◌≡◌, ◌↔◌, ℕ, Some, zero, suc, ◌+◌, ◌<◌, ◌==◌, ◌&&◌, ◌||◌, inl, inr, cond, Bool, true, false, List, [], ◌∷◌, ◌++◌, length, map, filter, find, get_or, refl, sym, ap, subst, ◌∙◌, arith, eqb-true, eq-eqb}
+use Rattle.std.proofs.Common.{◌≡◌, ◌↔◌, ℕ, Some, zero, suc, ◌+◌, ◌<◌, ◌==◌, ◌&&◌, ◌||◌, inl, inr, cond, Bool, true, false, List, [], ◌∷◌, ◌++◌, length, map, filter, find, get_or, refl, sym, ap, subst}
+use Rattle.std.proofs.Common.{◌∙◌, arith, eqb-true, eq-eqb}
 use Rattle.std.specs.Option.{option_map_or}
 use Rattle.std.specs.List.{flat_map, list_any, range_with_len}
 use Rattle.std.proofs.lemmas.Bool.{and_parts}
@@ -8,43 +9,42 @@ use Rattle.std.proofs.lemmas.Option.{slice_get-get_or}
 use Rattle.dwz_meanings.specs.Documents.{Doc, Entries}
 use Rattle.dwz_docs.specs.Lists.{In, has}
 use Rattle.dwz_docs.specs.Trees.{End, Entry}
+use Rattle.dwz_docs.proofs.CaseFacts.{same_test}
+use Rattle.dwz_docs.proofs.ListFacts.{in_cases}
 use Rattle.dwz_groups.specs.declared.tops.Tops.{Tops}
 use Rattle.dwz_alike.specs.Deciding.{Test}
-use Rattle.dwz_alike.specs.Spots.{file_numbers}
-use Rattle.dwz_moving.specs.Homes.{Common, Home, Local, Stay, file_of, first_alike, candidate as unit_home, home as ruled_home, all_rule, home_in, numbers_from, rep as unit_rep, same_home, users as unit_users, uses}
-use Rattle.dwz_moving.specs.Plan.{PartialUnit, distinct, import_of, imports as unit_imports, local_partials, partial_with as unit_partial_with, partials as unit_partials, partials_at as unit_partials_at, representatives as unit_representatives, stands_for, users_of}
-use Rattle.dwz_alike.specs.Spots.{FileUnit, Spot, Top, same_numbers, tops_of}
+use Rattle.dwz_alike.specs.Spots.{FileUnit, Spot, Top, file_numbers, same_numbers, tops_of}
+use Rattle.dwz_moving.specs.Homes.{Common, Home, Local, Stay, file_of, first_alike, candidate as unit_home, home as ruled_home, all_rule, home_in, numbers_from, rep as unit_rep, same_home}
+use Rattle.dwz_moving.specs.Homes.{users as unit_users, uses}
+use Rattle.dwz_moving.specs.Plan.{PartialUnit, distinct, import_of, imports as unit_imports, local_partials, partial_with as unit_partial_with, partials as unit_partials}
+use Rattle.dwz_moving.specs.Plan.{partials_at as unit_partials_at, representatives as unit_representatives, stands_for, users_of}
+use Rattle.dwz_moving.proofs.PlanLemmas.{distinct_in, home_true}
 use Rattle.dwz_plan.specs.declared.plan.Partial.{Partial}
-use Rattle.dwz_plan.specs.declared.plan.Scope.{Scope}
-use Rattle.dwz_plan.specs.declared.plan.Scope.TheVariants.{Together, Each}
+use Rattle.dwz_plan.specs.declared.plan.Sharing.{Sharing}
+use Rattle.dwz_plan.specs.declared.plan.Sharing.TheVariants.{Together, Each}
 use Rattle.dwz_plan.specs.Planned.{alike, file_of_home, home, imports_from, in_scope, number_in, partial_with, partials, partials_at, place, place_at, rep, representatives, units_of, users}
-use Rattle.dwz_plan.specs.Rows.{Given, Row, given}
-use Rattle.dwz_plan.specs.Shows.{InOneScope, IsLeast, IsPlace, Joins, PartAt, ShowsTops, import_row, shown_part}
-use Rattle.dwz_plan.proofs.DistinctLemmas.{from_distinct, get_in}
+use Rattle.dwz_plan.specs.Rows.{Given, TopFacts, given}
+use Rattle.dwz_plan.specs.Shows.{InOneScope, HaveLeast, IsPlace, Joins, PartAt, ShowsTops, import_row, shown_part}
+use Rattle.dwz_plan.proofs.DistinctLemmas.{get_in}
 use Rattle.dwz_plan.proofs.ListFacts.{filter_in, map_in, map_map}
 use Rattle.dwz_plan.proofs.MoverLemmas.{movers_of}
-use Rattle.dwz_plan.proofs.PartialLemmas.{part_among, same_home_is, tops_with}
+use Rattle.dwz_plan.proofs.PartialLemmas.{part_among, tops_with}
 use Rattle.dwz_plan.proofs.RowLemmas.{alike_from, alike_parts}
 use Rattle.dwz_plan.proofs.StepLemmas.{part_of}
 use Rattle.dwz_plan.proofs.ShownLemmas.{SameRow, SameRows, filter_shown, map_shown, numbers_shown, rows_shown, tops_counted}
-use Rattle.dwz_seen.proofs.Members.{in_cases, in_filter_from, in_map_from}
+use Rattle.dwz_seen.proofs.Members.{in_filter_from, in_map_from}
 
 -- ---- the test decides as the rows do
 
-scoped_is : (scope : Scope) (a b : Row) → in_scope scope a b ≡ true → InOneScope scope a b
+scoped_is : (scope : Sharing) (a b : TopFacts) → in_scope scope a b ≡ true → InOneScope scope a b
 scoped_is Together a b e = tt
 scoped_is Each a b e = eqb-true a.file b.file e
 
-scoped_from : (scope : Scope) (a b : Row) → InOneScope scope a b → in_scope scope a b ≡ true
+scoped_from : (scope : Sharing) (a b : TopFacts) → InOneScope scope a b → in_scope scope a b ≡ true
 scoped_from Together a b e = refl
 scoped_from Each a b e = eq-eqb a.file b.file e
 
-same_test : (x y : Bool) → (x ≡ true → y ≡ true) → (y ≡ true → x ≡ true) → x ≡ y
-same_test true y f g = sym (f refl)
-same_test false true f g = g refl
-same_test false false f g = refl
-
-agrees : (scope : Scope) (test : Test) (a b : Row) → (test a.number b.number ≡ true) ↔ Joins scope a b → test a.number b.number ≡ alike scope a b
+agrees : (scope : Sharing) (test : Test) (a b : TopFacts) → (test a.number b.number ≡ true) ↔ Joins scope a b → test a.number b.number ≡ alike scope a b
 agrees scope test a b decides =
     same_test (test a.number b.number) (alike scope a b)
     (λ e. (let j = decides.0 e in alike_from scope a b record { first = j.first; second = j.second; scoped = scoped_from scope a b j.scoped; least = j.least }))
@@ -68,19 +68,19 @@ file_is [] i = refl
 file_is (f ∷ units) zero = refl
 file_is (f ∷ units) (suc i) = file_is units i
 
-module _ (units : List (FileUnit Spot)) (test : Test) (scope : Scope) (tops : Tops) (least : List ℕ) (shows : ShowsTops units tops) (decides : IsLeast scope tops least test) where
+module _ (units : List (FileUnit Spot)) (test : Test) (scope : Sharing) (tops : Tops) (least : List ℕ) (shows : ShowsTops units tops) (decides : HaveLeast scope tops least test) where
   abbrev pub g : Given
   g = given scope tops least
 
   pub same : SameRows units g.rows (tops_of units)
   same = rows_shown units tops.files_of_units 0 tops.rows least (tops_of units) decides.len shows.rows (tops_counted 0 0 units)
 
-  agree : (a b : Row) → In a g.rows → In b g.rows → test a.number b.number ≡ alike scope a b
+  agree : (a b : TopFacts) → In a g.rows → In b g.rows → test a.number b.number ≡ alike scope a b
   agree a b is there = agrees scope test a b (decides.decides a b is there)
 
   -- ---- users, representatives, homes
 
-  uses_is : (a : Row) (unit : ℕ) (rows : List Row) (these : List Top) → SameRows units rows these → ((b : Row) → In b rows → test a.number b.number ≡ alike scope a b)
+  uses_is : (a : TopFacts) (unit : ℕ) (rows : List TopFacts) (these : List Top) → SameRows units rows these → ((b : TopFacts) → In b rows → test a.number b.number ≡ alike scope a b)
       → list_any (λ (t : Top). t.unit == unit && test a.number t.number) these ≡ list_any (λ b. b.unit == unit && alike scope a b) rows
   uses_is a unit [] [] h e = refl
   uses_is a unit [] (t ∷ these) h e = absurd h
@@ -91,33 +91,35 @@ module _ (units : List (FileUnit Spot)) (test : Test) (scope : Scope) (tops : To
   units_are : numbers_from 0 units ≡ units_of g
   units_are = numbers_are 0 units ∙ ap (range_with_len 0) (sym (length-map units (λ (f : FileUnit Spot). f.file)) ∙ ap (λ (ns : List ℕ). length ns) (sym shows.files_of_units))
 
-  pub users_is : (a : Row) → In a g.rows → unit_users test units a.number ≡ users g a
+  pub users_is : (a : TopFacts) → In a g.rows → unit_users test units a.number ≡ users g a
   unfolding unit_users users
   users_is a is =
       ap (filter (uses test (tops_of units) a.number)) units_are
-      ∙ filter_in (uses test (tops_of units) a.number) (λ unit. list_any (λ b. b.unit == unit && alike scope a b) g.rows) (units_of g) (λ unit there. uses_is a unit g.rows (tops_of units) same (λ b is'. agree a b is is'))
+      ∙ filter_in (uses test (tops_of units) a.number) (λ unit. list_any (λ b. b.unit == unit && alike scope a b) g.rows) (units_of g)
+      (λ unit there. uses_is a unit g.rows (tops_of units) same (λ b is'. agree a b is is'))
 
-  pub home_is : (a : Row) → In a g.rows → unit_home test units a.number ≡ home g a
+  pub home_is : (a : TopFacts) → In a g.rows → unit_home test units a.number ≡ home g a
   unfolding unit_home
   home_is a is =
       ap (λ (us : List ℕ). home_in (map (file_of units) us)) (users_is a is)
       ∙ ap home_in (map_in (file_of units) (λ u. get_or tops.files_of_units u 0) (users g a) (λ u there. file_is units u ∙ ap (λ (fs : List ℕ). get_or fs u 0) (sym shows.files_of_units)))
 
-  first_is : (a : Row) (rows : List Row) (these : List Top) → SameRows units rows these → ((b : Row) → In b rows → test a.number b.number ≡ alike scope a b)
-      → first_alike test a.number these ≡ option_map_or (λ (b : Row). b.number) (find (alike scope a) rows) a.number
+  first_is : (a : TopFacts) (rows : List TopFacts) (these : List Top) → SameRows units rows these → ((b : TopFacts) → In b rows → test a.number b.number ≡ alike scope a b)
+      → first_alike test a.number these ≡ option_map_or (λ (b : TopFacts). b.number) (find (alike scope a) rows) a.number
   unfolding first_alike
   first_is a [] [] h e = refl
   first_is a [] (t ∷ these) h e = absurd h
   first_is a (b ∷ rows) [] h e = absurd h
   first_is a (b ∷ rows) (t ∷ these) h e =
-      ap (λ x. elim x as (λ _. ℕ) [ true ↦ t.number | false ↦ first_alike test a.number these ]) (ap (test a.number) (sym h.0.number) ∙ e b (inl refl)) ∙ by (alike scope a b) (first_is a rows these h.1 (λ c is. e c (inr is)))
+      ap (λ x. elim x as (λ _. ℕ) [ true ↦ t.number | false ↦ first_alike test a.number these ]) (ap (test a.number) (sym h.0.number) ∙ e b (inl refl))
+      ∙ by (alike scope a b) (first_is a rows these h.1 (λ c is. e c (inr is)))
     where
-      by : (x : Bool) → first_alike test a.number these ≡ option_map_or (λ (c : Row). c.number) (find (alike scope a) rows) a.number
-          → (elim x as (λ _. ℕ) [ true ↦ t.number | false ↦ first_alike test a.number these ]) ≡ option_map_or (λ (c : Row). c.number) (cond x (Some b) (find (alike scope a) rows)) a.number
+      by : (x : Bool) → first_alike test a.number these ≡ option_map_or (λ (c : TopFacts). c.number) (find (alike scope a) rows) a.number
+          → (elim x as (λ _. ℕ) [ true ↦ t.number | false ↦ first_alike test a.number these ]) ≡ option_map_or (λ (c : TopFacts). c.number) (cond x (Some b) (find (alike scope a) rows)) a.number
       by true more = sym h.0.number
       by false more = more
 
-  pub rep_is : (a : Row) → In a g.rows → unit_rep test units a.number ≡ rep g a
+  pub rep_is : (a : TopFacts) → In a g.rows → unit_rep test units a.number ≡ rep g a
   rep_is a is = first_is a g.rows (tops_of units) same (λ b there. agree a b is there)
 
   -- ---- partial units
@@ -128,33 +130,42 @@ module _ (units : List (FileUnit Spot)) (test : Test) (scope : Scope) (tops : To
       filter_shown units (λ a. same_home (home g a) h && rep g a == a.number) (stands_for (all_rule test) units h) g.rows (tops_of units) same
       (λ a t is s. (λ i. same_home ((sym (home_is a is) ∙ ap (unit_home test units) s.number) i) h && (sym (rep_is a is) ∙ ap (unit_rep test units) s.number) i == s.number i))
 
-  reps_in : (h : Home) (a : Row) → In a (representatives g h) → In a g.rows
+  reps_in : (h : Home) (a : TopFacts) → In a (representatives g h) → In a g.rows
   unfolding representatives
   reps_in h a is = (in_filter_from (λ b. same_home (home g b) h && rep g b == b.number) a g.rows is).0
 
-  users_shown : (a : Row) (t : Top) → In a g.rows → SameRow units a t → users g a ≡ users_of test units t
+  users_shown : (a : TopFacts) (t : Top) → In a g.rows → SameRow units a t → users g a ≡ users_of test units t
   users_shown a t is s = sym (users_is a is) ∙ ap (unit_users test units) s.number
 
   partial_is : (h : Home) (us : List ℕ) → shown_part tops.files (unit_partial_with (all_rule test) units h us) ≡ partial_with g h us
   partial_is h us =
-      let these = filter_shown units (λ a. same_numbers (users g a) us) (λ t. same_numbers (users_of test units t) us) (representatives g h) (unit_representatives (all_rule test) units h) (reps_same h) (λ a t is s. ap (λ (vs : List ℕ). same_numbers vs us) (users_shown a t (reps_in h a is) s)) in
-      (λ i. record { file = file_of_home tops.files h; users = us; tops = numbers_shown units (filter (λ a. same_numbers (users g a) us) (representatives g h)) (filter (λ t. same_numbers (users_of test units t) us) (unit_representatives (all_rule test) units h)) these i })
+      let these = filter_shown units (λ a. same_numbers (users g a) us) (λ t. same_numbers (users_of test units t) us) (representatives g h) (unit_representatives (all_rule test) units h)
+      (reps_same h) (λ a t is s. ap (λ (vs : List ℕ). same_numbers vs us) (users_shown a t (reps_in h a is) s)) in
+      (λ i. record {
+        file = file_of_home tops.files h;
+        users = us;
+        tops = numbers_shown units (filter (λ a. same_numbers (users g a) us) (representatives g h))
+            (filter (λ t. same_numbers (users_of test units t) us) (unit_representatives (all_rule test) units h)) these i;
+      })
 
   partials_at_is : (h : Home) → map (shown_part tops.files) (unit_partials_at (all_rule test) units h) ≡ partials_at g h
   unfolding unit_partials_at partials_at
   partials_at_is h =
       map_map (shown_part tops.files) (unit_partial_with (all_rule test) units h) (distinct (map (users_of test units) (unit_representatives (all_rule test) units h)))
       ∙ ((λ i. map (λ us. partial_is h us i) (distinct (map (users_of test units) (unit_representatives (all_rule test) units h))))
-      ∙ ap (λ (ls : List (List ℕ)). map (partial_with g h) (distinct ls)) (map_shown units (users g) (users_of test units) (representatives g h) (unit_representatives (all_rule test) units h) (reps_same h) (λ a t is s. users_shown a t (reps_in h a is) s)))
+      ∙ ap (λ (ls : List (List ℕ)). map (partial_with g h) (distinct ls))
+      (map_shown units (users g) (users_of test units) (representatives g h) (unit_representatives (all_rule test) units h) (reps_same h) (λ a t is s. users_shown a t (reps_in h a is) s)))
 
   local_is : (files : List ℕ) → map (shown_part tops.files) (local_partials (all_rule test) units files) ≡ flat_map (λ file. partials_at g (Local file)) files
   unfolding local_partials
   local_is [] = refl
-  local_is (f ∷ files) = map-append (shown_part tops.files) (unit_partials_at (all_rule test) units (Local f)) (local_partials (all_rule test) units files) ∙ (λ i. partials_at_is (Local f) i ++ local_is files i)
+  local_is (f ∷ files) = map-append (shown_part tops.files) (unit_partials_at (all_rule test) units (Local f)) (local_partials (all_rule test) units files)
+      ∙ (λ i. partials_at_is (Local f) i ++ local_is files i)
 
   pub partials_is : map (shown_part tops.files) (unit_partials (all_rule test) units (range_with_len 0 tops.files)) ≡ partials g
   unfolding unit_partials partials
-  partials_is = map-append (shown_part tops.files) (unit_partials_at (all_rule test) units Common) (local_partials (all_rule test) units (range_with_len 0 tops.files)) ∙ (λ i. partials_at_is Common i ++ local_is (range_with_len 0 tops.files) i)
+  partials_is = map-append (shown_part tops.files) (unit_partials_at (all_rule test) units Common) (local_partials (all_rule test) units (range_with_len 0 tops.files))
+      ∙ (λ i. partials_at_is Common i ++ local_is (range_with_len 0 tops.files) i)
 
   -- ---- what is imported
 
@@ -175,9 +186,10 @@ module _ (units : List (FileUnit Spot)) (test : Test) (scope : Scope) (tops : To
   unfolding unit_partials_at unit_representatives unit_home unit_users ruled_home
   unit_homed h part is =
       let p = in_map_from (unit_partial_with (all_rule test) units h) part (distinct (map (users_of test units) (unit_representatives (all_rule test) units h))) is in
-      let u = in_map_from (users_of test units) p.source (unit_representatives (all_rule test) units h) (from_distinct p.source (map (users_of test units) (unit_representatives (all_rule test) units h)) p.there) in
+      let u = in_map_from (users_of test units) p.source (unit_representatives (all_rule test) units h)
+      (distinct_in p.source (map (users_of test units) (unit_representatives (all_rule test) units h)) p.there) in
       let f = in_filter_from (stands_for (all_rule test) units h) u.source (tops_of units) u.there in
-      let e = same_home_is (unit_home test units u.source.number) h (and_parts (same_home (unit_home test units u.source.number) h) (unit_rep test units u.source.number == u.source.number) f.1).0 in
+      let e = home_true (unit_home test units u.source.number) h (and_parts (same_home (unit_home test units u.source.number) h) (unit_rep test units u.source.number == u.source.number) f.1).0 in
       ap (λ (q : PartialUnit). q.home) (sym p.is) ∙ (sym e ∙ ap (λ (us : List ℕ). home_in (map (file_of units) us)) (u.is ∙ ap (λ (q : PartialUnit). q.users) p.is))
 
   local_homed : (files : List ℕ) (part : PartialUnit) → In part (local_partials (all_rule test) units files) → part.home ≡ home_in (map (file_of units) part.users)
@@ -202,10 +214,10 @@ module _ (units : List (FileUnit Spot)) (test : Test) (scope : Scope) (tops : To
   no_part : PartialUnit
   no_part = record { home = Stay; users = []; tops = [] }
 
-  abbrev pub number_for : Row → ℕ
+  abbrev pub number_for : TopFacts → ℕ
   number_for a = number_in (partials g) (users g a)
 
-  part_at : (h : Home) (a : Row) → In a g.rows → home g a ≡ h → (h ≡ Stay → ⊥) → PartAt parts (number_for a) h (unit_users test units a.number) (unit_rep test units a.number)
+  part_at : (h : Home) (a : TopFacts) → In a g.rows → home g a ≡ h → (h ≡ Stay → ⊥) → PartAt parts (number_for a) h (unit_users test units a.number) (unit_rep test units a.number)
   unfolding unit_home
   part_at h a is e other =
       let o = part_of scope tops least shows.files a is (λ s. other (sym e ∙ s)) in
@@ -213,17 +225,19 @@ module _ (units : List (FileUnit Spot)) (test : Test) (scope : Scope) (tops : To
       let long : length (partials g) ≡ length parts = ap (λ (ps : List Partial). length ps) (sym partials_is) ∙ length-map parts (shown_part tops.files) in
       let low : number_for a < length parts = omega (arith, o.low, long) in
       let shown : shown_part tops.files part ≡ part_among g (movers_of g) (users g a) =
-      sym (get_or-map (shown_part tops.files) parts (number_for a) no_part (shown_part tops.files no_part) low) ∙ (ap (λ (ps : List Partial). get_or ps (number_for a) (shown_part tops.files no_part)) partials_is ∙ o.is (shown_part tops.files no_part)) in
+      sym (get_or-map (shown_part tops.files) parts (number_for a) no_part (shown_part tops.files no_part) low)
+      ∙ (ap (λ (ps : List Partial). get_or ps (number_for a) (shown_part tops.files no_part)) partials_is ∙ o.is (shown_part tops.files no_part)) in
       let users_are : part.users ≡ unit_users test units a.number = ap (λ (q : Partial). q.users) shown ∙ sym (users_is a is) in
       record {
         part = part;
         there = slice_get-get_or parts (number_for a) no_part low;
         home = all_homed (range_with_len 0 tops.files) part (get_in parts (number_for a) no_part low) ∙ (ap (λ (us : List ℕ). home_in (map (file_of units) us)) users_are ∙ (home_is a is ∙ e));
         users = users_are;
-        holds = subst (λ (ns : List ℕ). In (unit_rep test units a.number) ns) (sym (ap (λ (q : Partial). q.tops) shown)) (subst (λ n. In n (tops_with g (movers_of g) (users g a))) (sym (rep_is a is)) o.holds);
+        holds = subst (λ (ns : List ℕ). In (unit_rep test units a.number) ns) (sym (ap (λ (q : Partial). q.tops) shown))
+            (subst (λ n. In n (tops_with g (movers_of g) (users g a))) (sym (rep_is a is)) o.holds);
       }
 
-  pub place_is : (a : Row) → In a g.rows → IsPlace (all_rule test) units parts a.number (place g a)
+  pub place_is : (a : TopFacts) → In a g.rows → IsPlace (all_rule test) units parts a.number (place g a)
   unfolding place ruled_home
   place_is a is = by (home g a) refl
     where

@@ -4,12 +4,13 @@ use Rattle.std.specs.List.{range_with_len, zip}
 use Rattle.std.proofs.lemmas.Bool.{both_ways, cases_eq, ne_eqb, not-true}
 use Rattle.std.proofs.lemmas.List.Elements.{filter-append}
 use Rattle.dwz_docs.specs.Lists.{In}
+use Rattle.dwz_docs.proofs.ListFacts.{any_in}
 use Rattle.dwz_moving.specs.Plan.{distinct}
+use Rattle.dwz_moving.proofs.PlanLemmas.{distinct_in}
 use Rattle.dwz_alike.specs.Spots.{same_numbers}
 use Rattle.dwz_plan.specs.Steps.{number_of}
-use Rattle.dwz_plan.proofs.ListFacts.{any_yes}
 use Rattle.dwz_plan.proofs.ListingLemmas.{has_list}
-use Rattle.dwz_seen.proofs.Members.{in_filter, in_filter_from}
+use Rattle.dwz_seen.proofs.Members.{in_filter_from}
 use Rattle.dwz_alike.proofs.SpotLemmas.{numbers_same, numbers_true}
 
 -- no two are the same
@@ -28,23 +29,10 @@ apart_filter p (us ∷ lists) h = by (p us) (apart_filter p lists h.1)
 pub distinct_apart : (lists : List (List ℕ)) → Apart (distinct lists)
 unfolding distinct
 distinct_apart [] = tt
-distinct_apart (us ∷ lists) = (λ vs is. not-true (same_numbers us vs) (in_filter_from (λ vs. not (same_numbers us vs)) vs (distinct lists) is).1, apart_filter (λ vs. not (same_numbers us vs)) (distinct lists) (distinct_apart lists))
-
-pub in_distinct : (us : List ℕ) (lists : List (List ℕ)) → In us lists → In us (distinct lists)
-unfolding distinct
-in_distinct us [] h = absurd h
-in_distinct us (vs ∷ lists) (inl e) = inl e
-in_distinct us (vs ∷ lists) (inr r) = by (same_numbers vs us) refl (in_distinct us lists r)
-  where
-    by : (t : Bool) → same_numbers vs us ≡ t → In us (distinct lists) → In us (vs ∷ filter (λ ws. not (same_numbers vs ws)) (distinct lists))
-    by true e more = inl (numbers_true vs us e)
-    by false e more = inr (in_filter (λ ws. not (same_numbers vs ws)) us (distinct lists) more (ap not e))
-
-pub from_distinct : (us : List ℕ) (lists : List (List ℕ)) → In us (distinct lists) → In us lists
-unfolding distinct
-from_distinct us [] h = absurd h
-from_distinct us (vs ∷ lists) (inl e) = inl e
-from_distinct us (vs ∷ lists) (inr r) = inr (from_distinct us lists (in_filter_from (λ ws. not (same_numbers vs ws)) us (distinct lists) r).0)
+distinct_apart (us ∷ lists) = (
+  λ vs is. not-true (same_numbers us vs) (in_filter_from (λ vs. not (same_numbers us vs)) vs (distinct lists) is).1,
+  apart_filter (λ vs. not (same_numbers us vs)) (distinct lists) (distinct_apart lists),
+)
 
 filter_all : {X : Type 0} (p : X → Bool) (xs : List X) → ((x : X) → In x xs → p x ≡ true) → filter p xs ≡ xs
 filter_all p [] h = refl
@@ -56,11 +44,12 @@ distinct_join [] ys h = refl
 distinct_join (us ∷ xs) ys h =
     let other : List ℕ → Bool = λ vs. not (same_numbers us vs) in
     let more = distinct_join xs ys (λ a b p q. h a b (inr p) q) in
-    let stay : filter other (distinct ys) ≡ distinct ys = filter_all other (distinct ys) (λ vs is. ap not (h us vs (inl refl) (from_distinct vs ys is))) in
-    ap (λ (ls : List (List ℕ)). us ∷ filter other ls) more ∙ ap (λ (ls : List (List ℕ)). us ∷ ls) (filter-append other (distinct xs) (distinct ys) ∙ ap (λ (ls : List (List ℕ)). filter other (distinct xs) ++ ls) stay)
+    let stay : filter other (distinct ys) ≡ distinct ys = filter_all other (distinct ys) (λ vs is. ap not (h us vs (inl refl) (distinct_in vs ys is))) in
+    ap (λ (ls : List (List ℕ)). us ∷ filter other ls) more ∙ ap (λ (ls : List (List ℕ)). us ∷ ls)
+    (filter-append other (distinct xs) (distinct ys) ∙ ap (λ (ls : List (List ℕ)). filter other (distinct xs) ++ ls) stay)
 
 pub has_from : (us : List ℕ) (lists : List (List ℕ)) → In us lists → has_list us lists ≡ true
-has_from us lists is = any_yes (same_numbers us) lists us is (numbers_same us)
+has_from us lists is = any_in (same_numbers us) lists us is (numbers_same us)
 
 pub get_in : {X : Type 0} (xs : List X) (i : ℕ) (d : X) → i < length xs → In (get_or xs i d) xs
 get_in [] i d l = absurd (omega arith)
@@ -91,8 +80,10 @@ number_is (vs ∷ lists) us (suc k) apart is l = by (same_numbers us vs) refl is
     rest e (inl s) = absurd (both_ways (same_numbers us vs) e (ap (same_numbers us) s ∙ numbers_same us))
     rest e (inr r) = r
 
-    by : (t : Bool) → same_numbers us vs ≡ t → In us (vs ∷ lists) → (In us lists → number_of lists us == k ≡ same_numbers us (get_or lists k [])) → cond (not t) (1 + number_of lists us) 0 == suc k ≡ same_numbers us (get_or lists k [])
-    by true e is more = ne_eqb 0 (suc k) (λ q. omega (arith, q)) ∙ sym (ap (λ (ws : List ℕ). same_numbers ws (get_or lists k [])) (numbers_true us vs e) ∙ apart.0 (get_or lists k []) (get_in lists k [] there))
+    by : (t : Bool) → same_numbers us vs ≡ t → In us (vs ∷ lists) → (In us lists → number_of lists us == k ≡ same_numbers us (get_or lists k []))
+        → cond (not t) (1 + number_of lists us) 0 == suc k ≡ same_numbers us (get_or lists k [])
+    by true e is more = ne_eqb 0 (suc k) (λ q. omega (arith, q)) ∙ sym
+        (ap (λ (ws : List ℕ). same_numbers ws (get_or lists k [])) (numbers_true us vs e) ∙ apart.0 (get_or lists k []) (get_in lists k [] there))
     by false e is more = step (number_of lists us) ∙ more (rest e is)
 
 -- ---- a list beside numbers

@@ -1,14 +1,16 @@
 -- The plan of rows that is left by gain is the plan of units by gain.
-use Rattle.std.proofs.Common.{◌≡◌, ◌↔◌, ℕ, Option, Some, None, zero, suc, ◌+◌, ◌<◌, ◌==◌, ◌&&◌, not, cond, Bool, true, false, List, [], ◌∷◌, ◌++◌, length, map, filter, get_or, refl, sym, ap, subst, ◌∙◌, arith}
+use Rattle.std.proofs.Common.{◌≡◌, ◌↔◌, ℕ, Option, Some, None, zero, suc, ◌+◌, ◌<◌, ◌==◌, ◌&&◌, not, cond, Bool, true, false, List, [], ◌∷◌, ◌++◌, length, map, filter, get_or, refl, sym, ap, subst}
+use Rattle.std.proofs.Common.{◌∙◌, arith}
 use Rattle.std.specs.Prelude.{slice_get}
 use Rattle.std.specs.List.{range_with_len}
 use Rattle.std.proofs.lemmas.Bool.{false≢true}
 use Rattle.std.proofs.lemmas.List.{get_or-map, length-map, map-append}
 use Rattle.std.proofs.lemmas.List.FromFn.{get_or-map-range_with_len}
-use Rattle.dwz_docs.specs.Lists.{In}
+use Rattle.dwz_docs.specs.Lists.{Each, In}
+use Rattle.dwz_docs.proofs.CaseFacts.{same_bool}
 use Rattle.dwz_groups.specs.declared.tops.TopRow.{TopRow}
 use Rattle.dwz_groups.specs.declared.tops.Tops.{Tops}
-use Rattle.dwz_seen.specs.Lists.{Each, Rising}
+use Rattle.dwz_seen.specs.Lists.{Rising}
 use Rattle.dwz_alike.specs.Deciding.{Test}
 use Rattle.dwz_alike.specs.Spots.{FileUnit, Spot, Top, tops_of}
 use Rattle.dwz_alike.proofs.TopNumbers.{number_below, tops_numbers}
@@ -27,11 +29,11 @@ use Rattle.dwz_spread.specs.Spreading.{IsMarked, IsSpread}
 use Rattle.dwz_plan.specs.declared.plan.Home.{Home as Place}
 use Rattle.dwz_plan.specs.declared.plan.Home.TheVariants.{Common as InCommon, Local as InFile, Stay as InUnit}
 use Rattle.dwz_plan.specs.declared.plan.Partial.{Partial}
-use Rattle.dwz_plan.specs.declared.plan.Scope.{Scope}
+use Rattle.dwz_plan.specs.declared.plan.Sharing.{Sharing}
 use Rattle.dwz_plan.specs.Gained.{IsGaining, among, before, gained, group_of, groups_of, home_after, kept_after, mark_at, part_seed, place_after, stand_after, staying_after}
 use Rattle.dwz_plan.specs.Planned.{Planned, imports_from, partials, place, rep}
-use Rattle.dwz_plan.specs.Rows.{Given, Row, given, rows_from}
-use Rattle.dwz_plan.specs.Shows.{IsLeast, IsPlace, PartAt, ShowsPlan, ShowsTops, import_row, may_move, shown_part}
+use Rattle.dwz_plan.specs.Rows.{Given, TopFacts, given, rows_from}
+use Rattle.dwz_plan.specs.Shows.{HaveLeast, IsPlace, PartAt, ShowsPlan, ShowsTops, import_row, may_move, shown_part}
 use Rattle.dwz_plan.specs.Steps.{is_in_unit}
 use Rattle.dwz_plan.proofs.BridgeLemmas.{imports_of, partials_is, place_is, rep_is, same}
 use Rattle.dwz_plan.proofs.ListFacts.{map_map}
@@ -48,17 +50,13 @@ among_map f (b ∷ marks) [] = refl
 among_map {X} {Y} f (true ∷ marks) (x ∷ xs) = ap (λ (ys : List Y). f x ∷ ys) (among_map f marks xs)
 among_map f (false ∷ marks) (x ∷ xs) = among_map f marks xs
 
-same_bool_of : (b c : Bool) → (b ≡ true) ↔ (c ≡ true) → b ≡ c
-same_bool_of true c h = sym (h.0 refl)
-same_bool_of false true h = h.1 refl
-same_bool_of false false h = refl
-
-among_filter : {X : Type 0} (p : X → Bool) (marks : List Bool) (xs : List X) → length marks ≡ length xs → ((i : ℕ) (x : X) → slice_get xs i ≡ Some x → (get_or marks i false ≡ true) ↔ (p x ≡ true)) → among marks xs ≡ filter p xs
+among_filter : {X : Type 0} (p : X → Bool) (marks : List Bool) (xs : List X) → length marks ≡ length xs → ((i : ℕ) (x : X) → slice_get xs i ≡ Some x → (get_or marks i false ≡ true) ↔ (p x ≡ true))
+    → among marks xs ≡ filter p xs
 unfolding among
 among_filter p [] [] l h = refl
 among_filter p [] (x ∷ xs) l h = absurd (omega arith)
 among_filter p (b ∷ marks) [] l h = refl
-among_filter {X} p (b ∷ marks) (x ∷ xs) l h = by b (p x) (same_bool_of b (p x) (h 0 x refl)) (among_filter p marks xs (omega arith) (λ i y e. h (suc i) y e))
+among_filter {X} p (b ∷ marks) (x ∷ xs) l h = by b (p x) (same_bool b (p x) (h 0 x refl)) (among_filter p marks xs (omega arith) (λ i y e. h (suc i) y e))
   where
     by : (b c : Bool) → b ≡ c → among marks xs ≡ filter p xs → among (b ∷ marks) (x ∷ xs) ≡ cond c (x ∷ filter p xs) (filter p xs)
     by true true e more = ap (λ (ys : List X). x ∷ ys) more
@@ -72,8 +70,10 @@ among_get [] xs i x e m = absurd (false≢true m)
 among_get (b ∷ marks) [] i x e m = absurd cc
 among_get (true ∷ marks) (y ∷ xs) zero x e m = e
 among_get (false ∷ marks) (y ∷ xs) zero x e m = absurd (false≢true m)
-among_get (true ∷ marks) (y ∷ xs) (suc i) x e m = let one : suc (before marks i) ≡ 1 + before marks i = omega arith in subst (λ (k : ℕ). slice_get (y ∷ among marks xs) k ≡ Some x) one (among_get marks xs i x e m)
-among_get (false ∷ marks) (y ∷ xs) (suc i) x e m = let none : before marks i ≡ 0 + before marks i = omega arith in subst (λ (k : ℕ). slice_get (among marks xs) k ≡ Some x) none (among_get marks xs i x e m)
+among_get (true ∷ marks) (y ∷ xs) (suc i) x e m = let one : suc (before marks i) ≡ 1 + before marks i = omega arith in subst (λ (k : ℕ). slice_get (y ∷ among marks xs) k ≡ Some x) one
+    (among_get marks xs i x e m)
+among_get (false ∷ marks) (y ∷ xs) (suc i) x e m = let none : before marks i ≡ 0 + before marks i = omega arith in subst (λ (k : ℕ). slice_get (among marks xs) k ≡ Some x) none
+    (among_get marks xs i x e m)
 
 each_below : (m s n : ℕ) → m < s → Each (λ k. m < k) (range_with_len s n)
 each_below m s zero l = tt
@@ -83,17 +83,18 @@ range_rises : (s n : ℕ) → Rising (range_with_len s n)
 range_rises s zero = tt
 range_rises s (suc n) = (each_below s (s + 1) n (omega arith), range_rises (s + 1) n)
 
-rows_count : (units : List (FileUnit Spot)) (rows : List Row) (tops : List Top) → SameRows units rows tops → length rows ≡ length tops
+rows_count : (units : List (FileUnit Spot)) (rows : List TopFacts) (tops : List Top) → SameRows units rows tops → length rows ≡ length tops
 rows_count units [] [] h = refl
 rows_count units [] (t ∷ tops) h = absurd h
 rows_count units (a ∷ rows) [] h = absurd h
 rows_count units (a ∷ rows) (t ∷ tops) h = ap suc (rows_count units rows tops h.1)
 
-no_row : Row
+no_row : TopFacts
 no_row = record { number = 0; unit = 0; file = 0; movable = false; pinned = false; least = 0 }
 
 -- the row of a number says of moving what the row of the top says
-row_may : (files : List ℕ) (s : ℕ) (rows : List TopRow) (least : List ℕ) (n : ℕ) → length least ≡ length rows → n < length rows → (get_or (rows_from files s rows least) n no_row).movable ≡ may_move rows n
+row_may : (files : List ℕ) (s : ℕ) (rows : List TopRow) (least : List ℕ) (n : ℕ) → length least ≡ length rows → n < length rows → (get_or (rows_from files s rows least) n no_row).movable
+    ≡ may_move rows n
 unfolding rows_from
 row_may files s [] least n e l = absurd (omega arith)
 row_may files s (r ∷ rows) [] n e l = absurd (omega (arith, e))
@@ -106,7 +107,8 @@ placed_moves rule units parts n (InCommon p) i = ap is_home i.0
 placed_moves rule units parts n (InFile p) i = ap is_home i.1
 placed_moves rule units parts n InUnit i = ap is_home i
 
-module _ (units : List (FileUnit Spot)) (test : Test) (scope : Scope) (tops : Tops) (least : List ℕ) (shows : ShowsTops units tops) (decides : IsLeast scope tops least test) (marks : List Bool) (gaining : IsGaining (given scope tops least) marks) where
+module _ (units : List (FileUnit Spot)) (test : Test) (scope : Sharing) (tops : Tops) (least : List ℕ) (shows : ShowsTops units tops) (decides : HaveLeast scope tops least test) (marks : List Bool)
+    (gaining : IsGaining (given scope tops least) marks) where
   abbrev g : Given
   g = given scope tops least
 
@@ -150,7 +152,7 @@ module _ (units : List (FileUnit Spot)) (test : Test) (scope : Scope) (tops : To
         let low : t.number < 0 + length (tops_of units) = number_below 0 (tops_of units) t (tops_numbers units) there in
         let l : t.number < length g.rows = omega (arith, low, many) in
         let r = row_of_number scope tops least t.number no_row l in
-        let a : Row = get_or g.rows t.number no_row in
+        let a : TopFacts = get_or g.rows t.number no_row in
         subst (λ (o : Option ℕ). IsGroup test units parts o t.number) (sym (get_or-map (λ b. group_of (place g b)) g.rows t.number no_row None l))
         (subst (λ n. IsGroup test units parts (group_of (place g a)) n) r.1 (group_is a.number (place g a) (place_is units test scope tops least shows decides a r.0))));
   }
@@ -199,7 +201,7 @@ module _ (units : List (FileUnit Spot)) (test : Test) (scope : Scope) (tops : To
 
   mark_is : (n i : ℕ) (part : PartialUnit) → slice_get parts i ≡ Some part → candidate test units n ≡ part.home → unit_users test units n ≡ part.users → gains_test test units n ≡ mark_at marks i
   unfolding gains_test
-  mark_is n i part e h us = (λ j. gain_test test units (length (tops_of units)) (h j) (us j)) ∙ sym (same_bool_of (mark_at marks i) (part_gains test units part) (marked_is i part e))
+  mark_is n i part e h us = (λ j. gain_test test units (length (tops_of units)) (h j) (us j)) ∙ sym (same_bool (mark_at marks i) (part_gains test units part) (marked_is i part e))
 
   home_by : (n : ℕ) (b : Bool) → gains_test test units n ≡ b → ruled_home gain units n ≡ cond b (candidate test units n) Stay
   unfolding ruled_home
@@ -210,9 +212,17 @@ module _ (units : List (FileUnit Spot)) (test : Test) (scope : Scope) (tops : To
   still n true e = e
   still n false e = refl
 
-  part_after : (n p : ℕ) (h : Home) → PartAt parts p h (unit_users test units n) (unit_rep test units n) → mark_at marks p ≡ true → PartAt after (before marks p) h (unit_users test units n) (unit_rep test units n)
+  part_after : (n p : ℕ) (h : Home) → PartAt parts p h (unit_users test units n) (unit_rep test units n) → mark_at marks p ≡ true
+      → PartAt after (before marks p) h (unit_users test units n) (unit_rep test units n)
   part_after n p h at m =
-      record { part = at.part; there = subst (λ (ps : List PartialUnit). slice_get ps (before marks p) ≡ Some at.part) after_is (among_get marks parts p at.part at.there m); home = at.home; users = at.users; holds = at.holds }
+      record {
+        part = at.part;
+        there = subst (λ (ps : List PartialUnit). slice_get ps (before marks p) ≡ Some at.part) after_is (among_get marks parts p at.part at.there m);
+        home = at.home;
+        users =
+            at.users;
+        holds = at.holds;
+      }
 
   place_gained : (n : ℕ) (h : Place) → IsPlace all units parts n h → IsPlace gain units after n (place_after marks h)
   unfolding place_after ruled_home
@@ -228,15 +238,15 @@ module _ (units : List (FileUnit Spot)) (test : Test) (scope : Scope) (tops : To
       by false m = home_by n false (mark_is n p i.2.part i.2.there (i.1 ∙ sym i.2.home) (sym i.2.users) ∙ m)
   place_gained n InUnit i = home_by n (gains_test test units n) refl ∙ still n (gains_test test units n) i
 
-  home_gained : (a : Row) → In a g.rows → IsPlace gain units after a.number (home_after marks g a)
+  home_gained : (a : TopFacts) → In a g.rows → IsPlace gain units after a.number (home_after marks g a)
   home_gained a is = place_gained a.number (place g a) (place_is units test scope tops least shows decides a is)
 
-  moves_gained : (a : Row) → In a g.rows → not (is_in_unit (home_after marks g a)) ≡ unit_moves gain units a.number
+  moves_gained : (a : TopFacts) → In a g.rows → not (is_in_unit (home_after marks g a)) ≡ unit_moves gain units a.number
   moves_gained a is = sym (placed_moves gain units after a.number (home_after marks g a) (home_gained a is))
 
   -- ---- what stands for what, what is kept
 
-  stand_gained : (a : Row) → In a g.rows → stand_after marks g a ≡ unit_stand_in gain units a.number
+  stand_gained : (a : TopFacts) → In a g.rows → stand_after marks g a ≡ unit_stand_in gain units a.number
   unfolding unit_stand_in
   stand_gained a is =
       by (is_in_unit (home_after marks g a)) ∙ (λ i. elim (moves_gained a is i) as (λ _. ℕ) [ true ↦ sym (rep_is units test scope tops least shows decides a is) i | false ↦ a.number ])
@@ -263,8 +273,9 @@ module _ (units : List (FileUnit Spot)) (test : Test) (scope : Scope) (tops : To
       let pinned = filter_shown units (λ a. a.pinned) (λ t. is_pinned units t.number) stay these (staying_same unit) (λ a t is s. s.pinned) in
       let others = filter_shown units (λ a. not a.pinned) (λ t. not (is_pinned units t.number)) stay these (staying_same unit) (λ a t is s. ap not s.pinned) in
       map-append (λ (t : Top). t.number) (filter (λ t. is_pinned units t.number) these) (filter (λ t. not (is_pinned units t.number)) these)
-      ∙ ((λ i. numbers_shown units (filter (λ a. a.pinned) stay) (filter (λ t. is_pinned units t.number) these) pinned i ++ numbers_shown units (filter (λ a. not a.pinned) stay) (filter (λ t. not (is_pinned units t.number)) these) others i)
-      ∙ sym (map-append (λ (a : Row). a.number) (filter (λ a. a.pinned) stay) (filter (λ a. not a.pinned) stay)))
+      ∙ ((λ i. numbers_shown units (filter (λ a. a.pinned) stay) (filter (λ t. is_pinned units t.number) these) pinned i ++ numbers_shown units (filter (λ a. not a.pinned) stay)
+      (filter (λ t. not (is_pinned units t.number)) these) others i)
+      ∙ sym (map-append (λ (a : TopFacts). a.number) (filter (λ a. a.pinned) stay) (filter (λ a. not a.pinned) stay)))
 
   -- ---- the plan
 
@@ -272,24 +283,27 @@ module _ (units : List (FileUnit Spot)) (test : Test) (scope : Scope) (tops : To
   unfolding gained
   gained_shows =
       let count : length tops.files_of_units ≡ length units = ap (λ (ns : List ℕ). length ns) shows.files_of_units ∙ length-map units (λ (f : FileUnit Spot). f.file) in
-      let at : (t : Top) → In t (tops_of units) → t.number < length g.rows = λ t there. (let low : t.number < 0 + length (tops_of units) = number_below 0 (tops_of units) t (tops_numbers units) there in omega (arith, low, many)) in
+      let at : (t : Top) → In t (tops_of units) → t.number < length g.rows =
+      λ t there. (let low : t.number < 0 + length (tops_of units) = number_below 0 (tops_of units) t (tops_numbers units) there in omega (arith, low, many)) in
       record {
         partials = partials_after;
         homes = λ t there. (
             let l = at t there in
             let r = row_of_number scope tops least t.number no_row l in
-            let a : Row = get_or g.rows t.number no_row in
-            subst (λ (h : Place). IsPlace gain units after t.number h) (sym (get_or-map (home_after marks g) g.rows t.number no_row InUnit l)) (subst (λ n. IsPlace gain units after n (home_after marks g a)) r.1 (home_gained a r.0)));
+            let a : TopFacts = get_or g.rows t.number no_row in
+            subst (λ (h : Place). IsPlace gain units after t.number h) (sym (get_or-map (home_after marks g) g.rows t.number no_row InUnit l))
+            (subst (λ n. IsPlace gain units after n (home_after marks g a)) r.1 (home_gained a r.0)));
         stand_ins = λ t there. (
             let l = at t there in
             let r = row_of_number scope tops least t.number no_row l in
-            let a : Row = get_or g.rows t.number no_row in
+            let a : TopFacts = get_or g.rows t.number no_row in
             get_or-map (stand_after marks g) g.rows t.number no_row 0 l ∙ (stand_gained a r.0 ∙ ap (unit_stand_in gain units) r.1));
         kept = λ unit l. get_or-map-range_with_len (kept_after marks g) 0 (length tops.files_of_units) unit unit [] (omega (arith, l, count)) (omega arith) ∙ sym (kept_gained unit);
         imports = λ unit l. (
             imports_of units test scope tops least shows decides unit 0 after
             ∙ ap (λ (ps : List Partial). import_row unit (imports_from unit 0 ps)) partials_after
-            ∙ ap (import_row unit) (sym (get_or-map-range_with_len (λ u. imports_from u 0 (among marks (partials g))) 0 (length tops.files_of_units) unit unit [] (omega (arith, l, count)) (omega arith))));
+            ∙ ap (import_row unit) (sym (get_or-map-range_with_len (λ u. imports_from u 0 (among marks (partials g))) 0 (length tops.files_of_units) unit unit [] (omega (arith, l, count))
+            (omega arith))));
       }
 
   pub plan_gained : (plan : Planned) → plan ≡ gained marks g → ShowsPlan gain units tops.files plan

@@ -7,16 +7,17 @@ use Rattle.dwz_moving.specs.Homes.{Common, Home, Local, Stay, same_home}
 use Rattle.dwz_moving.specs.Plan.{distinct}
 use Rattle.std.proofs.lemmas.List.{length-map, map-append}
 use Rattle.dwz_docs.specs.Lists.{In}
+use Rattle.dwz_docs.proofs.ListFacts.{in_cases}
 use Rattle.dwz_groups.specs.declared.tops.Tops.{Tops}
 use Rattle.dwz_gain.specs.Gaining.{AreNumbers}
 use Rattle.dwz_groups.specs.Groups.{grouped, values_at}
 use Rattle.dwz_plan.specs.declared.plan.Home.{Home as Place}
 use Rattle.dwz_plan.specs.declared.plan.Home.TheVariants.{Stay as InUnit}
 use Rattle.dwz_plan.specs.declared.plan.Partial.{Partial}
-use Rattle.dwz_plan.specs.declared.plan.Scope.{Scope}
+use Rattle.dwz_plan.specs.declared.plan.Sharing.{Sharing}
 use Rattle.dwz_plan.specs.Gained.{among, group_of, home_after, kept_after, stand_after, staying_after}
 use Rattle.dwz_plan.specs.Planned.{alike, home, imports_from, number_in, numbers, partial_with, partials, partials_at, place, place_at, rep, representatives, reps_of, units_of, users}
-use Rattle.dwz_plan.specs.Rows.{Given, Row, given, rows_from}
+use Rattle.dwz_plan.specs.Rows.{Given, TopFacts, given, rows_from}
 use Rattle.dwz_plan.specs.Steps.{is_in_unit, same_bool, stander, staying_pairs, turned}
 use Rattle.dwz_plan.proofs.KeptLemmas.{filter_twice, imports_values, is_staying, of_row, once_at, same_other, same_pinned, staying_values}
 use Rattle.dwz_plan.proofs.ListFacts.{all_from_in, filter_in, map_in, map_map}
@@ -24,7 +25,7 @@ use Rattle.dwz_plan.proofs.LedLemmas.{counted_below, numbers_counted}
 use Rattle.dwz_plan.proofs.PartialLemmas.{represents}
 use Rattle.dwz_plan.proofs.StepLemmas.{at_number, counted, part_of, users_low}
 use Rattle.dwz_plan.proofs.TurnedLemmas.{values_at-append}
-use Rattle.dwz_seen.proofs.Members.{in_cases, in_filter_from, in_map_from}
+use Rattle.dwz_seen.proofs.Members.{in_filter_from, in_map_from}
 
 pub among_in : {X : Type 0} (marks : List Bool) (xs : List X) (x : X) → In x (among marks xs) → In x xs
 unfolding among
@@ -34,7 +35,7 @@ among_in (true ∷ marks) (y ∷ xs) x (inl e) = inl e
 among_in (true ∷ marks) (y ∷ xs) x (inr i) = inr (among_in marks xs x i)
 among_in (false ∷ marks) (y ∷ xs) x i = inr (among_in marks xs x i)
 
-filter_few : {X : Type 0} (p : X → Bool) (xs : List X) → length (filter p xs) ≤ length xs
+pub filter_few : {X : Type 0} (p : X → Bool) (xs : List X) → length (filter p xs) ≤ length xs
 filter_few p [] = omega arith
 filter_few {X} p (x ∷ xs) = by (p x) (filter_few p xs)
   where
@@ -49,19 +50,20 @@ among_few (b ∷ marks) [] = omega arith
 among_few (true ∷ marks) (x ∷ xs) = let l = among_few marks xs in omega (arith, l)
 among_few (false ∷ marks) (x ∷ xs) = let l = among_few marks xs in omega (arith, l)
 
-module _ (scope : Scope) (tops : Tops) (least : List ℕ) (marks : List Bool) where
-  abbrev rows : List Row
+module _ (scope : Sharing) (tops : Tops) (least : List ℕ) (marks : List Bool) where
+  abbrev rows : List TopFacts
   rows = rows_from tops.files_of_units 0 tops.rows least
 
   abbrev g : Given
   g = given scope tops least
 
-  abbrev h : Row → Place
+  abbrev h : TopFacts → Place
   h = home_after marks g
 
   one_kind : (pinned : Bool) (unit : ℕ) → numbers (filter (is_staying h pinned unit) rows) ≡ numbers (filter (λ a. same_bool a.pinned pinned) (staying_after marks g unit))
   unfolding staying_after
-  one_kind pinned unit = ap numbers (filter_twice (λ a. same_bool a.pinned pinned) (λ a. a.unit == unit && is_in_unit (h a)) (is_staying h pinned unit) rows (λ a. by (same_bool a.pinned pinned) (is_in_unit (h a)) (a.unit == unit)))
+  one_kind pinned unit = ap numbers (filter_twice (λ a. same_bool a.pinned pinned) (λ a. a.unit == unit && is_in_unit (h a)) (is_staying h pinned unit) rows
+      (λ a. by (same_bool a.pinned pinned) (is_in_unit (h a)) (a.unit == unit)))
     where
       by : (s t u : Bool) → ((s && t) && u) ≡ ((u && t) && s)
       by true true true = refl
@@ -77,16 +79,19 @@ module _ (scope : Scope) (tops : Tops) (least : List ℕ) (marks : List Bool) wh
   unfolding kept_after
   kept_at unit =
       let stay = staying_after marks g unit in
-      let pinned = staying_values h true tops.files_of_units 0 tops.rows least unit ∙ (one_kind true unit ∙ ap numbers (filter_in (λ a. same_bool a.pinned true) (λ a. a.pinned) stay (λ a is. same_pinned a.pinned))) in
-      let others = staying_values h false tops.files_of_units 0 tops.rows least unit ∙ (one_kind false unit ∙ ap numbers (filter_in (λ a. same_bool a.pinned false) (λ a. not a.pinned) stay (λ a is. same_other a.pinned))) in
+      let pinned = staying_values h true tops.files_of_units 0 tops.rows least unit
+      ∙ (one_kind true unit ∙ ap numbers (filter_in (λ a. same_bool a.pinned true) (λ a. a.pinned) stay (λ a is. same_pinned a.pinned))) in
+      let others = staying_values h false tops.files_of_units 0 tops.rows least unit
+      ∙ (one_kind false unit ∙ ap numbers (filter_in (λ a. same_bool a.pinned false) (λ a. not a.pinned) stay (λ a is. same_other a.pinned))) in
       values_at-append (staying_pairs true 0 tops.rows (map h rows)) (staying_pairs false 0 tops.rows (map h rows)) unit
-      ∙ ((λ i. pinned i ++ others i) ∙ sym (map-append (λ (a : Row). a.number) (filter (λ a. a.pinned) stay) (filter (λ a. not a.pinned) stay)))
+      ∙ ((λ i. pinned i ++ others i) ∙ sym (map-append (λ (a : TopFacts). a.number) (filter (λ a. a.pinned) stay) (filter (λ a. not a.pinned) stay)))
 
   pub kept_left : grouped (length tops.files_of_units) (staying_pairs true 0 tops.rows (map h rows) ++ staying_pairs false 0 tops.rows (map h rows)) ≡ map (kept_after marks g) (units_of g)
   unfolding grouped
   kept_left = map_in (values_at (staying_pairs true 0 tops.rows (map h rows) ++ staying_pairs false 0 tops.rows (map h rows))) (kept_after marks g) (units_of g) (λ unit is. kept_at unit)
 
-  pub imports_left : grouped (length tops.files_of_units) (turned 0 (map (λ (part : Partial). part.users) (among marks (partials g)))) ≡ map (λ unit. imports_from unit 0 (among marks (partials g))) (units_of g)
+  pub imports_left : grouped (length tops.files_of_units) (turned 0 (map (λ (part : Partial). part.users) (among marks (partials g)))) ≡ map (λ unit. imports_from unit 0 (among marks (partials g)))
+      (units_of g)
   unfolding grouped
   imports_left =
       map_in (values_at (turned 0 (map (λ (part : Partial). part.users) (among marks (partials g))))) (λ unit. imports_from unit 0 (among marks (partials g))) (units_of g)
@@ -103,15 +108,15 @@ module _ (scope : Scope) (tops : Tops) (least : List ℕ) (marks : List Bool) wh
   unfolding partials_at representatives
   fits_at h part is less =
       let p = in_map_from (partial_with g h) part (distinct (map (users g) (representatives g h))) is in
-      let q : Row → Bool = λ a. same_numbers (users g a) p.source in
+      let q : TopFacts → Bool = λ a. same_numbers (users g a) p.source in
       let here : numbers (filter q (representatives g h)) ≡ part.tops = ap (λ (w : Partial). w.tops) p.is in
       let len = ap (λ (ns : List ℕ). length ns) here in
-      let a = length-map (filter q (representatives g h)) (λ (b : Row). b.number) in
+      let a = length-map (filter q (representatives g h)) (λ (b : TopFacts). b.number) in
       let b = filter_few q (representatives g h) in
       let c = filter_few (λ a. same_home (home g a) h && rep g a == a.number) rows in
       record {
         inside = λ n i. (
-            let o = in_map_from (λ (b : Row). b.number) n (filter q (representatives g h)) (subst (λ (ns : List ℕ). In n ns) (sym here) i) in
+            let o = in_map_from (λ (b : TopFacts). b.number) n (filter q (representatives g h)) (subst (λ (ns : List ℕ). In n ns) (sym here) i) in
             let r = represents g h o.source (in_filter_from q o.source (representatives g h) o.there).0 in
             omega (arith, o.is, counted_below 0 rows o.source (counted scope tops least) r.there));
         few = omega (arith, len, a, b, c);
@@ -141,7 +146,7 @@ module _ (scope : Scope) (tops : Tops) (least : List ℕ) (marks : List Bool) wh
     | inr more ↦ local_fits (range_with_len 0 tops.files) part more (few_users part is)
   ]
 
-  place_low : All (λ f. f < tops.files) tops.files_of_units → (a : Row) → In a rows → AreNumbers (length (partials g)) (group_of (place g a))
+  place_low : All (λ f. f < tops.files) tops.files_of_units → (a : TopFacts) → In a rows → AreNumbers (length (partials g)) (group_of (place g a))
   unfolding place
   place_low files a is = by (home g a) refl
     where
@@ -151,17 +156,20 @@ module _ (scope : Scope) (tops : Tops) (least : List ℕ) (marks : List Bool) wh
       by Stay e = tt
 
   pub places_low : All (λ f. f < tops.files) tops.files_of_units → All (λ p. AreNumbers (length (partials g)) (group_of p)) (map (place g) rows)
-  places_low files = all_from_in (λ p. AreNumbers (length (partials g)) (group_of p)) (map (place g) rows) (λ p is. (let o = in_map_from (place g) p rows is in subst (λ (q : Place). AreNumbers (length (partials g)) (group_of q)) o.is (place_low files o.source o.there)))
+  places_low files = all_from_in (λ p. AreNumbers (length (partials g)) (group_of p)) (map (place g) rows)
+      (λ p is. (let o = in_map_from (place g) p rows is in subst (λ (q : Place). AreNumbers (length (partials g)) (group_of q)) o.is (place_low files o.source o.there)))
 
   pub users_left : All (λ part. All (λ u. u < length tops.files_of_units) part.users) (among marks (partials g))
   users_left =
       all_from_in (λ (part : Partial). All (λ u. u < length tops.files_of_units) part.users) (among marks (partials g))
-      (λ part is. (let o = of_row scope tops least part (among_in marks (partials g) part is) in subst (λ (us : List ℕ). All (λ u. u < length tops.files_of_units) us) o.is (users_low scope tops least o.row)))
+      (λ part is. (let o = of_row scope tops least part (among_in marks (partials g) part is) in subst (λ (us : List ℕ). All (λ u. u < length tops.files_of_units) us) o.is
+      (users_low scope tops least o.row)))
 
   -- ---- what stands for what
 
   pub stands_left : map (stander (map h rows) (reps_of g)) (range_with_len 0 (length rows)) ≡ map (stand_after marks g) rows
   stands_left =
       ap (map (stander (map h rows) (reps_of g))) (sym (numbers_counted 0 rows (counted scope tops least)))
-      ∙ (map_map (stander (map h rows) (reps_of g)) (λ (a : Row). a.number) rows
-      ∙ map_in (λ (a : Row). stander (map h rows) (reps_of g) a.number) (stand_after marks g) rows (λ a is. (λ i. cond (is_in_unit (at_number h rows a InUnit (counted scope tops least) is i)) a.number (at_number (rep g) rows a 0 (counted scope tops least) is i))))
+      ∙ (map_map (stander (map h rows) (reps_of g)) (λ (a : TopFacts). a.number) rows
+      ∙ map_in (λ (a : TopFacts). stander (map h rows) (reps_of g) a.number) (stand_after marks g) rows
+      (λ a is. (λ i. cond (is_in_unit (at_number h rows a InUnit (counted scope tops least) is i)) a.number (at_number (rep g) rows a 0 (counted scope tops least) is i))))

@@ -3,21 +3,22 @@ use Rattle.std.proofs.Common.{◌≡◌, ℕ, zero, suc, ◌+◌, ◌<◌, ◌==
 use Rattle.std.specs.List.{flat_map, list_any, range_with_len}
 use Rattle.std.proofs.lemmas.Bool.{cases_eq, ne_eqb}
 use Rattle.dwz_docs.specs.Lists.{In, has}
+use Rattle.dwz_docs.proofs.ListFacts.{in_cases}
 use Rattle.dwz_groups.specs.declared.tops.TopRow.{TopRow}
 use Rattle.dwz_groups.specs.declared.tops.Tops.{Tops}
 use Rattle.dwz_moving.specs.Homes.{Common, Home, Local}
 use Rattle.dwz_moving.specs.Plan.{distinct}
+use Rattle.dwz_moving.proofs.PlanLemmas.{distinct_in}
 use Rattle.dwz_plan.specs.declared.plan.Home.{Home as Place}
 use Rattle.dwz_plan.specs.declared.plan.Partial.{Partial}
-use Rattle.dwz_plan.specs.declared.plan.Scope.{Scope}
+use Rattle.dwz_plan.specs.declared.plan.Sharing.{Sharing}
 use Rattle.dwz_groups.specs.Groups.{values_at}
 use Rattle.dwz_plan.specs.Planned.{alike, imports_from, numbers, partial_with, partials, partials_at, representatives, users}
-use Rattle.dwz_plan.specs.Rows.{Given, Row, given, row_of, rows_from}
+use Rattle.dwz_plan.specs.Rows.{Given, TopFacts, given, row_of, rows_from}
 use Rattle.dwz_plan.specs.Steps.{is_in_unit, pair, same_bool, staying_one, staying_pairs, turned}
 use Rattle.dwz_groups.specs.declared.groups.Pair.{Pair}
-use Rattle.dwz_plan.proofs.DistinctLemmas.{from_distinct}
 use Rattle.dwz_plan.proofs.TurnedLemmas.{repeats, values-turned_one, values_at-append}
-use Rattle.dwz_seen.proofs.Members.{in_cases, in_map_from}
+use Rattle.dwz_seen.proofs.Members.{in_map_from}
 
 -- ---- what stays
 
@@ -31,22 +32,22 @@ values_one true u n k = by (u == k)
 values_one false u n k = refl
 
 -- the row is asked for, stays and is of the unit
-abbrev pub is_staying : (Row → Place) → Bool → ℕ → Row → Bool
+abbrev pub is_staying : (TopFacts → Place) → Bool → ℕ → TopFacts → Bool
 is_staying h pinned unit a = (same_bool a.pinned pinned && is_in_unit (h a)) && a.unit == unit
 
-pub staying_values : (h : Row → Place) (pinned : Bool) (files : List ℕ) (s : ℕ) (tops : List TopRow) (least : List ℕ) (unit : ℕ)
+pub staying_values : (h : TopFacts → Place) (pinned : Bool) (files : List ℕ) (s : ℕ) (tops : List TopRow) (least : List ℕ) (unit : ℕ)
     → values_at (staying_pairs pinned s tops (map h (rows_from files s tops least))) unit ≡ numbers (filter (is_staying h pinned unit) (rows_from files s tops least))
 unfolding staying_pairs rows_from values_at
 staying_values h pinned files s [] least unit = refl
 staying_values h pinned files s (t ∷ tops) [] unit = refl
 staying_values h pinned files s (t ∷ tops) (l ∷ least) unit =
-    let a : Row = row_of files s t l in
+    let a : TopFacts = row_of files s t l in
     let e : s + 1 ≡ suc s = omega arith in
     let more = ap (λ n. values_at (staying_pairs pinned n tops (map h (rows_from files (suc s) tops least))) unit) e ∙ staying_values h pinned files (suc s) tops least unit in
     values_at-append (staying_one pinned t (h a) s) (staying_pairs pinned (s + 1) tops (map h (rows_from files (suc s) tops least))) unit
     ∙ ((λ i. values_one (same_bool t.pinned pinned && is_in_unit (h a)) t.unit s unit i ++ more i) ∙ by (is_staying h pinned unit a))
   where
-    rest : List Row
+    rest : List TopFacts
     rest = filter (is_staying h pinned unit) (rows_from files (suc s) tops least)
 
     by : (b : Bool) → cond b (s ∷ []) [] ++ numbers rest ≡ numbers (cond b (row_of files s t l ∷ rest) rest)
@@ -69,8 +70,8 @@ pub same_other : (b : Bool) → same_bool b false ≡ not b
 same_other true = refl
 same_other false = refl
 
-module _ (scope : Scope) (tops : Tops) (least : List ℕ) where
-  abbrev rows : List Row
+module _ (scope : Sharing) (tops : Tops) (least : List ℕ) where
+  abbrev rows : List TopFacts
   rows = rows_from tops.files_of_units 0 tops.rows least
 
   abbrev g : Given
@@ -87,8 +88,10 @@ module _ (scope : Scope) (tops : Tops) (least : List ℕ) where
   none_below test s zero m unit l = refl
   none_below test s (suc n) m unit l = by (test s) (none_below test (s + 1) n m unit (omega arith))
     where
-      by : (t : Bool) → repeats m unit (filter test (range_with_len (s + 1) n)) ≡ [] → repeats m unit (cond t (s ∷ filter test (range_with_len (s + 1) n)) (filter test (range_with_len (s + 1) n))) ≡ []
-      by true more = ap (λ t. cond t (m ∷ repeats m unit (filter test (range_with_len (s + 1) n))) (repeats m unit (filter test (range_with_len (s + 1) n)))) (ne_eqb s unit (λ e. omega (arith, e, l))) ∙ more
+      by : (t : Bool) → repeats m unit (filter test (range_with_len (s + 1) n)) ≡ [] → repeats m unit (cond t (s ∷ filter test (range_with_len (s + 1) n)) (filter test (range_with_len (s + 1) n)))
+          ≡ []
+      by true more = ap (λ t. cond t (m ∷ repeats m unit (filter test (range_with_len (s + 1) n))) (repeats m unit (filter test (range_with_len (s + 1) n)))) (ne_eqb s unit (λ e. omega (arith, e, l)))
+          ∙ more
       by false more = more
 
   once_range : (test : ℕ → Bool) (s n m unit : ℕ) → repeats m unit (filter test (range_with_len s n)) ≡ cond (has unit (filter test (range_with_len s n))) (m ∷ []) []
@@ -102,7 +105,8 @@ module _ (scope : Scope) (tops : Tops) (least : List ℕ) where
       one : (s ≡ unit) ⊎ (s ≡ unit → ⊥) → repeats m unit rest ≡ cond (has unit rest) (m ∷ []) [] → (unit < s + 1 → repeats m unit rest ≡ [])
           → cond (s == unit) (m ∷ repeats m unit rest) (repeats m unit rest) ≡ cond (cond (s == unit) true (has unit rest)) (m ∷ []) []
       one (inl e) more none = (λ i. cond (eq-eqb s unit e i) (m ∷ none (omega (arith, e)) i) (repeats m unit rest)) ∙ sym (ap (λ t. cond (cond t true (has unit rest)) (m ∷ []) []) (eq-eqb s unit e))
-      one (inr ne) more none = ap (λ t. cond t (m ∷ repeats m unit rest) (repeats m unit rest)) (ne_eqb s unit ne) ∙ (more ∙ sym (ap (λ t. cond (cond t true (has unit rest)) (m ∷ []) []) (ne_eqb s unit ne)))
+      one (inr ne) more none = ap (λ t. cond t (m ∷ repeats m unit rest) (repeats m unit rest)) (ne_eqb s unit ne)
+          ∙ (more ∙ sym (ap (λ t. cond (cond t true (has unit rest)) (m ∷ []) []) (ne_eqb s unit ne)))
 
       by : (t : Bool) → repeats m unit rest ≡ cond (has unit rest) (m ∷ []) [] → (unit < s + 1 → repeats m unit rest ≡ [])
           → repeats m unit (cond t (s ∷ rest) rest) ≡ cond (has unit (cond t (s ∷ rest) rest)) (m ∷ []) []
@@ -111,14 +115,14 @@ module _ (scope : Scope) (tops : Tops) (least : List ℕ) where
 
   -- the users of a partial unit are those of a row
   pub record OfRow (part : Partial) : Type 0 where
-    pub row : Row
+    pub row : TopFacts
     pub is : users g row ≡ part.users
 
   of_home : (h : Home) (part : Partial) → In part (partials_at g h) → OfRow part
   unfolding partials_at
   of_home h part is =
       let p = in_map_from (partial_with g h) part (distinct (map (users g) (representatives g h))) is in
-      let u = in_map_from (users g) p.source (representatives g h) (from_distinct p.source (map (users g) (representatives g h)) p.there) in
+      let u = in_map_from (users g) p.source (representatives g h) (distinct_in p.source (map (users g) (representatives g h)) p.there) in
       record { row = u.source; is = u.is ∙ ap (λ (q : Partial). q.users) p.is }
 
   of_files : (files : List ℕ) (part : Partial) → In part (flat_map (λ file. partials_at g (Local file)) files) → OfRow part
@@ -141,7 +145,8 @@ module _ (scope : Scope) (tops : Tops) (least : List ℕ) where
       let o = of_row part is in
       subst (λ (us : List ℕ). OnceAt us) o.is (λ n unit. once_range (λ unit. list_any (λ b. b.unit == unit && alike scope o.row b) rows) 0 (length tops.files_of_units) n unit)
 
-  pub imports_values : (unit s : ℕ) (parts : List Partial) → ((part : Partial) → In part parts → OnceAt part.users) → values_at (turned s (map (λ (part : Partial). part.users) parts)) unit ≡ imports_from unit s parts
+  pub imports_values : (unit s : ℕ) (parts : List Partial) → ((part : Partial) → In part parts → OnceAt part.users) → values_at (turned s (map (λ (part : Partial). part.users) parts)) unit
+      ≡ imports_from unit s parts
   unfolding turned values_at imports_from
   imports_values unit s [] once = refl
   imports_values unit s (part ∷ parts) once =

@@ -1,5 +1,6 @@
 -- Lists of numbers, each listed where it comes first.
-use Rattle.std.proofs.Common.{◌≡◌, ℕ, suc, ◌+◌, ◌<◌, ◌≤◌, ◌==◌, ◌&&◌, ◌||◌, not, All, cond, Bool, true, false, List, [], ◌∷◌, ◌++◌, length, map, filter, fold, get_or, take, refl, sym, ap, subst, ◌∙◌, arith, eqb-true, length-append}
+use Rattle.std.proofs.Common.{◌≡◌, ℕ, suc, ◌+◌, ◌<◌, ◌≤◌, ◌==◌, ◌&&◌, ◌||◌, not, All, cond, Bool, true, false, List, [], ◌∷◌, ◌++◌, length, map, filter, fold, get_or, take, refl, sym, ap, subst, ◌∙◌}
+use Rattle.std.proofs.Common.{arith, eqb-true, length-append}
 use Rattle.std.specs.Prelude.{nat_eq}
 use Rattle.std.specs.List.{list_any, position_or_len}
 use Rattle.std.proofs.lemmas.Bool.{both_ways, ne_eqb, not-true}
@@ -39,7 +40,7 @@ put ks us = cond (has_list us ks) ks (ks ++ us ∷ [])
 abbrev pub listed : List (List ℕ) → List (List ℕ)
 listed ls = fold put [] ls
 
-filter_within : {X : Type 0} (p q : X → Bool) (xs : List X) → ((x : X) → p x ≡ true → q x ≡ true) → filter p (filter q xs) ≡ filter p xs
+pub filter_within : {X : Type 0} (p q : X → Bool) (xs : List X) → ((x : X) → p x ≡ true → q x ≡ true) → filter p (filter q xs) ≡ filter p xs
 filter_within p q [] h = refl
 filter_within {X} p q (x ∷ xs) h = by (q x) (p x) refl refl (filter_within p q xs h)
   where
@@ -95,7 +96,8 @@ listed_from ks (us ∷ ls) = by (has_list us ks) refl (listed_from ks ls) (liste
     by : (t : Bool) → has_list us ks ≡ t → fold put ks ls ≡ ks ++ filter (missing ks) (distinct ls) → fold put (ks ++ us ∷ []) ls ≡ (ks ++ us ∷ []) ++ filter (missing (ks ++ us ∷ [])) (distinct ls)
         → fold put (cond t ks (ks ++ us ∷ [])) ls ≡ ks ++ cond (not t) (us ∷ filter (missing ks) (filter apart (distinct ls))) (filter (missing ks) (filter apart (distinct ls)))
     by true e more new = more ∙ ap (λ (xs : List (List ℕ)). ks ++ xs) (sym (filter_within (missing ks) apart (distinct ls) (inside e)))
-    by false e more new = new ∙ (append_assoc ks (us ∷ []) (filter (missing (ks ++ us ∷ [])) (distinct ls)) ∙ ap (λ (xs : List (List ℕ)). ks ++ us ∷ xs) (sym (filter_both (missing ks) apart (missing (ks ++ us ∷ [])) (distinct ls) both)))
+    by false e more new = new ∙ (append_assoc ks (us ∷ []) (filter (missing (ks ++ us ∷ [])) (distinct ls))
+        ∙ ap (λ (xs : List (List ℕ)). ks ++ us ∷ xs) (sym (filter_both (missing ks) apart (missing (ks ++ us ∷ [])) (distinct ls) both)))
 
 filter_true : {X : Type 0} (xs : List X) → filter (λ x. true) xs ≡ xs
 filter_true [] = refl
@@ -120,7 +122,8 @@ number_stays ks us vs there = by (has_list us ks) (position_or_len_push (same_nu
     before : number_of ks vs < length ks
     before = position_found (same_numbers vs) ks there
 
-    by : (t : Bool) → number_of (ks ++ us ∷ []) vs ≡ cond (number_of ks vs == length ks) (length ks + cond (same_numbers vs us) 0 1) (number_of ks vs) → number_of (cond t ks (ks ++ us ∷ [])) vs ≡ number_of ks vs
+    by : (t : Bool) → number_of (ks ++ us ∷ []) vs ≡ cond (number_of ks vs == length ks) (length ks + cond (same_numbers vs us) 0 1) (number_of ks vs)
+        → number_of (cond t ks (ks ++ us ∷ [])) vs ≡ number_of ks vs
     by true e = refl
     by false e = e ∙ ap (λ t. cond t (length ks + cond (same_numbers vs us) 0 1) (number_of ks vs)) (ne_eqb (number_of ks vs) (length ks) (λ q. omega (arith, q, before)))
 
@@ -131,7 +134,8 @@ number_new ks us = by (has_list us ks) (position_or_len_push (same_numbers us) k
     at_end true e = omega (arith, eqb-true (number_of ks us) (length ks) e)
     at_end false e = refl
 
-    by : (t : Bool) → number_of (ks ++ us ∷ []) us ≡ cond (number_of ks us == length ks) (length ks + cond (same_numbers us us) 0 1) (number_of ks us) → number_of (cond t ks (ks ++ us ∷ [])) us ≡ number_of ks us
+    by : (t : Bool) → number_of (ks ++ us ∷ []) us ≡ cond (number_of ks us == length ks) (length ks + cond (same_numbers us us) 0 1) (number_of ks us)
+        → number_of (cond t ks (ks ++ us ∷ [])) us ≡ number_of ks us
     by true e = refl
     by false e = e ∙ (ap (λ t. cond (number_of ks us == length ks) (length ks + cond t 0 1) (number_of ks us)) (numbers_same us) ∙ at_end (number_of ks us == length ks) refl)
 
@@ -177,19 +181,24 @@ map_agree : {X : Type 0} (f g : ℕ → X) (ms : List ℕ) → All (λ m. f m �
 map_agree f g [] all = refl
 map_agree f g (m ∷ ms) all = (λ i. All-head (λ m. f m ≡ g m) m ms all i ∷ map_agree f g ms (All-tail (λ m. f m ≡ g m) m ms all) i)
 
-pub numbers-more : (users : List (List ℕ)) (ms : List ℕ) (keys : List (List ℕ)) (firsts : List ℕ) (pairs : List Pair) (m : ℕ) (keys' : List (List ℕ)) (firsts' : List ℕ) (pairs' : List Pair) (n : ℕ) (is_new : Bool)
+pub numbers-more : (users : List (List ℕ)) (ms : List ℕ) (keys : List (List ℕ)) (firsts : List ℕ) (pairs : List Pair) (m : ℕ) (keys' : List (List ℕ)) (firsts' : List ℕ) (pairs' : List Pair) (n : ℕ)
+    (is_new : Bool)
     → keys' ≡ put keys (users_at users m) → is_new ≡ not (has_list (users_at users m) keys) → n ≡ number_of keys (users_at users m)
     → firsts' ≡ firsts ++ cond is_new (m ∷ []) [] → pairs' ≡ pairs ++ pair n m ∷ []
     → Numbers users ms keys firsts pairs → Numbers users (ms ++ m ∷ []) keys' firsts' pairs'
 numbers-more users ms keys firsts pairs m keys' firsts' pairs' n is_new put_is new_is number first_is pair_is h = record {
   keys_are = put_is ∙ (ap (λ (ks : List (List ℕ)). put ks us) h.keys_are ∙ (sym (fold-append put [] (map f ms) (us ∷ [])) ∙ ap listed (sym (map-append f ms (m ∷ [])))));
   firsts_are = ap (map f) first_is ∙ (map-append f firsts (cond is_new (m ∷ []) []) ∙ ((λ i. h.firsts_are i ++ map f (cond (new_is i) (m ∷ []) [])) ∙ (by (has_list us keys) ∙ sym put_is)));
-  pairs_are = pair_is ∙ ((λ i. h.pairs_are i ++ pair (number i) m ∷ []) ∙ ((λ i. map_agree (λ k. pair (number_of keys (f k)) k) (λ k. pair (number_of keys' (f k)) k) ms stays i ++ pair (fresh i) m ∷ []) ∙ sym (map-append (λ k. pair (number_of keys' (f k)) k) ms (m ∷ []))));
+  pairs_are = pair_is ∙ ((λ i. h.pairs_are i ++ pair (number i) m ∷ [])
+      ∙ ((λ i. map_agree (λ k. pair (number_of keys (f k)) k) (λ k. pair (number_of keys' (f k)) k) ms stays i ++ pair (fresh i) m ∷ [])
+      ∙ sym (map-append (λ k. pair (number_of keys' (f k)) k) ms (m ∷ []))));
   has = subst (λ (ks : List (List ℕ)). All (λ k. has_list (f k) ks ≡ true) (ms ++ m ∷ [])) (sym put_is)
-      (All-push (λ k. has_list (f k) (put keys us) ≡ true) ms m (All-weaker (λ k. has_list (f k) keys ≡ true) (λ k. has_list (f k) (put keys us) ≡ true) (λ k. has_put keys us (f k)) ms h.has) (has_new keys us));
+      (All-push (λ k. has_list (f k) (put keys us) ≡ true) ms m (All-weaker (λ k. has_list (f k) keys ≡ true) (λ k. has_list (f k) (put keys us) ≡ true) (λ k. has_put keys us (f k)) ms h.has)
+      (has_new keys us));
   few = omega (arith, ap (λ (ks : List (List ℕ)). length ks) put_is, length_put keys us, h.few, length-append ms (m ∷ []));
   low = λ all. subst (λ (fs : List ℕ). All (λ k. k < length users) fs) (sym first_is)
-      (All-append (λ k. k < length users) firsts (cond is_new (m ∷ []) []) (h.low (λ k d l. (let e = get_or_append_left ms (m ∷ []) d k l in omega (arith, e, all k d (omega (arith, l, length-append ms (m ∷ [])))))))
+      (All-append (λ k. k < length users) firsts (cond is_new (m ∷ []) [])
+      (h.low (λ k d l. (let e = get_or_append_left ms (m ∷ []) d k l in omega (arith, e, all k d (omega (arith, l, length-append ms (m ∷ [])))))))
       (last is_new (let e = get_or_at ms m [] m (length ms) refl in omega (arith, e, all (length ms) m (omega (arith, length-append ms (m ∷ [])))))));
 }
   where
@@ -226,7 +235,8 @@ pub numbers-low : (users : List (List ℕ)) (ms : List ℕ) (keys : List (List �
 numbers-low users ms keys firsts pairs h =
     let len : length firsts ≡ length keys = sym (length-map firsts (users_at users)) ∙ ap (λ (ks : List (List ℕ)). length ks) h.firsts_are in
     subst (λ (ps : List Pair). All (λ p. p.key < length firsts) ps) (sym h.pairs_are)
-    (All-map (λ (p : Pair). p.key < length firsts) (λ m. pair (number_of keys (users_at users m)) m) ms (λ k d l. omega (arith, len, position_found (same_numbers (users_at users (get_or ms k d))) keys (h.has k d l))))
+    (All-map (λ (p : Pair). p.key < length firsts) (λ m. pair (number_of keys (users_at users m)) m) ms
+    (λ k d l. omega (arith, len, position_found (same_numbers (users_at users (get_or ms k d))) keys (h.has k d l))))
 
 pub numbers-few : (users : List (List ℕ)) (ms : List ℕ) (keys : List (List ℕ)) (firsts : List ℕ) (pairs : List Pair) → Numbers users ms keys firsts pairs → length firsts ≤ length ms
 numbers-few users ms keys firsts pairs h = omega (arith, length-map firsts (users_at users), ap (λ (ks : List (List ℕ)). length ks) h.firsts_are, h.few)
@@ -248,7 +258,8 @@ number_seen us [] = refl
 number_seen us (b ∷ keys) = (λ i. cond (not (pointwise_same us b.now i)) (1 + number_seen us keys i) 0)
 
 pub put_seen : (us : List ℕ) (b : Bor (List ℕ)) (keys keys' : List (Bor (List ℕ))) → b.now ≡ us → keys' ≡ cond (list_any (is_key b.now) keys) keys (keys ++ b ∷ []) → seen keys' ≡ put (seen keys) us
-put_seen us b keys keys' e h = ap seen h ∙ (by (list_any (is_key b.now) keys) ∙ (λ i. cond ((any_seen b.now keys ∙ ap (λ (vs : List ℕ). has_list vs (seen keys)) e) i) (seen keys) (seen keys ++ e i ∷ [])))
+put_seen us b keys keys' e h = ap seen h ∙ (by (list_any (is_key b.now) keys)
+    ∙ (λ i. cond ((any_seen b.now keys ∙ ap (λ (vs : List ℕ). has_list vs (seen keys)) e) i) (seen keys) (seen keys ++ e i ∷ [])))
   where
     by : (t : Bool) → seen (cond t keys (keys ++ b ∷ [])) ≡ cond t (seen keys) (seen keys ++ b.now ∷ [])
     by true = refl

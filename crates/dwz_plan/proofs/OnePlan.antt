@@ -1,22 +1,18 @@
 -- There is one plan of rows, since what spreads is decided; and it has an answer for each row and each unit.
-use Rattle.std.proofs.Common.{◌≡◌, ◌↔◌, ℕ, suc, Bool, true, false, List, [], ◌∷◌, length, refl, sym, ap, subst, ◌∙◌, arith}
+use Rattle.std.proofs.Common.{◌≡◌, ◌↔◌, ℕ, suc, Bool, List, [], ◌∷◌, length, refl, sym, ap, subst, ◌∙◌, arith}
 use Rattle.std.proofs.lemmas.List.{length-map}
 use Rattle.std.proofs.lemmas.List.FromFn.{length-map-range_with_len}
+use Rattle.dwz_docs.proofs.CaseFacts.{same_bool}
 use Rattle.dwz_spread.specs.Spreading.{IsMarked, IsSpread}
 use Rattle.dwz_plan.specs.Gained.{IsPlanOf, IsWhole, among, gained, home_after, kept_after, stand_after}
 use Rattle.dwz_plan.specs.Planned.{Planned, imports_from, partials}
 use Rattle.dwz_plan.specs.Rows.{Given}
 
-same_mark : (b c : Bool) → (b ≡ true) ↔ (c ≡ true) → b ≡ c
-same_mark true c h = sym (h.0 refl)
-same_mark false true h = h.1 refl
-same_mark false false h = refl
-
 same_marks : (ms ns : List Bool) → length ms ≡ length ns → ((n : ℕ) → IsMarked ms n ↔ IsMarked ns n) → ms ≡ ns
 same_marks [] [] e h = refl
 same_marks [] (n ∷ ns) e h = absurd (omega (arith, e))
 same_marks (m ∷ ms) [] e h = absurd (omega (arith, e))
-same_marks (m ∷ ms) (n ∷ ns) e h = (λ i. same_mark m n (h 0) i ∷ same_marks ms ns (omega (arith, e)) (λ k. h (suc k)) i)
+same_marks (m ∷ ms) (n ∷ ns) e h = (λ i. same_bool m n (h 0) i ∷ same_marks ms ns (omega (arith, e)) (λ k. h (suc k)) i)
 
 one_spread : (sources : List (List ℕ)) (old new other : List Bool) → IsSpread sources old new → IsSpread sources old other → new ≡ other
 one_spread sources old new other a b = same_marks new other (a.len ∙ sym b.len) (λ n. (λ m. (b.each n).1 ((a.each n).0 m), λ m. (a.each n).1 ((b.each n).0 m)))

@@ -1,5 +1,6 @@
 -- Where tops are placed, step by step.
-use Rattle.std.proofs.Common.{◌≡◌, ℕ, zero, suc, ◌+◌, ◌<◌, ◌≤◌, ◌==◌, ◌&&◌, ◌⊎◌, inl, inr, All, cond, Bool, true, false, List, [], ◌∷◌, ◌++◌, Option, Some, length, map, fold, get_or, set, take, replicate, refl, sym, ap, subst, ◌∙◌, arith, eq-eqb, length-set}
+use Rattle.std.proofs.Common.{◌≡◌, ℕ, zero, suc, ◌+◌, ◌<◌, ◌≤◌, ◌==◌, ◌&&◌, ◌⊎◌, inl, inr, All, cond, Bool, true, false, List, [], ◌∷◌, ◌++◌, Option, Some, length, map, fold, get_or, set, take}
+use Rattle.std.proofs.Common.{replicate, refl, sym, ap, subst, ◌∙◌, arith, eq-eqb, length-set}
 use Rattle.std.specs.List.{zip}
 use Rattle.std.proofs.lemmas.Bool.{cases_eq, ne_eqb}
 use Rattle.std.proofs.lemmas.List.{append-nil, append_assoc, get_or-map, get_or-replicate, get_or-set_other, get_or-set_same, length-map, length-replicate, take_all, take_more}
@@ -46,7 +47,8 @@ placed-more files users pairs i p k l is =
     let f : Place → Pair → Place = λ h q. cond (q.value == k) (place_at (home_of files (users_at users k)) q.key) h in
     fold_more f InUnit pairs i p l ∙ ap (λ (q : Pair). f (fold f InUnit (take i pairs)) q) is
 
-pub places-more : (files : List ℕ) (users : List (List ℕ)) (pairs : List Pair) (i : ℕ) (p : Pair) (homes : List Place) (rank : Option ℕ) (place : Place) (us : List ℕ) → i < length pairs → get_or pairs i p ≡ p → p.value < length users
+pub places-more : (files : List ℕ) (users : List (List ℕ)) (pairs : List Pair) (i : ℕ) (p : Pair) (homes : List Place) (rank : Option ℕ) (place : Place) (us : List ℕ) → i < length pairs
+    → get_or pairs i p ≡ p → p.value < length users
     → us ≡ users_at users p.value → rank ≡ rank_of (home_of files us) → place ≡ place_of_rank rank p.key
     → Places files users (take i pairs) homes → Places files users (take (i + 1) pairs) (set homes p.value place)
 places-more files users pairs i p homes rank place us l is in' list ranked home h = record {
@@ -60,12 +62,16 @@ places-more files users pairs i p homes rank place us l is in' list ranked home 
     by : (k : ℕ) → k < length users → (k ≡ p.value) ⊎ (k ≡ p.value → ⊥) → get_or (set homes p.value place) k InUnit ≡ placed files users (take (i + 1) pairs) k
     by k m (inl e) =
         subst (λ j. get_or (set homes p.value place) j InUnit ≡ placed files users (take (i + 1) pairs) j) (sym e)
-        (get_or-set_same homes p.value place InUnit (omega (arith, h.len, in')) ∙ (here ∙ (ap (λ t. cond t (place_at (home_of files (users_at users p.value)) p.key) (placed files users (take i pairs) p.value)) (sym (eq-eqb p.value p.value refl))
+        (get_or-set_same homes p.value place InUnit (omega (arith, h.len, in'))
+        ∙ (here ∙ (ap (λ t. cond t (place_at (home_of files (users_at users p.value)) p.key) (placed files users (take i pairs) p.value)) (sym (eq-eqb p.value p.value refl))
         ∙ sym (placed-more files users pairs i p p.value l is))))
     by k m (inr ne) =
-        get_or-set_other homes p.value k place InUnit ne ∙ (h.each k m ∙ (ap (λ t. cond t (place_at (home_of files (users_at users k)) p.key) (placed files users (take i pairs) k)) (sym (ne_eqb p.value k (λ e. ne (sym e)))) ∙ sym (placed-more files users pairs i p k l is)))
+        get_or-set_other homes p.value k place InUnit ne ∙ (h.each k m
+        ∙ (ap (λ t. cond t (place_at (home_of files (users_at users k)) p.key) (placed files users (take i pairs) k)) (sym (ne_eqb p.value k (λ e. ne (sym e))))
+        ∙ sym (placed-more files users pairs i p k l is)))
 
-pub places-all : (files : List ℕ) (users : List (List ℕ)) (pairs : List Pair) (i : ℕ) (homes : List Place) → length pairs ≤ i → Places files users (take i pairs) homes → (k : ℕ) → k < length users → get_or homes k InUnit ≡ placed files users pairs k
+pub places-all : (files : List ℕ) (users : List (List ℕ)) (pairs : List Pair) (i : ℕ) (homes : List Place) → length pairs ≤ i → Places files users (take i pairs) homes → (k : ℕ) → k < length users
+    → get_or homes k InUnit ≡ placed files users pairs k
 places-all files users pairs i homes l h k m = h.each k m ∙ ap (λ (ps : List Pair). placed files users ps k) (take_all i pairs l)
 
 -- ---- partial units, one more
@@ -93,7 +99,8 @@ partials-more fs files lists tops i us ts old new part l len users_are tops_are 
     let f : List ℕ × List ℕ → Partial = λ p. partial_of fs files p.0 p.1 in
     let long : i < length (zip lists tops) = omega (arith, l, length-zip lists tops len) in
     let long' : i < length (map f (zip lists tops)) = omega (arith, long, length-map (zip lists tops) f) in
-    let is : get_or (map f (zip lists tops)) i part ≡ part = get_or-map f (zip lists tops) i ([], []) part long ∙ (ap f (get_or-zip lists tops i [] [] ([], []) l (omega (arith, l, len))) ∙ sym (part_is ∙ (λ j. partial_of fs files (users_are j) (tops_are j)))) in
+    let is : get_or (map f (zip lists tops)) i part ≡ part = get_or-map f (zip lists tops) i ([], []) part long
+    ∙ (ap f (get_or-zip lists tops i [] [] ([], []) l (omega (arith, l, len))) ∙ sym (part_is ∙ (λ j. partial_of fs files (users_are j) (tops_are j)))) in
     new_is ∙ ((λ j. h j ++ sym is j ∷ []) ∙ sym (take_more (map f (zip lists tops)) i part long'))
 
 -- ---- what stays, one more
@@ -108,7 +115,9 @@ staying-more pinned n (r ∷ rows) (h ∷ homes) (suc i) d l e =
     let s : suc i + 1 ≡ suc (i + 1) = omega arith in
     let z : n + 1 + i ≡ n + suc i = omega arith in
     let more = staying-more pinned (n + 1) rows homes i d (omega arith) (omega (arith, e)) in
-    ap (λ j. staying_pairs pinned n (take j (r ∷ rows)) (take j (h ∷ homes))) s ∙ (ap (λ (ps : List Pair). staying_one pinned r h n ++ ps) (more ∙ ap (λ j. staying_pairs pinned (n + 1) (take i rows) (take i homes) ++ staying_one pinned (get_or rows i d) (get_or homes i InUnit) j) z)
+    ap (λ j. staying_pairs pinned n (take j (r ∷ rows)) (take j (h ∷ homes))) s
+    ∙ (ap (λ (ps : List Pair). staying_one pinned r h n ++ ps) (more
+    ∙ ap (λ j. staying_pairs pinned (n + 1) (take i rows) (take i homes) ++ staying_one pinned (get_or rows i d) (get_or homes i InUnit) j) z)
     ∙ sym (append_assoc (staying_one pinned r h n) (staying_pairs pinned (n + 1) (take i rows) (take i homes)) (staying_one pinned (get_or rows i d) (get_or homes i InUnit) (n + suc i))))
 
 pub staying_keys : (units : ℕ) (pinned : Bool) (n : ℕ) (rows : List TopRow) (homes : List Place) → All (λ r. r.unit < units) rows → All (λ p. p.key < units) (staying_pairs pinned n rows homes)
@@ -116,7 +125,8 @@ unfolding staying_pairs
 staying_keys units pinned n [] homes all = All-nil (λ (p : Pair). p.key < units)
 staying_keys units pinned n (r ∷ rows) [] all = All-nil (λ (p : Pair). p.key < units)
 staying_keys units pinned n (r ∷ rows) (h ∷ homes) all =
-    All-append (λ (p : Pair). p.key < units) (staying_one pinned r h n) (staying_pairs pinned (n + 1) rows homes) (by (same_bool r.pinned pinned && is_in_unit h)) (staying_keys units pinned (n + 1) rows homes (All-tail (λ (r : TopRow). r.unit < units) r rows all))
+    All-append (λ (p : Pair). p.key < units) (staying_one pinned r h n) (staying_pairs pinned (n + 1) rows homes) (by (same_bool r.pinned pinned && is_in_unit h))
+    (staying_keys units pinned (n + 1) rows homes (All-tail (λ (r : TopRow). r.unit < units) r rows all))
   where
     by : (t : Bool) → All (λ p. p.key < units) (cond t (pair r.unit n ∷ []) [])
     by true = All-cons (λ (p : Pair). p.key < units) (pair r.unit n) [] (All-head (λ (r : TopRow). r.unit < units) r rows all) (All-nil (λ (p : Pair). p.key < units))

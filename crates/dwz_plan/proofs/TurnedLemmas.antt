@@ -5,7 +5,6 @@ use Rattle.std.specs.List.{dedup, dedup_from, list_any, range_with_len, zip}
 use Rattle.std.proofs.lemmas.Bool.{ne_eqb}
 use Rattle.std.proofs.lemmas.List.{append-nil, append_assoc, map-append, take_more, length-take-le}
 use Rattle.std.proofs.lemmas.List.Elements.{All-append, All-cons, All-filter, All-head, All-map, All-tail, filter-append}
-use Rattle.std.proofs.lemmas.List.FromFn.{length-map-range_with_len}
 use Rattle.dwz_groups.specs.declared.tops.TopRow.{TopRow}
 use Rattle.dwz_groups.specs.Groups.{grouped, values_at}
 use Rattle.dwz_plan.specs.Steps.{all_keys, keys_under, pair, turned, unit_pairs}
@@ -22,7 +21,8 @@ unit_keys units (r ∷ rows) (n ∷ reps) all = by r.movable (unit_keys units ro
     rest : List Pair
     rest = map (λ (p : TopRow × ℕ). pair p.0.unit p.1) (filter (λ (p : TopRow × ℕ). p.0.movable) (zip rows reps))
 
-    by : (t : Bool) → All (λ p. p.key < units) (unit_pairs rows reps) → All (λ p. p.key < units) (map (λ (p : TopRow × ℕ). pair p.0.unit p.1) (cond t ((r, n) ∷ filter (λ (p : TopRow × ℕ). p.0.movable) (zip rows reps)) (filter (λ (p : TopRow × ℕ). p.0.movable) (zip rows reps))))
+    by : (t : Bool) → All (λ p. p.key < units) (unit_pairs rows reps) → All (λ p. p.key < units)
+        (map (λ (p : TopRow × ℕ). pair p.0.unit p.1) (cond t ((r, n) ∷ filter (λ (p : TopRow × ℕ). p.0.movable) (zip rows reps)) (filter (λ (p : TopRow × ℕ). p.0.movable) (zip rows reps))))
     by true more = All-cons (λ (p : Pair). p.key < units) (pair r.unit n) rest (All-head (λ (r : TopRow). r.unit < units) r rows all) more
     by false more = more
 
@@ -35,7 +35,8 @@ unit_values m (r ∷ rows) (n ∷ reps) all = by r.movable (unit_values m rows r
     rest : List Pair
     rest = map (λ (p : TopRow × ℕ). pair p.0.unit p.1) (filter (λ (p : TopRow × ℕ). p.0.movable) (zip rows reps))
 
-    by : (t : Bool) → All (λ p. p.value < m) (unit_pairs rows reps) → All (λ p. p.value < m) (map (λ (p : TopRow × ℕ). pair p.0.unit p.1) (cond t ((r, n) ∷ filter (λ (p : TopRow × ℕ). p.0.movable) (zip rows reps)) (filter (λ (p : TopRow × ℕ). p.0.movable) (zip rows reps))))
+    by : (t : Bool) → All (λ p. p.value < m) (unit_pairs rows reps) → All (λ p. p.value < m)
+        (map (λ (p : TopRow × ℕ). pair p.0.unit p.1) (cond t ((r, n) ∷ filter (λ (p : TopRow × ℕ). p.0.movable) (zip rows reps)) (filter (λ (p : TopRow × ℕ). p.0.movable) (zip rows reps))))
     by true more = All-cons (λ (p : Pair). p.value < m) (pair r.unit n) rest (All-head (λ n. n < m) n reps all) more
     by false more = more
 
@@ -58,7 +59,8 @@ turned_values : (s n : ℕ) (lists : List (List ℕ)) → s < n → All (λ p. s
 unfolding turned
 turned_values s n [] l = λ k d l. absurd (omega arith)
 turned_values s n (ns ∷ lists) l =
-    All-append (λ (p : Pair). s < p.value) (map (λ k. pair k n) ns) (turned (n + 1) lists) (All-map (λ (p : Pair). s < p.value) (λ k. pair k n) ns (λ k d in'. l)) (turned_values s (n + 1) lists (omega arith))
+    All-append (λ (p : Pair). s < p.value) (map (λ k. pair k n) ns) (turned (n + 1) lists) (All-map (λ (p : Pair). s < p.value) (λ k. pair k n) ns (λ k d in'. l))
+    (turned_values s (n + 1) lists (omega arith))
 
 -- ---- one more list
 
@@ -67,7 +69,8 @@ unfolding turned
 turned-push n [] ns = append-nil (map (λ k. pair k n) ns) ∙ (let e : n ≡ n + 0 = omega arith in ap (λ m. map (λ k. pair k m) ns) e)
 turned-push n (l ∷ lists) ns =
     let e : n + 1 + length lists ≡ n + suc (length lists) = omega arith in
-    ap (λ (ps : List Pair). map (λ k. pair k n) l ++ ps) (turned-push (n + 1) lists ns ∙ ap (λ m. turned (n + 1) lists ++ map (λ k. pair k m) ns) e) ∙ sym (append_assoc (map (λ k. pair k n) l) (turned (n + 1) lists) (map (λ k. pair k (n + suc (length lists))) ns))
+    ap (λ (ps : List Pair). map (λ k. pair k n) l ++ ps) (turned-push (n + 1) lists ns ∙ ap (λ m. turned (n + 1) lists ++ map (λ k. pair k m) ns) e)
+    ∙ sym (append_assoc (map (λ k. pair k n) l) (turned (n + 1) lists) (map (λ k. pair k (n + suc (length lists))) ns))
 
 pub turned-none : turned 0 [] ≡ []
 unfolding turned
@@ -91,17 +94,20 @@ values-turned_one s v [] = refl
 values-turned_one s v (n ∷ ns) = by (n == v) (values-turned_one s v ns)
   where
     by : (t : Bool) → values_at (map (λ k. pair k s) ns) v ≡ repeats s v ns
-        → map (λ (p : Pair). p.value) (cond t (pair n s ∷ filter (λ (p : Pair). p.key == v) (map (λ k. pair k s) ns)) (filter (λ (p : Pair). p.key == v) (map (λ k. pair k s) ns))) ≡ cond t (s ∷ repeats s v ns) (repeats s v ns)
+        → map (λ (p : Pair). p.value) (cond t (pair n s ∷ filter (λ (p : Pair). p.key == v) (map (λ k. pair k s) ns)) (filter (λ (p : Pair). p.key == v) (map (λ k. pair k s) ns)))
+        ≡ cond t (s ∷ repeats s v ns) (repeats s v ns)
     by true more = ap (λ (xs : List ℕ). s ∷ xs) more
     by false more = more
 
 pub values_at-append : (ps qs : List Pair) (v : ℕ) → values_at (ps ++ qs) v ≡ values_at ps v ++ values_at qs v
 unfolding values_at
-values_at-append ps qs v = ap (map (λ (p : Pair). p.value)) (filter-append (λ (p : Pair). p.key == v) ps qs) ∙ map-append (λ (p : Pair). p.value) (filter (λ (p : Pair). p.key == v) ps) (filter (λ (p : Pair). p.key == v) qs)
+values_at-append ps qs v = ap (map (λ (p : Pair). p.value)) (filter-append (λ (p : Pair). p.key == v) ps qs) ∙ map-append (λ (p : Pair). p.value) (filter (λ (p : Pair). p.key == v) ps)
+    (filter (λ (p : Pair). p.key == v) qs)
 
 dedup_from-above : (s : ℕ) (ys : List ℕ) → All (λ y. s < y) ys → dedup_from nat_eq s ys ≡ s ∷ dedup nat_eq ys
 dedup_from-above s [] all = refl
-dedup_from-above s (y ∷ ys) all = let above : s < y = All-head (λ y. s < y) y ys all in ap (λ t. cond t (dedup_from nat_eq s ys) (s ∷ dedup_from nat_eq y ys)) (ne_eqb y s (λ e. omega (arith, e, above)))
+dedup_from-above s (y ∷ ys) all = let above : s < y = All-head (λ y. s < y) y ys all in ap (λ t. cond t (dedup_from nat_eq s ys) (s ∷ dedup_from nat_eq y ys))
+    (ne_eqb y s (λ e. omega (arith, e, above)))
 
 dedup_from-repeats : (s v : ℕ) (ns ys : List ℕ) → All (λ y. s < y) ys → dedup_from nat_eq s (repeats s v ns ++ ys) ≡ s ∷ dedup nat_eq ys
 unfolding repeats
@@ -129,11 +135,13 @@ any_value [] k v = refl
 any_value (p ∷ pairs) k v = by (p.key == k) (any_value pairs k v)
   where
     by : (t : Bool) → list_any (λ n. n == v) (values_at pairs k) ≡ list_any (λ p. p.key == k && p.value == v) pairs
-        → list_any (λ n. n == v) (map (λ (p : Pair). p.value) (cond t (p ∷ filter (λ (q : Pair). q.key == k) pairs) (filter (λ (q : Pair). q.key == k) pairs))) ≡ ((t && p.value == v) || list_any (λ p. p.key == k && p.value == v) pairs)
+        → list_any (λ n. n == v) (map (λ (p : Pair). p.value) (cond t (p ∷ filter (λ (q : Pair). q.key == k) pairs) (filter (λ (q : Pair). q.key == k) pairs)))
+        ≡ ((t && p.value == v) || list_any (λ p. p.key == k && p.value == v) pairs)
     by true more = ap (λ b. p.value == v || b) more
     by false more = more
 
-keys_from : (pairs : List Pair) (v s n : ℕ) → dedup nat_eq (values_at (turned s (map (values_at pairs) (range_with_len s n))) v) ≡ filter (λ k. list_any (λ p. p.key == k && p.value == v) pairs) (range_with_len s n)
+keys_from : (pairs : List Pair) (v s n : ℕ) → dedup nat_eq (values_at (turned s (map (values_at pairs) (range_with_len s n))) v) ≡ filter (λ k. list_any (λ p. p.key == k && p.value == v) pairs)
+    (range_with_len s n)
 unfolding turned values_at
 keys_from pairs v s zero = refl
 keys_from pairs v s (suc n) =
@@ -151,8 +159,5 @@ map_same f g h (x ∷ xs) e = (λ i. e x i ∷ map_same f g h xs e i)
 
 pub all_keys_is : (m n : ℕ) (pairs : List Pair) → map (dedup nat_eq) (grouped m (turned 0 (grouped n pairs))) ≡ all_keys m n pairs
 unfolding all_keys grouped keys_under
-all_keys_is m n pairs = map_same (dedup nat_eq) (values_at (turned 0 (map (values_at pairs) (range_with_len 0 n)))) (λ v. filter (λ k. list_any (λ p. p.key == k && p.value == v) pairs) (range_with_len 0 n)) (range_with_len 0 m) (λ v. keys_from pairs v 0 n)
-
-pub length-grouped : (n : ℕ) (pairs : List Pair) → length (grouped n pairs) ≡ n
-unfolding grouped
-length-grouped n pairs = length-map-range_with_len (values_at pairs) 0 n
+all_keys_is m n pairs = map_same (dedup nat_eq) (values_at (turned 0 (map (values_at pairs) (range_with_len 0 n))))
+    (λ v. filter (λ k. list_any (λ p. p.key == k && p.value == v) pairs) (range_with_len 0 n)) (range_with_len 0 m) (λ v. keys_from pairs v 0 n)

@@ -1,5 +1,6 @@
 -- The plan of rows: the groups that gain move, and all else stays.
-use Rattle.std.specs.Prelude.{◌≡◌, ℕ, zero, suc, ◌+◌, Bool, true, false, List, [], ◌∷◌, ◌++◌, Option, Some, None, ◌==◌, ◌&&◌, not, filter, length, map, slice_index_or, if◌then◌else◌}
+use Rattle.std.specs.Prelude.{◌≡◌, ℕ, zero, suc, ◌+◌, Bool, true, false, List, [], ◌∷◌, ◌++◌, Option, Some, None, ◌==◌, ◌&&◌, not, filter}
+use Rattle.std.specs.Prelude.{length, map, slice_index_or, if◌then◌else◌}
 use Rattle.dwz_groups.specs.Groups.{grouped}
 use Rattle.dwz_gain.specs.Gaining.{edges_from, gains_alone, weight_of}
 use Rattle.dwz_spread.specs.Spreading.{IsSpread}
@@ -7,7 +8,7 @@ use Rattle.dwz_plan.specs.declared.plan.Home.{Home as Place}
 use Rattle.dwz_plan.specs.declared.plan.Home.TheVariants.{Common as InCommon, Local as InFile, Stay as InUnit}
 use Rattle.dwz_plan.specs.declared.plan.Partial.{Partial}
 use Rattle.dwz_plan.specs.Planned.{Planned, imports_from, numbers, partials, place, rep, units_of}
-use Rattle.dwz_plan.specs.Rows.{Given, Row}
+use Rattle.dwz_plan.specs.Rows.{Given, TopFacts}
 use Rattle.dwz_plan.specs.Steps.{is_in_unit}
 
 -- ---- what is marked
@@ -55,21 +56,23 @@ AreMarks weights targets parts places marks =
 
 -- the marks of the groups that gain by themselves have spread to those that they refer into
 abbrev pub IsGaining : Given → List Bool → Type 0
-IsGaining g marks = IsSpread (grouped (length (partials g)) (edges_from (groups_of g) (groups_of g) g.targets)) (map (part_seed g.weights) (partials g)) marks
+IsGaining g marks = IsSpread (grouped (length (partials g)) (edges_from (groups_of g) (groups_of g) g.targets))
+    (map (part_seed g.weights) (partials g)) marks
 
 -- ---- the plan
 
-abbrev pub home_after : List Bool → Given → Row → Place
+abbrev pub home_after : List Bool → Given → TopFacts → Place
 home_after marks g a = place_after marks (place g a)
 
-abbrev pub stand_after : List Bool → Given → Row → ℕ
+abbrev pub stand_after : List Bool → Given → TopFacts → ℕ
 stand_after marks g a = if is_in_unit (home_after marks g a) then a.number else rep g a
 
-unfoldable pub staying_after : List Bool → Given → ℕ → List Row
+unfoldable pub staying_after : List Bool → Given → ℕ → List TopFacts
 staying_after marks g unit = filter (λ a. a.unit == unit && is_in_unit (home_after marks g a)) g.rows
 
 unfoldable pub kept_after : List Bool → Given → ℕ → List ℕ
-kept_after marks g unit = numbers (filter (λ a. a.pinned) (staying_after marks g unit) ++ filter (λ a. not a.pinned) (staying_after marks g unit))
+kept_after marks g unit = numbers (filter (λ a. a.pinned) (staying_after marks g unit)
+    ++ filter (λ a. not a.pinned) (staying_after marks g unit))
 
 unfoldable pub gained : List Bool → Given → Planned
 gained marks g = record {

@@ -6,16 +6,17 @@ use Rattle.dwz_alike.specs.Deciding.{Test}
 use Rattle.dwz_alike.specs.Spots.{FileUnit, Spot, file_numbers}
 use Rattle.dwz_moving.specs.Gain.{gain_rule}
 use Rattle.dwz_groups.specs.declared.tops.Tops.{Tops}
-use Rattle.dwz_plan.specs.declared.plan.Scope.{Scope}
+use Rattle.dwz_plan.specs.declared.plan.Sharing.{Sharing}
 use Rattle.dwz_plan.specs.Gained.{IsPlanOf, IsWhole}
 use Rattle.dwz_plan.specs.Planned.{Planned}
 use Rattle.dwz_plan.specs.Rows.{Given, given}
-use Rattle.dwz_plan.specs.Shows.{IsLeast, ShowsPlan, ShowsTops}
+use Rattle.dwz_plan.specs.Shows.{HaveLeast, ShowsPlan, ShowsTops}
 
 -- where rows show tops, and least numbers decide which are alike, the plan is that of the units by gain
 abbrev pub PlanLaw : Type 0
 PlanLaw =
-    (units : List (FileUnit Spot)) (alike : Test) (scope : Scope) (tops : Tops) (least : List ℕ) (plan : Planned) → ShowsTops units tops → IsLeast scope tops least alike
+    (units : List (FileUnit Spot)) (alike : Test) (scope : Sharing) (tops : Tops) (least : List ℕ) (plan : Planned) → ShowsTops units tops
+    → HaveLeast scope tops least alike
     → IsPlanOf (given scope tops least) plan → ShowsPlan (gain_rule alike units) units tops.files plan
 
 -- there is just one plan
@@ -27,7 +28,8 @@ WholeLaw = (g : Given) (plan : Planned) → IsPlanOf g plan → IsWhole g plan
 
 -- each top has a row
 abbrev pub RowsLaw : Type 0
-RowsLaw = (scope : Scope) (tops : Tops) (least : List ℕ) → length least ≡ length tops.rows → length (given scope tops least).rows ≡ length tops.rows
+RowsLaw = (scope : Sharing) (tops : Tops) (least : List ℕ) → length least ≡ length tops.rows → length (given scope tops least).rows
+    ≡ length tops.rows
 
 -- files of documents are numbered as here
 abbrev pub FilesLaw : Type 0

@@ -9,29 +9,29 @@ use Rattle.dwz_alike.specs.Spots.{same_numbers}
 use Rattle.dwz_plan.specs.declared.plan.Home.{Home as Place}
 use Rattle.dwz_plan.specs.declared.plan.Home.TheVariants.{Common as InCommon, Local as InFile, Stay as InUnit}
 use Rattle.dwz_plan.specs.declared.plan.Partial.{Partial}
-use Rattle.dwz_plan.specs.declared.plan.Scope.{Scope}
-use Rattle.dwz_plan.specs.declared.plan.Scope.TheVariants.{Together, Each}
-use Rattle.dwz_plan.specs.Rows.{Given, Row}
+use Rattle.dwz_plan.specs.declared.plan.Sharing.{Sharing}
+use Rattle.dwz_plan.specs.declared.plan.Sharing.TheVariants.{Together, Each}
+use Rattle.dwz_plan.specs.Rows.{Given, TopFacts}
 
 -- ---- alike, users, the one that stands for all
 
-abbrev pub in_scope : Scope → Row → Row → Bool
+abbrev pub in_scope : Sharing → TopFacts → TopFacts → Bool
 in_scope Together a b = true
 in_scope Each a b = a.file == b.file
 
 -- both may move, in one scope, with one least
-abbrev pub alike : Scope → Row → Row → Bool
+abbrev pub alike : Sharing → TopFacts → TopFacts → Bool
 alike scope a b = a.movable && (b.movable && (in_scope scope a b && a.least == b.least))
 
 abbrev pub units_of : Given → List ℕ
 units_of g = range_with_len 0 (length g.files_of_units)
 
 -- the units that have a row alike to it, in order
-unfoldable pub users : Given → Row → List ℕ
+unfoldable pub users : Given → TopFacts → List ℕ
 users g a = filter (λ unit. list_any (λ b. b.unit == unit && alike g.scope a b) g.rows) (units_of g)
 
 -- the number of the first row alike to it; else its own
-abbrev pub rep : Given → Row → ℕ
+abbrev pub rep : Given → TopFacts → ℕ
 rep g a = option_map_or (λ b. b.number) (find (alike g.scope a) g.rows) a.number
 
 abbrev pub reps_of : Given → List ℕ
@@ -43,16 +43,16 @@ reps_of g = map (rep g) g.rows
 abbrev pub home_of : List ℕ → List ℕ → Home
 home_of files us = home_in (map (slice_index files) us)
 
-abbrev pub home : Given → Row → Home
+abbrev pub home : Given → TopFacts → Home
 home g a = home_of g.files_of_units (users g a)
 
 -- ---- groups: the partial units, if each row that has a home moves
 
 -- the rows that stand for those alike to them and have that home
-unfoldable pub representatives : Given → Home → List Row
+unfoldable pub representatives : Given → Home → List TopFacts
 representatives g h = filter (λ a. same_home (home g a) h && rep g a == a.number) g.rows
 
-abbrev pub numbers : List Row → List ℕ
+abbrev pub numbers : List TopFacts → List ℕ
 numbers rows = map (λ a. a.number) rows
 
 -- the common file's number is the number of files
@@ -62,7 +62,12 @@ file_of_home files (Local file) = file
 file_of_home files Stay = 0
 
 abbrev pub partial_with : Given → Home → List ℕ → Partial
-partial_with g h us = record { file = file_of_home g.files h; users = us; tops = numbers (filter (λ a. same_numbers (users g a) us) (representatives g h)) }
+partial_with g h us = record {
+  file = file_of_home g.files h;
+  users = us;
+  tops =
+      numbers (filter (λ a. same_numbers (users g a) us) (representatives g h));
+}
 
 -- one for each list of users, in the order of the first rows
 unfoldable pub partials_at : Given → Home → List Partial
@@ -84,7 +89,7 @@ place_at (Local file) n = InFile n
 place_at Stay n = InUnit
 
 -- where it goes, with the number of the partial unit
-unfoldable pub place : Given → Row → Place
+unfoldable pub place : Given → TopFacts → Place
 place g a = place_at (home g a) (number_in (partials g) (users g a))
 
 -- ---- of each unit

@@ -1,5 +1,6 @@
 -- The steps in which a plan is made.
-use Rattle.std.specs.Prelude.{ℕ, zero, suc, ◌+◌, Bool, true, false, List, [], ◌∷◌, ◌++◌, ◌==◌, ◌&&◌, not, Option, Some, None, filter, fold, length, map, slice_index, slice_index_or, if◌then◌else◌}
+use Rattle.std.specs.Prelude.{ℕ, zero, suc, ◌+◌, Bool, true, false, List, [], ◌∷◌, ◌++◌, ◌==◌, ◌&&◌, not, Option, Some, None, filter, fold}
+use Rattle.std.specs.Prelude.{length, map, slice_index, slice_index_or, if◌then◌else◌}
 use Rattle.std.specs.List.{concat, list_any, position_or_len, range_with_len, zip}
 use Rattle.dwz_groups.specs.declared.tops.TopRow.{TopRow}
 use Rattle.dwz_moving.specs.Homes.{Common, Home, Local, Stay}

@@ -12,7 +12,4 @@ mod units;
 mod users;
 
 pub use laws::plan_shows;
-pub use plan::{Home, Partial, Plan, Scope};
-
-#[cfg(test)]
-mod tests;
+pub use plan::{Home, Partial, Plan, Sharing};

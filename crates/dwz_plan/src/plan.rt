@@ -17,7 +17,7 @@ use std::marker::Model;
 
 /// Which files may share.
 #[derive(Clone, Copy, Debug, PartialEq, Eq)]
-pub enum Scope {
+pub enum Sharing {
     /// All files together.
     Together,
     /// Each file by itself.
@@ -55,7 +55,7 @@ struct Moves {
     reps: Vec<u32>,
 }
 
-fn moved(alloc: Global, tops: &Tops, least: &[u32], scope: Scope) -> Result<Moves, NoMemory>
+fn moved(alloc: Global, tops: &Tops, least: &[u32], scope: Sharing) -> Result<Moves, NoMemory>
     requires rows { length tops.now.rows < 2 ^ 32 }
     requires units { length tops.now.files_of_units < 2 ^ 32 }
     requires least { length least.now ≡ length tops.now.rows }
@@ -101,7 +101,14 @@ impl Model for Plan {
 
     ghost Value = { Planned };
 
-    ghost view = { λ p. record { partials = p.partials.items; homes = p.homes.items; stand_ins = p.stand_ins.items; kept = p.kept; imports = p.imports } };
+    ghost view = { λ p. record {
+      partials = p.partials.items;
+      homes = p.homes.items;
+      stand_ins = p.stand_ins.items;
+      kept = p.kept;
+      imports =
+          p.imports;
+    } };
 }
 
 impl Plan {
@@ -109,7 +116,7 @@ impl Plan {
     /// are alike to none. Where each file is by itself, equal numbers in different files don't make tops alike.
     /// A group of tops, those with the same users, moves if that saves more than it takes, or if a top of a group that
     /// moves refers into it; all else stays.
-    pub fn make(alloc: Global, tops: &Tops, least: &[u32], scope: Scope) -> Result<Plan, NoMemory>
+    pub fn make(alloc: Global, tops: &Tops, least: &[u32], scope: Sharing) -> Result<Plan, NoMemory>
         requires rows { length tops.now.rows < 2 ^ 32 }
         requires units { length tops.now.files_of_units < 2 ^ 32 }
         requires least { length least.now ≡ length tops.now.rows }

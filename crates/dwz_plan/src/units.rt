@@ -1,5 +1,6 @@
 //! What units keep and import.
-ghost use Rattle.std.specs.Prelude.{◌≡◌, ℕ, ◌+◌, ◌-◌, ◌<◌, ◌≤◌, ◌^◌, ◌++◌, ◌∷◌, [], true, false, All, length, map, IfOk, OnOk, ◌&&◌, if◌then◌else◌};
+ghost use Rattle.std.specs.Prelude.{◌≡◌, ℕ, ◌+◌, ◌-◌, ◌<◌, ◌≤◌, ◌^◌, ◌++◌, ◌∷◌, [], true, false, All, length, map, IfOk, OnOk, ◌&&◌};
+ghost use Rattle.std.specs.Prelude.{if◌then◌else◌};
 ghost use Rattle.dwz_groups.specs.Groups.{grouped};
 ghost use Rattle.dwz_plan.specs.Steps.{is_in_unit, same_bool, staying_pairs, turned};
 
@@ -59,7 +60,8 @@ pub(crate) fn kept(
     requires few { length rows.now < 2 ^ 32 }
     requires homes { length homes.now ≡ length rows.now }
     requires units { All (λ row. row.unit < units) rows.now }
-    ensures { IfOk result (λ kept. kept ≡ grouped units (staying_pairs true 0 rows.now homes.now ++ staying_pairs false 0 rows.now homes.now)) }
+    ensures { IfOk result (λ kept. kept ≡ grouped units
+        (staying_pairs true 0 rows.now homes.now ++ staying_pairs false 0 rows.now homes.now)) }
 {
     let mut pairs = Vec::new(alloc);
     push_staying(&mut pairs, rows, homes, true)?;

@@ -1,14 +1,15 @@
 -- What an outline says of tops meets what is asked of those whose least alike ones are looked for, and of which a plan is made.
-use Rattle.std.proofs.Common.{◌≡◌, ℕ, suc, ◌+◌, ◌<◌, All, Bool, true, false, List, [], ◌∷◌, length, get_or, refl, sym, ap, subst, ◌∙◌, inl, inr, arith}
+use Rattle.std.proofs.Common.{◌≡◌, ℕ, suc, ◌<◌, All, Bool, true, false, List, [], ◌∷◌, length, get_or, refl, sym, ap, subst, ◌∙◌, inl, inr, arith}
 use Rattle.std.proofs.lemmas.List.{get_or_default, length-map}
 use Rattle.dwz_meanings.specs.Documents.{Doc}
 use Rattle.dwz_docs.specs.Lists.{In}
-use Rattle.dwz_seen.specs.Lists.{Nth}
-use Rattle.dwz_alike.specs.Alike.{Bound, Movable, binds_itself}
+use Rattle.dwz_docs.proofs.ListFacts.{all_more}
+use Rattle.dwz_seen.proofs.Members.{nth_below}
 use Rattle.dwz_alike.specs.Deciding.{is_movable}
 use Rattle.dwz_alike.specs.Spots.{FileUnit, Spot, Top, tops_of, units_of}
 use Rattle.dwz_alike.proofs.TopNumbers.{top_at, tops_numbers}
 use Rattle.dwz_alike.proofs.Tops.{unit_of}
+use Rattle.dwz_alike.proofs.Targets.{binds_false}
 use Rattle.dwz_groups.specs.declared.tops.TopRow.{TopRow}
 use Rattle.dwz_groups.specs.declared.tops.Tops.{Tops}
 use Rattle.dwz_plan.specs.Shows.{ShowsRows}
@@ -18,23 +19,13 @@ use Rattle.dwz_least.specs.LeastLaws.{flags_of}
 use Rattle.dwz_classes.specs.Shown.{ShowTargets}
 use Rattle.dwz_outline.specs.Outlines.{IsOutline}
 use Rattle.dwz_outline.proofs.FilesLow.{files_low}
-use Rattle.dwz_outline.proofs.ListParts.{all_more, all_none}
+use Rattle.dwz_outline.proofs.ListParts.{all_none}
 use Rattle.dwz_meanings.specs.Meanings.{IfSo}
 
 -- ---- a top that may move doesn't bind itself
 
-unbound : (units : List (FileUnit Spot)) (t : Top) → In t (tops_of units) → Movable units t.number → binds_itself units t ≡ true → ⊥
-unfolding Bound
-unbound units t there m e = m.free 0 (t, there, refl, e)
-
-free_top : (units : List (FileUnit Spot)) (t : Top) → In t (tops_of units) → Movable units t.number → binds_itself units t ≡ false
-free_top units t there m = by (binds_itself units t) refl where
-  by : (b : Bool) → binds_itself units t ≡ b → binds_itself units t ≡ false
-  by false e = e
-  by true e = absurd (unbound units t there m e)
-
 pub outline_shows : (docs : List (Doc ℕ)) (tops : Tops) → IsOutline docs tops → ShowTargets (units_of docs) (flags_of tops) tops.targets
-outline_shows docs tops o = record { flags = o.movable; are = λ t there m. o.targets t there (free_top (units_of docs) t there m) }
+outline_shows docs tops o = record { flags = o.movable; are = λ t there m. o.targets t there (binds_false (units_of docs) t there m) }
 
 pub flags_show : (docs : List (Doc ℕ)) (tops : Tops) (flags : List Bool) → IsOutline docs tops → flags ≡ flags_of tops → ShowTargets (units_of docs) flags tops.targets
 flags_show docs tops flags o same = subst (λ (w : List Bool). ShowTargets (units_of docs) w tops.targets) (sym same) (outline_shows docs tops o)
@@ -74,11 +65,6 @@ pub units_many : (docs : List (Doc ℕ)) (tops : Tops) → IsOutline docs tops �
 units_many docs tops o = ap (λ (w : List ℕ). length w) o.shows.files_of_units ∙ length-map (units_of docs) (λ (f : FileUnit Spot). f.file)
 
 -- ---- units and targets are there
-
-nth_below : {X : Type 0} (s : ℕ) (xs : List X) (n : ℕ) (x : X) → Nth s xs n x → n < s + length xs
-nth_below s [] n x h = absurd h
-nth_below s (y ∷ xs) n x (inl e) = (let q = e.0 in omega arith)
-nth_below s (y ∷ xs) n x (inr later) = (let q = nth_below (suc s) xs n x later in omega arith)
 
 unit_low : (units : List (FileUnit Spot)) (t : Top) → In t (tops_of units) → t.unit < length units
 unit_low units t there = let o = unit_of units t there in let lt = nth_below 0 units t.unit o.unit o.nth in omega arith

@@ -3,7 +3,8 @@ use Rattle.std.proofs.Common.{◌≡◌, ◌≢◌, ℕ, suc, ◌<◌, ◌≤◌
 use Rattle.std.specs.List.{list_any, range_with_len}
 use Rattle.dwz_meanings.specs.Documents.{DwUnit}
 use Rattle.dwz_docs.specs.Lists.{In}
-use Rattle.dwz_seen.proofs.Members.{each_in, in_cases, in_map_from}
+use Rattle.dwz_docs.proofs.ListFacts.{in_cases}
+use Rattle.dwz_seen.proofs.Members.{each_in, in_map_from}
 use Rattle.dwz_alike.specs.Alike.{Apart, IsAlike}
 use Rattle.dwz_alike.specs.Spots.{FileUnit, Spot}
 use Rattle.dwz_moving.specs.Homes.{Common, Home, Local, Rule, home, is_home, moves, same_home}

@@ -1,33 +1,25 @@
 -- A plan has no more partial units than there are tops; their users and their tops are there.
-use Rattle.std.proofs.Common.{◌≡◌, ℕ, suc, ◌<◌, ◌≤◌, All, Bool, true, false, List, [], ◌∷◌, cond, filter, length, map, not, sym, ap, subst, arith}
+use Rattle.std.proofs.Common.{◌≡◌, ℕ, ◌<◌, ◌≤◌, All, List, [], ◌∷◌, length, map, not, sym, ap, subst, arith}
 use Rattle.std.proofs.lemmas.List.{length-map}
 use Rattle.dwz_alike.specs.Spots.{same_numbers}
 use Rattle.dwz_moving.specs.Plan.{distinct}
 use Rattle.dwz_groups.specs.declared.tops.Tops.{Tops}
 use Rattle.dwz_groups.specs.Groups.{grouped}
+use Rattle.dwz_spread.proofs.PairLemmas.{grouped_length}
 use Rattle.dwz_plan.specs.declared.plan.Partial.{Partial}
-use Rattle.dwz_plan.specs.declared.plan.Scope.{Scope as Sharing}
+use Rattle.dwz_plan.specs.declared.plan.Sharing.{Sharing}
 use Rattle.dwz_plan.specs.Gained.{IsPlanOf, among, gained}
 use Rattle.dwz_plan.specs.Planned.{Planned, partials}
 use Rattle.dwz_plan.specs.Rows.{Given, given}
 use Rattle.dwz_plan.specs.Steps.{lists_of, movers_by, numbered, parts_by, users_at}
-use Rattle.dwz_plan.proofs.GainedRows.{among_few, among_in, fits, users_left}
+use Rattle.dwz_plan.proofs.GainedRows.{among_few, among_in, filter_few, fits, users_left}
 use Rattle.dwz_plan.proofs.ListFacts.{all_from_in}
 use Rattle.dwz_plan.proofs.MadeLemmas.{movers_few}
 use Rattle.dwz_plan.proofs.PlaceLemmas.{length-partials_of}
 use Rattle.dwz_plan.proofs.RowLemmas.{length-rows_from}
 use Rattle.dwz_plan.proofs.StepLemmas.{length_lists, lists, parts_are}
-use Rattle.dwz_plan.proofs.TurnedLemmas.{length-grouped}
 
 -- ---- before what gains nothing is left out
-
-filter_few : {X : Type 0} (p : X → Bool) (xs : List X) → length (filter p xs) ≤ length xs
-filter_few p [] = omega arith
-filter_few {X} p (x ∷ xs) = by (p x) (filter_few p xs)
-  where
-    by : (b : Bool) → length (filter p xs) ≤ length xs → length (cond b (x ∷ filter p xs) (filter p xs)) ≤ suc (length xs)
-    by true le = omega arith
-    by false le = omega arith
 
 distinct_few : (all : List (List ℕ)) → length (distinct all) ≤ length all
 unfolding distinct
@@ -47,7 +39,7 @@ by_few fs files users =
     let movers = movers_by fs files users in
     let some = lists_of users movers in
     let tops = grouped (length some) (numbered users movers) in
-    let many = length-partials_of fs files some tops (length-grouped (length some) (numbered users movers)) in
+    let many = length-partials_of fs files some tops (grouped_length (length some) (numbered users movers)) in
     omega (arith, many, lists_few users movers, movers_few fs files users)
 
 all_few : (sharing : Sharing) (tops : Tops) (least : List ℕ) → length least ≡ length tops.rows → length (partials (given sharing tops least)) ≤ length tops.rows

@@ -8,12 +8,12 @@ use Rattle.dwz_alike.proofs.AlikeLaws.{alike_decides}
 use Rattle.dwz_moving.specs.Homes.{IsChoice}
 use Rattle.dwz_moving.proofs.GainLemmas.{gain_choice}
 use Rattle.dwz_groups.specs.declared.tops.Tops.{Tops}
-use Rattle.dwz_plan.specs.declared.plan.Scope.{Scope as Sharing}
-use Rattle.dwz_plan.specs.declared.plan.Scope.TheVariants.{Each, Together as AllTogether}
+use Rattle.dwz_plan.specs.declared.plan.Sharing.{Sharing}
+use Rattle.dwz_plan.specs.declared.plan.Sharing.TheVariants.{Each, Together as AllTogether}
 use Rattle.dwz_plan.specs.Gained.{IsPlanOf}
 use Rattle.dwz_plan.specs.Planned.{Planned}
 use Rattle.dwz_plan.specs.Rows.{given}
-use Rattle.dwz_plan.specs.Shows.{IsLeast, ShowsPlan}
+use Rattle.dwz_plan.specs.Shows.{HaveLeast, ShowsPlan}
 use Rattle.dwz_plan.proofs.GainedLemmas.{plan_gained}
 use Rattle.dwz_plan.proofs.OnePlan.{whole_plan}
 use Rattle.dwz_plan.proofs.RowLemmas.{length-rows_from}
@@ -33,7 +33,7 @@ pub choice_is : (sharing : Sharing) (docs : List (Doc ℕ)) → IsChoice (units_
 choice_is sharing docs = gain_choice (alike_scope sharing) (units_of docs) (alike_test (alike_scope sharing) (units_of docs)) (alike_is sharing docs)
 
 decides : (sharing : Sharing) (docs : List (Doc ℕ)) (tops : Tops) (least : List ℕ) → IsOutline docs tops → AreLeast (units_of docs) least
-    → IsLeast sharing tops least (alike_test (alike_scope sharing) (units_of docs))
+    → HaveLeast sharing tops least (alike_test (alike_scope sharing) (units_of docs))
 decides AllTogether docs tops least o are = decides_together (units_of docs) tops least o.shows o.movable are
 decides Each docs tops least o are = decides_apart (units_of docs) tops least o.shows o.movable are
 

@@ -1,6 +1,8 @@
 -- What is known of each top, by its row and by where it goes.
 use Rattle.std.proofs.Common.{◌≡◌, ℕ, zero, suc, false, List, [], ◌∷◌, map, not, Some, slice_get, get_or, sym, ap, ◌∙◌, arith}
+use Rattle.dwz_docs.proofs.ListFacts.{got_below}
 use Rattle.dwz_alike.specs.Spots.{FileUnit, Spot, Top, tops_of, units_of}
+use Rattle.dwz_alike.proofs.TopNumbers.{top_there}
 use Rattle.dwz_seen.proofs.Members.{each_of}
 use Rattle.dwz_moving.specs.Homes.{Home, Rule, is_home, moves}
 use Rattle.dwz_moving.specs.Plan.{PartialUnit, is_pinned, pinned_of}
@@ -8,8 +10,6 @@ use Rattle.dwz_groups.specs.declared.tops.TopRow.{TopRow}
 use Rattle.dwz_plan.specs.declared.plan.Home.{Home as Place}
 use Rattle.dwz_plan.specs.declared.plan.Home.TheVariants.{Common as InCommon, Local as InFile, Stay as InUnit}
 use Rattle.dwz_plan.specs.Shows.{IsPlace, ShowsRows}
-use Rattle.dwz_across.proofs.ListGets.{got_below}
-use Rattle.dwz_outline.proofs.OutlineLemmas.{top_there}
 use Rattle.dwz_order.specs.declared.marks.TopMark.{TopMark}
 use Rattle.dwz_order.specs.Marks.{stays_in}
 use Rattle.dwz_order.specs.Named.{MarksTop}

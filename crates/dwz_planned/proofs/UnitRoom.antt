@@ -8,17 +8,14 @@ use Rattle.dwz_graph.specs.Files.{AreKept, AreRead, docs_of}
 use Rattle.dwz_graph.proofs.GraphLemmas.{files_read}
 use Rattle.dwz_index.specs.declared.index.Starts.{Starts}
 use Rattle.dwz_index.specs.Index.{Index}
-use Rattle.dwz_index.proofs.UnitBuilding.{units_few}
 use Rattle.dwz_indexes.specs.Indexed.{AreIndexed, AreIndexes, first_starts, starts_behind}
 use Rattle.dwz_indexes.proofs.RoomLemmas.{entries_few, many_units}
 use Rattle.dwz_unit.specs.Rows.{units_of as raw_units}
+use Rattle.dwz_unit.proofs.ShownLemmas.{units_few}
 use Rattle.dwz_across.specs.Across.{starts_from}
 use Rattle.dwz_across.proofs.FileCounts.{all_ends}
 use Rattle.dwz_across.proofs.FileWalk.{first_doc}
-
-no_doc : (l : Limits) (n : ℕ) (d : Doc ℕ) (docs : List (Doc ℕ)) → files_meaning l n [] ≡ Ok (d ∷ docs) → ⊥
-unfolding files_meaning
-no_doc l n d docs e = cc
+use Rattle.dwz_across.proofs.FileRoom.{no_doc}
 
 room : (most : ℕ) (l : Limits) (contents : List (List ℕ)) (files : List File) (left : Limits) (n : ℕ) (docs : List (Doc ℕ)) (indexes : List Index) (s end : Starts)
     → AreRead l n contents files left → files_meaning l n contents ≡ Ok docs → AreIndexed s docs indexes end → s.unit + l.bytes ≤ most → (k : ℕ) → (starts_from s docs indexes k).unit ≤ most

@@ -4,8 +4,8 @@ use Rattle.dwz_meanings.specs.Documents.{Doc}
 use Rattle.dwz_alike.specs.Spots.{tops_of, units_of}
 use Rattle.dwz_groups.specs.declared.tops.Tops.{Tops}
 use Rattle.dwz_plan.specs.declared.plan.Partial.{Partial}
-use Rattle.dwz_plan.specs.declared.plan.Scope.{Scope as Sharing}
-use Rattle.dwz_plan.specs.declared.plan.Scope.TheVariants.{Each, Together as AllTogether}
+use Rattle.dwz_plan.specs.declared.plan.Sharing.{Sharing}
+use Rattle.dwz_plan.specs.declared.plan.Sharing.TheVariants.{Each, Together as AllTogether}
 use Rattle.dwz_plan.specs.Planned.{Planned}
 
 -- where each file is by itself, none is of the common file, whose number is the number of files

@@ -2,16 +2,15 @@
 use Rattle.std.specs.Prelude.{◌≡◌, ◌≢◌, ℕ, ◌<◌, false, List, [], length}
 use Rattle.std.specs.List.{list_any}
 use Rattle.dwz_meanings.specs.Documents.{Doc}
-use Rattle.dwz_docs.specs.Lists.{In}
-use Rattle.dwz_seen.specs.Lists.{Each}
+use Rattle.dwz_docs.specs.Lists.{Each, In}
 use Rattle.dwz_alike.specs.Alike.{IsAlike}
 use Rattle.dwz_alike.specs.Spots.{tops_of, units_of}
 use Rattle.dwz_moving.specs.Homes.{Common, IsChoice, Rule, same_home}
 use Rattle.dwz_moving.specs.Plan.{PartialUnit, pinned_of}
 use Rattle.dwz_same.specs.Units.{common_units}
 use Rattle.dwz_groups.specs.declared.tops.Tops.{Tops}
-use Rattle.dwz_plan.specs.declared.plan.Scope.{Scope as Sharing}
-use Rattle.dwz_plan.specs.declared.plan.Scope.TheVariants.{Each as EachAlone}
+use Rattle.dwz_plan.specs.declared.plan.Sharing.{Sharing}
+use Rattle.dwz_plan.specs.declared.plan.Sharing.TheVariants.{Each as EachAlone}
 use Rattle.dwz_plan.specs.Planned.{Planned}
 use Rattle.dwz_plan.specs.Shows.{ShowsPlan}
 use Rattle.dwz_outline.specs.Outlines.{IsOutline}

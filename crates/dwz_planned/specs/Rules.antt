@@ -1,16 +1,16 @@
 -- The rule by which tops of files move.
 use Rattle.std.specs.Prelude.{ℕ, List}
 use Rattle.dwz_meanings.specs.Documents.{Doc}
-use Rattle.dwz_alike.specs.Alike.{Apart, Scope, Together}
+use Rattle.dwz_alike.specs.Alike.{Apart, TopScope, Together}
 use Rattle.dwz_alike.specs.Deciding.{alike_test}
 use Rattle.dwz_alike.specs.Spots.{units_of}
 use Rattle.dwz_moving.specs.Gain.{gain_rule}
 use Rattle.dwz_moving.specs.Homes.{Rule}
-use Rattle.dwz_plan.specs.declared.plan.Scope.{Scope as Sharing}
-use Rattle.dwz_plan.specs.declared.plan.Scope.TheVariants.{Each, Together as AllTogether}
+use Rattle.dwz_plan.specs.declared.plan.Sharing.{Sharing}
+use Rattle.dwz_plan.specs.declared.plan.Sharing.TheVariants.{Each, Together as AllTogether}
 
 -- the scope in which tops are alike, where these files share
-abbrev pub alike_scope : Sharing → Scope
+abbrev pub alike_scope : Sharing → TopScope
 alike_scope AllTogether = Together
 alike_scope Each = Apart
 

@@ -3,8 +3,6 @@
 
 mod laws;
 mod planned;
-#[cfg(test)]
-mod tests;
 
 pub use laws::{apart_laws, mark_laws, outline_laws, rule_laws};
 pub use planned::{PlannedFiles, plan_files};

@@ -17,7 +17,7 @@ use dwz_groups::Tops;
 use dwz_index::Index;
 use dwz_model::NoMemory;
 use dwz_outline::outline_files;
-use dwz_plan::{Plan, Scope};
+use dwz_plan::{Plan, Sharing};
 use std::alloc::Global;
 use std::thread::Threads;
 
@@ -67,7 +67,7 @@ pub fn plan_files<R: Threads + Sync, G: Gate>(
     alloc: Global,
     graph: &Graph,
     indexes: &[Index],
-    scope: Scope,
+    scope: Sharing,
     workers: u32,
     gate: &G,
 ) -> Result<PlannedFiles, NoMemory>

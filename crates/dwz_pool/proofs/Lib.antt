@@ -1,1 +1,3 @@
-pub mod StoredLemmas
+pub mod KeyLemmas
+pub mod NumberLemmas
+pub mod PlaceLemmas

@@ -1,22 +1,36 @@
 -- How texts are held in memory.
-use Rattle.std.specs.Prelude.{◌≡◌, ℕ, ◌+◌, ◌^◌, ◌<◌, List, [], ◌∷◌, length, map}
-use Rattle.std.specs.Global.{Vec}
-use Rattle.dwz_docs.specs.TextRows.{text_section}
+use Rattle.std.specs.Prelude.{◌≡◌, ℕ, ◌+◌, ◌^◌, ◌<◌, ◌≤◌, List, [], ◌∷◌, drop, length, map, take}
+use Rattle.std.specs.Vec.{vec_capacity, vec_len}
+use Rattle.dwz_docs.specs.TextRows.{AreDifferent, text_section}
+use Rattle.dwz_pool.specs.declared.rows.Place.{Place}
+use Rattle.dwz_pool.specs.declared.rows.Rows.{Rows}
 
--- a text, and where it begins
-abbrev pub Started : Type 0
-Started = Vec ℕ × ℕ
+-- the bytes at a place
+abbrev pub bytes_at : List ℕ → Place → List ℕ
+bytes_at section place = take place.len (drop place.start section)
 
-abbrev pub texts_in : List Started → List (List ℕ)
-texts_in started = map (λ s. s.0.items) started
+abbrev pub texts_in : List ℕ → List Place → List (List ℕ)
+texts_in section places = map (bytes_at section) places
 
--- each text begins behind the zero byte of the one before it, the first at a place
-abbrev pub FollowEachOther : ℕ → List Started → Type 0
-FollowEachOther at [] = Unit {0}
-FollowEachOther at (s ∷ started) = (s.1 ≡ at) × FollowEachOther (at + (length s.0.items + 1)) started
+-- the texts, in order
+abbrev pub texts_of : Rows → List (List ℕ)
+texts_of rows = texts_in rows.section.items rows.places.items
 
-pub record HasTexts (end : ℕ) (started : List Started) : Type 0 where
-  pub starts : FollowEachOther 0 started
-  pub ends : end ≡ length (text_section (texts_in started))
-  pub few : length started < 2 ^ 32
-  pub short : end < 2 ^ 64
+-- each text begins behind the zero byte of the one before it, the first at a place, and that of the last is the last before the end
+abbrev pub FollowEachOther : ℕ → ℕ → List Place → Type 0
+FollowEachOther at end [] = at ≡ end
+FollowEachOther at end (place ∷ places) = (place.start ≡ at) × FollowEachOther (at + (place.len + 1)) end places
+
+pub record HasTexts (rows : Rows) : Type 0 where
+  pub follow : FollowEachOther 0 (length rows.section.items) rows.places.items
+  pub spelled : rows.section.items ≡ text_section (texts_of rows)
+  pub different : AreDifferent (texts_of rows)
+  pub few : length rows.places.items < 2 ^ 32
+
+-- there is room for a text of that length
+abbrev pub HasRoom : Rows → ℕ → Type 0
+HasRoom rows size = (vec_len rows.section + (size + 1) ≤ vec_capacity rows.section) × (vec_len rows.places + 1 ≤ vec_capacity rows.places)
+
+-- the texts stay
+abbrev pub AreSame : Rows → Rows → Type 0
+AreSame old new = (new.section.items ≡ old.section.items) × (new.places.items ≡ old.places.items)

@@ -2,9 +2,8 @@
 //! (DWARF 5, 7.5.5, class string; 6.2.4).
 #![tactic(auto)]
 
+mod numbers;
+mod rows;
 mod texts;
 
 pub use texts::Texts;
-
-#[cfg(test)]
-mod tests;

@@ -4,8 +4,9 @@ ghost use Rattle.std.specs.Prelude.{◌≡◌, ◌+◌, ◌-◌, ◌^◌, ◌<�
 ghost use Rattle.std.specs.Option.{option_map};
 ghost use Rattle.dwz_docs.specs.TextRows.{AreDifferent, number_of, start_of, text_section, with_text};
 
+use crate::numbers::{Numbers, hash_of};
+use crate::rows::Rows;
 use dwz_model::NoMemory;
-use indexmap::IndexMap;
 use std::alloc::Global;
 use std::marker::Model;
 
@@ -13,10 +14,8 @@ use std::marker::Model;
 /// no two are equal.
 #[derive(Drop)]
 pub struct Texts {
-    // Each text with the place where it begins, if all stand one behind the other with a zero byte after each.
-    starts: IndexMap<Vec<u8>, u64>,
-    // Where the last of them ends.
-    end: u64,
+    rows: Rows,
+    numbers: Numbers,
 }
 
 impl Model for Texts {
@@ -24,11 +23,12 @@ impl Model for Texts {
 
     ghost Value = { List (List ℕ) };
 
-    ghost use Rattle.dwz_pool.specs.Stored.{HasTexts, texts_in};
+    ghost use Rattle.dwz_pool.specs.Numbered.{AreNumbered};
+    ghost use Rattle.dwz_pool.specs.Stored.{HasTexts, texts_of};
 
-    ghost view = { λ t. texts_in t.starts.entries };
+    ghost view = { λ t. texts_of t.rows };
 
-    ghost invariant = { λ t. HasTexts t.end t.starts.entries };
+    ghost invariant = { λ t. HasTexts t.rows × AreNumbered (texts_of t.rows) t.numbers };
 }
 
 impl Texts {
@@ -37,8 +37,8 @@ impl Texts {
         ensures { result ≡ [] }
     {
         Texts {
-            starts: IndexMap::new(alloc),
-            end: 0,
+            rows: Rows::new(alloc),
+            numbers: Numbers::new(alloc),
         }
     }
 
@@ -48,34 +48,28 @@ impl Texts {
         ensures different { AreDifferent self.now }
         ensures short { length (text_section self.now) < 2 ^ 64 }
     {
-        self.starts.len() as u32
+        self.rows.places.len() as u32
     }
 
     /// How many bytes a section has that holds all texts in order, each with a zero byte after it.
     pub fn size(&self) -> u64
         ensures { result ≡ length (text_section self.now) }
     {
-        self.end
+        self.rows.section.len() as u64
     }
 
     /// The text of a number. None exactly where the number isn't below the count.
     pub fn text(&self, i: u32) -> Option<&[u8]>
         ensures { option_map (λ t. t.now) result ≡ slice_get self.now i }
     {
-        match self.starts.get_index(i as usize) {
-            None => None,
-            Some((text, _)) => Some(text.as_slice()),
-        }
+        self.rows.text(i)
     }
 
     /// The number of a text. None exactly where it isn't there.
     pub fn find(&self, text: &[u8]) -> Option<u32>
         ensures { result ≡ number_of self.now text.now }
     {
-        match self.starts.get_index_of(text) {
-            None => None,
-            Some(number) => Some(number as u32),
-        }
+        self.numbers.find(&self.rows, hash_of(text), text)
     }
 
     /// Where a text begins, in bytes from the first of a section that holds all texts in order, each with a zero byte after it.
@@ -83,20 +77,23 @@ impl Texts {
     pub fn start_of(&self, text: &[u8]) -> Option<u64>
         ensures { result ≡ start_of self.now text.now }
     {
-        self.starts.get(text).copied()
+        let number = self.find(text)?;
+        let place = self.rows.places.get(number as usize)?;
+        Some(place.start as u64)
     }
 
     // Appends a text that isn't there. After an error nothing has changed.
-    fn add(&mut self, text: Vec<u8>) -> Result<(), NoMemory>
-        requires new { number_of self.old text.items ≡ None }
+    fn add(&mut self, text: &[u8]) -> Result<(), NoMemory>
+        requires new { number_of self.old text.now ≡ None }
         requires few { length self.old < 2 ^ 32 - 1 }
-        requires short { length (text_section self.old) + (length text.items + 1) < 2 ^ 64 }
-        ensures ok { OnOk result (self.new ≡ self.old ++ text.items ∷ []) }
+        ensures ok { OnOk result (self.new ≡ self.old ++ text.now ∷ []) }
         ensures err { OnErr result (self.new ≡ self.old) }
     {
-        let end = self.end + (text.len() as u64 + 1);
-        self.starts.insert(text, self.end)?;
-        self.end = end;
+        let number = self.rows.places.len() as u32;
+        let alloc = *self.rows.section.allocator();
+        self.rows.reserve(text.len())?;
+        self.numbers.add(alloc, hash_of(text), text, number)?;
+        self.rows.push(text);
         Ok(())
     }
 
@@ -113,7 +110,6 @@ impl Texts {
             return Ok(number);
         }
         let number = self.len();
-        let text = text.to_vec(*self.starts.allocator())?;
         self.add(text)?;
         Ok(number)
     }

@@ -1,11 +1,12 @@
 -- What is asked of a file, and of files one after the other.
-use Rattle.std.proofs.Common.{◌≡◌, ◌≢◌, ◌↔◌, ℕ, zero, suc, ◌+◌, ◌<◌, ◌≤◌, ◌^◌, Bool, true, false, List, [], ◌∷◌, ◌++◌, drop, length, get_or, map, Option, Some, None, Ok, refl, sym, ap, subst, ◌∙◌, inl, inr, arith, append_assoc}
+use Rattle.std.proofs.Common.{◌≡◌, ◌≢◌, ◌↔◌, ℕ, suc, ◌+◌, ◌<◌, ◌≤◌, ◌^◌, Bool, true, false, List, [], ◌∷◌, ◌++◌, drop, length, get_or, map, Option, Some, None, Ok, refl, sym, ap, subst, ◌∙◌, inl, inr}
+use Rattle.std.proofs.Common.{arith, append_assoc}
 use mathlib.Core.Bool.{beq}
 use Rattle.std.specs.Option.{option_eq}
 use Rattle.std.specs.Prelude.{◌||◌, codes, not}
 use Rattle.std.specs.List.{list_any}
 use Rattle.std.proofs.lemmas.Bool.{false≢true}
-use Rattle.std.proofs.lemmas.List.{append-nil, drop-map, drop_all, length-drop, length-take}
+use Rattle.std.proofs.lemmas.List.{append-nil, drop-map, drop_all}
 use Rattle.std.proofs.lemmas.Slice.Eq.{bytes_eq-Decides}
 use Rattle.dwz_back.specs.Prunable.{HasSection, IsPrunable}
 use Rattle.dwz_bytes.specs.Input.{input}
@@ -14,20 +15,24 @@ use Rattle.dwz_docs.specs.declared.elf.Header.{Header}
 use Rattle.dwz_docs.specs.ElfFaults.{file_fault}
 use Rattle.dwz_docs.specs.ElfHeaders.{headers_in, is_there}
 use Rattle.dwz_docs.specs.ElfNames.{name_at, name_table}
-use Rattle.dwz_docs.specs.ElfReading.{bytes_in, elf_fault}
+use Rattle.dwz_docs.specs.ElfReading.{elf_fault}
 use Rattle.dwz_docs.specs.Entries.{given, unless_so}
-use Rattle.dwz_docs.specs.Lists.{In}
+use Rattle.dwz_docs.specs.Lists.{Each, In}
 use Rattle.dwz_docs.specs.OffsetTables.{slots_in}
 use Rattle.dwz_docs.specs.Units.{RawUnit, units_at}
 use Rattle.dwz_docs.proofs.OffsetLemmas.{slots_again, slots_found}
 use Rattle.dwz_docs.proofs.PartLemmas.{bind_ok}
+use Rattle.dwz_docs.proofs.RangeBytes.{bytes_short}
+use Rattle.dwz_docs.proofs.ListFacts.{drop_next}
 use Rattle.dwz_elf.specs.Names.{is_called, is_there_called}
 use Rattle.dwz_graph.specs.declared.file.File.{File}
 use Rattle.dwz_graph.specs.Files.{AreKept, AreRead, IsRead, docs_of}
-use Rattle.dwz_graph.proofs.GraphLemmas.{as_many, files_read, step}
+use Rattle.dwz_graph.proofs.GraphLemmas.{files_read, step}
+use Rattle.dwz_graph.proofs.FileLemmas.{files_few}
 use Rattle.dwz_lines.specs.Sections.{AreTablesFrom, UsesStrp, any_strp}
 use Rattle.dwz_meanings.specs.Documents.{Doc}
-use Rattle.dwz_meanings.specs.Files.{Limits, debug_abbrev, debug_info, ends_at, file_meaning, files_meaning, is_other_machine, is_too_long, limits_after, longest_file, machine_at, machine_of, no_files_before, section_of, sources_of, units_said, with_doc}
+use Rattle.dwz_meanings.specs.Files.{Limits, debug_abbrev, debug_info, ends_at, file_meaning, files_meaning, is_other_machine, is_too_long, limits_after, longest_file, machine_at, machine_of}
+use Rattle.dwz_meanings.specs.Files.{no_files_before, section_of, sources_of, units_said, with_doc}
 use Rattle.dwz_meanings.specs.LineTables.{FileTable, IsFileTable, TextSections, is_header, line_length}
 use Rattle.dwz_meanings.specs.Meanings.{Sources, texts_of, units_meaning}
 use Rattle.dwz_meanings.specs.Files.{around_of}
@@ -35,11 +40,11 @@ use Rattle.dwz_meanings.proofs.AgreeLemmas.{same_meaning}
 use Rattle.dwz_meanings.proofs.FileLemmas.{file_agrees}
 use Rattle.dwz_meanings.proofs.LineTableLemmas.{file_table_agrees}
 use Rattle.dwz_meanings.proofs.MeaningLemmas.{units_agree}
-use Rattle.dwz_model.specs.declared.fault.Fault.{Fault}
+use Rattle.dwz_meanings.proofs.UnitMeans.{no_files}
 use Rattle.dwz_model.specs.declared.fault.Reason.TheVariants.{FileSize, Machine}
 use Rattle.dwz_out.specs.Out.{ArePrunable}
+use Rattle.dwz_out.proofs.GivenSections.{no_fault_at}
 use Rattle.dwz_prunable.proofs.RowLemmas.{both_pass}
-use Rattle.dwz_seen.specs.Lists.{Each}
 use Rattle.dwz_unit.specs.Rows.{units_of}
 use Rattle.dwz_writing.specs.Pruned.{UnitStays}
 
@@ -60,7 +65,8 @@ module _ (bytes name : List ℕ) where
   any_there : (headers : List Header) → list_any test headers ≡ true → (h : Header) × In h headers × (is_there h ≡ true) × (name_at (name_table bytes) h.name ≡ Some name)
   any_there [] e = absurd (false≢true e)
   any_there (h ∷ headers) e = go (any_there headers) (test h) refl e where
-    go : ((list_any test headers ≡ true) → (g : Header) × In g headers × (is_there g ≡ true) × (name_at (name_table bytes) g.name ≡ Some name)) → (b : Bool) → test h ≡ b → (b || list_any test headers) ≡ true → (g : Header) × In g (h ∷ headers) × (is_there g ≡ true) × (name_at (name_table bytes) g.name ≡ Some name)
+    go : ((list_any test headers ≡ true) → (g : Header) × In g headers × (is_there g ≡ true) × (name_at (name_table bytes) g.name ≡ Some name)) → (b : Bool) → test h ≡ b
+        → (b || list_any test headers) ≡ true → (g : Header) × In g (h ∷ headers) × (is_there g ≡ true) × (name_at (name_table bytes) g.name ≡ Some name)
     go deeper true is passes = (let r = (both_pass (is_there h) (is_called name (name_at (name_table bytes) h.name))).0 is in (h, inl refl, r.0, called name (name_at (name_table bytes) h.name) r.1))
     go deeper false is more = (let r = deeper more in (r.0, inr r.1, r.2, r.3))
 
@@ -77,7 +83,8 @@ module _ (bytes name : List ℕ) where
 
   pub no_section : list_any test (headers_in bytes) ≡ false → HasSection bytes name → ⊥
   no_section none h =
-      let is : test h.header ≡ true = (both_pass (is_there h.header) (is_called name (name_at (name_table bytes) h.header.name))).1 (h.content, calls name (name_at (name_table bytes) h.header.name) h.named) in
+      let is : test h.header ≡ true = (both_pass (is_there h.header) (is_called name (name_at (name_table bytes) h.header.name))).1
+      (h.content, calls name (name_at (name_table bytes) h.header.name) h.named) in
       false≢true (sym none ∙ there_any (headers_in bytes) h.header h.there is)
 
 -- ---- a section of line tables
@@ -109,17 +116,9 @@ one_use s line (Some other) strp a b =
 
 -- ---- how long a section is
 
-in_bytes : (bytes : List ℕ) (o : Option (ℕ × ℕ)) → length (bytes_in bytes o) ≤ length bytes
-in_bytes bytes None = omega arith
-in_bytes bytes (Some r) = omega (arith, length-take r.1 (drop r.0 bytes), length-drop r.0 bytes)
-
 section_short : (bytes : List ℕ) (code : ℕ) → length (section_of bytes code) ≤ length bytes
 unfolding section_of
-section_short bytes code = in_bytes bytes _
-
-ends : (o : Option Fault) (u : Unit {0}) → ends_at o ≡ Ok u → o ≡ None
-ends None u e = refl
-ends (Some f) u e = absurd cc
+section_short bytes code = bytes_short bytes _
 
 -- ---- a test of two answers
 
@@ -148,9 +147,12 @@ module _ (l : Limits) (number : ℕ) (bytes : List ℕ) (f : File) (is : IsRead 
   pub no_fault : elf_fault bytes ≡ None
   unfolding file_meaning
   no_fault =
-      let a = bind_ok (unless_so (is_too_long l bytes) (file_fault FileSize 0)) (λ size. ends_at (elf_fault bytes) >>= λ elf. unless_so (is_other_machine l.machine (machine_of bytes)) (file_fault Machine machine_at) >>= λ machine. units_at (debug_abbrev bytes) (given l.entries) 0 (input (debug_info bytes) 0) >>= units_said bytes) (raw, doc) is.means in
-      let b = bind_ok (ends_at (elf_fault bytes)) (λ elf. unless_so (is_other_machine l.machine (machine_of bytes)) (file_fault Machine machine_at) >>= λ machine. units_at (debug_abbrev bytes) (given l.entries) 0 (input (debug_info bytes) 0) >>= units_said bytes) (raw, doc) a.2 in
-      ends (elf_fault bytes) b.0 b.1
+      let a = bind_ok (unless_so (is_too_long l bytes) (file_fault FileSize 0))
+      (λ size. ends_at (elf_fault bytes) >>= λ elf. unless_so (is_other_machine l.machine (machine_of bytes)) (file_fault Machine machine_at) >>= λ machine. units_at (debug_abbrev bytes)
+      (given l.entries) 0 (input (debug_info bytes) 0) >>= units_said bytes) (raw, doc) is.means in
+      let b = bind_ok (ends_at (elf_fault bytes)) (λ elf. unless_so (is_other_machine l.machine (machine_of bytes)) (file_fault Machine machine_at) >>= λ machine. units_at (debug_abbrev bytes)
+      (given l.entries) 0 (input (debug_info bytes) 0) >>= units_said bytes) (raw, doc) a.2 in
+      no_fault_at (elf_fault bytes) b.0 b.1
 
   pub offsets_are : f.sections.offsets.now ≡ sources.offsets
   offsets_are = ap (λ (s : Sources). s.offsets) is.sections
@@ -176,7 +178,8 @@ module _ (l : Limits) (number : ℕ) (bytes : List ℕ) (f : File) (is : IsRead 
   pub bad_slots : slots_in f.sections.offsets.now ≡ None → (false ≡ true) ↔ Prunable
   bad_slots none = (
     λ e. absurd (false≢true e),
-    λ p. absurd (let there : slots_in (sources.offsets) ≡ Some p.places = slots_again sources.offsets p.places p.slots in let both : None ≡ Some p.places = sym none ∙ ap slots_in offsets_are ∙ there in cc),
+    λ p. absurd (let there : slots_in (sources.offsets) ≡ Some p.places = slots_again sources.offsets p.places p.slots in let both : None ≡ Some p.places = sym none ∙ ap slots_in offsets_are
+        ∙ there in cc),
   )
 
   abbrev texts : TextSections
@@ -235,28 +238,17 @@ files_begin contents files kept = record {
   on = λ rest h. h;
 }
 
-pub item_split : {X : Type 0} (xs : List X) (k : ℕ) (x : X) → k < length xs → x ≡ get_or xs k x → drop k xs ≡ x ∷ drop (k + 1) xs
-item_split [] k x lt e = absurd (omega (arith, lt))
-item_split {X} (y ∷ xs) zero x lt e = ap (λ (w : X). w ∷ xs) (sym e)
-item_split (y ∷ xs) (suc k) x lt e = (let one : suc (k + 1) ≡ suc k + 1 = omega arith in item_split xs k x (omega (arith, lt)) e ∙ ap (λ (n : ℕ). x ∷ drop n (y ∷ xs)) one)
-
 pub mapped_split : {X : Type 0} (f : X → List ℕ) (contents : List (List ℕ)) (xs : List X) (k : ℕ) (x : X) (bytes : List ℕ) → contents ≡ map f xs → k < length xs → x ≡ get_or xs k x → bytes ≡ f x
     → drop k contents ≡ bytes ∷ drop (k + 1) contents
 mapped_split f contents xs k x bytes are lt e is =
-    ap (drop k) are ∙ drop-map f k xs ∙ ap (map f) (item_split xs k x lt e) ∙ ap (λ (w : List ℕ). w ∷ map f (drop (k + 1) xs)) (sym is)
+    ap (drop k) are ∙ drop-map f k xs ∙ ap (map f) (drop_next xs k x lt e) ∙ ap (λ (w : List ℕ). w ∷ map f (drop (k + 1) xs)) (sym is)
     ∙ ap (λ (w : List (List ℕ)). bytes ∷ w) (sym (drop-map f (k + 1) xs) ∙ ap (drop (k + 1)) (sym are))
-
-pub files_many : (contents : List (List ℕ)) (files : List File) → AreKept contents files → length files ≡ length contents
-files_many contents files kept = as_many no_files_before 0 contents files kept.end kept.are
-
-no_docs : (l : Limits) (n : ℕ) (docs : List (Doc ℕ)) → files_meaning l n [] ≡ Ok docs → [] ≡ docs
-unfolding files_meaning
-no_docs l n docs e = cc
 
 module _ (contents : List (List ℕ)) (files : List File) (k : ℕ) (flags : List Bool) (left : FilesLeft contents files k flags) where
   module _ (bytes : List ℕ) (f : File) (some : drop k contents ≡ bytes ∷ drop (k + 1) contents) (more : drop k files ≡ f ∷ drop (k + 1) files) where
     are : AreRead left.limits k (bytes ∷ drop (k + 1) contents) (f ∷ drop (k + 1) files) left.end
-    are = subst (λ (w : List File). AreRead left.limits k (bytes ∷ drop (k + 1) contents) w left.end) more (subst (λ (w : List (List ℕ)). AreRead left.limits k w (drop k files) left.end) some left.are)
+    are = subst (λ (w : List File). AreRead left.limits k (bytes ∷ drop (k + 1) contents) w left.end) more
+        (subst (λ (w : List (List ℕ)). AreRead left.limits k w (drop k files) left.end) some left.are)
 
     pub file_read : IsRead left.limits k bytes f
     file_read = are.0
@@ -276,12 +268,13 @@ module _ (contents : List (List ℕ)) (files : List File) (k : ℕ) (flags : Lis
           mean = ap (λ (n : ℕ). files_meaning next n (drop (k + 1) contents)) (sym at) ∙ m.1;
           on = λ rest h.
               subst (λ (w : List Bool). ArePrunable contents (docs_of contents) w) (sym (append_assoc flags (flag ∷ []) rest))
-              (left.on (flag ∷ rest) (subst (λ (w : List (List ℕ)). ArePrunable w left.docs (flag ∷ rest)) (sym some) (subst (λ (ds : List (Doc ℕ)). ArePrunable (bytes ∷ drop (k + 1) contents) ds (flag ∷ rest)) is (iff, h))));
+              (left.on (flag ∷ rest) (subst (λ (w : List (List ℕ)). ArePrunable w left.docs (flag ∷ rest)) (sym some)
+              (subst (λ (ds : List (Doc ℕ)). ArePrunable (bytes ∷ drop (k + 1) contents) ds (flag ∷ rest)) is (iff, h))));
         }
 
   pub files_end : length files ≤ k → AreKept contents files → ArePrunable contents (docs_of contents) flags
   files_end le kept =
-      let none : drop k contents ≡ [] = drop_all k contents (omega (arith, le, files_many contents files kept)) in
-      let docs : [] ≡ left.docs = no_docs left.limits k left.docs (ap (files_meaning left.limits k) (sym none) ∙ left.mean) in
+      let none : drop k contents ≡ [] = drop_all k contents (omega (arith, le, files_few contents files kept)) in
+      let docs : [] ≡ left.docs = no_files left.limits k left.docs (ap (files_meaning left.limits k) (sym none) ∙ left.mean) in
       subst (λ (w : List Bool). ArePrunable contents (docs_of contents) w) (append-nil flags)
       (left.on [] (subst (λ (w : List (List ℕ)). ArePrunable w left.docs []) (sym none) (subst (λ (ds : List (Doc ℕ)). ArePrunable [] ds []) docs tt)))

@@ -1,16 +1,17 @@
 -- Rows stay, value by value, where the entries that they mean do.
-use Rattle.std.proofs.Common.{◌≡◌, ◌≢◌, ◌↔◌, ℕ, suc, ◌+◌, ◌-◌, ◌<◌, ◌≤◌, Bool, true, false, List, [], ◌∷◌, ◌++◌, map, length, take, drop, Some, Ok, slice_get, refl, sym, ap, subst, ◌∙◌, inl, inr, arith, eqb}
+use Rattle.std.proofs.Common.{◌≡◌, ◌≢◌, ◌↔◌, ℕ, suc, ◌+◌, ◌-◌, ◌<◌, ◌≤◌, Bool, true, false, List, [], ◌∷◌, ◌++◌, map, length, take, drop, Some, Ok, slice_get, refl, sym, ap, subst, ◌∙◌, inl, inr}
+use Rattle.std.proofs.Common.{arith, eqb}
 use Rattle.std.specs.Prelude.{◌&&◌, ◌||◌}
 use Rattle.std.specs.List.{list_all, list_any}
 use Rattle.std.proofs.lemmas.List.{take_at}
 use Rattle.std.proofs.lemmas.Bool.{cases_Bool, cond-false, cond-true, eqb-false, eqb-true, false≢true}
 use Rattle.dwz_bytes.specs.Input.{Input}
 use Rattle.dwz_bytes.specs.Reading.{◌>>=◌}
-use Rattle.dwz_codes.specs.Forms.{form_rows}
-use Rattle.dwz_docs.specs.Entries.{RawAttr, attrs_at, in_entry, with_value}
+use Rattle.dwz_docs.specs.Entries.{RawAttr}
 use Rattle.dwz_docs.specs.Trees.{End, Entry}
-use Rattle.dwz_docs.specs.Values.{value_at}
-use Rattle.dwz_docs.proofs.PartLemmas.{bind_ok, same_value}
+use Rattle.dwz_docs.proofs.PartLemmas.{bind_ok}
+use Rattle.dwz_docs.proofs.AttrPairs.{read_pairs}
+use Rattle.dwz_docs.proofs.ListFacts.{drop_here}
 use Rattle.dwz_flat.specs.Rows.{RowsMean, nodes}
 use Rattle.dwz_flat.proofs.TreeLemmas.{node_attrs}
 use Rattle.dwz_meanings.specs.Documents.{Attr, Entries, Node}
@@ -20,8 +21,7 @@ use Rattle.dwz_prunable.specs.declared.values.Known.{Known}
 use Rattle.dwz_prunable.specs.Stays.{asks, row_stays, stays}
 use Rattle.dwz_prunable.proofs.ValueLemmas.{Tells, sibling_stays, unasked_stays, value_stays}
 use Rattle.dwz_resolve.specs.Parts.{numbers_file}
-use Rattle.dwz_resolve.proofs.RowLemmas.{drop_here}
-use Rattle.dwz_seen.specs.Lists.{Each}
+use Rattle.dwz_docs.specs.Lists.{Each}
 use Rattle.dwz_seen.proofs.Members.{each_append, each_split}
 use Rattle.dwz_unit.specs.Rows.{EntryRow}
 use Rattle.dwz_unit.specs.Values.{Reads}
@@ -41,27 +41,18 @@ passes slots k a = stays slots k a.pair (offset_of a)
 
 -- ---- values have the names and forms that they are read with
 
-read_pairs : (entry : ℕ) (pairs : List Pair) (at end : Input) (attrs : List RawAttr) → attrs_at form_rows entry pairs at ≡ Ok (attrs, end) → pairs ≡ map (λ (a : RawAttr). a.pair) attrs
-unfolding attrs_at
-read_pairs entry [] at end attrs e =
-    let is : attrs ≡ [] = sym (same_value [] attrs at end (Ok ([], at)) refl e) in
-    ap (map (λ (a : RawAttr). a.pair)) (sym is)
-read_pairs entry (pair ∷ pairs) at end attrs e =
-    let a = bind_ok (in_entry entry (value_at form_rows pair at)) (λ x. attrs_at form_rows entry pairs x.1 >>= with_value at.at x.1.at pair x.0) (attrs, end) e in
-    let b = bind_ok (attrs_at form_rows entry pairs a.0.1) (with_value at.at a.0.1.at pair a.0.0) (attrs, end) a.2 in
-    let first : RawAttr = record { at = at.at; end = a.0.1.at; pair = pair; raw = a.0.0 } in
-    let same = same_value (first ∷ b.0.0) attrs b.0.1 end (with_value at.at a.0.1.at pair a.0.0 b.0) refl b.2 in
-    ap (λ (w : List Pair). pair ∷ w) (read_pairs entry pairs a.0.1 b.0.1 b.0.0 b.1) ∙ ap (map (λ (a : RawAttr). a.pair)) same
-
-none_asked : (places : List ℕ) (k : Known) (attrs : List RawAttr) → list_any (asks k.strp) (map (λ (a : RawAttr). a.pair) attrs) ≡ false → list_all (λ a. stays places k a.pair (offset_of a)) attrs ≡ true
+none_asked : (places : List ℕ) (k : Known) (attrs : List RawAttr) → list_any (asks k.strp) (map (λ (a : RawAttr). a.pair) attrs) ≡ false → list_all (λ a. stays places k a.pair (offset_of a)) attrs
+    ≡ true
 none_asked places k [] none = refl
 none_asked places k (a ∷ attrs) none = go (none_asked places k attrs) (asks k.strp a.pair) refl none where
-  go : (list_any (asks k.strp) (map (λ (a : RawAttr). a.pair) attrs) ≡ false → list_all (λ a. stays places k a.pair (offset_of a)) attrs ≡ true) → (b : Bool) → asks k.strp a.pair ≡ b → (b || list_any (asks k.strp) (map (λ (a : RawAttr). a.pair) attrs)) ≡ false → list_all (λ a. stays places k a.pair (offset_of a)) (a ∷ attrs) ≡ true
+  go : (list_any (asks k.strp) (map (λ (a : RawAttr). a.pair) attrs) ≡ false → list_all (λ a. stays places k a.pair (offset_of a)) attrs ≡ true) → (b : Bool) → asks k.strp a.pair ≡ b
+      → (b || list_any (asks k.strp) (map (λ (a : RawAttr). a.pair) attrs)) ≡ false → list_all (λ a. stays places k a.pair (offset_of a)) (a ∷ attrs) ≡ true
   go more true e h = absurd (false≢true (sym h))
   go more false e h = (both_pass (stays places k a.pair (offset_of a)) (list_all (λ a. stays places k a.pair (offset_of a)) attrs)).1 (unasked_stays places k a e, more h)
 
 -- where none has to be asked, the entry stays
-pub unasked : (places : List ℕ) (k : Known) (pairs : List Pair) (at : Input) (row : EntryRow) → Reads row.entry.at pairs at row.entry.attrs → list_any (asks k.strp) pairs ≡ false → row_stays places k row ≡ true
+pub unasked : (places : List ℕ) (k : Known) (pairs : List Pair) (at : Input) (row : EntryRow) → Reads row.entry.at pairs at row.entry.attrs → list_any (asks k.strp) pairs ≡ false
+    → row_stays places k row ≡ true
 unasked places k pairs at row reads none = none_asked places k row.entry.attrs (ap (list_any (asks k.strp)) (sym (read_pairs row.entry.at pairs at reads.behind row.entry.attrs reads.read)) ∙ none)
 
 -- ---- an entry
@@ -157,10 +148,12 @@ module _ (p : EntryRow → Bool) (all : List EntryRow) where
       let one : end - i ≡ suc (end - (i + 1)) = omega (arith, lt) in
       (λ j. list_all p (take (one j) (drop_here all i row found j)))
 
-  pub between_more : (i end : ℕ) (row : EntryRow) (rows : List EntryRow) → i < end → slice_get all i ≡ Some row → p row ≡ true → list_all p rows ≡ list_all p (Between i end) → list_all p rows ≡ list_all p (Between (i + 1) end)
+  pub between_more : (i end : ℕ) (row : EntryRow) (rows : List EntryRow) → i < end → slice_get all i ≡ Some row → p row ≡ true → list_all p rows ≡ list_all p (Between i end)
+      → list_all p rows ≡ list_all p (Between (i + 1) end)
   between_more i end row rows lt found good so = so ∙ split i end row lt found ∙ ap (λ (b : Bool). b && list_all p (Between (i + 1) end)) good
 
-  pub between_fails : (i end : ℕ) (row : EntryRow) (rows : List EntryRow) → i < end → slice_get all i ≡ Some row → p row ≡ false → list_all p rows ≡ list_all p (Between i end) → false ≡ list_all p rows
+  pub between_fails : (i end : ℕ) (row : EntryRow) (rows : List EntryRow) → i < end → slice_get all i ≡ Some row → p row ≡ false → list_all p rows ≡ list_all p (Between i end)
+      → false ≡ list_all p rows
   between_fails i end row rows lt found bad so = sym (so ∙ split i end row lt found ∙ ap (λ (b : Bool). b && list_all p (Between (i + 1) end)) bad)
 
   pub between_none : (i end : ℕ) (rows : List EntryRow) → end ≤ i → list_all p rows ≡ list_all p (Between i end) → true ≡ list_all p rows

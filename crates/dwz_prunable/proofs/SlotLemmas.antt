@@ -1,13 +1,14 @@
 -- Slots ascend, and a binary search among them tells whether one stands at a place.
-use Rattle.std.proofs.Common.{◌≡◌, ◌⊎◌, ℕ, zero, suc, ◌+◌, ◌<◌, ◌≤◌, Bool, true, false, List, [], ◌∷◌, length, get_or, Option, Some, Result, Ok, Err, refl, sym, ap, subst, inl, inr, arith}
+use Rattle.std.proofs.Common.{◌≡◌, ◌⊎◌, ℕ, zero, suc, ◌+◌, ◌<◌, ◌≤◌, Bool, true, false, List, [], ◌∷◌, length, get_or, Option, Some, Result, Ok, Err, refl, sym, subst, inl, inr, arith}
 use Rattle.std.specs.Ordering.{nat_cmp}
 use Rattle.std.specs.Prelude.{is_ok}
 use Rattle.std.specs.List.Sorted.{IsBinarySearchResult, IsStrictlyIncreasing}
 use Rattle.std.proofs.lemmas.Bool.{cases_lt}
-use Rattle.std.proofs.lemmas.List.Kept.{AllPairs-from_increasing}
 use Rattle.std.proofs.lemmas.List.Sorted.{searched}
 use Rattle.dwz_docs.specs.Lists.{In, has}
 use Rattle.dwz_docs.specs.OffsetTables.{slots_in}
+use Rattle.dwz_docs.proofs.ListFacts.{in_at}
+use Rattle.dwz_strs.proofs.MovedLemmas.{rising}
 use Rattle.dwz_meanings.proofs.MeaningLemmas.{has_in}
 use Rattle.dwz_seen.specs.Lists.{EachPair}
 use Rattle.dwz_seen.proofs.Members.{in_has}
@@ -30,18 +31,7 @@ apart_rise (x ∷ y ∷ xs) h (suc k) lt =
 pub slots_rise : (section places : List ℕ) → slots_in section ≡ Some places → IsStrictlyIncreasing places
 slots_rise section places e = apart_rise places (subst (λ (o : Option (List ℕ)). Apart (slots_or_none o)) e (slots_stand section).1)
 
-rising : (xs : List ℕ) → IsStrictlyIncreasing xs → (i j : ℕ) → i ≤ j → j < length xs → get_or xs i 0 ≤ get_or xs j 0
-rising xs rises i j le lt = go (cases_lt i j) where
-  go : (i < j) ⊎ (j ≤ i) → get_or xs i 0 ≤ get_or xs j 0
-  go (inl less) = let pair = AllPairs-from_increasing xs rises i j 0 less lt in omega (arith, pair)
-  go (inr more) = let same : i ≡ j = omega (arith, le, more) in omega (arith, ap (λ (k : ℕ). get_or xs k 0) same)
-
 -- ---- what is among them
-
-get_in : (xs : List ℕ) (i : ℕ) → i < length xs → In (get_or xs i 0) xs
-get_in [] i lt = absurd (omega (arith, lt))
-get_in (x ∷ xs) zero lt = inl refl
-get_in (x ∷ xs) (suc i) lt = inr (get_in xs i (omega (arith, lt)))
 
 index_of : (xs : List ℕ) (x : ℕ) → In x xs → (k : ℕ) × (k < length xs) × (get_or xs k 0 ≡ x)
 index_of [] x h = absurd h
@@ -55,7 +45,7 @@ has_none x xs none = go (has x xs) refl where
   go false e = e
 
 found : (xs : List ℕ) (i x : ℕ) → i < length xs → get_or xs i 0 ≡ x → true ≡ has x xs
-found xs i x lt at = sym (in_has x xs (subst (λ (n : ℕ). In n xs) at (get_in xs i lt)))
+found xs i x lt at = sym (in_has x xs (subst (λ (n : ℕ). In n xs) at (in_at xs i lt)))
 
 missing : (xs : List ℕ) (i x : ℕ) → ((k : ℕ) → k < i → get_or xs k 0 < x) → ((k : ℕ) → i ≤ k → k < length xs → x < get_or xs k 0) → false ≡ has x xs
 missing xs i x below above = sym (has_none x xs none) where

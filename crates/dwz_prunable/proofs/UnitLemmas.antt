@@ -1,78 +1,46 @@
 -- A unit stays where its rows do, and a file's units do one after the other.
-use Rattle.std.proofs.Common.{◌≡◌, ◌↔◌, ℕ, zero, suc, ◌+◌, ◌<◌, ◌≤◌, Bool, true, false, List, [], ◌∷◌, ◌++◌, drop, length, get_or, map, Option, Some, None, Ok, slice_get, refl, sym, ap, subst, ◌∙◌, arith}
+use Rattle.std.proofs.Common.{◌≡◌, ◌↔◌, ℕ, suc, ◌+◌, ◌<◌, ◌≤◌, Bool, true, false, List, [], ◌∷◌, ◌++◌, drop, length, Option, Some, None, Ok, slice_get, refl, sym, ap, subst, ◌∙◌, arith}
 use Rattle.std.specs.List.{list_all}
 use Rattle.std.specs.Option.{option_map_or}
 use Rattle.std.proofs.lemmas.Bool.{false≢true}
-use Rattle.std.proofs.lemmas.List.{append-nil, drop_all, drop_at, map-append}
-use Rattle.dwz_bytes.specs.Reading.{◌>>=◌}
+use Rattle.std.proofs.lemmas.List.{drop_all, drop_at}
 use Rattle.dwz_docs.specs.Entries.{RawAttr, RawEntry, root_position}
-use Rattle.dwz_docs.specs.Lists.{In}
-use Rattle.dwz_docs.specs.Trees.{End, Entry, Forest, Position, behind, first_below}
+use Rattle.dwz_docs.specs.Lists.{Each, In}
+use Rattle.dwz_docs.specs.Trees.{End, Entry}
 use Rattle.dwz_docs.specs.Units.{RawUnit, entry_count}
-use Rattle.dwz_docs.proofs.PartLemmas.{bind_ok}
+use Rattle.dwz_docs.proofs.ListFacts.{drop_here, got_there, in_map}
 use Rattle.dwz_flat.specs.Rows.{RowsMean, nodes}
 use Rattle.dwz_flat.proofs.TreeLemmas.{tree_means}
 use Rattle.dwz_meanings.specs.Documents.{DwUnit, Node}
 use Rattle.dwz_meanings.specs.LineTables.{FileTable, IsFileTable}
-use Rattle.dwz_meanings.specs.Meanings.{Around, MeanUnits, Scope, base_in, entries_meaning, first_raw, kind_meaning, node_meaning, scope_of, stmt_list, str_offsets_base, texts_of, unit_meaning, unit_with, units_meaning, with_next}
+use Rattle.dwz_meanings.specs.Meanings.{Around, MeanUnits, Scope, base_in, first_raw, scope_of, stmt_list, str_offsets_base, texts_of, unit_meaning, units_meaning}
 use Rattle.dwz_meanings.proofs.AgreeLemmas.{same_meaning}
 use Rattle.dwz_meanings.proofs.LineTableLemmas.{file_table_agrees}
-use Rattle.dwz_meanings.proofs.MeaningLemmas.{unit_agrees, units_agree}
+use Rattle.dwz_meanings.proofs.MeaningLemmas.{units_agree}
+use Rattle.dwz_meanings.proofs.UnitMeans.{root_is, unit_meant}
 use Rattle.dwz_prunable.specs.declared.values.Known.{Known}
 use Rattle.dwz_prunable.specs.Stays.{line_strp, row_stays}
 use Rattle.dwz_prunable.proofs.RowLemmas.{Stays, ToldRow, rows_stay, tree_from, tree_to}
 use Rattle.dwz_prunable.proofs.ValueLemmas.{Tells}
 use Rattle.dwz_resolve.specs.FileRows.{HasTable}
-use Rattle.dwz_resolve.specs.Named.{entries_of, preorder}
+use Rattle.dwz_resolve.specs.Named.{entries_of}
 use Rattle.dwz_resolve.specs.Parts.{HasLine, numbers_file}
 use Rattle.dwz_resolve.specs.Resolved.{IsUnitHere}
 use Rattle.dwz_resolve.specs.declared.here.Here.{Here}
-use Rattle.dwz_resolve.proofs.RowLemmas.{drop_here, in-length, there}
-use Rattle.dwz_resolve.proofs.UnitThere.{UnitThere, same_unit, unit_there}
-use Rattle.dwz_seen.specs.Lists.{Each}
-use Rattle.dwz_seen.proofs.Members.{each_of, in_map}
+use Rattle.dwz_resolve.proofs.UnitThere.{UnitThere, in_entries, same_unit, unit_there}
+use Rattle.dwz_seen.proofs.Members.{each_of}
 use Rattle.dwz_unit.specs.declared.rows.RawUnit.{RawUnit as UnitOfCode}
-use Rattle.dwz_unit.specs.Rows.{EntryRow, rows_below, rows_in, rows_of, shown_units}
-use Rattle.dwz_writing.specs.Bases.{Bases, bases_in, bases_of}
+use Rattle.dwz_unit.specs.Rows.{EntryRow, rows_in, rows_of, shown_units}
+use Rattle.dwz_unit.proofs.ShownLemmas.{rows_in-length}
+use Rattle.dwz_writing.specs.Bases.{Bases, bases_of}
 use Rattle.dwz_writing.specs.Fitting.{EachAttr}
 use Rattle.dwz_writing.specs.Pruned.{AttrStays, UnitStays}
-use Rattle.dwz_writing.proofs.ReadAgain.{bases_read}
-
--- ---- the entries of a unit's rows
-
-below_entries : (f : Forest RawEntry) (unit : ℕ) (p : Position) → map (λ (row : EntryRow). row.entry) (rows_below f unit p) ≡ preorder f
-unfolding rows_below preorder
-below_entries End unit p = refl
-below_entries (Entry e c n) unit p =
-    ap (λ (w : List RawEntry). e ∷ w) (
-    map-append (λ (row : EntryRow). row.entry) (rows_below c unit (first_below p)) (rows_below n unit (behind p c))
-    ∙ (λ i. below_entries c unit (first_below p) i ++ below_entries n unit (behind p c) i))
-
-in_entries : (u : RawUnit) (unit before : ℕ) → map (λ (row : EntryRow). row.entry) (rows_in u unit before) ≡ entries_of u
-unfolding preorder
-in_entries u unit before = below_entries (Entry u.root u.below End) unit (root_position before) ∙ ap (λ (w : List RawEntry). u.root ∷ w) (append-nil (preorder u.below))
-
--- ---- a unit that means something
-
-root_is : (around : Around ℕ) (u : RawUnit) (v : DwUnit ℕ) → unit_meaning around u ≡ Ok v → entries_meaning (scope_of around u) (Entry u.root u.below End) ≡ Ok (Entry v.root v.below End)
-unfolding entries_meaning
-root_is around u v e =
-    let s = scope_of around u in
-    let x = bind_ok (kind_meaning s u.kind) (λ kind. node_meaning s u.root >>= λ root. entries_meaning s u.below >>= unit_with around u kind root) v e in
-    let y = bind_ok (node_meaning s u.root) (λ root. entries_meaning s u.below >>= unit_with around u x.0 root) v x.2 in
-    let z = bind_ok (entries_meaning s u.below) (unit_with around u x.0 y.0) v y.2 in
-    let is : record { at = around.place u.at; kind = x.0; root = y.0; below = z.0 } ≡ v = cc in
-    (λ i. y.1 i >>= λ d. entries_meaning s u.below >>= λ below. Ok End >>= with_next d below)
-    ∙ (λ i. z.1 i >>= λ below. Ok End >>= with_next y.0 below)
-    ∙ (λ i. Ok (Entry (is i).root (is i).below End))
-
--- its root says the same of slots, of a line table and of lists
-own_bases : (around : Around ℕ) (u : RawUnit) (v : DwUnit ℕ) → unit_meaning around u ≡ Ok v → bases_of (scope_of around u) ≡ bases_in v
-own_bases around u v e = bases_read (scope_of around u) v.root.attrs (((unit_agrees around u).ok v).0 e).root.attrs
+use Rattle.dwz_writing.proofs.ScopeIs.{own_bases}
 
 -- ---- its line table
 
-told_at : (s : Scope ℕ) (tables : List FileTable) (place number : ℕ) (strp numbers : Bool) → stmt_list s ≡ Some place → HasTable s.around.sources tables place number → strp ≡ line_strp tables (Some number) → Tells s strp numbers
+told_at : (s : Scope ℕ) (tables : List FileTable) (place number : ℕ) (strp numbers : Bool) → stmt_list s ≡ Some place → HasTable s.around.sources tables place number
+    → strp ≡ line_strp tables (Some number) → Tells s strp numbers
 told_at s tables place number strp numbers at has is =
     let texts = texts_of s.around.sources in
     let table : IsFileTable texts s.around.sources.line place has.table = ((file_table_agrees texts s.around.sources.line place).ok has.table).0 has.read in
@@ -80,7 +48,8 @@ told_at s tables place number strp numbers at has is =
     λ numbered. (
       λ none p here t stands. (
           let same : place ≡ p = (let both : Some place ≡ Some p = sym at ∙ here in cc) in
-          let one : has.table ≡ t = same_meaning (file_table_agrees texts s.around.sources.line p) has.table t (subst (λ (q : ℕ). IsFileTable texts s.around.sources.line q has.table) same table) stands in
+          let one : has.table ≡ t = same_meaning (file_table_agrees texts s.around.sources.line p) has.table t (subst (λ (q : ℕ). IsFileTable texts s.around.sources.line q has.table) same table)
+          stands in
           ap (λ (w : FileTable). w.has_strp) (sym one) ∙ sym flag ∙ none),
       λ none. flag ∙ none place at has.table table,
     )
@@ -122,7 +91,7 @@ module _ (around : Around ℕ) (raw : List RawUnit) (n : ℕ) (x : UnitOfCode) (
 
   count : h.first + length rows ≡ h.end
   count =
-      let many = in-length u place.unit x.first in
+      let many = rows_in-length u place.unit x.first in
       let first = here.first in
       let end : h.end ≡ x.first + entry_count u = here.end ∙ ap (λ (w : RawUnit). x.first + entry_count w) own in
       omega arith
@@ -138,7 +107,8 @@ module _ (around : Around ℕ) (raw : List RawUnit) (n : ℕ) (x : UnitOfCode) (
     told =
         each_of (ToldRow s slots k base) rows (λ row inside.
         each_of (λ a. Tells s k.strp (numbers_file a)) row.entry.attrs
-        (λ a own. told_by around u tables line k.strp has flag row.entry a (subst (λ (w : List RawEntry). In row.entry w) (in_entries u place.unit x.first) (in_map (λ (r : EntryRow). r.entry) row rows inside)) own))
+        (λ a own. told_by around u tables line k.strp has flag row.entry a
+        (subst (λ (w : List RawEntry). In row.entry w) (in_entries u place.unit x.first) (in_map (λ (r : EntryRow). r.entry) row rows inside)) own))
 
     pub unit_stays_iff : (result : Bool) → ((some after : List EntryRow) → drop h.first (rows_of raw) ≡ some ++ after → h.first + length some ≡ h.end → result ≡ list_all (row_stays slots k) some)
         → (result ≡ true) ↔ UnitStays (texts_of around.sources) around.sources.line slots v
@@ -147,20 +117,13 @@ module _ (around : Around ℕ) (raw : List RawUnit) (n : ℕ) (x : UnitOfCode) (
         let r = rows_stay s slots k base rows ds told mean in
         let P = Stays s slots k base in
         let same = own_bases around u v means in
-        let At : Bases → Type 0 = λ b. Each (AttrStays (texts_of around.sources) around.sources.line slots b) v.root.attrs × EachAttr (AttrStays (texts_of around.sources) around.sources.line slots b) v.below in (
+        let At : Bases → Type 0 = λ b. Each (AttrStays (texts_of around.sources) around.sources.line slots b) v.root.attrs × EachAttr (AttrStays (texts_of around.sources) around.sources.line slots b)
+        v.below in (
           λ e. (let t = tree_from P (Entry v.root v.below End) (r.0 (sym all ∙ e)) in subst At same (t.0, t.1)),
           λ h. (let t : At (bases_of s) = subst At (sym same) h in all ∙ r.1 (tree_to P (Entry v.root v.below End) (t.0, t.1, tt))),
         )
 
 -- ---- units, one after the other
-
-pub unit_meant : (around : Around ℕ) (us : List RawUnit) (vs : List (DwUnit ℕ)) → MeanUnits around us vs → (n : ℕ) (u : RawUnit) → slice_get us n ≡ Some u → (v : DwUnit ℕ) × (unit_meaning around u ≡ Ok v) × (slice_get vs n ≡ Some v)
-unit_meant around [] vs m n u e = absurd cc
-unit_meant around (w ∷ us) [] m n u e = absurd m
-unit_meant around (w ∷ us) (v ∷ vs) m zero u e =
-    let same : w ≡ u = cc in
-    (v, ap (unit_meaning around) (sym same) ∙ ((unit_agrees around w).ok v).1 m.0, refl)
-unit_meant around (w ∷ us) (v ∷ vs) m (suc n) u e = unit_meant around us vs m.1 n u e
 
 as_long : (around : Around ℕ) (us : List RawUnit) (vs : List (DwUnit ℕ)) → MeanUnits around us vs → length vs ≡ length us
 as_long around [] [] m = refl
@@ -181,7 +144,7 @@ module _ (P : DwUnit ℕ → Type 0) (around : Around ℕ) (raw : List RawUnit) 
 
   module _ (n : ℕ) (lt : n < length raw) (left : Left n) (test : Bool) (is : (u : RawUnit) (v : DwUnit ℕ) → slice_get raw n ≡ Some u → unit_meaning around u ≡ Ok v → (test ≡ true) ↔ P v) where
     abbrev here : (u : RawUnit) × (slice_get raw n ≡ Some u)
-    here = there raw n lt
+    here = got_there raw n lt
 
     abbrev meant : (v : DwUnit ℕ) × (unit_meaning around here.0 ≡ Ok v) × (slice_get said n ≡ Some v)
     meant = unit_meant around raw said are n here.0 here.1
@@ -206,8 +169,3 @@ module _ (P : DwUnit ℕ → Type 0) (around : Around ℕ) (raw : List RawUnit) 
       let long = as_long around raw said are in
       let none : drop n said ≡ [] = drop_all n said (omega (arith, le, long)) in
       (λ e. left.1 (subst (λ (w : List (DwUnit ℕ)). Each P w) (sym none) tt), λ h. refl)
-
-pub item_at : {X : Type 0} (xs : List X) (n : ℕ) (d : X) → n < length xs → slice_get xs n ≡ Some (get_or xs n d)
-item_at [] n d lt = absurd (omega (arith, lt))
-item_at (x ∷ xs) zero d lt = refl
-item_at (x ∷ xs) (suc n) d lt = item_at xs n d (omega (arith, lt))

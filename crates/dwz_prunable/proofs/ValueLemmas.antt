@@ -69,7 +69,9 @@ module _ (s : Scope ℕ) (places : List ℕ) where
 
   pub value_stays : (k : Known) (a : RawAttr) → a.pair.name ≢ 1 → k.base ≡ str_offsets_base s → Tells s k.strp (numbers_file a) → (stays places k a.pair (offset_of a) ≡ true) ↔ RawStays a
   value_stays k a ne base tells =
-      let asked : asks k.strp a.pair ≡ asks_as (class_of a.pair.form) k.strp a.pair.name = ap (λ (b : Bool). cond b false (asks_as (class_of a.pair.form) k.strp a.pair.name)) (ne_eqb a.pair.name 1 ne) in
-      let same : stays places k a.pair (offset_of a) ≡ Asked (class_of a.pair.form) k.strp a.pair.name (offset_of a) = (λ i. cond (asked i) (stays_as (class_of a.pair.form) places (base i) (offset_of a)) true) in
+      let asked : asks k.strp a.pair ≡ asks_as (class_of a.pair.form) k.strp a.pair.name = ap (λ (b : Bool). cond b false (asks_as (class_of a.pair.form) k.strp a.pair.name))
+      (ne_eqb a.pair.name 1 ne) in
+      let same : stays places k a.pair (offset_of a) ≡ Asked (class_of a.pair.form) k.strp a.pair.name (offset_of a) =
+      (λ i. cond (asked i) (stays_as (class_of a.pair.form) places (base i) (offset_of a)) true) in
       let r = class_is (class_of a.pair.form) k.strp a.pair.name (offset_of a) tells in
       (λ h. r.0 (sym same ∙ h), λ h. same ∙ r.1 h)

@@ -7,6 +7,3 @@ mod units;
 mod values;
 
 pub use files::{is_prunable, prunable_files};
-
-#[cfg(test)]
-mod tests;

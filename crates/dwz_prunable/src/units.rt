@@ -9,7 +9,7 @@ ghost use Rattle.dwz_meanings.specs.Meanings.{Around, texts_of, unit_meaning, un
 ghost use Rattle.dwz_prunable.specs.Stays;
 ghost use Rattle.dwz_prunable.specs.Stays.{row_stays};
 ghost use Rattle.dwz_resolve.specs.Parts.{HasLine, HaveLines};
-ghost use Rattle.dwz_seen.specs.Lists.{Each};
+ghost use Rattle.dwz_docs.specs.Lists.{Each};
 ghost use Rattle.dwz_unit.specs.Rows.{EntryRow, rows_of, units_of};
 ghost use Rattle.dwz_writing.specs.Pruned.{UnitStays};
 

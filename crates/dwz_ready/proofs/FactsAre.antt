@@ -1,13 +1,13 @@
 -- Facts are those of what was planned: where lists, scope and plan are equal, so are the facts.
 use Rattle.std.proofs.Common.{◌≡◌, ℕ, Bool, List, length, map, sym, subst}
-use Rattle.dwz_alike.specs.Alike.{IsAlike, Scope}
+use Rattle.dwz_alike.specs.Alike.{IsAlike, TopScope}
 use Rattle.dwz_alike.specs.Spots.{file_numbers, units_of}
 use Rattle.dwz_back.specs.Files.{imports_common}
 use Rattle.dwz_few.proofs.FilesFew.{names_few}
 use Rattle.dwz_graph.specs.Files.{docs_of}
 use Rattle.dwz_index.specs.Index.{Index}
 use Rattle.dwz_moving.specs.Homes.{IsChoice}
-use Rattle.dwz_plan.specs.declared.plan.Scope.{Scope as Sharing}
+use Rattle.dwz_plan.specs.declared.plan.Sharing.{Sharing}
 use Rattle.dwz_plan.specs.Planned.{Planned}
 use Rattle.dwz_plan.specs.Shows.{ShowsPlan}
 use Rattle.dwz_planned.specs.declared.planned.PlannedFiles.{PlannedFiles}
@@ -18,7 +18,7 @@ use Rattle.dwz_laid.specs.Facts.{Facts, docs, move, rule, units}
 use Rattle.dwz_ready.specs.Settled.{AreFactsOf, ArePlanned, FactsLaw}
 
 -- the facts with these contents and indexes, and so on
-abbrev pub facts_with : List (List ℕ) → List Index → Scope → Planned → Facts → Facts
+abbrev pub facts_with : List (List ℕ) → List Index → TopScope → Planned → Facts → Facts
 facts_with contents indexes scope planned f = record {
   contents = contents;
   files = f.files;
@@ -57,7 +57,8 @@ pub record AreRuled (f : Facts) : Type 0 where
   pub choice : IsChoice (units f) (rule f)
   pub shows : ShowsPlan (rule f) (units f) (length (docs f)) f.planned
 
-ruled : (contents : List (List ℕ)) (indexes : List Index) (sharing : Sharing) (p : PlannedFiles) (f : Facts) → ArePlanned sharing (docs_of contents) p → AreRuled (facts_with contents indexes (alike_scope sharing) p.plan f)
+ruled : (contents : List (List ℕ)) (indexes : List Index) (sharing : Sharing) (p : PlannedFiles) (f : Facts) → ArePlanned sharing (docs_of contents) p
+    → AreRuled (facts_with contents indexes (alike_scope sharing) p.plan f)
 ruled contents indexes sharing p f planned = record { alike = alike_is sharing (docs_of contents); choice = choice_is sharing (docs_of contents); shows = planned.plan }
 
 pub facts_are : FactsLaw

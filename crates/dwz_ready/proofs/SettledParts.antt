@@ -19,7 +19,7 @@ use Rattle.dwz_ordered.specs.declared.orders.Settled.{Settled}
 use Rattle.dwz_ordered.specs.Ordered.{AreSettled}
 use Rattle.dwz_ordered.proofs.FitLemmas.{parts_fit}
 use Rattle.dwz_places.specs.declared.order.Sort.TheVariants.{Partial as PartialSort}
-use Rattle.dwz_plan.specs.declared.plan.Scope.{Scope as Sharing}
+use Rattle.dwz_plan.specs.declared.plan.Sharing.{Sharing}
 use Rattle.dwz_plan.specs.Planned.{Planned}
 use Rattle.dwz_planned.specs.Rules.{alike_scope, rule_by}
 use Rattle.dwz_planned.proofs.TopMarks.{marks_are}
@@ -76,7 +76,8 @@ module _ (contents : List (List ℕ)) (indexes : List Index) (sharing : Sharing)
       let many : length s.of_tops.now ≡ length (tops_of (units_of docs)) = ap (λ (w : List TopSpaces). length w) lends.of_tops ∙ sp.many_tops in
       record {
         rising = subst IsRising (sym lends.rows) sp.rising;
-        within = subst (λ (w : List SpaceRow). All (λ x. x.inner ≤ length w) s.of_tops.now) (sym lends.rows) (subst (λ (w : List TopSpaces). All (λ x. x.inner ≤ length r.spaces.rows.items) w) (sym lends.of_tops) sp.within);
+        within = subst (λ (w : List SpaceRow). All (λ x. x.inner ≤ length w) s.of_tops.now) (sym lends.rows)
+            (subst (λ (w : List TopSpaces). All (λ x. x.inner ≤ length r.spaces.rows.items) w) (sym lends.of_tops) sp.within);
         few = subst (λ (w : List SpaceRow). length w + 2 < 2 ^ 32) (sym lends.rows) sp.few;
         few_parts = subst (λ (w : Planned). length w.partials < 2 ^ 32) (sym lends.plan) (omega (arith, parts.planned.fits.few_parts, parts.planned.fits.few_rows));
         few_tops = subst (λ (w : Planned). All (λ part. length part.tops < 2 ^ 32) w.partials) (sym lends.plan) fit.few_tops;

@@ -2,12 +2,12 @@
 use Rattle.std.specs.Prelude.{◌≡◌, ℕ, List, length}
 use Rattle.dwz_meanings.specs.Documents.{Doc}
 use Rattle.dwz_docs.specs.Values.{AreBytes}
-use Rattle.dwz_seen.specs.Lists.{Each}
+use Rattle.dwz_docs.specs.Lists.{Each}
 use Rattle.dwz_alike.specs.Spots.{units_of}
 use Rattle.dwz_graph.specs.Files.{AreKept, docs_of}
 use Rattle.dwz_index.specs.Index.{Index}
 use Rattle.dwz_indexes.specs.Indexed.{AreIndexes}
-use Rattle.dwz_plan.specs.declared.plan.Scope.{Scope as Sharing}
+use Rattle.dwz_plan.specs.declared.plan.Sharing.{Sharing}
 use Rattle.dwz_plan.specs.Shows.{ShowsPlan}
 use Rattle.dwz_outline.specs.Outlines.{IsOutline}
 use Rattle.dwz_planned.specs.declared.planned.PlannedFiles.{PlannedFiles}
@@ -51,5 +51,6 @@ pub record AreStored (f : Facts) : Type 0 where
 -- facts of stored files and their plan, whose units are numbered, are facts
 abbrev pub FactsLaw : Type 0
 FactsLaw =
-    (contents : List (List ℕ)) (indexes : List Index) (sharing : Sharing) (p : PlannedFiles) (f : Facts) → ArePlanned sharing (docs_of contents) p → AreFactsOf contents indexes sharing p f
+    (contents : List (List ℕ)) (indexes : List Index) (sharing : Sharing) (p : PlannedFiles) (f : Facts)
+    → ArePlanned sharing (docs_of contents) p → AreFactsOf contents indexes sharing p f
     → AreStored f → AreUnitNumbers (move f) (units f) (written f) f.commons f.parts f.olds → AreFacts f

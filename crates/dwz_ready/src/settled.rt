@@ -16,7 +16,7 @@ use dwz_index::Index;
 use dwz_model::NoMemory;
 use dwz_order::{Marks, TopMark, marks_of};
 use dwz_ordered::{Settled, changed_files, importing_files};
-use dwz_plan::Scope;
+use dwz_plan::Sharing;
 use dwz_planned::PlannedFiles;
 use dwz_roots::part_lines;
 use dwz_spaces::{Spaces, pinned_spaces, spaces_of_files};
@@ -26,7 +26,7 @@ use std::alloc::Global;
 #[derive(Drop)]
 pub struct SettledFiles {
     /// Which files share.
-    pub scope: Scope,
+    pub scope: Sharing,
     /// The tops of all files, and their plan.
     pub planned: PlannedFiles,
     /// Of each top whether it stays in its unit, and whether it is pinned.
@@ -69,7 +69,7 @@ pub fn settle_files(
     alloc: Global,
     graph: &Graph,
     indexes: &[Index],
-    scope: Scope,
+    scope: Sharing,
     planned: PlannedFiles,
 ) -> Result<SettledFiles, NoMemory>
     requires few { length graph.now < 2 ^ 32 }
@@ -77,7 +77,8 @@ pub fn settle_files(
     requires planned { ArePlanned scope (docs_of graph.now) planned }
     ensures scope { IfOk result (λ r. r.scope ≡ scope) }
     ensures planned { IfOk result (λ r. r.planned ≡ planned) }
-    ensures settled { IfOk result (λ r. (f : Facts) (s : Lent) → AreFactsOf graph.now indexes.now scope planned f → Lends r s → IsSettled f s) }
+    ensures settled { IfOk result (λ r. (f : Facts) (s : Lent) → AreFactsOf graph.now indexes.now scope planned f → Lends r s
+        → IsSettled f s) }
     ensures importing { IfOk result (λ r. (f : Facts) → AreFactsOf graph.now indexes.now scope planned f
         → r.importing.items ≡ map (imports_common (move f) (units f)) (file_numbers 0 (docs f))) }
     ensures fits { IfOk result (λ r. (s : Lent) → Lends r s → AreSettled s) }

@@ -6,7 +6,7 @@ use Rattle.dwz_model.specs.declared.fault.Fault.{Fault}
 use Rattle.dwz_model.specs.declared.fault.Reason.TheVariants.{SectionTable}
 use Rattle.dwz_docs.specs.declared.elf.FileHeader.{FileHeader}
 use Rattle.dwz_docs.specs.declared.elf.Section.{Section}
-use Rattle.dwz_docs.specs.ElfFaults.{Either, FieldRows, InOrder, IsElfFault, KeptRows, Row}
+use Rattle.dwz_docs.specs.ElfFaults.{Either, FieldRows, InOrder, IsElfFault, KeptRows, FaultRow}
 use Rattle.dwz_docs.specs.ElfHeaders.{file_header, has_relocations, is_compressed, is_there}
 use Rattle.dwz_docs.specs.ElfNames.{names_header, sections_in}
 use Rattle.dwz_docs.specs.ElfReading.{first_in, header_fault, identification_fault, missing_fault, names_fault, unkept_fault}
@@ -15,9 +15,10 @@ use Rattle.dwz_docs.specs.ElfBack.{IsAllowed, IsBackFault, IsSupThere}
 use Rattle.dwz_rebuilt.proofs.FaultLemmas.{HasGoodFields}
 
 -- of fields that are good no row holds, but perhaps that of one section header more
-fields_back : (bytes : List ℕ) (file : FileHeader) → HasGoodFields 65279 (length bytes) file → (f : Fault) → FieldRows Either bytes file f → Row (file.headers ≡ 65279) SectionTable 60 f
+fields_back : (bytes : List ℕ) (file : FileHeader) → HasGoodFields 65279 (length bytes) file → (f : Fault) → FieldRows Either bytes file f → FaultRow (file.headers ≡ 65279) SectionTable 60 f
 fields_back bytes file good f (inl h) =
-    let test : (not (eqb file.kind 2) && not (eqb file.kind 3)) ≡ true = and_from (not (eqb file.kind 2)) (not (eqb file.kind 3)) (ap not (ne_eqb file.kind 2 h.1.0)) (ap not (ne_eqb file.kind 3 h.1.1)) in
+    let test : (not (eqb file.kind 2) && not (eqb file.kind 3)) ≡ true = and_from (not (eqb file.kind 2)) (not (eqb file.kind 3)) (ap not (ne_eqb file.kind 2 h.1.0))
+    (ap not (ne_eqb file.kind 3 h.1.1)) in
     let never = good.kind in
     absurd cc
 fields_back bytes file good f (inr (inl h)) = absurd (good.some_place h.1)

@@ -1,7 +1,7 @@
 -- The sections that are given to a file: each is found by its code, and can be given where the old one has bytes.
 use Rattle.std.proofs.Common.{◌≡◌, ℕ, true, false, eqb, List, [], ◌++◌, Option, Some, None, refl, ap, ◌∙◌}
 use Rattle.std.specs.Prelude.{unwrap_or}
-use Rattle.dwz_model.specs.declared.sections.Sections.{Sections}
+use Rattle.dwz_model.specs.declared.sections.NewSections.{NewSections}
 use Rattle.dwz_docs.specs.declared.elf.NewContent.{NewContent}
 use Rattle.dwz_docs.specs.ElfLayout.{content_for}
 use Rattle.dwz_docs.specs.ElfNames.{sections_in}
@@ -22,7 +22,7 @@ other_is : (code : ℕ) (o : Option (List ℕ)) (rest : List NewContent) (wanted
 other_is code None rest wanted other = refl
 other_is code (Some bytes) rest wanted other = rw other refl
 
-module _ (s : Sections) where
+module _ (s : NewSections) where
   -- the sections from one on
   abbrev from_ranges : List NewContent
   from_ranges = if_new 8 s.aranges
@@ -69,14 +69,15 @@ module _ (s : Sections) where
   for_line = other_is 3 s.strs from_offsets 6 refl ∙ (other_is 5 s.offsets from_line 6 refl ∙ first_is 6 s.line from_lists (lists_none 6 refl refl) refl)
 
   for_lists : content_for (changes_by s None).new 7 ≡ s.loclists
-  for_lists = other_is 3 s.strs from_offsets 7 refl ∙ (other_is 5 s.offsets from_line 7 refl ∙ (other_is 6 s.line from_lists 7 refl ∙ first_is 7 s.loclists from_ranges (last_none s.aranges 7 refl) refl))
+  for_lists = other_is 3 s.strs from_offsets 7 refl ∙ (other_is 5 s.offsets from_line 7 refl
+      ∙ (other_is 6 s.line from_lists 7 refl ∙ first_is 7 s.loclists from_ranges (last_none s.aranges 7 refl) refl))
 
   for_ranges : content_for (changes_by s None).new 8 ≡ s.aranges
   for_ranges = other_is 3 s.strs from_offsets 8 refl ∙ (other_is 5 s.offsets from_line 8 refl ∙ (other_is 6 s.line from_lists 8 refl ∙ (other_is 7 s.loclists from_ranges 8 refl ∙ last_is s.aranges)))
 
 -- ---- the sections of the new file
 
-module _ (input : List ℕ) (s : Sections) (sup : Option (List ℕ)) (order : List (ℕ × ℕ)) (can : CanBeMade input (changes_by s sup) order) where
+module _ (input : List ℕ) (s : NewSections) (sup : Option (List ℕ)) (order : List (ℕ × ℕ)) (can : CanBeMade input (changes_by s sup) order) where
   by_code : (code : ℕ) → section_of (new_file input (changes_by s sup) order) code ≡ unwrap_or (new_for (changes_by s sup) code) (section_of input code)
   by_code = new_contents input (changes_by s sup) order can
 
@@ -104,7 +105,8 @@ module _ (input : List ℕ) (s : Sections) (sup : Option (List ℕ)) (order : Li
 
 -- ---- what can be given
 
-one_more : (input : List ℕ) (code : ℕ) (o : Option (List ℕ)) (rest : List NewContent) (sup : Option (List ℕ)) → CanGive input code o → CanChange (sections_in input) (record { new = rest; sup = sup }) → CanChange (sections_in input) (record { new = if_new code o ++ rest; sup = sup })
+one_more : (input : List ℕ) (code : ℕ) (o : Option (List ℕ)) (rest : List NewContent) (sup : Option (List ℕ)) → CanGive input code o → CanChange (sections_in input) (record { new = rest; sup = sup })
+    → CanChange (sections_in input) (record { new = if_new code o ++ rest; sup = sup })
 one_more input code None rest sup can others = others
 one_more input code (Some bytes) rest sup can others =
     let n : NewContent = record { code = code; bytes = bytes } in
@@ -116,7 +118,7 @@ last_one input (Some bytes) sup can =
     let n : NewContent = record { code = 8; bytes = bytes } in
     one_more_change (sections_in input) [] sup n can.0 (no_change (sections_in input) sup) can.1 (given_by_size (sections_in input) n can.0 can.1 can.2)
 
-pub can_change : (input : List ℕ) (s : Sections) (sup : Option (List ℕ)) → CanGiveAll input s → CanChange (sections_in input) (changes_by s sup)
+pub can_change : (input : List ℕ) (s : NewSections) (sup : Option (List ℕ)) → CanGiveAll input s → CanChange (sections_in input) (changes_by s sup)
 can_change input s sup can =
     one_more input 1 (Some s.info) _ sup can.info
     (one_more input 2 (Some s.«abbrev») _ sup can.abbrevs

@@ -9,10 +9,12 @@ use Rattle.dwz_docs.specs.declared.elf.Header.{Header}
 use Rattle.dwz_docs.specs.declared.elf.Section.{Section}
 use Rattle.dwz_docs.specs.ElfFaults.{identification}
 use Rattle.dwz_docs.specs.ElfHeaders.{end_of, file_header, headers_end, is_there, program_headers_end}
-use Rattle.dwz_docs.specs.ElfNames.{known_name, name_at, name_in, names_header, section_of, sections_in}
-use Rattle.dwz_docs.specs.ElfReading.{elf_fault, fault_if, field_fault, first_in, first_other, header_fault, identification_fault, is_misaligned, is_misnamed, is_misplaced, missing_fault, names_fault, unkept_fault, wrong_byte}
+use Rattle.dwz_docs.specs.ElfNames.{known_name, name_at, name_in, names_header, section_named, sections_in}
+use Rattle.dwz_docs.specs.ElfReading.{elf_fault, fault_if, field_fault, first_in, first_other, header_fault, identification_fault, is_misaligned, is_misnamed, is_misplaced, missing_fault, names_fault}
+use Rattle.dwz_docs.specs.ElfReading.{unkept_fault, wrong_byte}
 use Rattle.dwz_docs.proofs.PlainFaults.{no_fault, none_or}
-use Rattle.dwz_rebuilt.proofs.SectionLemmas.{or_none, test_false}
+use Rattle.dwz_docs.proofs.ElfFaultLemmas.{test_false}
+use Rattle.dwz_rebuilt.proofs.SectionLemmas.{or_none}
 
 pub record HasNoFault (bytes : List ℕ) : Type 0 where
   pub identified : identification_fault bytes ≡ None
@@ -43,7 +45,8 @@ is_faultless bytes is =
 
 -- ---- the identification
 
-first_same : (at : ℕ) (wanted xs ys : List ℕ) → length wanted ≤ length xs → length wanted ≤ length ys → ((i : ℕ) → i < length wanted → get_or xs i 0 ≡ get_or ys i 0) → first_other at wanted xs ≡ first_other at wanted ys
+first_same : (at : ℕ) (wanted xs ys : List ℕ) → length wanted ≤ length xs → length wanted ≤ length ys → ((i : ℕ) → i < length wanted → get_or xs i 0 ≡ get_or ys i 0)
+    → first_other at wanted xs ≡ first_other at wanted ys
 unfolding first_other
 first_same at [] xs ys in_xs in_ys same = refl
 first_same at (w ∷ wanted) [] ys in_xs in_ys same = absurd (omega (arith, in_xs))
@@ -57,7 +60,8 @@ pub long_enough : (bytes : List ℕ) → identification_fault bytes ≡ None →
 unfolding identification_fault
 long_enough bytes is = ltb-false (length bytes) 64 (test_false _ _ _ (or_none (wrong_byte (first_other 0 identification bytes)) _ is).1)
 
-pub same_identification : (bytes others : List ℕ) → identification_fault bytes ≡ None → 64 ≤ length others → ((i : ℕ) → i < 7 → get_or others i 0 ≡ get_or bytes i 0) → identification_fault others ≡ None
+pub same_identification : (bytes others : List ℕ) → identification_fault bytes ≡ None → 64 ≤ length others → ((i : ℕ) → i < 7 → get_or others i 0 ≡ get_or bytes i 0)
+    → identification_fault others ≡ None
 unfolding identification_fault
 same_identification bytes others is long same =
     let enough = long_enough bytes is in
@@ -150,9 +154,9 @@ unfolding name_in
 no_end at = let none : drop {A = ℕ} at [] ≡ [] = drop_all at [] (omega arith) in ap (λ (w : List ℕ). (known_name (name_in w)).ends) none
 
 -- some name ends in the table
-pub table_some : (len names : ℕ) (table : List ℕ) (h : Header) (hs : List Header) → first_in (header_fault len names) [] (map (section_of table) (h ∷ hs)) ≡ None → table ≢ []
+pub table_some : (len names : ℕ) (table : List ℕ) (h : Header) (hs : List Header) → first_in (header_fault len names) [] (map (section_named table) (h ∷ hs)) ≡ None → table ≢ []
 unfolding first_in
 table_some len names table h hs none empty =
-    let ends = ends_there len names [] (section_of table h) (or_none (header_fault len names [] (section_of table h)) _ none).0 in
+    let ends = ends_there len names [] (section_named table h) (or_none (header_fault len names [] (section_named table h)) _ none).0 in
     let not_so : (known_name (name_at table h.name)).ends ≡ false = ap (λ (t : List ℕ). (known_name (name_at t h.name)).ends) empty ∙ no_end h.name in
     cc

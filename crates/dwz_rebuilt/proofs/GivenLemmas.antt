@@ -4,15 +4,16 @@ use Rattle.std.specs.Prelude.{All, Any, slice_get}
 use Rattle.std.proofs.lemmas.Bool.{and_parts, eqb-false, eqb-true}
 use Rattle.std.proofs.lemmas.List.Elements.{All-cons, All-get_or, All-nil}
 use Rattle.std.proofs.lemmas.Option.{get_or_from_slice_get, slice_get_within}
+use Rattle.dwz_bytes.proofs.GroupLemmas.{chosen}
 use Rattle.dwz_docs.specs.declared.elf.NewContent.{NewContent}
 use Rattle.dwz_docs.specs.declared.elf.Section.{Section}
 use Rattle.dwz_docs.specs.ElfHeaders.{is_loaded, is_there}
 use Rattle.dwz_docs.specs.ElfReading.{has_code, range_in, section_range}
 use Rattle.dwz_rebuilt.specs.Rebuilt.{CanBeGiven, CanChange}
-use Rattle.dwz_docs.proofs.PartLemmas.{chosen}
 
 -- the section whose range that is
-found_in : (sections : List Section) (code : ℕ) (range : ℕ × ℕ) → range_in sections code ≡ Some range → (k : ℕ) × (s : Section) × (slice_get sections k ≡ Some s) × (has_code code s ≡ true) × ((s.header.offset, s.header.size) ≡ range)
+found_in : (sections : List Section) (code : ℕ) (range : ℕ × ℕ) → range_in sections code ≡ Some range → (k : ℕ) × (s : Section) × (slice_get sections k ≡ Some s) × (has_code code s ≡ true)
+    × ((s.header.offset, s.header.size) ≡ range)
 found_in [] code range is = absurd cc
 found_in (s ∷ sections) code range is =
     elim (chosen (has_code code s) (Some (s.header.offset, s.header.size)) (range_in sections code) (Some range) is) [
@@ -28,7 +29,8 @@ range_found sections code range is =
       | inr p ↦ (eqb-false code 0 p.0, p.1)
     ]
 
-given_if : (sections : List Section) (n : NewContent) (range : ℕ × ℕ) → section_range sections n.code ≡ Some range → ((s : Section) (k : ℕ) → slice_get sections k ≡ Some s → s.header.size ≡ range.1 → is_loaded s.header ≡ true → s.header.size ≡ 0 → n.bytes ≡ []) → Any (CanBeGiven n) sections
+given_if : (sections : List Section) (n : NewContent) (range : ℕ × ℕ) → section_range sections n.code ≡ Some range
+    → ((s : Section) (k : ℕ) → slice_get sections k ≡ Some s → s.header.size ≡ range.1 → is_loaded s.header ≡ true → s.header.size ≡ 0 → n.bytes ≡ []) → Any (CanBeGiven n) sections
 given_if sections n range is empty =
     let found = found_in sections n.code range (range_found sections n.code range is).1 in
     let s = found.1 in
@@ -41,7 +43,8 @@ pub given_by_size : (sections : List Section) (n : NewContent) (range : ℕ × �
 given_by_size sections n range is empty = given_if sections n range is (λ s k at_k same loaded none. empty (sym same ∙ none))
 
 -- and to each section that is there, where none is loaded
-pub given_unloaded : (sections : List Section) (n : NewContent) (range : ℕ × ℕ) → section_range sections n.code ≡ Some range → All (λ s. is_loaded s.header ≡ false) sections → Any (CanBeGiven n) sections
+pub given_unloaded : (sections : List Section) (n : NewContent) (range : ℕ × ℕ) → section_range sections n.code ≡ Some range → All (λ s. is_loaded s.header ≡ false) sections
+    → Any (CanBeGiven n) sections
 given_unloaded sections n range is unloaded =
     given_if sections n range is (λ s k at_k same loaded none.
     let there = All-get_or (λ (t : Section). is_loaded t.header ≡ false) sections k s (slice_get_within sections k s at_k) unloaded in
@@ -55,7 +58,8 @@ no_change sections sup = record {
   given = All-nil (λ n. Any (CanBeGiven n) sections);
 }
 
-pub one_more_change : (sections : List Section) (new : List NewContent) (sup : Option (List ℕ)) (n : NewContent) (range : ℕ × ℕ) → CanChange sections (record { new = new; sup = sup }) → section_range sections n.code ≡ Some range → Any (CanBeGiven n) sections → CanChange sections (record { new = n ∷ new; sup = sup })
+pub one_more_change : (sections : List Section) (new : List NewContent) (sup : Option (List ℕ)) (n : NewContent) (range : ℕ × ℕ) → CanChange sections (record { new = new; sup = sup })
+    → section_range sections n.code ≡ Some range → Any (CanBeGiven n) sections → CanChange sections (record { new = n ∷ new; sup = sup })
 one_more_change sections new sup n range can is given = record {
   coded = All-cons (λ (m : NewContent). m.code ≢ 0) n new (range_found sections n.code range is).0 can.coded;
   given = All-cons (λ m. Any (CanBeGiven m) sections) n new given can.given;

@@ -1,6 +1,7 @@
 -- What is read of an ELF file that is made from another: its header, its name table, and each of its sections.
-use Rattle.std.proofs.Common.{◌≡◌, ◌≢◌, ◌⊎◌, inl, inr, ℕ, zero, suc, ◌+◌, ◌*◌, ◌^◌, ◌<◌, ◌≤◌, true, false, cond, eqb, List, [], ◌∷◌, ◌++◌, length, map, take, drop, get_or, Option, Some, None, refl, sym, ap, subst, ◌∙◌, codes, arith}
-use Rattle.std.specs.Prelude.{◌&&◌, ◌||◌, not, slice_get, is_some}
+use Rattle.std.proofs.Common.{◌≡◌, ◌≢◌, ◌⊎◌, inl, inr, ℕ, zero, suc, ◌+◌, ◌*◌, ◌^◌, ◌<◌, ◌≤◌, true, false, cond, eqb, List, [], ◌∷◌, ◌++◌, length, map, take, drop, get_or, Option, Some, None, refl}
+use Rattle.std.proofs.Common.{sym, ap, subst, ◌∙◌, codes, arith}
+use Rattle.std.specs.Prelude.{◌&&◌, not, slice_get, is_some}
 use Rattle.std.specs.Option.{unwrap_or}
 use Rattle.std.specs.List.{AllZip, list_any}
 use Rattle.std.proofs.lemmas.Bool.{cases_lt}
@@ -11,13 +12,12 @@ use Rattle.dwz_docs.specs.declared.elf.FileHeader.{FileHeader}
 use Rattle.dwz_docs.specs.declared.elf.Header.{Header}
 use Rattle.dwz_docs.specs.declared.elf.Section.{Section}
 use Rattle.dwz_docs.specs.ElfHeaders.{content, end_of, file_header, header_at, headers_from, is_there, number_at}
-use Rattle.dwz_docs.specs.ElfLayout.{Changes, added_name, content_at, moved_header, moved_in, names_size, new_count, numbers, rebuilt_length, sup_bytes, sup_header}
+use Rattle.dwz_docs.specs.ElfLayout.{Changes, added_name, content_at, moved_header, moved_in, names_size, new_count, numbers, placed_of, rebuilt_length, sup_bytes, sup_header}
 use Rattle.dwz_docs.specs.ElfNames.{known_name, name_at, name_table, names_header, sections_in}
 use Rattle.dwz_docs.specs.ElfNames
 use Rattle.dwz_docs.specs.ElfReading.{elf_of, first_in, has_code, header_fault}
 use Rattle.dwz_docs.specs.PlainFile.{section_read}
 use Rattle.dwz_docs.proofs.PlainReads.{all_fields, header_of, header_read}
-use Rattle.dwz_meanings.specs.Files.{section_of}
 use Rattle.dwz_rebuilt.specs.Rebuilt.{CanBeMade, HasSameFields, new_file}
 use Rattle.dwz_rebuilt.proofs.FaultLemmas.{HasGoodFields, HasNoFault, ends_there, good_fields, long_enough, names_there, names_within, no_faults, table_some}
 use Rattle.dwz_rebuilt.proofs.MovedLemmas.{IsMadeAt, coded_content, made_one, names_content, placed_bytes}
@@ -25,38 +25,41 @@ use Rattle.dwz_rebuilt.proofs.NameLemmas.{added_name_read, no_sup, same_name}
 use Rattle.dwz_rebuilt.proofs.OldLemmas.{first_at, is_old, keep_some, names_no_code}
 use Rattle.dwz_rebuilt.proofs.PieceLemmas.{has_in, same_number}
 use Rattle.dwz_rebuilt.proofs.SectionLemmas.{IsMade, all_made, same_codes}
-use Rattle.dwz_rebuilt.proofs.ShapeLemmas.{IsWhole, fits, has_headers, has_sup, is_new, kept_same, length_rebuilt, length_to_sup, reads_count, reads_place, small_length, sup_header_behind, the_end, the_headers, the_headers_at, the_places, to_sup}
+use Rattle.dwz_rebuilt.proofs.ShapeLemmas.{IsWhole, fits, has_headers, has_sup, is_new, kept_same, length_rebuilt, length_to_sup, reads_count, reads_place, small_length, sup_header_behind, the_end}
+use Rattle.dwz_rebuilt.proofs.ShapeLemmas.{the_headers, the_headers_at, to_sup}
 use Rattle.dwz_rebuilt.proofs.TableLemmas.{SameName, header_moved, headers_last, length-sections, moved_sections, moved_to, new_header_there, section_at, sections_moved}
 
 -- what is known of the old file
 pub old_good : (input : List ℕ) → HasNoFault input → HasGoodFields 65278 (length input) (file_header input)
 old_good input none = good_fields (length input) (file_header input) none.fields
 
-old_section : (input : List ℕ) (k : ℕ) → k < (file_header input).headers → slice_get (sections_in input) k ≡ Some (ElfNames.section_of (name_table input) (header_at input ((file_header input).headers_at + 64 * k)))
-old_section input k less = section_at (ElfNames.section_of (name_table input)) input (file_header input).headers_at (file_header input).headers k less
+old_section : (input : List ℕ) (k : ℕ) → k < (file_header input).headers
+    → slice_get (sections_in input) k ≡ Some (ElfNames.section_named (name_table input) (header_at input ((file_header input).headers_at + 64 * k)))
+old_section input k less = section_at (ElfNames.section_named (name_table input)) input (file_header input).headers_at (file_header input).headers k less
 
 section_within : (input : List ℕ) (k : ℕ) (s : Section) → slice_get (sections_in input) k ≡ Some s → k < (file_header input).headers
 section_within input k s is =
     let less = slice_get_within (sections_in input) k s is in
-    omega (arith, less, length-sections (ElfNames.section_of (name_table input)) input (file_header input).headers_at (file_header input).headers)
+    omega (arith, less, length-sections (ElfNames.section_named (name_table input)) input (file_header input).headers_at (file_header input).headers)
 
 all_whole : (input : List ℕ) → HasNoFault input → (k : ℕ) (s : Section) → slice_get (sections_in input) k ≡ Some s → s.header.at + 64 ≤ length input
 all_whole input none k s is =
     let less = section_within input k s is in
     let here = old_section input k less in
-    let same : s ≡ ElfNames.section_of (name_table input) (header_at input ((file_header input).headers_at + 64 * k)) = cc in
+    let same : s ≡ ElfNames.section_named (name_table input) (header_at input ((file_header input).headers_at + 64 * k)) = cc in
     let place : s.header.at ≡ (file_header input).headers_at + 64 * k = ap (λ (w : Section). w.header.at) same in
     omega (arith, place, less, (old_good input none).table)
 
 -- each name ends in the name table
-name_ends : (input : List ℕ) → HasNoFault input → (k : ℕ) → k < (file_header input).headers → (known_name (name_at (name_table input) (header_at input ((file_header input).headers_at + 64 * k)).name)).ends ≡ true
+name_ends : (input : List ℕ) → HasNoFault input → (k : ℕ) → k < (file_header input).headers
+    → (known_name (name_at (name_table input) (header_at input ((file_header input).headers_at + 64 * k)).name)).ends ≡ true
 name_ends input none k less =
-    let s = ElfNames.section_of (name_table input) (header_at input ((file_header input).headers_at + 64 * k)) in
+    let s = ElfNames.section_named (name_table input) (header_at input ((file_header input).headers_at + 64 * k)) in
     let header = first_at (header_fault (length input) (file_header input).names) [] (sections_in input) k s none.headers (old_section input k less) in
     ends_there (length input) (file_header input).names header.0 s header.2
 
 -- some name ends, so the name table has bytes
-some_names_by : (input table : List ℕ) (names at n : ℕ) → 0 < n → first_in (header_fault (length input) names) [] (map (ElfNames.section_of table) (headers_from input at n)) ≡ None → table ≢ []
+some_names_by : (input table : List ℕ) (names at n : ℕ) → 0 < n → first_in (header_fault (length input) names) [] (map (ElfNames.section_named table) (headers_from input at n)) ≡ None → table ≢ []
 unfolding headers_from
 some_names_by input table names at zero some faultless = absurd (omega (arith, some))
 some_names_by input table names at (suc n) some faultless = table_some (length input) names table (header_at input at) (headers_from input (at + 64) n) faultless
@@ -78,14 +81,16 @@ unfolding elf_of
 whole input changes order can =
     let none = no_faults input can.reads in
     record {
-      counted = length-sections (ElfNames.section_of (name_table input)) input (file_header input).headers_at (file_header input).headers;
+      counted = length-sections (ElfNames.section_named (name_table input)) input (file_header input).headers_at (file_header input).headers;
       few = (old_good input none).few;
       whole = all_whole input none;
       small = can.small;
     }
 
 -- two files with the same fields but two
-file_fields : (old new : List ℕ) (count : ℕ) → number_at new 16 2 ≡ number_at old 16 2 → number_at new 18 2 ≡ number_at old 18 2 → number_at new 32 8 ≡ number_at old 32 8 → number_at new 48 4 ≡ number_at old 48 4 → number_at new 54 2 ≡ number_at old 54 2 → number_at new 56 2 ≡ number_at old 56 2 → number_at new 58 2 ≡ number_at old 58 2 → number_at new 60 2 ≡ count → number_at new 62 2 ≡ number_at old 62 2 → HasSameFields count (file_header old) (file_header new)
+file_fields : (old new : List ℕ) (count : ℕ) → number_at new 16 2 ≡ number_at old 16 2 → number_at new 18 2 ≡ number_at old 18 2 → number_at new 32 8 ≡ number_at old 32 8
+    → number_at new 48 4 ≡ number_at old 48 4 → number_at new 54 2 ≡ number_at old 54 2 → number_at new 56 2 ≡ number_at old 56 2 → number_at new 58 2 ≡ number_at old 58 2 → number_at new 60 2 ≡ count
+    → number_at new 62 2 ≡ number_at old 62 2 → HasSameFields count (file_header old) (file_header new)
 file_fields old new count kind machine programs_at flags program_size programs size counted names = rw (kind, machine, programs_at, flags, program_size, programs, size, counted, names) refl
 
 -- the number of section headers, by whether one is added
@@ -137,7 +142,8 @@ module _ (input : List ℕ) (changes : Changes) (order : List (ℕ × ℕ)) (can
       (field_same 62 2 (omega arith) (inr (omega arith)) (inr (omega arith)))
 
   pub same_identified : (i : ℕ) → i < 7 → get_or (new_file input changes order) i 0 ≡ get_or input i 0
-  same_identified i less = kept_same (elf_of input) changes input order is_whole i (let kept = keep_some (elf_of input) in omega (arith, less, kept)) (inl (omega (arith, less))) (inl (omega (arith, less)))
+  same_identified i less = kept_same (elf_of input) changes input order is_whole i (let kept = keep_some (elf_of input) in omega (arith, less, kept)) (inl (omega (arith, less)))
+      (inl (omega (arith, less)))
 
   -- the file header with the section headers at their new place
   unfoldable pub with_place : FileHeader
@@ -151,22 +157,24 @@ module _ (input : List ℕ) (changes : Changes) (order : List (ℕ × ℕ)) (can
 
   header_there : (k : ℕ) → k < (file_header input).headers
       → header_at (new_file input changes order) (the_headers_at (elf_of input) changes input order + 64 * k)
-      ≡ moved_to (the_headers_at (elf_of input) changes input order + 64 * k) (moved_in (the_places (elf_of input) changes input order) (0 + k)) (header_at input ((file_header input).headers_at + 64 * k))
+      ≡ moved_to (the_headers_at (elf_of input) changes input order + 64 * k) (moved_in (placed_of (elf_of input) changes input order) (0 + k))
+      (header_at input ((file_header input).headers_at + 64 * k))
   unfolding elf_of
   header_there k less =
       let e = elf_of input in
       let h = header_at input ((file_header input).headers_at + 64 * k) in
-      let s = ElfNames.section_of (name_table input) h in
-      let placed = the_places e changes input order in
+      let s = ElfNames.section_named (name_table input) h in
+      let placed = placed_of e changes input order in
       let at = the_headers_at e changes input order in
       let is = old_section input k less in
       let here = new_header_there input placed 0 (sections_in input) k s (all_whole input none) is in
-      let there = has_in (new_file input changes order) (the_headers e changes input order) (moved_header (take 64 (drop s.header.at input)) (moved_in placed (0 + k))) at (64 * k) (has_headers e changes input order is_whole) here in
+      let there = has_in (new_file input changes order) (the_headers e changes input order) (moved_header (take 64 (drop s.header.at input)) (moved_in placed (0 + k))) at (64 * k)
+      (has_headers e changes input order is_whole) here in
       header_moved input (new_file input changes order) s.header.at (at + 64 * k) (moved_in placed (0 + k)) (all_whole input none k s is) (fits e changes input order is_whole (0 + k)) there
 
   -- the sections of the new file, by those of the old one
   unfoldable pub moved : List Section
-  moved = moved_sections (the_places (elf_of input) changes input order) (the_headers_at (elf_of input) changes input order) 0 (sections_in input)
+  moved = moved_sections (placed_of (elf_of input) changes input order) (the_headers_at (elf_of input) changes input order) 0 (sections_in input)
 
   pub names_less : (file_header input).names < (file_header input).headers
   names_less = (old_good input none).names
@@ -175,13 +183,14 @@ module _ (input : List ℕ) (changes : Changes) (order : List (ℕ × ℕ)) (can
   full : (s : Section) → slice_get (sections_in input) (file_header input).names ≡ Some s → 0 < s.header.size
   full s is =
       let here = old_section input (file_header input).names names_less in
-      let same : s ≡ ElfNames.section_of (name_table input) (names_header input) = cc in
+      let same : s ≡ ElfNames.section_named (name_table input) (names_header input) = cc in
       let size : s.header.size ≡ (names_header input).size = ap (λ (w : Section). w.header.size) same in
       let some = names_size_some input none in
       omega (arith, size, some)
 
   pub one_at : (k place : ℕ) (s : Section) → slice_get (sections_in input) k ≡ Some s
-      → IsMadeAt (new_file input changes order) (content_at (elf_of input) changes input k) s (record { header = moved_to place (moved_in (the_places (elf_of input) changes input order) k) s.header; name = s.name })
+      → IsMadeAt (new_file input changes order) (content_at (elf_of input) changes input k) s
+      (record { header = moved_to place (moved_in (placed_of (elf_of input) changes input order) k) s.header; name = s.name })
   unfolding elf_of
   one_at k place s is =
       let e = elf_of input in
@@ -192,18 +201,20 @@ module _ (input : List ℕ) (changes : Changes) (order : List (ℕ × ℕ)) (can
   not_names k s is coded same = coded (names_no_code (length input) (file_header input).names (sections_in input) s none.headers (ap (slice_get (sections_in input)) (sym same) ∙ is))
 
   one_made : (k place : ℕ) (s : Section) → slice_get (sections_in input) k ≡ Some s
-      → IsMade input (new_file input changes order) changes s (record { header = moved_to place (moved_in (the_places (elf_of input) changes input order) (0 + k)) s.header; name = s.name })
+      → IsMade input (new_file input changes order) changes s (record { header = moved_to place (moved_in (placed_of (elf_of input) changes input order) (0 + k)) s.header; name = s.name })
   unfolding elf_of
   one_made k place s is =
       let e = elf_of input in
       let index : k ≡ 0 + k = omega arith in
-      let made : IsMadeAt (new_file input changes order) (content_at e changes input k) s (record { header = moved_to place (moved_in (the_places e changes input order) (0 + k)) s.header; name = s.name }) =
-      subst (λ (n : ℕ). IsMadeAt (new_file input changes order) (content_at e changes input k) s (record { header = moved_to place (moved_in (the_places e changes input order) n) s.header; name = s.name })) index (one_at k place s is) in
+      let made : IsMadeAt (new_file input changes order) (content_at e changes input k) s
+      (record { header = moved_to place (moved_in (placed_of e changes input order) (0 + k)) s.header; name = s.name }) =
+      subst (λ (n : ℕ). IsMadeAt (new_file input changes order) (content_at e changes input k) s
+      (record { header = moved_to place (moved_in (placed_of e changes input order) n) s.header; name = s.name })) index (one_at k place s is) in
       record { wanted = content_at e changes input k; made = made; coded = λ coded. coded_content e changes input k s is (not_names k s is coded) }
 
   pub are_made : AllZip (IsMade input (new_file input changes order) changes) (sections_in input) moved
   unfolding moved
-  are_made = all_made input (new_file input changes order) changes (the_places (elf_of input) changes input order) (the_headers_at (elf_of input) changes input order) 0 (sections_in input) one_made
+  are_made = all_made input (new_file input changes order) changes (placed_of (elf_of input) changes input order) (the_headers_at (elf_of input) changes input order) 0 (sections_in input) one_made
 
   -- ---- the name table
 
@@ -212,19 +223,21 @@ module _ (input : List ℕ) (changes : Changes) (order : List (ℕ × ℕ)) (can
   names_at = the_headers_at (elf_of input) changes input order + 64 * (file_header input).names
 
   pub names_new : Header
-  names_new = moved_to names_at (moved_in (the_places (elf_of input) changes input order) (0 + (file_header input).names)) (names_header input)
+  names_new = moved_to names_at (moved_in (placed_of (elf_of input) changes input order) (0 + (file_header input).names)) (names_header input)
 
   pub names_moved : names_header (new_file input changes order) ≡ names_new
   unfolding names_new names_at with_place
   names_moved = ap (λ (f : FileHeader). header_at (new_file input changes order) (f.headers_at + 64 * f.names)) is_with_place ∙ header_there (file_header input).names names_less
 
-  names_made : IsMadeAt (new_file input changes order) (content_at (elf_of input) changes input (file_header input).names) (ElfNames.section_of (name_table input) (names_header input)) (record { header = names_new; name = (ElfNames.section_of (name_table input) (names_header input)).name })
+  names_made : IsMadeAt (new_file input changes order) (content_at (elf_of input) changes input (file_header input).names) (ElfNames.section_named (name_table input) (names_header input))
+      (record { header = names_new; name = (ElfNames.section_named (name_table input) (names_header input)).name })
   unfolding names_new
   names_made =
-      let s = ElfNames.section_of (name_table input) (names_header input) in
+      let s = ElfNames.section_named (name_table input) (names_header input) in
       let n = (file_header input).names in
       let index : n ≡ 0 + n = omega arith in
-      subst (λ (k : ℕ). IsMadeAt (new_file input changes order) (content_at (elf_of input) changes input n) s (record { header = moved_to names_at (moved_in (the_places (elf_of input) changes input order) k) (names_header input); name = s.name })) index
+      subst (λ (k : ℕ). IsMadeAt (new_file input changes order) (content_at (elf_of input) changes input n) s
+      (record { header = moved_to names_at (moved_in (placed_of (elf_of input) changes input order) k) (names_header input); name = s.name })) index
       (one_at n names_at s (old_section input n names_less))
 
   old_there : is_there (names_header input) ≡ true
@@ -237,7 +250,7 @@ module _ (input : List ℕ) (changes : Changes) (order : List (ℕ × ℕ)) (can
   table_kept : content (new_file input changes order) names_new ≡ new_table
   unfolding new_table elf_of
   table_kept =
-      let s = ElfNames.section_of (name_table input) (names_header input) in
+      let s = ElfNames.section_named (name_table input) (names_header input) in
       let n = (file_header input).names in
       let is = old_section input n names_less in
       let code : s.name.code ≡ 0 = names_no_code (length input) n (sections_in input) s none.headers is in
@@ -299,7 +312,8 @@ module _ (input : List ℕ) (changes : Changes) (order : List (ℕ × ℕ)) (can
       let same : length (sup_bytes changes) ≡ length sup = ap (λ (o : Option (List ℕ)). length (unwrap_or o [])) is in
       omega (arith, has.within, same)
 
-  sup_read : (sup : List ℕ) → changes.sup ≡ Some sup → header_at (new_file input changes order) sup_place ≡ header_of sup_place (names_header input).size 1 0 (the_end (elf_of input) changes input order) (length sup) 1
+  sup_read : (sup : List ℕ) → changes.sup ≡ Some sup → header_at (new_file input changes order) sup_place
+      ≡ header_of sup_place (names_header input).size 1 0 (the_end (elf_of input) changes input order) (length sup) 1
   unfolding sup_place elf_of sup_header new_table
   sup_read sup is =
       let e = elf_of input in
@@ -317,33 +331,36 @@ module _ (input : List ℕ) (changes : Changes) (order : List (ℕ × ℕ)) (can
       header_read (new_file input changes order) front [] sup_place (names_header input).size 1 0 end (length sup) 1 0 bytes (length_to_sup e changes input order is_whole)
       few (omega arith) (omega arith) (omega (arith, within, short)) (omega (arith, within, short)) (omega arith)
 
-  sup_seen : (sup : List ℕ) → changes.sup ≡ Some sup → ElfNames.section_of new_table (header_at (new_file input changes order) sup_place) ≡ sup_section sup
+  sup_seen : (sup : List ℕ) → changes.sup ≡ Some sup → ElfNames.section_named new_table (header_at (new_file input changes order) sup_place) ≡ sup_section sup
   unfolding sup_section new_table
   sup_seen sup is =
       let name : name_at (name_table input ++ added_name changes.sup) (names_header input).size ≡ Some (codes ".debug_sup") =
       ap (λ (o : Option (List ℕ)). name_at (name_table input ++ added_name o) (names_header input).size) is ∙ added_name_read (name_table input) (names_header input).size old_size in
-      ap (ElfNames.section_of (name_table input ++ added_name changes.sup)) (sup_read sup is)
+      ap (ElfNames.section_named (name_table input ++ added_name changes.sup)) (sup_read sup is)
       ∙ ap (λ (o : Option (List ℕ)). record { header = header_of sup_place (names_header input).size 1 0 (the_end (elf_of input) changes input order) (length sup) 1; name = known_name o }) name
 
   -- ---- all sections
 
-  moved_first : map (ElfNames.section_of new_table) (headers_from (new_file input changes order) (the_headers_at (elf_of input) changes input order) (file_header input).headers) ≡ moved
+  moved_first : map (ElfNames.section_named new_table) (headers_from (new_file input changes order) (the_headers_at (elf_of input) changes input order) (file_header input).headers) ≡ moved
   unfolding moved
   moved_first =
-      sections_moved (name_table input) new_table input (new_file input changes order) (the_places (elf_of input) changes input order) (file_header input).headers_at (the_headers_at (elf_of input) changes input order) 0 (file_header input).headers header_there same_names
+      sections_moved (name_table input) new_table input (new_file input changes order) (placed_of (elf_of input) changes input order) (file_header input).headers_at
+      (the_headers_at (elf_of input) changes input order) 0 (file_header input).headers header_there same_names
 
   all_of : (sup : Option (List ℕ)) → changes.sup ≡ sup
-      → map (ElfNames.section_of new_table) (headers_from (new_file input changes order) (the_headers_at (elf_of input) changes input order) ((file_header input).headers + cond (is_some sup) 1 0)) ≡ moved ++ added sup
+      → map (ElfNames.section_named new_table) (headers_from (new_file input changes order) (the_headers_at (elf_of input) changes input order) ((file_header input).headers + cond (is_some sup) 1 0))
+      ≡ moved ++ added sup
   unfolding added sup_place
   all_of None is =
       let count : (file_header input).headers + 0 ≡ (file_header input).headers = omega arith in
-      ap (λ n. map (ElfNames.section_of new_table) (headers_from (new_file input changes order) (the_headers_at (elf_of input) changes input order) n)) count ∙ (moved_first ∙ sym (append-nil moved))
+      ap (λ n. map (ElfNames.section_named new_table) (headers_from (new_file input changes order) (the_headers_at (elf_of input) changes input order) n)) count
+      ∙ (moved_first ∙ sym (append-nil moved))
   all_of (Some sup) is =
       let out = new_file input changes order in
       let at = the_headers_at (elf_of input) changes input order in
       let n = (file_header input).headers in
-      ap (map (ElfNames.section_of new_table)) (headers_last out at n)
-      ∙ (map-append (ElfNames.section_of new_table) (headers_from out at n) (header_at out (at + 64 * n) ∷ [])
+      ap (map (ElfNames.section_named new_table)) (headers_last out at n)
+      ∙ (map-append (ElfNames.section_named new_table) (headers_from out at n) (header_at out (at + 64 * n) ∷ [])
       ∙ (λ j. moved_first j ++ sup_seen sup is j ∷ []))
 
   pub same_sections : sections_in (new_file input changes order) ≡ moved ++ added changes.sup
@@ -351,13 +368,13 @@ module _ (input : List ℕ) (changes : Changes) (order : List (ℕ × ℕ)) (can
   same_sections =
       let out = new_file input changes order in
       let file = file_header out in
-      ap (λ (t : List ℕ). map (ElfNames.section_of t) (headers_from out file.headers_at file.headers)) same_table
-      ∙ (ap (λ (f : FileHeader). map (ElfNames.section_of new_table) (headers_from out f.headers_at f.headers)) is_with_place ∙ all_of changes.sup refl)
+      ap (λ (t : List ℕ). map (ElfNames.section_named t) (headers_from out file.headers_at file.headers)) same_table
+      ∙ (ap (λ (f : FileHeader). map (ElfNames.section_named new_table) (headers_from out f.headers_at f.headers)) is_with_place ∙ all_of changes.sup refl)
 
   pub length_moved : length moved ≡ (file_header input).headers
   length_moved =
       sym (length_all_zip (IsMade input (new_file input changes order) changes) (sections_in input) moved are_made)
-      ∙ length-sections (ElfNames.section_of (name_table input)) input (file_header input).headers_at (file_header input).headers
+      ∙ length-sections (ElfNames.section_named (name_table input)) input (file_header input).headers_at (file_header input).headers
 
   -- none of them was `.debug_sup`
   pub old_no_sup : list_any (has_code 9) (sections_in input) ≡ false

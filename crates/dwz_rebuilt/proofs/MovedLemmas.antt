@@ -1,5 +1,6 @@
 -- Each section of the new file, one by one: it lies in the file, and has its new content or the old one.
-use Rattle.std.proofs.Common.{◌≡◌, ◌≢◌, inl, inr, ℕ, zero, suc, ◌+◌, ◌<◌, ◌≤◌, Bool, true, false, cond, eqb, ltb, List, [], ◌++◌, length, take, drop, get_or, Option, Some, None, refl, sym, ap, subst, ◌∙◌, arith}
+use Rattle.std.proofs.Common.{◌≡◌, ◌≢◌, inl, inr, ℕ, zero, suc, ◌+◌, ◌<◌, ◌≤◌, Bool, true, false, cond, eqb, ltb, List, [], ◌++◌, length, take, drop, get_or, Option, Some, None, refl, sym, ap, subst}
+use Rattle.std.proofs.Common.{◌∙◌, arith}
 use Rattle.std.specs.Prelude.{◌&&◌, ◌||◌, not, slice_get, is_some}
 use Rattle.std.specs.Option.{unwrap_or}
 use Rattle.std.proofs.lemmas.Bool.{and_cases, and_from, and_left, and_right, cases_Bool, cases_lt, eq-eqb, le-ltb, lt-ltb, ltb-false, ne_eqb, not-false, or_from, or_parts}
@@ -31,7 +32,8 @@ pub record IsNew (e : ElfView) (changes : Changes) (input out : List ℕ) (order
   pub some : 64 ≤ keep_end e
   pub within : keep_end e ≤ length out
   pub same : (i : ℕ) → 64 ≤ i → i < keep_end e → get_or out i 0 ≡ get_or input i 0
-  pub moved : (index : ℕ) (m : Moved) → moved_in (placed_from e (content_at e changes input) (keep_end e) order) index ≡ Some m → IsPlaced (content_at e changes input) (keep_end e) (length out) out index m
+  pub moved : (index : ℕ) (m : Moved) → moved_in (placed_from e (content_at e changes input) (keep_end e) order) index ≡ Some m
+      → IsPlaced (content_at e changes input) (keep_end e) (length out) out index m
 
 -- a section of the new file is that of the old one, and its bytes lie in the file
 pub record IsMadeAt (out wanted : List ℕ) (old new : Section) : Type 0 where
@@ -43,7 +45,8 @@ abbrev added_to : ElfView → Changes → ℕ → List ℕ
 added_to e changes index = cond (eqb index e.file.names) (added_name changes.sup) []
 
 -- the content in the new file is the new one, or the old one with what is added to it
-content_of : (e : ElfView) (changes : Changes) (input : List ℕ) (index : ℕ) (s : Section) → slice_get e.sections index ≡ Some s → content_at e changes input index ≡ unwrap_or (replacement changes s) (content input s.header ++ added_to e changes index)
+content_of : (e : ElfView) (changes : Changes) (input : List ℕ) (index : ℕ) (s : Section) → slice_get e.sections index ≡ Some s
+    → content_at e changes input index ≡ unwrap_or (replacement changes s) (content input s.header ++ added_to e changes index)
 unfolding content_at
 content_of e changes input index s is = ap (new_content e changes input index) is
 
@@ -63,7 +66,8 @@ not_some None is = refl
 not_some (Some b) is = absurd cc
 
 -- bytes that are kept
-kept_content : (input out : List ℕ) (keep offset size : ℕ) → keep ≤ length out → ((i : ℕ) → 64 ≤ i → i < keep → get_or out i 0 ≡ get_or input i 0) → offset + size ≤ keep → (0 < size → (64 ≤ offset) × (offset + size ≤ length input)) → take size (drop offset out) ≡ take size (drop offset input)
+kept_content : (input out : List ℕ) (keep offset size : ℕ) → keep ≤ length out → ((i : ℕ) → 64 ≤ i → i < keep → get_or out i 0 ≡ get_or input i 0) → offset + size ≤ keep
+    → (0 < size → (64 ≤ offset) × (offset + size ≤ length input)) → take size (drop offset out) ≡ take size (drop offset input)
 kept_content input out keep offset zero within same inside placed = refl
 kept_content input out keep offset (suc n) within same inside placed =
     let where_it_is = placed (omega arith) in
@@ -73,7 +77,10 @@ kept_content input out keep offset (suc n) within same inside placed =
 pub placed_bytes : (len : ℕ) (h : Header) → is_there h ≡ true → is_misplaced len h ≡ false → 0 < h.size → (64 ≤ h.offset) × (end_of h ≤ len)
 placed_bytes len h there placed some =
     let first : (is_there h && ltb 0 h.size) ≡ true = and_from (is_there h) (ltb 0 h.size) there (lt-ltb 0 h.size some) in
-    let rest : (ltb len (end_of h) || ltb h.offset 64) ≡ false = elim (and_cases (is_there h && ltb 0 h.size) (ltb len (end_of h) || ltb h.offset 64) placed) [ inl not_so ↦ absurd cc | inr not_so ↦ not_so ] in
+    let rest : (ltb len (end_of h) || ltb h.offset 64) ≡ false = elim (and_cases (is_there h && ltb 0 h.size) (ltb len (end_of h) || ltb h.offset 64) placed) [
+      | inl not_so ↦ absurd cc
+      | inr not_so ↦ not_so
+    ] in
     let parts = or_parts (ltb len (end_of h)) (ltb h.offset 64) rest in
     (ltb-false h.offset 64 parts.1, ltb-false len (end_of h) parts.0)
 
@@ -81,7 +88,8 @@ placed_bytes len h there placed some =
 placed_if : (len : ℕ) (h : Header) → (0 < h.size → (64 ≤ h.offset) × (end_of h ≤ len)) → is_misplaced len h ≡ false
 placed_if len h placed =
     elim (cases_lt 0 h.size) [
-      | inl some ↦ and_right (is_there h && ltb 0 h.size) (ltb len (end_of h) || ltb h.offset 64) (or_from (ltb len (end_of h)) (ltb h.offset 64) (le-ltb len (end_of h) (placed some).1) (le-ltb h.offset 64 (placed some).0))
+      | inl some ↦ and_right (is_there h && ltb 0 h.size) (ltb len (end_of h) || ltb h.offset 64)
+          (or_from (ltb len (end_of h)) (ltb h.offset 64) (le-ltb len (end_of h) (placed some).1) (le-ltb h.offset 64 (placed some).0))
       | inr none ↦ and_left (is_there h && ltb 0 h.size) (ltb len (end_of h) || ltb h.offset 64) (and_right (is_there h) (ltb 0 h.size) (le-ltb 0 h.size none))
     ]
 
@@ -90,10 +98,20 @@ module _ (e : ElfView) (changes : Changes) (input out : List ℕ) (order : List 
   Made index place s o = IsMadeAt out (content_at e changes input index) s (record { header = moved_to place o s.header; name = s.name })
 
   -- a section that is written again
-  made_moved : (index place : ℕ) (s : Section) (m : Moved) → slice_get e.sections index ≡ Some s → IsPlaced (content_at e changes input) (keep_end e) (length out) out index m → Made index place s (Some m)
+  made_moved : (index place : ℕ) (s : Section) (m : Moved) → slice_get e.sections index ≡ Some s → IsPlaced (content_at e changes input) (keep_end e) (length out) out index m
+      → Made index place s (Some m)
   unfolding Made
   made_moved index place s m is placed = record {
-    carried = record { named = refl; name = refl; kind = refl; flags = refl; info = refl; align = refl; holds = λ there. has_part out (content_at e changes input index) m.at m.size placed.here placed.size };
+    carried = record {
+      named = refl;
+      name = refl;
+      kind = refl;
+      flags = refl;
+      info = refl;
+      align = refl;
+      holds = λ there. has_part out (content_at e changes input index) m.at m.size placed.here
+          placed.size;
+    };
     placed = placed_if (length out) (moved_to place (Some m) s.header) (λ some. (omega (arith, placed.behind, new.some), placed.within));
   }
 
@@ -127,7 +145,16 @@ module _ (e : ElfView) (changes : Changes) (input out : List ℕ) (order : List 
       let inside : end_of s.header ≤ keep_end e = ltb-false (keep_end e) (end_of s.header) parts.1 in
       let bytes = placed_bytes (length input) s.header there old.placed in
       record {
-        carried = record { named = refl; name = refl; kind = refl; flags = refl; info = refl; align = refl; holds = λ is. kept_content input out (keep_end e) s.header.offset s.header.size new.within new.same inside bytes ∙ sym same };
+        carried = record {
+          named = refl;
+          name = refl;
+          kind = refl;
+          flags = refl;
+          info = refl;
+          align = refl;
+          holds = λ is. kept_content input out (keep_end e) s.header.offset s.header.size new.within
+              new.same inside bytes ∙ sym same;
+        };
         placed = placed_if (length out) (moved_to place None s.header) (λ some. ((bytes some).0, omega (arith, inside, new.within)));
       }
 
@@ -154,7 +181,8 @@ module _ (e : ElfView) (changes : Changes) (input out : List ℕ) (order : List 
         placed = placed_if (length out) (moved_to place None s.header) (λ some. absurd (omega (arith, some, size)));
       }
 
-  pub made_one : (index place : ℕ) (s : Section) → IsOld e changes input index s → IsMadeAt out (content_at e changes input index) s (record { header = moved_to place (moved_in (placed_from e (content_at e changes input) (keep_end e) order) index) s.header; name = s.name })
+  pub made_one : (index place : ℕ) (s : Section) → IsOld e changes input index s
+      → IsMadeAt out (content_at e changes input index) s (record { header = moved_to place (moved_in (placed_from e (content_at e changes input) (keep_end e) order) index) s.header; name = s.name })
   unfolding Made
   made_one index place s old = by (is_moving (keep_end e) s.header) refl where
     contents : ℕ → List ℕ
@@ -187,13 +215,15 @@ module _ (e : ElfView) (changes : Changes) (input out : List ℕ) (order : List 
             ]
 
 -- the section of a code that isn't that of the name table holds its new content, or its old one
-pub coded_content : (e : ElfView) (changes : Changes) (input : List ℕ) (index : ℕ) (s : Section) → slice_get e.sections index ≡ Some s → index ≢ e.file.names → content_at e changes input index ≡ unwrap_or (replacement changes s) (content input s.header)
+pub coded_content : (e : ElfView) (changes : Changes) (input : List ℕ) (index : ℕ) (s : Section) → slice_get e.sections index ≡ Some s → index ≢ e.file.names
+    → content_at e changes input index ≡ unwrap_or (replacement changes s) (content input s.header)
 coded_content e changes input index s is other =
     content_of e changes input index s is
     ∙ ap (unwrap_or (replacement changes s)) (ap (λ (w : List ℕ). content input s.header ++ w) (nothing_added e changes index other) ∙ append-nil (content input s.header))
 
 -- the name table, which has no code, holds its old content, with what is added
-pub names_content : (e : ElfView) (changes : Changes) (input : List ℕ) (index : ℕ) (s : Section) → slice_get e.sections index ≡ Some s → index ≡ e.file.names → s.name.code ≡ 0 → content_at e changes input index ≡ content input s.header ++ added_name changes.sup
+pub names_content : (e : ElfView) (changes : Changes) (input : List ℕ) (index : ℕ) (s : Section) → slice_get e.sections index ≡ Some s → index ≡ e.file.names → s.name.code ≡ 0
+    → content_at e changes input index ≡ content input s.header ++ added_name changes.sup
 names_content e changes input index s is here code =
     let no_new : replacement changes s ≡ None = rw (eq-eqb s.name.code 0 code) refl in
     content_of e changes input index s is

@@ -4,15 +4,16 @@ use Rattle.std.specs.Prelude.{◌||◌, ◌&&◌, option_map, is_some, slice_get
 use Rattle.std.specs.List.{list_any}
 use Rattle.std.specs.Str.{bytes_eq}
 use Rattle.std.proofs.lemmas.Bool.{and_parts, cases_lt, eqb-true, false_from_ne_true, or_left}
-use Rattle.std.proofs.lemmas.List.{drop_all, drop-append-le, length-drop, length-take}
+use Rattle.std.proofs.lemmas.List.{drop_all, drop-append-le}
 use Rattle.dwz_model.specs.declared.fault.Reason.TheVariants.{Compressed, Index}
 use Rattle.dwz_docs.specs.declared.elf.Header.{Header}
 use Rattle.dwz_docs.specs.declared.elf.Section.{Section}
 use Rattle.dwz_docs.specs.ElfHeaders.{has_relocations, is_compressed, is_there}
-use Rattle.dwz_docs.specs.ElfNames.{known_name, name_at, name_in, section_of}
-use Rattle.dwz_docs.specs.ElfReading.{bytes_in, fault_if, first_in, has_code, is_rewritten, range_in, unkept_fault}
+use Rattle.dwz_docs.specs.ElfNames.{known_name, name_at, name_in, section_named}
+use Rattle.dwz_docs.specs.ElfReading.{fault_if, first_in, has_code, is_rewritten, range_in, unkept_fault}
 use Rattle.dwz_docs.proofs.OffsetLemmas.{drop-of}
-use Rattle.dwz_rebuilt.proofs.SectionLemmas.{or_none, test_false}
+use Rattle.dwz_docs.proofs.ElfFaultLemmas.{test_false}
+use Rattle.dwz_rebuilt.proofs.SectionLemmas.{or_none}
 use Rattle.dwz_rebuilt.proofs.TableLemmas.{SameName}
 
 -- ---- a longer name table
@@ -76,10 +77,10 @@ sup_is_index None is = absurd cc
 sup_is_index (Some name) is = or_left (bytes_eq name (codes ".debug_sup")) _ (last_code _ _ _ _ _ _ _ _ (bytes_eq name (codes ".debug_sup")) is)
 
 -- so a file that is read has none
-not_sup : (all : List Section) (table : List ℕ) (h : Header) → unkept_fault all (section_of table h) ≡ None → has_code 9 (section_of table h) ≡ false
+not_sup : (all : List Section) (table : List ℕ) (h : Header) → unkept_fault all (section_named table h) ≡ None → has_code 9 (section_named table h) ≡ false
 unfolding unkept_fault
 not_sup all table h none =
-    let s = section_of table h in
+    let s = section_named table h in
     let unkept = is_there s.header && (s.name.is_index || (has_relocations s.header && is_rewritten (slice_get all s.header.info))) in
     let packed = fault_if (is_there s.header && s.name.is_debug && is_compressed s.header) Compressed s.header.at in
     let here : unkept ≡ false = test_false unkept Index s.header.at (or_none (fault_if unkept Index s.header.at) packed none).0 in
@@ -89,13 +90,14 @@ not_sup all table h none =
     let not_so : unkept ≡ true = rw (parts.0, index) refl in
     cc)
 
-pub no_sup : (all : List Section) (table : List ℕ) (before : List Section) (hs : List Header) → first_in (λ b. unkept_fault all) before (map (section_of table) hs) ≡ None → list_any (has_code 9) (map (section_of table) hs) ≡ false
+pub no_sup : (all : List Section) (table : List ℕ) (before : List Section) (hs : List Header) → first_in (λ b. unkept_fault all) before (map (section_named table) hs) ≡ None
+    → list_any (has_code 9) (map (section_named table) hs) ≡ false
 unfolding first_in
 no_sup all table before [] none = refl
 no_sup all table before (h ∷ hs) none =
-    let parts = or_none (unkept_fault all (section_of table h)) _ none in
+    let parts = or_none (unkept_fault all (section_named table h)) _ none in
     let here = not_sup all table h parts.0 in
-    let rest = no_sup all table (before ++ section_of table h ∷ []) hs parts.1 in
+    let rest = no_sup all table (before ++ section_named table h ∷ []) hs parts.1 in
     rw (here, rest) refl
 
 -- ---- ranges
@@ -103,7 +105,8 @@ no_sup all table before (h ∷ hs) none =
 pub no_range : (code : ℕ) (xs : List Section) → list_any (has_code code) xs ≡ false → range_in xs code ≡ None
 no_range code [] none = refl
 no_range code (x ∷ xs) none = by (has_code code x) none (no_range code xs) where
-  by : (b : Bool) → (b || list_any (has_code code) xs) ≡ false → (list_any (has_code code) xs ≡ false → range_in xs code ≡ None) → cond b (Some (x.header.offset, x.header.size)) (range_in xs code) ≡ None
+  by : (b : Bool) → (b || list_any (has_code code) xs) ≡ false → (list_any (has_code code) xs ≡ false → range_in xs code ≡ None) → cond b (Some (x.header.offset, x.header.size)) (range_in xs code)
+      ≡ None
   by true is rest = absurd cc
   by false is rest = rest is
 
@@ -119,11 +122,6 @@ range_behind code (x ∷ xs) ys none = by (has_code code x) none (range_behind c
 pub range_front : (code : ℕ) (xs ys : List Section) → range_in ys code ≡ None → range_in (xs ++ ys) code ≡ range_in xs code
 range_front code [] ys none = none
 range_front code (x ∷ xs) ys none = ap (λ (o : Option (ℕ × ℕ)). cond (has_code code x) (Some (x.header.offset, x.header.size)) o) (range_front code xs ys none)
-
--- the bytes of a range are no more than there are
-pub range_short : (bytes : List ℕ) (o : Option (ℕ × ℕ)) → length (bytes_in bytes o) ≤ length bytes
-range_short bytes None = omega arith
-range_short bytes (Some range) = omega (arith, length-take range.1 (drop range.0 bytes), length-drop range.0 bytes)
 
 -- ---- a section of two lists
 

@@ -7,21 +7,23 @@ use Rattle.std.proofs.lemmas.Bool.{and_cases, and_from, and_parts, eq-eqb, eqb-f
 use Rattle.std.proofs.lemmas.List.{length_push}
 use Rattle.std.proofs.lemmas.List.Elements.{All-head, All-tail}
 use Rattle.std.proofs.lemmas.Option.{slice_get_read}
+use Rattle.dwz_bytes.proofs.GroupLemmas.{chosen}
 use Rattle.dwz_model.specs.declared.fault.Fault.{Fault}
 use Rattle.dwz_docs.specs.declared.elf.NewContent.{NewContent}
 use Rattle.dwz_docs.specs.declared.elf.Section.{Section}
 use Rattle.dwz_docs.specs.ElfHeaders.{end_of, is_loaded, is_there, program_headers_end}
 use Rattle.dwz_docs.specs.ElfLayout.{Changes, content_for, inside_fault, is_inside, keep_end, layout_fault, loaded_end, replacement}
 use Rattle.dwz_docs.specs.ElfReading.{ElfView, first_in, has_code, header_fault, is_misaligned, is_misnamed, is_misplaced}
+use Rattle.dwz_docs.proofs.ElfFaultLemmas.{test_false}
 use Rattle.dwz_rebuilt.specs.Rebuilt.{CanBeGiven, CanChange}
-use Rattle.dwz_docs.proofs.PartLemmas.{chosen}
 use Rattle.dwz_rebuilt.proofs.MovedLemmas.{IsOld}
-use Rattle.dwz_rebuilt.proofs.SectionLemmas.{or_none, test_false}
+use Rattle.dwz_rebuilt.proofs.SectionLemmas.{or_none}
 
 -- ---- one item of a list
 
 -- where no item has a fault, none has one behind those before it
-pub first_at : {X : Type 0} (f : List X → X → Option Fault) (before xs : List X) (k : ℕ) (x : X) → first_in f before xs ≡ None → slice_get xs k ≡ Some x → (b : List X) × (length b ≡ length before + k) × (f b x ≡ None)
+pub first_at : {X : Type 0} (f : List X → X → Option Fault) (before xs : List X) (k : ℕ) (x : X) → first_in f before xs ≡ None → slice_get xs k ≡ Some x
+    → (b : List X) × (length b ≡ length before + k) × (f b x ≡ None)
 unfolding first_in
 first_at f before [] k x none is = absurd cc
 first_at f before (y ∷ xs) zero x none is =
@@ -72,21 +74,26 @@ not_again len names code before s coded none any =
     let parts = and_parts (is_there s.header) (eqb s.name.code code) has in
     let is_code : s.name.code ≡ code = eqb-true s.name.code code parts.1 in
     let some : not (eqb s.name.code 0) ≡ true = ap not (ne_eqb s.name.code 0 (λ zero_code. coded (sym is_code ∙ zero_code))) in
-    let twice : (is_there s.header && list_any (has_code s.name.code) before) ≡ true = and_from (is_there s.header) (list_any (has_code s.name.code) before) parts.0 (ap (λ c. list_any (has_code c) before) is_code ∙ any) in
-    let misnamed : is_misnamed names before s ≡ true = and_from (not (eqb s.name.code 0)) _ some (or_left (is_there s.header && list_any (has_code s.name.code) before) (eqb (length before) names) twice) in
+    let twice : (is_there s.header && list_any (has_code s.name.code) before) ≡ true = and_from (is_there s.header) (list_any (has_code s.name.code) before) parts.0
+    (ap (λ c. list_any (has_code c) before) is_code ∙ any) in
+    let misnamed : is_misnamed names before s ≡ true = and_from (not (eqb s.name.code 0)) _ some
+    (or_left (is_there s.header && list_any (has_code s.name.code) before) (eqb (length before) names) twice) in
     let fine = not_misnamed len names before s none in
     cc)
 
-none_again : (len names code : ℕ) (before xs : List Section) (k : ℕ) (s : Section) → code ≢ 0 → first_in (header_fault len names) before xs ≡ None → list_any (has_code code) before ≡ true → slice_get xs k ≡ Some s → has_code code s ≡ false
+none_again : (len names code : ℕ) (before xs : List Section) (k : ℕ) (s : Section) → code ≢ 0 → first_in (header_fault len names) before xs ≡ None → list_any (has_code code) before ≡ true
+    → slice_get xs k ≡ Some s → has_code code s ≡ false
 unfolding first_in
 none_again len names code before [] k s coded none any is = absurd cc
 none_again len names code before (x ∷ xs) zero s coded none any is =
     let same : x ≡ s = cc in
     ap (has_code code) (sym same) ∙ not_again len names code before x coded (or_none (header_fault len names before x) (first_in (header_fault len names) (before ++ x ∷ []) xs) none).0 any
 none_again len names code before (x ∷ xs) (suc k) s coded none any is =
-    none_again len names code (before ++ x ∷ []) xs k s coded (or_none (header_fault len names before x) (first_in (header_fault len names) (before ++ x ∷ []) xs) none).1 (any_front (has_code code) before (x ∷ []) any) is
+    none_again len names code (before ++ x ∷ []) xs k s coded (or_none (header_fault len names before x) (first_in (header_fault len names) (before ++ x ∷ []) xs) none).1
+    (any_front (has_code code) before (x ∷ []) any) is
 
-pub only_one : (len names code : ℕ) (before xs : List Section) (j k : ℕ) (s t : Section) → code ≢ 0 → first_in (header_fault len names) before xs ≡ None → slice_get xs j ≡ Some s → slice_get xs k ≡ Some t → has_code code s ≡ true → has_code code t ≡ true → s ≡ t
+pub only_one : (len names code : ℕ) (before xs : List Section) (j k : ℕ) (s t : Section) → code ≢ 0 → first_in (header_fault len names) before xs ≡ None → slice_get xs j ≡ Some s
+    → slice_get xs k ≡ Some t → has_code code s ≡ true → has_code code t ≡ true → s ≡ t
 unfolding first_in
 only_one len names code before [] j k s t coded none is also has has_too = absurd cc
 only_one len names code before (x ∷ xs) zero zero s t coded none is also has has_too = cc
@@ -160,7 +167,8 @@ no_content sections changes code can none = by (content_for changes.new code) re
       absurd cc
 
 -- a loaded section without bytes gets none
-given_none : (len names : ℕ) (sections : List Section) (changes : Changes) (k : ℕ) (s : Section) → first_in (header_fault len names) [] sections ≡ None → CanChange sections changes → slice_get sections k ≡ Some s → is_there s.header ≡ true → is_loaded s.header ≡ true → s.header.size ≡ 0 → unwrap_or (replacement changes s) [] ≡ []
+given_none : (len names : ℕ) (sections : List Section) (changes : Changes) (k : ℕ) (s : Section) → first_in (header_fault len names) [] sections ≡ None → CanChange sections changes
+    → slice_get sections k ≡ Some s → is_there s.header ≡ true → is_loaded s.header ≡ true → s.header.size ≡ 0 → unwrap_or (replacement changes s) [] ≡ []
 given_none len names sections changes k s none can is there loaded size = by (eqb s.name.code 0) refl where
   new : (o : Option (List ℕ)) → s.name.code ≢ 0 → content_for changes.new s.name.code ≡ o → unwrap_or o [] ≡ []
   new None coded found = refl
@@ -178,7 +186,9 @@ given_none len names sections changes k s none can is there loaded size = by (eq
   by true code = refl
   by false code = new (content_for changes.new s.name.code) (eqb-false s.name.code 0 code) refl
 
-pub is_old : (e : ElfView) (changes : Changes) (input : List ℕ) (names : ℕ) → ((s : Section) → slice_get e.sections e.file.names ≡ Some s → 0 < s.header.size) → first_in (header_fault (length input) names) [] e.sections ≡ None → layout_fault e changes ≡ None → CanChange e.sections changes → (k : ℕ) (s : Section) → slice_get e.sections k ≡ Some s → IsOld e changes input k s
+pub is_old : (e : ElfView) (changes : Changes) (input : List ℕ) (names : ℕ) → ((s : Section) → slice_get e.sections e.file.names ≡ Some s → 0 < s.header.size)
+    → first_in (header_fault (length input) names) [] e.sections ≡ None → layout_fault e changes ≡ None → CanChange e.sections changes → (k : ℕ) (s : Section) → slice_get e.sections k ≡ Some s
+    → IsOld e changes input k s
 unfolding layout_fault inside_fault
 is_old e changes input names full none fits can k s is =
     let header = first_at (header_fault (length input) names) [] e.sections k s none is in

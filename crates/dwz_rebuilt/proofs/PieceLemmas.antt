@@ -158,7 +158,8 @@ module _ (keep headers_at count : ℕ) (input : List ℕ) (some : 64 ≤ keep) w
       let has = has_over 40 (le_bytes 8 headers_at) (kept keep input) within in
       record {
         within = omega (arith, eight, length_front, some);
-        each = λ i less. over_other 60 (le_bytes 2 count) (with_headers_at keep headers_at input) (40 + i) (omega (arith, two, length_table, some)) (inl (omega (arith, eight, less))) ∙ has.each i less;
+        each = λ i less. over_other 60 (le_bytes 2 count) (with_headers_at keep headers_at input) (40 + i) (omega (arith, two, length_table, some)) (inl (omega (arith, eight, less)))
+            ∙ has.each i less;
       }
 
   pub front_has_count : Has (new_front keep headers_at count input) 60 (le_bytes 2 count)

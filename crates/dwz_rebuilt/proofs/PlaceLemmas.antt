@@ -1,34 +1,24 @@
 -- The sections that are written again: which they are, where they are, and that their contents stand there.
-use Rattle.std.proofs.Common.{◌≡◌, inl, inr, ℕ, zero, suc, ◌+◌, ◌-◌, ◌<◌, ◌≤◌, Bool, true, false, cond, eqb, List, [], ◌∷◌, ◌++◌, length, get_or, replicate, Option, Some, None, refl, sym, ap, subst, ◌∙◌, append_assoc, arith}
+use Rattle.std.proofs.Common.{◌≡◌, inl, inr, ℕ, zero, suc, ◌+◌, ◌-◌, ◌<◌, ◌≤◌, Bool, true, false, cond, eqb, List, [], ◌∷◌, ◌++◌, length, get_or, replicate, Option, Some, None, refl, sym, ap, subst}
+use Rattle.std.proofs.Common.{◌∙◌, append_assoc, arith}
 use Rattle.std.specs.Prelude.{All, Contains, slice_get}
 use Rattle.std.specs.Int.{next_multiple_of}
 use Rattle.std.proofs.lemmas.Bool.{eq-eqb, eqb-true}
 use Rattle.std.proofs.lemmas.List.{length-append, length-replicate}
 use Rattle.std.proofs.lemmas.List.Elements.{All-cons, All-head, All-nil, All-tail}
 use Rattle.std.proofs.lemmas.List.Sorted.{All-permutation, Contains-permutation}
+use Rattle.dwz_bytes.proofs.GroupLemmas.{chosen}
 use Rattle.dwz_docs.specs.declared.elf.Moved.{Moved}
 use Rattle.dwz_docs.specs.declared.elf.Section.{Section}
 use Rattle.dwz_docs.specs.ElfLayout.{IsOrder, align_at, is_moving, keep_end, moved_in, moving, placed_end, placed_from, spread}
 use Rattle.dwz_docs.specs.ElfReading.{ElfView}
-use Rattle.dwz_docs.proofs.PartLemmas.{chosen}
+use Rattle.dwz_docs.proofs.PlacedLemmas.{placed_end-least, up_le}
 use Rattle.dwz_rebuilt.proofs.PieceLemmas.{Has, has_middle}
 
 -- ---- where they are
 
-up_le : (start align : ℕ) → start ≤ next_multiple_of start align
-up_le start align = omega arith
-
-pub placed_end-least : (e : ElfView) (contents : ℕ → List ℕ) (start : ℕ) (order : List (ℕ × ℕ)) → start ≤ placed_end start (placed_from e contents start order)
-unfolding placed_from
-placed_end-least e contents start [] = omega arith
-placed_end-least e contents start (key ∷ order) =
-    let at = next_multiple_of start (align_at e key.1) in
-    let next = at + length (contents key.1) in
-    let here : start ≤ at = up_le start (align_at e key.1) in
-    let more : next ≤ placed_end next (placed_from e contents next order) = placed_end-least e contents next order in
-    omega (arith, here, more)
-
-pub length-spread : (e : ElfView) (contents : ℕ → List ℕ) (start : ℕ) (order : List (ℕ × ℕ)) → start + length (spread contents start (placed_from e contents start order)) ≡ placed_end start (placed_from e contents start order)
+pub length-spread : (e : ElfView) (contents : ℕ → List ℕ) (start : ℕ) (order : List (ℕ × ℕ)) → start + length (spread contents start (placed_from e contents start order))
+    ≡ placed_end start (placed_from e contents start order)
 unfolding placed_from spread
 length-spread e contents start [] = omega arith
 length-spread e contents start (key ∷ order) =
@@ -52,7 +42,9 @@ five f z c s b = simp append_assoc
 four : (f z c s b : List ℕ) → f ++ ((z ++ (c ++ s)) ++ b) ≡ (f ++ z) ++ (c ++ (s ++ b))
 four f z c s b = simp append_assoc
 
-pub placed_there : (e : ElfView) (contents : ℕ → List ℕ) (start : ℕ) (order : List (ℕ × ℕ)) (front back : List ℕ) (index : ℕ) (m : Moved) → length front ≡ start → moved_in (placed_from e contents start order) index ≡ Some m → IsPlaced contents start (placed_end start (placed_from e contents start order)) (front ++ (spread contents start (placed_from e contents start order) ++ back)) index m
+pub placed_there : (e : ElfView) (contents : ℕ → List ℕ) (start : ℕ) (order : List (ℕ × ℕ)) (front back : List ℕ) (index : ℕ) (m : Moved) → length front ≡ start
+    → moved_in (placed_from e contents start order) index ≡ Some m → IsPlaced contents start (placed_end start (placed_from e contents start order))
+    (front ++ (spread contents start (placed_from e contents start order) ++ back)) index m
 unfolding placed_from spread
 placed_there e contents start [] front back index m len is = absurd cc
 placed_there e contents start (key ∷ order) front back index m len is =
@@ -73,7 +65,8 @@ placed_there e contents start (key ∷ order) front back index m len is =
           let before : length (front ++ zeros) ≡ at = omega (arith, length-append front zeros, gap, len, here) in
           let stands : Has (front ++ ((zeros ++ (content ++ rest)) ++ back)) at content =
           subst (λ (w : List ℕ). Has w at content) (sym (four front zeros content rest back)) (has_middle (front ++ zeros) content (rest ++ back) at before) in
-          let all : IsPlaced contents start end (front ++ ((zeros ++ (content ++ rest)) ++ back)) key.1 (record { index = key.1; at = at; size = length content }) = record { size = refl; behind = here; within = more; here = stands } in
+          let all : IsPlaced contents start end (front ++ ((zeros ++ (content ++ rest)) ++ back)) key.1 (record { index = key.1; at = at; size = length content }) =
+          record { size = refl; behind = here; within = more; here = stands } in
           subst (λ (i : ℕ). IsPlaced contents start end (front ++ ((zeros ++ (content ++ rest)) ++ back)) i m) same
           (subst (λ (n : Moved). IsPlaced contents start end (front ++ ((zeros ++ (content ++ rest)) ++ back)) key.1 n) is_m all)
       | inr p ↦
@@ -86,7 +79,8 @@ placed_there e contents start (key ∷ order) front back index m len is =
 -- ---- which they are
 
 -- an index that has a place is in the order
-placed_of_order : (e : ElfView) (contents : ℕ → List ℕ) (start : ℕ) (order : List (ℕ × ℕ)) (P : ℕ × ℕ → Type 0) (index : ℕ) (m : Moved) → All P order → moved_in (placed_from e contents start order) index ≡ Some m → (key : ℕ × ℕ) × (key.1 ≡ index) × P key
+placed_of_order : (e : ElfView) (contents : ℕ → List ℕ) (start : ℕ) (order : List (ℕ × ℕ)) (P : ℕ × ℕ → Type 0) (index : ℕ) (m : Moved) → All P order
+    → moved_in (placed_from e contents start order) index ≡ Some m → (key : ℕ × ℕ) × (key.1 ≡ index) × P key
 unfolding placed_from
 placed_of_order e contents start [] P index m all is = absurd cc
 placed_of_order e contents start (key ∷ order) P index m all is =
@@ -98,7 +92,8 @@ placed_of_order e contents start (key ∷ order) P index m all is =
     ]
 
 -- an index that is in the order has a place
-order_is_placed : (e : ElfView) (contents : ℕ → List ℕ) (start : ℕ) (order : List (ℕ × ℕ)) (key : ℕ × ℕ) → Contains order key → (m : Moved) × (moved_in (placed_from e contents start order) key.1 ≡ Some m)
+order_is_placed : (e : ElfView) (contents : ℕ → List ℕ) (start : ℕ) (order : List (ℕ × ℕ)) (key : ℕ × ℕ) → Contains order key
+    → (m : Moved) × (moved_in (placed_from e contents start order) key.1 ≡ Some m)
 unfolding placed_from
 order_is_placed e contents start [] key (k, less, is) = absurd (omega (arith, less))
 order_is_placed e contents start (first ∷ order) key (k, less, is) =
@@ -109,7 +104,8 @@ order_is_placed e contents start (first ∷ order) key (k, less, is) =
       others : List Moved
       others = placed_from e contents (next_multiple_of start (align_at e first.1) + length (contents first.1)) order
 
-      by : (Contains order key → (m : Moved) × (moved_in others key.1 ≡ Some m)) → (j : ℕ) → j < length (first ∷ order) → get_or (first ∷ order) j key ≡ key → (b : Bool) → eqb first.1 key.1 ≡ b → (m : Moved) × (cond b (Some here) (moved_in others key.1) ≡ Some m)
+      by : (Contains order key → (m : Moved) × (moved_in others key.1 ≡ Some m)) → (j : ℕ) → j < length (first ∷ order) → get_or (first ∷ order) j key ≡ key → (b : Bool) → eqb first.1 key.1 ≡ b
+          → (m : Moved) × (cond b (Some here) (moved_in others key.1) ≡ Some m)
       by more j lt same true e = (here, refl)
       by more zero lt same false e = absurd (let yes : eqb first.1 key.1 ≡ true = eq-eqb first.1 key.1 (ap (λ (w : ℕ × ℕ). w.1) same) in cc)
       by more (suc j) lt same false test = more (j, omega (arith, lt), same)
@@ -135,7 +131,8 @@ moving_are_keys keep all index (x ∷ xs) begin =
       at_index : slice_get all index ≡ Some x
       at_index = let place : index + 0 ≡ index = omega arith in ap (slice_get all) (sym place) ∙ begin 0 x refl
 
-      by : All (IsKey keep all) (moving keep (index + 1) xs) → (b : Bool) → is_moving keep x.header ≡ b → All (IsKey keep all) (cond b ((x.header.offset, index) ∷ moving keep (index + 1) xs) (moving keep (index + 1) xs))
+      by : All (IsKey keep all) (moving keep (index + 1) xs) → (b : Bool) → is_moving keep x.header ≡ b
+          → All (IsKey keep all) (cond b ((x.header.offset, index) ∷ moving keep (index + 1) xs) (moving keep (index + 1) xs))
       by rest true moves = All-cons (IsKey keep all) (x.header.offset, index) (moving keep (index + 1) xs) (x, at_index, moves) rest
       by rest false stays = rest
 
@@ -159,7 +156,8 @@ moving_has keep index (x ∷ xs) (suc k) s is moves =
 
 module _ (e : ElfView) (order : List (ℕ × ℕ)) (is_order : IsOrder e order) (contents : ℕ → List ℕ) (start : ℕ) where
   -- a section that is written again has a place, and no other has
-  pub moves_there : (index : ℕ) (s : Section) → slice_get e.sections index ≡ Some s → is_moving (keep_end e) s.header ≡ true → (m : Moved) × (moved_in (placed_from e contents start order) index ≡ Some m)
+  pub moves_there : (index : ℕ) (s : Section) → slice_get e.sections index ≡ Some s → is_moving (keep_end e) s.header ≡ true
+      → (m : Moved) × (moved_in (placed_from e contents start order) index ≡ Some m)
   moves_there index s is moves =
       let keep = keep_end e in
       let key : ℕ × ℕ = (s.header.offset, 0 + index) in

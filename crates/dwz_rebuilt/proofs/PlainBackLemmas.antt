@@ -1,24 +1,27 @@
 -- A file of the plain layout is read back: its sections by their codes, and that it has no fault but `.debug_sup`.
-use Rattle.std.proofs.Common.{◌≡◌, ◌<◌, ◌^◌, ◌≢◌, ◌⊎◌, inl, inr, ℕ, zero, suc, ◌+◌, ◌*◌, Bool, true, false, cond, eqb, List, [], ◌∷◌, ◌++◌, length, map, All, Option, Some, None, refl, sym, ap, subst, ◌∙◌, codes, arith}
+use Rattle.std.proofs.Common.{◌≡◌, ◌<◌, ◌^◌, ◌≢◌, ◌⊎◌, inl, inr, ℕ, zero, suc, ◌+◌, ◌*◌, Bool, true, false, cond, eqb, List, [], ◌∷◌, ◌++◌, length, map, All, Option, Some, None, refl, sym, ap, subst}
+use Rattle.std.proofs.Common.{◌∙◌, codes, arith}
 use Rattle.std.specs.Prelude.{bit_and, not, slice_get, unwrap_or}
 use Rattle.std.proofs.lemmas.Bool.{ne_eqb}
 use Rattle.dwz_model.specs.declared.fault.Fault.{Fault}
 use Rattle.dwz_model.specs.declared.fault.Reason.TheVariants.{Index}
-use Rattle.dwz_model.specs.declared.sections.Sections.{Sections}
+use Rattle.dwz_model.specs.declared.sections.NewSections.{NewSections}
 use Rattle.dwz_docs.specs.declared.elf.Section.{Section}
 use Rattle.dwz_docs.specs.ElfHeaders.{content, file_header}
 use Rattle.dwz_docs.specs.ElfNames.{code_of, known_name, sections_in}
 use Rattle.dwz_docs.specs.ElfReading.{bytes_in, fault_if, field_fault, first_in, has_code, header_fault, missing_fault, range_in, section_range, unkept_fault}
-use Rattle.dwz_docs.specs.PlainFile.{AreKnown, FitsPlain, PlainSection, common_sections, if_there, plain_file, plain_headers_at, plain_names, plain_names_at, plain_section, plain_sections, section_names, section_read, sections_read, text_section_of}
+use Rattle.dwz_docs.specs.PlainFile.{AreKnown, FitsPlain, PlainSection, common_sections, if_there, plain_file, plain_headers_at, plain_names, plain_names_at, plain_section, plain_sections}
+use Rattle.dwz_docs.specs.PlainFile.{section_names, section_read, sections_read, text_section_of}
 use Rattle.dwz_docs.specs.Supplementary.{sup_bytes}
 use Rattle.dwz_docs.proofs.PlainFaults.{debug_there, fields_fine, headers_ok, identification_fine, kept_one, names_fine, null_fine}
 use Rattle.dwz_docs.proofs.PlainReads.{contents_seen, fields_read, sections_are}
 use Rattle.dwz_meanings.specs.Files.{section_of, sources_of}
 use Rattle.dwz_docs.specs.ElfBack.{IsBackFault}
+use Rattle.dwz_docs.proofs.RangeBytes.{bytes_short}
 use Rattle.dwz_rebuilt.specs.PlainBack.{OnlySup, plain_content, sources_in, supplementary_file}
 use Rattle.dwz_rebuilt.proofs.BackLemmas.{IsPlainSup, no_back_fault}
 use Rattle.dwz_rebuilt.proofs.FaultLemmas.{HasGoodFields, good_fields}
-use Rattle.dwz_rebuilt.proofs.NameLemmas.{in_both, range_short}
+use Rattle.dwz_rebuilt.proofs.NameLemmas.{in_both}
 
 -- ---- contents by codes
 
@@ -32,20 +35,23 @@ by_contents : (bytes : List ℕ) (xs : List Section) (code : ℕ) → bytes_in b
 unfolding first_content
 by_contents bytes [] code = refl
 by_contents bytes (x ∷ xs) code =
-    elim (has_code code x) as (λ b. bytes_in bytes (cond b (Some (x.header.offset, x.header.size)) (range_in xs code)) ≡ cond b (content bytes x.header) (first_content xs (map (λ (s : Section). content bytes s.header) xs) code)) [
+    elim (has_code code x) as (λ b. bytes_in bytes (cond b (Some (x.header.offset, x.header.size)) (range_in xs code))
+    ≡ cond b (content bytes x.header) (first_content xs (map (λ (s : Section). content bytes s.header) xs) code)) [
       | true ↦ refl
       | false ↦ by_contents bytes xs code
     ]
 
 -- the name table behind them has no code
 plain_first : (code place name at last_place last_name last_at last_size : ℕ) (table : List ℕ) (sections : List PlainSection) → code ≢ 0
-    → first_content (sections_read place name at sections ++ section_read last_place last_name 3 0 last_at last_size 1 (codes ".shstrtab") ∷ []) (map (λ (s : PlainSection). s.bytes) sections ++ table ∷ []) code ≡ plain_content sections code
+    → first_content (sections_read place name at sections ++ section_read last_place last_name 3 0 last_at last_size 1 (codes ".shstrtab") ∷ [])
+    (map (λ (s : PlainSection). s.bytes) sections ++ table ∷ []) code ≡ plain_content sections code
 unfolding first_content
 plain_first code place name at last_place last_name last_at last_size table [] some = rw (ne_eqb 0 code (λ none. some (sym none))) refl
 plain_first code place name at last_place last_name last_at last_size table (s ∷ sections) some =
     ap (cond (eqb (code_of s.name) code) s.bytes) (plain_first code (place + 64) (name + (length s.name + 1)) (at + length s.bytes) last_place last_name last_at last_size table sections some)
 
-pub plain_contents_read : (machine flags : ℕ) (sections : List PlainSection) → FitsPlain machine flags sections → (code : ℕ) → code ≢ 0 → section_of (plain_file machine flags sections) code ≡ plain_content sections code
+pub plain_contents_read : (machine flags : ℕ) (sections : List PlainSection) → FitsPlain machine flags sections → (code : ℕ) → code ≢ 0
+    → section_of (plain_file machine flags sections) code ≡ plain_content sections code
 unfolding section_of section_range first_content
 plain_contents_read machine flags sections fits code some =
     let file = plain_file machine flags sections in
@@ -55,7 +61,8 @@ plain_contents_read machine flags sections fits code some =
     first
     ∙ (by_contents file (sections_in file) code
     ∙ ((λ j. first_content (seen j) (contents j) code)
-    ∙ plain_first code (plain_headers_at sections + 64) 1 64 (plain_headers_at sections + 64 + 64 * length sections) (1 + length (section_names sections)) (plain_names_at sections) (length (plain_names sections)) (plain_names sections) sections some))
+    ∙ plain_first code (plain_headers_at sections + 64) 1 64 (plain_headers_at sections + 64 + 64 * length sections) (1 + length (section_names sections)) (plain_names_at sections)
+    (length (plain_names sections)) (plain_names sections) sections some))
 
 -- ---- no fault
 
@@ -71,7 +78,8 @@ one_plain all place name at s plain only = by (known_name (Some s.name)).is_inde
   by true is = inr (record { there = refl; code = only is; no_relocations = refl; whole = ap (λ (n : ℕ). not (eqb n 0)) plain })
   by false is = inl (kept ∙ ap (λ (b : Bool). fault_if b Index place) is)
 
-all_plain : (all : List Section) (place name at : ℕ) (sections : List PlainSection) → All (λ s. bit_and s.flags 0x800 ≡ 0) sections → OnlySup sections → (k : ℕ) (s : Section) → slice_get (sections_read place name at sections) k ≡ Some s
+all_plain : (all : List Section) (place name at : ℕ) (sections : List PlainSection) → All (λ s. bit_and s.flags 0x800 ≡ 0) sections → OnlySup sections → (k : ℕ) (s : Section)
+    → slice_get (sections_read place name at sections) k ≡ Some s
     → (unkept_fault all s ≡ None) ⊎ IsPlainSup s
 all_plain all place name at [] plain only k s is = absurd cc
 all_plain all place name at (p ∷ sections) plain only zero s is =
@@ -94,12 +102,15 @@ module _ (machine flags : ℕ) (sections : List PlainSection) (fits : FitsPlain 
         | inr behind ↦ inl (by behind.0 behind.1)
       ]
     where
-      by : (j : ℕ) → slice_get (section_read (plain_headers_at sections + 64 + 64 * length sections) (1 + length (section_names sections)) 3 0 (plain_names_at sections) (length (plain_names sections)) 1 (codes ".shstrtab") ∷ []) j ≡ Some s
+      by : (j : ℕ) → slice_get (section_read (plain_headers_at sections + 64 + 64 * length sections) (1 + length (section_names sections)) 3 0 (plain_names_at sections) (length (plain_names sections))
+          1 (codes ".shstrtab") ∷ []) j ≡ Some s
           → unkept_fault (plain_sections sections) s ≡ None
       by zero here =
-          let same : section_read (plain_headers_at sections + 64 + 64 * length sections) (1 + length (section_names sections)) 3 0 (plain_names_at sections) (length (plain_names sections)) 1 (codes ".shstrtab") ≡ s = cc in
+          let same : section_read (plain_headers_at sections + 64 + 64 * length sections) (1 + length (section_names sections)) 3 0 (plain_names_at sections) (length (plain_names sections)) 1
+          (codes ".shstrtab") ≡ s = cc in
           ap (unkept_fault (plain_sections sections)) (sym same)
-          ∙ kept_one (plain_sections sections) (plain_headers_at sections + 64 + 64 * length sections) (1 + length (section_names sections)) 3 0 (plain_names_at sections) (length (plain_names sections)) (codes ".shstrtab") (inr refl) refl
+          ∙ kept_one (plain_sections sections) (plain_headers_at sections + 64 + 64 * length sections) (1 + length (section_names sections)) 3 0 (plain_names_at sections)
+          (length (plain_names sections)) (codes ".shstrtab") (inr refl) refl
       by (suc j) here = absurd cc
 
   good : HasGoodFields 65279 (length (plain_file machine flags sections)) (file_header (plain_file machine flags sections))
@@ -133,7 +144,7 @@ only_if : (section : List ℕ → PlainSection) (o : Option (List ℕ)) → ((b 
 only_if section None plain = tt
 only_if section (Some b) plain = (λ is. absurd (let not_so = plain b in cc), tt)
 
-pub common_only : (s : Sections) (sum : List ℕ) → OnlySup (common_sections s sum)
+pub common_only : (s : NewSections) (sum : List ℕ) → OnlySup (common_sections s sum)
 common_only s sum = (
   λ is. absurd cc,
   (
@@ -147,15 +158,17 @@ common_only s sum = (
 )
 
 -- a section that may be there, by its code or by others
-is_it : (section : List ℕ → PlainSection) (o : Option (List ℕ)) (ys : List PlainSection) (code : ℕ) → ((b : List ℕ) → eqb (code_of (section b).name) code ≡ true) → ((b : List ℕ) → (section b).bytes ≡ b) → plain_content ys code ≡ [] → plain_content (if_there section o ++ ys) code ≡ unwrap_or o []
+is_it : (section : List ℕ → PlainSection) (o : Option (List ℕ)) (ys : List PlainSection) (code : ℕ) → ((b : List ℕ) → eqb (code_of (section b).name) code ≡ true)
+    → ((b : List ℕ) → (section b).bytes ≡ b) → plain_content ys code ≡ [] → plain_content (if_there section o ++ ys) code ≡ unwrap_or o []
 is_it section None ys code named holds rest = rest
 is_it section (Some b) ys code named holds rest = rw (named b) (holds b)
 
-is_other : (section : List ℕ → PlainSection) (o : Option (List ℕ)) (ys : List PlainSection) (code : ℕ) → ((b : List ℕ) → eqb (code_of (section b).name) code ≡ false) → plain_content (if_there section o ++ ys) code ≡ plain_content ys code
+is_other : (section : List ℕ → PlainSection) (o : Option (List ℕ)) (ys : List PlainSection) (code : ℕ) → ((b : List ℕ) → eqb (code_of (section b).name) code ≡ false)
+    → plain_content (if_there section o ++ ys) code ≡ plain_content ys code
 is_other section None ys code named = refl
 is_other section (Some b) ys code named = rw (named b) refl
 
-module _ (s : Sections) (sum : List ℕ) where
+module _ (s : NewSections) (sum : List ℕ) where
   abbrev sup : List ℕ
   sup = sup_bytes (record { supplementary = true; name = []; sum = sum })
 
@@ -214,7 +227,7 @@ module _ (s : Sections) (sum : List ℕ) where
   pub in_sup : plain_content (common_sections s sum) 9 ≡ sup
   in_sup = skip_strs 9 refl ∙ (skip_offsets 9 refl ∙ (skip_line 9 refl ∙ (skip_lists 9 refl ∙ skip_aranges 9 refl)))
 
-module _ (machine flags : ℕ) (s : Sections) (sum : List ℕ) (fits : FitsPlain machine flags (common_sections s sum)) where
+module _ (machine flags : ℕ) (s : NewSections) (sum : List ℕ) (fits : FitsPlain machine flags (common_sections s sum)) where
   by_code : (code : ℕ) → code ≢ 0 → section_of (supplementary_file machine flags s sum) code ≡ plain_content (common_sections s sum) code
   by_code = plain_contents_read machine flags (common_sections s sum) fits
 
@@ -241,4 +254,4 @@ module _ (machine flags : ℕ) (s : Sections) (sum : List ℕ) (fits : FitsPlain
 
   pub common_short : (code : ℕ) → length (section_of (supplementary_file machine flags s sum) code) < 2 ^ 32
   unfolding section_of
-  common_short code = let small = fits.small in omega (arith, range_short (supplementary_file machine flags s sum) (section_range (sections_in (supplementary_file machine flags s sum)) code), small)
+  common_short code = let small = fits.small in omega (arith, bytes_short (supplementary_file machine flags s sum) (section_range (sections_in (supplementary_file machine flags s sum)) code), small)

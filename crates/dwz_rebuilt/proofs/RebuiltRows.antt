@@ -65,8 +65,9 @@ abbrev in_order : List (ℕ × ℕ)
 in_order = (64, 1) ∷ (67, 2) ∷ (69, 3) ∷ (71, 4) ∷ []
 
 -- what is made; whatever unfolds this unfolds all that is read with
-made_of : List ℕ → Changes → List (ℕ × ℕ) → List ℕ
-unfolding elf_of headers_from number_at name_in elf_fault field_fault first_in first_other header_fault identification_fault missing_fault names_fault section_range unkept_fault section_of align_at content_at inside_fault keep_end layout_fault moving new_headers placed_from rebuilt rebuilt_length spread sup_header le_bytes file_of lib.Count.ones
+made_of : (input : List ℕ) (changes : Changes) (order : List (ℕ × ℕ)) → List ℕ
+unfolding elf_of headers_from number_at name_in elf_fault field_fault first_in first_other header_fault identification_fault missing_fault names_fault section_range unkept_fault section_of align_at
+    content_at inside_fault keep_end layout_fault moving new_headers placed_from rebuilt rebuilt_length spread sup_header le_bytes file_of lib.Count.ones
 made_of input changes order = new_file input changes order
 
 -- a plain file with new contents is the plain file of these contents

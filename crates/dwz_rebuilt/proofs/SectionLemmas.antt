@@ -9,15 +9,15 @@ use Rattle.std.proofs.lemmas.List.Folds.{list_any-append}
 use Rattle.std.proofs.lemmas.List.{append-nil}
 use Rattle.std.proofs.lemmas.List.Elements.{AllZip-push, length_all_zip}
 use Rattle.dwz_model.specs.declared.fault.Fault.{Fault}
-use Rattle.dwz_model.specs.declared.fault.Reason.{Reason}
 use Rattle.dwz_docs.specs.declared.elf.Moved.{Moved}
 use Rattle.dwz_docs.specs.declared.elf.Name.{Name}
 use Rattle.dwz_docs.specs.declared.elf.Section.{Section}
 use Rattle.dwz_docs.specs.ElfHeaders.{content, has_relocations, is_compressed, is_there}
 use Rattle.dwz_docs.specs.ElfLayout.{Changes, content_for, moved_in, replacement}
-use Rattle.dwz_docs.specs.ElfReading.{◌or◌, fault_if, first_in, has_code, header_fault, is_misaligned, is_misnamed, is_misplaced, is_rewritten, missing_fault, range_in, unkept_fault}
+use Rattle.dwz_docs.specs.ElfReading.{◌or◌, first_in, has_code, header_fault, is_misaligned, is_misnamed, is_misplaced, is_rewritten, missing_fault, range_in, unkept_fault}
 use Rattle.dwz_docs.specs.ElfReading.{bytes_in}
 use Rattle.dwz_docs.proofs.PlainFaults.{no_fault, none_or}
+use Rattle.dwz_docs.proofs.ElfFaultLemmas.{test_false}
 use Rattle.dwz_rebuilt.proofs.MovedLemmas.{IsMadeAt}
 use Rattle.dwz_rebuilt.proofs.TableLemmas.{moved_sections, moved_to}
 
@@ -27,12 +27,9 @@ pub or_none : (one other : Option Fault) → (one or other) ≡ None → (one �
 or_none None other is = (refl, is)
 or_none (Some f) other is = absurd cc
 
-pub test_false : (test : Bool) (reason : Reason) (at : ℕ) → fault_if test reason at ≡ None → test ≡ false
-test_false true reason at is = absurd cc
-test_false false reason at is = refl
-
 -- no item has a fault where none of others has
-first_none : {X : Type 0} (R : X → X → Type 0) (f g : List X → X → Option Fault) → ((before others : List X) (x y : X) → AllZip R before others → R x y → f before x ≡ None → g others y ≡ None) → (before others xs ys : List X) → AllZip R before others → AllZip R xs ys → first_in f before xs ≡ None → first_in g others ys ≡ None
+first_none : {X : Type 0} (R : X → X → Type 0) (f g : List X → X → Option Fault) → ((before others : List X) (x y : X) → AllZip R before others → R x y → f before x ≡ None → g others y ≡ None)
+    → (before others xs ys : List X) → AllZip R before others → AllZip R xs ys → first_in f before xs ≡ None → first_in g others ys ≡ None
 unfolding first_in
 first_none R f g each before others [] [] so_far are is = refl
 first_none R f g each before others [] (y ∷ ys) so_far are is = absurd are
@@ -100,7 +97,8 @@ module _ (input out : List ℕ) (changes : Changes) where
 
   -- ---- each section header by itself
 
-  same_header : (len names : ℕ) (before others : List Section) (x y : Section) → AllZip (IsMade input out changes) before others → IsMade input out changes x y → header_fault len names before x ≡ None → header_fault (length out) names others y ≡ None
+  same_header : (len names : ℕ) (before others : List Section) (x y : Section) → AllZip (IsMade input out changes) before others → IsMade input out changes x y → header_fault len names before x ≡ None
+      → header_fault (length out) names others y ≡ None
   unfolding header_fault
   same_header len names before others x y so_far is none =
       let wrong = test_false _ _ _ none in
@@ -114,29 +112,35 @@ module _ (input out : List ℕ) (changes : Changes) where
       let codes = same_codes x.name.code before others so_far in
       let count : length others ≡ length before = sym (length_all_zip (IsMade input out changes) before others so_far) in
       let named : is_misnamed names others y ≡ is_misnamed names before x = rw (code, there, codes, count) refl in
-      no_fault _ _ _ (or_from (is_misaligned y.header) _ aligned (or_from (is_misplaced (length out) y.header) _ is.made.placed (or_from (not y.name.ends) (is_misnamed names others y) ends (named ∙ last.1))))
+      no_fault _ _ _ (or_from (is_misaligned y.header) _ aligned (or_from (is_misplaced (length out) y.header) _ is.made.placed
+      (or_from (not y.name.ends) (is_misnamed names others y) ends (named ∙ last.1))))
 
-  pub same_headers : (len names : ℕ) (xs ys : List Section) → AllZip (IsMade input out changes) xs ys → first_in (header_fault len names) [] xs ≡ None → first_in (header_fault (length out) names) [] ys ≡ None
+  pub same_headers : (len names : ℕ) (xs ys : List Section) → AllZip (IsMade input out changes) xs ys → first_in (header_fault len names) [] xs ≡ None
+      → first_in (header_fault (length out) names) [] ys ≡ None
   same_headers len names xs ys are = first_none (IsMade input out changes) (header_fault len names) (header_fault (length out) names) (same_header len names) [] [] xs ys tt are
 
   -- ---- sections that can't be kept, or read
 
-  same_kept : (xs ys more : List Section) → AllZip (IsMade input out changes) xs ys → NotRewritten more → (x y : Section) → IsMade input out changes x y → unkept_fault xs x ≡ None → unkept_fault (ys ++ more) y ≡ None
+  same_kept : (xs ys more : List Section) → AllZip (IsMade input out changes) xs ys → NotRewritten more → (x y : Section) → IsMade input out changes x y → unkept_fault xs x ≡ None
+      → unkept_fault (ys ++ more) y ≡ None
   unfolding unkept_fault
   same_kept xs ys more are others x y is none =
       let there = same_there x y is in
       let parts = or_none _ _ none in
       let index = test_false _ _ _ parts.0 in
       let compressed = test_false _ _ _ parts.1 in
-      let rewritten : is_rewritten (slice_get (ys ++ more) y.header.info) ≡ is_rewritten (slice_get xs x.header.info) = ap (λ i. is_rewritten (slice_get (ys ++ more) i)) is.made.carried.info ∙ same_rewritten x.header.info xs ys more are others in
+      let rewritten : is_rewritten (slice_get (ys ++ more) y.header.info) ≡ is_rewritten (slice_get xs x.header.info) = ap (λ i. is_rewritten (slice_get (ys ++ more) i)) is.made.carried.info
+      ∙ same_rewritten x.header.info xs ys more are others in
       let relocations : has_relocations y.header ≡ has_relocations x.header = ap (λ k. eqb k 4 || eqb k 9) is.made.carried.kind in
       let is_index : y.name.is_index ≡ x.name.is_index = ap (λ (n : Name). n.is_index) is.made.carried.name in
       let is_debug : y.name.is_debug ≡ x.name.is_debug = ap (λ (n : Name). n.is_debug) is.made.carried.name in
       let packed : is_compressed y.header ≡ is_compressed x.header = ap (λ f. is_compressed (record x.header { flags = f })) is.made.carried.flags in
       none_or _ _ (no_fault _ _ _ (rw (there, is_index, relocations, rewritten) index)) (no_fault _ _ _ (rw (there, is_debug, packed) compressed))
 
-  pub all_kept : (xs ys more : List Section) → AllZip (IsMade input out changes) xs ys → NotRewritten more → first_in (λ before. unkept_fault xs) [] xs ≡ None → first_in (λ before. unkept_fault (ys ++ more)) [] ys ≡ None
-  all_kept xs ys more are others = first_none (IsMade input out changes) (λ before. unkept_fault xs) (λ before. unkept_fault (ys ++ more)) (λ before now x y so_far. same_kept xs ys more are others x y) [] [] xs ys tt are
+  pub all_kept : (xs ys more : List Section) → AllZip (IsMade input out changes) xs ys → NotRewritten more → first_in (λ before. unkept_fault xs) [] xs ≡ None
+      → first_in (λ before. unkept_fault (ys ++ more)) [] ys ≡ None
+  all_kept xs ys more are others = first_none (IsMade input out changes) (λ before. unkept_fault xs) (λ before. unkept_fault (ys ++ more))
+      (λ before now x y so_far. same_kept xs ys more are others x y) [] [] xs ys tt are
 
   pub same_debug : (xs ys more : List Section) → AllZip (IsMade input out changes) xs ys → missing_fault xs ≡ None → missing_fault (ys ++ more) ≡ None
   unfolding missing_fault
@@ -159,16 +163,19 @@ module _ (input out : List ℕ) (changes : Changes) where
   same_range code (x ∷ xs) (y ∷ ys) are =
       let here = same_code code x y are.0 in
       let rest = same_range code xs ys are.1 in
-      rw here (elim (has_code code x) as (λ b. is_some (cond b (Some (y.header.offset, y.header.size)) (range_in ys code)) ≡ is_some (cond b (Some (x.header.offset, x.header.size)) (range_in xs code))) [ true ↦ refl | false ↦ rest ])
+      rw here (elim (has_code code x) as (λ b. is_some (cond b (Some (y.header.offset, y.header.size)) (range_in ys code))
+      ≡ is_some (cond b (Some (x.header.offset, x.header.size)) (range_in xs code))) [ true ↦ refl | false ↦ rest ])
 
   -- the section of a code has its new content, or the old one
-  pub same_contents : (code : ℕ) → code ≢ 0 → (xs ys : List Section) → AllZip (IsMade input out changes) xs ys → (list_any (has_code code) xs ≡ false → content_for changes.new code ≡ None) → bytes_in out (range_in ys code) ≡ unwrap_or (content_for changes.new code) (bytes_in input (range_in xs code))
+  pub same_contents : (code : ℕ) → code ≢ 0 → (xs ys : List Section) → AllZip (IsMade input out changes) xs ys → (list_any (has_code code) xs ≡ false → content_for changes.new code ≡ None)
+      → bytes_in out (range_in ys code) ≡ unwrap_or (content_for changes.new code) (bytes_in input (range_in xs code))
   same_contents code coded [] [] are none = rw (none refl) refl
   same_contents code coded [] (y ∷ ys) are none = absurd are
   same_contents code coded (x ∷ xs) [] are none = absurd are
   same_contents code coded (x ∷ xs) (y ∷ ys) are none =
       rw (same_code code x y are.0) (by (same_contents code coded xs ys are.1) (has_code code x) refl none) where
-        by : ((list_any (has_code code) xs ≡ false → content_for changes.new code ≡ None) → SameBytes input out (content_for changes.new code) (range_in ys code) (range_in xs code)) → (b : Bool) → has_code code x ≡ b → ((b || list_any (has_code code) xs) ≡ false → content_for changes.new code ≡ None)
+        by : ((list_any (has_code code) xs ≡ false → content_for changes.new code ≡ None) → SameBytes input out (content_for changes.new code) (range_in ys code) (range_in xs code)) → (b : Bool)
+            → has_code code x ≡ b → ((b || list_any (has_code code) xs) ≡ false → content_for changes.new code ≡ None)
             → SameBytes input out (content_for changes.new code) (cond b (Some (y.header.offset, y.header.size)) (range_in ys code)) (cond b (Some (x.header.offset, x.header.size)) (range_in xs code))
         by rest false here more = rest more
         by rest true here more =
@@ -180,7 +187,9 @@ module _ (input out : List ℕ) (changes : Changes) where
 
 -- ---- the sections one by one
 
-pub all_made : (input out : List ℕ) (changes : Changes) (placed : List Moved) (at index : ℕ) (xs : List Section) → ((k place : ℕ) (s : Section) → slice_get xs k ≡ Some s → IsMade input out changes s (record { header = moved_to place (moved_in placed (index + k)) s.header; name = s.name })) → AllZip (IsMade input out changes) xs (moved_sections placed at index xs)
+pub all_made : (input out : List ℕ) (changes : Changes) (placed : List Moved) (at index : ℕ) (xs : List Section)
+    → ((k place : ℕ) (s : Section) → slice_get xs k ≡ Some s → IsMade input out changes s (record { header = moved_to place (moved_in placed (index + k)) s.header; name = s.name }))
+    → AllZip (IsMade input out changes) xs (moved_sections placed at index xs)
 unfolding moved_sections
 all_made input out changes placed at index [] each = tt
 all_made input out changes placed at index (s ∷ xs) each =

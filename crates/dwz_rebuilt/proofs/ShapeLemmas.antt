@@ -1,56 +1,49 @@
 -- The new file as its parts: how long it is, what stands where, and that the kept bytes are the old ones.
-use Rattle.std.proofs.Common.{◌≡◌, ◌⊎◌, inr, ℕ, ◌+◌, ◌-◌, ◌*◌, ◌^◌, ◌<◌, ◌≤◌, Bool, true, false, cond, List, [], ◌++◌, length, get_or, replicate, Option, Some, None, refl, sym, ap, subst, ◌∙◌, append_assoc, arith}
+use Rattle.std.proofs.Common.{◌≡◌, ◌⊎◌, inr, ℕ, ◌+◌, ◌-◌, ◌*◌, ◌^◌, ◌<◌, ◌≤◌, Bool, true, false, cond, List, [], ◌++◌, length, get_or, replicate, Option, Some, None, refl, sym, ap, subst, ◌∙◌}
+use Rattle.std.proofs.Common.{append_assoc, arith}
 use Rattle.std.specs.Prelude.{is_some, slice_get}
-use Rattle.std.specs.Int.{next_multiple_of}
 use Rattle.std.proofs.lemmas.List.{append-nil, get_or_append_left, length-append, length-replicate}
 use Rattle.dwz_bytes.specs.Spelling.{le_bytes}
 use Rattle.dwz_docs.specs.declared.elf.Moved.{Moved}
 use Rattle.dwz_docs.specs.ElfHeaders.{number_at}
-use Rattle.dwz_docs.specs.ElfLayout.{Changes, content_at, keep_end, moved_in, names_size, new_count, new_front, new_headers, new_headers_at, new_length, placed_end, placed_from, rebuilt, rebuilt_length, spread, sup_bytes, sup_header, too_large}
+use Rattle.dwz_docs.specs.ElfLayout.{Changes, content_at, keep_end, moved_in, names_size, new_count, new_front, new_headers, new_headers_at, new_length, placed_end, placed_of, rebuilt, rebuilt_length}
+use Rattle.dwz_docs.specs.ElfLayout.{spread, sup_bytes, sup_header, too_large}
 use Rattle.dwz_docs.specs.ElfReading.{ElfView}
 use Rattle.dwz_docs.proofs.PlainLemmas.{length_header}
+use Rattle.dwz_docs.proofs.OffsetLemmas.{five_parts}
+use Rattle.dwz_docs.proofs.PlacedLemmas.{placed_end-least, up_le}
 use Rattle.dwz_rebuilt.proofs.PieceLemmas.{Has, front_has_count, front_has_place, front_same, has_middle, length_front, number_written}
 use Rattle.dwz_rebuilt.proofs.MovedLemmas.{IsNew}
 use Rattle.dwz_rebuilt.proofs.OldLemmas.{keep_some}
-use Rattle.dwz_rebuilt.proofs.PlaceLemmas.{IsPlaced, length-spread, placed_end-least, placed_there}
+use Rattle.dwz_rebuilt.proofs.PlaceLemmas.{IsPlaced, length-spread, placed_there}
 use Rattle.dwz_rebuilt.proofs.TableLemmas.{AreWhole, Fit, length-new_headers}
 
--- the sections that are written again, where they end, and where the section headers are
-abbrev pub the_places : ElfView → Changes → List ℕ → List (ℕ × ℕ) → List Moved
-the_places e changes input order = placed_from e (content_at e changes input) (keep_end e) order
+-- where the sections that are written again end, and where the section headers are; and the parts of the file, one behind the other
+module _ (e : ElfView) (changes : Changes) (input : List ℕ) (order : List (ℕ × ℕ)) where
+  abbrev pub the_end : ℕ
+  the_end = placed_end (keep_end e) (placed_of e changes input order)
 
-abbrev pub the_end : ElfView → Changes → List ℕ → List (ℕ × ℕ) → ℕ
-the_end e changes input order = placed_end (keep_end e) (the_places e changes input order)
+  abbrev pub the_headers_at : ℕ
+  the_headers_at = new_headers_at changes the_end
 
-abbrev pub the_headers_at : ElfView → Changes → List ℕ → List (ℕ × ℕ) → ℕ
-the_headers_at e changes input order = new_headers_at changes (the_end e changes input order)
+  abbrev the_front : List ℕ
+  the_front = new_front (keep_end e) the_headers_at (new_count e changes) input
 
--- the parts of the file, one behind the other
-abbrev the_front : ElfView → Changes → List ℕ → List (ℕ × ℕ) → List ℕ
-the_front e changes input order = new_front (keep_end e) (the_headers_at e changes input order) (new_count e changes) input
+  abbrev the_sections : List ℕ
+  the_sections = spread (content_at e changes input) (keep_end e) (placed_of e changes input order)
 
-abbrev the_sections : ElfView → Changes → List ℕ → List (ℕ × ℕ) → List ℕ
-the_sections e changes input order = spread (content_at e changes input) (keep_end e) (the_places e changes input order)
+  abbrev the_gap : List ℕ
+  the_gap = replicate (the_headers_at - (the_end + length (sup_bytes changes))) 0
 
-abbrev the_gap : ElfView → Changes → List ℕ → List (ℕ × ℕ) → List ℕ
-the_gap e changes input order = replicate (the_headers_at e changes input order - (the_end e changes input order + length (sup_bytes changes))) 0
+  abbrev pub the_headers : List ℕ
+  the_headers = new_headers input (placed_of e changes input order) 0 e.sections
 
-abbrev pub the_headers : ElfView → Changes → List ℕ → List (ℕ × ℕ) → List ℕ
-the_headers e changes input order = new_headers input (the_places e changes input order) 0 e.sections
+  abbrev the_rest : List ℕ
+  the_rest = the_headers ++ sup_header e the_end changes.sup
 
-abbrev the_rest : ElfView → Changes → List ℕ → List (ℕ × ℕ) → List ℕ
-the_rest e changes input order = the_headers e changes input order ++ sup_header e (the_end e changes input order) changes.sup
-
--- the file without its last part, the section headers
-abbrev the_body : ElfView → Changes → List ℕ → List (ℕ × ℕ) → List ℕ
-the_body e changes input order =
-    the_front e changes input order ++ (the_sections e changes input order ++ (sup_bytes changes ++ the_gap e changes input order))
-
-up_le : (start align : ℕ) → start ≤ next_multiple_of start align
-up_le start align = omega arith
-
-in_parts : (f s p z t : List ℕ) → f ++ (s ++ (p ++ (z ++ t))) ≡ (f ++ (s ++ (p ++ z))) ++ t
-in_parts f s p z t = simp append_assoc
+  -- the file without its last part, the section headers
+  abbrev the_body : List ℕ
+  the_body = the_front ++ (the_sections ++ (sup_bytes changes ++ the_gap))
 
 -- what is asked of the old file
 pub record IsWhole (e : ElfView) (changes : Changes) (input : List ℕ) (order : List (ℕ × ℕ)) : Type 0 where
@@ -71,7 +64,8 @@ module _ (e : ElfView) (changes : Changes) (input : List ℕ) (order : List (ℕ
       let front = length_front (keep_end e) (the_headers_at e changes input order) (new_count e changes) input (keep_some e) in
       let sections = length-spread e (content_at e changes input) (keep_end e) order in
       let sup = sup_bytes changes in
-      let gap : length (the_gap e changes input order) ≡ the_headers_at e changes input order - (the_end e changes input order + length sup) = length-replicate {A = ℕ} (the_headers_at e changes input order - (the_end e changes input order + length sup)) 0 in
+      let gap : length (the_gap e changes input order) ≡ the_headers_at e changes input order - (the_end e changes input order + length sup) =
+      length-replicate {A = ℕ} (the_headers_at e changes input order - (the_end e changes input order + length sup)) 0 in
       let up : the_end e changes input order + length sup ≤ the_headers_at e changes input order = up_le (the_end e changes input order + length sup) 8 in
       let first = length-append (the_front e changes input order) (the_sections e changes input order ++ (sup ++ the_gap e changes input order)) in
       let second = length-append (the_sections e changes input order) (sup ++ the_gap e changes input order) in
@@ -81,10 +75,10 @@ module _ (e : ElfView) (changes : Changes) (input : List ℕ) (order : List (ℕ
   -- the file is its body and the section headers
   two_parts : rebuilt e changes input order ≡ the_body e changes input order ++ the_rest e changes input order
   unfolding rebuilt
-  two_parts = in_parts (the_front e changes input order) (the_sections e changes input order) (sup_bytes changes) (the_gap e changes input order) (the_rest e changes input order)
+  two_parts = five_parts (the_front e changes input order) (the_sections e changes input order) (sup_bytes changes) (the_gap e changes input order) (the_rest e changes input order)
 
   headers_length : length (the_headers e changes input order) ≡ 64 * e.file.headers
-  headers_length = length-new_headers input (the_places e changes input order) 0 e.sections is.whole ∙ ap (λ n. 64 * n) is.counted
+  headers_length = length-new_headers input (placed_of e changes input order) 0 e.sections is.whole ∙ ap (λ n. 64 * n) is.counted
 
   sup_length : (at : ℕ) (sup : Option (List ℕ)) → length (sup_header e at sup) ≡ 64 * cond (is_some sup) 1 0
   unfolding sup_header
@@ -93,19 +87,26 @@ module _ (e : ElfView) (changes : Changes) (input : List ℕ) (order : List (ℕ
 
   rest_length : length (the_rest e changes input order) ≡ 64 * new_count e changes
   rest_length =
-      omega (arith, length-append (the_headers e changes input order) (sup_header e (the_end e changes input order) changes.sup), headers_length, sup_length (the_end e changes input order) changes.sup)
+      omega (
+        arith,
+        length-append (the_headers e changes input order) (sup_header e (the_end e changes input order) changes.sup),
+        headers_length,
+        sup_length (the_end e changes input order) changes.sup,
+      )
 
   pub length_rebuilt : length (rebuilt e changes input order) ≡ rebuilt_length e changes input order
   unfolding rebuilt_length
   length_rebuilt =
-      let all : length (the_body e changes input order ++ the_rest e changes input order) ≡ length (the_body e changes input order) + length (the_rest e changes input order) = length-append (the_body e changes input order) (the_rest e changes input order) in
+      let all : length (the_body e changes input order ++ the_rest e changes input order) ≡ length (the_body e changes input order) + length (the_rest e changes input order) =
+      length-append (the_body e changes input order) (the_rest e changes input order) in
       let both : length (the_body e changes input order) + length (the_rest e changes input order) ≡ new_length e changes (the_end e changes input order) = omega (arith, body_length, rest_length) in
       ap length two_parts ∙ (all ∙ both)
 
   -- the file ends behind its last section header
   pub table_end : the_headers_at e changes input order + 64 * new_count e changes ≡ length (rebuilt e changes input order)
   table_end =
-      let all : length (the_body e changes input order ++ the_rest e changes input order) ≡ length (the_body e changes input order) + length (the_rest e changes input order) = length-append (the_body e changes input order) (the_rest e changes input order) in
+      let all : length (the_body e changes input order ++ the_rest e changes input order) ≡ length (the_body e changes input order) + length (the_rest e changes input order) =
+      length-append (the_body e changes input order) (the_rest e changes input order) in
       let len : length (rebuilt e changes input order) ≡ length (the_body e changes input order ++ the_rest e changes input order) = ap length two_parts in
       omega (arith, all, len, body_length, rest_length)
 
@@ -147,8 +148,10 @@ module _ (e : ElfView) (changes : Changes) (input : List ℕ) (order : List (ℕ
       let front = length_front (keep_end e) (the_headers_at e changes input order) (new_count e changes) input (keep_some e) in
       let sections = length-spread e (content_at e changes input) (keep_end e) order in
       let back = the_gap e changes input order ++ the_rest e changes input order in
-      let before : length (the_front e changes input order ++ the_sections e changes input order) ≡ the_end e changes input order = omega (arith, length-append (the_front e changes input order) (the_sections e changes input order), front, sections) in
-      subst (λ (w : List ℕ). Has w (the_end e changes input order) (sup_bytes changes)) (append_assoc (the_front e changes input order) (the_sections e changes input order) (sup_bytes changes ++ back))
+      let before : length (the_front e changes input order ++ the_sections e changes input order) ≡ the_end e changes input order =
+      omega (arith, length-append (the_front e changes input order) (the_sections e changes input order), front, sections) in
+      subst (λ (w : List ℕ). Has w (the_end e changes input order) (sup_bytes changes))
+      (append_assoc (the_front e changes input order) (the_sections e changes input order) (sup_bytes changes ++ back))
       (has_middle (the_front e changes input order ++ the_sections e changes input order) (sup_bytes changes) back (the_end e changes input order) before)
 
   -- ---- the front
@@ -157,7 +160,8 @@ module _ (e : ElfView) (changes : Changes) (input : List ℕ) (order : List (ℕ
   unfolding rebuilt
   front_first i less =
       let front = length_front (keep_end e) (the_headers_at e changes input order) (new_count e changes) input (keep_some e) in
-      get_or_append_left (the_front e changes input order) (the_sections e changes input order ++ (sup_bytes changes ++ (the_gap e changes input order ++ the_rest e changes input order))) 0 i (omega (arith, front, less))
+      get_or_append_left (the_front e changes input order) (the_sections e changes input order ++ (sup_bytes changes ++ (the_gap e changes input order ++ the_rest e changes input order))) 0 i
+      (omega (arith, front, less))
 
   -- the kept bytes are the old ones, but for the two fields of the file header
   pub kept_same : (i : ℕ) → i < keep_end e → (i < 40) ⊎ (48 ≤ i) → (i < 60) ⊎ (62 ≤ i) → get_or (rebuilt e changes input order) i 0 ≡ get_or input i 0
@@ -184,7 +188,8 @@ module _ (e : ElfView) (changes : Changes) (input : List ℕ) (order : List (ℕ
 
   -- ---- the sections
 
-  moved_placed : (index : ℕ) (m : Moved) → moved_in (the_places e changes input order) index ≡ Some m → IsPlaced (content_at e changes input) (keep_end e) (length (rebuilt e changes input order)) (rebuilt e changes input order) index m
+  moved_placed : (index : ℕ) (m : Moved) → moved_in (placed_of e changes input order) index ≡ Some m
+      → IsPlaced (content_at e changes input) (keep_end e) (length (rebuilt e changes input order)) (rebuilt e changes input order) index m
   unfolding rebuilt
   moved_placed index m there =
       let front = length_front (keep_end e) (the_headers_at e changes input order) (new_count e changes) input (keep_some e) in
@@ -192,9 +197,9 @@ module _ (e : ElfView) (changes : Changes) (input : List ℕ) (order : List (ℕ
       let placed = placed_there e (content_at e changes input) (keep_end e) order (the_front e changes input order) back index m front there in
       record { size = placed.size; behind = placed.behind; within = omega (arith, placed.within, end_within, table_end); here = placed.here }
 
-  pub fits : (index : ℕ) → Fit (moved_in (the_places e changes input order) index)
-  fits index = by (moved_in (the_places e changes input order) index) refl where
-    by : (o : Option Moved) → moved_in (the_places e changes input order) index ≡ o → Fit o
+  pub fits : (index : ℕ) → Fit (moved_in (placed_of e changes input order) index)
+  fits index = by (moved_in (placed_of e changes input order) index) refl where
+    by : (o : Option Moved) → moved_in (placed_of e changes input order) index ≡ o → Fit o
     by None there = tt
     by (Some m) there =
         let placed = moved_placed index m there in

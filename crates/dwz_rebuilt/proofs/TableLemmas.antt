@@ -1,5 +1,6 @@
 -- The section headers of the new file, and what they are read as.
-use Rattle.std.proofs.Common.{◌≡◌, ◌⊎◌, inl, inr, ℕ, zero, suc, ◌+◌, ◌-◌, ◌*◌, ◌^◌, ◌<◌, ◌≤◌, List, [], ◌∷◌, ◌++◌, length, map, take, drop, get_or, Option, Some, None, refl, sym, ap, subst, ◌∙◌, arith}
+use Rattle.std.proofs.Common.{◌≡◌, ◌⊎◌, inl, inr, ℕ, zero, suc, ◌+◌, ◌-◌, ◌*◌, ◌^◌, ◌<◌, ◌≤◌, List, [], ◌∷◌, ◌++◌, length, map, take, drop, get_or, Option, Some, None, refl, sym, ap, subst, ◌∙◌}
+use Rattle.std.proofs.Common.{arith}
 use Rattle.std.specs.Prelude.{slice_get}
 use Rattle.std.proofs.lemmas.List.{get_or-append_right, get_or_append_left, length-append, length-drop, length-take}
 use Rattle.dwz_bytes.specs.Spelling.{le_bytes}
@@ -9,7 +10,7 @@ use Rattle.dwz_docs.specs.declared.elf.Name.{Name}
 use Rattle.dwz_docs.specs.declared.elf.Section.{Section}
 use Rattle.dwz_docs.specs.ElfHeaders.{header_at, headers_from, number_at}
 use Rattle.dwz_docs.specs.ElfLayout.{moved_header, moved_in, new_headers}
-use Rattle.dwz_docs.specs.ElfNames.{known_name, name_at, section_of}
+use Rattle.dwz_docs.specs.ElfNames.{known_name, name_at, section_named}
 use Rattle.dwz_docs.proofs.PlainLemmas.{length_number}
 use Rattle.dwz_rebuilt.proofs.PieceLemmas.{Has, has_number, has_over, has_taken, length_over, number_written, over_other, same_number}
 
@@ -86,7 +87,8 @@ field_moved old m is fit =
     (number_written bytes 24 8 m.at fit.0 has_at, number_written bytes 32 8 m.size fit.1 has_size)
 
 -- the header that is read where one is written
-pub header_moved : (input out : List ℕ) (at new : ℕ) (o : Option Moved) → at + 64 ≤ length input → Fit o → Has out new (moved_header (take 64 (drop at input)) o) → header_at out new ≡ moved_to new o (header_at input at)
+pub header_moved : (input out : List ℕ) (at new : ℕ) (o : Option Moved) → at + 64 ≤ length input → Fit o → Has out new (moved_header (take 64 (drop at input)) o)
+    → header_at out new ≡ moved_to new o (header_at input at)
 header_moved input out at new o within fit has = by o fit has where
   old : List ℕ
   old = take 64 (drop at input)
@@ -147,7 +149,8 @@ length-new_headers input placed index (s ∷ xs) whole =
     let rest = length-new_headers input placed (index + 1) xs (λ k t is. whole (suc k) t is) in
     omega (arith, length-append (moved_header (take 64 (drop s.header.at input)) (moved_in placed index)) (new_headers input placed (index + 1) xs), first, rest)
 
-pub new_header_there : (input : List ℕ) (placed : List Moved) (index : ℕ) (xs : List Section) (k : ℕ) (s : Section) → AreWhole input xs → slice_get xs k ≡ Some s → Has (new_headers input placed index xs) (64 * k) (moved_header (take 64 (drop s.header.at input)) (moved_in placed (index + k)))
+pub new_header_there : (input : List ℕ) (placed : List Moved) (index : ℕ) (xs : List Section) (k : ℕ) (s : Section) → AreWhole input xs → slice_get xs k ≡ Some s
+    → Has (new_headers input placed index xs) (64 * k) (moved_header (take 64 (drop s.header.at input)) (moved_in placed (index + k)))
 unfolding new_headers
 new_header_there input placed index [] k s whole is = absurd cc
 new_header_there input placed index (x ∷ xs) zero s whole is =
@@ -155,8 +158,14 @@ new_header_there input placed index (x ∷ xs) zero s whole is =
     let place : index ≡ index + 0 = omega arith in
     let first = moved_header (take 64 (drop x.header.at input)) (moved_in placed index) in
     let rest = new_headers input placed (index + 1) xs in
-    let there : Has (first ++ rest) 0 first = record { within = omega (arith, length-append first rest); each = λ i less. let at : 0 + i ≡ i = omega arith in ap (λ n. get_or (first ++ rest) n 0) at ∙ get_or_append_left first rest 0 i less } in
-    let is_it : first ≡ moved_header (take 64 (drop s.header.at input)) (moved_in placed (index + 0)) = ap (λ (w : Section). moved_header (take 64 (drop w.header.at input)) (moved_in placed index)) same ∙ ap (λ n. moved_header (take 64 (drop s.header.at input)) (moved_in placed n)) place in
+    let there : Has (first ++ rest) 0 first =
+    record {
+      within = omega (arith, length-append first rest);
+      each = λ i less. let at : 0 + i ≡ i = omega arith in ap (λ n. get_or (first ++ rest) n 0) at
+          ∙ get_or_append_left first rest 0 i less;
+    } in
+    let is_it : first ≡ moved_header (take 64 (drop s.header.at input)) (moved_in placed (index + 0)) = ap (λ (w : Section). moved_header (take 64 (drop w.header.at input)) (moved_in placed index))
+    same ∙ ap (λ n. moved_header (take 64 (drop s.header.at input)) (moved_in placed n)) place in
     subst (λ (w : List ℕ). Has (first ++ rest) 0 w) is_it there
 new_header_there input placed index (x ∷ xs) (suc k) s whole is =
     let first = moved_header (take 64 (drop x.header.at input)) (moved_in placed index) in
@@ -185,13 +194,15 @@ moved_sections placed at index (s ∷ xs) =
 abbrev pub SameName : List ℕ → List ℕ → Header → Type 0
 SameName table other h = known_name (name_at other h.name) ≡ known_name (name_at table h.name)
 
-section_moved : (other : List ℕ) (at : ℕ) (o : Option Moved) (h : Header) → section_of other (moved_to at o h) ≡ record { header = moved_to at o h; name = known_name (name_at other h.name) }
+section_moved : (other : List ℕ) (at : ℕ) (o : Option Moved) (h : Header) → section_named other (moved_to at o h) ≡ record { header = moved_to at o h; name = known_name (name_at other h.name) }
 section_moved other at None h = refl
 section_moved other at (Some m) h = refl
 
 -- the headers are read as those of the old file, by another name table in which their names stand too
-pub sections_moved : (table other input out : List ℕ) (placed : List Moved) (at new index n : ℕ) → ((k : ℕ) → k < n → header_at out (new + 64 * k) ≡ moved_to (new + 64 * k) (moved_in placed (index + k)) (header_at input (at + 64 * k))) → ((k : ℕ) → k < n → SameName table other (header_at input (at + 64 * k)))
-    → map (section_of other) (headers_from out new n) ≡ moved_sections placed new index (map (section_of table) (headers_from input at n))
+pub sections_moved : (table other input out : List ℕ) (placed : List Moved) (at new index n : ℕ)
+    → ((k : ℕ) → k < n → header_at out (new + 64 * k) ≡ moved_to (new + 64 * k) (moved_in placed (index + k)) (header_at input (at + 64 * k)))
+    → ((k : ℕ) → k < n → SameName table other (header_at input (at + 64 * k)))
+    → map (section_named other) (headers_from out new n) ≡ moved_sections placed new index (map (section_named table) (headers_from input at n))
 unfolding headers_from moved_sections
 sections_moved table other input out placed at new index zero each names = refl
 sections_moved table other input out placed at new index (suc n) each names =
@@ -209,12 +220,16 @@ sections_moved table other input out placed at new index (suc n) each names =
     (λ k less.
     let old_next : at + 64 * suc k ≡ at + 64 + 64 * k = omega arith in
     rw old_next at (names (suc k) (omega (arith, less)))) in
-    let head : section_of other (header_at out new) ≡ record { header = moved_to new (moved_in placed index) (header_at input at); name = known_name (name_at other (header_at input at).name) } = ap (section_of other) first ∙ section_moved other new (moved_in placed index) (header_at input at) in
-    let named : section_of other (header_at out new) ≡ record { header = moved_to new (moved_in placed index) (header_at input at); name = known_name (name_at table (header_at input at).name) } = head ∙ ap (λ (w : Name). record { header = moved_to new (moved_in placed index) (header_at input at); name = w }) name in
+    let head : section_named other (header_at out new) ≡ record { header = moved_to new (moved_in placed index) (header_at input at); name = known_name (name_at other (header_at input at).name) } =
+    ap (section_named other) first ∙ section_moved other new (moved_in placed index) (header_at input at) in
+    let named : section_named other (header_at out new) ≡ record { header = moved_to new (moved_in placed index) (header_at input at); name = known_name (name_at table (header_at input at).name) } =
+    head
+    ∙ ap (λ (w : Name). record { header = moved_to new (moved_in placed index) (header_at input at); name = w }) name in
     cc
 
 -- one of them
-pub moved_at : (placed : List Moved) (at index : ℕ) (xs : List Section) (k : ℕ) (s : Section) → slice_get xs k ≡ Some s → slice_get (moved_sections placed at index xs) k ≡ Some (record { header = moved_to (at + 64 * k) (moved_in placed (index + k)) s.header; name = s.name })
+pub moved_at : (placed : List Moved) (at index : ℕ) (xs : List Section) (k : ℕ) (s : Section) → slice_get xs k ≡ Some s
+    → slice_get (moved_sections placed at index xs) k ≡ Some (record { header = moved_to (at + 64 * k) (moved_in placed (index + k)) s.header; name = s.name })
 unfolding moved_sections
 moved_at placed at index [] k s is = absurd cc
 moved_at placed at index (x ∷ xs) zero s is =

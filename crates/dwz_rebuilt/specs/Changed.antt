@@ -1,6 +1,6 @@
 -- The changes of a file to which the tool gives new sections, and what can be given to which.
 use Rattle.std.specs.Prelude.{◌≡◌, ℕ, List, [], ◌∷◌, ◌++◌, Option, Some, None, unwrap_or}
-use Rattle.dwz_model.specs.declared.sections.Sections.{Sections}
+use Rattle.dwz_model.specs.declared.sections.NewSections.{NewSections}
 use Rattle.dwz_docs.specs.declared.elf.NewContent.{NewContent}
 use Rattle.dwz_docs.specs.ElfLayout.{Changes}
 use Rattle.dwz_docs.specs.ElfNames.{sections_in}
@@ -15,7 +15,7 @@ if_new code None = []
 if_new code (Some bytes) = record { code = code; bytes = bytes } ∷ []
 
 -- these sections in place of the old ones, where they are given, and `.debug_sup` where it is added
-abbrev pub changes_by : Sections → Option (List ℕ) → Changes
+abbrev pub changes_by : NewSections → Option (List ℕ) → Changes
 changes_by s sup = record {
   new =
       if_new 1 (Some s.info)
@@ -34,7 +34,7 @@ CanGive input code None = Unit {0}
 CanGive input code (Some bytes) = (range : ℕ × ℕ) × (section_range (sections_in input) code ≡ Some range) × (range.1 ≡ 0 → bytes ≡ [])
 
 -- each new section can be given
-pub record CanGiveAll (input : List ℕ) (s : Sections) : Type 0 where
+pub record CanGiveAll (input : List ℕ) (s : NewSections) : Type 0 where
   pub info : CanGive input 1 (Some s.info)
   pub abbrevs : CanGive input 2 (Some s.«abbrev»)
   pub strs : CanGive input 3 s.strs
@@ -44,7 +44,7 @@ pub record CanGiveAll (input : List ℕ) (s : Sections) : Type 0 where
   pub ranges : CanGive input 8 s.aranges
 
 -- the sections that values speak of: the new ones, or else those of the old file
-abbrev pub sources_after : List ℕ → Sections → Sources
+abbrev pub sources_after : List ℕ → NewSections → Sources
 sources_after input s = record {
   strs = unwrap_or s.strs (section_of input 3);
   line_strs = section_of input 4;
@@ -54,7 +54,7 @@ sources_after input s = record {
 }
 
 -- what holds of each file that can be made so: of the old file, the sections, what is added, and the new file
-abbrev pub EachChanged : (List ℕ → Sections → Option (List ℕ) → List ℕ → Type 0) → Type 0
+abbrev pub EachChanged : (List ℕ → NewSections → Option (List ℕ) → List ℕ → Type 0) → Type 0
 EachChanged P =
-    (input : List ℕ) (s : Sections) (sup : Option (List ℕ)) (order : List (ℕ × ℕ)) → CanBeMade input (changes_by s sup) order
+    (input : List ℕ) (s : NewSections) (sup : Option (List ℕ)) (order : List (ℕ × ℕ)) → CanBeMade input (changes_by s sup) order
     → P input s sup (new_file input (changes_by s sup) order)

@@ -1,6 +1,6 @@
 -- What is read back of a file of the plain layout (PlainFile), as the supplementary file is one.
 use Rattle.std.specs.Prelude.{◌≡◌, ℕ, List, [], ◌∷◌, true, Some, ◌==◌, if◌then◌else◌, unwrap_or}
-use Rattle.dwz_model.specs.declared.sections.Sections.{Sections}
+use Rattle.dwz_model.specs.declared.sections.NewSections.{NewSections}
 use Rattle.dwz_docs.specs.ElfNames.{code_of, known_name}
 use Rattle.dwz_docs.specs.PlainFile.{FitsPlain, PlainSection, common_sections, plain_file}
 use Rattle.dwz_meanings.specs.Meanings.{Sources}
@@ -16,11 +16,11 @@ OnlySup [] = Unit {0}
 OnlySup (s ∷ sections) = ((known_name (Some s.name)).is_index ≡ true → code_of s.name ≡ 9) × OnlySup sections
 
 -- the supplementary file for a machine with these e_flags and with that checksum
-abbrev pub supplementary_file : ℕ → ℕ → Sections → List ℕ → List ℕ
+abbrev pub supplementary_file : ℕ → ℕ → NewSections → List ℕ → List ℕ
 supplementary_file machine flags s sum = plain_file machine flags (common_sections s sum)
 
 -- the sections of it that values speak of
-abbrev pub sources_in : Sections → Sources
+abbrev pub sources_in : NewSections → Sources
 sources_in s = record {
   strs = unwrap_or s.strs [];
   line_strs = [];
@@ -30,6 +30,7 @@ sources_in s = record {
 }
 
 -- what holds of each such file whose numbers fit: of its sections, the checksum, and the file
-abbrev pub EachSupplementary : (Sections → List ℕ → List ℕ → Type 0) → Type 0
+abbrev pub EachSupplementary : (NewSections → List ℕ → List ℕ → Type 0) → Type 0
 EachSupplementary P =
-    (machine flags : ℕ) (s : Sections) (sum : List ℕ) → FitsPlain machine flags (common_sections s sum) → P s sum (supplementary_file machine flags s sum)
+    (machine flags : ℕ) (s : NewSections) (sum : List ℕ) → FitsPlain machine flags (common_sections s sum)
+    → P s sum (supplementary_file machine flags s sum)

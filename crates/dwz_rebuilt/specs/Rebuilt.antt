@@ -1,5 +1,6 @@
 -- An ELF file that is made from another reads back: what is asked of the changes, and what stays (ElfLayout).
-use Rattle.std.specs.Prelude.{◌≡◌, ◌≢◌, ◌⊎◌, ℕ, ◌<◌, ◌≤◌, List, [], true, None, Option, Some, All, Any, slice_get, codes, ◌==◌, if◌then◌else◌}
+use Rattle.std.specs.Prelude.{◌≡◌, ◌≢◌, ◌⊎◌, ℕ, ◌<◌, ◌≤◌, List, [], true, None, Option, Some, All, Any, slice_get, codes, ◌==◌}
+use Rattle.std.specs.Prelude.{if◌then◌else◌}
 use Rattle.dwz_docs.specs.declared.elf.FileHeader.{FileHeader}
 use Rattle.dwz_docs.specs.declared.elf.NewContent.{NewContent}
 use Rattle.dwz_docs.specs.declared.elf.Section.{Section}
@@ -33,7 +34,8 @@ new_file input changes order = rebuilt (elf_of input) changes input order
 
 -- what holds of each file that can be made: of the old file, the changes, and the new one
 abbrev pub EachMade : (List ℕ → Changes → List ℕ → Type 0) → Type 0
-EachMade P = (input : List ℕ) (changes : Changes) (order : List (ℕ × ℕ)) → CanBeMade input changes order → P input changes (new_file input changes order)
+EachMade P = (input : List ℕ) (changes : Changes) (order : List (ℕ × ℕ)) → CanBeMade input changes order
+    → P input changes (new_file input changes order)
 
 -- ---- what it reads as
 
@@ -72,7 +74,8 @@ AreCarried input changes out =
 -- what is added stands behind them
 abbrev pub IsAdded : List ℕ → Changes → List ℕ → Type 0
 IsAdded input changes out =
-    (sup : List ℕ) → changes.sup ≡ Some sup → (t : Section) × (slice_get (sections_in out) (file_header input).headers ≡ Some t) × IsSup out sup t
+    (sup : List ℕ) → changes.sup ≡ Some sup → (t : Section) × (slice_get (sections_in out) (file_header input).headers ≡ Some t)
+    × IsSup out sup t
 
 -- the places of e_shoff and e_shnum, which say where the section header table is and how many headers it has
 abbrev pub IsTableField : ℕ → Type 0

@@ -8,9 +8,10 @@ ghost use Rattle.dwz_docs.specs.ElfNames.{sections_in};
 ghost use Rattle.dwz_docs.specs.ElfReading.{elf_fault, elf_of, section_range};
 ghost use Rattle.dwz_meanings.specs.Files.{debug_abbrev, debug_aranges, debug_info, section_of, sources_of};
 ghost use Rattle.dwz_model.specs.declared.fault.Fault.{Fault};
-ghost use Rattle.dwz_model.specs.declared.sections.Sections.{Sections};
+ghost use Rattle.dwz_model.specs.declared.sections.NewSections.{NewSections};
 ghost use Rattle.dwz_rebuilt.specs.Changed.{CanGiveAll, EachChanged, changes_by, sources_after};
-ghost use Rattle.dwz_rebuilt.specs.Rebuilt.{AreCarried, CanBeMade, CanChange, EachMade, HasSameFields, IsAdded, IsTableField, new_file, new_for};
+ghost use Rattle.dwz_rebuilt.specs.Rebuilt.{AreCarried, CanBeMade, CanChange, EachMade, HasSameFields, IsAdded, IsTableField, new_file};
+ghost use Rattle.dwz_rebuilt.specs.Rebuilt.{new_for};
 
 /// The file that is made from one without a fault, with new contents for some of its sections, and perhaps with `.debug_sup`
 /// behind them. It has the length that its layout says. It has no fault of a file that is read back, and where nothing is added
@@ -24,21 +25,26 @@ pub fn rebuilt_laws()
         → length (new_file input changes order) ≡ rebuilt_length (elf_of input) changes input order }
     ensures reads { EachMade (λ input changes out. changes.sup ≡ None → elf_fault out ≡ None) }
     ensures back { EachMade (λ input changes out. (f : Fault) → ¬ IsBackFault out f) }
-    ensures fields { EachMade (λ input changes out. HasSameFields (new_count (elf_of input) changes) (file_header input) (file_header out)) }
+    ensures fields { EachMade (λ input changes out. HasSameFields (new_count (elf_of input) changes) (file_header input)
+        (file_header out)) }
 
-    ensures contents { EachMade (λ input changes out. (code : ℕ) → section_of out code ≡ unwrap_or (new_for changes code) (section_of input code)) }
+    ensures contents { EachMade (λ input changes out. (code : ℕ)
+        → section_of out code ≡ unwrap_or (new_for changes code) (section_of input code)) }
     ensures short { EachMade (λ input changes out. (code : ℕ) → length (section_of out code) < 2 ^ 32) }
     ensures there { EachMade (λ input changes out. (code : ℕ)
-        → is_some (section_range (sections_in out) code) ≡ (is_some (section_range (sections_in input) code) || (code == 9 && is_some changes.sup))) }
+        → is_some (section_range (sections_in out) code)
+        ≡ (is_some (section_range (sections_in input) code) || (code == 9 && is_some changes.sup))) }
     ensures carried { EachMade AreCarried }
     ensures added { EachMade IsAdded }
-    ensures loaded { EachMade (λ input changes out. (at : ℕ) → at < keep_end (elf_of input) → ¬ IsTableField at → slice_index out at ≡ slice_index input at) }
+    ensures loaded { EachMade (λ input changes out. (at : ℕ) → at < keep_end (elf_of input) → ¬ IsTableField at
+        → slice_index out at ≡ slice_index input at) }
 {}
 
 /// The same where the tool's own sections are given: they can be given wherever they are there and have bytes, or stay empty; and each
 /// that is given is found, and else the old one.
 pub fn changed_laws()
-    ensures can { (input : List ℕ) (s : Sections) (sup : Option (List ℕ)) → CanGiveAll input s → CanChange (sections_in input) (changes_by s sup) }
+    ensures can { (input : List ℕ) (s : NewSections) (sup : Option (List ℕ)) → CanGiveAll input s
+        → CanChange (sections_in input) (changes_by s sup) }
     ensures info { EachChanged (λ input s sup out. debug_info out ≡ s.info) }
     ensures abbrevs { EachChanged (λ input s sup out. debug_abbrev out ≡ s.«abbrev») }
     ensures sources { EachChanged (λ input s sup out. sources_of out ≡ sources_after input s) }

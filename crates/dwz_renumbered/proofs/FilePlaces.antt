@@ -2,8 +2,10 @@
 use Rattle.std.proofs.Common.{◌≡◌, ℕ, zero, suc, ◌+◌, ◌-◌, ◌<◌, Bool, true, false, List, [], ◌∷◌, ◌++◌, get_or, length, map, Some, slice_get, refl, sym, ap, subst, ◌∙◌, inl, inr, arith}
 use Rattle.std.specs.Prelude.{All, slice_index}
 use Rattle.std.proofs.lemmas.List.{ext_get_or, length-map}
+use Rattle.std.proofs.lemmas.Option.{get_or_from_slice_get}
 use Rattle.dwz_docs.specs.Lists.{In}
 use Rattle.dwz_docs.specs.Units.{RawUnit, entries_in}
+use Rattle.dwz_docs.proofs.ListFacts.{get_first, got_map, got_there, same_got}
 use Rattle.dwz_meanings.specs.Documents.{Doc, unit_map}
 use Rattle.dwz_meanings.specs.Files.{around_of, sources_of}
 use Rattle.dwz_meanings.proofs.FileLemmas.{file_agrees}
@@ -11,6 +13,7 @@ use Rattle.dwz_meanings.proofs.MeaningLemmas.{unit_agrees}
 use Rattle.dwz_alike.specs.Spots.{FileUnit, Spot, Top, UnitOf, Within, in_file, tops_of}
 use Rattle.dwz_moving.specs.Homes.{Rule, moves, rep}
 use Rattle.dwz_moving.specs.Plan.{image, stand_in}
+use Rattle.dwz_plan.proofs.DistinctLemmas.{get_in}
 use Rattle.dwz_same.specs.After.{at_file}
 use Rattle.dwz_back.specs.Files.{places}
 use Rattle.dwz_out.specs.Contents.{new_number}
@@ -25,12 +28,11 @@ use Rattle.dwz_index.specs.declared.index.Starts.{Starts}
 use Rattle.dwz_index.specs.Index.{Index}
 use Rattle.dwz_index.specs.Names.{names_from}
 use Rattle.dwz_index.proofs.NameLemmas.{stand_once}
-use Rattle.dwz_index.proofs.TopLemmas.{get_first, get_later}
+use Rattle.dwz_index.proofs.TopLemmas.{get_later}
 use Rattle.dwz_across.specs.Across.{file_units, name_at}
 use Rattle.dwz_across.specs.AcrossLaws.{IsAmong}
 use Rattle.dwz_across.proofs.FileEntries.{all_entries, names_entries, unit_of}
 use Rattle.dwz_across.proofs.FileWalk.{is_among}
-use Rattle.dwz_across.proofs.ListGets.{get_there, got_index, got_map, same_got}
 use Rattle.dwz_known.specs.Images.{AreImages, IsFile, IsImage, starts_from}
 use Rattle.dwz_known.specs.Names.{StandFrom, all_names}
 use Rattle.dwz_known.specs.Whole.{IsFileAt}
@@ -43,11 +45,6 @@ use Rattle.dwz_laid.proofs.ImagesStand.{old, spot_cases, stands_for}
 use Rattle.dwz_renumbered.specs.Operands.{AreNewNumbers, IsNewNumber}
 use Rattle.dwz_renumbered.specs.NumberLaws.{ArePlaces, AreUnitPlaces, stands_after}
 use Rattle.dwz_renumbered.proofs.RowEntries.{row_led}
-
-get_in : {X : Type 0} (xs : List X) (k : ℕ) (d : X) → k < length xs → In (get_or xs k d) xs
-get_in [] k d lt = absurd (omega (arith, lt))
-get_in (x ∷ xs) zero d lt = inl refl
-get_in (x ∷ xs) (suc k) d lt = inr (get_in xs k d (omega (arith, lt)))
 
 -- a top that doesn't move stands for itself
 stays : (r : Rule) (us : List (FileUnit Spot)) (t : ℕ) → moves r us t ≡ false → stand_in r us t ≡ t
@@ -121,7 +118,7 @@ module _ (f : Facts) (facts : AreFacts f) where
 
     pub unit_after : (j : ℕ) → j < length raw → stands_after f n (start_of raw j) ≡ (places (run f)).place (UnitOf (index.starts.unit + j))
     unit_after j lt =
-        let got = get_there raw j lt in
+        let got = got_there raw j lt in
         let u = got.0 in
         let is = unit_of f.contents n among.bytes x index among.is j u got.1 in
         let first = unit_first in
@@ -129,7 +126,7 @@ module _ (f : Facts) (facts : AreFacts f) where
         let number : found.starts.unit + j ≡ index.starts.unit + j = ap (λ (w : Starts). w.unit + j) (sym found.index.tops.starts_are) in
         let named_so : name_at index.starts among.is.kept.read.doc is.v.at ≡ UnitOf (found.starts.unit + j) = ((old f facts).units_named (found.starts.unit + j) _ nth).unit in
         let at : is.v.at ≡ u.at = (((unit_agrees (around_of among.bytes raw) u).ok is.v).0 is.means).place in
-        let start_at : start_of raw j ≡ u.at = got_index (map (λ (w : RawUnit). w.at) raw) j u.at 0 (got_map (λ (w : RawUnit). w.at) raw j u got.1) in
+        let start_at : start_of raw j ≡ u.at = get_or_from_slice_get (map (λ (w : RawUnit). w.at) raw) j u.at 0 (got_map (λ (w : RawUnit). w.at) raw j u got.1) in
         let name : (run f).name (at_file n (start_of raw j)) ≡ UnitOf (index.starts.unit + j) =
         among.is.names (start_of raw j)
         ∙ ap (name_at index.starts among.is.kept.read.doc) (start_at ∙ sym at)
@@ -151,14 +148,14 @@ module _ (f : Facts) (facts : AreFacts f) where
         let as_many = length-map raw (λ (u : RawUnit). u.at) in
         ext_get_or 0 units_at (map (stands_after f n) starts) (many ∙ sym as_many ∙ sym long) (λ j lt.
         (let low : j < length raw = omega (arith, lt, many) in
-        let got = get_there raw j low in
+        let got = got_there raw j low in
         let u = got.0 in
         let there = got_map (λ (w : RawUnit). w.at) raw j u got.1 in
-        let start_at : start_of raw j ≡ u.at = got_index starts j u.at 0 there in
+        let start_at : start_of raw j ≡ u.at = get_or_from_slice_get starts j u.at 0 there in
         are j low
         ∙ sym (unit_after j low)
         ∙ ap (stands_after f n) start_at
-        ∙ sym (got_index (map (stands_after f n) starts) j (stands_after f n u.at) 0 (got_map (stands_after f n) starts j u.at there))))
+        ∙ sym (get_or_from_slice_get (map (stands_after f n) starts) j (stands_after f n u.at) 0 (got_map (stands_after f n) starts j u.at there))))
 
     -- ---- operands name entries
 

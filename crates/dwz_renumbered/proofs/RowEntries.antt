@@ -1,10 +1,11 @@
 -- The number of a row of operands leads to the row's entry: an entry stands behind the first byte of its unit.
-use Rattle.std.proofs.Common.{◌≡◌, ℕ, ◌+◌, ◌-◌, ◌<◌, true, List, [], ◌∷◌, map, refl, sym, ap, subst, ◌∙◌, inl, inr, ⊎_elim, arith}
+use Rattle.std.proofs.Common.{◌≡◌, ℕ, ◌+◌, ◌-◌, ◌<◌, true, List, map, refl, sym, ap, subst, ◌∙◌, ⊎_elim, arith}
 use Rattle.std.proofs.lemmas.Bool.{cases_lt}
 use Rattle.dwz_model.specs.declared.place.Base.{Base}
 use Rattle.dwz_model.specs.declared.place.Base.TheVariants.{Unit as FromUnit, Info as FromInfo}
 use Rattle.dwz_docs.specs.Lists.{In}
 use Rattle.dwz_docs.specs.Units.{RawUnit}
+use Rattle.dwz_docs.proofs.ListFacts.{in_map}
 use Rattle.dwz_meanings.specs.Documents.{DwUnit}
 use Rattle.dwz_meanings.specs.Meanings.{Around, MeanUnits, Sources, alone, entries_for, expr_context, leads_to, places_of, scope_of, target_of}
 use Rattle.dwz_meanings.specs.NamedLists.{lists_of_units}
@@ -15,18 +16,11 @@ use Rattle.dwz_resolve.specs.ListRows.{number_for, operand_view, start_of}
 use Rattle.dwz_resolve.specs.Resolved.{place_at}
 use Rattle.dwz_resolve.proofs.PlaceLemmas.{unit_and_entries}
 use Rattle.dwz_seen.specs.Lists.{NoneTwice}
-use Rattle.dwz_seen.proofs.Members.{in_map}
-use Rattle.dwz_seen.proofs.OnceLemmas.{none_left, none_right}
 use Rattle.dwz_writing.specs.Meant.{by_base, led_to}
 use Rattle.dwz_out.proofs.ListsWritten.{owner}
 use Rattle.dwz_marks.proofs.ListNames.{list_from}
 use Rattle.dwz_marks.proofs.OperandNumbers.{list_stands, one_named}
-
-unit_apart : (raw : List RawUnit) → NoneTwice (unit_and_entries raw) → (u : RawUnit) → In u raw → In u.at (places_of u) → ⊥
-unfolding unit_and_entries
-unit_apart [] once u there own = absurd there
-unit_apart (v ∷ raw) once u (inl e) own = (none_left (v.at ∷ places_of v) (unit_and_entries raw) once).0 (subst (λ (w : RawUnit). In w.at (places_of w)) (sym e) own)
-unit_apart (v ∷ raw) once u (inr later) own = unit_apart raw (none_right (v.at ∷ places_of v) (unit_and_entries raw) once) u later own
+use Rattle.dwz_marks.proofs.RowNames.{unit_apart}
 
 module _ (sources : Sources) (raw : List RawUnit) (said : List (DwUnit ℕ)) (means : MeanUnits (alone sources raw) raw said) (once : NoneTwice (unit_and_entries raw))
     (rows : List Row) (are : AreRows (lists_of_units (alone sources raw) raw) (map (operand_view raw) rows)) where

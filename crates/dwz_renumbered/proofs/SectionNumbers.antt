@@ -1,9 +1,9 @@
 -- Sections with these numbers are those that are written: rows stand for all operands at their places, and there is just one such section.
-use Rattle.std.proofs.Common.{◌≡◌, ℕ, ◌-◌, Bool, true, false, cond, eqb, List, [], ◌∷◌, map, refl, sym, ap, ◌∙◌, inl, inr, ⊎_elim}
+use Rattle.std.proofs.Common.{◌≡◌, ℕ, Bool, true, false, cond, eqb, List, [], ◌∷◌, map, refl, sym, ap, ◌∙◌, inl, inr, ⊎_elim}
 use Rattle.std.proofs.lemmas.List.{length-map}
 use Rattle.dwz_docs.specs.Lists.{In}
 use Rattle.dwz_docs.specs.Units.{CompileUnit, PartialUnit, RawKind, RawUnit, TypeUnit}
-use Rattle.dwz_model.specs.declared.place.Base.{Base}
+use Rattle.dwz_docs.proofs.ListFacts.{in_cases}
 use Rattle.dwz_meanings.specs.Files.{HaveGoodRanges, around_of, debug_aranges, is_place_of, place_if_whole, unit_places}
 use Rattle.dwz_meanings.specs.PatchedLists.{IsPatched, number_at}
 use Rattle.dwz_meanings.specs.Shared.{AreRows, ListOperand, NoneShared, operands_in_lists}
@@ -14,19 +14,11 @@ use Rattle.dwz_sections.specs.Numbers.{spots, with_numbers}
 use Rattle.dwz_sections.specs.Ranges.{AreMoved}
 use Rattle.dwz_sections.proofs.ListLemmas.{all_patched}
 use Rattle.dwz_sections.proofs.RangeSetLemmas.{ranges_law}
-use Rattle.dwz_seen.proofs.Members.{in_cases}
-use Rattle.dwz_writing.specs.Meant.{by_base}
-use Rattle.dwz_writing.specs.Writing.{base_place}
 use Rattle.dwz_back.specs.Files.{Run, lists_named, name_after, places, sources}
 use Rattle.dwz_out.specs.Contents.{lists_after, new_number, ranges_after}
 use Rattle.dwz_out.proofs.ListsStand.{all_stand}
-use Rattle.dwz_out.proofs.ListsWritten.{AllStand, GivesOne, number_for, number_own, one_patched, patched}
-use Rattle.dwz_out.proofs.SectionsMade.{ranges_one}
-
-gives_one : (r : Run) (file : ℕ) → GivesOne (new_number r file)
-gives_one r file o p unit base number =
-    let by : ℕ → Base → ℕ → ℕ = λ u b n. (places r).place (name_after r file (by_base b u n)) - base_place ((places r).place (name_after r file u)) b in
-    ap (λ (u : ℕ). by u o.operand.base o.operand.number) unit ∙ ap (λ (b : Base). by p.unit b o.operand.number) base ∙ ap (by p.unit p.operand.base) number
+use Rattle.dwz_out.proofs.ListsWritten.{AllStand, number_for, number_own, one_patched, patched}
+use Rattle.dwz_out.proofs.SectionsMade.{gives_one, ranges_one}
 
 -- the number for a place, by rows
 by_rows : (raw : List RawUnit) (new : ListOperand → ℕ) (place : ℕ) (rows : List Row)

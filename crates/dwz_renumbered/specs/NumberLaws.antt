@@ -37,7 +37,8 @@ AreUnitPlaces f first raw at = (j : ℕ) → j < length raw → slice_index at j
 abbrev pub OfPlaces : (Facts → ℕ → File → Index → ℕ → List ℕ → Type 0) → Type 0
 OfPlaces P =
     (f : Facts) → AreFacts f → (n : ℕ) (bytes : List ℕ) (x : File) (index : Index) → HasFile f n bytes x index
-    → (start : ℕ) → slice_get (starts_from 0 f.indexes) n ≡ Some start → (at : List ℕ) → ArePlaces f n (raw_units x.units) at → P f n x index start at
+    → (start : ℕ) → slice_get (starts_from 0 f.indexes) n ≡ Some start → (at : List ℕ) → ArePlaces f n (raw_units x.units) at
+    → P f n x index start at
 
 -- these are the numbers of the file's operands, by their places and by those of its units
 abbrev pub HaveNewNumbers : Facts → File → Index → ℕ → (at units_at numbers : List ℕ) → Type 0

@@ -7,8 +7,6 @@ mod lists;
 mod operands;
 mod ranges;
 mod targets;
-#[cfg(test)]
-mod tests;
 
 pub use laws::number_laws;
 pub use lists::lists_section;

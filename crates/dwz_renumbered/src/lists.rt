@@ -32,7 +32,9 @@ pub fn lists_section(
     requires there { All (λ o. o.entry < length index.now.steps) operands.now }
     requires few { start + length index.now.steps < 2 ^ 32 }
     requires plan { length plan.now.stand_ins ≡ length tops.now }
-    ensures { (docs : List (Doc ℕ)) (rule : Rule) (names : List Spot) → IsPlanned docs rule plan.now tops.now → IsFile docs names index.now start → IfOk result (λ out. HasNewNumbers docs rule names places.now units_at.now operands.now section.now out.items) }
+    ensures { (docs : List (Doc ℕ)) (rule : Rule) (names : List Spot) → IsPlanned docs rule plan.now tops.now
+        → IsFile docs names index.now start → IfOk result
+        (λ out. HasNewNumbers docs rule names places.now units_at.now operands.now section.now out.items) }
 {
     let numbers = operand_numbers(alloc, operands, index, plan, tops, start, places, units_at)?;
     lists(alloc, section, operands, numbers.as_slice())

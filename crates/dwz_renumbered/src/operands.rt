@@ -65,7 +65,9 @@ pub fn operand_numbers(
     requires few { start + length index.now.steps < 2 ^ 32 }
     requires plan { length plan.now.stand_ins ≡ length tops.now }
     ensures many { IfOk result (λ v. length v.items ≡ length operands.now) }
-    ensures numbers { (docs : List (Doc ℕ)) (rule : Rule) (names : List Spot) → IsPlanned docs rule plan.now tops.now → IsFile docs names index.now start → IfOk result (λ v. AreNewNumbers docs rule names places.now units_at.now operands.now v.items) }
+    ensures numbers { (docs : List (Doc ℕ)) (rule : Rule) (names : List Spot) → IsPlanned docs rule plan.now tops.now
+        → IsFile docs names index.now start → IfOk result
+        (λ v. AreNewNumbers docs rule names places.now units_at.now operands.now v.items) }
 {
     let mut numbers = Vec::with_capacity(alloc, operands.len())?;
     for operand in operands {

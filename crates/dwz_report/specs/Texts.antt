@@ -3,7 +3,11 @@ use Rattle.std.specs.Prelude.{ℕ, ◌*◌, List, [], ◌∷◌, ◌++◌, Optio
 use Rattle.std.specs.List.{concat, flat_map}
 use Rattle.std.specs.Fmt.{digits}
 use Rattle.dwz_model.specs.declared.fault.Reason.{Reason}
-use Rattle.dwz_model.specs.declared.fault.Reason.TheVariants.{NotElf, FileType, SectionTable, Compressed, NoDebugInfo, Index, Layout, TooLarge, BadAbbrev, UnsupportedForm, Truncated, BadNumber, BadString, BadLineTable, BadFile, BadExpr, UnsupportedOp, BadList, SharedList, BadAranges, DwarfFormat, Version, UnitType, AddressSize, NoSuchCode, BadRoot, TooDeep, TooMany, BadReference, BadOperand, Machine, OperandWidth, FileSize}
+use Rattle.dwz_model.specs.declared.fault.Reason.TheVariants.{NotElf, FileType, SectionTable, Compressed, NoDebugInfo, Index, Layout}
+use Rattle.dwz_model.specs.declared.fault.Reason.TheVariants.{TooLarge, BadAbbrev, UnsupportedForm, Truncated, BadNumber, BadString}
+use Rattle.dwz_model.specs.declared.fault.Reason.TheVariants.{BadLineTable, BadFile, BadExpr, UnsupportedOp, BadList, SharedList}
+use Rattle.dwz_model.specs.declared.fault.Reason.TheVariants.{BadAranges, DwarfFormat, Version, UnitType, AddressSize, NoSuchCode, BadRoot}
+use Rattle.dwz_model.specs.declared.fault.Reason.TheVariants.{TooDeep, TooMany, BadReference, BadOperand, Machine, OperandWidth, FileSize}
 use Rattle.dwz_model.specs.declared.fault.Refusal.{Refusal}
 use Rattle.dwz_report.specs.declared.summary.Summary.{Summary}
 

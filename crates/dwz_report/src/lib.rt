@@ -9,6 +9,3 @@ pub use summary::{Summary, SummaryLines};
 pub use texts::{
     demo_text, memory_text, read_text, refusal_text, summary_text, usage_text, write_text,
 };
-
-#[cfg(test)]
-mod tests;

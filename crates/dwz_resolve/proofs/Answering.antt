@@ -35,7 +35,8 @@ pub record HasUnits (around : Around ℕ) (raw : List RawUnit) (refs : List ℕ)
   pub refs_are : units_refs units ≡ refs
   pub lists_are : lists_of_units around raw ≡ lists
 
-has_units : (around : Around ℕ) (raw : List RawUnit) (refs : List ℕ) (lists : List NamedList) (r : Result (List (DwUnit ℕ)) Fault) → units_meaning around raw ≡ r → map_ok (units_found (lists_of_units around raw)) r ≡ Ok (found refs lists) → HasUnits around raw refs lists
+has_units : (around : Around ℕ) (raw : List RawUnit) (refs : List ℕ) (lists : List NamedList) (r : Result (List (DwUnit ℕ)) Fault) → units_meaning around raw ≡ r
+    → map_ok (units_found (lists_of_units around raw)) r ≡ Ok (found refs lists) → HasUnits around raw refs lists
 has_units around raw refs lists (Ok units) is e =
     let same : found (units_refs units) (lists_of_units around raw) ≡ found refs lists = cc in
     record { units = units; means = is; refs_are = ap (λ (w : Found). w.refs) same; lists_are = ap (λ (w : Found). w.lists) same }
@@ -50,10 +51,12 @@ pub said_fail : (around : Around ℕ) (raw : List RawUnit) (aranges : List ℕ) 
 said_fail around raw aranges NoMemory h = tt
 said_fail around raw aranges (Refused f) h = ap (λ (r : Result (List (DwUnit ℕ)) Fault). map_ok units_refs (r >>= behind_units around raw aranges)) (units_fail around raw (Refused f) h)
 
-said_units : (around : Around ℕ) (raw : List RawUnit) (aranges refs : List ℕ) (lists : List NamedList) (h : HasUnits around raw refs lists) → said around raw aranges ≡ behind_units around raw aranges h.units
+said_units : (around : Around ℕ) (raw : List RawUnit) (aranges refs : List ℕ) (lists : List NamedList) (h : HasUnits around raw refs lists)
+    → said around raw aranges ≡ behind_units around raw aranges h.units
 said_units around raw aranges refs lists h = ap (λ (r : Result (List (DwUnit ℕ)) Fault). r >>= behind_units around raw aranges) h.means
 
-pub sets_fail : (around : Around ℕ) (raw : List RawUnit) (aranges refs : List ℕ) (lists : List NamedList) (e : ReadErr) → units_named around raw ≡ Ok (found refs lists) → Fails e (sets_at (is_place_of raw) (input aranges 0)) → Fails e (map_ok units_refs (said around raw aranges))
+pub sets_fail : (around : Around ℕ) (raw : List RawUnit) (aranges refs : List ℕ) (lists : List NamedList) (e : ReadErr) → units_named around raw ≡ Ok (found refs lists)
+    → Fails e (sets_at (is_place_of raw) (input aranges 0)) → Fails e (map_ok units_refs (said around raw aranges))
 sets_fail around raw aranges refs lists NoMemory named bad = tt
 sets_fail around raw aranges refs lists (Refused f) named bad =
     let h = units_there around raw refs lists named in
@@ -63,19 +66,22 @@ some_sets : (r : Result (List RangeSet) Fault) → IsOk r → (sets : List Range
 some_sets (Ok sets) h = (sets, refl)
 some_sets (Err f) h = absurd (false≢true h)
 
-said_sets : (around : Around ℕ) (raw : List RawUnit) (aranges refs : List ℕ) (lists : List NamedList) (h : HasUnits around raw refs lists) → IsOk (sets_at (is_place_of raw) (input aranges 0)) → said around raw aranges ≡ (none_shared lists >>= kept h.units)
+said_sets : (around : Around ℕ) (raw : List RawUnit) (aranges refs : List ℕ) (lists : List NamedList) (h : HasUnits around raw refs lists) → IsOk (sets_at (is_place_of raw) (input aranges 0))
+    → said around raw aranges ≡ (none_shared lists >>= kept h.units)
 said_sets around raw aranges refs lists h good =
     let s = some_sets (sets_at (is_place_of raw) (input aranges 0)) good in
     said_units around raw aranges refs lists h ∙ ap (λ (r : Result (List RangeSet) Fault). r >>= behind_sets around raw h.units) s.1
     ∙ ap (λ (ls : List NamedList). none_shared ls >>= kept h.units) h.lists_are
 
-pub lists_fail : (around : Around ℕ) (raw : List RawUnit) (aranges refs : List ℕ) (lists : List NamedList) (e : ReadErr) → units_named around raw ≡ Ok (found refs lists) → IsOk (sets_at (is_place_of raw) (input aranges 0)) → Fails e (none_shared lists) → Fails e (map_ok units_refs (said around raw aranges))
+pub lists_fail : (around : Around ℕ) (raw : List RawUnit) (aranges refs : List ℕ) (lists : List NamedList) (e : ReadErr) → units_named around raw ≡ Ok (found refs lists)
+    → IsOk (sets_at (is_place_of raw) (input aranges 0)) → Fails e (none_shared lists) → Fails e (map_ok units_refs (said around raw aranges))
 lists_fail around raw aranges refs lists NoMemory named good bad = tt
 lists_fail around raw aranges refs lists (Refused f) named good bad =
     let h = units_there around raw refs lists named in
     ap (map_ok units_refs) (said_sets around raw aranges refs lists h good ∙ ap (λ (r : Result (Unit {0}) Fault). r >>= kept h.units) bad)
 
-pub all_said : (around : Around ℕ) (raw : List RawUnit) (aranges refs : List ℕ) (lists : List NamedList) → units_named around raw ≡ Ok (found refs lists) → IsOk (sets_at (is_place_of raw) (input aranges 0)) → none_shared lists ≡ Ok tt → map_ok units_refs (said around raw aranges) ≡ Ok refs
+pub all_said : (around : Around ℕ) (raw : List RawUnit) (aranges refs : List ℕ) (lists : List NamedList) → units_named around raw ≡ Ok (found refs lists)
+    → IsOk (sets_at (is_place_of raw) (input aranges 0)) → none_shared lists ≡ Ok tt → map_ok units_refs (said around raw aranges) ≡ Ok refs
 all_said around raw aranges refs lists named good none =
     let h = units_there around raw refs lists named in
     ap (map_ok units_refs) (said_sets around raw aranges refs lists h good ∙ ap (λ (r : Result (Unit {0}) Fault). r >>= kept h.units) none) ∙ ap (λ (w : List ℕ). Ok w) h.refs_are

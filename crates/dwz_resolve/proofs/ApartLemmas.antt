@@ -1,16 +1,20 @@
 -- Rows in order of place.
-use Rattle.std.proofs.Common.{◌≡◌, ◌⊎◌, ℕ, zero, suc, ◌+◌, ◌<◌, ◌≤◌, Bool, true, false, List, [], ◌∷◌, ◌++◌, length, map, get_or, take, Option, Some, None, slice_get, refl, sym, ap, subst, ◌∙◌, inl, inr, arith}
+use Rattle.std.proofs.Common.{◌≡◌, ℕ, zero, suc, ◌+◌, ◌<◌, ◌≤◌, Bool, true, false, List, [], ◌∷◌, ◌++◌, length, map, get_or, take, Option, Some, None, slice_get, refl, sym, ap, subst, ◌∙◌, inl, inr}
+use Rattle.std.proofs.Common.{arith}
 use Rattle.std.specs.Option.{option_map}
-use Rattle.std.proofs.Common.{eqb, ◌&&◌}
-use Rattle.std.proofs.lemmas.Bool.{cases_lt, eq-eqb, eqb-true, false≢true}
+use Rattle.std.proofs.Common.{eqb}
+use Rattle.std.proofs.lemmas.Bool.{and_from, cases_lt, eq-eqb, eqb-true, false≢true}
 use Rattle.std.proofs.lemmas.List.{append-nil, append_assoc, length-map, map-append, take_all}
-use Rattle.std.proofs.lemmas.Option.{get_or_from_slice_get, slice_get-map}
+use Rattle.std.proofs.lemmas.Option.{get_or_from_slice_get, slice_get-get_or, slice_get-map}
 use Rattle.dwz_docs.specs.Lists.{In}
+use Rattle.dwz_docs.proofs.ListFacts.{got_below, got_in as at_in, in_cases, in_left, in_right, same_got}
+use Rattle.dwz_docs.proofs.AbbrevLemmas.{and_true}
 use Rattle.dwz_meanings.specs.Shared.{OneOf, same_base, same_truth}
 use Rattle.dwz_model.specs.declared.place.Base.{Base}
 use Rattle.dwz_model.specs.declared.place.Base.TheVariants.{Unit as FromUnit, Info as FromInfo}
 use Rattle.dwz_resolve.specs.declared.operands.ListOperand.{ListOperand}
-use Rattle.dwz_resolve.specs.Apart.{AreWide, Behind, FindsApart, FindsForeign, HasClash, HasForeign, IsCause, IsLeast, Overlaps, Rise, Rows, Same, Test, Tested, owns_place, places_of_rows, repeats_last, same_operand}
+use Rattle.dwz_resolve.specs.Apart.{AreWide, Behind, FindsApart, FindsForeign, HasClash, HasForeign, IsCause, IsLesser, Overlaps, Rise, Rows, Same, Test, Tested, owns_place, places_of_rows}
+use Rattle.dwz_resolve.specs.Apart.{repeats_last, same_operand}
 use Rattle.dwz_resolve.proofs.RowLemmas.{take_here}
 use Rattle.dwz_resolve.proofs.PlaceLemmas.{Ascend, ascend_at, ascend_lower}
 use Rattle.dwz_resolve.proofs.SearchLemmas.{Rise as Rising}
@@ -22,34 +26,10 @@ map_at f [] k x l e = absurd (omega arith)
 map_at f (y ∷ xs) zero x l e = ap f (sym e)
 map_at f (y ∷ xs) (suc k) x l e = map_at f xs k x (omega arith) e
 
-pub got : {X : Type 0} (xs : List X) (k : ℕ) (x : X) → k < length xs → x ≡ get_or xs k x → slice_get xs k ≡ Some x
-got [] k x l e = absurd (omega arith)
-got {X} (y ∷ xs) zero x l e = ap (λ (w : X). Some w) (sym e)
-got (y ∷ xs) (suc k) x l e = got xs k x (omega arith) e
-
-pub at_in : {X : Type 0} (xs : List X) (k : ℕ) (x : X) → slice_get xs k ≡ Some x → In x xs
-at_in [] k x e = absurd cc
-at_in {X} (y ∷ xs) zero x e = inl (let same : y ≡ x = cc in same)
-at_in (y ∷ xs) (suc k) x e = inr (at_in xs k x e)
-
 pub in_at : {X : Type 0} (xs : List X) (x : X) → In x xs → (k : ℕ) × (k < length xs) × (slice_get xs k ≡ Some x)
 in_at [] x h = absurd h
 in_at {X} (y ∷ xs) x (inl e) = (0, omega arith, ap (λ (w : X). Some w) e)
 in_at (y ∷ xs) x (inr h) = let r = in_at xs x h in let lt = r.1 in (suc r.0, omega arith, r.2)
-
-pub in_left : {X : Type 0} (x : X) (xs ys : List X) → In x xs → In x (xs ++ ys)
-in_left x [] ys h = absurd h
-in_left x (y ∷ xs) ys (inl e) = inl e
-in_left x (y ∷ xs) ys (inr h) = inr (in_left x xs ys h)
-
-pub in_right : {X : Type 0} (x : X) (xs ys : List X) → In x ys → In x (xs ++ ys)
-in_right x [] ys h = h
-in_right x (y ∷ xs) ys h = inr (in_right x xs ys h)
-
-pub in_both : {X : Type 0} (x : X) (xs ys : List X) → In x (xs ++ ys) → In x xs ⊎ In x ys
-in_both x [] ys h = inr h
-in_both x (y ∷ xs) ys (inl e) = inl (inl e)
-in_both x (y ∷ xs) ys (inr h) = elim (in_both x xs ys h) [ inl l ↦ inl (inr l) | inr r ↦ inr r ]
 
 pub in_take : {X : Type 0} (x : X) (xs : List X) (k : ℕ) → In x (take k xs) → In x xs
 in_take x [] zero h = absurd h
@@ -101,7 +81,8 @@ each_behind (p ∷ rows) from to h o (inl e) = subst (λ (w : ListOperand). from
 each_behind (p ∷ rows) from to h o (inr later) = let low = h.0 in let more = each_behind rows (p.at + p.width) to h.2 o later in omega arith
 
 -- two rows with a byte in common are one
-pub one_row : (rows : List ListOperand) (from to : ℕ) → Rows from rows to → (o p : ListOperand) → In o rows → In p rows → (b : ℕ) → o.at ≤ b → b < o.at + o.width → p.at ≤ b → b < p.at + p.width → o ≡ p
+pub one_row : (rows : List ListOperand) (from to : ℕ) → Rows from rows to → (o p : ListOperand) → In o rows → In p rows → (b : ℕ) → o.at ≤ b → b < o.at + o.width → p.at ≤ b → b < p.at + p.width
+    → o ≡ p
 one_row [] from to h o p is there b l m x y = absurd is
 one_row (q ∷ rows) from to h o p (inl s) (inl t) b l m x y = sym s ∙ t
 one_row (q ∷ rows) from to h o p (inl s) (inr t) b l m x y =
@@ -125,7 +106,8 @@ pub record Parted (es : List ℕ) (place low high : ℕ) : Type 0 where
 pub parted_all : (es : List ℕ) (place : ℕ) → Parted es place 0 (length es)
 parted_all es place = record { order = omega arith; within = omega arith; below = λ k l. absurd (omega arith); above = λ k l m. absurd (omega arith) }
 
-pub parted_up : (es : List ℕ) (place low high middle end : ℕ) → Rising es → low ≤ middle → middle < high → get_or es middle 0 ≡ end → end ≤ place → Parted es place low high → Parted es place (middle + 1) high
+pub parted_up : (es : List ℕ) (place low high middle end : ℕ) → Rising es → low ≤ middle → middle < high → get_or es middle 0 ≡ end → end ≤ place → Parted es place low high
+    → Parted es place (middle + 1) high
 parted_up es place low high middle end rise l m e le h =
     let within = h.within in record {
       order = omega arith;
@@ -137,7 +119,8 @@ parted_up es place low high middle end rise l m e le h =
       above = h.above;
     }
 
-pub parted_down : (es : List ℕ) (place low high middle end : ℕ) → Rising es → low ≤ middle → middle < high → get_or es middle 0 ≡ end → place < end → Parted es place low high → Parted es place low middle
+pub parted_down : (es : List ℕ) (place low high middle end : ℕ) → Rising es → low ≤ middle → middle < high → get_or es middle 0 ≡ end → place < end → Parted es place low high
+    → Parted es place low middle
 parted_down es place low high middle end rise l m e lt h =
     let within = h.within in record {
       order = l;
@@ -177,28 +160,18 @@ above a p other le = elim (cases_lt p a) [
   | inr ge ↦ absurd (other (let same : a ≡ p = omega arith in same))
 ]
 
-pub got_at : {X : Type 0} (xs : List X) (k : ℕ) (d : X) → k < length xs → slice_get xs k ≡ Some (get_or xs k d)
-got_at [] k d l = absurd (omega arith)
-got_at (y ∷ xs) zero d l = refl
-got_at (y ∷ xs) (suc k) d l = got_at xs k d (omega arith)
-
 -- ---- the first row of others
 
 -- each of the first so many rows that has a byte there is an own one
 abbrev pub OwnBefore : List ListOperand → Test → ℕ → Type 0
 OwnBefore kept t k = (j : ℕ) (r : ListOperand) → slice_get kept j ≡ Some r → j < k → Overlaps r t → owns_place t r.at ≡ true
 
-index_within : {X : Type 0} (rows : List X) (k : ℕ) (r : X) → slice_get rows k ≡ Some r → k < length rows
-index_within [] k r e = absurd cc
-index_within (o ∷ rows) zero r e = omega arith
-index_within (o ∷ rows) (suc k) r e = let more = index_within rows k r e in omega arith
-
 place_of : (rows : List ListOperand) (k : ℕ) (r : ListOperand) → slice_get rows k ≡ Some r → get_or (places_of_rows rows) k 0 ≡ r.at
 place_of rows k r e = get_or_from_slice_get (places_of_rows rows) k r.at 0 (slice_get-map (λ (o : ListOperand). o.at) rows k ∙ ap (option_map (λ (o : ListOperand). o.at)) e)
 
 at_rises : (rows : List ListOperand) (top i j : ℕ) (r p : ListOperand) → Rows 0 rows top → slice_get rows i ≡ Some r → slice_get rows j ≡ Some p → i < j → r.at < p.at
 at_rises rows top i j r p h e f lt =
-    let within = index_within rows j p f in
+    let within = got_below rows j p f in
     let many = length-map rows (λ (o : ListOperand). o.at) in
     let up = rows_rise rows 0 top h i j lt (omega arith) in
     let a = place_of rows i r e in
@@ -208,15 +181,12 @@ at_rises rows top i j r p h e f lt =
 pub own_begins : (kept : List ListOperand) (t : Test) (first : ℕ) → Behind kept t.from first → OwnBefore kept t first
 own_begins kept t first h j r e lt over = absurd (let end = h.before j r e lt in let high = over.high in omega arith)
 
-one_there : {X : Type 0} (xs : List X) (k : ℕ) (x y : X) → slice_get xs k ≡ Some x → slice_get xs k ≡ Some y → x ≡ y
-one_there xs k x y e f = let both : Some x ≡ Some y = sym e ∙ f in cc
-
 pub own_more : (kept : List ListOperand) (t : Test) (k : ℕ) (r : ListOperand) → slice_get kept k ≡ Some r → owns_place t r.at ≡ true → OwnBefore kept t k → OwnBefore kept t (k + 1)
 own_more kept t k r e owns h j p f lt over = elim (cases_lt j k) [
   | inl less ↦ h j p f less over
   | inr ge ↦
       let same : j ≡ k = omega arith in
-      let one = one_there kept k r p e (ap (slice_get kept) (sym same) ∙ f) in
+      let one = same_got kept k r p e (ap (slice_get kept) (sym same) ∙ f) in
       subst (λ (w : ListOperand). owns_place t w.at ≡ true) one owns
 ]
 
@@ -234,13 +204,14 @@ foreign_past kept t top k row rows e past h = record {
         | inl lt ↦ h i.0 r i.2 lt over
         | inr ge ↦ absurd (let low = over.low in elim (cases_lt k i.0) [
           | inl less ↦ let up = at_rises kept top k i.0 row r rows e i.2 less in omega arith
-          | inr more ↦ let same : i.0 ≡ k = omega arith in let one = ap (λ (w : ListOperand). w.at) (one_there kept k row r e (ap (slice_get kept) (sym same) ∙ i.2)) in omega arith
+          | inr more ↦ let same : i.0 ≡ k = omega arith in let one = ap (λ (w : ListOperand). w.at) (same_got kept k row r e (ap (slice_get kept) (sym same) ∙ i.2)) in omega arith
         ])
       ]);
   some = tt;
 }
 
-pub foreign_here : (kept : List ListOperand) (t : Test) (top first k : ℕ) (row : ListOperand) → Rows 0 kept top → Behind kept t.from first → first ≤ k → slice_get kept k ≡ Some row → row.at < t.end → owns_place t row.at ≡ false → OwnBefore kept t k → FindsForeign kept t (Some row.at)
+pub foreign_here : (kept : List ListOperand) (t : Test) (top first k : ℕ) (row : ListOperand) → Rows 0 kept top → Behind kept t.from first → first ≤ k → slice_get kept k ≡ Some row → row.at < t.end
+    → owns_place t row.at ≡ false → OwnBefore kept t k → FindsForeign kept t (Some row.at)
 foreign_here kept t top first k row rows behind from e low other h = record {
   none = λ r is before over. (
       let i = in_at kept r is in
@@ -248,7 +219,7 @@ foreign_here kept t top first k row rows behind from e low other h = record {
         | inl lt ↦ h i.0 r i.2 lt over
         | inr ge ↦ absurd (elim (cases_lt k i.0) [
           | inl less ↦ let up = at_rises kept top k i.0 row r rows e i.2 less in omega arith
-          | inr more ↦ let same : i.0 ≡ k = omega arith in let one = ap (λ (w : ListOperand). w.at) (one_there kept k row r e (ap (slice_get kept) (sym same) ∙ i.2)) in omega arith
+          | inr more ↦ let same : i.0 ≡ k = omega arith in let one = ap (λ (w : ListOperand). w.at) (same_got kept k row r e (ap (slice_get kept) (sym same) ∙ i.2)) in omega arith
         ])
       ]);
   some = record { row = row; is_row = at_in kept k row e; at = refl; overlaps = record { low = low; high = behind.after k row e from }; other = other };
@@ -276,10 +247,6 @@ passed_none kept e = record {
 
 -- ---- the same operand
 
-both_true : (a b : Bool) → (a && b) ≡ true → (a ≡ true) × (b ≡ true)
-both_true true b e = (refl, e)
-both_true false b e = absurd (false≢true e)
-
 same_truths : (a b : Bool) → same_truth a b ≡ true → a ≡ b
 same_truths true true e = refl
 same_truths true false e = absurd (false≢true e)
@@ -294,10 +261,10 @@ same_bases FromInfo FromInfo e = refl
 
 pub same_true : (o p : ListOperand) → same_operand o p ≡ true → Same o p
 same_true o p e =
-    let a = both_true (eqb o.unit p.unit) _ e in
-    let b = both_true (eqb o.at p.at) _ a.1 in
-    let d = both_true (eqb o.width p.width) _ b.1 in
-    let f = both_true (same_truth o.uleb p.uleb) (same_base o.base p.base) d.1 in
+    let a = and_true (eqb o.unit p.unit) _ e in
+    let b = and_true (eqb o.at p.at) _ a.1 in
+    let d = and_true (eqb o.width p.width) _ b.1 in
+    let f = and_true (same_truth o.uleb p.uleb) (same_base o.base p.base) d.1 in
     record { unit = eqb-true o.unit p.unit a.0; at = eqb-true o.at p.at b.0; width = eqb-true o.width p.width d.0; uleb = same_truths o.uleb p.uleb f.0; base = same_bases o.base p.base f.1 }
 
 truth_self : (a : Bool) → same_truth a a ≡ true
@@ -308,16 +275,12 @@ base_self : (a : Base) → same_base a a ≡ true
 base_self FromUnit = refl
 base_self FromInfo = refl
 
-all_true : (a b : Bool) → a ≡ true → b ≡ true → (a && b) ≡ true
-all_true true b e f = f
-all_true false b e f = absurd (false≢true e)
-
 same_tells : (o p : ListOperand) → Same o p → same_operand o p ≡ true
 same_tells o p s =
-    all_true (eqb o.unit p.unit) _ (eq-eqb o.unit p.unit s.unit)
-    (all_true (eqb o.at p.at) _ (eq-eqb o.at p.at s.at)
-    (all_true (eqb o.width p.width) _ (eq-eqb o.width p.width s.width)
-    (all_true (same_truth o.uleb p.uleb) _ (subst (λ (b : Bool). same_truth o.uleb b ≡ true) s.uleb (truth_self o.uleb))
+    and_from (eqb o.unit p.unit) _ (eq-eqb o.unit p.unit s.unit)
+    (and_from (eqb o.at p.at) _ (eq-eqb o.at p.at s.at)
+    (and_from (eqb o.width p.width) _ (eq-eqb o.width p.width s.width)
+    (and_from (same_truth o.uleb p.uleb) _ (subst (λ (b : Bool). same_truth o.uleb b ≡ true) s.uleb (truth_self o.uleb))
     (subst (λ (b : Base). same_base o.base b ≡ true) s.base (base_self o.base)))))
 
 pub same_false : (o p : ListOperand) → same_operand o p ≡ false → Same o p → ⊥
@@ -334,8 +297,9 @@ same_self o = record { unit = refl; at = refl; width = refl; uleb = refl; base =
 
 -- ---- one operand more
 
-all_more : (xs kept : List ListOperand) (o : ListOperand) → ((p : ListOperand) → In p xs → OneOf kept (λ r. Same r p)) → OneOf kept (λ r. Same r o) → (p : ListOperand) → In p (xs ++ o ∷ []) → OneOf kept (λ r. Same r p)
-all_more xs kept o h one p is = elim (in_both p xs (o ∷ []) is) [
+all_more : (xs kept : List ListOperand) (o : ListOperand) → ((p : ListOperand) → In p xs → OneOf kept (λ r. Same r p)) → OneOf kept (λ r. Same r o) → (p : ListOperand) → In p (xs ++ o ∷ [])
+    → OneOf kept (λ r. Same r p)
+all_more xs kept o h one p is = elim (in_cases p xs (o ∷ []) is) [
   | inl l ↦ h p l
   | inr r ↦ elim r [ inl e ↦ subst (λ (w : ListOperand). OneOf kept (λ r. Same r w)) e one | inr never ↦ absurd never ]
 ]
@@ -349,10 +313,11 @@ passed_same xs kept (Some p) end o e h = record {
   last_is = h.last_is;
 }
 
-pub passed_one : (xs kept new : List ListOperand) (last : Option ListOperand) (end : ℕ) (o : ListOperand) → new ≡ kept ++ o ∷ [] → end ≤ o.at → 0 < o.width → Passed xs kept last end → Passed (xs ++ o ∷ []) new (Some o) (o.at + o.width)
+pub passed_one : (xs kept new : List ListOperand) (last : Option ListOperand) (end : ℕ) (o : ListOperand) → new ≡ kept ++ o ∷ [] → end ≤ o.at → 0 < o.width → Passed xs kept last end
+    → Passed (xs ++ o ∷ []) new (Some o) (o.at + o.width)
 passed_one xs kept new last end o e le some h = subst (λ (w : List ListOperand). Passed (xs ++ o ∷ []) w (Some o) (o.at + o.width)) (sym e) (record {
   rows = rows_push kept 0 end o h.rows le some;
-  from = λ r is. elim (in_both r kept (o ∷ []) is) [ inl l ↦ in_left r xs (o ∷ []) (h.from r l) | inr k ↦ in_right r xs (o ∷ []) k ];
+  from = λ r is. elim (in_cases r kept (o ∷ []) is) [ inl l ↦ in_left r xs (o ∷ []) (h.from r l) | inr k ↦ in_right r xs (o ∷ []) k ];
   all = all_more xs (kept ++ o ∷ []) o (λ p is. let r = h.all p is in (r.0, in_left r.0 kept (o ∷ []) r.1, r.2)) (o, in_right o kept (o ∷ []) (inl refl), same_self o);
   last_is = (in_right o kept (o ∷ []) (inl refl), refl);
 })
@@ -395,7 +360,7 @@ before_or_at : (xs : List ListOperand) (k : ℕ) (o p : ListOperand) → Rise xs
 before_or_at xs k o p rise e is =
     let i = index_of xs k p is in
     let lt = i.1 in
-    let within = index_within xs k o e in
+    let within = got_below xs k o e in
     let up = rise i.0 k o (omega arith) within in
     let a = get_or_from_slice_get xs k o o e in
     let b = get_or_from_slice_get xs i.0 p o i.2 in
@@ -409,7 +374,8 @@ before_or_at xs k o p rise e is =
       index_of (x ∷ xs) (suc k) p (inl e) = (0, omega arith, ap (λ (w : ListOperand). Some w) e)
       index_of (x ∷ xs) (suc k) p (inr later) = let r = index_of xs k p later in let lt = r.1 in (suc r.0, omega arith, r.2)
 
-pub clash_found : (xs kept : List ListOperand) (last : Option ListOperand) (end k : ℕ) (o : ListOperand) → Rise xs → slice_get xs k ≡ Some o → repeats_last last o ≡ false → o.at < end → Passed (take k xs) kept last end → FindsApart xs kept (Some o.at)
+pub clash_found : (xs kept : List ListOperand) (last : Option ListOperand) (end k : ℕ) (o : ListOperand) → Rise xs → slice_get xs k ≡ Some o → repeats_last last o ≡ false → o.at < end
+    → Passed (take k xs) kept last end → FindsApart xs kept (Some o.at)
 clash_found xs kept None end k o rise e other lt h = absurd (let none = h.last_is in omega arith)
 clash_found xs kept (Some p) end k o rise e other lt h =
     let is = h.from p h.last_is.0 in
@@ -433,18 +399,21 @@ clash_found xs kept (Some p) end k o rise e other lt h =
 
 -- ---- the same, by the index of the loop
 
-pub step_same : (xs kept : List ListOperand) (last : Option ListOperand) (end k : ℕ) (d : ListOperand) → k < length xs → repeats_last last (get_or xs k d) ≡ true → Passed (take k xs) kept last end → Passed (take (k + 1) xs) kept last end
+pub step_same : (xs kept : List ListOperand) (last : Option ListOperand) (end k : ℕ) (d : ListOperand) → k < length xs → repeats_last last (get_or xs k d) ≡ true → Passed (take k xs) kept last end
+    → Passed (take (k + 1) xs) kept last end
 step_same xs kept last end k d lt e h =
-    subst (λ (w : List ListOperand). Passed w kept last end) (sym (take_here xs k (get_or xs k d) (got_at xs k d lt))) (passed_same (take k xs) kept last end (get_or xs k d) e h)
+    subst (λ (w : List ListOperand). Passed w kept last end) (sym (take_here xs k (get_or xs k d) (slice_get-get_or xs k d lt))) (passed_same (take k xs) kept last end (get_or xs k d) e h)
 
-pub step_one : (xs kept new : List ListOperand) (last : Option ListOperand) (end k : ℕ) (d : ListOperand) → k < length xs → new ≡ kept ++ get_or xs k d ∷ [] → end ≤ (get_or xs k d).at → AreWide xs → Passed (take k xs) kept last end → Passed (take (k + 1) xs) new (Some (get_or xs k d)) ((get_or xs k d).at + (get_or xs k d).width)
+pub step_one : (xs kept new : List ListOperand) (last : Option ListOperand) (end k : ℕ) (d : ListOperand) → k < length xs → new ≡ kept ++ get_or xs k d ∷ [] → end ≤ (get_or xs k d).at → AreWide xs
+    → Passed (take k xs) kept last end → Passed (take (k + 1) xs) new (Some (get_or xs k d)) ((get_or xs k d).at + (get_or xs k d).width)
 step_one xs kept new last end k d lt e le wide h =
     let o = get_or xs k d in
-    subst (λ (w : List ListOperand). Passed w new (Some o) (o.at + o.width)) (sym (take_here xs k o (got_at xs k d lt)))
-    (passed_one (take k xs) kept new last end o e le (wide o (at_in xs k o (got_at xs k d lt))) h)
+    subst (λ (w : List ListOperand). Passed w new (Some o) (o.at + o.width)) (sym (take_here xs k o (slice_get-get_or xs k d lt)))
+    (passed_one (take k xs) kept new last end o e le (wide o (at_in xs k o (slice_get-get_or xs k d lt))) h)
 
-pub step_clash : (xs kept : List ListOperand) (last : Option ListOperand) (end k : ℕ) (d : ListOperand) → k < length xs → Rise xs → repeats_last last (get_or xs k d) ≡ false → (get_or xs k d).at < end → Passed (take k xs) kept last end → FindsApart xs kept (Some (get_or xs k d).at)
-step_clash xs kept last end k d lt rise other less h = clash_found xs kept last end k (get_or xs k d) rise (got_at xs k d lt) other less h
+pub step_clash : (xs kept : List ListOperand) (last : Option ListOperand) (end k : ℕ) (d : ListOperand) → k < length xs → Rise xs → repeats_last last (get_or xs k d) ≡ false → (get_or xs k d).at < end
+    → Passed (take k xs) kept last end → FindsApart xs kept (Some (get_or xs k d).at)
+step_clash xs kept last end k d lt rise other less h = clash_found xs kept last end k (get_or xs k d) rise (slice_get-get_or xs k d lt) other less h
 
 -- ---- lists and slots, one after the other
 
@@ -461,9 +430,10 @@ cause_here : (xs kept : List ListOperand) (tests : List Test) (t : Test) (place 
 cause_here xs kept tests t None h = tt
 cause_here xs kept tests t (Some place) h = inr (t, in_right t tests (t ∷ []) (inl refl), h)
 
-pub tested_more : (xs kept : List ListOperand) (clash : Option ℕ) (tests : List Test) (t : Test) (place other least : Option ℕ) → Tested xs kept clash tests place → FindsForeign kept t other → IsLeast place other least → Tested xs kept clash (tests ++ t ∷ []) least
+pub tested_more : (xs kept : List ListOperand) (clash : Option ℕ) (tests : List Test) (t : Test) (place other least : Option ℕ) → Tested xs kept clash tests place → FindsForeign kept t other
+    → IsLesser place other least → Tested xs kept clash (tests ++ t ∷ []) least
 tested_more xs kept clash tests t place other least h f l = record {
-  none = λ s is r there before over. elim (in_both s tests (t ∷ []) is) [
+  none = λ s is r there before over. elim (in_cases s tests (t ∷ []) is) [
     | inl a ↦ h.none s a r there (l.first r.at before) over
     | inr b ↦ elim b [
       | inl e ↦ subst (λ (w : Test). owns_place w r.at ≡ true) e (f.none r there (l.second r.at before) (subst (λ (w : Test). Overlaps r w) (sym e) over))
@@ -478,37 +448,43 @@ tested_more xs kept clash tests t place other least h f l = record {
 }
 
 -- tests that are made of items, so many of them
-pub tested_begin : {X : Type 0} (make : X → Test) (xs kept : List ListOperand) (clash place : Option ℕ) (tests : List Test) (items : List X) → Tested xs kept clash tests place → Tested xs kept clash (tests ++ map make (take 0 items)) place
+pub tested_begin : {X : Type 0} (make : X → Test) (xs kept : List ListOperand) (clash place : Option ℕ) (tests : List Test) (items : List X) → Tested xs kept clash tests place
+    → Tested xs kept clash (tests ++ map make (take 0 items)) place
 tested_begin make xs kept clash place tests items h = subst (λ (w : List Test). Tested xs kept clash w place) (sym (append-nil tests)) h
 
 pub tested_start : {X : Type 0} (make : X → Test) (xs kept : List ListOperand) (clash : Option ℕ) (items : List X) → HasClash xs clash → Tested xs kept clash (map make (take 0 items)) clash
 tested_start make xs kept clash items h = tested_none xs kept clash h
 
-one_more : {X : Type 0} (make : X → Test) (tests : List Test) (items : List X) (k : ℕ) (x : X) → slice_get items k ≡ Some x → tests ++ map make (take (k + 1) items) ≡ (tests ++ map make (take k items)) ++ make x ∷ []
+one_more : {X : Type 0} (make : X → Test) (tests : List Test) (items : List X) (k : ℕ) (x : X) → slice_get items k ≡ Some x
+    → tests ++ map make (take (k + 1) items) ≡ (tests ++ map make (take k items)) ++ make x ∷ []
 one_more make tests items k x e =
     ap (λ (w : List _). tests ++ map make w) (take_here items k x e)
     ∙ ap (λ (w : List Test). tests ++ w) (map-append make (take k items) (x ∷ []))
     ∙ sym (append_assoc tests (map make (take k items)) (make x ∷ []))
 
-pub tested_next : {X : Type 0} (make : X → Test) (xs kept : List ListOperand) (clash : Option ℕ) (tests : List Test) (items : List X) (k : ℕ) (x : X) (place other least : Option ℕ) → slice_get items k ≡ Some x
-    → Tested xs kept clash (tests ++ map make (take k items)) place → FindsForeign kept (make x) other → IsLeast place other least → Tested xs kept clash (tests ++ map make (take (k + 1) items)) least
+pub tested_next : {X : Type 0} (make : X → Test) (xs kept : List ListOperand) (clash : Option ℕ) (tests : List Test) (items : List X) (k : ℕ) (x : X) (place other least : Option ℕ)
+    → slice_get items k ≡ Some x
+    → Tested xs kept clash (tests ++ map make (take k items)) place → FindsForeign kept (make x) other → IsLesser place other least
+    → Tested xs kept clash (tests ++ map make (take (k + 1) items)) least
 tested_next make xs kept clash tests items k x place other least e h f l =
     subst (λ (w : List Test). Tested xs kept clash w least) (sym (one_more make tests items k x e)) (tested_more xs kept clash (tests ++ map make (take k items)) (make x) place other least h f l)
 
-pub tested_end : {X : Type 0} (make : X → Test) (xs kept : List ListOperand) (clash place : Option ℕ) (tests : List Test) (items all : List X) (k : ℕ) → items ≡ all → length items ≤ k → Tested xs kept clash (tests ++ map make (take k items)) place → Tested xs kept clash (tests ++ map make all) place
+pub tested_end : {X : Type 0} (make : X → Test) (xs kept : List ListOperand) (clash place : Option ℕ) (tests : List Test) (items all : List X) (k : ℕ) → items ≡ all → length items ≤ k
+    → Tested xs kept clash (tests ++ map make (take k items)) place → Tested xs kept clash (tests ++ map make all) place
 tested_end make xs kept clash place tests items all k same le h =
     subst (λ (w : List _). Tested xs kept clash (tests ++ map make w) place) (take_all k items le ∙ same) h
 
 -- where nothing was tested before
 pub tested_first : {X : Type 0} (make : X → Test) (xs kept : List ListOperand) (clash : Option ℕ) (items : List X) (k : ℕ) (x : X) (place other least : Option ℕ) → slice_get items k ≡ Some x
-    → Tested xs kept clash (map make (take k items)) place → FindsForeign kept (make x) other → IsLeast place other least → Tested xs kept clash (map make (take (k + 1) items)) least
+    → Tested xs kept clash (map make (take k items)) place → FindsForeign kept (make x) other → IsLesser place other least → Tested xs kept clash (map make (take (k + 1) items)) least
 tested_first make xs kept clash items k x place other least e h f l = tested_next make xs kept clash [] items k x place other least e h f l
 
-pub tested_last : {X : Type 0} (make : X → Test) (xs kept : List ListOperand) (clash place : Option ℕ) (items all : List X) (k : ℕ) → items ≡ all → length items ≤ k → Tested xs kept clash (map make (take k items)) place → Tested xs kept clash (map make all) place
+pub tested_last : {X : Type 0} (make : X → Test) (xs kept : List ListOperand) (clash place : Option ℕ) (items all : List X) (k : ℕ) → items ≡ all → length items ≤ k
+    → Tested xs kept clash (map make (take k items)) place → Tested xs kept clash (map make all) place
 tested_last make xs kept clash place items all k same le h = tested_end make xs kept clash place [] items all k same le h
 
 pub got_in : {X : Type 0} (items all : List X) (k : ℕ) (d : X) → items ≡ all → k < length items → In (get_or items k d) all
-got_in {X} items all k d same lt = subst (λ (w : List X). In (get_or items k d) w) same (at_in items k (get_or items k d) (got_at items k d lt))
+got_in {X} items all k d same lt = subst (λ (w : List X). In (get_or items k d) w) same (at_in items k (get_or items k d) (slice_get-get_or items k d lt))
 
 pub rows_from_none : (rows : List ListOperand) (from to : ℕ) → Rows from rows to → Rows 0 rows to
 rows_from_none rows from to h = rows_lower rows from 0 to (omega arith) h

@@ -44,19 +44,23 @@ file_found : (s : Scope ℕ) (a : RawAttr) (o : Option ℕ) → map_ok (found_in
 file_found s a None = zero_found s a
 file_found s a (Some place) = table_found a (table_at s.around.sources place)
 
-constant_found : (s : Scope ℕ) (a : RawAttr) (o : Option ℕ) → map_ok (found_in []) (if names_file a.pair.name then file_by o s a else Ok (constant_value a)) ≡ map_ok none_found (number_there s.around.sources o a.pair.name a.at (number_of a.raw))
+constant_found : (s : Scope ℕ) (a : RawAttr) (o : Option ℕ) → map_ok (found_in []) (if names_file a.pair.name then file_by o s a else Ok (constant_value a))
+    ≡ map_ok none_found (number_there s.around.sources o a.pair.name a.at (number_of a.raw))
 constant_found s a o = by (names_file a.pair.name) where
   by : (b : Bool) → map_ok (found_in []) (if b then file_by o s a else Ok (constant_value a)) ≡ map_ok none_found (if b then file_there s.around.sources o a.at (number_of a.raw) else Ok tt)
   by true = file_found s a o
   by false = refl
 
-pub constant_goes : {Y : Type 0} (raw : List RawUnit) (s : Scope ℕ) (n : ℕ) (before : List NamedList) (st : State) (files : Files) (a : RawAttr) (line : Option ℕ) (result : Result Y ReadErr) → line ≡ stmt_list s → IsState raw s n before st
-    → SaysConstant s.around.sources line a.pair.name a.at (number_of a.raw) files result → Goes raw (IsState raw s n) before st (record st { files = files }) result (map_ok (found_in []) (if names_file a.pair.name then file_by (stmt_list s) s a else Ok (constant_value a)))
+pub constant_goes : {Y : Type 0} (raw : List RawUnit) (s : Scope ℕ) (n : ℕ) (before : List NamedList) (st : State) (files : Files) (a : RawAttr) (line : Option ℕ) (result : Result Y ReadErr)
+    → line ≡ stmt_list s → IsState raw s n before st
+    → SaysConstant s.around.sources line a.pair.name a.at (number_of a.raw) files result
+    → Goes raw (IsState raw s n) before st (record st { files = files }) result (map_ok (found_in []) (if names_file a.pair.name then file_by (stmt_list s) s a else Ok (constant_value a)))
 constant_goes raw s n before st files a line result is k h =
     subst (λ (r : Result Found Fault). Goes raw (IsState raw s n) before st (record st { files = files }) result r)
     (sym (ap (λ (o : Option ℕ). map_ok (found_in []) (if names_file a.pair.name then file_by o s a else Ok (constant_value a))) (sym is) ∙ constant_found s a line))
     (by result h) where
-      by : {Z : Type 0} → (r : Result Z ReadErr) → SaysConstant s.around.sources line a.pair.name a.at (number_of a.raw) files r → Goes raw (IsState raw s n) before st (record st { files = files }) r (map_ok none_found (number_there s.around.sources line a.pair.name a.at (number_of a.raw)))
+      by : {Z : Type 0} → (r : Result Z ReadErr) → SaysConstant s.around.sources line a.pair.name a.at (number_of a.raw) files r
+          → Goes raw (IsState raw s n) before st (record st { files = files }) r (map_ok none_found (number_there s.around.sources line a.pair.name a.at (number_of a.raw)))
       by (Ok y) g =
           subst (λ (r : Result Found Fault). Goes {Y = Unit {0}} raw (IsState raw s n) before st (record st { files = files }) (Ok tt) r) (sym (ap (map_ok none_found) g.1))
           (added_none raw (IsState raw s n) before st (record st { files = files }) refl (with_files raw s n before st files g.0 k))

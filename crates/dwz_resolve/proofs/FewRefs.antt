@@ -16,10 +16,14 @@ use Rattle.dwz_docs.specs.Trees.{End, Entry, Forest, IfChildren, Position, Spell
 use Rattle.dwz_docs.specs.Units.{RawUnit, SpellsUnit, SpellsUnits, units_at}
 use Rattle.dwz_docs.specs.Values.{Raw, constant_of, SpellsShape, SpellsValue, shape_of}
 use Rattle.dwz_docs.proofs.UnitListLemmas.{units_found}
+use Rattle.dwz_docs.proofs.CaseFacts.{and_left}
 use Rattle.dwz_meanings.specs.Documents.{Kind, Sec, Value, only}
 use Rattle.dwz_meanings.specs.declared.exprs.Operand.{Operand}
 use Rattle.dwz_meanings.specs.Exprs.{most_inside}
-use Rattle.dwz_meanings.specs.Meanings.{Around, Class, ClassRow, IfSo, IsExpression, IsFileBy, IsFileNumber, IsLocList, MeansAs, OfAddress, OfBlock, OfCommonEntry, OfCommonText, OfConstant, OfExpression, OfFlag, OfIndex, OfInfoEntry, OfListIndex, OfOffset, OfSignature, OfText, OfTextBySlot, OfTextInLineStr, OfTextInStr, OfUnitEntry, Scope, Unread, bytes_of, class_in, class_of, class_rows, constant_value, content_at, expr_context, kind_meaning, meaning, names_file, names_list, number_of, offset_of, scope_of, stmt_list, target_of}
+use Rattle.dwz_meanings.specs.Meanings.{Around, Class, ClassRow, IfSo, IsExpression, IsFileBy, IsFileNumber, IsLocList, MeansAs, OfAddress, OfBlock, OfCommonEntry, OfCommonText, OfConstant}
+use Rattle.dwz_meanings.specs.Meanings.{OfExpression, OfFlag, OfIndex, OfInfoEntry, OfListIndex, OfOffset, OfSignature, OfText, OfTextBySlot, OfTextInLineStr, OfTextInStr, OfUnitEntry, Scope, Unread}
+use Rattle.dwz_meanings.specs.Meanings.{bytes_of, class_in, class_of, class_rows, constant_value, content_at, expr_context, kind_meaning, meaning, names_file, names_list, number_of, offset_of}
+use Rattle.dwz_meanings.specs.Meanings.{scope_of, stmt_list, target_of}
 use Rattle.dwz_meanings.specs.NamedLists.{list_of_attr}
 use Rattle.dwz_meanings.specs.Shared.{NamedList}
 use Rattle.dwz_meanings.proofs.CutLemmas.{Lie}
@@ -63,11 +67,16 @@ shape_holds Fixed8 number bytes raw s = let none = ap (λ (r : Raw). length (byt
 shape_holds Fixed16 number bytes raw s = let one = ap (λ (r : Raw). length (bytes_of r)) s.value in let same = ap (λ (w : List ℕ). length w) s.spelled.same in omega arith
 shape_holds Uleb number bytes raw s = let none = ap (λ (r : Raw). length (bytes_of r)) s.value in omega arith
 shape_holds Sleb number bytes raw s = let none = ap (λ (r : Raw). length (bytes_of r)) s.value in omega arith
-shape_holds ZeroEnded number bytes raw s = let one = ap (λ (r : Raw). length (bytes_of r)) s.value in let parts = ap (λ (w : List ℕ). length w) s.spelled.parts in let both = length-append s.content (0 ∷ []) in omega arith
-shape_holds Block1 number bytes raw s = let one = ap (λ (r : Raw). length (bytes_of r)) s.value in let parts = ap (λ (w : List ℕ). length w) s.spelled.parts in let both = length-append s.spelled.front s.content in omega arith
-shape_holds Block2 number bytes raw s = let one = ap (λ (r : Raw). length (bytes_of r)) s.value in let parts = ap (λ (w : List ℕ). length w) s.spelled.parts in let both = length-append s.spelled.front s.content in omega arith
-shape_holds Block4 number bytes raw s = let one = ap (λ (r : Raw). length (bytes_of r)) s.value in let parts = ap (λ (w : List ℕ). length w) s.spelled.parts in let both = length-append s.spelled.front s.content in omega arith
-shape_holds BlockUleb number bytes raw s = let one = ap (λ (r : Raw). length (bytes_of r)) s.value in let parts = ap (λ (w : List ℕ). length w) s.spelled.parts in let both = length-append s.spelled.front s.content in omega arith
+shape_holds ZeroEnded number bytes raw s = let one = ap (λ (r : Raw). length (bytes_of r)) s.value in let parts = ap (λ (w : List ℕ). length w) s.spelled.parts in let both =
+    length-append s.content (0 ∷ []) in omega arith
+shape_holds Block1 number bytes raw s = let one = ap (λ (r : Raw). length (bytes_of r)) s.value in let parts = ap (λ (w : List ℕ). length w) s.spelled.parts in let both =
+    length-append s.spelled.front s.content in omega arith
+shape_holds Block2 number bytes raw s = let one = ap (λ (r : Raw). length (bytes_of r)) s.value in let parts = ap (λ (w : List ℕ). length w) s.spelled.parts in let both =
+    length-append s.spelled.front s.content in omega arith
+shape_holds Block4 number bytes raw s = let one = ap (λ (r : Raw). length (bytes_of r)) s.value in let parts = ap (λ (w : List ℕ). length w) s.spelled.parts in let both =
+    length-append s.spelled.front s.content in omega arith
+shape_holds BlockUleb number bytes raw s = let one = ap (λ (r : Raw). length (bytes_of r)) s.value in let parts = ap (λ (w : List ℕ). length w) s.spelled.parts in let both =
+    length-append s.spelled.front s.content in omega arith
 shape_holds Address number bytes raw s = let none = ap (λ (r : Raw). length (bytes_of r)) s.value in omega arith
 shape_holds _ number bytes raw s = absurd s
 
@@ -86,10 +95,6 @@ all_take : list_all takes_if class_rows ≡ true
 unfolding class_rows form_rows
 all_take = refl
 
-first : (a b : Bool) → (a && b) ≡ true → a ≡ true
-first true b e = refl
-first false b e = e
-
 second : (a b : Bool) → (a && b) ≡ true → b ≡ true
 second true b e = e
 second false b e = absurd (false≢true e)
@@ -105,7 +110,8 @@ class_takes (r ∷ rows) form all one = by (r.form == form) refl (class_takes ro
   by : (b : Bool) → (r.form == form) ≡ b → (names_one (class_in rows form) ≡ true → takes (shape_of form_rows form) ≡ true) → takes (shape_of form_rows form) ≡ true
   by true same later =
       let here : names_one r.class ≡ true = ap (λ (b : Bool). names_one (if b then r.class else class_in rows form)) (sym same) ∙ one in
-      ap (λ (n : ℕ). takes (shape_of form_rows n)) (sym (eqb-true r.form form same)) ∙ must (names_one r.class) (takes (shape_of form_rows r.form)) (first (takes_if r) (list_all takes_if rows) all) here
+      ap (λ (n : ℕ). takes (shape_of form_rows n)) (sym (eqb-true r.form form same)) ∙ must (names_one r.class) (takes (shape_of form_rows r.form)) (and_left (takes_if r) (list_all takes_if rows) all)
+      here
   by false other later = later (ap (λ (b : Bool). names_one (if b then r.class else class_in rows form)) (sym other) ∙ one)
 
 -- ---- a value
@@ -141,7 +147,8 @@ module _ (s : Scope ℕ) (pair : Pair) (a : RawAttr) (start : ℕ) (bytes : List
 
   expr_few : (v : Value ℕ) → IsExpression s a v → length (value_refs v) ≤ length bytes
   expr_few v h =
-      let many = lie_many h.expression.operands (content_at a) (content_at a + length (bytes_of a.raw)) (within_stands (expr_context s 1) (suc most_inside) h.expression (content_at a) (bytes_of a.raw) h.spelled).lie in
+      let many = lie_many h.expression.operands (content_at a) (content_at a + length (bytes_of a.raw))
+      (within_stands (expr_context s 1) (suc most_inside) h.expression (content_at a) (bytes_of a.raw) h.spelled).lie in
       let same = ap (λ (x : Value ℕ). length (value_refs x)) h.value in
       let named = length-map h.expression.operands (λ (o : Operand). s.around.place (target_of s o)) in
       let held = shape_holds (shape_of form_rows a.pair.form) (constant_of a.pair) bytes a.raw spelled in
@@ -215,7 +222,8 @@ attrs_few s (pair ∷ pairs) (a ∷ attrs) start bytes is =
     let len = ap (λ (w : List ℕ). length w) is.parts in
     let parts = length-append is.first_bytes is.second_bytes in
     few_more _ (length is.first_bytes + length is.second_bytes) (length bytes) (omega arith)
-    (few_both (attr_named s a) (collect (attr_named s) attrs) (length is.first_bytes) (length is.second_bytes) (attr_few s pair a start is.first_bytes is.first) (attrs_few s pairs attrs (start + length is.first_bytes) is.second_bytes is.second))
+    (few_both (attr_named s a) (collect (attr_named s) attrs) (length is.first_bytes) (length is.second_bytes) (attr_few s pair a start is.first_bytes is.first)
+    (attrs_few s pairs attrs (start + length is.first_bytes) is.second_bytes is.second))
 
 -- ---- entries and units
 
@@ -229,12 +237,14 @@ module _ (room : ℕ) (s : Scope ℕ) (c : UnitContext) (mode : c.mode ≡ given
       subst (λ (m : Mode). SpellsAttrs (m.forms c.root_tag (p.depth == 1)) is.decl.pairs e.attrs (start + length t.first_bytes) t.second_bytes) mode t.second in
       few_more _ (length t.second_bytes) (length bytes) (omega arith) (attrs_few s is.decl.pairs e.attrs (start + length t.first_bytes) t.second_bytes rows)
 
-  if_few : (flag : Bool) (f : Forest RawEntry) (bytes : List ℕ) (Spelled : Type 0) → IfChildren flag f Spelled bytes → (Spelled → Few (collect (entry_named s) (preorder f)) (length bytes)) → Few (collect (entry_named s) (preorder f)) (length bytes)
+  if_few : (flag : Bool) (f : Forest RawEntry) (bytes : List ℕ) (Spelled : Type 0) → IfChildren flag f Spelled bytes → (Spelled → Few (collect (entry_named s) (preorder f)) (length bytes))
+      → Few (collect (entry_named s) (preorder f)) (length bytes)
   unfolding collect preorder
   if_few true f bytes Spelled is deep = deep is
   if_few false f bytes Spelled is deep = subst (λ (g : Forest RawEntry). Few (collect (entry_named s) (preorder g)) (length bytes)) (sym is.0) (few_none (length bytes))
 
-  entries_few : (f : Forest RawEntry) (p : Position) (start : ℕ) (bytes : List ℕ) → SpellsForest (λ (e : RawEntry). e.children) (SpellsFront c) f p start bytes → Few (collect (entry_named s) (preorder f)) (length bytes)
+  entries_few : (f : Forest RawEntry) (p : Position) (start : ℕ) (bytes : List ℕ) → SpellsForest (λ (e : RawEntry). e.children) (SpellsFront c) f p start bytes
+      → Few (collect (entry_named s) (preorder f)) (length bytes)
   unfolding collect preorder
   entries_few End p start bytes is = few_none (length bytes)
   entries_few (Entry e children next) p start bytes is =
@@ -268,9 +278,11 @@ module _ (abbrevs : List ℕ) (room : ℕ) (around : Around ℕ) where
       let inner = ap (λ (w : List ℕ). length w) t.parts in
       let both = length-append t.first_bytes t.second_bytes in
       let root = entry_few room s c mode (root_position before) u.root (start + length is.header) t.first_bytes t.first in
-      let below = if_few room s c mode u.root.children u.below t.second_bytes _ t.second (λ q. entries_few room s c mode u.below _ (start + length is.header + length t.first_bytes) t.second_bytes q) in
+      let below = if_few room s c mode u.root.children u.below t.second_bytes _ t.second
+      (λ q. entries_few room s c mode u.below _ (start + length is.header + length t.first_bytes) t.second_bytes q) in
       few_more _ (0 + (length t.first_bytes + length t.second_bytes)) (length bytes) (omega arith)
-      (few_both (kind_named s u.kind) _ 0 (length t.first_bytes + length t.second_bytes) (kind_few s (kind_meaning s u.kind)) (few_both (entry_named s u.root) _ (length t.first_bytes) (length t.second_bytes) root below))
+      (few_both (kind_named s u.kind) _ 0 (length t.first_bytes + length t.second_bytes) (kind_few s (kind_meaning s u.kind))
+      (few_both (entry_named s u.root) _ (length t.first_bytes) (length t.second_bytes) root below))
 
   units_few : (raw : List RawUnit) (before start : ℕ) (bytes : List ℕ) → SpellsUnits abbrevs (given room) before raw start bytes → Few (units_named around raw) (length bytes)
   unfolding collect
@@ -279,9 +291,11 @@ module _ (abbrevs : List ℕ) (room : ℕ) (around : Around ℕ) where
       let len = ap (λ (w : List ℕ). length w) is.parts in
       let both = length-append is.first_bytes is.second_bytes in
       few_more _ (length is.first_bytes + length is.second_bytes) (length bytes) (omega arith)
-      (few_both (unit_named around u) _ (length is.first_bytes) (length is.second_bytes) (unit_few u before start is.first_bytes is.first) (units_few raw _ (start + length is.first_bytes) is.second_bytes is.second))
+      (few_both (unit_named around u) _ (length is.first_bytes) (length is.second_bytes) (unit_few u before start is.first_bytes is.first)
+      (units_few raw _ (start + length is.first_bytes) is.second_bytes is.second))
 
-read_few : (abbrevs : List ℕ) (room : ℕ) (around : Around ℕ) (info : List ℕ) (r : Result (List RawUnit) Fault) → units_at abbrevs (given room) 0 (input info 0) ≡ r → Few (units_named around (or_none r)) (length info)
+read_few : (abbrevs : List ℕ) (room : ℕ) (around : Around ℕ) (info : List ℕ) (r : Result (List RawUnit) Fault) → units_at abbrevs (given room) 0 (input info 0) ≡ r
+    → Few (units_named around (or_none r)) (length info)
 unfolding collect
 read_few abbrevs room around info (Err f) e = few_none (length info)
 read_few abbrevs room around info (Ok raw) e = units_few abbrevs room around raw 0 0 info (units_found abbrevs (given room) 0 (input info 0) raw e)

@@ -1,5 +1,6 @@
 -- Line tables that are read once each, and rows in them.
-use Rattle.std.proofs.Common.{◌≡◌, ℕ, zero, suc, ◌<◌, ◌≤◌, ◌^◌, Bool, true, false, cond, List, [], ◌∷◌, ◌++◌, length, Option, Some, None, Result, Ok, Err, pos, negsuc, slice_get, nat_eq, refl, sym, ap, subst, ◌∙◌, inl, inr, arith}
+use Rattle.std.proofs.Common.{◌≡◌, ℕ, zero, suc, ◌<◌, ◌≤◌, ◌^◌, Bool, true, false, cond, List, [], ◌∷◌, ◌++◌, length, Option, Some, None, Result, Ok, Err, pos, negsuc, slice_get, nat_eq, refl, sym}
+use Rattle.std.proofs.Common.{ap, subst, ◌∙◌, inl, inr, arith}
 use Rattle.std.specs.Prelude.{ℤ}
 use Rattle.std.specs.Option.{is_some, option_map}
 use lib.Signed.{lt_z}
@@ -10,27 +11,20 @@ use Rattle.dwz_model.specs.declared.fault.ReadErr.{ReadErr}
 use Rattle.dwz_model.specs.declared.fault.ReadErr.TheVariants.{NoMemory, Refused}
 use Rattle.dwz_bytes.specs.Reading.{◌>>=◌}
 use Rattle.dwz_docs.specs.Faults.{Answers, Fails}
+use Rattle.dwz_docs.proofs.ListFacts.{get_first, get_last}
 use Rattle.dwz_meanings.specs.LineTables.{FileTable, nth_path}
 use Rattle.dwz_meanings.specs.Meanings.{Sources, path_by}
 use Rattle.dwz_resolve.specs.TablePlaces.{number_in}
 use Rattle.dwz_resolve.specs.FileRows.{HasTable, KnowTables, SaysFile, file_there, row_there, table_at, unless_none}
 
-get_front : {X : Type 0} (xs ys : List X) (k : ℕ) (x : X) → slice_get xs k ≡ Some x → slice_get (xs ++ ys) k ≡ Some x
-get_front [] ys k x e = absurd cc
-get_front (y ∷ xs) ys zero x e = e
-get_front (y ∷ xs) ys (suc k) x e = get_front xs ys k x e
-
-get_end : {X : Type 0} (xs : List X) (x : X) → slice_get (xs ++ x ∷ []) (length xs) ≡ Some x
-get_end [] x = refl
-get_end (y ∷ xs) x = get_end xs x
-
 pub has_more : (sources : Sources) (tables new : List FileTable) (t : FileTable) (place number : ℕ) → new ≡ tables ++ t ∷ [] → HasTable sources tables place number → HasTable sources new place number
-has_more sources tables new t place number e h = record { table = h.table; there = ap (λ (w : List FileTable). slice_get w number) e ∙ get_front tables (t ∷ []) number h.table h.there; read = h.read }
+has_more sources tables new t place number e h = record { table = h.table; there = ap (λ (w : List FileTable). slice_get w number) e ∙ get_first tables (t ∷ []) number h.table h.there; read = h.read }
 
-pub has_last : (sources : Sources) (tables new : List FileTable) (t : FileTable) (place number : ℕ) → new ≡ tables ++ t ∷ [] → number ≡ length tables → table_at sources place ≡ Ok t → HasTable sources new place number
-has_last sources tables new t place number e len read = record { table = t; there = (λ i. slice_get (e i) (len i)) ∙ get_end tables t; read = read }
+pub has_last : (sources : Sources) (tables new : List FileTable) (t : FileTable) (place number : ℕ) → new ≡ tables ++ t ∷ [] → number ≡ length tables → table_at sources place ≡ Ok t
+    → HasTable sources new place number
+has_last sources tables new t place number e len read = record { table = t; there = (λ i. slice_get (e i) (len i)) ∙ get_last tables t; read = read }
 
-none_behind : (paths : List (List ℕ)) (n : ℕ) → length paths ≤ n → nth_path paths n ≡ None
+pub none_behind : (paths : List (List ℕ)) (n : ℕ) → length paths ≤ n → nth_path paths n ≡ None
 unfolding nth_path
 none_behind [] n le = refl
 none_behind (p ∷ paths) zero le = absurd (omega arith)
@@ -41,7 +35,8 @@ is_none f None e = refl
 is_none f (Some x) e = absurd cc
 
 -- no table has as many files
-pub past_all : {X : Type 0} (t : FileTable) (z : ℤ) (f : X → List ℕ) (o : Option X) → lt_z (pos 18446744073709551615) z ≡ true → length t.paths < 2 ^ 63 → option_map f o ≡ nth_path t.paths 18446744073709551615 → is_some o ≡ is_some (path_by t z)
+pub past_all : {X : Type 0} (t : FileTable) (z : ℤ) (f : X → List ℕ) (o : Option X) → lt_z (pos 18446744073709551615) z ≡ true → length t.paths < 2 ^ 63
+    → option_map f o ≡ nth_path t.paths 18446744073709551615 → is_some o ≡ is_some (path_by t z)
 past_all t (pos n) f o above few is =
     let lt = ltb-true 18446744073709551615 n above in
     is_none f o (is ∙ none_behind t.paths 18446744073709551615 (omega arith)) ∙ sym (ap (λ (o : Option (List ℕ)). is_some o) (none_behind t.paths n (omega arith)))
@@ -56,7 +51,8 @@ module _ (sources : Sources) where
   pub know_none : (files : Files) → ((place : ℕ) → number_in files.places place ≡ None) → KnowTables sources files
   know_none files none = record { known = λ place number e. absurd (let both : None ≡ Some number = sym (none place) ∙ e in cc) }
 
-  pub know_more : (old new : Files) (t : FileTable) (place number : ℕ) → KnowTables sources old → new.tables.items ≡ old.tables.items ++ t ∷ [] → number ≡ length old.tables.items → table_at sources place ≡ Ok t
+  pub know_more : (old new : Files) (t : FileTable) (place number : ℕ) → KnowTables sources old → new.tables.items ≡ old.tables.items ++ t ∷ [] → number ≡ length old.tables.items
+      → table_at sources place ≡ Ok t
       → ((q : ℕ) → number_in new.places q ≡ cond (nat_eq place q) (Some number) (number_in old.places q)) → KnowTables sources new × HasTable sources new.tables.items place number
   know_more old new t place number h tables len read updates =
       let last : HasTable sources new.tables.items place number = has_last sources old.tables.items new.tables.items t place number tables len read in (
@@ -80,8 +76,10 @@ row_whole : (sources : Sources) (files : Files) (line : Option ℕ) (place table
 row_whole sources files line place table at z there is has row =
     ap (λ (o : Option ℕ). file_there sources o at z) is ∙ ap (λ (r : Result FileTable Fault). r >>= row_there at z) has.read ∙ ap (unless_none at) (sym (row has.table has.there))
 
-pub says_row : (sources : Sources) (files : Files) (line : Option ℕ) (place table at : ℕ) (z : ℤ) (there : Bool) (result : Result (Unit {0}) ReadErr) → line ≡ Some place → KnowTables sources files → HasTable sources files.tables.items place table
-    → ((t : FileTable) → slice_get files.tables.items table ≡ Some t → there ≡ is_some (path_by t z)) → Answers {X = Unit {0}} (λ u. tt) result (unless_none at there) → SaysFile sources line at z files result
+pub says_row : (sources : Sources) (files : Files) (line : Option ℕ) (place table at : ℕ) (z : ℤ) (there : Bool) (result : Result (Unit {0}) ReadErr) → line ≡ Some place → KnowTables sources files
+    → HasTable sources files.tables.items place table
+    → ((t : FileTable) → slice_get files.tables.items table ≡ Some t → there ≡ is_some (path_by t z)) → Answers {X = Unit {0}} (λ u. tt) result (unless_none at there)
+    → SaysFile sources line at z files result
 says_row sources files line place table at z there (Ok y) is know has row h = (know, row_whole sources files line place table at z there is has row ∙ h)
 says_row sources files line place table at z there (Err NoMemory) is know has row h = tt
 says_row sources files line place table at z there (Err (Refused f)) is know has row h = row_whole sources files line place table at z there is has row ∙ h

@@ -25,3 +25,4 @@ pub mod PartSteps
 pub mod LineSteps
 pub mod FewRefs
 mod SharedRows
+pub mod PlainBeside

@@ -1,14 +1,15 @@
 -- Which line tables are known, value by value, entry by entry and unit by unit.
-use Rattle.std.proofs.Common.{◌≡◌, ℕ, ◌+◌, ◌≤◌, ◌||◌, ◌⊎◌, zero, suc, Bool, true, false, cond, List, [], ◌∷◌, ◌++◌, length, take, Option, Some, None, Result, Ok, Err, slice_get, nat_eq, refl, sym, ap, subst, ◌∙◌, inl, inr, arith}
+use Rattle.std.proofs.Common.{◌≡◌, ℕ, ◌+◌, ◌≤◌, ◌||◌, ◌⊎◌, zero, suc, Bool, true, false, cond, List, [], ◌∷◌, ◌++◌, length, take, Option, Some, None, Result, Ok, Err, slice_get, nat_eq, refl, sym, ap}
+use Rattle.std.proofs.Common.{subst, ◌∙◌, inl, inr, arith}
 use Rattle.std.specs.List.{list_any}
-use Rattle.std.proofs.Math.Bool.{or-false, or-true}
+use Rattle.std.proofs.Math.Bool.{or-false}
 use Rattle.std.proofs.lemmas.Bool.{cases_Bool, cond-false, cond-true, eq-eqb, eqb-true, false≢true}
 use Rattle.std.proofs.lemmas.List.{length-append, take_all}
 use Rattle.std.proofs.lemmas.List.Folds.{list_any-append}
 use Rattle.dwz_model.specs.declared.fault.ReadErr.{ReadErr}
 use Rattle.dwz_docs.specs.Entries.{RawEntry}
-use Rattle.dwz_docs.specs.Lists.{In}
 use Rattle.dwz_docs.specs.Units.{RawUnit}
+use Rattle.dwz_docs.proofs.ListFacts.{any_in}
 use Rattle.dwz_meanings.specs.Meanings.{Around, scope_of, stmt_list}
 use Rattle.dwz_resolve.specs.declared.files.Files.{Files}
 use Rattle.dwz_resolve.specs.TablePlaces.{number_in}
@@ -22,7 +23,8 @@ use Rattle.dwz_resolve.proofs.RowLemmas.{take_here}
 pub learns_none : (line : Option ℕ) (files : Files) → Learns false line files files
 learns_none line files = record { still = λ place number e. e; known = λ numbers none. absurd (false≢true numbers) }
 
-still_none : (line : Option ℕ) (old new : Files) → ((place number : ℕ) → number_in old.places place ≡ Some number → number_in new.places place ≡ Some number) → number_at new line ≡ None → number_at old line ≡ None
+still_none : (line : Option ℕ) (old new : Files) → ((place number : ℕ) → number_in old.places place ≡ Some number → number_in new.places place ≡ Some number) → number_at new line ≡ None
+    → number_at old line ≡ None
 still_none None old new still none = refl
 still_none (Some place) old new still none = by (number_in old.places place) refl where
   by : (o : Option ℕ) → number_in old.places place ≡ o → number_in old.places place ≡ None
@@ -30,7 +32,8 @@ still_none (Some place) old new still none = by (number_in old.places place) ref
   by (Some number) e = absurd (let both : None ≡ Some number = sym none ∙ still place number e in cc)
 
 pub learns_both : (a b : Bool) (line : Option ℕ) (old mid new : Files) → Learns a line old mid → Learns b line mid new → Learns (a || b) line old new
-learns_both true b line old mid new h k = record { still = λ place number e. k.still place number (h.still place number e); known = λ numbers none. h.known refl (still_none line mid new k.still none) }
+learns_both true b line old mid new h k =
+    record { still = λ place number e. k.still place number (h.still place number e); known = λ numbers none. h.known refl (still_none line mid new k.still none) }
 learns_both false b line old mid new h k = record { still = λ place number e. k.still place number (h.still place number e); known = k.known }
 
 pub learns_if : {Y : Type 0} (b : Bool) (line : Option ℕ) (old new : Files) (result : Result Y ReadErr) → Learns b line old new → IfLearns b line old new result
@@ -43,7 +46,8 @@ learns_same b line old new result none same =
     subst (λ (c : Bool). IfLearns c line old new result) (sym none) (learns_if false line old new result (subst (λ (f : Files). Learns false line old f) (sym same) (learns_none line old)))
 
 -- the number of one table more is kept
-pub learns_more : (old new : Files) (place number : ℕ) → number_in old.places place ≡ None → ((q : ℕ) → number_in new.places q ≡ cond (nat_eq place q) (Some number) (number_in old.places q)) → Learns true (Some place) old new
+pub learns_more : (old new : Files) (place number : ℕ) → number_in old.places place ≡ None → ((q : ℕ) → number_in new.places q ≡ cond (nat_eq place q) (Some number) (number_in old.places q))
+    → Learns true (Some place) old new
 learns_more old new place number none updates = record {
   still = λ q n e. elim (cases_Bool (nat_eq place q)) [
     | inl same ↦
@@ -59,16 +63,13 @@ learns_more old new place number none updates = record {
 pub any_more : {X : Type 0} (p : X → Bool) (xs : List X) (k : ℕ) (x : X) → slice_get xs k ≡ Some x → list_any p (take (k + 1) xs) ≡ (list_any p (take k xs) || p x)
 any_more p xs k x is = ap (list_any p) (take_here xs k x is) ∙ list_any-append p (take k xs) (x ∷ []) ∙ ap (λ (b : Bool). list_any p (take k xs) || b) (or-false (p x))
 
-any_in : {X : Type 0} (p : X → Bool) (xs : List X) (x : X) → In x xs → p x ≡ true → list_any p xs ≡ true
-any_in p [] x is holds = absurd is
-any_in p (y ∷ xs) x (inl same) holds = ap (λ (b : Bool). b || list_any p xs) (ap p same ∙ holds)
-any_in p (y ∷ xs) x (inr later) holds = ap (λ (b : Bool). p y || b) (any_in p xs x later holds) ∙ or-true (p y)
-
 -- the next of them, and the last
-pub learns_next : {X : Type 0} (p : X → Bool) (xs : List X) (k : ℕ) (x : X) (line : Option ℕ) (old mid new : Files) → slice_get xs k ≡ Some x → Learns (list_any p (take k xs)) line old mid → Learns (p x) line mid new → Learns (list_any p (take (k + 1) xs)) line old new
+pub learns_next : {X : Type 0} (p : X → Bool) (xs : List X) (k : ℕ) (x : X) (line : Option ℕ) (old mid new : Files) → slice_get xs k ≡ Some x → Learns (list_any p (take k xs)) line old mid
+    → Learns (p x) line mid new → Learns (list_any p (take (k + 1) xs)) line old new
 learns_next p xs k x line old mid new is h next = subst (λ (b : Bool). Learns b line old new) (sym (any_more p xs k x is)) (learns_both (list_any p (take k xs)) (p x) line old mid new h next)
 
-pub learns_all : {X : Type 0} (p : X → Bool) (xs : List X) (k : ℕ) (line : Option ℕ) (old new : Files) → length xs ≤ k → Learns (list_any p (take k xs)) line old new → Learns (list_any p xs) line old new
+pub learns_all : {X : Type 0} (p : X → Bool) (xs : List X) (k : ℕ) (line : Option ℕ) (old new : Files) → length xs ≤ k → Learns (list_any p (take k xs)) line old new
+    → Learns (list_any p xs) line old new
 learns_all p xs k line old new le h = subst (λ (ys : List _). Learns (list_any p ys) line old new) (take_all k xs le) h
 
 abbrev pub entry_numbers : RawEntry → Bool
@@ -83,7 +84,8 @@ module _ (around : Around ℕ) (u : RawUnit) where
     by (Some number) is = is
     by None is = λ e a in_unit in_entry numbers. h.known (any_in entry_numbers (entries_of u) e in_unit (any_in numbers_file e.attrs a in_entry numbers)) is
 
-  still_knows : (old new : Files) (number : Option ℕ) → ((place n : ℕ) → number_in old.places place ≡ Some n → number_in new.places place ≡ Some n) → KnowsLine around old u number → KnowsLine around new u number
+  still_knows : (old new : Files) (number : Option ℕ) → ((place n : ℕ) → number_in old.places place ≡ Some n → number_in new.places place ≡ Some n) → KnowsLine around old u number
+      → KnowsLine around new u number
   still_knows old new None still h = h
   still_knows old new (Some number) still h = by (stmt_list (scope_of around u)) refl where
     by : (o : Option ℕ) → stmt_list (scope_of around u) ≡ o → number_at new (stmt_list (scope_of around u)) ≡ Some number
@@ -112,7 +114,8 @@ module _ (around : Around ℕ) (raw : List RawUnit) where
     | inr last ↦ inr (ap (λ (k : ℕ). suc k) last.0, last.1)
   ]
 
-  pub one_line_more : (n : ℕ) (u : RawUnit) (old new : Files) (lines : List (Option ℕ)) → slice_get raw n ≡ Some u → Learns (list_any entry_numbers (entries_of u)) (stmt_list (scope_of around u)) old new → KnowLines around raw n old lines
+  pub one_line_more : (n : ℕ) (u : RawUnit) (old new : Files) (lines : List (Option ℕ)) → slice_get raw n ≡ Some u
+      → Learns (list_any entry_numbers (entries_of u)) (stmt_list (scope_of around u)) old new → KnowLines around raw n old lines
       → KnowLines around raw (n + 1) new (lines ++ number_at new (stmt_list (scope_of around u)) ∷ [])
   one_line_more n u old new lines is h k = record {
     many = omega (arith, length-append lines (number_at new (stmt_list (scope_of around u)) ∷ []), k.many);

@@ -6,12 +6,14 @@ use Rattle.dwz_model.specs.declared.fault.Fault.{Fault}
 use Rattle.dwz_bytes.specs.Reading.{◌>>=◌}
 use Rattle.dwz_meanings.specs.Documents.{Attr, DwUnit, Entries, Kind, Node, Value}
 use Rattle.dwz_docs.specs.Entries.{RawAttr, RawEntry}
-use Rattle.dwz_meanings.specs.Meanings.{Around, Scope, attrs_meaning, entries_meaning, kind_meaning, meaning, node_meaning, node_with, scope_of, unit_meaning, unit_with, units_meaning, with_attr, with_next, with_units, without_siblings}
+use Rattle.dwz_meanings.specs.Meanings.{Around, Scope, attrs_meaning, entries_meaning, kind_meaning, meaning, node_meaning, node_with, scope_of, unit_meaning, unit_with, units_meaning, with_attr}
+use Rattle.dwz_meanings.specs.Meanings.{with_next, with_units, without_siblings}
 use Rattle.dwz_meanings.specs.NamedLists.{list_of_attr, lists_of_attrs, lists_of_entries, lists_of_unit, lists_of_units}
 use Rattle.dwz_meanings.specs.Shared.{NamedList}
 use Rattle.dwz_docs.specs.Trees.{End, Entry, Forest}
 use Rattle.dwz_docs.specs.Units.{RawUnit}
-use Rattle.dwz_resolve.specs.Named.{Found, attr_named, attrs_refs, collect, entries_refs, entry_named, found, found_in, joined, kind_named, map_ok, nothing_found, preorder, unit_named, unit_refs, units_named, units_refs}
+use Rattle.dwz_resolve.specs.Named.{Found, attr_named, attrs_refs, collect, entries_refs, entry_named, found, found_in, joined, kind_named, map_ok, nothing_found, preorder, unit_named, unit_refs}
+use Rattle.dwz_resolve.specs.Named.{units_named, units_refs}
 
 joined_assoc : (a b c : Result Found Fault) → joined (joined a b) c ≡ joined a (joined b c)
 joined_assoc (Err e) b c = refl
@@ -33,14 +35,17 @@ collect_append f (x ∷ xs) ys = ap (joined (f x)) (collect_append f xs ys) ∙ 
 abbrev attrs_found : List NamedList → List (Attr ℕ) → Found
 attrs_found lists attrs = found (attrs_refs attrs) lists
 
-attr_step : (a : RawAttr) (here rest : List NamedList) (r : Result (Value ℕ) Fault) (q : Result (List (Attr ℕ)) Fault) → joined (map_ok (found_in here) r) (map_ok (attrs_found rest) q) ≡ map_ok (attrs_found (here ++ rest)) (r >>= λ v. q >>= with_attr a v)
+attr_step : (a : RawAttr) (here rest : List NamedList) (r : Result (Value ℕ) Fault) (q : Result (List (Attr ℕ)) Fault) → joined (map_ok (found_in here) r) (map_ok (attrs_found rest) q)
+    ≡ map_ok (attrs_found (here ++ rest)) (r >>= λ v. q >>= with_attr a v)
 attr_step a here rest (Err e) q = refl
 attr_step a here rest (Ok v) (Err e) = refl
 attr_step a here rest (Ok v) (Ok attrs) = refl
 
-attrs_choice : (s : Scope ℕ) (a : RawAttr) (attrs : List RawAttr) (b : Bool) → collect (attr_named s) attrs ≡ map_ok (attrs_found (lists_of_attrs s (without_siblings attrs))) (attrs_meaning s (without_siblings attrs))
+attrs_choice : (s : Scope ℕ) (a : RawAttr) (attrs : List RawAttr) (b : Bool)
+    → collect (attr_named s) attrs ≡ map_ok (attrs_found (lists_of_attrs s (without_siblings attrs))) (attrs_meaning s (without_siblings attrs))
     → joined (if b then Ok nothing_found else map_ok (found_in (list_of_attr s a)) (meaning s a)) (collect (attr_named s) attrs)
-    ≡ map_ok (attrs_found (lists_of_attrs s (if b then without_siblings attrs else (a ∷ without_siblings attrs)))) (attrs_meaning s (if b then without_siblings attrs else (a ∷ without_siblings attrs)))
+    ≡ map_ok (attrs_found (lists_of_attrs s (if b then without_siblings attrs else (a ∷ without_siblings attrs))))
+    (attrs_meaning s (if b then without_siblings attrs else (a ∷ without_siblings attrs)))
 unfolding attrs_meaning lists_of_attrs
 attrs_choice s a attrs true e = none_joined (collect (attr_named s) attrs) ∙ e
 attrs_choice s a attrs false e =
@@ -70,7 +75,8 @@ node_same s e = attrs_same s e.attrs ∙ node_step s e (node_lists s e) (attrs_m
 abbrev entries_found : List NamedList → Entries ℕ → Found
 entries_found lists f = found (entries_refs f) lists
 
-entry_step : (a b c : List NamedList) (r : Result (Node ℕ) Fault) (p q : Result (Entries ℕ) Fault) → joined (map_ok (node_found a) r) (joined (map_ok (entries_found b) p) (map_ok (entries_found c) q)) ≡ map_ok (entries_found (a ++ (b ++ c))) (r >>= λ d. p >>= λ below. q >>= with_next d below)
+entry_step : (a b c : List NamedList) (r : Result (Node ℕ) Fault) (p q : Result (Entries ℕ) Fault) → joined (map_ok (node_found a) r) (joined (map_ok (entries_found b) p) (map_ok (entries_found c) q))
+    ≡ map_ok (entries_found (a ++ (b ++ c))) (r >>= λ d. p >>= λ below. q >>= with_next d below)
 unfolding entries_refs
 entry_step a b c (Err e) p q = refl
 entry_step a b c (Ok d) (Err e) q = refl
@@ -82,7 +88,8 @@ unfolding collect preorder entries_meaning entries_refs lists_of_entries
 entries_same s End = refl
 entries_same s (Entry e c n) =
     ap (joined (entry_named s e)) (collect_append (entry_named s) (preorder c) (preorder n) ∙ (λ i. joined (entries_same s c i) (entries_same s n i)))
-    ∙ ap (λ (w : Result Found Fault). joined w (joined (map_ok (entries_found (lists_of_entries s c)) (entries_meaning s c)) (map_ok (entries_found (lists_of_entries s n)) (entries_meaning s n)))) (node_same s e)
+    ∙ ap (λ (w : Result Found Fault). joined w (joined (map_ok (entries_found (lists_of_entries s c)) (entries_meaning s c)) (map_ok (entries_found (lists_of_entries s n)) (entries_meaning s n))))
+    (node_same s e)
     ∙ entry_step (node_lists s e) (lists_of_entries s c) (lists_of_entries s n) (node_meaning s e) (entries_meaning s c) (entries_meaning s n)
 
 -- ---- units
@@ -91,7 +98,8 @@ abbrev unit_found : List NamedList → DwUnit ℕ → Found
 unit_found lists u = found (unit_refs u) lists
 
 unit_step : (around : Around ℕ) (u : RawUnit) (a b : List NamedList) (k : Result (Kind ℕ) Fault) (r : Result (Node ℕ) Fault) (p : Result (Entries ℕ) Fault)
-    → joined (map_ok (λ k. nothing_found) k) (joined (map_ok (node_found a) r) (map_ok (entries_found b) p)) ≡ map_ok (unit_found (a ++ b)) (k >>= λ kind. r >>= λ root. p >>= unit_with around u kind root)
+    → joined (map_ok (λ k. nothing_found) k) (joined (map_ok (node_found a) r) (map_ok (entries_found b) p))
+    ≡ map_ok (unit_found (a ++ b)) (k >>= λ kind. r >>= λ root. p >>= unit_with around u kind root)
 unit_step around u a b (Err e) r p = refl
 unit_step around u a b (Ok k) (Err e) p = refl
 unit_step around u a b (Ok k) (Ok r) (Err e) = refl
@@ -107,7 +115,8 @@ unit_same around u =
 abbrev pub units_found : List NamedList → List (DwUnit ℕ) → Found
 units_found lists units = found (units_refs units) lists
 
-units_step : (a b : List NamedList) (r : Result (DwUnit ℕ) Fault) (q : Result (List (DwUnit ℕ)) Fault) → joined (map_ok (unit_found a) r) (map_ok (units_found b) q) ≡ map_ok (units_found (a ++ b)) (r >>= λ v. q >>= with_units v)
+units_step : (a b : List NamedList) (r : Result (DwUnit ℕ) Fault) (q : Result (List (DwUnit ℕ)) Fault) → joined (map_ok (unit_found a) r) (map_ok (units_found b) q)
+    ≡ map_ok (units_found (a ++ b)) (r >>= λ v. q >>= with_units v)
 units_step a b (Err e) q = refl
 units_step a b (Ok v) (Err e) = refl
 units_step a b (Ok v) (Ok units) = refl

@@ -10,11 +10,13 @@ use Rattle.dwz_docs.specs.Faults.{Fails}
 use Rattle.dwz_meanings.specs.Meanings.{entry_among, has}
 use Rattle.dwz_meanings.specs.Shared.{NamedList}
 use Rattle.dwz_docs.specs.Units.{RawUnit, entries_in}
+use Rattle.dwz_docs.proofs.ListFacts.{drop_here}
 use Rattle.dwz_resolve.specs.declared.state.State.{State}
 use Rattle.dwz_resolve.specs.Named.{Found, collect, found, found_in, joined, map_ok, nothing_found}
-use Rattle.dwz_resolve.specs.Resolved.{Adds, Each, Goes, NamesEntry, place_at}
+use Rattle.dwz_resolve.specs.Resolved.{Adds, Goes, NamesEntry, place_at}
+use Rattle.dwz_docs.specs.Lists.{Each}
 use Rattle.dwz_resolve.proofs.NamedLemmas.{collect_append, none_joined}
-use Rattle.dwz_resolve.proofs.RowLemmas.{drop_here, take_here}
+use Rattle.dwz_resolve.proofs.RowLemmas.{take_here}
 
 pub each_append : {X : Type 0} (P : X → Type 0) (xs ys : List X) → Each P xs → Each P ys → Each P (xs ++ ys)
 each_append P [] ys h k = k
@@ -25,7 +27,8 @@ unfolding has
 among_is own at p true e = ap (λ (b : Bool). if b then Ok (ref p) else entry_among (λ n. n) [] at p) e
 among_is own at p false e = ap (λ (b : Bool). if b then Ok (ref p) else entry_among (λ n. n) [] at p) e
 
-pub entry_added : (raw : List RawUnit) (old new own : List ℕ) (at p i : ℕ) → new ≡ old ++ i ∷ [] → has p own ≡ true → place_at raw i ≡ p → i < entries_in raw → NamesEntry {Y = Unit {0}} raw old new (Ok tt) (entry_among (λ n. n) own at p)
+pub entry_added : (raw : List RawUnit) (old new own : List ℕ) (at p i : ℕ) → new ≡ old ++ i ∷ [] → has p own ≡ true → place_at raw i ≡ p → i < entries_in raw
+    → NamesEntry {Y = Unit {0}} raw old new (Ok tt) (entry_among (λ n. n) own at p)
 entry_added raw old new own at p i e there is low = (i, e, low, among_is own at p true there ∙ ap (λ (q : ℕ). Ok (ref q)) (sym is))
 
 pub entry_missed : (own : List ℕ) (at p : ℕ) (e : ReadErr) → has p own ≡ false → Fails e (entry_among (λ n. n) [] at p) → Fails e (entry_among (λ n. n) own at p)
@@ -52,7 +55,8 @@ module _ (raw : List RawUnit) where
   }
 
   -- the entry of a reference
-  pub added_entry : (K : Known) (before : List NamedList) (old new : State) (r : Result (Value ℕ) Fault) → NamesEntry {Y = Unit {0}} raw old.refs.items new.refs.items (Ok tt) r → K before new → Added K before old new (map_ok (found_in []) r)
+  pub added_entry : (K : Known) (before : List NamedList) (old new : State) (r : Result (Value ℕ) Fault) → NamesEntry {Y = Unit {0}} raw old.refs.items new.refs.items (Ok tt) r → K before new
+      → Added K before old new (map_ok (found_in []) r)
   added_entry K before old new r h k = record {
     more = h.0 ∷ [];
     lists = [];
@@ -63,7 +67,8 @@ module _ (raw : List RawUnit) where
   }
 
   -- what is named by one, and then by another
-  pub added_both : (K L : Known) (before : List NamedList) (old mid new : State) (r q : Result Found Fault) → Added K before old mid r → ((lists : List NamedList) → K lists mid → Added L lists mid new q) → Added L before old new (joined r q)
+  pub added_both : (K L : Known) (before : List NamedList) (old mid new : State) (r q : Result Found Fault) → Added K before old mid r
+      → ((lists : List NamedList) → K lists mid → Added L lists mid new q) → Added L before old new (joined r q)
   added_both K L before old mid new r q h next =
       let j = next (before ++ h.lists) h.keeps in record {
         more = h.more ++ j.more;
@@ -75,12 +80,14 @@ module _ (raw : List RawUnit) where
       }
 
   -- what is known behind it
-  pub added_known : (K L : Known) (before : List NamedList) (old new : State) (r : Result Found Fault) → Added K before old new r → ((lists : List NamedList) → K lists new → L lists new) → Added L before old new r
+  pub added_known : (K L : Known) (before : List NamedList) (old new : State) (r : Result Found Fault) → Added K before old new r → ((lists : List NamedList) → K lists new → L lists new)
+      → Added L before old new r
   added_known K L before old new r h next = record { more = h.more; lists = h.lists; refs = h.refs; is = h.is; within = h.within; keeps = next (before ++ h.lists) h.keeps }
 
   -- ---- one item after the other
 
-  pub adds_none : {X : Type 0} (K : Known) (f : X → Result Found Fault) (xs : List X) (before : List NamedList) (old new : State) → new.refs.items ≡ old.refs.items → K before new → Added K before old new (collect f (take 0 xs))
+  pub adds_none : {X : Type 0} (K : Known) (f : X → Result Found Fault) (xs : List X) (before : List NamedList) (old new : State) → new.refs.items ≡ old.refs.items → K before new
+      → Added K before old new (collect f (take 0 xs))
   unfolding collect
   adds_none K f xs before old new same k = added_none K before old new same k
 
@@ -113,7 +120,8 @@ module _ (raw : List RawUnit) where
       subst (λ (r : Result Found Fault). Fails e r) (sym whole)
       (failed_on e (found (map (place_at raw) h.more) h.lists) (collect f (take k xs)) (f x) h.is (bad (before ++ h.lists) h.keeps) (collect f (drop (k + 1) xs)))
 
-  pub adds_all : {X : Type 0} (K : Known) (f : X → Result Found Fault) (xs : List X) (k : ℕ) (before : List NamedList) (old new : State) → length xs ≤ k → Added K before old new (collect f (take k xs)) → Added K before old new (collect f xs)
+  pub adds_all : {X : Type 0} (K : Known) (f : X → Result Found Fault) (xs : List X) (k : ℕ) (before : List NamedList) (old new : State) → length xs ≤ k
+      → Added K before old new (collect f (take k xs)) → Added K before old new (collect f xs)
   adds_all K f xs k before old new l h = subst (λ (ys : List _). Added K before old new (collect f ys)) (take_all k xs l) h
 
   -- ---- behind what names nothing
@@ -128,7 +136,8 @@ pub fails_first : (e : ReadErr) (r q : Result Found Fault) → Fails e r → Fai
 fails_first NoMemory r q h = tt
 fails_first (Refused f) r q h = ap (λ (w : Result Found Fault). joined w q) h
 
-pub entry_goes : {Y : Type 0} (raw : List RawUnit) (K : List NamedList → State → Type 0) (before : List NamedList) (old new : State) (result : Result Y ReadErr) (r : Result (Value ℕ) Fault) → NamesEntry raw old.refs.items new.refs.items result r → K before new → Goes raw K before old new result (map_ok (found_in []) r)
+pub entry_goes : {Y : Type 0} (raw : List RawUnit) (K : List NamedList → State → Type 0) (before : List NamedList) (old new : State) (result : Result Y ReadErr) (r : Result (Value ℕ) Fault)
+    → NamesEntry raw old.refs.items new.refs.items result r → K before new → Goes raw K before old new result (map_ok (found_in []) r)
 entry_goes raw K before old new (Ok y) r h k = added_entry raw K before old new r h k
 entry_goes raw K before old new (Err NoMemory) r h k = tt
 entry_goes raw K before old new (Err (Refused f)) r h k = ap (λ (w : Result (Value ℕ) Fault). map_ok (found_in []) w) h

@@ -1,5 +1,6 @@
 -- The places of entries that are read rise with their numbers.
-use Rattle.std.proofs.Common.{◌≡◌, ℕ, zero, suc, ◌+◌, ◌-◌, ◌<◌, ◌≤◌, Bool, true, false, List, [], ◌∷◌, ◌++◌, length, map, get_or, take, drop, Some, Result, Ok, Err, slice_get, refl, sym, ap, subst, ◌∙◌, arith}
+use Rattle.std.proofs.Common.{◌≡◌, ℕ, zero, suc, ◌+◌, ◌-◌, ◌<◌, ◌≤◌, Bool, true, false, List, [], ◌∷◌, ◌++◌, length, map, get_or, take, drop, Some, Result, Ok, Err, slice_get, refl, sym, ap, subst}
+use Rattle.std.proofs.Common.{◌∙◌, arith}
 use Rattle.std.specs.Prelude.{slice_range}
 use Rattle.std.specs.Option.{option_map}
 use Rattle.std.proofs.lemmas.Option.{get_or_from_slice_get, slice_get-map}
@@ -55,7 +56,8 @@ abbrev parent : RawEntry → Bool
 parent e = e.children
 
 module _ (c : UnitContext) where
-  if_ascend : (flag : Bool) (f : Forest RawEntry) (at : ℕ) (bytes : List ℕ) (Spelled : Type 0) → IfChildren flag f Spelled bytes → (Spelled → Ascend at (places_in f) (at + length bytes)) → Ascend at (places_in f) (at + length bytes)
+  if_ascend : (flag : Bool) (f : Forest RawEntry) (at : ℕ) (bytes : List ℕ) (Spelled : Type 0) → IfChildren flag f Spelled bytes → (Spelled → Ascend at (places_in f) (at + length bytes))
+      → Ascend at (places_in f) (at + length bytes)
   unfolding places_in
   if_ascend true f at bytes Spelled is deep = deep is
   if_ascend false f at bytes Spelled is deep = subst (λ (g : Forest RawEntry). Ascend at (places_in g) (at + length bytes)) (sym is.0) (omega arith)
@@ -103,8 +105,14 @@ module _ (abbrevs : List ℕ) (mode : Mode) where
       = omega (arith, ap length is.parts, length-append head (is.tree ++ is.padding), length-append is.tree is.padding, ap length t.parts, length-append front inner) in
       let below = if_ascend c u.root.children u.below (start + length head + length front) inner _ t.second (λ q. entries_ascend c u.below _ (start + length head + length front) inner q) in
       let whole = ascend_higher (places_in u.below) (start + length head + length front) (start + length head + length front + length inner) (start + length bytes) (omega (arith, len)) below in
-      let root : u.root.at ≡ start + length head = first.place in
-      (omega (arith, at), (omega (arith, root, header, size, at), ascend_lower (places_in u.below) (start + length head + length front) (start + length bytes) (u.root.at + 1) (omega (arith, root, some)) whole))
+      let root : u.root.at ≡ start + length head = first.place in (
+        omega (arith, at),
+        (
+          omega (arith, root, header, size, at),
+          ascend_lower (places_in u.below) (start + length head + length front) (start + length bytes) (u.root.at + 1)
+              (omega (arith, root, some)) whole,
+        ),
+      )
 
   pub units_and_entries_ascend : (raw : List RawUnit) (before start : ℕ) (bytes : List ℕ) → SpellsUnits abbrevs mode before raw start bytes → Ascend start (unit_and_entries raw) (start + length bytes)
   unfolding unit_and_entries
@@ -115,7 +123,8 @@ module _ (abbrevs : List ℕ) (mode : Mode) where
       let len : start + length a + length b ≡ start + length bytes = omega (arith, ap length is.parts, length-append a b) in
       let one = unit_ascends u before start a is.first in
       let rest = units_and_entries_ascend raw _ (start + length a) b is.second in
-      subst (λ (k : ℕ). Ascend start ((u.at ∷ places_of u) ++ unit_and_entries raw) k) len (ascend_append (u.at ∷ places_of u) (unit_and_entries raw) start (start + length a) (start + length a + length b) one rest)
+      subst (λ (k : ℕ). Ascend start ((u.at ∷ places_of u) ++ unit_and_entries raw) k) len
+      (ascend_append (u.at ∷ places_of u) (unit_and_entries raw) start (start + length a) (start + length a + length b) one rest)
 
   units_ascend : (raw : List RawUnit) (before start : ℕ) (bytes : List ℕ) → SpellsUnits abbrevs mode before raw start bytes → Ascend start (all_places raw) (start + length bytes)
   unfolding all_places
@@ -168,7 +177,8 @@ pub places_rise : (s : Source) → Rise (places (units_of s))
 unfolding units_of
 places_rise s i j l m =
     let raw = units_of s in
-    let up : Ascend 0 (places raw) (length s.info) = subst (λ (ps : List ℕ). Ascend 0 ps (length s.info)) (sym (places_are raw)) (read_ascend s.abbrevs s.room s.info (units_at s.abbrevs (given s.room) 0 (input s.info 0)) refl) in
+    let up : Ascend 0 (places raw) (length s.info) = subst (λ (ps : List ℕ). Ascend 0 ps (length s.info)) (sym (places_are raw))
+    (read_ascend s.abbrevs s.room s.info (units_at s.abbrevs (given s.room) 0 (input s.info 0)) refl) in
     ascend_at (places raw) 0 (length s.info) i j up l m
 
 -- ---- what is found by a number
@@ -176,7 +186,8 @@ places_rise s i j l m =
 pub entry_place : (raw : List RawUnit) (i : ℕ) (e : EntryOfCode) → slice_get (shown_entries raw) i ≡ Some e → place_at raw i ≡ e.at
 entry_place raw i e is =
     let r = entry_row raw i e is in
-    get_or_from_slice_get (places raw) i r.0.entry.at 0 (slice_get-map (λ (row : EntryRow). row.entry.at) (rows_of raw) i ∙ ap (option_map (λ (row : EntryRow). row.entry.at)) r.1) ∙ ap (λ (x : EntryOfCode). x.at) r.2
+    get_or_from_slice_get (places raw) i r.0.entry.at 0 (slice_get-map (λ (row : EntryRow). row.entry.at) (rows_of raw) i ∙ ap (option_map (λ (row : EntryRow). row.entry.at)) r.1)
+    ∙ ap (λ (x : EntryOfCode). x.at) r.2
 
 pub places_many : (raw : List RawUnit) → length (places raw) ≡ entries_in raw
 places_many raw = length-map (rows_of raw) (λ (row : EntryRow). row.entry.at) ∙ rows-length raw
@@ -192,7 +203,8 @@ range_many ps first end = omega (arith, length-take (end - first) (drop first ps
 range_length : (ps : List ℕ) (first end : ℕ) → end ≤ length ps → length (slice_range ps first end) ≡ end - first
 range_length ps first end l = omega (arith, length-take (end - first) (drop first ps), length-drop first ps)
 
-pub among_there : (raw : List RawUnit) (first end i p : ℕ) (own : List ℕ) → slice_range (places raw) first end ≡ own → end ≤ entries_in raw → first ≤ i → i < end → place_at raw i ≡ p → has p own ≡ true
+pub among_there : (raw : List RawUnit) (first end i p : ℕ) (own : List ℕ) → slice_range (places raw) first end ≡ own → end ≤ entries_in raw → first ≤ i → i < end → place_at raw i ≡ p
+    → has p own ≡ true
 among_there raw first end i p own is le low high e =
     let many = places_many raw in
     let ps = places raw in

@@ -3,8 +3,8 @@ use Rattle.std.proofs.Common.{◌≡◌, ◌≢◌, ℕ, ◌+◌, ◌≤◌, Lis
 use Rattle.std.proofs.lemmas.Bool.{cond-false, cond-true, eq-eqb, ne_eqb}
 use Rattle.std.proofs.lemmas.List.{drop_all}
 use Rattle.dwz_docs.specs.Entries.{RawAttr}
+use Rattle.dwz_docs.proofs.ListFacts.{drop_here}
 use Rattle.dwz_meanings.specs.Meanings.{first_raw}
-use Rattle.dwz_resolve.proofs.RowLemmas.{drop_here}
 
 abbrev pub SameFirst : ℕ → List RawAttr → ℕ → Type 0
 SameFirst name attrs k = first_raw name attrs ≡ first_raw name (drop k attrs)

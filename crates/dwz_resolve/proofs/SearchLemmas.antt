@@ -18,7 +18,8 @@ pub record Searched (ps : List ℕ) (first end place low high : ℕ) : Type 0 wh
 pub search_begins : (ps : List ℕ) (first end place : ℕ) → Searched ps first end place first end
 search_begins ps first end place = record { from = omega arith; to = omega arith; below = λ i l m. absurd (omega arith); above = λ i l m. absurd (omega arith) }
 
-pub search_up : (ps : List ℕ) (first end place low high middle at : ℕ) → Rise ps → low ≤ middle → middle < high → end ≤ length ps → get_or ps middle 0 ≡ at → at < place → Searched ps first end place low high → Searched ps first end place (middle + 1) high
+pub search_up : (ps : List ℕ) (first end place low high middle at : ℕ) → Rise ps → low ≤ middle → middle < high → end ≤ length ps → get_or ps middle 0 ≡ at → at < place
+    → Searched ps first end place low high → Searched ps first end place (middle + 1) high
 search_up ps first end place low high middle at rise l m n e less h =
     let to = h.to in
     let from = h.from in record {
@@ -31,7 +32,8 @@ search_up ps first end place low high middle at rise l m n e less h =
       above = h.above;
     }
 
-pub search_down : (ps : List ℕ) (first end place low high middle at : ℕ) → Rise ps → low ≤ middle → middle < high → end ≤ length ps → get_or ps middle 0 ≡ at → place < at → Searched ps first end place low high → Searched ps first end place low middle
+pub search_down : (ps : List ℕ) (first end place low high middle at : ℕ) → Rise ps → low ≤ middle → middle < high → end ≤ length ps → get_or ps middle 0 ≡ at → place < at
+    → Searched ps first end place low high → Searched ps first end place low middle
 search_down ps first end place low high middle at rise l m n e more h =
     let to = h.to in record {
       from = h.from;

@@ -28,7 +28,8 @@ module _ (is_unit : ℕ → Bool) where
     by [] same = absurd (let len = ap length same in omega (arith, len, some))
     by (b ∷ bytes) same =
         let whole : i ≡ input_of i.at (b ∷ bytes) = λ n. record { at = i.at; rest = same n } in
-        ap (sets_at is_unit) whole ∙ all_step (set_at is_unit) (SpellsSet is_unit) (IsSetFault is_unit) (set_reads is_unit) set_takes i.at b bytes ∙ ap (λ (j : Input). set_at is_unit j >>= after_one (sets_at is_unit)) (sym whole)
+        ap (sets_at is_unit) whole ∙ all_step (set_at is_unit) (SpellsSet is_unit) (IsSetFault is_unit) (set_reads is_unit) set_takes i.at b bytes
+        ∙ ap (λ (j : Input). set_at is_unit j >>= after_one (sets_at is_unit)) (sym whole)
 
   pub sets_end : (section : List ℕ) (at : ℕ) → length section ≤ at → IsOk (sets_at is_unit (input section at))
   sets_end section at le = by (drop at section) refl where
@@ -49,8 +50,10 @@ module _ (is_unit : ℕ → Bool) where
       → Leads (List RangeSet) (sets_at is_unit (input section at)) whole → Leads (List RangeSet) (sets_at is_unit (input section behind)) whole
   set_read section at behind set whole lt is h =
       let step = begin (input section at) (omega (arith, length-drop at section)) ∙ ap (λ (r : Result (RangeSet × Input) Fault). r >>= after_one (sets_at is_unit)) is in
-      leads_along (sets_at is_unit (input section behind)) (sets_at is_unit (input section at)) whole (subst (λ (r : Result (List RangeSet) Fault). Leads (List RangeSet) (sets_at is_unit (input section behind)) r) (sym step) (more set (sets_at is_unit (input section behind)))) h
+      leads_along (sets_at is_unit (input section behind)) (sets_at is_unit (input section at)) whole
+      (subst (λ (r : Result (List RangeSet) Fault). Leads (List RangeSet) (sets_at is_unit (input section behind)) r) (sym step) (more set (sets_at is_unit (input section behind)))) h
 
-  pub set_fails : (section : List ℕ) (at : ℕ) (f : Fault) (whole : Result (List RangeSet) Fault) → at < length section → set_at is_unit (input section at) ≡ Err f → Leads (List RangeSet) (sets_at is_unit (input section at)) whole → whole ≡ Err f
+  pub set_fails : (section : List ℕ) (at : ℕ) (f : Fault) (whole : Result (List RangeSet) Fault) → at < length section → set_at is_unit (input section at) ≡ Err f
+      → Leads (List RangeSet) (sets_at is_unit (input section at)) whole → whole ≡ Err f
   set_fails section at f whole lt is h =
       h.bad f (begin (input section at) (omega (arith, length-drop at section)) ∙ ap (λ (r : Result (RangeSet × Input) Fault). r >>= after_one (sets_at is_unit)) is)

@@ -6,16 +6,19 @@ use Rattle.std.proofs.lemmas.Bool.{cases_Bool, cases_lt, cond-false, cond-true, 
 use Rattle.std.proofs.lemmas.List.Sorted.{Contains-permutation, IsPermutation-sym}
 use Rattle.dwz_docs.specs.Lists.{In, has}
 use Rattle.dwz_docs.specs.Units.{RawUnit}
+use Rattle.dwz_docs.proofs.ListFacts.{in_cases, in_left, in_right}
 use Rattle.dwz_meanings.specs.declared.exprs.Operand.{Operand}
-use Rattle.dwz_meanings.specs.Shared.{AreRows, Ascend, Clashes, HasByte, IsInSlot, IsSame, IsShared, IsSharedAt, ListOperand, NamedList, NoneShared, OneOf, has_byte, none_shared, of_unit, operands_in_lists, own_operands, shared_list}
+use Rattle.dwz_meanings.specs.Shared.{AreRows, Ascend, Clashes, HasByte, IsInSlot, IsSame, IsShared, IsSharedAt, ListOperand, NamedList, NoneShared, OneOf, has_byte, none_shared, of_unit}
+use Rattle.dwz_meanings.specs.Shared.{operands_in_lists, own_operands, shared_list}
 use Rattle.dwz_meanings.proofs.SharedLemmas.{has_decides, shared_agrees}
 use Rattle.dwz_meanings.proofs.DecideLemmas.{decides_any}
+use Rattle.dwz_meanings.proofs.FoundLemmas.{lists_in}
 use Rattle.dwz_resolve.specs.declared.lists.ListRow.{ListRow}
 use Rattle.dwz_resolve.specs.declared.lists.Lists.{Lists}
 use Rattle.dwz_resolve.specs.declared.operands.ListOperand.{ListOperand as Row}
 use Rattle.dwz_resolve.specs.Apart.{AreWide, Before, Clash, FindsApart, Foreign, HasClash, IsCause, Rise, Rows, Same, Test, Tested, places_of_rows}
 use Rattle.dwz_resolve.specs.ListRows.{AreOfFile, AreDistinct, IsRowOf, Shows, operand_view, own_rows, row_test, slot_test, start_of, tests_of}
-use Rattle.dwz_resolve.proofs.ApartLemmas.{each_behind, each_wide, in_both, in_left, in_right, in_take, one_row, same_sym, same_trans}
+use Rattle.dwz_resolve.proofs.ApartLemmas.{each_behind, each_wide, in_take, one_row, same_sym, same_trans}
 
 -- ---- members
 
@@ -79,16 +82,10 @@ rows_order (o ∷ rows) from to h = let low = h.0 in let more = rows_order rows 
 in_lists : (named : List NamedList) (x : ListOperand) → In x (operands_in_lists named) → OneOf named (λ l. In x (map (of_unit l.unit) (own_operands l)))
 unfolding operands_in_lists
 in_lists [] x is = absurd is
-in_lists (l ∷ named) x is = elim (in_both x (map (of_unit l.unit) (own_operands l)) (operands_in_lists named) is) [
+in_lists (l ∷ named) x is = elim (in_cases x (map (of_unit l.unit) (own_operands l)) (operands_in_lists named) is) [
   | inl own ↦ (l, inl refl, own)
   | inr later ↦ let r = in_lists named x later in (r.0, inr r.1, r.2)
 ]
-
-lists_in : (named : List NamedList) (l : NamedList) (x : ListOperand) → In l named → In x (map (of_unit l.unit) (own_operands l)) → In x (operands_in_lists named)
-unfolding operands_in_lists
-lists_in [] l x is there = absurd is
-lists_in (m ∷ named) l x (inl e) there = in_left x (map (of_unit m.unit) (own_operands m)) (operands_in_lists named) (subst (λ (w : NamedList). In x (map (of_unit w.unit) (own_operands w))) (sym e) there)
-lists_in (m ∷ named) l x (inr later) there = in_right x (map (of_unit m.unit) (own_operands m)) (operands_in_lists named) (lists_in named l x later there)
 
 before_lower : (c : Option ℕ) (m n : ℕ) → m ≤ n → Before c n → Before c m
 before_lower None m n le b = tt
@@ -133,12 +130,14 @@ module _ (raw : List RawUnit) (file : ℕ) (named : List NamedList) (lists : Lis
 
   -- an own operand of a list, and how it is kept
   own_kept : (l : NamedList) (w : ListRow) → IsRowOf raw all l w → (p : Operand) → In p (own_operands l) → OneOf (own_rows all w) (λ o. view o ≡ of_unit l.unit p)
-  own_kept l w is p there = from_map view (own_rows all w) (of_unit l.unit p) (subst (λ (ys : List ListOperand). In (of_unit l.unit p) ys) (sym is.own) (in_map (of_unit l.unit) (own_operands l) p there))
+  own_kept l w is p there = from_map view (own_rows all w) (of_unit l.unit p)
+      (subst (λ (ys : List ListOperand). In (of_unit l.unit p) ys) (sym is.own) (in_map (of_unit l.unit) (own_operands l) p there))
 
   kept_own : (l : NamedList) (w : ListRow) → IsRowOf raw all l w → (o : Row) → In o (own_rows all w) → OneOf (own_operands l) (λ p. of_unit l.unit p ≡ view o)
   kept_own l w is o there = from_map (of_unit l.unit) (own_operands l) (view o) (subst (λ (ys : List ListOperand). In (view o) ys) is.own (in_map view (own_rows all w) o there))
 
-  module _ (distinct : AreDistinct raw) (sorted kept : List Row) (moved : IsPermutation all sorted) (clash : Option ℕ) (apart : FindsApart sorted kept clash) (place : Option ℕ) (tested : Tested sorted kept clash (tests_of lists) place) where
+  module _ (distinct : AreDistinct raw) (sorted kept : List Row) (moved : IsPermutation all sorted) (clash : Option ℕ) (apart : FindsApart sorted kept clash) (place : Option ℕ)
+      (tested : Tested sorted kept clash (tests_of lists) place) where
     kept_all : (r : Row) → In r kept → In r all
     kept_all r is = in_unsorted all sorted moved r (apart.from r is)
 
@@ -231,7 +230,7 @@ module _ (raw : List RawUnit) (file : ℕ) (named : List NamedList) (lists : Lis
 
     cause_shared : (q : ℕ) → IsCause sorted kept (tests_of lists) (Some q) → IsSharedAt named q
     cause_shared q (inl c) = clash_shared q c
-    cause_shared q (inr f) = elim (in_both f.0 (map (row_test all) lists.rows.items) (map slot_test lists.slots.items) f.1) [
+    cause_shared q (inr f) = elim (in_cases f.0 (map (row_test all) lists.rows.items) (map slot_test lists.slots.items) f.1) [
       | inl a ↦ let w = from_map (row_test all) lists.rows.items f.0 a in list_shared w.0 w.1 q (subst (λ (t : Test). Foreign kept t q) (sym w.2) f.2)
       | inr b ↦ let slot = from_map slot_test lists.slots.items f.0 b in slot_shared slot.0 slot.1 q (subst (λ (t : Test). Foreign kept t q) (sym slot.2) f.2)
     ]
@@ -270,7 +269,8 @@ module _ (raw : List RawUnit) (file : ℕ) (named : List NamedList) (lists : Lis
         let begin = w.2.from in
         let end = w.2.end in
         let same = r.2.at in
-        let owns = tested.none (row_test all w.0) (in_left (row_test all w.0) (map (row_test all) lists.rows.items) (map slot_test lists.slots.items) (in_map (row_test all) lists.rows.items w.0 w.1)) r.0 r.1 (subst (λ (n : ℕ). Before place n) (sym same) before) (record { low = omega arith; high = omega arith }) in
+        let owns = tested.none (row_test all w.0) (in_left (row_test all w.0) (map (row_test all) lists.rows.items) (map slot_test lists.slots.items) (in_map (row_test all) lists.rows.items w.0 w.1))
+        r.0 r.1 (subst (λ (n : ℕ). Before place n) (sym same) before) (record { low = omega arith; high = omega arith }) in
         let own = place_in (own_rows all w.0) r.0.at owns in
         let mine = own_in_all all w.0 own.0 own.1 in
         let at : own.0.at ≡ o.at = own.2 ∙ same in
@@ -296,7 +296,8 @@ module _ (raw : List RawUnit) (file : ℕ) (named : List NamedList) (lists : Lis
         let to = i.to in
         let same = r.2.at in
         let slot = shows.slots l i.slot slotted.1 i.is_slot in
-        let owns = tested.none (slot_test i.slot) (in_right (slot_test i.slot) (map (row_test all) lists.rows.items) (map slot_test lists.slots.items) (in_map slot_test lists.slots.items i.slot slot)) r.0 r.1 (subst (λ (n : ℕ). Before place n) (sym same) before) (record { low = omega arith; high = omega arith }) in
+        let owns = tested.none (slot_test i.slot) (in_right (slot_test i.slot) (map (row_test all) lists.rows.items) (map slot_test lists.slots.items) (in_map slot_test lists.slots.items i.slot slot))
+        r.0 r.1 (subst (λ (n : ℕ). Before place n) (sym same) before) (record { low = omega arith; high = omega arith }) in
         let own = place_in [] r.0.at owns in
         absurd own.1
 
@@ -337,11 +338,15 @@ no_clash : (place clash : Option ℕ) → ((n : ℕ) → Before place n → Befo
 no_clash place None under e = refl
 no_clash place (Some c) under e = absurd (let low = under c (subst (λ (p : Option ℕ). Before p c) (sym e) tt) in omega arith)
 
-pub shared_answer : (raw : List RawUnit) (file : ℕ) (named : List NamedList) (lists : Lists) → Shows raw file named lists → AreDistinct raw → (sorted kept : List Row) → IsPermutation lists.operands.items sorted → (clash : Option ℕ) → FindsApart sorted kept clash
+pub shared_answer : (raw : List RawUnit) (file : ℕ) (named : List NamedList) (lists : Lists) → Shows raw file named lists → AreDistinct raw → (sorted kept : List Row)
+    → IsPermutation lists.operands.items sorted → (clash : Option ℕ) → FindsApart sorted kept clash
     → (place : Option ℕ) → Tested sorted kept clash (tests_of lists) place → Answered raw file named kept place
 shared_answer raw file named lists shows distinct sorted kept moved clash apart None tested =
-    let none : NoneShared named = λ q shared. none_at raw file named lists shows distinct sorted kept moved clash apart None tested q tt shared in
-    (((shared_agrees named).ok tt).1 none, are_rows raw file named lists shows distinct sorted kept moved clash apart None tested (no_clash None clash tested.under refl), λ o is. shows.of_file o (in_unsorted lists.operands.items sorted moved o (apart.from o is)))
+    let none : NoneShared named = λ q shared. none_at raw file named lists shows distinct sorted kept moved clash apart None tested q tt shared in (
+      ((shared_agrees named).ok tt).1 none,
+      are_rows raw file named lists shows distinct sorted kept moved clash apart None tested (no_clash None clash tested.under refl),
+      λ o is. shows.of_file o (in_unsorted lists.operands.items sorted moved o (apart.from o is)),
+    )
 shared_answer raw file named lists shows distinct sorted kept moved clash apart (Some q) tested =
     ((shared_agrees named).err (shared_list q)).1 (record {
       place = q;
@@ -354,10 +359,12 @@ shared_answer raw file named lists shows distinct sorted kept moved clash apart 
     })
 
 -- what the calls of the pass say, put together
-pub pass_answer : (raw : List RawUnit) (file : ℕ) (named : List NamedList) (lists : Lists) → Shows raw file named lists → AreDistinct raw → (operands sorted given begun kept seen : List Row) (clash place : Option ℕ)
+pub pass_answer : (raw : List RawUnit) (file : ℕ) (named : List NamedList) (lists : Lists) → Shows raw file named lists → AreDistinct raw
+    → (operands sorted given begun kept seen : List Row) (clash place : Option ℕ)
     → operands ≡ lists.operands.items → IsPermutation operands sorted → Rise sorted → given ≡ sorted → begun ≡ [] → seen ≡ kept
     → (begun ≡ [] → Rise given → AreWide given → FindsApart given kept clash)
-    → ((xs : List Row) (top : ℕ) → Rows 0 seen top → ((w : ListRow) → In w lists.rows.items → Rows (w.from + 1) (own_rows lists.operands.items w) w.end) → HasClash xs clash → Tested xs seen clash (tests_of lists) place)
+    → ((xs : List Row) (top : ℕ) → Rows 0 seen top → ((w : ListRow) → In w lists.rows.items → Rows (w.from + 1) (own_rows lists.operands.items w) w.end) → HasClash xs clash
+    → Tested xs seen clash (tests_of lists) place)
     → Answered raw file named kept place
 pass_answer raw file named lists shows distinct operands sorted given begun kept seen clash place are moved rise is none shown pass tests =
     let mine : IsPermutation lists.operands.items sorted = subst (λ (w : List Row). IsPermutation w sorted) are moved in

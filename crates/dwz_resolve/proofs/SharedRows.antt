@@ -1,7 +1,6 @@
 -- Small location lists that are shared or not, and sets of address ranges, by the definitions.
-use Rattle.std.proofs.Common.{◌≡◌, ℕ, ◌+◌, Bool, true, List, [], ◌∷◌, ◌++◌, Option, Some, None, Result, Ok, Err, refl}
+use Rattle.std.proofs.Common.{◌≡◌, ℕ, ◌+◌, Bool, true, List, [], ◌∷◌, ◌++◌, Option, Some, None, Ok, Err, refl}
 use Rattle.std.specs.Prelude.{◌==◌}
-use Rattle.std.specs.List.{list_any}
 use Rattle.dwz_model.specs.declared.place.Base.TheVariants.{Unit as FromUnit}
 use Rattle.dwz_bytes.specs.Input.{input}
 use Rattle.dwz_meanings.specs.declared.exprs.Operand.{Operand}

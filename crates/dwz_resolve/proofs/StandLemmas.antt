@@ -1,15 +1,16 @@
 -- The operands of a location list stand one behind the other, behind its first byte.
-use Rattle.std.proofs.Common.{◌≡◌, ℕ, zero, suc, ◌+◌, ◌<◌, ◌≤◌, Bool, true, false, cond, eqb, List, [], ◌∷◌, ◌++◌, length, refl, sym, ap, subst, ◌∙◌, arith}
-use Rattle.std.proofs.lemmas.List.{append-nil, append_assoc, length-append}
-use Rattle.dwz_bytes.specs.Spelling.{SpellsUleb}
-use Rattle.dwz_bytes.proofs.PaddedLemmas.{some_groups}
+use Rattle.std.proofs.Common.{◌≡◌, ℕ, zero, suc, ◌+◌, ◌<◌, ◌≤◌, Bool, true, false, cond, eqb, List, [], ◌∷◌, ◌++◌, length, sym, ap, subst, arith}
+use Rattle.std.proofs.lemmas.List.{append-nil, length-append}
 use Rattle.dwz_model.specs.declared.place.Base.{Base}
 use Rattle.dwz_model.specs.declared.place.Base.TheVariants.{Unit as FromUnit}
+use Rattle.dwz_docs.proofs.AbbrevLemmas.{some_uleb}
 use Rattle.dwz_meanings.specs.declared.exprs.Operand.{Operand}
-use Rattle.dwz_meanings.specs.Exprs.{AnAddress, Counted, Entry4, EntryOrGeneric, EntryUleb, ExprContext, Expression, Field, Found, Holds, Inside, Located, LocatedBy, Names, Run, Signed, Sized, SpellsExpr, SpellsField, SpellsFields, SpellsOp, SpellsWithin, Unsigned, an_operand, an_operand_or_generic, expressions_in, joined, most_inside, operands_in}
+use Rattle.dwz_meanings.specs.Exprs.{AnAddress, Counted, Entry4, EntryOrGeneric, EntryUleb, ExprContext, Expression, Field, Found, Holds, Inside, Located, LocatedBy, Names, Run, Signed, Sized}
+use Rattle.dwz_meanings.specs.Exprs.{SpellsExpr, SpellsField, SpellsFields, SpellsOp, SpellsWithin, Unsigned, an_operand, an_operand_or_generic, expressions_in, joined, most_inside, operands_in}
 use Rattle.dwz_meanings.specs.LocLists.{EndsList, LocList, SpellsList, SpellsListEntry}
 use Rattle.dwz_meanings.specs.Sequences.{Spelling, SpellsAll, SpellsRow}
 use Rattle.dwz_meanings.specs.Shared.{operands_of}
+use Rattle.dwz_meanings.proofs.StandLemmas.{operands_both}
 
 -- from one place to another, each begins where the one before it ends, or behind, and has a byte
 abbrev pub Stand : ℕ → List Operand → ℕ → Type 0
@@ -34,13 +35,6 @@ stand_front (o ∷ front) a b from to next h = (h.0, h.1, stand_front front a b 
 
 -- ---- fields
 
-operands_both : (a b : List Found) → operands_in (a ++ b) ≡ operands_in a ++ operands_in b
-unfolding operands_in
-operands_both [] b = refl
-operands_both (Names o ∷ a) b = ap (λ (w : List Operand). o ∷ w) (operands_both a b)
-operands_both (AnAddress ∷ a) b = operands_both a b
-operands_both (Holds e ∷ a) b = ap (λ (w : List Operand). e.operands ++ w) (operands_both a b) ∙ sym (append_assoc e.operands (operands_in a) (operands_in b))
-
 abbrev FoundStand : ℕ → List Found → ℕ → Type 0
 FoundStand from founds to = Stand from (operands_in founds) to
 
@@ -63,9 +57,6 @@ holds_stands : (e : Expression) (from to : ℕ) → Stand from e.operands to →
 unfolding operands_in
 holds_stands e from to h = subst (λ (w : List Operand). Stand from w to) (sym (append-nil e.operands)) h
 
-uleb_some : (bytes : List ℕ) (n : ℕ) → SpellsUleb bytes n → 0 < length bytes
-uleb_some bytes n s = some_groups bytes s.groups
-
 module _ (IsExpr : Spelling Expression) (inside : (e : Expression) (start : ℕ) (bytes : List ℕ) → IsExpr e start bytes → Stand start e.operands (start + length bytes)) where
   generic_stands : (start width number : ℕ) → 0 < width → FoundStand start (an_operand_or_generic start width number) (start + width)
   generic_stands start width number some = by (eqb number 0) where
@@ -84,13 +75,16 @@ module _ (IsExpr : Spelling Expression) (inside : (e : Expression) (start : ℕ)
   field_stands (Entry4 base) founds start bytes s =
       let len = s.spelled.len in
       subst (λ (w : List Found). FoundStand start w (start + length bytes)) (sym s.found) (operand_stands false base start (length bytes) s.value (omega (arith, len)))
-  field_stands EntryUleb founds start bytes s = subst (λ (w : List Found). FoundStand start w (start + length bytes)) (sym s.found) (operand_stands true FromUnit start (length bytes) s.value (uleb_some bytes s.value s.spelled))
-  field_stands EntryOrGeneric founds start bytes s = subst (λ (w : List Found). FoundStand start w (start + length bytes)) (sym s.found) (generic_stands start (length bytes) s.value (uleb_some bytes s.value s.spelled))
+  field_stands EntryUleb founds start bytes s = subst (λ (w : List Found). FoundStand start w (start + length bytes)) (sym s.found)
+      (operand_stands true FromUnit start (length bytes) s.value (some_uleb bytes s.value s.spelled))
+  field_stands EntryOrGeneric founds start bytes s = subst (λ (w : List Found). FoundStand start w (start + length bytes)) (sym s.found)
+      (generic_stands start (length bytes) s.value (some_uleb bytes s.value s.spelled))
   field_stands Inside founds start bytes s =
       let len : start + length s.front + length s.content ≡ start + length bytes = omega (arith, ap length s.parts, length-append s.front s.content) in
       let deep = inside s.expression (start + length s.front) s.content s.is in
       subst (λ (w : List Found). FoundStand start w (start + length bytes)) (sym s.found)
-      (holds_stands s.expression start (start + length bytes) (stand_lower s.expression.operands (start + length s.front) start (start + length bytes) (omega arith) (subst (λ (n : ℕ). Stand (start + length s.front) s.expression.operands n) len deep)))
+      (holds_stands s.expression start (start + length bytes) (stand_lower s.expression.operands (start + length s.front) start (start + length bytes) (omega arith)
+      (subst (λ (n : ℕ). Stand (start + length s.front) s.expression.operands n) len deep)))
 
   fields_stand : (fields : List Field) (founds : List Found) (start : ℕ) (bytes : List ℕ) → SpellsFields IsExpr fields founds start bytes → FoundStand start founds (start + length bytes)
   fields_stand [] founds start bytes s = subst (λ (w : List Found). FoundStand start w (start + length bytes)) (sym s.0) (no_found start (start + length bytes) (omega arith))
@@ -99,17 +93,20 @@ module _ (IsExpr : Spelling Expression) (inside : (e : Expression) (start : ℕ)
       let len : start + length p.first_bytes + length p.second_bytes ≡ start + length bytes = omega (arith, ap length p.parts, length-append p.first_bytes p.second_bytes) in
       let rest = fields_stand fields s.y (start + length p.first_bytes) p.second_bytes p.second in
       subst (λ (w : List Found). FoundStand start w (start + length bytes)) (sym s.made)
-      (found_both s.x s.y start (start + length p.first_bytes) (start + length bytes) (field_stands field s.x start p.first_bytes p.first) (subst (λ (n : ℕ). FoundStand (start + length p.first_bytes) s.y n) len rest))
+      (found_both s.x s.y start (start + length p.first_bytes) (start + length bytes) (field_stands field s.x start p.first_bytes p.first)
+      (subst (λ (n : ℕ). FoundStand (start + length p.first_bytes) s.y n) len rest))
 
 -- ---- expressions and lists
 
 -- what stands behind a code or a kind
-behind_one : (founds : List Found) (start code : ℕ) (bytes rest : List ℕ) → bytes ≡ code ∷ rest → FoundStand (start + 1) founds (start + 1 + length rest) → FoundStand start founds (start + length bytes)
+behind_one : (founds : List Found) (start code : ℕ) (bytes rest : List ℕ) → bytes ≡ code ∷ rest → FoundStand (start + 1) founds (start + 1 + length rest)
+    → FoundStand start founds (start + length bytes)
 behind_one founds start code bytes rest parts h =
     let len : start + 1 + length rest ≡ start + length bytes = omega (arith, ap length parts) in
     stand_lower (operands_in founds) (start + 1) start (start + length bytes) (omega arith) (subst (λ (n : ℕ). FoundStand (start + 1) founds n) len h)
 
-ops_stand : (c : ExprContext) (IsExpr : Spelling Expression) → ((e : Expression) (start : ℕ) (bytes : List ℕ) → IsExpr e start bytes → Stand start e.operands (start + length bytes)) → (ops : List (List Found)) (start : ℕ) (bytes : List ℕ) → SpellsAll (SpellsOp c IsExpr) ops start bytes → FoundStand start (joined ops) (start + length bytes)
+ops_stand : (c : ExprContext) (IsExpr : Spelling Expression) → ((e : Expression) (start : ℕ) (bytes : List ℕ) → IsExpr e start bytes → Stand start e.operands (start + length bytes))
+    → (ops : List (List Found)) (start : ℕ) (bytes : List ℕ) → SpellsAll (SpellsOp c IsExpr) ops start bytes → FoundStand start (joined ops) (start + length bytes)
 unfolding joined
 ops_stand c IsExpr inside [] start bytes s = no_found start (start + length bytes) (omega arith)
 ops_stand c IsExpr inside (op ∷ ops) start bytes s =
@@ -122,7 +119,8 @@ ops_stand c IsExpr inside (op ∷ ops) start bytes s =
 
 within_stands : (c : ExprContext) (k : ℕ) (e : Expression) (start : ℕ) (bytes : List ℕ) → SpellsWithin c k e start bytes → Stand start e.operands (start + length bytes)
 within_stands c zero e start bytes s = absurd s
-within_stands c (suc k) e start bytes s = subst (λ (w : Expression). Stand start w.operands (start + length bytes)) (sym s.made) (ops_stand c (SpellsWithin c k) (within_stands c k) s.ops start bytes s.spelled)
+within_stands c (suc k) e start bytes s = subst (λ (w : Expression). Stand start w.operands (start + length bytes)) (sym s.made)
+    (ops_stand c (SpellsWithin c k) (within_stands c k) s.ops start bytes s.spelled)
 
 -- the operands of the expressions that are found
 exprs_stand : (founds : List Found) (from to : ℕ) → FoundStand from founds to → Stand from (operands_of (expressions_in founds)) to
@@ -132,7 +130,8 @@ exprs_stand (Names o ∷ founds) from to h = let at = h.0 in stand_lower (operan
 exprs_stand (AnAddress ∷ founds) from to h = exprs_stand founds from to h
 exprs_stand (Holds e ∷ founds) from to h = stand_front e.operands (operands_in founds) (operands_of (expressions_in founds)) from to (λ low g. exprs_stand founds low to g) h
 
-row_stands : (c : ExprContext) (entries : List (List Found)) (start : ℕ) (bytes : List ℕ) → SpellsRow (SpellsListEntry c) EndsList entries start bytes → FoundStand (start + 1) (joined entries) (start + length bytes)
+row_stands : (c : ExprContext) (entries : List (List Found)) (start : ℕ) (bytes : List ℕ) → SpellsRow (SpellsListEntry c) EndsList entries start bytes
+    → FoundStand (start + 1) (joined entries) (start + length bytes)
 unfolding joined
 row_stands c [] start bytes s = no_found (start + 1) (start + length bytes) (let len = ap length s in omega arith)
 row_stands c (e ∷ entries) start bytes s =
@@ -143,10 +142,12 @@ row_stands c (e ∷ entries) start bytes s =
     let rest = row_stands c entries (start + length s.first_bytes) s.second_bytes s.second in
     found_both e (joined entries) (start + 1) (start + length s.first_bytes) (start + length bytes)
     (subst (λ (n : ℕ). FoundStand (start + 1) e n) one here)
-    (stand_lower (operands_in (joined entries)) (start + length s.first_bytes + 1) (start + length s.first_bytes) (start + length bytes) (omega arith) (subst (λ (n : ℕ). FoundStand (start + length s.first_bytes + 1) (joined entries) n) len rest))
+    (stand_lower (operands_in (joined entries)) (start + length s.first_bytes + 1) (start + length s.first_bytes) (start + length bytes) (omega arith)
+    (subst (λ (n : ℕ). FoundStand (start + length s.first_bytes + 1) (joined entries) n) len rest))
 
 pub list_stands : (c : ExprContext) (l : LocList) (start : ℕ) (bytes : List ℕ) → SpellsList c l start bytes → Stand (start + 1) (operands_of l.exprs) l.end
 list_stands c l start bytes s =
     let end = s.end in
     subst (λ (n : ℕ). Stand (start + 1) (operands_of l.exprs) n) (sym end)
-    (subst (λ (w : List Expression). Stand (start + 1) (operands_of w) (start + length bytes)) (sym s.exprs) (exprs_stand (joined s.entries) (start + 1) (start + length bytes) (row_stands c s.entries start bytes s.spelled)))
+    (subst (λ (w : List Expression). Stand (start + 1) (operands_of w) (start + length bytes)) (sym s.exprs)
+    (exprs_stand (joined s.entries) (start + 1) (start + length bytes) (row_stands c s.entries start bytes s.spelled)))

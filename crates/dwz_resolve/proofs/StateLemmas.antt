@@ -12,27 +12,30 @@ use Rattle.dwz_resolve.specs.FileRows.{KnowTables}
 use Rattle.dwz_resolve.specs.State.{IsBehind, IsState}
 
 -- numbers of entries change nothing else
-pub with_refs : (raw : List RawUnit) (s : Scope ℕ) (n : ℕ) (named : List NamedList) (st : State) (refs : _) → IsState raw s n named st → IsState raw s n named (record st { refs = refs })
-with_refs raw s n named st refs k = record { shows = k.shows; tables = k.tables; seen = k.seen }
-
-pub with_found : (raw : List RawUnit) (s : Scope ℕ) (n : ℕ) (named : List NamedList) (st : State) (refs hints : _) → IsState raw s n named st → IsState raw s n named (record st { refs = refs; hints = hints })
+pub with_found : (raw : List RawUnit) (s : Scope ℕ) (n : ℕ) (named : List NamedList) (st : State) (refs hints : _) → IsState raw s n named st
+    → IsState raw s n named (record st { refs = refs; hints = hints })
 with_found raw s n named st refs hints k = record { shows = k.shows; tables = k.tables; seen = k.seen }
 
-pub with_expression : (raw : List RawUnit) (s : Scope ℕ) (n : ℕ) (named : List NamedList) (st : State) (refs operands : _) → IsState raw s n named st → IsState raw s n named (record st { refs = refs; operands = operands })
+pub with_expression : (raw : List RawUnit) (s : Scope ℕ) (n : ℕ) (named : List NamedList) (st : State) (refs operands : _) → IsState raw s n named st
+    → IsState raw s n named (record st { refs = refs; operands = operands })
 with_expression raw s n named st refs operands k = record { shows = k.shows; tables = k.tables; seen = k.seen }
 
 -- line tables change nothing else
-pub with_files : (raw : List RawUnit) (s : Scope ℕ) (n : ℕ) (named : List NamedList) (st : State) (files : _) → KnowTables s.around.sources files → IsState raw s n named st → IsState raw s n named (record st { files = files })
+pub with_files : (raw : List RawUnit) (s : Scope ℕ) (n : ℕ) (named : List NamedList) (st : State) (files : _) → KnowTables s.around.sources files → IsState raw s n named st
+    → IsState raw s n named (record st { files = files })
 with_files raw s n named st files tables k = record { shows = k.shows; tables = tables; seen = k.seen }
 
 -- the next unit begins, and it ends
-pub unit_begins : (raw : List RawUnit) (around : Around ℕ) (u : RawUnit) (n : ℕ) (named : List NamedList) (st : State) → slice_get raw n ≡ Some u → IsBehind raw around n named st → IsState raw (scope_of around u) n named st
+pub unit_begins : (raw : List RawUnit) (around : Around ℕ) (u : RawUnit) (n : ℕ) (named : List NamedList) (st : State) → slice_get raw n ≡ Some u → IsBehind raw around n named st
+    → IsState raw (scope_of around u) n named st
 unit_begins raw around u n named st is k = record { shows = k.shows; tables = k.tables; seen = λ place number e. (let lt = k.seen place number e in (omega arith, λ same. absurd (omega arith))) }
 
-pub unit_ends : (raw : List RawUnit) (around : Around ℕ) (u : RawUnit) (n : ℕ) (named : List NamedList) (st : State) → slice_get raw n ≡ Some u → IsState raw (scope_of around u) n named st → IsBehind raw around (n + 1) named st
+pub unit_ends : (raw : List RawUnit) (around : Around ℕ) (u : RawUnit) (n : ℕ) (named : List NamedList) (st : State) → slice_get raw n ≡ Some u → IsState raw (scope_of around u) n named st
+    → IsBehind raw around (n + 1) named st
 unit_ends raw around u n named st is k = record { shows = k.shows; tables = k.tables; seen = λ place number e. (let le = (k.seen place number e).0 in omega arith) }
 
-pub none_behind : (raw : List RawUnit) (around : Around ℕ) (st : State) → st.lists.rows.items ≡ [] → st.lists.operands.items ≡ [] → st.lists.slots.items ≡ [] → ((place : ℕ) → get nat_eq st.lists.seen place ≡ None) → KnowTables around.sources st.files → IsBehind raw around 0 [] st
+pub none_behind : (raw : List RawUnit) (around : Around ℕ) (st : State) → st.lists.rows.items ≡ [] → st.lists.operands.items ≡ [] → st.lists.slots.items ≡ []
+    → ((place : ℕ) → get nat_eq st.lists.seen place ≡ None) → KnowTables around.sources st.files → IsBehind raw around 0 [] st
 none_behind raw around st rows operands slots seen tables =
     let no_row : (w : ListRow) → In w st.lists.rows.items → ⊥ = λ w is. subst (λ (xs : List ListRow). In w xs) rows is in
     let no_operand : (o : ListOperand) → In o st.lists.operands.items → ⊥ = λ o is. subst (λ (xs : List ListOperand). In o xs) operands is in

@@ -8,8 +8,9 @@ use Rattle.std.proofs.lemmas.Option.{get_or_from_slice_get, slice_get-map}
 use Rattle.dwz_model.specs.declared.fault.Fault.{Fault}
 use Rattle.dwz_bytes.specs.Input.{input}
 use Rattle.dwz_docs.specs.Entries.{given}
-use Rattle.dwz_docs.specs.Units.{CompileUnit, PartialUnit, RawKind, RawUnit, SpellsHeader, SpellsUnits, TypeUnit, header_size, is_read, kind_by, unit_type, units_at}
+use Rattle.dwz_docs.specs.Units.{RawKind, RawUnit, SpellsHeader, SpellsUnits, is_read, kind_by, unit_type, units_at}
 use Rattle.dwz_docs.proofs.UnitListLemmas.{units_found}
+use Rattle.dwz_docs.proofs.HeaderLemmas.{header_some}
 use Rattle.dwz_meanings.specs.Files.{place_if_whole, unit_places}
 use Rattle.dwz_unit.specs.declared.rows.RawUnit.{RawUnit as UnitOfCode}
 use Rattle.dwz_unit.specs.Rows.{Source, or_none, shown_units, units_of}
@@ -24,7 +25,8 @@ starts raw = map (λ u. u.at) raw
 
 -- ---- no unit is partial
 
-whole_by : (bytes : List ℕ) (room at : ℕ) (is_type is_partial : Bool) → (unit_type bytes == 3) ≡ is_partial → is_read (given room) (unit_type bytes) ≡ true → place_if_whole (kind_by is_type is_partial bytes) at ≡ at ∷ []
+whole_by : (bytes : List ℕ) (room at : ℕ) (is_type is_partial : Bool) → (unit_type bytes == 3) ≡ is_partial → is_read (given room) (unit_type bytes) ≡ true
+    → place_if_whole (kind_by is_type is_partial bytes) at ≡ at ∷ []
 whole_by bytes room at true is_partial e h = refl
 whole_by bytes room at false false e h = refl
 whole_by bytes room at false true e h =
@@ -33,11 +35,6 @@ whole_by bytes room at false true e h =
 
 whole_place : (kind : RawKind) (room len offset at : ℕ) (bytes : List ℕ) → SpellsHeader (given room) kind len offset bytes → place_if_whole kind at ≡ at ∷ []
 whole_place kind room len offset at bytes is = ap (λ (k : RawKind). place_if_whole k at) is.of_kind ∙ whole_by bytes room at (unit_type bytes == 2) (unit_type bytes == 3) refl is.unit_type
-
-some_header : (kind : RawKind) → 12 ≤ header_size kind
-some_header CompileUnit = omega arith
-some_header (TypeUnit signature type_offset) = omega arith
-some_header PartialUnit = omega arith
 
 module _ (abbrevs : List ℕ) (room : ℕ) where
   pub places_whole : (raw : List RawUnit) (before start : ℕ) (bytes : List ℕ) → SpellsUnits abbrevs (given room) before raw start bytes → unit_places raw ≡ starts raw
@@ -54,7 +51,7 @@ module _ (abbrevs : List ℕ) (room : ℕ) where
       let one = is.first in
       let at = one.place in
       let head = one.is_header.size in
-      let some = some_header u.kind in
+      let some = header_some u.kind in
       let len : start + length a + length b ≡ start + length bytes = omega (arith, ap length is.parts, length-append a b) in
       let wide = ap length one.parts in
       let parts = length-append one.header (one.tree ++ one.padding) in

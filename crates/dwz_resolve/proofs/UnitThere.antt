@@ -11,11 +11,12 @@ use Rattle.dwz_docs.specs.Units.{RawUnit, entries_in, entry_count}
 use Rattle.dwz_unit.specs.declared.rows.RawEntry.{RawEntry as EntryOfCode}
 use Rattle.dwz_unit.specs.declared.rows.RawUnit.{RawUnit as UnitOfCode}
 use Rattle.dwz_unit.specs.Rows.{EntryRow, rows_below, rows_from, rows_in, rows_of, shown_entries, shown_from, shown_units, unit_shown}
+use Rattle.dwz_unit.proofs.ShownLemmas.{rows_in-length}
 use Rattle.dwz_resolve.specs.Named.{entries_of, preorder}
 use Rattle.dwz_resolve.specs.declared.here.Here.{Here}
 use Rattle.dwz_resolve.specs.Resolved.{IsHere, IsUnitHere, places}
 use Rattle.dwz_resolve.proofs.PlaceLemmas.{in_places}
-use Rattle.dwz_resolve.proofs.RowLemmas.{in-length, row_is, rows-length}
+use Rattle.dwz_resolve.proofs.RowLemmas.{row_is, rows-length}
 
 -- its rows stand among all rows, behind as many as its root's number says
 pub record UnitThere (all : List EntryRow) (raw : List RawUnit) (behind_them n : ℕ) (x : UnitOfCode) : Type 0 where
@@ -46,7 +47,7 @@ unit_from (u ∷ raw) unit before zero x e =
 unit_from (u ∷ raw) unit before (suc n) x e =
     let r = unit_from raw (unit + 1) (before + entry_count u) n x e in
     let here = rows_in u unit before in
-    let len = in-length u unit before in
+    let len = rows_in-length u unit before in
     let many = r.many in
     let both = length-append here r.before in record {
       u = r.u;
@@ -72,10 +73,11 @@ range_middle xs ys zs first end at to =
 abbrev at_of : EntryRow → ℕ
 at_of row = row.entry.at
 
-pub own_places : (raw : List RawUnit) (n : ℕ) (x : UnitOfCode) (end : ℕ) (t : UnitThere (rows_of raw) raw 0 n x) → end ≡ x.first + entry_count t.u → slice_range (places raw) x.first end ≡ places_of t.u
+pub own_places : (raw : List RawUnit) (n : ℕ) (x : UnitOfCode) (end : ℕ) (t : UnitThere (rows_of raw) raw 0 n x) → end ≡ x.first + entry_count t.u
+    → slice_range (places raw) x.first end ≡ places_of t.u
 own_places raw n x end t to =
     let here = rows_in t.u t.unit x.first in
-    let len = in-length t.u t.unit x.first in
+    let len = rows_in-length t.u t.unit x.first in
     let many = t.many in
     let count = length-map here at_of in
     let front = length-map t.before at_of in
@@ -88,7 +90,7 @@ own_places raw n x end t to =
 pub unit_ends : (raw : List RawUnit) (n : ℕ) (x : UnitOfCode) (t : UnitThere (rows_of raw) raw 0 n x) → x.first + entry_count t.u ≤ entries_in raw
 unit_ends raw n x t =
     let here = rows_in t.u t.unit x.first in
-    let len = in-length t.u t.unit x.first in
+    let len = rows_in-length t.u t.unit x.first in
     let many = t.many in
     let all = rows-length raw in
     let whole = ap (λ (w : List EntryRow). length w) t.rows in
@@ -105,16 +107,17 @@ get_front [] ys k l = absurd (omega arith)
 get_front (x ∷ xs) ys zero l = refl
 get_front (x ∷ xs) ys (suc k) l = get_front xs ys k (omega arith)
 
-row_of_unit : (raw : List RawUnit) (n : ℕ) (x : UnitOfCode) (t : UnitThere (rows_of raw) raw 0 n x) (i : ℕ) → x.first ≤ i → i < x.first + entry_count t.u → slice_get (rows_of raw) i ≡ slice_get (rows_in t.u t.unit x.first) (i - x.first)
+row_of_unit : (raw : List RawUnit) (n : ℕ) (x : UnitOfCode) (t : UnitThere (rows_of raw) raw 0 n x) (i : ℕ) → x.first ≤ i → i < x.first + entry_count t.u
+    → slice_get (rows_of raw) i ≡ slice_get (rows_in t.u t.unit x.first) (i - x.first)
 row_of_unit raw n x t i low high =
     let here = rows_in t.u t.unit x.first in
-    let len = in-length t.u t.unit x.first in
+    let len = rows_in-length t.u t.unit x.first in
     let many = t.many in
     let at : i ≡ length t.before + (i - x.first) = omega arith in
     ap (λ (w : List EntryRow). slice_get w i) t.rows ∙ ap (λ (k : ℕ). slice_get (t.before ++ (here ++ t.after)) k) at
     ∙ get_behind t.before (here ++ t.after) (i - x.first) ∙ get_front here t.after (i - x.first) (omega arith)
 
-below_entries : (f : Forest RawEntry) (unit : ℕ) (p : Position) → map (λ (row : EntryRow). row.entry) (rows_below f unit p) ≡ preorder f
+pub below_entries : (f : Forest RawEntry) (unit : ℕ) (p : Position) → map (λ (row : EntryRow). row.entry) (rows_below f unit p) ≡ preorder f
 unfolding rows_below preorder
 below_entries End unit p = refl
 below_entries (Entry e c n) unit p =
@@ -122,12 +125,13 @@ below_entries (Entry e c n) unit p =
     map-append (λ (row : EntryRow). row.entry) (rows_below c unit (first_below p)) (rows_below n unit (behind p c))
     ∙ (λ i. below_entries c unit (first_below p) i ++ below_entries n unit (behind p c) i))
 
-in_entries : (u : RawUnit) (unit before : ℕ) → map (λ (row : EntryRow). row.entry) (rows_in u unit before) ≡ entries_of u
+pub in_entries : (u : RawUnit) (unit before : ℕ) → map (λ (row : EntryRow). row.entry) (rows_in u unit before) ≡ entries_of u
 unfolding preorder
 in_entries u unit before = below_entries (Entry u.root u.below End) unit (root_position before) ∙ ap (λ (w : List RawEntry). u.root ∷ w) (append-nil (preorder u.below))
 
 -- an entry of the unit
-pub entry_of_unit : (raw : List RawUnit) (n : ℕ) (x : UnitOfCode) (t : UnitThere (rows_of raw) raw 0 n x) (i : ℕ) (row : EntryRow) → x.first ≤ i → i < x.first + entry_count t.u → slice_get (rows_of raw) i ≡ Some row → slice_get (entries_of t.u) (i - x.first) ≡ Some row.entry
+pub entry_of_unit : (raw : List RawUnit) (n : ℕ) (x : UnitOfCode) (t : UnitThere (rows_of raw) raw 0 n x) (i : ℕ) (row : EntryRow) → x.first ≤ i → i < x.first + entry_count t.u
+    → slice_get (rows_of raw) i ≡ Some row → slice_get (entries_of t.u) (i - x.first) ≡ Some row.entry
 entry_of_unit raw n x t i row low high found =
     let here = rows_in t.u t.unit x.first in
     ap (λ (w : List RawEntry). slice_get w (i - x.first)) (sym (in_entries t.u t.unit x.first))
@@ -135,7 +139,7 @@ entry_of_unit raw n x t i row low high found =
     ∙ ap (option_map (λ (r : EntryRow). r.entry)) (sym (row_of_unit raw n x t i low high) ∙ found)
 
 pub entries_many : (u : RawUnit) → length (entries_of u) ≡ entry_count u
-entries_many u = omega (arith, in-length u 0 0, length-map (rows_in u 0 0) (λ (r : EntryRow). r.entry), ap (λ (w : List RawEntry). length w) (in_entries u 0 0))
+entries_many u = omega (arith, rows_in-length u 0 0, length-map (rows_in u 0 0) (λ (r : EntryRow). r.entry), ap (λ (w : List RawEntry). length w) (in_entries u 0 0))
 
 -- the root's row
 abbrev root_row : RawUnit → ℕ → ℕ → EntryRow
@@ -148,7 +152,8 @@ root_found raw n x t =
     let none : x.first - x.first ≡ 0 = omega arith in
     row_of_unit raw n x t x.first (omega arith) some ∙ ap (slice_get (rows_in t.u t.unit x.first)) none
 
-pub root_ends : (raw : List RawUnit) (n : ℕ) (x : UnitOfCode) (e : EntryOfCode) (t : UnitThere (rows_of raw) raw 0 n x) → slice_get (shown_entries raw) x.first ≡ Some e → e.end ≡ x.first + entry_count t.u
+pub root_ends : (raw : List RawUnit) (n : ℕ) (x : UnitOfCode) (e : EntryOfCode) (t : UnitThere (rows_of raw) raw 0 n x) → slice_get (shown_entries raw) x.first ≡ Some e
+    → e.end ≡ x.first + entry_count t.u
 root_ends raw n x e t is =
     let same = row_is raw x.first e (root_row t.u t.unit x.first) is (root_found raw n x t) in
     let end = ap (λ (w : EntryOfCode). w.end) same in
@@ -172,7 +177,8 @@ module _ (raw : List RawUnit) (n : ℕ) (x : UnitOfCode) (h : Here) (is : IsUnit
   pub end_there : h.end ≡ h.first + entry_count u
   end_there = is.end ∙ ap (λ (k : ℕ). k + entry_count is.u) (sym is.first) ∙ ap (λ (v : RawUnit). h.first + entry_count v) one
 
-  pub entry_there : slice_get (shown_units raw) n ≡ Some x → (i : ℕ) (row : EntryRow) → h.first ≤ i → i < h.end → slice_get (rows_of raw) i ≡ Some row → slice_get (entries_of u) (i - h.first) ≡ Some row.entry
+  pub entry_there : slice_get (shown_units raw) n ≡ Some x → (i : ℕ) (row : EntryRow) → h.first ≤ i → i < h.end → slice_get (rows_of raw) i ≡ Some row
+      → slice_get (entries_of u) (i - h.first) ≡ Some row.entry
   entry_there shown i row low high there =
       let t = unit_there raw n x shown in
       let same : t.u ≡ u = same_unit raw n t.u u t.is_unit found in

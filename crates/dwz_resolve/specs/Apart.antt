@@ -1,5 +1,6 @@
 -- Rows of operands in order of place, and what a pass over them finds.
-use Rattle.std.specs.Prelude.{◌≡◌, ◌⊎◌, ℕ, ◌+◌, ◌<◌, ◌≤◌, Bool, true, false, List, [], ◌∷◌, length, map, Option, Some, None, ◌==◌, ◌&&◌, slice_get}
+use Rattle.std.specs.Prelude.{◌≡◌, ◌⊎◌, ℕ, ◌+◌, ◌<◌, ◌≤◌, Bool, true, false, List, [], ◌∷◌, length, map, Option, Some, None, ◌==◌, ◌&&◌}
+use Rattle.std.specs.Prelude.{slice_get}
 use Rattle.std.specs.List.Sorted.{IsNonDecreasingBy}
 use Rattle.dwz_docs.specs.Lists.{In, has}
 use Rattle.dwz_meanings.specs.Shared.{OneOf, same_base, same_truth}
@@ -47,7 +48,7 @@ Before None n = Unit {0}
 Before (Some place) n = n < place
 
 -- the lesser of two places
-pub record IsLeast (a b least : Option ℕ) : Type 0 where
+pub record IsLesser (a b least : Option ℕ) : Type 0 where
   pub first : (n : ℕ) → Before least n → Before a n
   pub second : (n : ℕ) → Before least n → Before b n
   pub one : (least ≡ a) ⊎ (least ≡ b)

@@ -1,5 +1,7 @@
 -- The class of a form, as the code names it.
-use Rattle.dwz_meanings.specs.Meanings.{Class, OfAddress, OfBlock, OfCommonEntry, OfCommonText, OfConstant, OfExpression, OfFlag, OfIndex, OfInfoEntry, OfListIndex, OfOffset, OfSignature, OfText, OfTextBySlot, OfTextInLineStr, OfTextInStr, OfUnitEntry, Unread}
+use Rattle.dwz_meanings.specs.Meanings.{Class, OfAddress, OfBlock, OfCommonEntry, OfCommonText, OfConstant, OfExpression, OfFlag, OfIndex}
+use Rattle.dwz_meanings.specs.Meanings.{OfInfoEntry, OfListIndex, OfOffset, OfSignature, OfText, OfTextBySlot, OfTextInLineStr, OfTextInStr}
+use Rattle.dwz_meanings.specs.Meanings.{OfUnitEntry, Unread}
 use Rattle.dwz_resolve.specs.declared.class.Class.{Class as ClassOfCode}
 use Rattle.dwz_resolve.specs.declared.class.Class.TheVariants as code
 

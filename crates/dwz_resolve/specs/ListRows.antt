@@ -30,7 +30,14 @@ number_for FromInfo start offset = offset
 abbrev pub operand_view : List RawUnit → OperandOfCode → ListOperand
 operand_view raw o = record {
   unit = start_of raw o.unit;
-  operand = record { at = o.at; width = o.width; uleb = o.uleb; base = o.base; number = number_for o.base (start_of raw o.unit) o.place.offset };
+  operand = record {
+    at = o.at;
+    width = o.width;
+    uleb = o.uleb;
+    base = o.base;
+    number = number_for o.base (start_of raw o.unit)
+        o.place.offset;
+  };
 }
 
 -- ---- lists

@@ -1,5 +1,6 @@
 -- The operands of a list, as they are kept.
-use Rattle.std.specs.Prelude.{◌≡◌, ℕ, ◌+◌, ◌<◌, ◌^◌, Bool, true, false, List, [], ◌∷◌, ◌++◌, length, map, Option, Some, None, Result, Ok, Err, nat_lt, if◌then◌else◌}
+use Rattle.std.specs.Prelude.{◌≡◌, ℕ, ◌+◌, ◌<◌, ◌^◌, Bool, true, false, List, [], ◌∷◌, ◌++◌, length, map, Option, Some, None, Result, Ok}
+use Rattle.std.specs.Prelude.{Err, nat_lt, if◌then◌else◌}
 use Rattle.dwz_model.specs.declared.fault.Fault.{Fault}
 use Rattle.dwz_model.specs.declared.fault.Reason.TheVariants.{BadList}
 use Rattle.dwz_docs.specs.Faults.{Fails, info_fault}
@@ -32,7 +33,8 @@ pub record AreOperands (raw : List RawUnit) (file : ℕ) (s : Scope ℕ) (operan
   pub of_file : AreOfFile raw file more
   pub named : first_unnamed (is_named s) operands ≡ None
 
-abbrev pub NamesRows : {Y : Type 0} → List RawUnit → ℕ → Scope ℕ → List Operand → List ListOperand → List ListOperand → Result Y ReadErr → Type 0
+abbrev pub NamesRows : {Y : Type 0} → List RawUnit → ℕ → Scope ℕ → List Operand → List ListOperand → List ListOperand → Result Y ReadErr
+    → Type 0
 NamesRows raw file s operands old new (Ok y) = AreOperands raw file s operands old new
 NamesRows raw file s operands old new (Err NoMemory) = Unit {0}
 NamesRows raw file s operands old new (Err (Refused f)) = IsUnnamed s 7 operands f
@@ -43,7 +45,8 @@ abbrev pub named_list : Scope ℕ → Option ℕ → ℕ → LocList → NamedLi
 named_list s slot place list = record { unit = s.unit; from = place; slot = slot; list = list }
 
 -- a list stands at the place, and it is kept as one that is named, through that slot if there is one
-pub record HasList (raw : List RawUnit) (s : Scope ℕ) (n : ℕ) (slot : Option ℕ) (place : ℕ) (before : List NamedList) (old new : State) : Type 0 where
+pub record HasList (raw : List RawUnit) (s : Scope ℕ) (n : ℕ) (slot : Option ℕ) (place : ℕ) (before : List NamedList)
+    (old new : State) : Type 0 where
   pub list : LocList
   pub read : list_read s place ≡ Ok list
   pub refs : new.refs.items ≡ old.refs.items
@@ -57,7 +60,8 @@ Walks raw s n place before old new (Err e) = Fails e (list_read s place)
 abbrev pub list_there : Scope ℕ → ℕ → ℕ → Result LocList Fault
 list_there s at place = if nat_lt place (length s.around.sources.lists) then list_read s place else Err (info_fault at BadList)
 
-abbrev pub AddsAt : {Y : Type 0} → List RawUnit → Scope ℕ → ℕ → Option ℕ → ℕ → ℕ → List NamedList → State → State → Result Y ReadErr → Type 0
+abbrev pub AddsAt : {Y : Type 0} → List RawUnit → Scope ℕ → ℕ → Option ℕ → ℕ → ℕ → List NamedList → State → State → Result Y ReadErr
+    → Type 0
 AddsAt raw s n slot at place before old new (Ok y) = (place < length s.around.sources.lists) × HasList raw s n slot place before old new
 AddsAt raw s n slot at place before old new (Err e) = Fails e (list_there s at place)
 
@@ -79,15 +83,20 @@ AddsOffset raw s n name at offset before old new result = AddsIf (names_list nam
 -- the slot of an index, and the place of the list that it holds
 abbrev pub IsSlotAt : List ℕ → ℕ → ℕ → Option ListSlot → Type 0
 IsSlotAt section base index None = slot section base index ≡ None
-IsSlotAt section base index (Some x) = (offset : ℕ) × (slot section base index ≡ Some offset) × (x.at ≡ slot_place base index) × (x.place ≡ base + offset)
+IsSlotAt section base index (Some x) = (offset : ℕ) × (slot section base index ≡ Some offset) × (x.at ≡ slot_place base index)
+    × (x.place ≡ base + offset)
 
 -- the list of an index
-abbrev pub BySlot : {Y : Type 0} → List RawUnit → Scope ℕ → ℕ → ℕ → ℕ → ℕ → Option ℕ → List NamedList → State → State → Result Y ReadErr → Type 0
+abbrev pub BySlot : {Y : Type 0} → List RawUnit → Scope ℕ → ℕ → ℕ → ℕ → ℕ → Option ℕ → List NamedList → State → State → Result Y ReadErr
+    → Type 0
 BySlot raw s n base at index None before old new (Ok y) = ⊥
 BySlot raw s n base at index None before old new (Err e) = Fails {Y = LocList} e (Err (info_fault at BadList))
-BySlot raw s n base at index (Some offset) before old new result = AddsAt raw s n (Some (slot_place base index)) at (base + offset) before old new result
+BySlot raw s n base at index (Some offset) before old new result = AddsAt raw s n (Some (slot_place base index)) at (base + offset) before
+    old new result
 
-abbrev pub AddsIndexed : {Y : Type 0} → List RawUnit → Scope ℕ → ℕ → Option ℕ → ℕ → ℕ → List NamedList → State → State → Result Y ReadErr → Type 0
+abbrev pub AddsIndexed : {Y : Type 0} → List RawUnit → Scope ℕ → ℕ → Option ℕ → ℕ → ℕ → List NamedList → State → State → Result Y ReadErr
+    → Type 0
 AddsIndexed raw s n None at index before old new (Ok y) = ⊥
 AddsIndexed raw s n None at index before old new (Err e) = Fails {Y = LocList} e (Err (info_fault at BadList))
-AddsIndexed raw s n (Some base) at index before old new result = BySlot raw s n base at index (slot s.around.sources.lists base index) before old new result
+AddsIndexed raw s n (Some base) at index before old new result = BySlot raw s n base at index (slot s.around.sources.lists base index)
+    before old new result

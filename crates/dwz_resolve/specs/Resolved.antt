@@ -1,8 +1,10 @@
 -- Entries that are named, by their numbers.
-use Rattle.std.specs.Prelude.{◌≡◌, ℕ, ◌+◌, ◌<◌, ◌≤◌, Bool, true, false, List, [], ◌∷◌, ◌++◌, map, Result, Ok, Err, IsOk, Option, Some, None, slice_get, slice_index, slice_range}
+use Rattle.std.specs.Prelude.{◌≡◌, ℕ, ◌+◌, ◌<◌, ◌≤◌, Bool, true, false, List, [], ◌∷◌, ◌++◌, map, Result, Ok, Err, IsOk, Option, Some, None}
+use Rattle.std.specs.Prelude.{slice_get, slice_range}
 use Rattle.std.specs.Option.{is_some}
 use Rattle.dwz_model.specs.declared.fault.Fault.{Fault}
 use Rattle.dwz_model.specs.declared.fault.ReadErr.{ReadErr}
+use Rattle.dwz_docs.specs.Lists.{Each}
 use Rattle.dwz_docs.specs.Entries.{RawAttr}
 use Rattle.dwz_docs.specs.Faults.{Fails}
 use Rattle.dwz_meanings.specs.Meanings.{Around, Scope, Sources, alone, base_in, first_raw, places_of, scope_of}
@@ -20,15 +22,17 @@ use Rattle.dwz_forms.specs.declared.raw.Raw.{Raw as RawOfCode}
 use Rattle.dwz_forms.specs.RawValues.{raw_view}
 use Rattle.dwz_model.specs.declared.place.Pair.{Pair}
 use Rattle.dwz_unit.specs.declared.rows.RawUnit.{RawUnit as UnitOfCode}
-use Rattle.dwz_unit.specs.Rows.{rows_of, unit_shown}
-
--- each of them
-abbrev pub Each : {X : Type 0} → (X → Type 0) → List X → Type 0
-Each P [] = Unit {0}
-Each P (x ∷ xs) = P x × Each P xs
+use Rattle.dwz_unit.specs.Rows.{unit_shown}
 
 abbrev pub sources_view : Sections → Sources
-sources_view s = record { strs = s.strs.bytes.now; line_strs = s.line_strs.bytes.now; offsets = s.offsets.now; line = s.line.now; lists = s.lists.now }
+sources_view s = record {
+  strs = s.strs.bytes.now;
+  line_strs = s.line_strs.bytes.now;
+  offsets = s.offsets.now;
+  line = s.line.now;
+  lists =
+      s.lists.now;
+}
 
 -- what surrounds the units, and what one of them stands in
 abbrev pub around : Sections → List RawUnit → Around ℕ
@@ -46,7 +50,8 @@ abbrev pub AreEntries : List RawUnit → List ℕ → Type 0
 AreEntries raw numbers = Each (λ i. i < entries_in raw) numbers
 
 -- Numbers of entries were added, whose places are named, and so were lists.
-pub record Adds (raw : List RawUnit) (old new : List ℕ) (before : List NamedList) (Keeps : List NamedList → Type 0) (named : Result Found Fault) : Type 0 where
+pub record Adds (raw : List RawUnit) (old new : List ℕ) (before : List NamedList) (Keeps : List NamedList → Type 0)
+    (named : Result Found Fault) : Type 0 where
   pub more : List ℕ
   pub lists : List NamedList
   pub refs : new ≡ old ++ more
@@ -55,7 +60,8 @@ pub record Adds (raw : List RawUnit) (old new : List ℕ) (before : List NamedLi
   pub keeps : Keeps (before ++ lists)
 
 -- what a call added is what is named; or there is a fault, and it is the same
-abbrev pub Goes : {Y : Type 0} → List RawUnit → (List NamedList → State → Type 0) → List NamedList → State → State → Result Y ReadErr → Result Found Fault → Type 0
+abbrev pub Goes : {Y : Type 0} → List RawUnit → (List NamedList → State → Type 0) → List NamedList → State → State → Result Y ReadErr
+    → Result Found Fault → Type 0
 Goes raw K before old new (Ok y) named = Adds raw old.refs.items new.refs.items before (λ lists. K lists new) named
 Goes raw K before old new (Err e) named = Fails e named
 

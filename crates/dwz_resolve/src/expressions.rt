@@ -36,7 +36,8 @@ pub(crate) fn bad_operand(section: u8, at: u64) -> ReadErr
 pub fn entry_of(units: &Units, sections: &Sections, here: &Here, operand: &Operand) -> Option<u32>
     requires { here.now.end ≤ entries_in (units_of units.now) }
     ensures within { IfSome result (λ i. i < entries_in (units_of units.now)) }
-    ensures looks { (u : RawUnit) → IsHere (units_of units.now) u here.now → LooksUp (units_of units.now) (scope_in sections.now (units_of units.now) u) operand.now result }
+    ensures looks { (u : RawUnit) → IsHere (units_of units.now) u here.now
+        → LooksUp (units_of units.now) (scope_in sections.now (units_of units.now) u) operand.now result }
 {
     let _sections = sections;
     match operand.base {
@@ -74,7 +75,9 @@ pub(crate) fn add_operands(
     refs: &mut Vec<u32>,
 ) -> Result<(), ReadErr>
     requires { here.now.end ≤ entries_in (units_of units.now) }
-    ensures { (u : RawUnit) → IsHere (units_of units.now) u here.now → NamesAll (units_of units.now) (scope_in sections.now (units_of units.now) u) section operands.now refs.old.items refs.new.items result }
+    ensures { (u : RawUnit) → IsHere (units_of units.now) u here.now
+        → NamesAll (units_of units.now) (scope_in sections.now (units_of units.now) u) section operands.now refs.old.items refs.new.items
+        result }
 {
     for operand in operands {
         match entry_of(units, sections, here, operand) {
@@ -111,7 +114,11 @@ pub(crate) fn add_expression(
     requires { here.now.end ≤ entries_in (units_of units.now) }
     ensures file { state.new.file ≡ state.old.file }
     ensures files { state.new.files ≡ state.old.files }
-    ensures goes { (u : RawUnit) (before : List NamedList) → IsHere (units_of units.now) u here.now → StateIn sections.now (units_of units.now) u here.now before state.old → Goes (units_of units.now) (StateIn sections.now (units_of units.now) u here.now) before state.old state.new result (expr_named (scope_in sections.now (units_of units.now) u) (record { at = end - length (Meanings.bytes_of (raw_view raw.now)); rest = Meanings.bytes_of (raw_view raw.now) })) }
+    ensures goes { (u : RawUnit) (before : List NamedList) → IsHere (units_of units.now) u here.now
+        → StateIn sections.now (units_of units.now) u here.now before state.old
+        → Goes (units_of units.now) (StateIn sections.now (units_of units.now) u here.now) before state.old state.new result
+        (expr_named (scope_in sections.now (units_of units.now) u)
+        (record { at = end - length (Meanings.bytes_of (raw_view raw.now)); rest = Meanings.bytes_of (raw_view raw.now) })) }
 {
     let bytes = bytes_of(raw);
     let at = end.saturating_sub(bytes.len() as u64);

@@ -139,7 +139,8 @@ impl Files {
         raw: &Raw,
     ) -> Result<(), ReadErr>
         ensures learns { IfLearns true line self.old self.new result }
-        ensures says { KnowTables (sources_view sections.now) self.old → SaysFile (sources_view sections.now) line at (Meanings.number_of (raw_view raw.now)) self.new result }
+        ensures says { KnowTables (sources_view sections.now) self.old
+            → SaysFile (sources_view sections.now) line at (Meanings.number_of (raw_view raw.now)) self.new result }
     {
         let number = number_of(raw);
         match line {
@@ -172,7 +173,8 @@ pub(crate) fn check_constant(
     files: &mut Files,
 ) -> Result<(), ReadErr>
     ensures learns { IfLearns (Meanings.names_file name) here.now.line files.old files.new result }
-    ensures says { KnowTables (sources_view sections.now) files.old → SaysConstant (sources_view sections.now) here.now.line name at (Meanings.number_of (raw_view raw.now)) files.new result }
+    ensures says { KnowTables (sources_view sections.now) files.old
+        → SaysConstant (sources_view sections.now) here.now.line name at (Meanings.number_of (raw_view raw.now)) files.new result }
 {
     if names_file(name) {
         files.check(sections, here.line, at, raw)

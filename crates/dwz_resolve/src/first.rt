@@ -13,7 +13,8 @@ use dwz_unit::{RawAttr, Units};
 /// The first value of a name in the entry with a number (DWARF 5, 2.2: an entry has at most one).
 pub fn first_attr<'x>(units: &Units<'x>, entry: u32, name: u16) -> Option<RawAttr<'x>>
     requires { entry < entries_in (units_of units.now) }
-    ensures first { (row : EntryRow) → slice_get (rows_of (units_of units.now)) entry ≡ Some row → option_map attr_view result ≡ first_raw name row.entry.attrs }
+    ensures first { (row : EntryRow) → slice_get (rows_of (units_of units.now)) entry ≡ Some row
+        → option_map attr_view result ≡ first_raw name row.entry.attrs }
     ensures spelled { IfSome result (λ a. HasSpelling a.pair.form (raw_view a.raw)) }
 {
     let count = units.entry(entry).attrs;

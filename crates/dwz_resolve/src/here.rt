@@ -50,7 +50,8 @@ fn base_in(attr: &RawAttr) -> Option<u32>
 // The offset that the first attribute of a name gives, of the entry with a number.
 fn base_of(units: &Units, root: u32, name: u16) -> Option<u32>
     requires { root < entries_in (units_of units.now) }
-    ensures { (row : EntryRow) → slice_get (rows_of (units_of units.now)) root ≡ Some row → result ≡ Meanings.base_in (first_raw name row.entry.attrs) }
+    ensures { (row : EntryRow) → slice_get (rows_of (units_of units.now)) root ≡ Some row
+        → result ≡ Meanings.base_in (first_raw name row.entry.attrs) }
 {
     match first_attr(units, root, name) {
         None => None,

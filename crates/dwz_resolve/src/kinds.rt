@@ -20,7 +20,8 @@ const INFO: u8 = 1;
 // The type of a unit is one of its entries.
 fn check_type(units: &Units, first: u32, end: u32, at: u32, type_offset: u32) -> Result<(), ReadErr>
     requires { end ≤ entries_in (units_of units.now) }
-    ensures { (own : List ℕ) → slice_range (places (units_of units.now)) first end ≡ own → Checks result (Meanings.has (at + type_offset) own) (info_fault (at + 20) BadReference) }
+    ensures { (own : List ℕ) → slice_range (places (units_of units.now)) first end ≡ own
+        → Checks result (Meanings.has (at + type_offset) own) (info_fault (at + 20) BadReference) }
 {
     match find(units, first, end, at as u128 + type_offset as u128) {
         Some(_) => Ok(()),
@@ -42,7 +43,8 @@ pub(crate) fn check_kind(
     unit: &RawUnitOfCode,
 ) -> Result<(), ReadErr>
     requires { here.now.end ≤ entries_in (units_of units.now) }
-    ensures { (u : RawUnit) → IsHere (units_of units.now) u here.now → unit_shown unit.now.first u ≡ unit.now → IsDone result (kind_named (scope_in sections.now (units_of units.now) u) u.kind) }
+    ensures { (u : RawUnit) → IsHere (units_of units.now) u here.now → unit_shown unit.now.first u ≡ unit.now
+        → IsDone result (kind_named (scope_in sections.now (units_of units.now) u) u.kind) }
 {
     let _sections = sections;
     if unit.kind != TYPE_UNIT {

@@ -87,7 +87,9 @@ fn name_operands(
     out: &mut Vec<ListOperand>,
 ) -> Result<(), ReadErr>
     requires { here.now.end ≤ entries_in (units_of units.now) }
-    ensures { (u : RawUnit) → IsHere (units_of units.now) u here.now → NamesRows (units_of units.now) file (scope_in sections.now (units_of units.now) u) operands.now out.old.items out.new.items result }
+    ensures { (u : RawUnit) → IsHere (units_of units.now) u here.now
+        → NamesRows (units_of units.now) file (scope_in sections.now (units_of units.now) u) operands.now out.old.items out.new.items
+        result }
 {
     for operand in operands {
         match entry_of(units, sections, here, operand) {
@@ -110,7 +112,10 @@ fn walk(
     requires place { place < length sections.now.lists.now }
     ensures file { state.new.file ≡ state.old.file }
     ensures files { state.new.files ≡ state.old.files }
-    ensures goes { (u : RawUnit) (before : List NamedList) → IsHere (units_of units.now) u here.now → StateIn sections.now (units_of units.now) u here.now before state.old → Walks (units_of units.now) (scope_in sections.now (units_of units.now) u) here.now.number place before state.old state.new result }
+    ensures goes { (u : RawUnit) (before : List NamedList) → IsHere (units_of units.now) u here.now
+        → StateIn sections.now (units_of units.now) u here.now before state.old
+        → Walks (units_of units.now) (scope_in sections.now (units_of units.now) u) here.now.number place before state.old state.new
+        result }
 {
     state.operands.clear();
     let first = state.lists.operands.as_slice().len();
@@ -162,7 +167,10 @@ fn walk_once(
     requires place { place < length sections.now.lists.now }
     ensures file { state.new.file ≡ state.old.file }
     ensures files { state.new.files ≡ state.old.files }
-    ensures goes { (u : RawUnit) (before : List NamedList) → IsHere (units_of units.now) u here.now → StateIn sections.now (units_of units.now) u here.now before state.old → Walks (units_of units.now) (scope_in sections.now (units_of units.now) u) here.now.number place before state.old state.new result }
+    ensures goes { (u : RawUnit) (before : List NamedList) → IsHere (units_of units.now) u here.now
+        → StateIn sections.now (units_of units.now) u here.now before state.old
+        → Walks (units_of units.now) (scope_in sections.now (units_of units.now) u) here.now.number place before state.old state.new
+        result }
 {
     if was_seen(&state.lists.seen, place, here.number) {
         return Ok(());
@@ -194,7 +202,10 @@ fn add_list(
     requires { here.now.end ≤ entries_in (units_of units.now) }
     ensures file { state.new.file ≡ state.old.file }
     ensures files { state.new.files ≡ state.old.files }
-    ensures goes { (u : RawUnit) (before : List NamedList) → IsHere (units_of units.now) u here.now → StateIn sections.now (units_of units.now) u here.now before state.old → AddsList (units_of units.now) (scope_in sections.now (units_of units.now) u) here.now.number at place before state.old state.new result }
+    ensures goes { (u : RawUnit) (before : List NamedList) → IsHere (units_of units.now) u here.now
+        → StateIn sections.now (units_of units.now) u here.now before state.old
+        → AddsList (units_of units.now) (scope_in sections.now (units_of units.now) u) here.now.number at place before state.old state.new
+        result }
 {
     if place >= sections.lists.len() as u128 {
         return Err(bad_list(at));
@@ -232,7 +243,10 @@ pub(crate) fn add_offset(
     requires { here.now.end ≤ entries_in (units_of units.now) }
     ensures file { state.new.file ≡ state.old.file }
     ensures files { state.new.files ≡ state.old.files }
-    ensures goes { (u : RawUnit) (before : List NamedList) → IsHere (units_of units.now) u here.now → StateIn sections.now (units_of units.now) u here.now before state.old → AddsOffset (units_of units.now) (scope_in sections.now (units_of units.now) u) here.now.number name at offset before state.old state.new result }
+    ensures goes { (u : RawUnit) (before : List NamedList) → IsHere (units_of units.now) u here.now
+        → StateIn sections.now (units_of units.now) u here.now before state.old
+        → AddsOffset (units_of units.now) (scope_in sections.now (units_of units.now) u) here.now.number name at offset before state.old
+        state.new result }
 {
     if names_list(name) {
         add_list(units, sections, here, at, offset, state)
@@ -274,7 +288,10 @@ pub(crate) fn add_indexed(
     requires { here.now.end ≤ entries_in (units_of units.now) }
     ensures file { state.new.file ≡ state.old.file }
     ensures files { state.new.files ≡ state.old.files }
-    ensures goes { (u : RawUnit) (before : List NamedList) → IsHere (units_of units.now) u here.now → StateIn sections.now (units_of units.now) u here.now before state.old → AddsIndexed (units_of units.now) (scope_in sections.now (units_of units.now) u) here.now.number here.now.lists at index before state.old state.new result }
+    ensures goes { (u : RawUnit) (before : List NamedList) → IsHere (units_of units.now) u here.now
+        → StateIn sections.now (units_of units.now) u here.now before state.old
+        → AddsIndexed (units_of units.now) (scope_in sections.now (units_of units.now) u) here.now.number here.now.lists at index before
+        state.old state.new result }
 {
     let Some(base) = here.lists else {
         return Err(bad_list(at));

@@ -59,7 +59,11 @@ fn add_as(
     requires { here.now.end ≤ entries_in (units_of units.now) }
     ensures file { state.new.file ≡ state.old.file }
     ensures learns { IfLearns (numbers_as (class_view class) pair.now.name) here.now.line state.old.files state.new.files result }
-    ensures goes { (u : RawUnit) (before : List NamedList) → IsHere (units_of units.now) u here.now → StateIn sections.now (units_of units.now) u here.now before state.old → Goes (units_of units.now) (StateIn sections.now (units_of units.now) u here.now) before state.old state.new result (map_ok (found_in (lists_as (class_view class) (scope_in sections.now (units_of units.now) u) (stored at end pair.now raw.now))) (as_class (class_view class) (scope_in sections.now (units_of units.now) u) (stored at end pair.now raw.now))) }
+    ensures goes { (u : RawUnit) (before : List NamedList) → IsHere (units_of units.now) u here.now
+        → StateIn sections.now (units_of units.now) u here.now before state.old
+        → Goes (units_of units.now) (StateIn sections.now (units_of units.now) u here.now) before state.old state.new result
+        (map_ok (found_in (lists_as (class_view class) (scope_in sections.now (units_of units.now) u) (stored at end pair.now raw.now)))
+        (as_class (class_view class) (scope_in sections.now (units_of units.now) u) (stored at end pair.now raw.now))) }
 {
     let offset = offset_of(raw);
     match class {
@@ -118,7 +122,10 @@ fn add_attr(
     requires { here.now.end ≤ entries_in (units_of units.now) }
     ensures file { state.new.file ≡ state.old.file }
     ensures learns { IfLearns (numbers_file (stored at end pair.now raw.now)) here.now.line state.old.files state.new.files result }
-    ensures goes { (u : RawUnit) (before : List NamedList) → IsHere (units_of units.now) u here.now → StateIn sections.now (units_of units.now) u here.now before state.old → Goes (units_of units.now) (StateIn sections.now (units_of units.now) u here.now) before state.old state.new result (attr_named (scope_in sections.now (units_of units.now) u) (stored at end pair.now raw.now)) }
+    ensures goes { (u : RawUnit) (before : List NamedList) → IsHere (units_of units.now) u here.now
+        → StateIn sections.now (units_of units.now) u here.now before state.old
+        → Goes (units_of units.now) (StateIn sections.now (units_of units.now) u here.now) before state.old state.new result
+        (attr_named (scope_in sections.now (units_of units.now) u) (stored at end pair.now raw.now)) }
 {
     if pair.name == SIBLING {
         return Ok(());
@@ -147,8 +154,12 @@ fn add_values(
     requires row { i < entries_in (units_of units.now) }
     requires here { here.now.end ≤ entries_in (units_of units.now) }
     ensures file { state.new.file ≡ state.old.file }
-    ensures learns { (row : EntryRow) → slice_get (rows_of (units_of units.now)) i ≡ Some row → IfLearns (list_any numbers_file row.entry.attrs) here.now.line state.old.files state.new.files result }
-    ensures goes { (u : RawUnit) (row : EntryRow) (before : List NamedList) → IsHere (units_of units.now) u here.now → slice_get (rows_of (units_of units.now)) i ≡ Some row → StateIn sections.now (units_of units.now) u here.now before state.old → Goes (units_of units.now) (StateIn sections.now (units_of units.now) u here.now) before state.old state.new result (entry_named (scope_in sections.now (units_of units.now) u) row.entry) }
+    ensures learns { (row : EntryRow) → slice_get (rows_of (units_of units.now)) i ≡ Some row
+        → IfLearns (list_any numbers_file row.entry.attrs) here.now.line state.old.files state.new.files result }
+    ensures goes { (u : RawUnit) (row : EntryRow) (before : List NamedList) → IsHere (units_of units.now) u here.now
+        → slice_get (rows_of (units_of units.now)) i ≡ Some row → StateIn sections.now (units_of units.now) u here.now before state.old
+        → Goes (units_of units.now) (StateIn sections.now (units_of units.now) u here.now) before state.old state.new result
+        (entry_named (scope_in sections.now (units_of units.now) u) row.entry) }
 {
     let Values { pairs, mut cursor } = units.values(i);
     for pair in pairs {
@@ -170,8 +181,13 @@ fn add_unit(
 ) -> Result<(), ReadErr>
     requires { n < length (units_of units.now) }
     ensures file { state.new.file ≡ state.old.file }
-    ensures parts { (before : List NamedList) → StateAt sections.now (units_of units.now) n before state.old → IsParted sections.now (units_of units.now) n state.old parts.old → IfOk result (λ y. IsParted sections.now (units_of units.now) (n + 1) state.new parts.new) }
-    ensures goes { (u : RawUnit) (before : List NamedList) → slice_get (units_of units.now) n ≡ Some u → StateAt sections.now (units_of units.now) n before state.old → Goes (units_of units.now) (StateAt sections.now (units_of units.now) (n + 1)) before state.old state.new result (unit_named (around sections.now (units_of units.now)) u) }
+    ensures parts { (before : List NamedList) → StateAt sections.now (units_of units.now) n before state.old
+        → IsParted sections.now (units_of units.now) n state.old parts.old
+        → IfOk result (λ y. IsParted sections.now (units_of units.now) (n + 1) state.new parts.new) }
+    ensures goes { (u : RawUnit) (before : List NamedList) → slice_get (units_of units.now) n ≡ Some u
+        → StateAt sections.now (units_of units.now) n before state.old
+        → Goes (units_of units.now) (StateAt sections.now (units_of units.now) (n + 1)) before state.old state.new result
+        (unit_named (around sections.now (units_of units.now)) u) }
 {
     let unit = units.unit(n);
     let here = here_of(units, n, &unit);
@@ -192,8 +208,12 @@ pub(crate) fn add_units(
     parts: &mut Parts,
 ) -> Result<(), ReadErr>
     ensures file { state.new.file ≡ state.old.file }
-    ensures parts { StateAt sections.now (units_of units.now) 0 [] state.old → IsParted sections.now (units_of units.now) 0 state.old parts.old → IfOk result (λ y. IsParted sections.now (units_of units.now) (length (units_of units.now)) state.new parts.new) }
-    ensures goes { StateAt sections.now (units_of units.now) 0 [] state.old → Goes (units_of units.now) (StateAt sections.now (units_of units.now) (length (units_of units.now))) [] state.old state.new result (units_named (around sections.now (units_of units.now)) (units_of units.now)) }
+    ensures parts { StateAt sections.now (units_of units.now) 0 [] state.old
+        → IsParted sections.now (units_of units.now) 0 state.old parts.old
+        → IfOk result (λ y. IsParted sections.now (units_of units.now) (length (units_of units.now)) state.new parts.new) }
+    ensures goes { StateAt sections.now (units_of units.now) 0 [] state.old
+        → Goes (units_of units.now) (StateAt sections.now (units_of units.now) (length (units_of units.now))) [] state.old state.new result
+        (units_named (around sections.now (units_of units.now)) (units_of units.now)) }
 {
     for n in 0..units.len() {
         add_unit(units, sections, n, state, parts)?;

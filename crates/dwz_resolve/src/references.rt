@@ -39,7 +39,8 @@ pub(crate) fn add_entry(
     hints: &mut Hints,
 ) -> Result<(), ReadErr>
     requires { end ≤ entries_in (units_of units.now) }
-    ensures { (own : List ℕ) → slice_range (places (units_of units.now)) first end ≡ own → NamesEntry (units_of units.now) refs.old.items refs.new.items result (entry_among (λ n. n) own at place) }
+    ensures { (own : List ℕ) → slice_range (places (units_of units.now)) first end ≡ own
+        → NamesEntry (units_of units.now) refs.old.items refs.new.items result (entry_among (λ n. n) own at place) }
 {
     match find_again(units, first, end, place, hints) {
         Some(number) => {

@@ -52,11 +52,15 @@ pub fn resolve(
     sections: &Sections,
 ) -> Result<Resolved, ReadErr>
     ensures within { IfOk result (λ r. AreEntries (units_of units.now) r.refs.items) }
-    ensures operands { IfOk result (λ r. AreRows (lists_of_units (around sections.now (units_of units.now)) (units_of units.now)) (map (operand_view (units_of units.now)) r.operands.items)) }
+    ensures operands { IfOk result (λ r. AreRows (lists_of_units (around sections.now (units_of units.now)) (units_of units.now))
+        (map (operand_view (units_of units.now)) r.operands.items)) }
     ensures of_file { IfOk result (λ r. AreOfFile (units_of units.now) file r.operands.items) }
-    ensures starts { IfOk result (λ r. AreParted (around sections.now (units_of units.now)) (units_of units.now) (entries_in (units_of units.now)) r.refs.items r.starts.items) }
-    ensures lines { IfOk result (λ r. HaveLines (around sections.now (units_of units.now)) (units_of units.now) (length (units_of units.now)) r.tables.items r.lines.items) }
-    ensures answers { Answers (λ r. map (place_at (units_of units.now)) r.refs.items) result (map_ok units_refs (said (around sections.now (units_of units.now)) (units_of units.now) sections.now.aranges.now)) }
+    ensures starts { IfOk result (λ r. AreParted (around sections.now (units_of units.now)) (units_of units.now)
+        (entries_in (units_of units.now)) r.refs.items r.starts.items) }
+    ensures lines { IfOk result (λ r. HaveLines (around sections.now (units_of units.now)) (units_of units.now)
+        (length (units_of units.now)) r.tables.items r.lines.items) }
+    ensures answers { Answers (λ r. map (place_at (units_of units.now)) r.refs.items) result
+        (map_ok units_refs (said (around sections.now (units_of units.now)) (units_of units.now) sections.now.aranges.now)) }
 {
     // Each reference has a byte of it at least, so 4 bytes are enough for where those of an entry begin.
     let info = units.info();

@@ -6,7 +6,9 @@ ghost use Rattle.dwz_docs.specs.Faults.{Fails};
 ghost use Rattle.dwz_docs.specs.Lists.{In, has};
 ghost use Rattle.dwz_meanings.specs.Shared.{NamedList, none_shared, same_base, shared_list};
 ghost use Rattle.dwz_model.specs.declared.fault.ReadErr.TheVariants.{Refused};
-ghost use Rattle.dwz_resolve.specs.Apart.{AreWide, Behind, FindsApart, FindsForeign, HasClash, IsLeast, Rise, Rows, Tested, places_of_rows, repeats_last, same_operand};
+ghost use Rattle.dwz_resolve.specs.Apart.{AreWide, Behind, FindsApart, FindsForeign, HasClash, IsLesser, Rise, Rows, Tested};
+ghost use Rattle.dwz_resolve.specs.Apart.{places_of_rows};
+ghost use Rattle.dwz_resolve.specs.Apart.{repeats_last, same_operand};
 ghost use Rattle.dwz_resolve.specs.ListRows.{AreDistinct, AreUnshared, AreWithin, IsWithin, Shows, own_rows, row_test, slot_test, tests_of};
 ghost use Rattle.dwz_resolve.specs.declared.lists.ListRow.{ListRow as KeptList};
 ghost use Rattle.dwz_resolve.specs.declared.operands.ListOperand.{ListOperand as Row};
@@ -131,7 +133,8 @@ fn owns(own: &[ListOperand], place: u32) -> bool
 
 // The place of the first of the rows that has a byte from one place to before another, and isn't one of these operands.
 fn foreign(kept: &[ListOperand], from: u64, end: u64, own: &[ListOperand]) -> Option<u32>
-    ensures { (top high : ℕ) → Rows 0 kept.now top → Rows 0 own.now high → FindsForeign kept.now (record { from = from; end = end; own = own.now }) result }
+    ensures { (top high : ℕ) → Rows 0 kept.now top → Rows 0 own.now high
+        → FindsForeign kept.now (record { from = from; end = end; own = own.now }) result }
 {
     let first = behind(kept, from);
     let mut k = first;
@@ -150,7 +153,7 @@ fn foreign(kept: &[ListOperand], from: u64, end: u64, own: &[ListOperand]) -> Op
 
 #[inline(always)]
 fn least(a: Option<u32>, b: Option<u32>) -> Option<u32>
-    ensures { IsLeast a b result }
+    ensures { IsLesser a b result }
 {
     match a {
         None => b,
@@ -164,7 +167,8 @@ fn least(a: Option<u32>, b: Option<u32>) -> Option<u32>
 // The place of the first of the rows that has a byte of a list, and isn't one of its own.
 fn foreign_to_list(kept: &[ListOperand], operands: &[ListOperand], list: &ListRow) -> Option<u32>
     requires { IsWithin operands.now list.now }
-    ensures { (top high : ℕ) → Rows 0 kept.now top → Rows 0 (own_rows operands.now list.now) high → FindsForeign kept.now (row_test operands.now list.now) result }
+    ensures { (top high : ℕ) → Rows 0 kept.now top → Rows 0 (own_rows operands.now list.now) high
+        → FindsForeign kept.now (row_test operands.now list.now) result }
 {
     let own = &operands[list.first..list.last];
     foreign(kept, list.from, list.end, own)
@@ -180,7 +184,9 @@ fn foreign_to_slot(kept: &[ListOperand], slot: u32) -> Option<u32>
 // The least place at which an operand shares a byte, where that of those that clash is known.
 fn first_shared(kept: &[ListOperand], lists: &Lists, clash: Option<u32>) -> Option<u32>
     requires { AreWithin lists.now }
-    ensures { (xs : List Row) (top : ℕ) → Rows 0 kept.now top → ((w : KeptList) → In w lists.now.rows.items → Rows (w.from + 1) (own_rows lists.now.operands.items w) w.end) → HasClash xs clash → Tested xs kept.now clash (tests_of lists.now) result }
+    ensures { (xs : List Row) (top : ℕ) → Rows 0 kept.now top
+        → ((w : KeptList) → In w lists.now.rows.items → Rows (w.from + 1) (own_rows lists.now.operands.items w) w.end) → HasClash xs clash
+        → Tested xs kept.now clash (tests_of lists.now) result }
 {
     let mut place = clash;
     for row in &lists.rows {
@@ -206,8 +212,10 @@ fn in_order(alloc: Global, operands: &[ListOperand]) -> Result<Vec<ListOperand>,
 /// whose own it isn't, or with a slot.
 pub(crate) fn unshared(alloc: Global, lists: &Lists) -> Result<Vec<ListOperand>, ReadErr>
     requires { AreWithin lists.now }
-    ensures ok { (raw : List RawUnit) (file : ℕ) (named : List NamedList) → Shows raw file named lists.now → AreDistinct raw → IfOk result (λ rows. AreUnshared raw file named rows.items) }
-    ensures err { (raw : List RawUnit) (file : ℕ) (named : List NamedList) → Shows raw file named lists.now → AreDistinct raw → IfErr result (λ e. Fails e (none_shared named)) }
+    ensures ok { (raw : List RawUnit) (file : ℕ) (named : List NamedList) → Shows raw file named lists.now → AreDistinct raw
+        → IfOk result (λ rows. AreUnshared raw file named rows.items) }
+    ensures err { (raw : List RawUnit) (file : ℕ) (named : List NamedList) → Shows raw file named lists.now → AreDistinct raw
+        → IfErr result (λ e. Fails e (none_shared named)) }
 {
     let sorted = in_order(alloc, &lists.operands)?;
     let mut kept = Vec::new(alloc);

@@ -21,12 +21,14 @@ unfolding first_raw first_named without_siblings
 first_same s [] [] h = tt
 first_same s [] (b ∷ attrs) h = absurd h
 first_same s (a ∷ raw) attrs h = go (first_same s raw) (a.pair.name == 0x01) refl attrs h where
-  named : (b : Attr ℕ) (others : List (Attr ℕ)) → MeansAttr s a b → FirstSame (first_raw 0x10 raw) (first_named 0x10 others) → (t : Bool) → FirstSame (cond t (Some a) (first_raw 0x10 raw)) (cond t (Some b) (first_named 0x10 others))
+  named : (b : Attr ℕ) (others : List (Attr ℕ)) → MeansAttr s a b → FirstSame (first_raw 0x10 raw) (first_named 0x10 others) → (t : Bool)
+      → FirstSame (cond t (Some a) (first_raw 0x10 raw)) (cond t (Some b) (first_named 0x10 others))
   named b others m rest true = (m.form, m.raw)
   named b others m rest false = rest
 
   go : ((attrs : List (Attr ℕ)) → MeanAttrs s (without_siblings raw) attrs → FirstSame (first_raw 0x10 raw) (first_named 0x10 attrs)) → (t : Bool) → (a.pair.name == 0x01) ≡ t
-      → (attrs : List (Attr ℕ)) → MeanAttrs s (cond t (without_siblings raw) (a ∷ without_siblings raw)) attrs → FirstSame (cond (a.pair.name == 0x10) (Some a) (first_raw 0x10 raw)) (first_named 0x10 attrs)
+      → (attrs : List (Attr ℕ)) → MeanAttrs s (cond t (without_siblings raw) (a ∷ without_siblings raw)) attrs
+      → FirstSame (cond (a.pair.name == 0x10) (Some a) (first_raw 0x10 raw)) (first_named 0x10 attrs)
   go rest true e attrs h =
       let other : (a.pair.name == 0x10) ≡ false = ap (λ (n : ℕ). n == 0x10) (eqb-true a.pair.name 0x01 e) in
       subst (λ (b : Bool). FirstSame (cond b (Some a) (first_raw 0x10 raw)) (first_named 0x10 attrs)) (sym other) (rest attrs h)
@@ -60,7 +62,8 @@ says (Some a) (Some b) None h l = λ e. l (sym h.0 ∙ e)
 says (Some a) (Some b) (Some n) h l = (h.0 ∙ l.0, h.1 ∙ l.1)
 
 -- the root says the offset
-pub root_says : (s : Scope ℕ) (raw : List RawAttr) (attrs : List (Attr ℕ)) (name : ℕ → Spot) (line : Option ℕ) → MeanAttrs s (without_siblings raw) attrs → LineOf (first_raw 0x10 raw) line → SaysLine (first_named 0x10 (map (attr_map name) attrs)) line
+pub root_says : (s : Scope ℕ) (raw : List RawAttr) (attrs : List (Attr ℕ)) (name : ℕ → Spot) (line : Option ℕ) → MeanAttrs s (without_siblings raw) attrs → LineOf (first_raw 0x10 raw) line
+    → SaysLine (first_named 0x10 (map (attr_map name) attrs)) line
 root_says s raw attrs name line m l = says (first_raw 0x10 raw) (first_named 0x10 (map (attr_map name) attrs)) line (same_mapped (first_raw 0x10 raw) name attrs (first_same s raw attrs m)) l
 
 some_base : (a : RawAttr) (b : Bool) → is_some (cond b (Some (reach (number_of a.raw))) None) ≡ b
@@ -75,7 +78,8 @@ base_so (Some a) (Some b) None h l = sym (some_base a (a.pair.form == 0x17) ∙ 
 base_so (Some a) (Some b) (Some n) h l = sym (some_base a (a.pair.form == 0x17) ∙ eq-eqb a.pair.form 0x17 (sym h.0 ∙ l.0))
 
 -- there is one exactly where it says one
-pub root_some : (s : Scope ℕ) (raw : List RawAttr) (attrs : List (Attr ℕ)) (name : ℕ → Spot) (line : Option ℕ) → MeanAttrs s (without_siblings raw) attrs → SaysLine (first_named 0x10 (map (attr_map name) attrs)) line → is_some line ≡ is_some (base_in (first_raw 0x10 raw))
+pub root_some : (s : Scope ℕ) (raw : List RawAttr) (attrs : List (Attr ℕ)) (name : ℕ → Spot) (line : Option ℕ) → MeanAttrs s (without_siblings raw) attrs
+    → SaysLine (first_named 0x10 (map (attr_map name) attrs)) line → is_some line ≡ is_some (base_in (first_raw 0x10 raw))
 root_some s raw attrs name line m l = base_so (first_raw 0x10 raw) (first_named 0x10 (map (attr_map name) attrs)) line (same_mapped (first_raw 0x10 raw) name attrs (first_same s raw attrs m)) l
 
 pub root_got : (units : List (FileUnit Spot)) (i : ℕ) (u : FileUnit Spot) → slice_get units i ≡ Some u → root_of units i ≡ u.unit.root.attrs

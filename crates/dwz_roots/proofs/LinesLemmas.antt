@@ -2,10 +2,11 @@
 use Rattle.std.proofs.Common.{◌≡◌, ◌⊎◌, ℕ, zero, suc, ◌+◌, ◌<◌, List, [], ◌∷◌, ◌++◌, length, map, get_or, Option, Some, None, slice_get, refl, sym, ap, subst, ◌∙◌, ⊎_elim, arith}
 use Rattle.std.specs.Prelude.{slice_index_or}
 use Rattle.std.proofs.lemmas.List.{length-append}
+use Rattle.dwz_docs.proofs.ListFacts.{got_below, got_map, item_got, same_got}
 use Rattle.dwz_meanings.specs.Documents.{Doc}
 use Rattle.dwz_seen.specs.Lists.{Nth}
+use Rattle.dwz_seen.proofs.Members.{nth_get}
 use Rattle.dwz_alike.specs.Spots.{file_numbers, units_of}
-use Rattle.dwz_across.proofs.ListGets.{got_below, got_map, item_got, same_got}
 use Rattle.dwz_moving.specs.Homes.{Rule}
 use Rattle.dwz_moving.specs.Moves.{line_attrs, root_in_part}
 use Rattle.dwz_moving.specs.Plan.{PartialUnit, partials}
@@ -18,7 +19,6 @@ use Rattle.dwz_plan.specs.Shows.{ShowsPlan, shown_part}
 use Rattle.dwz_plan.proofs.BridgeLemmas.{file_numbers_are}
 use Rattle.dwz_same.proofs.HeldLemmas.{part_found}
 use Rattle.dwz_roots.specs.Roots.{AreLines}
-use Rattle.dwz_roots.proofs.PlaceLemmas.{nth_get}
 
 abbrev pub parts_of : Rule → List (Doc ℕ) → List PartialUnit
 parts_of rule docs = partials rule (units_of docs) (file_numbers 0 docs)
@@ -45,7 +45,8 @@ pub line_more : (rule : Rule) (docs : List (Doc ℕ)) (i : ℕ) (lines new : Lis
 line_more rule docs i lines new line h e says = record {
   len = ap (λ (w : List (Option ℕ)). length w) e ∙ length-append lines (line ∷ []) ∙ ap (λ (k : ℕ). k + 1) h.len;
   each = λ k part lt nth. ⊎_elim
-      (λ (less : k < i). (let long = h.len in subst (λ (o : Option ℕ). ShowsLine (PartialSort o) (line_attrs (units_of docs) part)) (sym (at_before lines line None k (omega arith)) ∙ ap (λ (w : List (Option ℕ)). get_or w k None) (sym e)) (h.each k part less nth)))
+      (λ (less : k < i). (let long = h.len in subst (λ (o : Option ℕ). ShowsLine (PartialSort o) (line_attrs (units_of docs) part))
+      (sym (at_before lines line None k (omega arith)) ∙ ap (λ (w : List (Option ℕ)). get_or w k None) (sym e)) (h.each k part less nth)))
       (λ (same : k ≡ i). (
       let at : get_or new k None ≡ line = ap (λ (w : List (Option ℕ)). get_or w k None) e ∙ ap (λ (j : ℕ). get_or (lines ++ line ∷ []) j None) (same ∙ sym h.len) ∙ at_end lines line None in
       subst (λ (o : Option ℕ). ShowsLine (PartialSort o) (line_attrs (units_of docs) part)) (sym at) (says part (subst (λ (j : ℕ). Nth 0 (parts_of rule docs) j part) same nth))))
@@ -60,10 +61,12 @@ module _ (docs : List (Doc ℕ)) (rule : Rule) (plan : Planned) (shows : ShowsPl
   parts_are = sym shows.partials ∙ ap (λ (fs : List ℕ). map (shown_part (length docs)) (partials rule (units_of docs) fs)) (sym (file_numbers_are 0 docs))
 
   -- the partial unit with a number shows that of the plan
-  pub part_shown : (ps : List Partial) (i : ℕ) (x : Partial) (part : PartialUnit) → ps ≡ plan.partials → i < length ps → x ≡ get_or ps i x → Nth 0 (parts_of rule docs) i part → x ≡ shown_part (length docs) part
+  pub part_shown : (ps : List Partial) (i : ℕ) (x : Partial) (part : PartialUnit) → ps ≡ plan.partials → i < length ps → x ≡ get_or ps i x → Nth 0 (parts_of rule docs) i part
+      → x ≡ shown_part (length docs) part
   part_shown ps i x part e lt is nth =
       let here : slice_get plan.partials i ≡ Some x = ap (λ (w : List Partial). slice_get w i) (sym e) ∙ item_got ps i x lt is in
-      let there : slice_get plan.partials i ≡ Some (shown_part (length docs) part) = ap (λ (w : List Partial). slice_get w i) parts_are ∙ got_map (shown_part (length docs)) (parts_of rule docs) i part (nth_get 0 (parts_of rule docs) i i part nth (omega arith)) in
+      let there : slice_get plan.partials i ≡ Some (shown_part (length docs) part) = ap (λ (w : List Partial). slice_get w i) parts_are ∙ got_map (shown_part (length docs)) (parts_of rule docs) i part
+      (nth_get 0 (parts_of rule docs) i i part nth (omega arith)) in
       same_got plan.partials i x (shown_part (length docs) part) here there
 
   map_long : {X Y : Type 0} (f : X → Y) (xs : List X) → length (map f xs) ≡ length xs
@@ -79,5 +82,6 @@ module _ (docs : List (Doc ℕ)) (rule : Rule) (plan : Planned) (shows : ShowsPl
         len = omega arith;
         each = λ n part nth. (
             let low = got_below (parts_of rule docs) n part (nth_get 0 (parts_of rule docs) n n part nth (omega arith)) in
-            subst (ShowsLine (PartialSort (slice_index_or lines n None))) (sym (ap (root_in_part (units_of docs)) (part_found 0 (parts_of rule docs) n n part nth (omega arith)))) (h.each n part (omega arith) nth));
+            subst (ShowsLine (PartialSort (slice_index_or lines n None))) (sym (ap (root_in_part (units_of docs)) (part_found 0 (parts_of rule docs) n n part nth (omega arith))))
+            (h.each n part (omega arith) nth));
       }

@@ -1,14 +1,14 @@
 -- The root of a partial unit: where an entry of its tops has a path it names the line table of the unit that they are all of.
-use Rattle.std.proofs.Common.{◌≡◌, ℕ, suc, ◌+◌, ◌<◌, ◌||◌, Bool, true, false, List, [], ◌∷◌, length, map, pos, Option, Some, None, slice_get, refl, sym, ap, subst, ◌∙◌, inl, inr, arith}
+use Rattle.std.proofs.Common.{◌≡◌, ℕ, ◌<◌, ◌||◌, Bool, true, false, List, [], ◌∷◌, length, map, pos, Option, Some, None, slice_get, refl, sym, ap, subst, ◌∙◌, inl, inr, arith}
 use Rattle.std.specs.List.{list_any}
 use Rattle.dwz_docs.specs.Lists.{In}
 use Rattle.dwz_meanings.specs.Documents.{Attr, Doc, Sec, first_named}
 use Rattle.dwz_seen.specs.Lists.{Nth}
 use Rattle.dwz_seen.proofs.Members.{each_of}
-use Rattle.dwz_alike.specs.Alike.{IsAlike, Scope}
+use Rattle.dwz_alike.specs.Alike.{IsAlike, TopScope}
 use Rattle.dwz_alike.specs.Spots.{FileUnit, Spot, Top, file_numbers, tops_of, units_of}
 use Rattle.dwz_alike.proofs.RowLemmas.{top_of}
-use Rattle.dwz_alike.proofs.TopNumbers.{Numbered, tops_numbers}
+use Rattle.dwz_alike.proofs.TopNumbers.{top_there}
 use Rattle.dwz_moving.specs.Homes.{Common, Home, IsChoice, Local, Rule, Stay, is_home}
 use Rattle.dwz_moving.specs.Moves.{first_unit, line_attr, line_attrs, line_in, line_of, names_path, root_of}
 use Rattle.dwz_moving.specs.Plan.{PartialUnit, partials}
@@ -28,17 +28,6 @@ use Rattle.dwz_roots.specs.Steps.{AreTops, HaveLine, KnowsTops, SaysLine}
 use Rattle.dwz_roots.proofs.PlaceLemmas.{no_path}
 
 -- ---- tops by their numbers
-
-at_number : (n : ℕ) (tops : List Top) → Numbered n tops → (t : Top) → In t tops → (k : ℕ) × (slice_get tops k ≡ Some t) × (t.number ≡ n + k)
-at_number n [] h t there = absurd there
-at_number n (x ∷ tops) h t (inl e) = (let first = h.0 in (0, ap (λ (w : Top). Some w) e, (let same : x.number ≡ t.number = ap (λ (w : Top). w.number) e in omega arith)))
-at_number n (x ∷ tops) h t (inr later) = (let r = at_number (suc n) tops h.1 t later in (suc r.0, r.1, (let at = r.2 in omega arith)))
-
-top_there : (units : List (FileUnit Spot)) (t : Top) → In t (tops_of units) → slice_get (tops_of units) t.number ≡ Some t
-top_there units t there =
-    let r = at_number 0 (tops_of units) (tops_numbers units) t there in
-    let at : r.0 ≡ t.number = (let e = r.2 in omega arith) in
-    subst (λ (k : ℕ). slice_get (tops_of units) k ≡ Some t) at r.1
 
 are_tops : (units : List (FileUnit Spot)) (ts : List Top) → ((t : Top) → In t ts → In t (tops_of units)) → AreTops units ts (map (λ t. t.number) ts)
 are_tops units [] h = tt
@@ -62,7 +51,8 @@ own_line : (o : Option (Attr Spot)) (n : ℕ) → SaysLine o (Some n) → (line_
 own_line None n h = absurd cc
 own_line (Some a) n h = h.1
 
-line_shown : (units : List (FileUnit Spot)) (part : PartialUnit) (n : ℕ) (a : Attr Spot) → list_any path_in part.tops ≡ true → line_in units part.home part.tops ≡ a → a.name ≡ 0x10 → a.form ≡ 0x17 → a.raw ≡ pos n
+line_shown : (units : List (FileUnit Spot)) (part : PartialUnit) (n : ℕ) (a : Attr Spot) → list_any path_in part.tops ≡ true → line_in units part.home part.tops ≡ a → a.name ≡ 0x10 → a.form ≡ 0x17
+    → a.raw ≡ pos n
     → ShowsLine (PartialSort (Some n)) (line_attrs units part)
 line_shown units part n a e is name form raw = (a, lines_are units part true e ∙ ap (λ (w : Attr Spot). w ∷ []) is, name, form, raw)
 
@@ -70,7 +60,8 @@ line_names : (o : Option (Attr Spot)) → ((line_of o).name ≡ 0x10) × ((line_
 line_names None = (refl, refl)
 line_names (Some a) = (refl, refl)
 
-pub local_line : (units : List (FileUnit Spot)) (part : PartialUnit) (file n : ℕ) → part.home ≡ Local file → list_any path_in part.tops ≡ true → SaysLine (first_named 0x10 (root_of units (first_unit part.tops))) (Some n)
+pub local_line : (units : List (FileUnit Spot)) (part : PartialUnit) (file n : ℕ) → part.home ≡ Local file → list_any path_in part.tops ≡ true
+    → SaysLine (first_named 0x10 (root_of units (first_unit part.tops))) (Some n)
     → ShowsLine (PartialSort (Some n)) (line_attrs units part)
 local_line units part file n home e h =
     let o = first_named 0x10 (root_of units (first_unit part.tops)) in
@@ -81,7 +72,7 @@ common_line units part home e = line_shown units part 0 (line_attr (pos 0) (Sec 
 
 -- ---- the partial unit with a number
 
-module _ (docs : List (Doc ℕ)) (scope : Scope) (rule : Rule) (alike : IsAlike scope (units_of docs) rule.alike) (choice : IsChoice (units_of docs) rule)
+module _ (docs : List (Doc ℕ)) (scope : TopScope) (rule : Rule) (alike : IsAlike scope (units_of docs) rule.alike) (choice : IsChoice (units_of docs) rule)
     (n : ℕ) (part : PartialUnit) (nth : Nth 0 (partials rule (units_of docs) (file_numbers 0 docs)) n part) where
   abbrev units : List (FileUnit Spot)
   units = units_of docs
@@ -153,7 +144,8 @@ module _ (docs : List (Doc ℕ)) (scope : Scope) (rule : Rule) (alike : IsAlike 
       → (line : ℕ) → SaysLine (first_named 0x10 (root_of (units_of docs) (first_unit part.tops))) (Some line) → list_any path_in part.tops ≡ true
       → (file ≡ count → ShowsLine (PartialSort (Some 0)) (line_attrs (units_of docs) part)) × ((file ≡ count → ⊥) → ShowsLine (PartialSort (Some line)) (line_attrs (units_of docs) part))
   home_cases count file count_is file_is line h e = by part.home refl where
-    by : (home : Home) → part.home ≡ home → (file ≡ count → ShowsLine (PartialSort (Some 0)) (line_attrs (units_of docs) part)) × ((file ≡ count → ⊥) → ShowsLine (PartialSort (Some line)) (line_attrs (units_of docs) part))
+    by : (home : Home) → part.home ≡ home → (file ≡ count → ShowsLine (PartialSort (Some 0)) (line_attrs (units_of docs) part))
+        × ((file ≡ count → ⊥) → ShowsLine (PartialSort (Some line)) (line_attrs (units_of docs) part))
     by Common is =
         let same : file ≡ length docs = file_is ∙ ap (file_of_home (length docs)) is in
         (λ x. common_line units part is e, λ no. absurd (no (same ∙ sym count_is)))
@@ -165,7 +157,8 @@ module _ (docs : List (Doc ℕ)) (scope : Scope) (rule : Rule) (alike : IsAlike 
 
 -- ---- where the unit has no line table
 
-none_in : (contents : List (List ℕ)) (files : List File) (indexes : List Index) (tops : Tops) → KnowsTops contents files indexes tops → (ts : List Top) (numbers : List ℕ) → AreTops (units_of (docs_of contents)) ts numbers
+none_in : (contents : List (List ℕ)) (files : List File) (indexes : List Index) (tops : Tops) → KnowsTops contents files indexes tops → (ts : List Top) (numbers : List ℕ)
+    → AreTops (units_of (docs_of contents)) ts numbers
     → HaveLine (units_of (docs_of contents)) ts None → list_any path_in ts ≡ false
 none_in contents files indexes tops knows [] numbers are have = refl
 none_in contents files indexes tops knows (t ∷ ts) [] are have = absurd are
@@ -173,10 +166,11 @@ none_in contents files indexes tops knows (t ∷ ts) (n ∷ numbers) are have =
     (λ i. no_path contents files indexes tops n t knows are.0 have.0 i || none_in contents files indexes tops knows ts numbers are.1 have.1 i)
 
 module _ (contents : List (List ℕ)) (files : List File) (indexes : List Index) (tops : Tops) (knows : KnowsTops contents files indexes tops)
-    (scope : Scope) (rule : Rule) (alike : IsAlike scope (units_of (docs_of contents)) rule.alike) (choice : IsChoice (units_of (docs_of contents)) rule)
+    (scope : TopScope) (rule : Rule) (alike : IsAlike scope (units_of (docs_of contents)) rule.alike) (choice : IsChoice (units_of (docs_of contents)) rule)
     (n : ℕ) (part : PartialUnit) (nth : Nth 0 (partials rule (units_of (docs_of contents)) (file_numbers 0 (docs_of contents))) n part) where
   -- the root names none
-  pub without : SaysLine (root_line (units_of (docs_of contents)) (first_top (docs_of contents) scope rule alike choice n part nth).top) None → ShowsLine (PartialSort None) (line_attrs (units_of (docs_of contents)) part)
+  pub without : SaysLine (root_line (units_of (docs_of contents)) (first_top (docs_of contents) scope rule alike choice n part nth).top) None
+      → ShowsLine (PartialSort None) (line_attrs (units_of (docs_of contents)) part)
   without h =
       let docs = docs_of contents in
       no_line (units_of docs) part

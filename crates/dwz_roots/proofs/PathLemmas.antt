@@ -7,7 +7,9 @@ use Rattle.dwz_docs.specs.Entries.{RawAttr}
 use Rattle.dwz_alike.specs.Alike.{any_attr}
 use Rattle.dwz_alike.specs.Spots.{Spot}
 use Rattle.dwz_meanings.specs.Documents.{Attr, Node, Value, attr_map, node_map, only}
-use Rattle.dwz_meanings.specs.Meanings.{Class, IfSo, IsFileBy, IsFileNumber, IsLocList, MeanAttrs, MeansAs, OfAddress, OfBlock, OfCommonEntry, OfCommonText, OfConstant, OfExpression, OfFlag, OfIndex, OfInfoEntry, OfListIndex, OfOffset, OfSignature, OfText, OfTextBySlot, OfTextInLineStr, OfTextInStr, OfUnitEntry, Scope, Unread, class_of, constant_value, names_file, names_list, node_meaning, number_of, offset_of, stmt_list, without_siblings}
+use Rattle.dwz_meanings.specs.Meanings.{Class, IfSo, IsFileBy, IsFileNumber, IsLocList, MeanAttrs, MeansAs, OfAddress, OfBlock, OfCommonEntry, OfCommonText, OfConstant, OfExpression, OfFlag, OfIndex}
+use Rattle.dwz_meanings.specs.Meanings.{OfInfoEntry, OfListIndex, OfOffset, OfSignature, OfText, OfTextBySlot, OfTextInLineStr, OfTextInStr, OfUnitEntry, Scope, Unread, class_of, constant_value}
+use Rattle.dwz_meanings.specs.Meanings.{names_file, names_list, node_meaning, number_of, offset_of, stmt_list, without_siblings}
 use Rattle.dwz_meanings.specs.Documents.{Sec}
 use Rattle.dwz_meanings.proofs.MeaningLemmas.{node_agrees}
 use Rattle.dwz_moving.specs.Moves.{has_path}
@@ -83,7 +85,8 @@ attrs_path s [] [] h = refl
 attrs_path s [] (b ∷ attrs) h = absurd h
 attrs_path s (a ∷ raw) attrs h = go (attrs_path s raw) (a.pair.name == 0x01) refl attrs h where
   go : ((attrs : List (Attr ℕ)) → MeanAttrs s (without_siblings raw) attrs → list_any attr_path attrs ≡ (list_any file_attr raw && is_some (stmt_list s))) → (t : Bool) → (a.pair.name == 0x01) ≡ t
-      → (attrs : List (Attr ℕ)) → MeanAttrs s (cond t (without_siblings raw) (a ∷ without_siblings raw)) attrs → list_any attr_path attrs ≡ ((file_attr a || list_any file_attr raw) && is_some (stmt_list s))
+      → (attrs : List (Attr ℕ)) → MeanAttrs s (cond t (without_siblings raw) (a ∷ without_siblings raw)) attrs
+      → list_any attr_path attrs ≡ ((file_attr a || list_any file_attr raw) && is_some (stmt_list s))
   go rest true e attrs h = rest attrs h ∙ sym (ap (λ (b : Bool). (b || list_any file_attr raw) && is_some (stmt_list s)) (not_sibling a (eqb-true a.pair.name 0x01 e)))
   go rest false e [] h = absurd h
   go rest false e (b ∷ attrs) h =
@@ -98,7 +101,8 @@ pub node_path : (s : Scope ℕ) (row : EntryRow) (d : Node ℕ) (name : ℕ → 
 node_path s row d name e = named_path name d.attrs ∙ attrs_path s row.entry.attrs d.attrs (((node_agrees s row.entry).ok d).0 e).attrs
 
 -- entries one behind the other
-pub rows_path : (s : Scope ℕ) (rows : List EntryRow) (ds : List (Node ℕ)) (name : ℕ → Spot) → RowsMean s rows ds → list_any (any_attr attr_path) (map (node_map name) ds) ≡ (list_any numbers_file rows && is_some (stmt_list s))
+pub rows_path : (s : Scope ℕ) (rows : List EntryRow) (ds : List (Node ℕ)) (name : ℕ → Spot) → RowsMean s rows ds → list_any (any_attr attr_path) (map (node_map name) ds)
+    ≡ (list_any numbers_file rows && is_some (stmt_list s))
 rows_path s [] [] name h = refl
 rows_path s [] (d ∷ ds) name h = absurd h
 rows_path s (row ∷ rows) [] name h = absurd h

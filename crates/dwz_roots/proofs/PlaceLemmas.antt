@@ -1,21 +1,21 @@
 -- Where a top stands: its file by the rows, its entry by the index; and what is said there of its unit and of its entries.
-use Rattle.std.proofs.Common.{◌≡◌, ℕ, zero, suc, ◌+◌, ◌-◌, ◌<◌, ◌≤◌, ◌&&◌, Bool, true, false, List, [], ◌∷◌, ◌++◌, length, map, drop, take, Option, Some, None, slice_get, refl, sym, ap, subst, ◌∙◌, inl, inr, arith}
+use Rattle.std.proofs.Common.{◌≡◌, ℕ, zero, suc, ◌+◌, ◌-◌, ◌<◌, ◌≤◌, ◌&&◌, Bool, true, false, List, [], ◌∷◌, ◌++◌, length, map, drop, take, Option, Some, None, slice_get, refl, sym, ap, subst, ◌∙◌}
+use Rattle.std.proofs.Common.{arith}
 use Rattle.std.specs.Prelude.{nat_lt, slice_range}
 use Rattle.std.proofs.lemmas.Bool.{ltb-false}
 use Rattle.std.specs.List.{list_any}
 use Rattle.std.specs.Option.{is_some}
 use Rattle.std.proofs.Math.Seq.{take-append_seam}
-use Rattle.dwz_docs.specs.Lists.{In}
 use Rattle.dwz_docs.specs.Trees.{End, Entry}
 use Rattle.dwz_docs.specs.Units.{RawUnit, entries_in}
+use Rattle.dwz_docs.proofs.ListFacts.{got_below, got_in, got_map, same_got}
 use Rattle.dwz_meanings.specs.Documents.{Attr, Doc, attr_map, first_named, unit_map}
 use Rattle.dwz_meanings.specs.Files.{around_of}
 use Rattle.dwz_meanings.specs.Meanings.{Around, first_raw, scope_of, stmt_list}
 use Rattle.dwz_meanings.proofs.MeaningLemmas.{unit_agrees}
-use Rattle.dwz_seen.specs.Lists.{Nth}
 use Rattle.dwz_alike.specs.Alike.{any_attr}
 use Rattle.dwz_alike.specs.Spots.{FileUnit, Spot, Top, in_file, tops_of, units_of}
-use Rattle.dwz_alike.proofs.RowLemmas.{top_of}
+use Rattle.dwz_alike.proofs.TopOrder.{unit_file}
 use Rattle.dwz_flat.specs.Rows.{nodes}
 use Rattle.dwz_flat.specs.Tops.{HasTopOfFile}
 use Rattle.dwz_flat.proofs.TreeLemmas.{tree_means}
@@ -27,17 +27,17 @@ use Rattle.dwz_index.specs.declared.index.TopEntry.{TopEntry}
 use Rattle.dwz_index.specs.Index.{Index}
 use Rattle.dwz_places.specs.declared.known.Row.{Row}
 use Rattle.dwz_plan.specs.Shows.{ShowsRows, ShowsTops}
-use Rattle.dwz_resolve.proofs.RowLemmas.{below-length}
 use Rattle.dwz_resolve.proofs.RowLemmas.{row_there as row_at}
 use Rattle.dwz_scan.specs.Known.{StandsAt}
 use Rattle.dwz_scan.proofs.TreeBinds.{any_top}
 use Rattle.dwz_unit.specs.declared.rows.RawEntry.{RawEntry}
 use Rattle.dwz_unit.specs.Rows.{EntryRow, entry_shown, rows_below, rows_of, shown_entries, units_of as raw_units}
+use Rattle.dwz_unit.proofs.RowLemmas.{shown-length}
 use Rattle.dwz_across.specs.Across.{IsFileAmong, IsTopOf, file_units, name_at}
 use Rattle.dwz_across.proofs.FileCounts.{found}
 use Rattle.dwz_across.proofs.FileEntries.{gives_top}
 use Rattle.dwz_across.proofs.FileWalk.{is_among}
-use Rattle.dwz_across.proofs.ListGets.{got_below, got_in, got_map, part_get, same_got}
+use Rattle.dwz_across.proofs.ListGets.{part_get}
 use Rattle.dwz_roots.specs.Roots.{numbers_file, path_in, root_line}
 use Rattle.dwz_roots.specs.Steps.{IsPlaced, KnowsTops, LineOf, SaysLine}
 use Rattle.dwz_roots.proofs.LineLemmas.{root_got, root_says, root_some}
@@ -45,32 +45,16 @@ use Rattle.dwz_roots.proofs.PathLemmas.{attr_path, rows_path}
 
 -- ---- the file, by the rows
 
-nth_high : {X : Type 0} (s : ℕ) (xs : List X) (n : ℕ) (x : X) → Nth s xs n x → s ≤ n
-nth_high s [] n x h = absurd h
-nth_high s (y ∷ xs) n x (inl h) = (let same = h.0 in omega arith)
-nth_high s (y ∷ xs) n x (inr h) = (let more = nth_high (suc s) xs n x h in omega arith)
-
-pub nth_get : {X : Type 0} (s : ℕ) (xs : List X) (n k : ℕ) (x : X) → Nth s xs n x → n ≡ s + k → slice_get xs k ≡ Some x
-nth_get s [] n k x h e = absurd h
-nth_get s (y ∷ xs) n zero x (inl h) e = ap (λ w. Some w) h.1
-nth_get s (y ∷ xs) n (suc k) x (inl h) e = absurd (let same = h.0 in omega arith)
-nth_get s (y ∷ xs) n zero x (inr h) e = absurd (let high = nth_high (suc s) xs n x h in omega arith)
-nth_get s (y ∷ xs) n (suc k) x (inr h) e = nth_get (suc s) xs n k x h (omega arith)
-
--- the file of the unit that a top stands in
-unit_file : (units : List (FileUnit Spot)) (t : Top) → In t (tops_of units) → slice_get (map (λ f. f.file) units) t.unit ≡ Some t.file
-unit_file units t there =
-    let o = top_of 0 0 units t there in
-    got_map (λ (f : FileUnit Spot). f.file) units t.unit o.unit (nth_get 0 units t.unit t.unit o.unit o.nth (omega arith)) ∙ ap (λ (k : ℕ). Some k) (sym o.file_is)
-
-row_got : (units : List (FileUnit Spot)) (rows : List TopRow) (tops : List Top) (n : ℕ) (t : Top) → ShowsRows units rows tops → slice_get tops n ≡ Some t → (row : TopRow) × (slice_get rows n ≡ Some row) × (row.unit ≡ t.unit)
+row_got : (units : List (FileUnit Spot)) (rows : List TopRow) (tops : List Top) (n : ℕ) (t : Top) → ShowsRows units rows tops → slice_get tops n ≡ Some t
+    → (row : TopRow) × (slice_get rows n ≡ Some row) × (row.unit ≡ t.unit)
 row_got units [] [] n t h e = absurd cc
 row_got units [] (u ∷ tops) n t h e = absurd h
 row_got units (row ∷ rows) [] n t h e = absurd h
 row_got units (row ∷ rows) (u ∷ tops) zero t h e = (row, refl, h.0.unit ∙ ap (λ (w : Top). w.unit) (let same : u ≡ t = cc in same))
 row_got units (row ∷ rows) (u ∷ tops) (suc n) t h e = row_got units rows tops n t h.1 e
 
-pub row_there : (units : List (FileUnit Spot)) (tops : Tops) (n : ℕ) (t : Top) → ShowsTops units tops → slice_get (tops_of units) n ≡ Some t → (row : TopRow) × (slice_get tops.rows n ≡ Some row) × (slice_get tops.files_of_units row.unit ≡ Some t.file)
+pub row_there : (units : List (FileUnit Spot)) (tops : Tops) (n : ℕ) (t : Top) → ShowsTops units tops → slice_get (tops_of units) n ≡ Some t
+    → (row : TopRow) × (slice_get tops.rows n ≡ Some row) × (slice_get tops.files_of_units row.unit ≡ Some t.file)
 row_there units tops n t h e =
     let r = row_got units tops.rows (tops_of units) n t h.rows e in
     let there = got_in (tops_of units) n t e in
@@ -91,7 +75,8 @@ pub record Located (contents : List (List ℕ)) (files : List File) (indexes : L
   pub among : IsFileAmong contents file bytes f x
   pub is : IsTopOf contents file bytes f x among.kept.read.doc k e t
 
-pub located : (contents : List (List ℕ)) (files : List File) (indexes : List Index) (tops : Tops) (n : ℕ) (t : Top) → KnowsTops contents files indexes tops → slice_get (tops_of (units_of (docs_of contents))) n ≡ Some t → Located contents files indexes n t t.file
+pub located : (contents : List (List ℕ)) (files : List File) (indexes : List Index) (tops : Tops) (n : ℕ) (t : Top) → KnowsTops contents files indexes tops
+    → slice_get (tops_of (units_of (docs_of contents))) n ≡ Some t → Located contents files indexes n t t.file
 located contents files indexes tops n t h got =
     let all = tops_of (units_of (docs_of contents)) in
     let o = found contents files indexes n h.kept h.indexed (got_below all n t got) in
@@ -116,7 +101,8 @@ located contents files indexes tops n t h got =
     subst (Located contents files indexes n t) (sym is_t.file_is) there
 
 -- what the index of its file has
-pub in_index : (contents : List (List ℕ)) (files : List File) (indexes : List Index) (n : ℕ) (t : Top) (file : ℕ) → Located contents files indexes n t file → (x : Index) → slice_get indexes file ≡ Some x
+pub in_index : (contents : List (List ℕ)) (files : List File) (indexes : List Index) (n : ℕ) (t : Top) (file : ℕ) → Located contents files indexes n t file → (x : Index)
+    → slice_get indexes file ≡ Some x
     → (k : ℕ) × (e : TopEntry) × (slice_get x.tops k ≡ Some e) × (n ≡ x.starts.top + k)
 in_index contents files indexes n t file l x got =
     let same : l.x ≡ x = same_got indexes file l.x x l.index_got got in
@@ -211,7 +197,7 @@ module _ (contents : List (List ℕ)) (files : List File) (t : Top) (p : Row) (h
 
     part_is : slice_range (rows_of raw) p.entry row.end ≡ rows
     part_is =
-        let long = below-length (Entry s.top.e s.top.c End) s.n s.top.p in
+        let long = shown-length (Entry s.top.e s.top.c End) s.n s.top.p in
         let to = stands.to in
         let same = h.entry in
         let count : row.end - p.entry ≡ length rows = omega arith in
@@ -221,7 +207,8 @@ module _ (contents : List (List ℕ)) (files : List File) (t : Top) (p : Row) (h
     pub says_path : (line : Option ℕ) → SaysLine (root_line (units_of (docs_of contents)) t) line → path_in t ≡ (list_any numbers_file (slice_range (rows_of raw) p.entry row.end) && is_some line)
     says_path line l =
         any_top (any_attr attr_path) name s.top.d s.top.g t s.top.node s.top.below
-        ∙ rows_path (scope_of around s.u) rows (nodes (Entry s.top.d s.top.g End)) name (tree_means (scope_of around s.u) (Entry s.top.e s.top.c End) (Entry s.top.d s.top.g End) s.n s.top.p s.top.means)
+        ∙ rows_path (scope_of around s.u) rows (nodes (Entry s.top.d s.top.g End)) name
+        (tree_means (scope_of around s.u) (Entry s.top.e s.top.c End) (Entry s.top.d s.top.g End) s.n s.top.p s.top.means)
         ∙ (λ i. list_any numbers_file (sym part_is i) && sym (some_line line l) i)
 
 -- ---- a top whose unit has no line table
@@ -230,11 +217,13 @@ and_none : (b : Bool) → (b && false) ≡ false
 and_none true = refl
 and_none false = refl
 
-pub no_path : (contents : List (List ℕ)) (files : List File) (indexes : List Index) (tops : Tops) (n : ℕ) (t : Top) → KnowsTops contents files indexes tops → slice_get (tops_of (units_of (docs_of contents))) n ≡ Some t
+pub no_path : (contents : List (List ℕ)) (files : List File) (indexes : List Index) (tops : Tops) (n : ℕ) (t : Top) → KnowsTops contents files indexes tops
+    → slice_get (tops_of (units_of (docs_of contents))) n ≡ Some t
     → SaysLine (root_line (units_of (docs_of contents)) t) None → path_in t ≡ false
 no_path contents files indexes tops n t knows got none =
     let l = located contents files indexes tops n t knows got in
-    let p : IsPlaced contents files t (record { file = t.file; entry = l.e.entry }) = record { bytes = l.bytes; f = l.f; x = l.x; k = l.k; e = l.e; got = l.file_got; among = l.among; entry = refl; is = l.is } in
+    let p : IsPlaced contents files t (record { file = t.file; entry = l.e.entry }) =
+    record { bytes = l.bytes; f = l.f; x = l.x; k = l.k; e = l.e; got = l.file_got; among = l.among; entry = refl; is = l.is } in
     let row = row_at (raw_units l.f.units) l.e.entry (within contents files t (record { file = t.file; entry = l.e.entry }) p) in
     says_path contents files t (record { file = t.file; entry = l.e.entry }) p row.0 row.1 None none
     ∙ and_none (list_any numbers_file (slice_range (rows_of (raw_units l.f.units)) l.e.entry row.0.end))

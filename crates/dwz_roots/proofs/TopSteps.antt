@@ -3,9 +3,9 @@ use Rattle.std.proofs.Common.{◌≡◌, ℕ, zero, suc, ◌+◌, ◌<◌, ◌�
 use Rattle.std.specs.List.{list_any}
 use Rattle.std.proofs.lemmas.List.{take_all}
 use Rattle.dwz_docs.specs.Lists.{In}
+use Rattle.dwz_docs.proofs.ListFacts.{got_in}
 use Rattle.dwz_seen.proofs.Members.{any_true, each_in}
 use Rattle.dwz_alike.specs.Spots.{FileUnit, Spot, Top, tops_of}
-use Rattle.dwz_across.proofs.ListGets.{got_in}
 use Rattle.dwz_roots.specs.Roots.{path_in, root_line}
 use Rattle.dwz_roots.specs.Steps.{AreTops, HaveLine, SaysLine}
 
@@ -15,7 +15,8 @@ tops_many units [] (n ∷ numbers) h = absurd h
 tops_many units (t ∷ ts) [] h = absurd h
 tops_many units (t ∷ ts) (n ∷ numbers) h = ap suc (tops_many units ts numbers h.1)
 
-pub top_at : (units : List (FileUnit Spot)) (ts : List Top) (numbers : List ℕ) (i : ℕ) → AreTops units ts numbers → i < length numbers → (t : Top) × (slice_get ts i ≡ Some t) × (slice_get (tops_of units) (get_or numbers i 0) ≡ Some t)
+pub top_at : (units : List (FileUnit Spot)) (ts : List Top) (numbers : List ℕ) (i : ℕ) → AreTops units ts numbers → i < length numbers
+    → (t : Top) × (slice_get ts i ≡ Some t) × (slice_get (tops_of units) (get_or numbers i 0) ≡ Some t)
 top_at units [] [] i h lt = absurd (omega arith)
 top_at units [] (n ∷ numbers) i h lt = absurd h
 top_at units (t ∷ ts) [] i h lt = absurd h
@@ -26,7 +27,8 @@ take_next : (ts : List Top) (i : ℕ) (t : Top) → slice_get ts i ≡ Some t �
 take_next [] i t e none h = absurd cc
 take_next (u ∷ ts) zero t e none h = (let same : u ≡ t = cc in λ j. (ap path_in same ∙ none) j || false)
 take_next (u ∷ ts) (suc i) t e none h = by (path_in u) (take_next ts i t e none) h where
-  by : (b : Bool) → (list_any path_in (take i ts) ≡ false → list_any path_in (take (suc i) ts) ≡ false) → (b || list_any path_in (take i ts)) ≡ false → (b || list_any path_in (take (suc i) ts)) ≡ false
+  by : (b : Bool) → (list_any path_in (take i ts) ≡ false → list_any path_in (take (suc i) ts) ≡ false) → (b || list_any path_in (take i ts)) ≡ false
+      → (b || list_any path_in (take (suc i) ts)) ≡ false
   by true more k = absurd cc
   by false more k = more k
 

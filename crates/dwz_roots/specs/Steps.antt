@@ -13,7 +13,7 @@ use Rattle.dwz_meanings.specs.Documents.{Attr}
 use Rattle.dwz_meanings.specs.Meanings.{number_of}
 use Rattle.dwz_places.specs.declared.known.Row.{Row}
 use Rattle.dwz_plan.specs.Shows.{ShowsTops}
-use Rattle.dwz_seen.specs.Lists.{Each}
+use Rattle.dwz_docs.specs.Lists.{Each}
 use Rattle.dwz_roots.specs.Roots.{root_line}
 
 -- files that are kept, their indexes, and rows of their tops

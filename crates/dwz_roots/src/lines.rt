@@ -1,7 +1,7 @@
 //! The line tables of partial units.
 
 ghost use Rattle.std.specs.Prelude.{◌≡◌, ℕ, List, length, slice_get, IfOk};
-ghost use Rattle.dwz_alike.specs.Alike.{IsAlike, Scope};
+ghost use Rattle.dwz_alike.specs.Alike.{IsAlike, TopScope};
 ghost use Rattle.dwz_alike.specs.Spots.{file_numbers, units_of};
 ghost use Rattle.dwz_graph.specs.Files.{docs_of};
 ghost use Rattle.dwz_indexes.specs.Indexed.{AreIndexes};
@@ -35,7 +35,12 @@ fn first_of(list: &[u32]) -> Option<u32>
 // The line table that the root of a partial unit names: none, where no entry of its tops has a path as its file; 0 in the common file; and
 // else that of the unit of its tops. All of these are of one unit.
 fn part_line(files: &[File], indexes: &[Index], tops: &Tops, part: &Partial) -> Option<u32>
-    ensures { (contents : List (List ℕ)) (scope : Scope) (rule : Rule) (n : ℕ) (p : PartialUnit) → KnowsTops contents files.now indexes.now tops.now → IsAlike scope (units_of (docs_of contents)) rule.alike → IsChoice (units_of (docs_of contents)) rule → Nth 0 (partials rule (units_of (docs_of contents)) (file_numbers 0 (docs_of contents))) n p → part.now ≡ shown_part (length (docs_of contents)) p → ShowsLine (PartialSort result) (line_attrs (units_of (docs_of contents)) p) }
+    ensures { (contents : List (List ℕ)) (scope : TopScope) (rule : Rule) (n : ℕ) (p : PartialUnit)
+        → KnowsTops contents files.now indexes.now tops.now → IsAlike scope (units_of (docs_of contents)) rule.alike
+        → IsChoice (units_of (docs_of contents)) rule
+        → Nth 0 (partials rule (units_of (docs_of contents)) (file_numbers 0 (docs_of contents))) n p
+        → part.now ≡ shown_part (length (docs_of contents)) p
+        → ShowsLine (PartialSort result) (line_attrs (units_of (docs_of contents)) p) }
 {
     let list = part.tops.as_slice();
     let first = first_of(list)?;
@@ -57,7 +62,10 @@ pub fn part_lines(
     tops: &Tops,
     plan: &Plan,
 ) -> Result<Vec<Option<u32>>, NoMemory>
-    ensures { (scope : Scope) (rule : Rule) → AreIndexes (docs_of graph.now) indexes.now → IsAlike scope (units_of (docs_of graph.now)) rule.alike → IsChoice (units_of (docs_of graph.now)) rule → ShowsTops (units_of (docs_of graph.now)) tops.now → ShowsPlan rule (units_of (docs_of graph.now)) (length (docs_of graph.now)) plan.now → IfOk result (λ lines. AreLines (move_of rule (docs_of graph.now)) lines.items) }
+    ensures { (scope : TopScope) (rule : Rule) → AreIndexes (docs_of graph.now) indexes.now
+        → IsAlike scope (units_of (docs_of graph.now)) rule.alike → IsChoice (units_of (docs_of graph.now)) rule
+        → ShowsTops (units_of (docs_of graph.now)) tops.now → ShowsPlan rule (units_of (docs_of graph.now)) (length (docs_of graph.now))
+        plan.now → IfOk result (λ lines. AreLines (move_of rule (docs_of graph.now)) lines.items) }
 {
     let files = graph.files();
     let partials = plan.partials();

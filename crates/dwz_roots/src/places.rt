@@ -29,7 +29,8 @@ fn file_of_unit(files_of_units: &[u32], unit: u32) -> Option<u32>
 
 // The file of a top.
 fn file_of(tops: &Tops, top: u32) -> Option<u32>
-    ensures { (units : List (FileUnit Spot)) (t : Top) → ShowsTops units tops.now → slice_get (tops_of units) top ≡ Some t → result ≡ Some t.file }
+    ensures { (units : List (FileUnit Spot)) (t : Top) → ShowsTops units tops.now → slice_get (tops_of units) top ≡ Some t
+        → result ≡ Some t.file }
 {
     let row = tops.rows.as_slice().get(top as usize)?;
     file_of_unit(tops.files_of_units.as_slice(), row.unit)
@@ -46,7 +47,8 @@ fn entry_in(index: &Index, top: u32) -> Option<u32>
 
 /// The file of a top, and its entry there.
 pub(crate) fn place_of(indexes: &[Index], tops: &Tops, top: u32) -> Option<Row>
-    ensures { (contents : List (List ℕ)) (files : List File) (t : Top) → KnowsTops contents files indexes.now tops.now → slice_get (tops_of (units_of (docs_of contents))) top ≡ Some t → IsPlacedAt contents files t result }
+    ensures { (contents : List (List ℕ)) (files : List File) (t : Top) → KnowsTops contents files indexes.now tops.now
+        → slice_get (tops_of (units_of (docs_of contents))) top ≡ Some t → IsPlacedAt contents files t result }
 {
     let file = file_of(tops, top)?;
     let index = indexes.get(file as usize)?;

@@ -21,7 +21,9 @@ use dwz_places::Row;
 
 // The line table of the unit of an entry.
 fn line_at(files: &[File], place: Row) -> Option<u32>
-    ensures { (f : File) (row : EntryRow) (u : RawUnit) → slice_get files.now place.file ≡ Some f → slice_get (rows_of (raw_units f.units)) place.entry ≡ Some row → slice_get (raw_units f.units) row.unit ≡ Some u → LineOf (first_raw 0x10 u.root.attrs) result }
+    ensures { (f : File) (row : EntryRow) (u : RawUnit) → slice_get files.now place.file ≡ Some f
+        → slice_get (rows_of (raw_units f.units)) place.entry ≡ Some row → slice_get (raw_units f.units) row.unit ≡ Some u
+        → LineOf (first_raw 0x10 u.root.attrs) result }
 {
     let file = files.get(place.file as usize)?;
     if place.entry >= file.units.entries() {
@@ -32,7 +34,8 @@ fn line_at(files: &[File], place: Row) -> Option<u32>
 
 /// The line table of the unit of a top.
 pub(crate) fn line_of_top(files: &[File], indexes: &[Index], tops: &Tops, top: u32) -> Option<u32>
-    ensures { (contents : List (List ℕ)) (t : Top) → KnowsTops contents files.now indexes.now tops.now → slice_get (tops_of (units_of (docs_of contents))) top ≡ Some t → SaysLine (root_line (units_of (docs_of contents)) t) result }
+    ensures { (contents : List (List ℕ)) (t : Top) → KnowsTops contents files.now indexes.now tops.now
+        → slice_get (tops_of (units_of (docs_of contents))) top ≡ Some t → SaysLine (root_line (units_of (docs_of contents)) t) result }
 {
     let place = place_of(indexes, tops, top)?;
     line_at(files, place)
@@ -40,7 +43,9 @@ pub(crate) fn line_of_top(files: &[File], indexes: &[Index], tops: &Tops, top: u
 
 // Whether the entry there, or one below it, numbers a file.
 fn numbers_file_at(files: &[File], place: Row) -> bool
-    ensures { (f : File) (r : RawEntry) → slice_get files.now place.file ≡ Some f → slice_get (shown_entries (raw_units f.units)) place.entry ≡ Some r → r.end ≤ entries_in (raw_units f.units) → result ≡ list_any numbers_file (slice_range (rows_of (raw_units f.units)) place.entry r.end) }
+    ensures { (f : File) (r : RawEntry) → slice_get files.now place.file ≡ Some f
+        → slice_get (shown_entries (raw_units f.units)) place.entry ≡ Some r → r.end ≤ entries_in (raw_units f.units)
+        → result ≡ list_any numbers_file (slice_range (rows_of (raw_units f.units)) place.entry r.end) }
 {
     let Some(file) = files.get(place.file as usize) else {
         return false;
@@ -55,7 +60,9 @@ fn numbers_file_at(files: &[File], place: Row) -> bool
 
 // Whether an entry of a top numbers a file: one with a path, where its unit has a line table.
 fn top_numbers_file(files: &[File], indexes: &[Index], tops: &Tops, top: u32) -> bool
-    ensures { (contents : List (List ℕ)) (t : Top) (line : ℕ) → KnowsTops contents files.now indexes.now tops.now → slice_get (tops_of (units_of (docs_of contents))) top ≡ Some t → SaysLine (root_line (units_of (docs_of contents)) t) (Some line) → path_in t ≡ result }
+    ensures { (contents : List (List ℕ)) (t : Top) (line : ℕ) → KnowsTops contents files.now indexes.now tops.now
+        → slice_get (tops_of (units_of (docs_of contents))) top ≡ Some t → SaysLine (root_line (units_of (docs_of contents)) t) (Some line)
+        → path_in t ≡ result }
 {
     match place_of(indexes, tops, top) {
         None => false,
@@ -70,7 +77,9 @@ pub(crate) fn any_top_numbers_file(
     tops: &Tops,
     list: &[u32],
 ) -> bool
-    ensures { (contents : List (List ℕ)) (ts : List Top) (line : ℕ) → KnowsTops contents files.now indexes.now tops.now → AreTops (units_of (docs_of contents)) ts list.now → HaveLine (units_of (docs_of contents)) ts (Some line) → list_any path_in ts ≡ result }
+    ensures { (contents : List (List ℕ)) (ts : List Top) (line : ℕ) → KnowsTops contents files.now indexes.now tops.now
+        → AreTops (units_of (docs_of contents)) ts list.now → HaveLine (units_of (docs_of contents)) ts (Some line)
+        → list_any path_in ts ≡ result }
 {
     for top in list {
         if top_numbers_file(files, indexes, tops, *top) {

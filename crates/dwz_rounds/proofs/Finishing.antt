@@ -72,7 +72,8 @@ pub record AreFirst (numbers : List ℕ) (n : ℕ) (firsts : List ℕ) : Type 0 
 pub first-none : (numbers : List ℕ) (firsts : List ℕ) → ((c : ℕ) → c < length numbers → slice_index firsts c ≡ 2 ^ 32 - 1) → AreFirst numbers 0 firsts
 first-none numbers firsts none = record { hit = λ c l ne. absurd (ne (none c l)); first = λ c b l m. absurd (omega arith) }
 
-module _ (numbers : List ℕ) (n : ℕ) (firsts : List ℕ) (few : length numbers < 2 ^ 32 - 1) (many : length firsts ≡ length numbers) (inside : n < length numbers) (small : slice_index numbers n < length numbers) (f : AreFirst numbers n firsts) where
+module _ (numbers : List ℕ) (n : ℕ) (firsts : List ℕ) (few : length numbers < 2 ^ 32 - 1) (many : length firsts ≡ length numbers) (inside : n < length numbers)
+    (small : slice_index numbers n < length numbers) (f : AreFirst numbers n firsts) where
   abbrev c : ℕ
   c = slice_index numbers n
 
@@ -121,6 +122,7 @@ pub least-more : (numbers : List ℕ) (n first : ℕ) (least : List ℕ) → len
     → IsLeastBelow (length numbers) (λ b. slice_index numbers n ≡ slice_index numbers b) first
     → (a : ℕ) → a < n + 1 → IsLeastBelow (length numbers) (λ b. slice_index numbers a ≡ slice_index numbers b) (slice_index (least ++ first ∷ []) a)
 least-more numbers n first least len each new a l = dite (ℕ_discrete a n)
-    (λ e. subst (λ (x : ℕ). IsLeastBelow (length numbers) (λ b. slice_index numbers a ≡ slice_index numbers b) x) (sym (ap (λ (k : ℕ). slice_index (least ++ first ∷ []) k) (e ∙ sym len) ∙ get_or-append_seam least first [] 0))
+    (λ e. subst (λ (x : ℕ). IsLeastBelow (length numbers) (λ b. slice_index numbers a ≡ slice_index numbers b) x)
+    (sym (ap (λ (k : ℕ). slice_index (least ++ first ∷ []) k) (e ∙ sym len) ∙ get_or-append_seam least first [] 0))
     (subst (λ (x : ℕ). IsLeastBelow (length numbers) (λ b. slice_index numbers x ≡ slice_index numbers b) first) (sym e) new))
     (λ ne. subst (λ (x : ℕ). IsLeastBelow (length numbers) (λ b. slice_index numbers a ≡ slice_index numbers b) x) (sym (get_or-append least (first ∷ []) 0 a (omega arith))) (each a (omega arith)))

@@ -15,7 +15,8 @@ use Rattle.dwz_rounds.proofs.Grouping.{among-from, among-to}
 use Rattle.dwz_rounds.proofs.Ordering.{no_row, row-key}
 use Rattle.dwz_rounds.proofs.Splitting.{before-or}
 
-module _ (keys : List (List ℕ)) (todo : List ℕ) (rows ordered : List Keyed) (nodes : List ℕ) (news : List Bool) (nodes_are : nodes_of rows ≡ todo) (own : All (λ r. r.key.now ≡ key_at keys r.node) rows) (perm : IsPermutation rows ordered) (groups : AreGroups ordered nodes news) where
+module _ (keys : List (List ℕ)) (todo : List ℕ) (rows ordered : List Keyed) (nodes : List ℕ) (news : List Bool) (nodes_are : nodes_of rows ≡ todo)
+    (own : All (λ r. r.key.now ≡ key_at keys r.node) rows) (perm : IsPermutation rows ordered) (groups : AreGroups ordered nodes news) where
   all-own : All (λ r. r.key.now ≡ key_at keys r.node) ordered
   all-own = All-permutation (λ (r : Keyed). r.key.now ≡ key_at keys r.node) rows ordered perm own
 

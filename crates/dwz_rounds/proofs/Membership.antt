@@ -19,7 +19,8 @@ module _ (numbers : List ℕ) (ranges : List Range) (members : List ℕ) (m : Ar
   numbers-below = λ k d l. let n = (m.each k l).number in subst (λ (c : ℕ). c < length ranges) (get_or_default numbers k 0 d l) n
 
   -- how many nodes live in a range doesn't matter
-  pub live-only : (class live : ℕ) → class < length ranges → AreMembers numbers (set ranges class (record { start = (range_at ranges class).start; end = (range_at ranges class).end; live = live })) members
+  pub live-only : (class live : ℕ) → class < length ranges → AreMembers numbers (set ranges class (record { start = (range_at ranges class).start; end = (range_at ranges class).end; live = live }))
+      members
   live-only class live inside =
       let r : Range = record { start = (range_at ranges class).start; end = (range_at ranges class).end; live = live } in
       let len = length-set ranges class r in
@@ -52,7 +53,8 @@ module _ (numbers : List ℕ) (ranges : List Range) (members : List ℕ) (m : Ar
         few = omega arith;
         within = λ c l. dite (dec_le (suc c) (length ranges))
             (λ o. let w = m.within c o in subst (λ (x : Range). (x.start ≤ x.end) × (x.end ≤ length members)) (sym (front c o)) w)
-            (λ n. let e : c ≡ length ranges = omega arith in subst (λ (x : Range). (x.start ≤ x.end) × (x.end ≤ length members)) (sym (ap (λ (k : ℕ). range_at (ranges ++ r ∷ []) k) e ∙ get_or-append_seam ranges r [] none)) (omega arith, omega arith));
+            (λ n. let e : c ≡ length ranges = omega arith in subst (λ (x : Range). (x.start ≤ x.end) × (x.end ≤ length members))
+            (sym (ap (λ (k : ℕ). range_at (ranges ++ r ∷ []) k) e ∙ get_or-append_seam ranges r [] none)) (omega arith, omega arith));
         nodes = m.nodes;
         each = λ a l. let p = m.each a l in let f = front (slice_index numbers a) p.number in record {
           number = let n = p.number in omega arith;
@@ -88,7 +90,8 @@ module _ (numbers : List ℕ) (ranges : List Range) (members : List ℕ) (m : Ar
         let long = length-append members (node ∷ []) in
         record {
           few = let f = m.few in omega arith;
-          within = λ c l. let k : c < length ranges = omega arith in let w = m.within c k in let s = after-start c in let e = after-end c k in (let x = w.0 in let y = e.0 in omega arith, let y = e.1 in omega arith);
+          within = λ c l. let k : c < length ranges = omega arith in let w = m.within c k in let s = after-start c in let e =
+              after-end c k in (let x = w.0 in let y = e.0 in omega arith, let y = e.1 in omega arith);
           nodes = subst (λ (n : ℕ). All (λ a. a < n) (members ++ node ∷ [])) (sym many) (All-push (λ a. a < length numbers) members node m.nodes inside);
           each = λ a l. dite (ℕ_discrete a node)
               (λ e.

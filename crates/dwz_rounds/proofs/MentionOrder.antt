@@ -1,5 +1,6 @@
 -- Mentions that are sorted, each once, stand in ascending order.
-use Rattle.std.proofs.Common.{◌≡◌, ℕ, ◌==◌, ◌<◌, ◌⊎◌, Bool, Contains, IsPermutation, Ordering, Less, Equal, Greater, nat_cmp, true, List, arith, eq-eqb, length, get_or, inl, inr, ⊎_elim, refl, sym, ap, ◌∙◌, subst}
+use Rattle.std.proofs.Common.{◌≡◌, ℕ, ◌==◌, ◌<◌, ◌⊎◌, Bool, Contains, IsPermutation, Ordering, Less, Equal, Greater, nat_cmp, true, List, arith, eq-eqb, length, get_or, inl, inr, ⊎_elim, refl, sym}
+use Rattle.std.proofs.Common.{ap, ◌∙◌, subst}
 use Rattle.std.specs.Prelude.{◌&&◌}
 use Rattle.std.specs.Ordering.{eq_by_cmp, is_eq, ordering_then}
 use Rattle.std.specs.Cmp.{IsTotalOrder}

@@ -28,12 +28,14 @@ classes_of classes xs = map (λ t. slice_index classes t) xs
 class-at : (classes xs : List ℕ) (k : ℕ) → k < length xs → get_or (classes_of classes xs) k 0 ≡ slice_index classes (slice_index xs k)
 class-at classes xs k l = get_or-map (λ t. slice_index classes t) xs k 0 0 l
 
-pub classes-same : (classes xs ys : List ℕ) → length xs ≡ length ys → ((k : ℕ) → k < length xs → slice_index classes (slice_index xs k) ≡ slice_index classes (slice_index ys k)) → classes_of classes xs ≡ classes_of classes ys
+pub classes-same : (classes xs ys : List ℕ) → length xs ≡ length ys → ((k : ℕ) → k < length xs → slice_index classes (slice_index xs k) ≡ slice_index classes (slice_index ys k))
+    → classes_of classes xs ≡ classes_of classes ys
 classes-same classes xs ys len each =
     let many : length (classes_of classes xs) ≡ length xs = length-map xs (λ t. slice_index classes t) in
     ext_get_or 0 (classes_of classes xs) (classes_of classes ys) (many ∙ (len ∙ sym (length-map ys (λ t. slice_index classes t))))
     (λ k l. class-at classes xs k (omega arith) ∙ (each k (omega arith) ∙ sym (class-at classes ys k (omega arith))))
 
-pub same-classes : (classes xs ys : List ℕ) (k : ℕ) → length xs ≡ length ys → k < length xs → classes_of classes xs ≡ classes_of classes ys → slice_index classes (slice_index xs k) ≡ slice_index classes (slice_index ys k)
+pub same-classes : (classes xs ys : List ℕ) (k : ℕ) → length xs ≡ length ys → k < length xs → classes_of classes xs ≡ classes_of classes ys
+    → slice_index classes (slice_index xs k) ≡ slice_index classes (slice_index ys k)
 same-classes classes xs ys k len l same =
     sym (class-at classes xs k l) ∙ (ap (λ (x : List ℕ). get_or x k 0) same ∙ class-at classes ys k (omega arith))

@@ -45,12 +45,14 @@ module _ (g : List Node) (closed : IsClosed g) where
   pub key-target : (numbers : List ℕ) (a b i : ℕ) → key g numbers a ≡ key g numbers b → i < length (targets_at g a) → slice_index numbers (target a i) ≡ slice_index numbers (target b i)
   key-target numbers a b i e l = map-at (λ t. slice_index numbers t) (targets_at g a) (targets_at g b) (key-rest numbers a b e) i l
 
-  pub key-same : (numbers : List ℕ) (a b : ℕ) → label_at g a ≡ label_at g b → length (targets_at g a) ≡ length (targets_at g b) → ((i : ℕ) → i < length (targets_at g a) → slice_index numbers (target a i) ≡ slice_index numbers (target b i)) → key g numbers a ≡ key g numbers b
+  pub key-same : (numbers : List ℕ) (a b : ℕ) → label_at g a ≡ label_at g b → length (targets_at g a) ≡ length (targets_at g b)
+      → ((i : ℕ) → i < length (targets_at g a) → slice_index numbers (target a i) ≡ slice_index numbers (target b i)) → key g numbers a ≡ key g numbers b
   key-same numbers a b label len each = λ i. label i ∷ map-same (λ t. slice_index numbers t) (targets_at g a) (targets_at g b) len each i
 
   -- a key is kept where targets with one number keep one number
   pub key-kept : (numbers next : List ℕ) (a b : ℕ) → a < length g → b < length g → key g numbers a ≡ key g numbers b
-      → ((i : ℕ) → i < length (targets_at g a) → target a i < length g → target b i < length g → i < length (targets_at g b) → slice_index numbers (target a i) ≡ slice_index numbers (target b i) → slice_index next (target a i) ≡ slice_index next (target b i))
+      → ((i : ℕ) → i < length (targets_at g a) → target a i < length g → target b i < length g → i < length (targets_at g b) → slice_index numbers (target a i) ≡ slice_index numbers (target b i)
+      → slice_index next (target a i) ≡ slice_index next (target b i))
       → key g next a ≡ key g next b
   key-kept numbers next a b la lb e each = let len = key-length numbers a b e in key-same next a b (key-label numbers a b e) len
       (λ i l. let m : i < length (targets_at g b) = omega arith in each i l (closed a la i 0 l) (closed b lb i 0 m) m (key-target numbers a b i e l))
@@ -84,10 +86,15 @@ module _ (g : List Node) (closed : IsClosed g) where
     end-alike none zero a b la lb e = tt
     end-alike none (suc k) a b la lb e =
         let nobody : (x : ℕ) → ¬ (PointsAt g pending x) = λ x h. let m = h.1 in let l = m.1 in absurd (omega arith) in
-        let same = stable a b la lb e (nobody a) (nobody b) in
-        (key-label numbers a b same, key-length numbers a b same, λ i l. let len = key-length numbers a b same in end-alike none k (target a i) (target b i) (closed a la i 0 l) (closed b lb i 0 (omega arith)) (key-target numbers a b i same l))
+        let same = stable a b la lb e (nobody a) (nobody b) in (
+          key-label numbers a b same,
+          key-length numbers a b same,
+          λ i l. let len = key-length numbers a b same in end-alike none k (target a i) (target b i) (closed a la i 0 l)
+              (closed b lb i 0 (omega arith)) (key-target numbers a b i same l),
+        )
 
-    pub end-refined : length pending ≡ 0 → (answers : List ℕ) → length answers ≡ length g → ((a : ℕ) → a < length g → IsLeastBelow (length g) (λ b. slice_index numbers a ≡ slice_index numbers b) (slice_index answers a)) → IsRefined g answers
+    pub end-refined : length pending ≡ 0 → (answers : List ℕ) → length answers ≡ length g
+        → ((a : ℕ) → a < length g → IsLeastBelow (length g) (λ b. slice_index numbers a ≡ slice_index numbers b) (slice_index answers a)) → IsRefined g answers
     end-refined none answers len each = record {
       len = len;
       each = λ a l. least-same (length g) (λ b. slice_index numbers a ≡ slice_index numbers b) (Alike g a) (slice_index answers a)

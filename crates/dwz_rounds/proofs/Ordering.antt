@@ -1,47 +1,25 @@
 -- Rows that are sorted by hash, key and node have equal keys together, where equal keys have equal hashes.
-use Rattle.std.proofs.Common.{◌≡◌, ℕ, suc, ◌+◌, ◌-◌, ◌<◌, ◌≤◌, Bool, true, false, true≢false, All, Ordering, Less, Equal, Greater, nat_cmp, is_lt, List, [], ◌∷◌, ◌++◌, length, get_or, take, not, refl, sym, ap, subst, ◌∙◌, arith}
-use Rattle.std.specs.Ordering.{ordering_then, ordering_reverse, is_eq}
+use Rattle.std.proofs.Common.{◌≡◌, ℕ, suc, ◌+◌, ◌-◌, ◌<◌, ◌≤◌, Bool, true, false, true≢false, All, Ordering, Equal, nat_cmp, is_lt, List, [], ◌∷◌, ◌++◌, length, get_or, take, not, refl, sym, ap}
+use Rattle.std.proofs.Common.{subst, ◌∙◌, arith}
+use Rattle.std.specs.Ordering.{ordering_then}
 use Rattle.std.specs.Cmp.{IsTotalOrder}
 use Rattle.std.specs.Cmp.Lexicographic.{slice_cmp}
 use Rattle.std.specs.List.Sorted.{IsSorted}
 use Rattle.std.specs.Prelude.{slice_index, slice_index_or}
-use Rattle.std.proofs.lemmas.Cmp.{ranked, by_ranked, nat_cmp_total, nat_list_cmp_total, on_total, then_total, tied_itself}
+use Rattle.std.proofs.lemmas.Cmp.{nat_cmp_total, nat_list_cmp_total, on_total, then_total, tied_itself}
 use Rattle.std.proofs.lemmas.List.{get_or-map, map-append, take_more}
 use Rattle.std.proofs.lemmas.List.Sorted.{ranks_by, sorted_far}
-use Rattle.std.proofs.lemmas.Map.Text.{is_eq-slice_cmp}
-use Rattle.std.proofs.lemmas.Slice.Eq.{bytes_eq-Decides}
 use Rattle.dwz_rounds.specs.Keys.{key_at, words_hash}
 use Rattle.dwz_rounds.specs.declared.order.Keyed.{Keyed}
 use Rattle.dwz_rounds.specs.Order.{nodes_of, keys_of, AreTogether, IsNew, IsNewAt}
 use Rattle.std.proofs.Math.ListN.{get_or-append, get_or-map as map-get_or}
 use Rattle.std.proofs.Math.Seq.{get_or-append_seam}
+use Rattle.dwz_nodes.proofs.Orders.{both_equal, bytes_equal, first_low, number_low, second_low}
 use mathlib.Core.Logic.{dite}
 use native.Mathlib.Decide.{ℕ_discrete}
 
-nat-low : (x y : ℕ) → is_lt (nat_cmp x y) ≡ false → y ≤ x
-nat-low x y e = by_ranked (x < y) (x ≡ y) (y < x) (nat_cmp x y) (ranked x y (nat_cmp x y) refl)
-    (λ o l. absurd (true≢false (sym (ap is_lt o) ∙ e)))
-    (λ o s. omega arith)
-    (λ o g. omega arith)
-
-first-not : (o p : Ordering) → is_lt (ordering_then o p) ≡ false → is_lt o ≡ false
-first-not Less p e = e
-first-not Equal p e = refl
-first-not Greater p e = refl
-
-second-not : (o p : Ordering) → o ≡ Equal → is_lt (ordering_then o p) ≡ false → is_lt p ≡ false
-second-not o p is e = subst (λ (q : Ordering). is_lt (ordering_then q p) ≡ false) is e
-
-list-same : (xs ys : List ℕ) → slice_cmp nat_cmp xs ys ≡ Equal → xs ≡ ys
-list-same xs ys e = (bytes_eq-Decides xs ys).0 (sym (is_eq-slice_cmp xs ys) ∙ ap is_eq e)
-
-both-equal : (o : Ordering) → is_lt o ≡ false → is_lt (ordering_reverse o) ≡ false → o ≡ Equal
-both-equal Less e f = absurd (true≢false e)
-both-equal Equal e f = refl
-both-equal Greater e f = absurd (true≢false f)
-
 list-between : (xs ys : List ℕ) → is_lt (slice_cmp nat_cmp xs ys) ≡ false → is_lt (slice_cmp nat_cmp ys xs) ≡ false → xs ≡ ys
-list-between xs ys e f = list-same xs ys (both-equal (slice_cmp nat_cmp xs ys) e (subst (λ (o : Ordering). is_lt o ≡ false) (nat_list_cmp_total.antisymm ys xs) f))
+list-between xs ys e f = bytes_equal xs ys (both_equal (slice_cmp nat_cmp xs ys) e (subst (λ (o : Ordering). is_lt o ≡ false) (nat_list_cmp_total.antisymm ys xs) f))
 
 -- the order of rows
 abbrev by_hash : Keyed → Keyed → Ordering
@@ -72,26 +50,26 @@ module _ (rows : List Keyed) (up : IsSorted row_cmp rows) (hashed : All (λ r. r
   hash-between : (i j k : ℕ) → i ≤ j → j ≤ k → k < length rows → (at i).key.now ≡ (at k).key.now → ((at i).hash ≡ (at j).hash) × ((at j).hash ≡ (at k).hash)
   hash-between i j k a b l e =
       let h = same-hash i k (omega arith) l e in
-      let low = nat-low (at j).hash (at i).hash (first-not (by_hash (at j) (at i)) (ordering_then (by_key (at j) (at i)) (by_node (at j) (at i))) (far i j a (omega arith))) in
-      let high = nat-low (at k).hash (at j).hash (first-not (by_hash (at k) (at j)) (ordering_then (by_key (at k) (at j)) (by_node (at k) (at j))) (far j k b l)) in
+      let low = number_low (at j).hash (at i).hash (first_low (by_hash (at j) (at i)) (ordering_then (by_key (at j) (at i)) (by_node (at j) (at i))) (far i j a (omega arith))) in
+      let high = number_low (at k).hash (at j).hash (first_low (by_hash (at k) (at j)) (ordering_then (by_key (at k) (at j)) (by_node (at k) (at j))) (far j k b l)) in
       (omega arith, omega arith)
 
   key-low : (i j : ℕ) → i ≤ j → j < length rows → (at i).hash ≡ (at j).hash → is_lt (ordering_then (by_key (at j) (at i)) (by_node (at j) (at i))) ≡ false
-  key-low i j le l e = second-not (by_hash (at j) (at i)) (ordering_then (by_key (at j) (at i)) (by_node (at j) (at i)))
+  key-low i j le l e = second_low (by_hash (at j) (at i)) (ordering_then (by_key (at j) (at i)) (by_node (at j) (at i)))
       (subst (λ (h : ℕ). nat_cmp (at j).hash h ≡ Equal) (sym e) (tied_itself nat_cmp_total (at j).hash))
       (far i j le l)
 
   key-between : (i j k : ℕ) → i ≤ j → j ≤ k → k < length rows → (at i).key.now ≡ (at k).key.now → (at j).key.now ≡ (at k).key.now
   key-between i j k a b l e =
       let h = hash-between i j k a b l e in
-      let low = first-not (by_key (at j) (at i)) (by_node (at j) (at i)) (key-low i j a (omega arith) h.0) in
-      let high = first-not (by_key (at k) (at j)) (by_node (at k) (at j)) (key-low j k b l h.1) in
+      let low = first_low (by_key (at j) (at i)) (by_node (at j) (at i)) (key-low i j a (omega arith) h.0) in
+      let high = first_low (by_key (at k) (at j)) (by_node (at k) (at j)) (key-low j k b l h.1) in
       list-between (at j).key.now (at k).key.now (subst (λ (x : List ℕ). is_lt (slice_cmp nat_cmp (at j).key.now x) ≡ false) e low) high
 
   node-rising : (i j : ℕ) → i ≤ j → j < length rows → (at i).key.now ≡ (at j).key.now → (at i).node ≤ (at j).node
   node-rising i j le l e =
       let h = same-hash i j (omega arith) l e in
-      nat-low (at j).node (at i).node (second-not (by_key (at j) (at i)) (by_node (at j) (at i))
+      number_low (at j).node (at i).node (second_low (by_key (at j) (at i)) (by_node (at j) (at i))
       (subst (λ (x : List ℕ). slice_cmp nat_cmp (at j).key.now x ≡ Equal) (sym e) (tied_itself nat_list_cmp_total (at j).key.now))
       (key-low i j le l h))
 
@@ -115,16 +93,19 @@ together (r ∷ rs) up hashed = together-from (r ∷ rs) up hashed r
 pub first-is-new : (key : ℕ → List ℕ) (b : Bool) → b ≡ true → IsNew key b 0
 first-is-new key b e = record { new = λ t j l. absurd (omega arith); again = λ f. absurd (true≢false (sym e ∙ f)) }
 
-pub other-is-new : (rows : List Keyed) (i : ℕ) (same b : Bool) → suc i < length rows → AreTogether rows → b ≡ not same → (same ≡ true → key_at (keys_of rows) i ≡ key_at (keys_of rows) (suc i)) → (key_at (keys_of rows) i ≡ key_at (keys_of rows) (suc i) → same ≡ true) → IsNew (λ j. key_at (keys_of rows) j) b (suc i)
+pub other-is-new : (rows : List Keyed) (i : ℕ) (same b : Bool) → suc i < length rows → AreTogether rows → b ≡ not same → (same ≡ true → key_at (keys_of rows) i ≡ key_at (keys_of rows) (suc i))
+    → (key_at (keys_of rows) i ≡ key_at (keys_of rows) (suc i) → same ≡ true) → IsNew (λ j. key_at (keys_of rows) j) b (suc i)
 other-is-new rows i true b l t e there back = record { new = λ is. absurd (true≢false (sym is ∙ e)); again = λ f. (i, refl, there refl) }
 other-is-new rows i false b l t e there back = record {
   new = λ is j lj same. absurd (true≢false (sym (back (t.between j i (suc i) (omega arith) (omega arith) l same))));
   again = λ f. absurd (true≢false (sym e ∙ f));
 }
 
-pub is-new-more : (key : ℕ → List ℕ) (news : List Bool) (n : ℕ) (b : Bool) → length news ≡ n → ((i : ℕ) → i < n → IsNewAt key news i) → IsNew key b n → (i : ℕ) → i < n + 1 → IsNewAt key (news ++ b ∷ []) i
+pub is-new-more : (key : ℕ → List ℕ) (news : List Bool) (n : ℕ) (b : Bool) → length news ≡ n → ((i : ℕ) → i < n → IsNewAt key news i) → IsNew key b n → (i : ℕ) → i < n + 1
+    → IsNewAt key (news ++ b ∷ []) i
 is-new-more key news n b len each new i l = dite (ℕ_discrete i n)
-    (λ e. subst (λ (x : Bool). IsNew key x i) (sym (get_or-append_seam news b [] false) ∙ ap (λ (k : ℕ). slice_index_or (news ++ b ∷ []) k false) (len ∙ sym e)) (subst (λ (k : ℕ). IsNew key b k) (sym e) new))
+    (λ e. subst (λ (x : Bool). IsNew key x i) (sym (get_or-append_seam news b [] false) ∙ ap (λ (k : ℕ). slice_index_or (news ++ b ∷ []) k false) (len ∙ sym e))
+    (subst (λ (k : ℕ). IsNew key b k) (sym e) new))
     (λ ne. subst (λ (x : Bool). IsNew key x i) (sym (get_or-append news (b ∷ []) false i (omega arith))) (each i (omega arith)))
 
 abbrev pub no_row : Keyed
@@ -135,7 +116,8 @@ row-key rows i = map-get_or (λ (r : Keyed). r.key.now) rows i no_row
 
 -- the row before
 pub not-first-is-new : (rows : List Keyed) (at : ℕ) (same : Bool) → at < length rows → (at ≡ 0 → ⊥) → AreTogether rows
-    → (same ≡ true → (get_or rows (at - 1) no_row).key.now ≡ (get_or rows at no_row).key.now) → ((get_or rows (at - 1) no_row).key.now ≡ (get_or rows at no_row).key.now → same ≡ true) → IsNew (λ j. key_at (keys_of rows) j) (not same) at
+    → (same ≡ true → (get_or rows (at - 1) no_row).key.now ≡ (get_or rows at no_row).key.now) → ((get_or rows (at - 1) no_row).key.now ≡ (get_or rows at no_row).key.now → same ≡ true)
+    → IsNew (λ j. key_at (keys_of rows) j) (not same) at
 not-first-is-new rows at same l ne t there back =
     let i : ℕ = at - 1 in
     let is : suc i ≡ at = omega arith in

@@ -21,7 +21,8 @@ use Rattle.std.proofs.lemmas.List.Elements.{Contains-get_or}
 use Rattle.dwz_rounds.proofs.Mentioned.{is-visit, told-apart}
 
 module _ (g : List Node) (part : ℕ → List ℕ) (numbers visit wholes nodes : List ℕ) (whole : List Bool) (parts : List Part) (count : ℕ) (next after : List ℕ) (number : ℕ)
-    (same : AreSame visit nodes) (marked : AreMarked whole wholes) (inside : (a : ℕ) → Among visit a → a < length g) (below : (a : ℕ) → a < length g → slice_index numbers a < count) (room : count ≤ length whole)
+    (same : AreSame visit nodes) (marked : AreMarked whole wholes) (inside : (a : ℕ) → Among visit a → a < length g) (below : (a : ℕ) → a < length g → slice_index numbers a < count)
+    (room : count ≤ length whole)
     (len : length next ≡ length numbers) (s : IsSplitting part nodes numbers whole parts count (length nodes) next after number) where
   out : (a : ℕ) → ¬ (Among visit a) → slice_index next a ≡ slice_index numbers a
   out a not = s.other a (λ p l e. not (same.back a (p, l, e)))
@@ -42,7 +43,10 @@ module _ (g : List Node) (part : ℕ → List ℕ) (numbers visit wholes nodes :
         let x = same.there a ta in
         let small = below a (inside a ta) in
         ⊎_elim
-        (λ k. inl (ap (λ (n : ℕ). slice_index next n) (sym x.2) ∙ (k.is ∙ ap (λ (n : ℕ). slice_index numbers n) x.2), marked.all (slice_index numbers a) (omega arith) (subst (λ (n : ℕ). IsMarked whole (slice_index numbers n)) x.2 k.of_whole)))
+        (λ k. inl (
+          ap (λ (n : ℕ). slice_index next n) (sym x.2) ∙ (k.is ∙ ap (λ (n : ℕ). slice_index numbers n) x.2),
+          marked.all (slice_index numbers a) (omega arith) (subst (λ (n : ℕ). IsMarked whole (slice_index numbers n)) x.2 k.of_whole),
+        ))
         (λ high. inr (subst (λ (n : ℕ). count ≤ slice_index next n) x.2 high))
         (s.each x.0 x.1);
     new = λ a h. let f = s.from a h in (inside a (same.back a (f.0, f.1, f.2)), f.3);
@@ -74,7 +78,8 @@ sources-below g rows n uses is t l k d m =
 pub all-below : (xs : List ℕ) (n : ℕ) → ((a : ℕ) → Among xs a → a < n) → All (λ a. a < n) xs
 all-below xs n inside k d l = subst (λ (a : ℕ). a < n) (get_or_default xs k 0 d l) (inside (get_or xs k 0) (k, l, refl))
 
-pub some-range : (numbers : List ℕ) (ranges : List Range) (members pending : List ℕ) (n : ℕ) → AreMembers numbers ranges members → n ≡ length numbers → ((a : ℕ) → Among pending a → a < n) → 0 < length pending → 0 < length ranges
+pub some-range : (numbers : List ℕ) (ranges : List Range) (members pending : List ℕ) (n : ℕ) → AreMembers numbers ranges members → n ≡ length numbers → ((a : ℕ) → Among pending a → a < n)
+    → 0 < length pending → 0 < length ranges
 some-range numbers ranges members pending n m is inside some = let a = inside (get_or pending 0 0) (0, some, refl) in let p = (m.each (get_or pending 0 0) (omega arith)).number in omega arith
 
 pub listed-below : (marks : List Bool) (visit nodes : List ℕ) (n : ℕ) → length marks ≡ n → AreMarked marks visit → AreSame visit nodes → All (λ a. a < n) nodes

@@ -1,5 +1,6 @@
 -- New numbers for parts of classes, one node after the other.
-use Rattle.std.proofs.Common.{◌≡◌, ◌≢◌, ℕ, zero, suc, ◌+◌, ◌<◌, ◌≤◌, ◌⊎◌, Bool, true, false, List, [], ◌∷◌, ◌++◌, length, set, inl, inr, ⊎_elim, refl, sym, ap, subst, ◌∙◌, arith, length-append, get_or-set_other, get_or-set_same}
+use Rattle.std.proofs.Common.{◌≡◌, ◌≢◌, ℕ, zero, suc, ◌+◌, ◌<◌, ◌≤◌, ◌⊎◌, Bool, true, false, List, [], ◌∷◌, ◌++◌, length, set, inl, inr, ⊎_elim, refl, sym, ap, subst, ◌∙◌, arith, length-append}
+use Rattle.std.proofs.Common.{get_or-set_other, get_or-set_same}
 use Rattle.std.specs.Prelude.{slice_index, slice_index_or}
 use mathlib.Core.Logic.{dite}
 use native.Mathlib.Decide.{ℕ_discrete, dec_le}
@@ -35,7 +36,8 @@ splitting-none key nodes old whole parts count number = record {
   all = λ p l. absurd (omega arith);
 }
 
-module _ (key : ℕ → List ℕ) (nodes old : List ℕ) (whole : List Bool) (parts : List Part) (count n : ℕ) (cur pending : List ℕ) (number : ℕ) (s : IsSplitting key nodes old whole parts count n cur pending number) where
+module _ (key : ℕ → List ℕ) (nodes old : List ℕ) (whole : List Bool) (parts : List Part) (count n : ℕ) (cur pending : List ℕ) (number : ℕ)
+    (s : IsSplitting key nodes old whole parts count n cur pending number) where
   abbrev node : ℕ
   node = slice_index nodes n
 
@@ -47,13 +49,15 @@ module _ (key : ℕ → List ℕ) (nodes old : List ℕ) (whole : List Bool) (pa
 
   module _ (next : ℕ) (r : IsRight next) where
     -- the step, where the new list has the number at the node and is as before elsewhere
-    module _ (new after : List ℕ) (kept : (p : ℕ) → p < n → slice_index new (slice_index nodes p) ≡ slice_index cur (slice_index nodes p)) (here : slice_index new node ≡ next) (elsewhere : (a : ℕ) → a ≢ node → slice_index new a ≡ slice_index cur a)
+    module _ (new after : List ℕ) (kept : (p : ℕ) → p < n → slice_index new (slice_index nodes p) ≡ slice_index cur (slice_index nodes p)) (here : slice_index new node ≡ next)
+        (elsewhere : (a : ℕ) → a ≢ node → slice_index new a ≡ slice_index cur a)
         (listed : (a : ℕ) → Among after a → Among pending a ⊎ ((a ≡ node) × (count ≤ next))) (stays : (a : ℕ) → Among pending a → Among after a) (lists : count ≤ next → Among after node) where
       step-same : (p q : ℕ) → p < n + 1 → q < n + 1 → key (slice_index nodes p) ≡ key (slice_index nodes q) → slice_index new (slice_index nodes p) ≡ slice_index new (slice_index nodes q)
       step-same p q lp lq e = dite (ℕ_discrete p n)
           (λ pn. dite (ℕ_discrete q n)
           (λ qn. ap (λ (k : ℕ). slice_index new (slice_index nodes k)) (pn ∙ sym qn))
-          (λ qne. ap (λ (k : ℕ). slice_index new (slice_index nodes k)) pn ∙ (here ∙ (sym (r.back q (omega arith) (sym e ∙ ap (λ (k : ℕ). key (slice_index nodes k)) pn)) ∙ sym (kept q (omega arith))))))
+          (λ qne. ap (λ (k : ℕ). slice_index new (slice_index nodes k)) pn
+          ∙ (here ∙ (sym (r.back q (omega arith) (sym e ∙ ap (λ (k : ℕ). key (slice_index nodes k)) pn)) ∙ sym (kept q (omega arith))))))
           (λ pne. dite (ℕ_discrete q n)
           (λ qn. kept p (omega arith) ∙ (r.back p (omega arith) (e ∙ ap (λ (k : ℕ). key (slice_index nodes k)) qn) ∙ (sym here ∙ ap (λ (k : ℕ). slice_index new (slice_index nodes k)) (sym qn))))
           (λ qne. kept p (omega arith) ∙ (s.same p q (omega arith) (omega arith) e ∙ sym (kept q (omega arith)))))
@@ -62,7 +66,8 @@ module _ (key : ℕ → List ℕ) (nodes old : List ℕ) (whole : List Bool) (pa
       step-apart p q lp lq e = dite (ℕ_discrete p n)
           (λ pn. dite (ℕ_discrete q n)
           (λ qn. ap (λ (k : ℕ). key (slice_index nodes k)) (pn ∙ sym qn))
-          (λ qne. ap (λ (k : ℕ). key (slice_index nodes k)) pn ∙ sym (r.there q (omega arith) (sym (kept q (omega arith)) ∙ (sym e ∙ (ap (λ (k : ℕ). slice_index new (slice_index nodes k)) pn ∙ here))))))
+          (λ qne. ap (λ (k : ℕ). key (slice_index nodes k)) pn ∙ sym (r.there q (omega arith)
+          (sym (kept q (omega arith)) ∙ (sym e ∙ (ap (λ (k : ℕ). slice_index new (slice_index nodes k)) pn ∙ here))))))
           (λ pne. dite (ℕ_discrete q n)
           (λ qn. r.there p (omega arith) (sym (kept p (omega arith)) ∙ (e ∙ (ap (λ (k : ℕ). slice_index new (slice_index nodes k)) qn ∙ here))) ∙ ap (λ (k : ℕ). key (slice_index nodes k)) (sym qn))
           (λ qne. s.apart p q (omega arith) (omega arith) (sym (kept p (omega arith)) ∙ (e ∙ kept q (omega arith)))))
@@ -149,7 +154,8 @@ module _ (key : ℕ → List ℕ) (nodes old : List ℕ) (whole : List Bool) (pa
     new-key : is_new ≡ true → (j : ℕ) → j < n → ¬ (key (slice_index nodes j) ≡ key node)
     new-key t = (g.each n inside).new t
 
-    right-kept : (next : ℕ) → is_new ≡ true → next ≡ slice_index cur node → IsMarked whole (slice_index cur node) → start_of parts (slice_index cur node) ≡ n → slice_index old node < count → IsRight next
+    right-kept : (next : ℕ) → is_new ≡ true → next ≡ slice_index cur node → IsMarked whole (slice_index cur node) → start_of parts (slice_index cur node) ≡ n → slice_index old node < count
+        → IsRight next
     right-kept next t is marked start small =
         let fresh = new-key t in
         let own : slice_index cur node ≡ slice_index old node = s.other node (λ p l e. fresh p l (ap key e)) in
@@ -195,12 +201,16 @@ pub record AreRanges (cur : List ℕ) (members : List ℕ) (ranges after : List 
   pub new : length ranges ≤ next → length ranges < length after
 
 pub choice-ranges : (at : ℕ) (is_new : Bool) (class number limit : ℕ) (whole : List Bool) (parts : List Part) (ranges : List Range) (end next : ℕ) (after : List Range) (cur members : List ℕ)
-    → IsChoice at is_new class number limit whole parts ranges end next after → AreMembers cur ranges members → end ≡ length members → limit ≡ length cur → number < length ranges → class < length ranges → AreRanges cur members ranges after next
+    → IsChoice at is_new class number limit whole parts ranges end next after → AreMembers cur ranges members → end ≡ length members → limit ≡ length cur → number < length ranges
+    → class < length ranges → AreRanges cur members ranges after next
 choice-ranges at is_new class number limit whole parts ranges end next after cur members c m place most small own = ⊎_elim
-    (λ x. subst (λ (r : List Range). AreRanges cur members ranges r next) (sym x.2) record { members_are = m; inside = let e = x.1 in omega arith; grown = omega arith; new = λ h. let e = x.1 in omega arith })
+    (λ x. subst (λ (r : List Range). AreRanges cur members ranges r next) (sym x.2)
+    record { members_are = m; inside = let e = x.1 in omega arith; grown = omega arith; new = λ h. let e = x.1 in omega arith })
     (λ y. ⊎_elim
-    (λ x. subst (λ (r : List Range). AreRanges cur members ranges r next) (sym x.4) record { members_are = m; inside = let e = x.1 in omega arith; grown = omega arith; new = λ h. let e = x.1 in omega arith })
+    (λ x. subst (λ (r : List Range). AreRanges cur members ranges r next) (sym x.4)
+    record { members_are = m; inside = let e = x.1 in omega arith; grown = omega arith; new = λ h. let e = x.1 in omega arith })
     (λ x. let long = length-append ranges (new_range end ∷ []) in
-    subst (λ (r : List Range). AreRanges cur members ranges r next) (sym x.3) record { members_are = range-more cur ranges members m end (let l = x.2 in omega arith) place; inside = let e = x.1 in omega arith; grown = omega arith; new = λ h. omega arith })
+    subst (λ (r : List Range). AreRanges cur members ranges r next) (sym x.3)
+    record { members_are = range-more cur ranges members m end (let l = x.2 in omega arith) place; inside = let e = x.1 in omega arith; grown = omega arith; new = λ h. omega arith })
     y)
     c

@@ -90,7 +90,8 @@ class_graph-more numbers n graph g =
     record {
       len = let e = g.len in omega (arith, length-append graph (x ∷ []));
       each = λ a l. dite (ℕ_discrete a n)
-          (λ e. ap (λ (k : ℕ). targets_at (graph ++ x ∷ []) k) (e ∙ sym g.len) ∙ (ap (λ (y : Node). y.targets) (get_or-append_seam graph x [] (node 0 [])) ∙ ap (λ (k : ℕ). slice_index numbers k ∷ []) (sym e)))
+          (λ e. ap (λ (k : ℕ). targets_at (graph ++ x ∷ []) k) (e ∙ sym g.len)
+          ∙ (ap (λ (y : Node). y.targets) (get_or-append_seam graph x [] (node 0 [])) ∙ ap (λ (k : ℕ). slice_index numbers k ∷ []) (sym e)))
           (λ ne. ap (λ (y : Node). y.targets) (get_or-append graph (x ∷ []) (node 0 []) a (let e = g.len in omega arith)) ∙ g.each a (omega arith));
     }
 
@@ -148,7 +149,8 @@ listed-more numbers class live start end ranges members row s has small is ends 
           });
     }
 
-pub listed-all : (numbers : List ℕ) (class : ℕ) (ranges : List Range) (members : List ℕ) → class ≤ length numbers → All (λ c. c < class) numbers → AreListed numbers class ranges members → AreMembers numbers ranges members
+pub listed-all : (numbers : List ℕ) (class : ℕ) (ranges : List Range) (members : List ℕ) → class ≤ length numbers → All (λ c. c < class) numbers → AreListed numbers class ranges members
+    → AreMembers numbers ranges members
 listed-all numbers class ranges members few below s = record {
   few = let e = s.len in omega arith;
   within = s.within;
@@ -157,12 +159,15 @@ listed-all numbers class ranges members few below s = record {
 }
 
 -- the sources of a class in the graph of classes
-pub has-source : (numbers : List ℕ) (graph : List Node) (rows : List (List ℕ)) (class : ℕ) → IsClassGraph numbers (length numbers) graph → AreBack graph rows → class < length numbers → (a : ℕ) → a < length numbers → slice_index numbers a ≡ class → Contains (sources_at rows class) a
+pub has-source : (numbers : List ℕ) (graph : List Node) (rows : List (List ℕ)) (class : ℕ) → IsClassGraph numbers (length numbers) graph → AreBack graph rows → class < length numbers → (a : ℕ)
+    → a < length numbers → slice_index numbers a ≡ class → Contains (sources_at rows class) a
 has-source numbers graph rows class g back l a la e =
     (back.each class (let f = g.len in omega arith)).all a (let f = g.len in omega arith, subst (λ (ts : List ℕ). Contains ts class) (sym (g.each a la)) (0, omega arith, e))
 
-pub source-inside : (numbers : List ℕ) (graph : List Node) (rows : List (List ℕ)) (class : ℕ) → IsClassGraph numbers (length numbers) graph → AreBack graph rows → class < length numbers → All (λ a. a < length numbers) (sources_at rows class)
-source-inside numbers graph rows class g back l k d m = let xs = sources_at rows class in let s = (back.each class (let f = g.len in omega arith)).each (get_or xs k d) (k, m, get_or_default xs k (get_or xs k d) d m) in let t = s.0 in let f = g.len in omega arith
+pub source-inside : (numbers : List ℕ) (graph : List Node) (rows : List (List ℕ)) (class : ℕ) → IsClassGraph numbers (length numbers) graph → AreBack graph rows → class < length numbers
+    → All (λ a. a < length numbers) (sources_at rows class)
+source-inside numbers graph rows class g back l k d m = let xs = sources_at rows class in let s = (back.each class (let f = g.len in omega arith)).each (get_or xs k d)
+    (k, m, get_or_default xs k (get_or xs k d) d m) in let t = s.0 in let f = g.len in omega arith
 
 -- one more node is moved, or isn't
 module _ (classes next largest : List ℕ) (n : ℕ) (pending : List ℕ) (p : AreMoved classes next largest n pending) where

@@ -17,6 +17,7 @@ pub record IsMember (numbers : List ℕ) (ranges : List Range) (members : List �
 -- each node stands in the range of its class. Nodes that have left a class may stand in its range too.
 pub record AreMembers (numbers : List ℕ) (ranges : List Range) (members : List ℕ) : Type 0 where
   pub few : length ranges ≤ length numbers
-  pub within : (c : ℕ) → c < length ranges → ((range_at ranges c).start ≤ (range_at ranges c).end) × ((range_at ranges c).end ≤ length members)
+  pub within : (c : ℕ) → c < length ranges → ((range_at ranges c).start ≤ (range_at ranges c).end)
+      × ((range_at ranges c).end ≤ length members)
   pub nodes : All (λ a. a < length numbers) members
   pub each : (a : ℕ) → a < length numbers → IsMember numbers ranges members a

@@ -12,8 +12,10 @@ keys_of rows = map (λ r. r.key.now) rows
 
 -- rows with one key stand together, and their nodes ascend
 pub record AreTogether (rows : List Keyed) : Type 0 where
-  pub between : (i j k : ℕ) → i ≤ j → j ≤ k → k < length rows → key_at (keys_of rows) i ≡ key_at (keys_of rows) k → key_at (keys_of rows) j ≡ key_at (keys_of rows) k
-  pub rising : (i j : ℕ) → i ≤ j → j < length rows → key_at (keys_of rows) i ≡ key_at (keys_of rows) j → slice_index (nodes_of rows) i ≤ slice_index (nodes_of rows) j
+  pub between : (i j k : ℕ) → i ≤ j → j ≤ k → k < length rows → key_at (keys_of rows) i ≡ key_at (keys_of rows) k
+      → key_at (keys_of rows) j ≡ key_at (keys_of rows) k
+  pub rising : (i j : ℕ) → i ≤ j → j < length rows → key_at (keys_of rows) i ≡ key_at (keys_of rows) j
+      → slice_index (nodes_of rows) i ≤ slice_index (nodes_of rows) j
 
 -- whether the key at i is another one than all before it, or that of the place before
 pub record IsNew (key : ℕ → List ℕ) (is_new : Bool) (i : ℕ) : Type 0 where

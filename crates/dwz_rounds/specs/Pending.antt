@@ -42,7 +42,8 @@ pub record IsSplit (g : List Node) (part : ℕ → List ℕ) (numbers visit whol
   pub kept : (a : ℕ) → a < length g → ¬ (Among visit a) → slice_index next a ≡ slice_index numbers a
   pub same : (a b : ℕ) → Among visit a → Among visit b → part a ≡ part b → slice_index next a ≡ slice_index next b
   pub apart : (a b : ℕ) → Among visit a → Among visit b → slice_index next a ≡ slice_index next b → part a ≡ part b
-  pub old : (a : ℕ) → Among visit a → ((slice_index next a ≡ slice_index numbers a) × Among wholes (slice_index numbers a)) ⊎ (count ≤ slice_index next a)
+  pub old : (a : ℕ) → Among visit a → ((slice_index next a ≡ slice_index numbers a) × Among wholes (slice_index numbers a))
+      ⊎ (count ≤ slice_index next a)
   pub new : (a : ℕ) → Among pending a → (a < length g) × (count ≤ slice_index next a)
   pub all : (a : ℕ) → a < length g → count ≤ slice_index next a → Among pending a
 

@@ -24,7 +24,8 @@ IsChoice at is_new class number limit whole parts ranges end next after =
 -- nodes with one key stand together, and had one number
 pub record IsGrouped (key : ℕ → List ℕ) (old nodes : List ℕ) (news : List Bool) : Type 0 where
   pub each : (i : ℕ) → i < length nodes → IsNewAt (λ j. key (slice_index nodes j)) news i
-  pub old_same : (i j : ℕ) → i < length nodes → j < length nodes → key (slice_index nodes i) ≡ key (slice_index nodes j) → slice_index old (slice_index nodes i) ≡ slice_index old (slice_index nodes j)
+  pub old_same : (i j : ℕ) → i < length nodes → j < length nodes → key (slice_index nodes i) ≡ key (slice_index nodes j)
+      → slice_index old (slice_index nodes i) ≡ slice_index old (slice_index nodes j)
 
 -- the node at p keeps its number, since it is of the part of its class that does
 pub record IsKept (key : ℕ → List ℕ) (nodes old : List ℕ) (whole : List Bool) (parts : List Part) (new : List ℕ) (p : ℕ) : Type 0 where
@@ -34,10 +35,13 @@ pub record IsKept (key : ℕ → List ℕ) (nodes old : List ℕ) (whole : List 
   pub same : key (slice_index nodes (start_of parts (slice_index old (slice_index nodes p)))) ≡ key (slice_index nodes p)
 
 -- the first n nodes have their new numbers: new ones from count on, different ones for different keys
-pub record IsSplitting (key : ℕ → List ℕ) (nodes old : List ℕ) (whole : List Bool) (parts : List Part) (count n : ℕ) (new pending : List ℕ) (number : ℕ) : Type 0 where
+pub record IsSplitting (key : ℕ → List ℕ) (nodes old : List ℕ) (whole : List Bool) (parts : List Part) (count n : ℕ) (new pending : List ℕ)
+    (number : ℕ) : Type 0 where
   pub other : (a : ℕ) → ((p : ℕ) → p < n → ¬ (slice_index nodes p ≡ a)) → slice_index new a ≡ slice_index old a
-  pub same : (p q : ℕ) → p < n → q < n → key (slice_index nodes p) ≡ key (slice_index nodes q) → slice_index new (slice_index nodes p) ≡ slice_index new (slice_index nodes q)
-  pub apart : (p q : ℕ) → p < n → q < n → slice_index new (slice_index nodes p) ≡ slice_index new (slice_index nodes q) → key (slice_index nodes p) ≡ key (slice_index nodes q)
+  pub same : (p q : ℕ) → p < n → q < n → key (slice_index nodes p) ≡ key (slice_index nodes q) → slice_index new (slice_index nodes p)
+      ≡ slice_index new (slice_index nodes q)
+  pub apart : (p q : ℕ) → p < n → q < n → slice_index new (slice_index nodes p) ≡ slice_index new (slice_index nodes q)
+      → key (slice_index nodes p) ≡ key (slice_index nodes q)
   pub each : (p : ℕ) → p < n → IsKept key nodes old whole parts new p ⊎ (count ≤ slice_index new (slice_index nodes p))
   pub last : (p : ℕ) → n ≡ suc p → slice_index new (slice_index nodes p) ≡ number
   pub from : (a : ℕ) → Among pending a → (p : ℕ) × (p < n) × (slice_index nodes p ≡ a) × (count ≤ slice_index new a)

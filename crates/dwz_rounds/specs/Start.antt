@@ -5,7 +5,8 @@ use Rattle.dwz_rounds.specs.Turns.{Among}
 
 -- each class is a node of its own, and none of its nodes is less
 abbrev pub IsLed : List ℕ → Type 0
-IsLed classes = (a : ℕ) → a < length classes → (slice_index classes a ≤ a) × (slice_index classes (slice_index classes a) ≡ slice_index classes a)
+IsLed classes = (a : ℕ) → a < length classes → (slice_index classes a ≤ a)
+    × (slice_index classes (slice_index classes a) ≡ slice_index classes a)
 
 -- the first n nodes have numbers below count, the same ones exactly for one class
 pub record AreNumbered (classes : List ℕ) (n count : ℕ) (numbers : List ℕ) : Type 0 where

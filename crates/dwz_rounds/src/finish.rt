@@ -1,5 +1,6 @@
 //! From a whole round on: only what changed is looked at again, until nothing is pending.
-ghost use Rattle.std.specs.Prelude.{◌≡◌, ℕ, ◌+◌, ◌-◌, ◌*◌, ◌<◌, ◌≤◌, ◌^◌, ◌⊎◌, [], All, IfOk, IfSome, IsTrue, OnOk, length, min, slice_index, slice_set};
+ghost use Rattle.std.specs.Prelude.{◌≡◌, ℕ, ◌+◌, ◌-◌, ◌*◌, ◌<◌, ◌≤◌, ◌^◌, ◌⊎◌, [], All, IfOk, IfSome, IsTrue, OnOk, length, min};
+ghost use Rattle.std.specs.Prelude.{slice_index, slice_set};
 ghost use Rattle.dwz_nodes.specs.Graph.{IsClosed};
 ghost use Rattle.dwz_nodes.specs.Looks.{IsLeastBelow, IsRefined};
 ghost use Rattle.dwz_nodes.specs.Uses.{AreUses};
@@ -82,7 +83,8 @@ fn pass_all_in(
 fn first_with(firsts: &mut [u32], number: usize, a: u32) -> u32
     requires { number < length firsts.old }
     ensures first { result ≡ slice_index firsts.new number }
-    ensures noted { ((slice_index firsts.old number ≡ 2 ^ 32 - 1) × (firsts.new ≡ slice_set firsts.old number a)) ⊎ ((¬ (slice_index firsts.old number ≡ 2 ^ 32 - 1)) × (firsts.new ≡ firsts.old)) }
+    ensures noted { ((slice_index firsts.old number ≡ 2 ^ 32 - 1) × (firsts.new ≡ slice_set firsts.old number a))
+        ⊎ ((¬ (slice_index firsts.old number ≡ 2 ^ 32 - 1)) × (firsts.new ≡ firsts.old)) }
 {
     if firsts[number] == NONE {
         firsts[number] = a;
@@ -97,7 +99,8 @@ fn put_least(numbers: &[u32], firsts: &mut [u32], least: &mut Vec<u32>) -> Resul
     requires none { (c : ℕ) → c < length numbers.now → slice_index firsts.old c ≡ 2 ^ 32 - 1 }
     requires least { least.old.items ≡ [] }
     ensures len { OnOk result (length least.new.items ≡ length numbers.now) }
-    ensures each { OnOk result ((a : ℕ) → a < length numbers.now → IsLeastBelow (length numbers.now) (λ b. slice_index numbers.now a ≡ slice_index numbers.now b) (slice_index least.new.items a)) }
+    ensures each { OnOk result ((a : ℕ) → a < length numbers.now
+        → IsLeastBelow (length numbers.now) (λ b. slice_index numbers.now a ≡ slice_index numbers.now b) (slice_index least.new.items a)) }
 {
     for a in 0..numbers.len() {
         least.push(first_with(firsts, numbers[a] as usize, a as u32))?;
@@ -110,7 +113,8 @@ fn least_nodes(alloc: Global, numbers: &[u32]) -> Result<Vec<u32>, NoMemory>
     requires few { length numbers.now < 2 ^ 32 - 1 }
     requires numbers { All (λ c. c < length numbers.now) numbers.now }
     ensures len { IfOk result (λ least. length least.items ≡ length numbers.now) }
-    ensures each { IfOk result (λ least. (a : ℕ) → a < length numbers.now → IsLeastBelow (length numbers.now) (λ b. slice_index numbers.now a ≡ slice_index numbers.now b) (slice_index least.items a)) }
+    ensures each { IfOk result (λ least. (a : ℕ) → a < length numbers.now
+        → IsLeastBelow (length numbers.now) (λ b. slice_index numbers.now a ≡ slice_index numbers.now b) (slice_index least.items a)) }
 {
     let mut firsts = vec![in alloc; NONE; numbers.len()]?;
     let mut least = Vec::with_capacity(alloc, numbers.len())?;

@@ -95,7 +95,8 @@ fn mark_groups(alloc: Global, rows: &[Keyed<'_>]) -> Result<Groups, NoMemory>
 /// The nodes of the rows, those with one key together and in ascending order.
 pub(crate) fn groups_of(alloc: Global, mut rows: Vec<Keyed<'_>>) -> Result<Groups, NoMemory>
     requires { All (λ r. r.hash ≡ words_hash r.key.now) rows.items }
-    ensures { IfOk result (λ groups. (ordered : _) × IsPermutation rows.entry.items ordered × AreGroups ordered groups.nodes.items groups.news.items) }
+    ensures { IfOk result (λ groups. (ordered : _) × IsPermutation rows.entry.items ordered × AreGroups ordered groups.nodes.items
+        groups.news.items) }
 {
     rows.sort_unstable();
     mark_groups(alloc, rows.as_slice())

@@ -142,7 +142,8 @@ pub(crate) fn pass(
     ensures pending { IfOk result (λ done. IsTrue done → IsPending nodes.now numbers.new pending.new.items) }
     ensures members { IfOk result (λ done. IsTrue done → AreMembers numbers.new ranges.new.items members.new.items) }
     ensures room { IfOk result (λ _. IsRoom (length nodes.now) room.new) }
-    ensures less { IfOk result (λ done. IsTrue done → 2 * (length nodes.now - length ranges.new.items) + min 1 (length pending.new.items) < 2 * (length nodes.now - length ranges.old.items) + min 1 (length pending.old.items)) }
+    ensures less { IfOk result (λ done. IsTrue done → 2 * (length nodes.now - length ranges.new.items)
+        + min 1 (length pending.new.items) < 2 * (length nodes.now - length ranges.old.items) + min 1 (length pending.old.items)) }
 {
     look(
         uses,

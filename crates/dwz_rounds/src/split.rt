@@ -73,7 +73,8 @@ fn next_number(
 ) -> Result<bool, NoMemory>
     requires class { (class < length whole.now) × (class < length parts.now) }
     requires limit { limit < 2 ^ 32 }
-    ensures { IfOk result (λ room. IsTrue room → IsChoice at is_new class number.old limit whole.now parts.now ranges.old.items (length members.now) number.new ranges.new.items) }
+    ensures { IfOk result (λ room. IsTrue room → IsChoice at is_new class number.old limit whole.now parts.now ranges.old.items
+        (length members.now) number.new ranges.new.items) }
 {
     if !is_new {
         return Ok(true);
@@ -160,7 +161,8 @@ pub(crate) fn split(
 ) -> Result<bool, NoMemory>
     requires few { length numbers.old < 2 ^ 32 }
     requires nodes { All (λ a. a < length numbers.old) nodes.now }
-    requires len { (length news.now ≡ length nodes.now) × (length whole.now ≡ length numbers.old) × (length parts.now ≡ length numbers.old) }
+    requires len { (length news.now ≡ length nodes.now) × (length whole.now ≡ length numbers.old)
+        × (length parts.now ≡ length numbers.old) }
     requires members { AreMembers numbers.old ranges.old.items members.old.items }
     requires some { 0 < length ranges.old.items }
     requires none { pending.old.items ≡ [] }
@@ -168,7 +170,9 @@ pub(crate) fn split(
     ensures members { IfOk result (λ done. IsTrue done → AreMembers numbers.new ranges.new.items members.new.items) }
     ensures grown { IfOk result (λ done. IsTrue done → length ranges.old.items ≤ length ranges.new.items) }
     ensures more { IfOk result (λ done. IsTrue done → 0 < length pending.new.items → length ranges.old.items < length ranges.new.items) }
-    ensures split { IfOk result (λ done. IsTrue done → (key : ℕ → List ℕ) → IsGrouped key numbers.old nodes.now news.now → (number : ℕ) × IsSplitting key nodes.now numbers.old whole.now parts.now (length ranges.old.items) (length nodes.now) numbers.new pending.new.items number) }
+    ensures split { IfOk result (λ done. IsTrue done → (key : ℕ → List ℕ) → IsGrouped key numbers.old nodes.now news.now
+        → (number : ℕ) × IsSplitting key nodes.now numbers.old whole.now parts.now (length ranges.old.items) (length nodes.now) numbers.new
+        pending.new.items number) }
 {
     let count = ranges.len();
     let limit = numbers.len();

@@ -89,7 +89,8 @@ fn count_nodes(classes: &[u32], sizes: &mut [u32])
 
 // Puts beside each class the largest part of it.
 fn choose_parts(classes: &[u32], next: &[u32], sizes: &[u32], largest: &mut [u32])
-    requires len { (length next.now ≡ length classes.now) × (length sizes.now ≡ length classes.now) × (length largest.old ≡ length classes.now) }
+    requires len { (length next.now ≡ length classes.now) × (length sizes.now ≡ length classes.now)
+        × (length largest.old ≡ length classes.now) }
     requires classes { All (λ c. c < length classes.now) classes.now }
     requires largest { All (λ c. c < length classes.now) largest.old }
     ensures { length largest.new ≡ length largest.old }

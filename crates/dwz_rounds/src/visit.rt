@@ -75,17 +75,21 @@ fn visit_whole(
 ) -> Result<(), NoMemory>
     requires class { class < length ranges.now }
     requires members { AreMembers numbers.now ranges.now members.now }
-    requires len { (length marks.old ≡ length numbers.now) × (length whole.old ≡ length numbers.now) × (length hits.now ≡ length numbers.now) }
+    requires len { (length marks.old ≡ length numbers.now) × (length whole.old ≡ length numbers.now)
+        × (length hits.now ≡ length numbers.now) }
     requires marked { AreMarked marks.old visit.old.items }
     requires wholes { AreMarked whole.old wholes.old.items }
     requires whole { (a : ℕ) → a < length numbers.now → Among wholes.old.items (slice_index numbers.now a) → Among visit.old.items a }
-    ensures len { (length marks.new ≡ length marks.old) × (length whole.new ≡ length whole.old) × (length visit.old.items ≤ length visit.new.items) }
+    ensures len { (length marks.new ≡ length marks.old) × (length whole.new ≡ length whole.old)
+        × (length visit.old.items ≤ length visit.new.items) }
     ensures marked { OnOk result (AreMarked marks.new visit.new.items) }
     ensures wholes { OnOk result (AreMarked whole.new wholes.new.items) }
-    ensures from { OnOk result ((a : ℕ) → Among visit.new.items a → Among visit.old.items a ⊎ Among wholes.new.items (slice_index numbers.now a)) }
+    ensures from { OnOk result ((a : ℕ) → Among visit.new.items a
+        → Among visit.old.items a ⊎ Among wholes.new.items (slice_index numbers.now a)) }
     ensures kept { OnOk result ((a : ℕ) → Among visit.old.items a → Among visit.new.items a) }
     ensures kept_wholes { OnOk result ((a : ℕ) → Among wholes.old.items a → Among wholes.new.items a) }
-    ensures whole { OnOk result ((a : ℕ) → a < length numbers.now → Among wholes.new.items (slice_index numbers.now a) → Among visit.new.items a) }
+    ensures whole { OnOk result ((a : ℕ) → a < length numbers.now → Among wholes.new.items (slice_index numbers.now a)
+        → Among visit.new.items a) }
 {
     let range = ranges[class as usize];
     if !whole[class as usize] && is_most(hits[class as usize], range) {
@@ -131,7 +135,8 @@ pub(crate) fn visit_wholes(
 ) -> Result<(), NoMemory>
     requires members { AreMembers numbers.now ranges.now members.now }
     requires numbers { All (λ c. c < length ranges.now) numbers.now }
-    requires len { (length marks.old ≡ length numbers.now) × (length whole.old ≡ length numbers.now) × (length hits.old ≡ length numbers.now) }
+    requires len { (length marks.old ≡ length numbers.now) × (length whole.old ≡ length numbers.now)
+        × (length hits.old ≡ length numbers.now) }
     requires marked { AreMarked marks.old visit.old.items }
     requires wholes { AreMarked whole.old wholes.old.items }
     requires none { wholes.old.items ≡ [] }

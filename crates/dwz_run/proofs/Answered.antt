@@ -1,5 +1,5 @@
 -- Which status is answered where nothing outside fails: each fault is excluded, and of what is asked for just one thing comes.
-use Rattle.std.proofs.Common.{◌≡◌, ◌⊎◌, ℕ, List, [], ◌∷◌, Bool, Option, Some, refl, sym, subst, inl, inr}
+use Rattle.std.proofs.Common.{◌≡◌, ◌⊎◌, ℕ, List, Bool, Option, Some, refl, sym, subst, inl, inr}
 use Rattle.dwz_meanings.specs.Documents.{Doc}
 use Rattle.dwz_model.specs.declared.fault.Refusal.{Refusal}
 use Rattle.dwz_outside.specs.Counts.{Rose}
@@ -10,15 +10,12 @@ use Rattle.dwz_words.specs.Lawful.{Lawful}
 use Rattle.dwz_course.specs.declared.status.Status.{Status}
 use Rattle.dwz_course.specs.declared.status.Status.TheVariants.{Done, Refused, Usage, ReadFault, WriteFault, NoMemory, ConsoleFault}
 use Rattle.dwz_course.specs.Demo.{asked_by}
-use Rattle.dwz_course.specs.Ends.{AreHeld, AsksFor, Complete, Refuses, SaysNothing}
+use Rattle.dwz_course.specs.Ends.{AreHeld, AsksFor, Complete, Refuses}
 use Rattle.dwz_course.specs.Outcome.{Outcome, refuses, writes}
+use Rattle.dwz_course.proofs.Completeness.{unwritten}
 use Rattle.dwz_demo.specs.Demo.{demo_files}
 use Rattle.dwz_out.specs.Out.{IsWritten, Out, output_of, run_for}
 use Rattle.dwz_run.specs.Laws.{Asks, IsFirstRefusal, NoneFailed, RunEnds, for_demo, for_files, work_contents, work_options}
-
-rose : (shown shown_new : Shown) (text : List ℕ) → SaysNothing shown shown_new text → Rose shown.faults shown_new.faults
-rose shown shown_new [] says = absurd says
-rose shown shown_new (byte ∷ text) says = says.rose
 
 pub answered : (words : List (List ℕ)) (old new : Told) (shown shown_new : Shown) (status : Status)
     → RunEnds words old new shown shown_new status
@@ -29,7 +26,7 @@ answered words old new shown shown_new Usage e none o lawful = absurd (e.files.0
 answered words old new shown shown_new ReadFault e none o lawful = absurd (none.reads e.files.4.rose)
 answered words old new shown shown_new WriteFault e none o lawful = absurd (none.writes e.files.3.fault.rose)
 answered words old new shown shown_new NoMemory e none o lawful = inr (inr refl)
-answered words old new shown shown_new ConsoleFault e none o lawful = absurd (none.texts (rose shown shown_new e.text e.console))
+answered words old new shown shown_new ConsoleFault e none o lawful = absurd (none.texts (unwritten shown shown_new e.text e.console))
 
 module _ (words : List (List ℕ)) (old : Told) (store : Store) (told : old.held ≡ Some store) where
   -- what comes of FILEs, and of a demonstration, is asked for

@@ -3,8 +3,9 @@ use Rattle.std.proofs.Common.{◌≡◌, ◌&&◌, ◌==◌, ℕ, suc, ◌+◌, 
 use Rattle.std.proofs.lemmas.Bool.{and_parts}
 use Rattle.std.specs.List.{list_any}
 use Rattle.dwz_docs.specs.Lists.{In}
+use Rattle.dwz_docs.proofs.ListFacts.{in_cases}
 use Rattle.dwz_meanings.specs.Documents.{Doc, DwUnit}
-use Rattle.dwz_seen.proofs.Members.{any_from, in_cases, nth_in}
+use Rattle.dwz_seen.proofs.Members.{any_from, nth_in}
 use Rattle.dwz_alike.specs.Spots.{FileUnit, Spot, Top, file_numbers, in_file, named, named_files, tops_among, tops_of, units_of}
 use Rattle.dwz_alike.proofs.Tops.{unit_of}
 use Rattle.dwz_same.specs.Units.{changes}

@@ -1,22 +1,23 @@
 -- Of files comes what is new in them and in the common file, or the first fault of reading them.
-use Rattle.std.proofs.Common.{◌≡◌, ℕ, zero, suc, ◌+◌, Bool, List, [], ◌∷◌, length, Option, Ok, Err, Vec, Global, map, refl, sym, ap, subst, ◌∙◌, inl}
-use Rattle.std.specs.List.{range_with_len}
+use Rattle.std.proofs.Common.{◌≡◌, ℕ, Bool, List, length, Option, Ok, Err, Vec, Global, map, sym, ap, subst, ◌∙◌, inl}
 use Rattle.std.proofs.lemmas.List.{length-map}
+use Rattle.std.proofs.lemmas.List.FromFn.{length-range_with_len}
 use Rattle.dwz_model.specs.declared.fault.GraphErr.{GraphErr}
 use Rattle.dwz_model.specs.declared.fault.GraphErr.TheVariants.{NoMemory, Refused}
-use Rattle.dwz_model.specs.declared.sections.Sections.{Sections}
+use Rattle.dwz_model.specs.declared.sections.NewSections.{NewSections}
 use Rattle.dwz_meanings.specs.Documents.{Doc}
-use Rattle.dwz_meanings.specs.Files.{Limits, ReadAll, files_meaning, limits_after, no_files_before}
+use Rattle.dwz_meanings.specs.Files.{ReadAll, files_meaning, no_files_before}
 use Rattle.dwz_meanings.proofs.FileLemmas.{files_agree}
-use Rattle.dwz_alike.specs.Alike.{Scope}
+use Rattle.dwz_alike.specs.Alike.{TopScope}
 use Rattle.dwz_alike.specs.Deciding.{alike_test}
-use Rattle.dwz_alike.specs.Spots.{file_numbers, units_of}
+use Rattle.dwz_alike.specs.Spots.{units_of}
+use Rattle.dwz_alike.proofs.FileNumbers.{numbers_long}
 use Rattle.dwz_moving.specs.Gain.{gain_rule}
 use Rattle.dwz_moving.specs.Homes.{Rule}
 use Rattle.dwz_back.specs.Back.{run_of}
 use Rattle.dwz_back.specs.Files.{Run}
 use Rattle.dwz_graph.specs.Files.{FilesFail, docs_of}
-use Rattle.dwz_plan.specs.declared.plan.Scope.{Scope as Sharing}
+use Rattle.dwz_plan.specs.declared.plan.Sharing.{Sharing}
 use Rattle.dwz_planned.specs.Rules.{alike_scope, rule_by}
 use Rattle.dwz_make.proofs.FirstFaults.{refused}
 use Rattle.dwz_words.specs.declared.options.Options.{Options}
@@ -24,21 +25,7 @@ use Rattle.dwz_course.specs.Answers.{IsAnswer}
 use Rattle.dwz_out.specs.Out.{ArePrunable, Out, ReadAs, rule_of, run_for, scope_of, stored_of}
 use Rattle.dwz_after.specs.declared.new_file.NewFile.{NewFile}
 use Rattle.dwz_after.specs.NewFiles.{AreNew, IsNewCommon}
-
-as_many : (l : Limits) (contents : List (List ℕ)) (docs : List (Doc ℕ)) → ReadAll l contents docs → length docs ≡ length contents
-as_many l [] [] all = refl
-as_many l [] (d ∷ docs) all = absurd all
-as_many l (c ∷ contents) [] all = absurd all
-as_many l (c ∷ contents) (d ∷ docs) all = ap suc (as_many (limits_after l c all.0) contents docs all.2)
-
-numbers_len : (n : ℕ) (docs : List (Doc ℕ)) → length (file_numbers n docs) ≡ length docs
-unfolding file_numbers
-numbers_len n [] = refl
-numbers_len n (d ∷ docs) = ap suc (numbers_len (suc n) docs)
-
-range_len : (a n : ℕ) → length (range_with_len a n) ≡ n
-range_len a zero = refl
-range_len a (suc n) = ap suc (range_len (a + 1) n)
+use Rattle.dwz_after.proofs.RunReady.{as_many}
 
 -- files that don't read are refused with their first fault
 pub read_refused : (o : Options) (contents : List (List ℕ)) (e : GraphErr) → FilesFail e (files_meaning no_files_before 0 contents)
@@ -48,7 +35,7 @@ read_refused o contents (Refused r) fail = let first = refused contents r fail i
 
 -- the rule is that of files which share as the options ask
 rule_is : (o : Options) (sharing : Sharing) (docs : List (Doc ℕ)) → alike_scope sharing ≡ scope_of o → rule_by sharing docs ≡ rule_of o docs
-rule_is o sharing docs same = ap (λ (s : Scope). gain_rule (alike_test s (units_of docs)) (units_of docs)) same
+rule_is o sharing docs same = ap (λ (s : TopScope). gain_rule (alike_test s (units_of docs)) (units_of docs)) same
 
 -- the files of a graph, which stands for its contents
 module _ (o : Options) (sharing : Sharing) (graph : List (List ℕ)) (flags : List Bool) (same_scope : alike_scope sharing ≡ scope_of o) where
@@ -64,7 +51,7 @@ module _ (o : Options) (sharing : Sharing) (graph : List (List ℕ)) (flags : Li
   pub new_in : (made : List (Option NewFile)) (partials : ℕ) → AreNew r made partials → AreNew (run_for o graph docs flags) made partials
   new_in made partials are = subst (λ (rule : Rule). AreNew (run_by rule) made partials) (rule_is o sharing docs same_scope) are
 
-  pub common_in : (common : Option Sections) → IsNewCommon r common → IsNewCommon (run_for o graph docs flags) common
+  pub common_in : (common : Option NewSections) → IsNewCommon r common → IsNewCommon (run_for o graph docs flags) common
   common_in common is = subst (λ (rule : Rule). IsNewCommon (run_by rule) common) (rule_is o sharing docs same_scope) is
 
   module _ (contents : List (Vec ℕ Global)) (same : graph ≡ map (λ (v : Vec ℕ Global). v.items) contents)
@@ -78,7 +65,7 @@ module _ (o : Options) (sharing : Sharing) (graph : List (List ℕ)) (flags : Li
     -- there is a row for each file
     pub graph_rows : (made : List (Option NewFile)) (partials : ℕ) → AreNew r made partials → length made ≡ length contents
     graph_rows made partials are =
-        sym (range_len 0 (length made))
+        sym (length-range_with_len 0 (length made))
         ∙ (sym (ap (λ (files : List ℕ). length files) are.files)
-        ∙ (numbers_len 0 docs ∙ as_many no_files_before graph docs all_read))
+        ∙ (numbers_long 0 docs ∙ as_many no_files_before graph docs all_read))
         ∙ (ap (λ (bytes : List (List ℕ)). length bytes) same ∙ length-map contents (λ (v : Vec ℕ Global). v.items))

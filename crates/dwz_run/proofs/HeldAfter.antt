@@ -4,8 +4,7 @@ use Rattle.std.proofs.Common.{◌≡◌, ℕ, suc, Bool, true, false, List, [], 
 use Rattle.std.specs.Prelude.{◌||◌, ◌&&◌, ◌==◌, not, is_none, if◌then◌else◌}
 use Rattle.std.specs.Option.{option_map_or}
 use Rattle.std.specs.Str.{bytes_eq}
-use Rattle.std.proofs.lemmas.Bool.{and_parts, eqb-true}
-use Rattle.std.proofs.lemmas.Slice.Eq.{bytes_eq-Decides}
+use Rattle.std.proofs.lemmas.Bool.{and_parts, eqb-true, or_parts}
 use Rattle.dwz_seen.specs.Lists.{Nth}
 use Rattle.dwz_same.specs.Units.{changes}
 use Rattle.dwz_back.specs.Files.{Run}
@@ -15,47 +14,14 @@ use Rattle.dwz_words.specs.Conditions.{FitTogether, are_distinct, is_among}
 use Rattle.dwz_words.specs.declared.options.Options.{Options}
 use Rattle.dwz_out.specs.FilesAfter.{bytes_after, bytes_by, common_bytes, file_after, has_common}
 use Rattle.dwz_out.specs.Out.{all_puts, common_puts, file_puts, files_puts, put_of, puts_by, sup_name}
+use Rattle.dwz_out.proofs.Stopping.{done_append, not_named, other_way, put_other, put_own}
 use Rattle.dwz_run.specs.Laws.{HoldAfter, goes_to}
 
 -- ---- names that differ
 
-own_name : (a : List ℕ) → bytes_eq a a ≡ true
-own_name a = (bytes_eq-Decides a a).1 refl
-
-other_way : (a b : List ℕ) → bytes_eq a b ≡ false → bytes_eq b a ≡ false
-other_way a b e = by (bytes_eq b a) refl where
-  by : (t : Bool) → bytes_eq b a ≡ t → t ≡ false
-  by false is = refl
-  by true is =
-      let same : b ≡ a = (bytes_eq-Decides b a).0 is in
-      let yes = subst (λ (x : List ℕ). bytes_eq a x ≡ true) (sym same) (own_name a) in
-      absurd (let z : true ≡ false = sym yes ∙ e in cc)
-
-neither : (a b : Bool) → (a || b) ≡ false → (a ≡ false) × (b ≡ false)
-neither true b e = absurd cc
-neither false b e = (refl, e)
-
 not_false : (b : Bool) → not b ≡ true → b ≡ false
 not_false true e = absurd cc
 not_false false e = refl
-
-not_named : (x : List ℕ) (names : List (List ℕ)) → is_among names x ≡ false → (s n : ℕ) (name : List ℕ) → Nth s names n name
-    → bytes_eq name x ≡ false
-not_named x [] e s n name nth = absurd nth
-not_named x (y ∷ names) e s n name (inl is) = subst (λ (w : List ℕ). bytes_eq w x ≡ false) is.1 (neither (bytes_eq y x) (is_among names x) e).0
-not_named x (y ∷ names) e s n name (inr later) = not_named x names (neither (bytes_eq y x) (is_among names x) e).1 (suc s) n name later
-
--- ---- puts
-
-put_other : (name x bytes : List ℕ) (store : Store) → bytes_eq name x ≡ false → put_in x bytes store name ≡ store name
-put_other name x bytes store e = ap (λ (b : Bool). if b then Some bytes else store name) e
-
-put_own : (name bytes : List ℕ) (store : Store) → put_in name bytes store name ≡ Some bytes
-put_own name bytes store = ap (λ (b : Bool). if b then Some bytes else store name) (own_name name)
-
-done_append : (ps qs : List Put) (store : Store) → done (ps ++ qs) store ≡ done qs (done ps store)
-done_append [] qs store = refl
-done_append (p ∷ ps) qs store = done_append ps qs (put_in p.name p.bytes store)
 
 -- ---- FILEs in place
 
@@ -85,7 +51,7 @@ module _ (o : Options) (r : Run) (in_place : o.out ≡ None) where
   unfolding files_puts
   leaves x s [] st e = refl
   leaves x s (n ∷ names) st e =
-      let both = neither (bytes_eq n x) (is_among names x) e in
+      let both = or_parts (bytes_eq n x) (is_among names x) e in
       let first = done (file_puts o r s n) st in
       ap (λ (now : Store). now x) (done_append (file_puts o r s n) (files_puts o r (suc s) names) st)
       ∙ (leaves x (suc s) names first both.1 ∙ other x s n st (other_way n x both.0))

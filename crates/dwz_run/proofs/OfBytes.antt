@@ -2,7 +2,7 @@
 use Rattle.std.proofs.Common.{ℕ, suc, ◌^◌, ◌<◌, List, [], ◌∷◌, arith}
 use Rattle.std.specs.Prelude.{All}
 use Rattle.dwz_docs.specs.Values.{AreBytes}
-use Rattle.dwz_seen.specs.Lists.{Each}
+use Rattle.dwz_docs.specs.Lists.{Each}
 use Rattle.dwz_course.specs.Gets.{AreOfBytes}
 
 are_bytes : (content : List ℕ) → All (λ byte. byte < 2 ^ 8) content → AreBytes content

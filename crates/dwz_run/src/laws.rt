@@ -1,6 +1,7 @@
 //! What follows of how a run ends.
 
-ghost use Rattle.dwz_run.specs.Laws.{AnswerLaw, CompleteLaw, DemoLaw, DoneLaw, NothingLaw, PrefixesLaw, RefusedLaw, RefusesLaw, SilentLaw, StoppedLaw, UsageLaw, WorkersLaw};
+ghost use Rattle.dwz_run.specs.Laws.{AnswerLaw, CompleteLaw, DemoLaw, DoneLaw, NothingLaw, PrefixesLaw, RefusedLaw, RefusesLaw, SilentLaw};
+ghost use Rattle.dwz_run.specs.Laws.{StoppedLaw, UsageLaw, WorkersLaw};
 
 /// Where a run answers Done, its words are lawful and name FILEs, which were held and read as documents; what is put of these is put, in
 /// order, and nothing else; each FILE then holds what is made of it, and the common file, if there is one, is there; and what is written

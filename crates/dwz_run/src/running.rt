@@ -32,8 +32,10 @@ pub fn run<Rt: Threads + Sync, F: Files, C: Console, G: Gate>(
     console: &mut C,
     gate: &G,
 ) -> Status
-    ensures ends { Ends demo_files Out (bytes_of words.now) (F.told files.old) (F.told files.new) (C.shown console.old) (C.shown console.new) result }
-    ensures complete { Complete demo_files Out (bytes_of words.now) (F.told files.old) (F.told files.new) (C.shown console.old) (C.shown console.new) result }
+    ensures ends { Ends demo_files Out (bytes_of words.now) (F.told files.old) (F.told files.new) (C.shown console.old)
+        (C.shown console.new) result }
+    ensures complete { Complete demo_files Out (bytes_of words.now) (F.told files.old) (F.told files.new) (C.shown console.old)
+        (C.shown console.new) result }
     ensures refuses { Refuses demo_files Out (bytes_of words.now) (F.told files.old) (F.told files.new) result }
     ensures demo { LeavesFiles (bytes_of words.now) (F.told files.old) (F.told files.new) }
     ensures reads { KeepsLastRead result (F.told files.old) (F.told files.new) }

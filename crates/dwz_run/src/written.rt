@@ -11,7 +11,7 @@ use dwz_gate::Gate;
 use dwz_graph::Graph;
 use dwz_make::make_files;
 use dwz_model::GraphErr;
-use dwz_plan::Scope;
+use dwz_plan::Sharing;
 use dwz_prunable::prunable_files;
 use dwz_words::Options;
 use std::alloc::Global;
@@ -30,12 +30,12 @@ fn workers_of(options: &Options) -> u32
 }
 
 // Which files share: all of them where a common file is asked for, and else each by itself.
-fn sharing_of(options: &Options) -> Scope
+fn sharing_of(options: &Options) -> Sharing
     ensures { alike_scope result ≡ scope_of options.now }
 {
     match options.common {
-        None => Scope::Each,
-        Some(_) => Scope::Together,
+        None => Sharing::Each,
+        Some(_) => Sharing::Together,
     }
 }
 

@@ -3,9 +3,9 @@ use Rattle.std.proofs.Common.{◌≡◌, ℕ, ℤ, suc, ◌+◌, ◌<◌, ◌≤
 use Rattle.dwz_meanings.specs.Documents.{Entries, Node}
 use Rattle.dwz_docs.specs.Lists.{In}
 use Rattle.dwz_docs.specs.Trees.{End, Entry}
+use Rattle.dwz_docs.proofs.ListFacts.{in_cases, in_left, in_right}
 use Rattle.dwz_seen.specs.Lists.{NoneTwice}
 use Rattle.dwz_seen.specs.Spaces.{tops_under}
-use Rattle.dwz_seen.proofs.Members.{in_cases, in_left, in_right}
 use Rattle.dwz_alike.specs.Deciding.{same_bool}
 use Rattle.dwz_alike.specs.Spots.{ASpace, ATop, LabelledSpaces, Nothing, Row, SpaceAt, SpaceName, Spot, Top, Within, name_of}
 use Rattle.dwz_alike.proofs.RowLemmas.{RowIs, count_space, count_top}
@@ -24,7 +24,8 @@ module _ (file unit : ℕ) (tongue : Option ℤ) where
     TopKey : (j : ℕ) → n ≤ j → j < m → k ≡ Within j [] → InRow n m path i k
     SpaceKey : Behind (SpaceAt unit) path i k → InRow n m path i k
 
-  in_row : (spaces : List SpaceName) (n : ℕ) (items : Row) (g : Entries Spot) → RowIs file unit tongue spaces n items g → (path : List ℕ) (i : ℕ) → LabelledSpaces unit path i items → (k : Spot) → In k (row_keys items) → InRow n (n + tops_under g) path i k
+  in_row : (spaces : List SpaceName) (n : ℕ) (items : Row) (g : Entries Spot) → RowIs file unit tongue spaces n items g → (path : List ℕ) (i : ℕ) → LabelledSpaces unit path i items → (k : Spot)
+      → In k (row_keys items) → InRow n (n + tops_under g) path i k
   in_row spaces n Nothing g h path i l k is = absurd is
   in_row spaces n (ATop t next) (Entry e f g) h path i l k (inl x) =
       let number : t.number ≡ n = ap (λ (w : Top). w.number) (sym h.1) in
@@ -45,13 +46,15 @@ module _ (file unit : ℕ) (tongue : Option ℤ) where
       later (TopKey j a b x) = TopKey j (omega (arith, a)) (omega (arith, b, count_space file unit tongue e f g h.0 h.1)) x
       later (SpaceKey b) = SpaceKey (record { first = b.first; index = b.index; from = omega (arith, b.from); is = b.is })
 
-      pick : (In k (row_keys inner) → InRow n (n + tops_under f) (i ∷ path) 0 k) → (In k (row_keys next) → InRow (n + tops_under f) (n + tops_under f + tops_under g) path (suc i) k) → In k (row_keys inner) ⊎ In k (row_keys next) → InRow n (n + tops_under (Entry e f g)) path i k
+      pick : (In k (row_keys inner) → InRow n (n + tops_under f) (i ∷ path) 0 k) → (In k (row_keys next) → InRow (n + tops_under f) (n + tops_under f + tops_under g) path (suc i) k)
+          → In k (row_keys inner) ⊎ In k (row_keys next) → InRow n (n + tops_under (Entry e f g)) path i k
       pick a b (inl x) = inside (a x)
       pick a b (inr y) = later (b y)
   in_row spaces n (ATop t next) End h path i l k is = absurd h
   in_row spaces n (ASpace d inner next) End h path i l k is = absurd h
 
-  pub row_none : (spaces : List SpaceName) (n : ℕ) (items : Row) (g : Entries Spot) → RowIs file unit tongue spaces n items g → (path : List ℕ) (i : ℕ) → LabelledSpaces unit path i items → NoneTwice (row_keys items)
+  pub row_none : (spaces : List SpaceName) (n : ℕ) (items : Row) (g : Entries Spot) → RowIs file unit tongue spaces n items g → (path : List ℕ) (i : ℕ) → LabelledSpaces unit path i items
+      → NoneTwice (row_keys items)
   row_none spaces n Nothing g h path i l = tt
   row_none spaces n (ATop t next) (Entry e f g) h path i l = (
     (λ is. first (in_row spaces (suc n) next g h.2 path (suc i) l (Within t.number []) is)),
@@ -96,7 +99,8 @@ staying_in : (moving : ℕ → Bool) (items : Row) (k : Spot) → In k (row_keys
 unfolding row_staying
 staying_in moving Nothing k h = h
 staying_in moving (ATop t next) k h = go (staying_in moving next k) (moving t.number) h where
-  go : (In k (row_keys (row_staying moving next)) → In k (row_keys next)) → (b : Bool) → In k (row_keys (elim b as (λ _. Row) [ true ↦ row_staying moving next | false ↦ ATop t (row_staying moving next) ])) → In k (row_keys (ATop t next))
+  go : (In k (row_keys (row_staying moving next)) → In k (row_keys next)) → (b : Bool)
+      → In k (row_keys (elim b as (λ _. Row) [ true ↦ row_staying moving next | false ↦ ATop t (row_staying moving next) ])) → In k (row_keys (ATop t next))
   go more true x = inr (more x)
   go more false (inl x) = inl x
   go more false (inr x) = inr (more x)
@@ -118,7 +122,8 @@ staying_none moving (ASpace e inner next) h = (
     | inl a ↦ in_left e.at (row_keys inner) (row_keys next) (staying_in moving inner e.at a)
     | inr b ↦ in_right e.at (row_keys inner) (row_keys next) (staying_in moving next e.at b)
   ])),
-  none_append (row_keys (row_staying moving inner)) (row_keys (row_staying moving next)) (staying_none moving inner (none_left (row_keys inner) (row_keys next) h.1)) (staying_none moving next (none_right (row_keys inner) (row_keys next) h.1))
+  none_append (row_keys (row_staying moving inner)) (row_keys (row_staying moving next)) (staying_none moving inner (none_left (row_keys inner) (row_keys next) h.1))
+      (staying_none moving next (none_right (row_keys inner) (row_keys next) h.1))
       (λ k a b. none_both (row_keys inner) (row_keys next) h.1 k (staying_in moving inner k a) (staying_in moving next k b)),
 )
 
@@ -134,7 +139,8 @@ module _ (p : Pinned) where
   part_keys want Nothing last = refl
   part_keys want (ATop t next) last = go (part_keys want next last) (same_bool (p.top t.number) want) where
     go : row_keys (row_part p want next last) ≡ some want next ++ row_keys last → (b : Bool)
-        → row_keys (elim b as (λ _. Row) [ true ↦ ATop t (row_part p want next last) | false ↦ row_part p want next last ]) ≡ row_keys (elim b as (λ _. Row) [ true ↦ ATop t (row_part p want next Nothing) | false ↦ row_part p want next Nothing ]) ++ row_keys last
+        → row_keys (elim b as (λ _. Row) [ true ↦ ATop t (row_part p want next last) | false ↦ row_part p want next last ])
+        ≡ row_keys (elim b as (λ _. Row) [ true ↦ ATop t (row_part p want next Nothing) | false ↦ row_part p want next Nothing ]) ++ row_keys last
     go more true = ap (λ (w : List Spot). Within t.number [] ∷ w) more
     go more false = more
   part_keys want (ASpace e inner next) last = go (part_keys want next last) (same_bool (p.space e.at || row_pinned p inner) want) where
@@ -143,7 +149,8 @@ module _ (p : Pinned) where
 
     go : row_keys (row_part p want next last) ≡ some want next ++ row_keys last → (b : Bool)
         → row_keys (elim b as (λ _. Row) [ true ↦ ASpace e (row_part p true inner (row_part p false inner Nothing)) (row_part p want next last) | false ↦ row_part p want next last ])
-        ≡ row_keys (elim b as (λ _. Row) [ true ↦ ASpace e (row_part p true inner (row_part p false inner Nothing)) (row_part p want next Nothing) | false ↦ row_part p want next Nothing ]) ++ row_keys last
+        ≡ row_keys (elim b as (λ _. Row) [ true ↦ ASpace e (row_part p true inner (row_part p false inner Nothing)) (row_part p want next Nothing) | false ↦ row_part p want next Nothing ])
+        ++ row_keys last
     go more true = ap (λ (w : List Spot). e.at ∷ w) (ap (λ (w : List Spot). within ++ w) more ∙ sym (append_assoc within (some want next) (row_keys last)))
     go more false = more
 
@@ -157,7 +164,8 @@ module _ (p : Pinned) where
   unfolding row_part
   part_in want Nothing k h = h
   part_in want (ATop t next) k h = go (part_in want next k) (same_bool (p.top t.number) want) h where
-    go : (In k (some want next) → In k (row_keys next)) → (b : Bool) → In k (row_keys (elim b as (λ _. Row) [ true ↦ ATop t (row_part p want next Nothing) | false ↦ row_part p want next Nothing ])) → In k (row_keys (ATop t next))
+    go : (In k (some want next) → In k (row_keys next)) → (b : Bool) → In k (row_keys (elim b as (λ _. Row) [ true ↦ ATop t (row_part p want next Nothing) | false ↦ row_part p want next Nothing ]))
+        → In k (row_keys (ATop t next))
     go more true (inl x) = inl x
     go more true (inr x) = inr (more x)
     go more false x = inr (more x)
@@ -166,9 +174,13 @@ module _ (p : Pinned) where
     inside a b x = elim (in_cases k (some true inner) (some false inner) (subst (In k) (first_is inner) x)) [ inl y ↦ a y | inr y ↦ b y ]
 
     go : (In k (some true inner) → In k (row_keys inner)) → (In k (some false inner) → In k (row_keys inner)) → (In k (some want next) → In k (row_keys next)) → (b : Bool)
-        → In k (row_keys (elim b as (λ _. Row) [ true ↦ ASpace e (row_part p true inner (row_part p false inner Nothing)) (row_part p want next Nothing) | false ↦ row_part p want next Nothing ])) → In k (row_keys (ASpace e inner next))
+        → In k (row_keys (elim b as (λ _. Row) [ true ↦ ASpace e (row_part p true inner (row_part p false inner Nothing)) (row_part p want next Nothing) | false ↦ row_part p want next Nothing ]))
+        → In k (row_keys (ASpace e inner next))
     go a b more true (inl x) = inl x
-    go a b more true (inr r) = inr (elim (in_cases k (first_keys inner) (some want next) r) [ inl x ↦ in_left k (row_keys inner) (row_keys next) (inside a b x) | inr y ↦ in_right k (row_keys inner) (row_keys next) (more y) ])
+    go a b more true (inr r) = inr (elim (in_cases k (first_keys inner) (some want next) r) [
+      | inl x ↦ in_left k (row_keys inner) (row_keys next) (inside a b x)
+      | inr y ↦ in_right k (row_keys inner) (row_keys next) (more y)
+    ])
     go a b more false x = inr (in_right k (row_keys inner) (row_keys next) (more x))
 
   first_in : (items : Row) (k : Spot) → In k (first_keys items) → In k (row_keys items)
@@ -187,7 +199,8 @@ lists_by a a' b b' e f o = subst (ListsOnce a') f (subst (λ (w : List Spot). Li
 abbrev with_if : Bool → List Spot → List Spot → List Spot
 with_if t xs a = elim t as (λ _. List Spot) [ true ↦ xs ++ a | false ↦ a ]
 
-step_once : (xs a b : List Spot) → NoneTwice xs → ((k : Spot) → In k xs → In k a → ⊥) → ((k : Spot) → In k xs → In k b → ⊥) → ListsOnce a b → (t : Bool) → ListsOnce (with_if (same_bool t true) xs a) (with_if (same_bool t false) xs b)
+step_once : (xs a b : List Spot) → NoneTwice xs → ((k : Spot) → In k xs → In k a → ⊥) → ((k : Spot) → In k xs → In k b → ⊥) → ListsOnce a b → (t : Bool)
+    → ListsOnce (with_if (same_bool t true) xs a) (with_if (same_bool t false) xs b)
 step_once xs a b once f g o true = record {
   yes = none_append xs a once o.yes f;
   no = o.no;
@@ -212,7 +225,8 @@ module _ (p : Pinned) where
   unfolding row_part
   top_some want t next = top_pushed t (row_part p want next Nothing) (same_bool (p.top t.number) want)
 
-  space_some : (want : Bool) (e : Node Spot) (inner next : Row) → with_if (same_bool (p.space e.at || row_pinned p inner) want) (e.at ∷ first_keys p inner) (some p want next) ≡ some p want (ASpace e inner next)
+  space_some : (want : Bool) (e : Node Spot) (inner next : Row) → with_if (same_bool (p.space e.at || row_pinned p inner) want) (e.at ∷ first_keys p inner) (some p want next)
+      ≡ some p want (ASpace e inner next)
   unfolding row_part
   space_some want e inner next = space_pushed e (row_part p true inner (row_part p false inner Nothing)) (row_part p want next Nothing) (same_bool (p.space e.at || row_pinned p inner) want)
 

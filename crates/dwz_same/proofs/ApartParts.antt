@@ -4,9 +4,10 @@ use Rattle.std.proofs.lemmas.Bool.{not-true}
 use Rattle.std.specs.List.{filter}
 use Rattle.dwz_meanings.specs.Documents.{Node}
 use Rattle.dwz_docs.specs.Lists.{In}
+use Rattle.dwz_docs.proofs.ListFacts.{in_cases}
 use Rattle.dwz_seen.specs.Lists.{EachPair, NoneTwice}
 use Rattle.dwz_seen.specs.Shown.{keys}
-use Rattle.dwz_seen.proofs.Members.{each_in, each_of, in_cases, in_filter_from, in_map_from, pair_filter, pair_one}
+use Rattle.dwz_seen.proofs.Members.{each_in, each_of, in_filter_from, in_map_from, pair_filter, pair_one}
 use Rattle.dwz_alike.specs.Spots.{ASpace, ATop, Import, InChain, Nothing, Row, SpaceName, Spot, Top, Within, name_list}
 use Rattle.dwz_moving.specs.IsPlan.{numbers, row}
 use Rattle.dwz_moving.specs.Plan.{PartialUnit, beside, chain_down, chains, import_of, imports, in_root, leading, part_row, same_names, top_row}
@@ -80,7 +81,8 @@ in_down part chain depth (s ∷ spaces) inner k (inr r) = later (in_down part ch
   later (ChainName d a e) = ChainName d (omega (arith, a)) e
   later (InnerName x) = InnerName x
 
-down_none : (part chain depth : ℕ) (spaces : List SpaceName) (inner : Row) → NoneTwice (row_keys inner) → ((k : Spot) → In k (row_keys inner) → TopKeyOf k) → NoneTwice (row_keys (chain_down part chain depth spaces inner))
+down_none : (part chain depth : ℕ) (spaces : List SpaceName) (inner : Row) → NoneTwice (row_keys inner) → ((k : Spot) → In k (row_keys inner) → TopKeyOf k)
+    → NoneTwice (row_keys (chain_down part chain depth spaces inner))
 unfolding chain_down
 down_none part chain depth [] inner h f = h
 down_none part chain depth (s ∷ spaces) inner h f = (
@@ -107,7 +109,8 @@ in_chains : (part : ℕ) (tops : List Top) (chain : ℕ) (leads : List Top) (k :
 unfolding chains
 in_chains part tops chain [] k h = absurd h
 in_chains part tops chain (u ∷ leads) k h =
-    pick (in_chains part tops (suc chain) leads k) (in_cases k (row_keys (chain_down part chain 0 u.spaces (own_row tops u))) (row_keys (chains part tops (suc chain) leads)) (subst (In k) (beside_keys (chain_down part chain 0 u.spaces (own_row tops u)) (chains part tops (suc chain) leads)) h))
+    pick (in_chains part tops (suc chain) leads k) (in_cases k (row_keys (chain_down part chain 0 u.spaces (own_row tops u))) (row_keys (chains part tops (suc chain) leads))
+    (subst (In k) (beside_keys (chain_down part chain 0 u.spaces (own_row tops u)) (chains part tops (suc chain) leads)) h))
   where
     here : InDown part chain 0 (own_row tops u) k → InChainsKey part tops chain (u ∷ leads) k
     here (ChainName d a e) = ChainKey chain d (omega arith) e
@@ -117,7 +120,8 @@ in_chains part tops chain (u ∷ leads) k h =
     later (LedTop t l a b c e) = LedTop t l a (inr b) c e
     later (ChainKey c d a e) = ChainKey c d (omega (arith, a)) e
 
-    pick : (In k (row_keys (chains part tops (suc chain) leads)) → InChainsKey part tops (suc chain) leads k) → In k (row_keys (chain_down part chain 0 u.spaces (own_row tops u))) ⊎ In k (row_keys (chains part tops (suc chain) leads)) → InChainsKey part tops chain (u ∷ leads) k
+    pick : (In k (row_keys (chains part tops (suc chain) leads)) → InChainsKey part tops (suc chain) leads k) → In k (row_keys (chain_down part chain 0 u.spaces (own_row tops u)))
+        ⊎ In k (row_keys (chains part tops (suc chain) leads)) → InChainsKey part tops chain (u ∷ leads) k
     pick more (inl a) = here (in_down part chain 0 u.spaces (own_row tops u) k a)
     pick more (inr b) = later (more b)
 
@@ -137,7 +141,8 @@ chains_none part tops rises chain (u ∷ leads) h =
     (λ k a b. meet k (in_down part chain 0 u.spaces (own_row tops u) k a) (in_chains part tops (suc chain) leads k b)))
   where
     own_once : NoneTwice (row_keys (own_row tops u))
-    own_once = subst NoneTwice (sym (top_row_keys (filter (same_names u) tops) Nothing)) (none_append (top_numbers (filter (same_names u) tops)) [] (numbers_once (filter (same_names u) tops) (pair_filter BelowTop (same_names u) tops rises)) tt (λ k a b. b))
+    own_once = subst NoneTwice (sym (top_row_keys (filter (same_names u) tops) Nothing))
+        (none_append (top_numbers (filter (same_names u) tops)) [] (numbers_once (filter (same_names u) tops) (pair_filter BelowTop (same_names u) tops rises)) tt (λ k a b. b))
 
     tops_meet : (s t l : Top) → In s (filter (same_names u) tops) → In t tops → In l leads → same_names l t ≡ true → s.number ≡ t.number → ⊥
     tops_meet s t l a b c e n =

@@ -4,9 +4,9 @@ use Rattle.std.proofs.lemmas.List.{length-append}
 use Rattle.dwz_meanings.specs.Documents.{Entries, Node, entries_map}
 use Rattle.dwz_docs.specs.Lists.{In}
 use Rattle.dwz_docs.specs.Trees.{End, Entry}
+use Rattle.dwz_docs.proofs.ListFacts.{in_cases, in_left, in_right}
 use Rattle.dwz_seen.specs.Lists.{NoneTwice}
 use Rattle.dwz_seen.specs.Shown.{keys}
-use Rattle.dwz_seen.proofs.Members.{in_cases, in_left, in_right}
 use Rattle.dwz_alike.specs.Spots.{ASpace, ATop, Import, InChain, InType, Labelled, LabelledTop, Nothing, PartialOf, PartialRoot, RootOf, Row, SpaceAt, Spot, Top, UnitOf, Within}
 use Rattle.dwz_moving.specs.IsPlan.{Has, Item, OfSpace, OfTop}
 use Rattle.dwz_moving.specs.Plan.{image_by, imports}
@@ -34,7 +34,8 @@ unfolding keys
 behind name path i End h k is = absurd is
 behind name path i (Entry e f g) h k (inl x) = record { first = []; index = i; from = omega arith; is = sym x ∙ h.0 }
 behind name path i (Entry e f g) h k (inr r) = elim (in_cases k (keys f) (keys g) r) [
-  | inl a ↦ (let b = behind name (i ∷ path) 0 f h.1 k a in record { first = b.first ++ (b.index ∷ []); index = i; from = omega arith; is = b.is ∙ ap name (sym (append_assoc b.first (b.index ∷ []) (i ∷ path))) })
+  | inl a ↦ (let b = behind name (i ∷ path) 0 f h.1 k a in
+      record { first = b.first ++ (b.index ∷ []); index = i; from = omega arith; is = b.is ∙ ap name (sym (append_assoc b.first (b.index ∷ []) (i ∷ path))) })
   | inr b ↦ (let c = behind name path (suc i) g h.2 k b in record { first = c.first; index = c.index; from = omega (arith, c.from); is = c.is })
 ]
 
@@ -58,7 +59,8 @@ module _ (name : List ℕ → Spot) (one : (p q : List ℕ) → name p ≡ name 
       | inl a ↦ here_inner path i (subst (Behind name (i ∷ path) 0) h.0 (behind name (i ∷ path) 0 f h.1 e.at a))
       | inr b ↦ here_rest path i (subst (Behind name path (suc i)) h.0 (behind name path (suc i) g h.2 e.at b))
     ]),
-    none_append (keys f) (keys g) (none_below (i ∷ path) 0 f h.1) (none_below path (suc i) g h.2) (λ k a b. inner_rest path i k (behind name (i ∷ path) 0 f h.1 k a) (behind name path (suc i) g h.2 k b)),
+    none_append (keys f) (keys g) (none_below (i ∷ path) 0 f h.1) (none_below path (suc i) g h.2)
+        (λ k a b. inner_rest path i k (behind name (i ∷ path) 0 f h.1 k a) (behind name path (suc i) g h.2 k b)),
   )
 
   none_tree : (f : Entries Spot) → Labelled name [] 0 f → NoneTwice (name [] ∷ keys f)
@@ -67,12 +69,13 @@ module _ (name : List ℕ → Spot) (one : (p q : List ℕ) → name p ≡ name 
     none_below [] 0 f h,
   )
 
-pub labelled_map : (f : Spot → Spot) (name other : List ℕ → Spot) → ((p : List ℕ) → f (name p) ≡ other p) → (path : List ℕ) (i : ℕ) (g : Entries Spot) → Labelled name path i g → Labelled other path i (entries_map f g)
+pub labelled_map : (f : Spot → Spot) (name other : List ℕ → Spot) → ((p : List ℕ) → f (name p) ≡ other p) → (path : List ℕ) (i : ℕ) (g : Entries Spot) → Labelled name path i g
+    → Labelled other path i (entries_map f g)
 unfolding entries_map
 labelled_map f name other same path i End h = tt
 labelled_map f name other same path i (Entry e g k) h = (ap f h.0 ∙ same (i ∷ path), labelled_map f name other same (i ∷ path) 0 g h.1, labelled_map f name other same path (suc i) k h.2)
 
-within_path : (t : ℕ) (p q : List ℕ) → Within t p ≡ Within t q → p ≡ q
+pub within_path : (t : ℕ) (p q : List ℕ) → Within t p ≡ Within t q → p ≡ q
 within_path t p q e = cc
 
 pub type_path : (i : ℕ) (p q : List ℕ) → InType i p ≡ InType i q → p ≡ q
@@ -97,7 +100,8 @@ top_labelled : (stand : ℕ → ℕ) (t : Top) → Fixed stand t → Labelled (W
 top_labelled stand t h = labelled_map (image_by stand) (Within t.number) (Within t.number) (λ p. ap (λ (n : ℕ). Within n p) h.1) [] 0 t.below h.0.1
 
 top_none : (stand : ℕ → ℕ) (t : Top) → Fixed stand t → NoneTwice (top_keys stand t)
-top_none stand t h = subst (λ (w : Spot). NoneTwice (w ∷ keys (entries_map (image_by stand) t.below))) (sym (top_place stand t h)) (none_tree (Within t.number) (within_path t.number) (entries_map (image_by stand) t.below) (top_labelled stand t h))
+top_none stand t h = subst (λ (w : Spot). NoneTwice (w ∷ keys (entries_map (image_by stand) t.below))) (sym (top_place stand t h))
+    (none_tree (Within t.number) (within_path t.number) (entries_map (image_by stand) t.below) (top_labelled stand t h))
 
 pub top_within : (stand : ℕ → ℕ) (t : Top) → Fixed stand t → (k : Spot) → In k (top_keys stand t) → IsWithin t.number k
 top_within stand t h k (inl x) = record { path = []; is = sym x ∙ top_place stand t h }
@@ -168,7 +172,8 @@ abbrev GoodItem : (ℕ → ℕ) → Item → Type 0
 GoodItem stand (OfTop t) = Fixed stand t
 GoodItem stand (OfSpace e) = IsSpaceSpot e.at
 
-pub good_of : (stand : ℕ → ℕ) (items : Row) → Kinded items → ((names : List (List ℕ)) (t : Top) → Has names (OfTop t) items → Fixed stand t) → ((names : List (List ℕ)) (e : Node Spot) → Has names (OfSpace e) items → IsSpaceSpot e.at) → Good stand items
+pub good_of : (stand : ℕ → ℕ) (items : Row) → Kinded items → ((names : List (List ℕ)) (t : Top) → Has names (OfTop t) items → Fixed stand t)
+    → ((names : List (List ℕ)) (e : Node Spot) → Has names (OfSpace e) items → IsSpaceSpot e.at) → Good stand items
 good_of stand Nothing k f g = tt
 good_of stand (ATop t next) k f g = (f [] t (inl (refl, refl)), good_of stand next k.1 (λ names u h. f names u (inr h)) (λ names e h. g names e (inr h)))
 good_of stand (ASpace e inner next) k f g = (
@@ -220,7 +225,8 @@ module _ (stand : ℕ → ℕ) where
   ]
 
   -- no name stands twice there
-  pub tree_none : (items : Row) (last : Entries Spot) → Good stand items → NoneTwice (row_keys items) → NoneTwice (keys last) → ((k : Spot) → In k (keys last) → IsImportSpot k) → NoneTwice (keys (tree f items last))
+  pub tree_none : (items : Row) (last : Entries Spot) → Good stand items → NoneTwice (row_keys items) → NoneTwice (keys last) → ((k : Spot) → In k (keys last) → IsImportSpot k)
+      → NoneTwice (keys (tree f items last))
   unfolding keys tree
   tree_none Nothing last g once rest imports = rest
   tree_none (ATop t next) last g once rest imports =
@@ -232,7 +238,8 @@ module _ (stand : ℕ → ℕ) where
       ])
   tree_none (ASpace e inner next) last g once rest imports = (
     (λ is. first (in_cases (f e.at) (keys (tree f inner End)) (keys (tree f next last)) is)),
-    none_append (keys (tree f inner End)) (keys (tree f next last)) (tree_none inner End g.1 (none_left (row_keys inner) (row_keys next) once.1) tt (λ k h. absurd h)) (tree_none next last g.2 (none_right (row_keys inner) (row_keys next) once.1) rest imports)
+    none_append (keys (tree f inner End)) (keys (tree f next last)) (tree_none inner End g.1 (none_left (row_keys inner) (row_keys next) once.1) tt (λ k h. absurd h))
+        (tree_none next last g.2 (none_right (row_keys inner) (row_keys next) once.1) rest imports)
         (λ k a b. meet k (tree_owner inner End g.1 k a) (tree_owner next last g.2 k b)),
   )
     where

@@ -1,11 +1,12 @@
 -- Each name is of one unit, and stands there once.
 use Rattle.std.proofs.Common.{◌≡◌, ℕ, suc, ◌<◌, ◌⊎◌, ◌==◌, Bool, true, false, List, [], ◌∷◌, ◌++◌, refl, sym, ap, subst, ◌∙◌, arith, inl, inr, append_assoc, eqb-true}
 use Rattle.dwz_meanings.specs.Documents.{Compile, DwUnit, Entries, Kind, Node, OfType, Partial, entries_map, language}
-use Rattle.dwz_docs.specs.Lists.{In}
+use Rattle.dwz_docs.specs.Lists.{Each, In}
 use Rattle.dwz_docs.specs.Trees.{End}
-use Rattle.dwz_seen.specs.Lists.{Each, EachPair, NoneTwice, Nth, Rising}
+use Rattle.dwz_docs.proofs.ListFacts.{in_cases}
+use Rattle.dwz_seen.specs.Lists.{EachPair, NoneTwice, Nth, Rising}
 use Rattle.dwz_seen.specs.Shown.{keys, unit_keys, units_keys}
-use Rattle.dwz_seen.proofs.Members.{each_in, in_cases, nth_from, nth_in, nth_one}
+use Rattle.dwz_seen.proofs.Members.{each_in, nth_from, nth_in, nth_one}
 use Rattle.dwz_alike.specs.Spots.{FileUnit, Import, InChain, InType, LabelledSpaces, PartialOf, PartialRoot, RootOf, Row, SpaceAt, Spot, Top, UnitOf, Within, row_of, tops_of}
 use Rattle.dwz_alike.proofs.RowLemmas.{row_unit, unit_row}
 use Rattle.dwz_alike.proofs.Tops.{one_top, row_top}
@@ -162,20 +163,21 @@ module _ (units : List (FileUnit Spot)) (rule : Rule) (old : AreOld units) (file
 
   new_own : (n : ℕ) (part : PartialUnit) → Nth 0 parts n part → IsOwn (New n) (partial_unit (plan rule units files) n)
   unfolding unit_keys
-  new_own n part nth = subst (λ (w : Row). IsOwn (New n) (record { at = PartialOf n; kind = Partial; root = partial_root (plan rule units files) n; below = tree f w End })) (sym (row_found rule units files n part nth)) (record {
-    once = (
-      (λ is. elim is [ inl x ↦ cc | inr r ↦ (new_key n part nth (PartialOf n) r).1 ]),
-      (
-        (λ is. (new_key n part nth (PartialRoot n) is).1),
-        tree_none stand (part_row n part) End (new_good n part nth) (part_none n part (rising_tops part (fits n part nth).rising)) none_end (λ k h. absurd (no_end k h)),
-      ),
-    );
-    owns = λ k is. elim is [
-      | inl x ↦ subst (Owns (New n)) x refl
-      | inr (inl x) ↦ subst (Owns (New n)) x refl
-      | inr (inr r) ↦ (new_key n part nth k r).0
-    ];
-  })
+  new_own n part nth = subst (λ (w : Row). IsOwn (New n) (record { at = PartialOf n; kind = Partial; root = partial_root (plan rule units files) n; below = tree f w End }))
+      (sym (row_found rule units files n part nth)) (record {
+        once = (
+          (λ is. elim is [ inl x ↦ cc | inr r ↦ (new_key n part nth (PartialOf n) r).1 ]),
+          (
+            (λ is. (new_key n part nth (PartialRoot n) is).1),
+            tree_none stand (part_row n part) End (new_good n part nth) (part_none n part (rising_tops part (fits n part nth).rising)) none_end (λ k h. absurd (no_end k h)),
+          ),
+        );
+        owns = λ k is. elim is [
+          | inl x ↦ subst (Owns (New n)) x refl
+          | inr (inl x) ↦ subst (Owns (New n)) x refl
+          | inr (inr r) ↦ (new_key n part nth k r).0
+        ];
+      })
     where
       rising_row : (tops : List Top) → Rising (numbers tops) → EachPair (λ a b. a.number < b.number) tops
       rising_row [] h = tt
@@ -209,8 +211,10 @@ module _ (units : List (FileUnit Spot)) (rule : Rule) (old : AreOld units) (file
       items_once = let r = unit_row units i u nth kind in row_none u.file i (language u.unit) [] r.first (row_of units i) u.unit.below r.is [] 0 spaces_named
 
       -- a row of tops of the unit that stay, and of its spaces
-      row_own : (items : Row) (last : Entries Spot) → Kinded items → ((names : List (List ℕ)) (t : Top) → Has names (OfTop t) items → Has names (OfTop t) (row_of units i) × (moves rule units t.number ≡ false))
-          → ((names : List (List ℕ)) (d : Node Spot) → Has names (OfSpace d) items → Has names (OfSpace d) (row_of units i)) → NoneTwice (row_keys items) → NoneTwice (keys last) → ((k : Spot) → In k (keys last) → (n : ℕ) × (k ≡ Import i n)) → BelowOwn (tree f items last)
+      row_own : (items : Row) (last : Entries Spot) → Kinded items → ((names : List (List ℕ)) (t : Top) → Has names (OfTop t) items
+          → Has names (OfTop t) (row_of units i) × (moves rule units t.number ≡ false))
+          → ((names : List (List ℕ)) (d : Node Spot) → Has names (OfSpace d) items → Has names (OfSpace d) (row_of units i)) → NoneTwice (row_keys items) → NoneTwice (keys last)
+          → ((k : Spot) → In k (keys last) → (n : ℕ) × (k ≡ Import i n)) → BelowOwn (tree f items last)
       row_own items last kinded tops spaces once rest imported = record {
         once = tree_none stand items last good once rest (λ k h. (let o = imported k h in subst IsImportSpot (sym o.1) tt));
         owns = λ k h. key k (tree_key stand items last kinded good k h);
@@ -248,7 +252,8 @@ module _ (units : List (FileUnit Spot)) (rule : Rule) (old : AreOld units) (file
                 let r = unit_row units i u nth kind in
                 let in_row = tops_among (row_of units i) names t h in
                 let file = (row_unit u.file i (language u.unit) [] r.first (row_of units i) u.unit.below r.is t in_row).0 in
-                let change : changes (plan rule units files) units u.file ≡ true = ap (changes (plan rule units files) units) (sym file) ∙ top_changes (plan rule units files) units t (row_top units i t in_row).0 q in
+                let change : changes (plan rule units files) units u.file ≡ true = ap (changes (plan rule units files) units) (sym file)
+                ∙ top_changes (plan rule units files) units t (row_top units i t in_row).0 q in
                 absurd (let x = c in cc)
             go false q = refl
 
@@ -339,7 +344,11 @@ module _ (units : List (FileUnit Spot)) (rule : Rule) (old : AreOld units) (file
   news_are h s [] into = tt
   news_are h s (p ∷ some) into = go (news_are h (suc s) some (λ n x nth. into n x (inr nth))) (same_home p.home h) where
     go : Are (news h (suc s) some) (partial_units (plan rule units files) h (suc s) some) → (b : Bool)
-        → Are (elim b as (λ _. List UnitNumber) [ true ↦ New s ∷ news h (suc s) some | false ↦ news h (suc s) some ]) (elim b as (λ _. List (DwUnit Spot)) [ true ↦ partial_unit (plan rule units files) s ∷ partial_units (plan rule units files) h (suc s) some | false ↦ partial_units (plan rule units files) h (suc s) some ])
+        → Are (elim b as (λ _. List UnitNumber) [ true ↦ New s ∷ news h (suc s) some | false ↦ news h (suc s) some ])
+        (elim b as (λ _. List (DwUnit Spot)) [
+          | true ↦ partial_unit (plan rule units files) s ∷ partial_units (plan rule units files) h (suc s) some
+          | false ↦ partial_units (plan rule units files) h (suc s) some
+        ])
     go more true = (new_own s p (into s p (inl (refl, refl))), more)
     go more false = more
 
@@ -348,7 +357,11 @@ module _ (units : List (FileUnit Spot)) (rule : Rule) (old : AreOld units) (file
   olds_are file s [] into = tt
   olds_are file s (u ∷ some) into = go (olds_are file (suc s) some (λ n x nth. into n x (inr nth))) (u.file == file) where
     go : Are (olds file (suc s) some) (kept_units (plan rule units files) units file (suc s) some) → (b : Bool)
-        → Are (elim b as (λ _. List UnitNumber) [ true ↦ Old s ∷ olds file (suc s) some | false ↦ olds file (suc s) some ]) (elim b as (λ _. List (DwUnit Spot)) [ true ↦ kept_unit (plan rule units files) units s u ∷ kept_units (plan rule units files) units file (suc s) some | false ↦ kept_units (plan rule units files) units file (suc s) some ])
+        → Are (elim b as (λ _. List UnitNumber) [ true ↦ Old s ∷ olds file (suc s) some | false ↦ olds file (suc s) some ])
+        (elim b as (λ _. List (DwUnit Spot)) [
+          | true ↦ kept_unit (plan rule units files) units s u ∷ kept_units (plan rule units files) units file (suc s) some
+          | false ↦ kept_units (plan rule units files) units file (suc s) some
+        ])
     go more true = (kept_own s u (into s u (inl (refl, refl))), more)
     go more false = more
 
@@ -364,7 +377,8 @@ module _ (units : List (FileUnit Spot)) (rule : Rule) (old : AreOld units) (file
   unfolding news
   in_news h s [] w is = absurd is
   in_news h s (p ∷ some) w is = go (in_news h (suc s) some w) (same_home p.home h) refl is where
-    go : (In w (news h (suc s) some) → NewOf h (suc s) some w) → (b : Bool) → same_home p.home h ≡ b → In w (elim b as (λ _. List UnitNumber) [ true ↦ New s ∷ news h (suc s) some | false ↦ news h (suc s) some ]) → NewOf h s (p ∷ some) w
+    go : (In w (news h (suc s) some) → NewOf h (suc s) some w) → (b : Bool) → same_home p.home h ≡ b
+        → In w (elim b as (λ _. List UnitNumber) [ true ↦ New s ∷ news h (suc s) some | false ↦ news h (suc s) some ]) → NewOf h s (p ∷ some) w
     go more true q (inl x) = record { number = s; part = p; nth = inl (refl, refl); home = home_true p.home h q; is = sym x }
     go more true q (inr r) = let o = more r in record { number = o.number; part = o.part; nth = inr o.nth; home = o.home; is = o.is }
     go more false q r = let o = more r in record { number = o.number; part = o.part; nth = inr o.nth; home = o.home; is = o.is }
@@ -394,7 +408,8 @@ module _ (units : List (FileUnit Spot)) (rule : Rule) (old : AreOld units) (file
   unfolding olds
   in_olds file s [] w is = absurd is
   in_olds file s (u ∷ some) w is = go (in_olds file (suc s) some w) (u.file == file) refl is where
-    go : (In w (olds file (suc s) some) → OldOf file (suc s) some w) → (b : Bool) → (u.file == file) ≡ b → In w (elim b as (λ _. List UnitNumber) [ true ↦ Old s ∷ olds file (suc s) some | false ↦ olds file (suc s) some ]) → OldOf file s (u ∷ some) w
+    go : (In w (olds file (suc s) some) → OldOf file (suc s) some w) → (b : Bool) → (u.file == file) ≡ b
+        → In w (elim b as (λ _. List UnitNumber) [ true ↦ Old s ∷ olds file (suc s) some | false ↦ olds file (suc s) some ]) → OldOf file s (u ∷ some) w
     go more true q (inl x) = record { number = s; unit = u; nth = inl (refl, refl); file_is = eqb-true u.file file q; is = sym x }
     go more true q (inr r) = let o = more r in record { number = o.number; unit = o.unit; nth = inr o.nth; file_is = o.file_is; is = o.is }
     go more false q r = let o = more r in record { number = o.number; unit = o.unit; nth = inr o.nth; file_is = o.file_is; is = o.is }
@@ -414,7 +429,8 @@ module _ (units : List (FileUnit Spot)) (rule : Rule) (old : AreOld units) (file
 
   file_are : (file : ℕ) → Are (of_file file) (out_units (plan rule units files) units file)
   unfolding out_units
-  file_are file = are_append (news (Local file) 0 parts) (olds file 0 units) (partial_units (plan rule units files) (Local file) 0 parts) (kept_units (plan rule units files) units file 0 units) (news_are (Local file) 0 parts (λ n x nth. nth)) (olds_are file 0 units (λ n x nth. nth))
+  file_are file = are_append (news (Local file) 0 parts) (olds file 0 units) (partial_units (plan rule units files) (Local file) 0 parts) (kept_units (plan rule units files) units file 0 units)
+      (news_are (Local file) 0 parts (λ n x nth. nth)) (olds_are file 0 units (λ n x nth. nth))
 
   -- the file of a unit after
   abbrev OfFile : ℕ → UnitNumber → Type 0
@@ -427,7 +443,8 @@ module _ (units : List (FileUnit Spot)) (rule : Rule) (old : AreOld units) (file
   new_old w m n a b = let z : New m ≡ Old n = sym a ∙ b in cc
 
   file_once : (file : ℕ) → NoneTwice (of_file file)
-  file_once file = none_append (news (Local file) 0 parts) (olds file 0 units) (news_once (Local file) 0 parts) (olds_once file 0 units) (λ w a b. new_old w _ _ (in_news (Local file) 0 parts w a).is (in_olds file 0 units w b).is)
+  file_once file = none_append (news (Local file) 0 parts) (olds file 0 units) (news_once (Local file) 0 parts) (olds_once file 0 units)
+      (λ w a b. new_old w _ _ (in_news (Local file) 0 parts w a).is (in_olds file 0 units w b).is)
 
   one_home : (g h : Home) (w : UnitNumber) → NewOf g 0 parts w → NewOf h 0 parts w → g ≡ h
   one_home g h w a b =
@@ -475,8 +492,10 @@ module _ (units : List (FileUnit Spot)) (rule : Rule) (old : AreOld units) (file
 
   -- no name stands twice among all units after
   pub all_apart : NoneTwice (units_keys (all_units (plan rule units files) units files))
-  all_apart = are_none (news Common 0 parts ++ of_files files) (all_units (plan rule units files) units files) (are_append (news Common 0 parts) (of_files files) (common_units (plan rule units files)) (file_units (plan rule units files) units files) common_are (files_are files))
-      (none_append (news Common 0 parts) (of_files files) (news_once Common 0 parts) (files_once files rises) (λ w a b. (let o = in_files_of files w b in common_file o.0 w (in_news Common 0 parts w a) o.2)))
+  all_apart = are_none (news Common 0 parts ++ of_files files) (all_units (plan rule units files) units files)
+      (are_append (news Common 0 parts) (of_files files) (common_units (plan rule units files)) (file_units (plan rule units files) units files) common_are (files_are files))
+      (none_append (news Common 0 parts) (of_files files) (news_once Common 0 parts) (files_once files rises)
+      (λ w a b. (let o = in_files_of files w b in common_file o.0 w (in_news Common 0 parts w a) o.2)))
 
   -- nor among those of a file
   pub out_apart : (file : ℕ) → NoneTwice (units_keys (out_units (plan rule units files) units file))

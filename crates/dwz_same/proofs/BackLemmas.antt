@@ -3,16 +3,17 @@ use Rattle.std.proofs.Common.{◌≡◌, ℕ, suc, ◌+◌, ◌<◌, ◌==◌, B
 use Rattle.std.proofs.lemmas.Bool.{and_parts, ne_eqb}
 use Rattle.std.proofs.lemmas.List.{map-append}
 use Rattle.dwz_meanings.specs.Documents.{Attr, Compile, Doc, DwUnit, Entries, Kind, Node, OfType, Partial, attr_map, entries_map, kind_map, node_map, unit_map}
-use Rattle.dwz_docs.specs.Lists.{In}
+use Rattle.dwz_docs.specs.Lists.{Each, In}
 use Rattle.dwz_docs.specs.Trees.{End, Entry}
-use Rattle.dwz_seen.specs.Lists.{Each, NoneTwice, Nth, Rising}
+use Rattle.dwz_docs.proofs.ListFacts.{in_left, in_map, in_right}
+use Rattle.dwz_seen.specs.Lists.{NoneTwice, Nth, Rising}
 use Rattle.dwz_seen.specs.Seen.{Closed, IsShown, Named, Seen, all_seen, named_map, named_value, see, seen, seen_below, seen_roots}
 use Rattle.dwz_seen.specs.Shown.{AreShown, HaveMains, UnitsShown, keys, unit_keys, units_keys}
 use Rattle.dwz_seen.proofs.MainLemmas.{keys_map}
-use Rattle.dwz_seen.proofs.Members.{any_from, each_in, in_left, in_map, in_map_from, in_right, nth_from, nth_in}
+use Rattle.dwz_seen.proofs.Members.{any_from, each_in, in_map_from, nth_from, nth_in}
 use Rattle.dwz_seen.proofs.SeenLemmas.{root_in, seen_in}
 use Rattle.dwz_seen.proofs.ShownLemmas.{entry_key, unit_key}
-use Rattle.dwz_alike.specs.Alike.{IsAlike, Scope}
+use Rattle.dwz_alike.specs.Alike.{IsAlike, TopScope}
 use Rattle.dwz_alike.specs.Spots.{FileUnit, Spot, in_file, named_files, named_in, same_spot, spot_in, spots_from, tops_among, tops_of, units_of}
 use Rattle.dwz_moving.specs.Homes.{IsChoice, Rule, home, moves}
 use Rattle.dwz_moving.specs.Moves.{plan}
@@ -51,7 +52,8 @@ module _ (f : ℕ → Spot) where
   units_keys_map [] = refl
   units_keys_map (u ∷ us) =
       ap (λ (w : List Spot). f u.at ∷ f u.root.at ∷ w)
-      (ap (λ (w : List Spot). w ++ units_keys (map (unit_map f) us)) (keys_map f u.below) ∙ ap (λ (w : List Spot). map f (keys u.below) ++ w) (units_keys_map us) ∙ sym (map-append f (keys u.below) (units_keys us)))
+      (ap (λ (w : List Spot). w ++ units_keys (map (unit_map f) us)) (keys_map f u.below) ∙ ap (λ (w : List Spot). map f (keys u.below) ++ w) (units_keys_map us)
+      ∙ sym (map-append f (keys u.below) (units_keys us)))
 
 -- ---- units with names are shown at their places
 
@@ -98,7 +100,12 @@ module _ (f : ℕ → Spot) (g : Spot → ℕ) (us : List (DwUnit ℕ)) (back : 
   some_back (u ∷ some) h =
       let is = h u (inl refl) in
       let root = good (see u.root u.below) (in_left (see u.root u.below) (seen_roots us) (seen_below us) (root_in us u is)) in (
-        record { kind = kind_back u is u.kind refl; root = node_back u.root root.0 root.1; below = entries_back u.below (λ e there. good e (in_right e (seen_roots us) (seen_below us) (seen_in us u e is there))) },
+        record {
+          kind = kind_back u is u.kind refl;
+          root = node_back u.root root.0 root.1;
+          below =
+              entries_back u.below (λ e there. good e (in_right e (seen_roots us) (seen_below us) (seen_in us u e is there)));
+        },
         some_back some (λ v there. h v (inr there)),
       )
 
@@ -115,7 +122,8 @@ at_none file first unit n (doc ∷ docs) h =
     let own = map (in_file first) (named_in (spots_from unit n doc.units) doc.units) in
     let rest = named_files (suc first) (unit + length doc.units) (n + tops_among doc.units) docs in
     let ne : first ≡ file → ⊥ = λ e. omega (arith, e, h) in
-    at_append file own rest ∙ ap (λ (w : List (DwUnit Spot)). w ++ units_at file rest) (at_other file first (named_in (spots_from unit n doc.units) doc.units) (ne_eqb first file ne)) ∙ at_none file (suc first) (unit + length doc.units) (n + tops_among doc.units) docs (omega (arith, h))
+    at_append file own rest ∙ ap (λ (w : List (DwUnit Spot)). w ++ units_at file rest) (at_other file first (named_in (spots_from unit n doc.units) doc.units) (ne_eqb first file ne))
+    ∙ at_none file (suc first) (unit + length doc.units) (n + tops_among doc.units) docs (omega (arith, h))
 
 append_none : (xs : List (DwUnit Spot)) → xs ++ [] ≡ xs
 append_none [] = refl
@@ -129,8 +137,11 @@ at_doc file first unit n (d ∷ docs) doc (inl x) =
     let own = map (in_file first) (named_in spots d.units) in
     let rest = named_files (suc first) (unit + length d.units) (n + tops_among d.units) docs in
     let mine : units_at file own ≡ named_in spots d.units = subst (λ (w : ℕ). units_at w own ≡ named_in spots d.units) x.0 (at_own first (named_in spots d.units)) in
-    let none : units_at file rest ≡ [] = at_none file (suc first) (unit + length d.units) (n + tops_among d.units) docs (omega (arith, x.0)) in
-    (spot_in spots, at_append file own rest ∙ ap (λ (w : List (DwUnit Spot)). w ++ units_at file rest) mine ∙ ap (λ (w : List (DwUnit Spot)). named_in spots d.units ++ w) none ∙ append_none (named_in spots d.units) ∙ ap (λ (w : Doc ℕ). named_in spots w.units) x.1)
+    let none : units_at file rest ≡ [] = at_none file (suc first) (unit + length d.units) (n + tops_among d.units) docs (omega (arith, x.0)) in (
+      spot_in spots,
+      at_append file own rest ∙ ap (λ (w : List (DwUnit Spot)). w ++ units_at file rest) mine ∙ ap (λ (w : List (DwUnit Spot)). named_in spots d.units ++ w) none
+          ∙ append_none (named_in spots d.units) ∙ ap (λ (w : Doc ℕ). named_in spots w.units) x.1,
+    )
 at_doc file first unit n (d ∷ docs) doc (inr r) =
     let spots = spots_from unit n d.units in
     let own = map (in_file first) (named_in spots d.units) in
@@ -160,7 +171,7 @@ none_changes rule units files file = go (changes (plan (none_rule rule) units fi
       let o = any_from (λ t. t.file == file && moves (none_rule rule) units t.number) (tops_of units) e in
       absurd (let z = (and_parts (o.one.file == file) (moves (none_rule rule) units o.one.number) o.passes).1 in let y = none_moves rule units o.one.number in cc)
 
-module _ (scope : Scope) (docs : List (Doc ℕ)) (rule : Rule) (placed : Each (λ doc. ArePlaced doc.units) docs) (is : IsAlike scope (units_of docs) rule.alike) where
+module _ (scope : TopScope) (docs : List (Doc ℕ)) (rule : Rule) (placed : Each (λ doc. ArePlaced doc.units) docs) (is : IsAlike scope (units_of docs) rule.alike) where
   names_apart : (files : List ℕ) → Rising files → (file : ℕ) → NoneTwice (units_keys (units_at file (units_of docs)))
   names_apart files rises file =
       subst (λ (w : List (DwUnit Spot)). NoneTwice (units_keys w)) (still scope docs (none_rule rule) is (none_choice rule (units_of docs)) files file (none_changes rule (units_of docs) files file))
@@ -187,7 +198,7 @@ module _ (scope : Scope) (docs : List (Doc ℕ)) (rule : Rule) (placed : Each (�
           }
 
 -- a file of which nothing moves stands at its old places
-pub stands_back : (scope : Scope) (docs : List (Doc ℕ)) (rule : Rule) → Each (λ doc. ArePlaced doc.units) docs → IsAlike scope (units_of docs) rule.alike → IsChoice (units_of docs) rule
+pub stands_back : (scope : TopScope) (docs : List (Doc ℕ)) (rule : Rule) → Each (λ doc. ArePlaced doc.units) docs → IsAlike scope (units_of docs) rule.alike → IsChoice (units_of docs) rule
     → (files : List ℕ) → Rising files → (file : ℕ) (doc : Doc ℕ) → Nth 0 docs file doc → changes (plan rule (units_of docs) files) (units_of docs) file ≡ false
     → StandsAt (out_units (plan rule (units_of docs) files) (units_of docs) file) doc.units
 stands_back scope docs rule placed is choice files rises file doc nth c =

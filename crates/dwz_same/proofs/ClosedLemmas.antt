@@ -3,9 +3,10 @@ use Rattle.std.proofs.Common.{◌≡◌, ℕ, Bool, true, false, List, [], ◌�
 use Rattle.dwz_meanings.specs.Documents.{Attr, Compile, DwUnit, Entries, Kind, Node, OfType, Partial, attr_map, entries_map, language}
 use Rattle.dwz_docs.specs.Lists.{In}
 use Rattle.dwz_docs.specs.Trees.{End}
+use Rattle.dwz_docs.proofs.ListFacts.{in_cases, in_map, in_right}
 use Rattle.dwz_seen.specs.Lists.{Nth}
 use Rattle.dwz_seen.specs.Seen.{Closed, Named, Seen, all_seen, named_map, named_value, see, seen, seen_below, seen_map, seen_roots}
-use Rattle.dwz_seen.proofs.Members.{each_in, in_cases, in_map, in_map_from, in_right}
+use Rattle.dwz_seen.proofs.Members.{each_in, in_map_from}
 use Rattle.dwz_seen.proofs.SeenLemmas.{entry_seen, names_map, root_from, root_seen, seen_entries, seen_from}
 use Rattle.dwz_seen.proofs.ShownLemmas.{attr_from, entry_under}
 use Rattle.dwz_alike.specs.Spots.{FileUnit, PartialRoot, Spot, Top, row_of, tops_of}
@@ -88,7 +89,8 @@ module _ (units : List (FileUnit Spot)) (m : Move) (old : AreOld units) (held : 
 
   changed_origin : (i : ℕ) (u : FileUnit Spot) → Nth 0 units i u → u.unit.kind ≡ Compile → (e : Seen Spot) → In e (seen (tree f (kept_row m.gone units i) (imports i 0 parts))) → Comes e
   changed_origin i u nth kind e h =
-      go (tree_origin f (kept_row m.gone units i) (imports i 0 parts) (kept_kinded m.gone units i (row_kinded u.file i (language u.unit) [] (unit_row units i u nth kind).first (row_of units i) u.unit.below (unit_row units i u nth kind).is)) e h)
+      go (tree_origin f (kept_row m.gone units i) (imports i 0 parts) (kept_kinded m.gone units i
+      (row_kinded u.file i (language u.unit) [] (unit_row units i u nth kind).first (row_of units i) u.unit.below (unit_row units i u nth kind).is)) e h)
     where
       go : TreeOrigin f (kept_row m.gone units i) (imports i 0 parts) e → Comes e
       go (OfATop names t has x) = top_origin t (row_top units i t (tops_among (row_of units i) names t ((kept_is m.gone units i names (OfTop t)).0 has).0)).0 e x
@@ -99,7 +101,8 @@ module _ (units : List (FileUnit Spot)) (m : Move) (old : AreOld units) (held : 
           OfOld w.entry w.there (attrs ∙ names_map f d.attrs ∙ ap (map (named_map f)) (sym w.attrs_are))
       go (Behind x) = import_origin i e x
 
-  kept_origin : (i : ℕ) (u : FileUnit Spot) → Nth 0 units i u → (e : Seen Spot) → In e (seen (kept_unit m units i u).below) → (k : Kind Spot) → u.unit.kind ≡ k → (b : Bool) → changes m units u.file ≡ b → Comes e
+  kept_origin : (i : ℕ) (u : FileUnit Spot) → Nth 0 units i u → (e : Seen Spot) → In e (seen (kept_unit m units i u).below) → (k : Kind Spot) → u.unit.kind ≡ k → (b : Bool)
+      → changes m units u.file ≡ b → Comes e
   kept_origin i u nth e h Compile kind true c = changed_origin i u nth kind e (subst (λ (w : Entries Spot). In e (seen w)) (kept_compile m units i u kind c) h)
   kept_origin i u nth e h k kind false c = mapped_origin i u nth e (subst (λ (w : Entries Spot). In e (seen w)) (kept_still m units i u c) h)
   kept_origin i u nth e h (OfType signature main) kind true c = mapped_origin i u nth e (subst (λ (w : Entries Spot). In e (seen w)) (kept_type m units i u signature main kind) h)
@@ -136,7 +139,8 @@ module _ (units : List (FileUnit Spot)) (m : Move) (old : AreOld units) (held : 
       let there = subst (λ (w : List (Seen Spot)). In (seen_map f d) w) (sym (seen_entries f u.unit.below)) (in_map (seen_map f) d (seen u.unit.below) h) in
       (seen_map f d, entry_seen outs (kept_unit m units i u) (seen_map f d) (after.kept i u nth) (subst (λ (w : Entries Spot). In (seen_map f d) (seen w)) (sym below) there), refl)
 
-  below_there : (i : ℕ) (u : FileUnit Spot) → Nth 0 units i u → (d : Seen Spot) → In d (seen u.unit.below) → (k : Kind Spot) → u.unit.kind ≡ k → (b : Bool) → changes m units u.file ≡ b → Stands (f d.at)
+  below_there : (i : ℕ) (u : FileUnit Spot) → Nth 0 units i u → (d : Seen Spot) → In d (seen u.unit.below) → (k : Kind Spot) → u.unit.kind ≡ k → (b : Bool) → changes m units u.file ≡ b
+      → Stands (f d.at)
   below_there i u nth d h k kind false c = mapped_there i u nth d h (kept_still m units i u c)
   below_there i u nth d h (OfType signature main) kind true c = mapped_there i u nth d h (kept_type m units i u signature main kind)
   below_there i u nth d h Partial kind true c = absurd (subst (λ (w : Kind Spot). IsNamedBelow i w (row_of units i) u.unit.below) kind (old.units_named i u nth).below)
@@ -144,8 +148,12 @@ module _ (units : List (FileUnit Spot)) (m : Move) (old : AreOld units) (held : 
       go (seen_origin u.file i (language u.unit) [] (unit_row units i u nth kind).first (row_of units i) u.unit.below (unit_row units i u nth kind).is d h)
     where
       go : Origin u.file i (language u.unit) (row_of units i) u.unit.below d → Stands (f d.at)
-      go (InTop t there x) =
-          (seen_map f d, in_right (seen_map f d) (seen_roots outs) (seen_below outs) (top_seen units m old held outs after i u nth kind t there (m.gone t.number) refl (changes m units u.file) refl d x), refl)
+      go (InTop t there x) = (
+        seen_map f d,
+        in_right (seen_map f d) (seen_roots outs) (seen_below outs)
+            (top_seen units m old held outs after i u nth kind t there (m.gone t.number) refl (changes m units u.file) refl d x),
+        refl,
+      )
       go (IsSpaceSeen names c' has at) =
           let o = space_seen f (kept_row m.gone units i) (imports i 0 parts) names c' ((kept_is m.gone units i names (OfSpace c')).1 (has, tt)) in
           let v = kept_unit m units i u in

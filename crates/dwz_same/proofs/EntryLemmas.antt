@@ -4,9 +4,10 @@ use Rattle.std.proofs.lemmas.Bool.{and_from}
 use Rattle.dwz_meanings.specs.Documents.{Compile, DwUnit, Entries, Kind, OfType, Partial, entries_map, language}
 use Rattle.dwz_docs.specs.Lists.{In}
 use Rattle.dwz_docs.specs.Trees.{End}
+use Rattle.dwz_docs.proofs.ListFacts.{in_map}
 use Rattle.dwz_seen.specs.Lists.{Nth}
 use Rattle.dwz_seen.specs.Seen.{EntriesSame, Seen, seen, seen_below, seen_inside, seen_map}
-use Rattle.dwz_seen.proofs.Members.{any_true, in_map}
+use Rattle.dwz_seen.proofs.Members.{any_true}
 use Rattle.dwz_seen.proofs.SeenLemmas.{inner_from, seen_entries, seen_in}
 use Rattle.dwz_alike.specs.Spots.{FileUnit, Spot, Top, name_list, row_of, row_tops, tops_of}
 use Rattle.dwz_alike.proofs.RowLemmas.{unit_row}
@@ -63,7 +64,8 @@ module _ (units : List (FileUnit Spot)) (m : Move) (old : AreOld units) (held : 
       seen_in outs (partial_unit m o.number) e (after.new o.number o.part o.nth) (tree_seen f (m.rows o.number) End (name_list t) o.top o.has e (subst (λ (w : List (Seen Spot)). In e w) o.same h))
 
   -- one that stays is seen in its unit
-  pub top_seen : (i : ℕ) (u : FileUnit Spot) → Nth 0 units i u → u.unit.kind ≡ Compile → (t : Top) → In t (row_tops (row_of units i)) → (b : Bool) → m.gone t.number ≡ b → (c : Bool) → changes m units u.file ≡ c → (e : Seen Spot) → In e (raw_top t) → In (seen_map f e) (seen_below outs)
+  pub top_seen : (i : ℕ) (u : FileUnit Spot) → Nth 0 units i u → u.unit.kind ≡ Compile → (t : Top) → In t (row_tops (row_of units i)) → (b : Bool) → m.gone t.number ≡ b → (c : Bool)
+      → changes m units u.file ≡ c → (e : Seen Spot) → In e (raw_top t) → In (seen_map f e) (seen_below outs)
   top_seen i u nth kind t in_row true mv c change e h =
       moved_seen t (row_top units i t in_row).0 mv (seen_map f e) (subst (λ (w : List (Seen Spot)). In (seen_map f e) w) (sym (seen_top_map f t)) (in_map (seen_map f) e (raw_top t) h))
   top_seen i u nth kind t in_row false mv true change e h =
@@ -72,7 +74,8 @@ module _ (units : List (FileUnit Spot)) (m : Move) (old : AreOld units) (held : 
       let stays = (kept_is m.gone units i o.names (OfTop t)).1 (o.has, mv) in
       seen_in outs (kept_unit m units i u) (seen_map f e) (after.kept i u nth)
       (subst (λ (w : Entries Spot). In (seen_map f e) (seen w)) (sym (kept_compile m units i u kind change))
-      (tree_seen f (kept_row m.gone units i) (imports i 0 m.parts) o.names t stays (seen_map f e) (subst (λ (w : List (Seen Spot)). In (seen_map f e) w) (sym (seen_top_map f t)) (in_map (seen_map f) e (raw_top t) h))))
+      (tree_seen f (kept_row m.gone units i) (imports i 0 m.parts) o.names t stays (seen_map f e)
+      (subst (λ (w : List (Seen Spot)). In (seen_map f e) w) (sym (seen_top_map f t)) (in_map (seen_map f) e (raw_top t) h))))
   top_seen i u nth kind t in_row false mv false change e h =
       let r = unit_row units i u nth kind in
       let there = raw_seen u.file i (language u.unit) [] r.first (row_of units i) u.unit.below r.is t in_row e h in

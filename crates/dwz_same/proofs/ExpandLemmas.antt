@@ -3,10 +3,11 @@ use Rattle.std.proofs.Common.{◌≡◌, ◌↔◌, ℕ, ◌⊎◌, Bool, true, 
 use Rattle.dwz_meanings.specs.Documents.{Compile, DwUnit, Entries, Kind, Node, OfType, Partial, entries_map, language, node_map, ref}
 use Rattle.dwz_docs.specs.Lists.{In}
 use Rattle.dwz_docs.specs.Trees.{End, Entry}
+use Rattle.dwz_docs.proofs.ListFacts.{in_map}
 use Rattle.dwz_seen.specs.Lists.{Nth}
 use Rattle.dwz_seen.specs.Seen.{Expands, HasAt, HasImage, InCompile, InsideSame, IsChild, IsImport, IsShown, Named, Seen, TypesSame, UnitSame, UnitsSame, named_value, see, seen_map, seen_roots}
 use Rattle.dwz_seen.specs.Spaces.{IsSpace, IsUnder, space_text}
-use Rattle.dwz_seen.proofs.Members.{in_map, in_map_from, nth_one}
+use Rattle.dwz_seen.proofs.Members.{in_map_from, nth_one}
 use Rattle.dwz_seen.proofs.SeenLemmas.{root_in, see_map}
 use Rattle.dwz_seen.proofs.ShownLemmas.{EntryWith, entries_shown, entry_under, space_from, space_to}
 use Rattle.dwz_seen.proofs.SpaceLemmas.{child_under, node_shown, some_none, text_map}
@@ -48,7 +49,8 @@ import_from unit parts names e h =
 import_in : (unit : ℕ) (parts : List PartialUnit) (n : ℕ) (part : PartialUnit) → Nth 0 parts n part → In unit part.users → IsChild (import_of unit n) (imports unit 0 parts)
 import_in unit parts n part nth user =
     let a = are_imports unit parts in
-    subst (IsChild (import_of unit n)) (sym a.entries_are) (child_row (import_of unit n) (map (import_of unit) a.parts_imported) (in_map (import_of unit) n a.parts_imported ((a.are n).1 (part, nth, user))))
+    subst (IsChild (import_of unit n)) (sym a.entries_are) (child_row (import_of unit n) (map (import_of unit) a.parts_imported)
+    (in_map (import_of unit) n a.parts_imported ((a.are n).1 (part, nth, user))))
 
 import_plain : (unit n : ℕ) → space_text (import_of unit n) ≡ None
 unfolding space_text
@@ -180,7 +182,8 @@ module _ (units : List (FileUnit Spot)) (m : Move) (old : AreOld units) (held : 
       ]
 
       -- an entry of a partial unit that is no space is a top's
-      part_top : (n : ℕ) (part : PartialUnit) → Nth 0 m.parts n part → (names : List (List ℕ)) (q : Spot) → HasAt outs names (partial_unit m n).below q → (s : Top) × Has names (OfTop s) (m.rows n) × (f s.node.at ≡ q)
+      part_top : (n : ℕ) (part : PartialUnit) → Nth 0 m.parts n part → (names : List (List ℕ)) (q : Spot) → HasAt outs names (partial_unit m n).below q
+          → (s : Top) × Has names (OfTop s) (m.rows n) × (f s.node.at ≡ q)
       part_top n part there names q c = elim (tree_under f (m.rows n) End (held.kinds n part there) names c.entry c.under) [
         | inl o ↦ go o.item o.has o.is
         | inr r ↦ absurd r
@@ -226,7 +229,8 @@ module _ (units : List (FileUnit Spot)) (m : Move) (old : AreOld units) (held : 
               inr (
                 import_of i k.number,
                 partial_unit m k.number,
-                subst (IsChild (import_of i k.number)) (sym below) (child_last f (kept_row m.gone units i) (imports i 0 m.parts) (import_of i k.number) (import_in i m.parts k.number k.part k.nth (subst (λ (w : ℕ). In w k.part.users) there.1 k.user))),
+                subst (IsChild (import_of i k.number)) (sym below) (child_last f (kept_row m.gone units i) (imports i 0 m.parts) (import_of i k.number)
+                    (import_in i m.parts k.number k.part k.nth (subst (λ (w : ℕ). In w k.part.users) there.1 k.user))),
                 imports_new i k.number k.part k.nth,
                 record {
                   entry = node_map f k.top.node;
@@ -251,14 +255,16 @@ module _ (units : List (FileUnit Spot)) (m : Move) (old : AreOld units) (held : 
           pick (OfTop t) has e = place t has e (m.gone t.number) refl
           pick (OfSpace d) has e = let k = kind_in (row_of units i) kinded names (OfSpace d) has in some_none (space_text d) k.0 k.1 (ap space_text e ∙ h.2)
 
-      imported_spaces : (e : Node Spot) (w : DwUnit Spot) → IsChild e v.below → IsImport outs e w → (names : List (List ℕ)) (b : Node Spot) → IsSpace names b w.below → (d : Node Spot) × IsSpace names d u.unit.below
+      imported_spaces : (e : Node Spot) (w : DwUnit Spot) → IsChild e v.below → IsImport outs e w → (names : List (List ℕ)) (b : Node Spot) → IsSpace names b w.below
+          → (d : Node Spot) × IsSpace names d u.unit.below
       imported_spaces e w child im names b s =
           let a = imported_by e w child im in
           let under = subst (λ (x : DwUnit Spot). IsUnder s.outer b x.below) (sym a.is_unit) s.under in
           find a (tree_under f (m.rows a.number) End (held.kinds a.number a.part a.there) s.outer b under)
         where
           go : (a : Imported w) (x : Item) → Has s.outer x (m.rows a.number) → node_map f (node_of x) ≡ b → (d : Node Spot) × IsSpace names d u.unit.below
-          go a (OfTop t) has e = some_none (space_text b) s.text s.own (ap space_text (sym e) ∙ text_map f t.node ∙ kind_in (m.rows a.number) (held.kinds a.number a.part a.there) s.outer (OfTop t) has)
+          go a (OfTop t) has e = some_none (space_text b) s.text s.own
+              (ap space_text (sym e) ∙ text_map f t.node ∙ kind_in (m.rows a.number) (held.kinds a.number a.part a.there) s.outer (OfTop t) has)
           go a (OfSpace c) has e =
               let d = held.spaces a.number a.part a.there i a.user s.outer c has in
               let text : space_text c ≡ Some s.text = sym (text_map f c) ∙ ap space_text e ∙ s.own in
@@ -294,7 +300,8 @@ module _ (units : List (FileUnit Spot)) (m : Move) (old : AreOld units) (held : 
 
       still_same : InsideSame f outs u.unit v
       still_same = record {
-        spaces = λ names d s. (let o = space_to f names u.unit.below (entries_map f u.unit.below) (entries_shown f u.unit.below) d s in (o.0, subst (λ (w : Entries Spot). IsSpace names o.0 w) (sym below) o.1, o.2));
+        spaces = λ names d s. (let o = space_to f names u.unit.below (entries_map f u.unit.below) (entries_shown f u.unit.below) d s in
+            (o.0, subst (λ (w : Entries Spot). IsSpace names o.0 w) (sym below) o.1, o.2));
         no_more = λ names e s. space_from f names u.unit.below (entries_map f u.unit.below) (entries_shown f u.unit.below) e (subst (λ (w : Entries Spot). IsSpace names e w) below s);
         children = still_children;
         imported = λ e w child im names b s. absurd (still_import [] e (child_under e v.below child) w im);

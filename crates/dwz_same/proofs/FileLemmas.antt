@@ -1,13 +1,14 @@
 -- All files at once.
 use Rattle.std.proofs.Common.{◌≡◌, ℕ, suc, ◌+◌, ◌<◌, ◌≤◌, ◌⊎◌, true, List, [], ◌∷◌, length, map, ap, subst, arith, inl, inr}
 use Rattle.dwz_meanings.specs.Documents.{Doc, DwUnit}
-use Rattle.dwz_docs.specs.Lists.{In}
-use Rattle.dwz_seen.specs.Lists.{Each, Rising}
+use Rattle.dwz_docs.specs.Lists.{Each, In}
+use Rattle.dwz_docs.proofs.ListFacts.{in_cases}
+use Rattle.dwz_seen.specs.Lists.{Rising}
 use Rattle.dwz_seen.specs.Seen.{Closed, SameAlong, Seen, all_seen}
 use Rattle.dwz_seen.specs.Shown.{OnePlace, UnitsShown, units_keys}
-use Rattle.dwz_seen.proofs.Members.{each_of, in_cases, in_map_from, nth_in}
+use Rattle.dwz_seen.proofs.Members.{each_of, in_map_from, nth_in}
 use Rattle.dwz_seen.proofs.ShownLemmas.{entries_named, entries_placed, entry_key, types_named, types_placed, units_named, units_placed}
-use Rattle.dwz_alike.specs.Alike.{IsAlike, Scope}
+use Rattle.dwz_alike.specs.Alike.{IsAlike, TopScope}
 use Rattle.dwz_alike.specs.Spots.{FileUnit, Spot, file_numbers, in_file, named, named_files, tops_among, units_of}
 use Rattle.dwz_moving.specs.Homes.{IsChoice, Rule, moves}
 use Rattle.dwz_moving.specs.IsPlan.{AreFilesOf}
@@ -36,7 +37,7 @@ numbers_from n [] m h = absurd h
 numbers_from n (doc ∷ docs) m (inl e) = omega (arith, e)
 numbers_from n (doc ∷ docs) m (inr r) = omega (arith, numbers_from (suc n) docs m r)
 
-numbers_rise : (n : ℕ) (docs : List (Doc ℕ)) → Rising (file_numbers n docs)
+pub numbers_rise : (n : ℕ) (docs : List (Doc ℕ)) → Rising (file_numbers n docs)
 unfolding file_numbers
 numbers_rise n [] = tt
 numbers_rise n (doc ∷ docs) = (each_of (λ m. n < m) (file_numbers (suc n) docs) (λ m is. omega (arith, numbers_from (suc n) docs m is)), numbers_rise (suc n) docs)
@@ -45,7 +46,8 @@ in_files : (file unit top : ℕ) (docs : List (Doc ℕ)) (u : FileUnit Spot) →
 unfolding named_files file_numbers
 in_files file unit top [] u h = absurd h
 in_files file unit top (doc ∷ docs) u h =
-    go (in_cases u (map (in_file file) (named unit top doc.units)) (named_files (suc file) (unit + length doc.units) (top + tops_among doc.units) docs) h) (in_files (suc file) (unit + length doc.units) (top + tops_among doc.units) docs u)
+    go (in_cases u (map (in_file file) (named unit top doc.units)) (named_files (suc file) (unit + length doc.units) (top + tops_among doc.units) docs) h)
+    (in_files (suc file) (unit + length doc.units) (top + tops_among doc.units) docs u)
   where
     go : In u (map (in_file file) (named unit top doc.units)) ⊎ In u (named_files (suc file) (unit + length doc.units) (top + tops_among doc.units) docs)
         → (In u (named_files (suc file) (unit + length doc.units) (top + tops_among doc.units) docs) → In u.file (file_numbers (suc file) docs)) → In u.file (file ∷ file_numbers (suc file) docs)
@@ -76,15 +78,17 @@ module _ (units : List (FileUnit Spot)) (m : Move) (outs : List (DwUnit Spot)) (
   }
 
   -- images that have one place are one
-  pub places_tell : (g : Spot → Place) → OnePlace g outs → (d e : Seen Spot) → In d (all_seen (units_in units)) → In e (all_seen (units_in units)) → g (image_in m d.at) ≡ g (image_in m e.at) → image_in m d.at ≡ image_in m e.at
+  pub places_tell : (g : Spot → Place) → OnePlace g outs → (d e : Seen Spot) → In d (all_seen (units_in units)) → In e (all_seen (units_in units)) → g (image_in m d.at) ≡ g (image_in m e.at)
+      → image_in m d.at ≡ image_in m e.at
   places_tell g one d e x y same =
       let a = image_there units m r.old r.held outs r.after d x in
       let b = image_there units m r.old r.held outs r.after e y in
-      one (image_in m d.at) (image_in m e.at) (subst (λ (w : Spot). In w (units_keys outs)) a.2 (entry_key outs a.0 a.1)) (subst (λ (w : Spot). In w (units_keys outs)) b.2 (entry_key outs b.0 b.1)) same
+      one (image_in m d.at) (image_in m e.at) (subst (λ (w : Spot). In w (units_keys outs)) a.2 (entry_key outs a.0 a.1)) (subst (λ (w : Spot). In w (units_keys outs)) b.2 (entry_key outs b.0 b.1))
+      same
 
 -- ---- files
 
-pub replaced : (scope : Scope) (docs : List (Doc ℕ)) (rule : Rule) → Each (λ doc. ArePlaced doc.units) docs → IsAlike scope (units_of docs) rule.alike → IsChoice (units_of docs) rule
+pub replaced : (scope : TopScope) (docs : List (Doc ℕ)) (rule : Rule) → Each (λ doc. ArePlaced doc.units) docs → IsAlike scope (units_of docs) rule.alike → IsChoice (units_of docs) rule
     → Replaces (units_of docs) (plan rule (units_of docs) (file_numbers 0 docs)) (all_units (plan rule (units_of docs) (file_numbers 0 docs)) (units_of docs) (file_numbers 0 docs))
 replaced scope docs rule placed is choice = record {
   old = files_old docs placed;
@@ -92,7 +96,8 @@ replaced scope docs rule placed is choice = record {
   after = all_outs (units_of docs) rule (file_numbers 0 docs) (files_are docs);
 }
 
-pub files_same : (scope : Scope) (docs : List (Doc ℕ)) (rule : Rule) → Each (λ doc. ArePlaced doc.units) docs → IsAlike scope (units_of docs) rule.alike → IsChoice (units_of docs) rule → FilesSame scope docs rule (file_numbers 0 docs)
+pub files_same : (scope : TopScope) (docs : List (Doc ℕ)) (rule : Rule) → Each (λ doc. ArePlaced doc.units) docs → IsAlike scope (units_of docs) rule.alike → IsChoice (units_of docs) rule
+    → FilesSame scope docs rule (file_numbers 0 docs)
 files_same scope docs rule placed is choice =
     let units = units_of docs in
     let files = file_numbers 0 docs in

@@ -1,14 +1,13 @@
 -- The plan is a move as is asked.
 use Rattle.std.proofs.Common.{◌≡◌, ℕ, zero, suc, ◌+◌, Bool, true, false, List, [], ◌∷◌, ◌++◌, Option, Some, None, map, refl, sym, ap, subst, ◌∙◌, inl, inr, arith}
-use Rattle.dwz_meanings.specs.Documents.{Attr, Node, first_named}
+use Rattle.dwz_meanings.specs.Documents.{Attr, Node, first_named, language}
 use Rattle.dwz_docs.specs.Lists.{In}
 use Rattle.dwz_seen.specs.Lists.{Nth}
 use Rattle.dwz_seen.specs.Seen.{named_value}
 use Rattle.dwz_seen.specs.Spaces.{space_text}
 use Rattle.dwz_seen.proofs.Members.{each_in, in_nth, nth_from, nth_in}
-use Rattle.dwz_alike.specs.Alike.{IsAlike, Scope}
+use Rattle.dwz_alike.specs.Alike.{IsAlike, TopScope}
 use Rattle.dwz_alike.specs.Spots.{FileUnit, LabelledTop, Row, Spot, Top, Within, name_list, row_of, tops_of}
-use Rattle.dwz_meanings.specs.Documents.{language}
 use Rattle.dwz_alike.proofs.AlikePer.{alike_step}
 use Rattle.dwz_alike.proofs.RowLemmas.{unit_row}
 use Rattle.dwz_alike.proofs.Tops.{unit_of}
@@ -61,7 +60,8 @@ root_none units (Some part) = line_none units part
 top_image : (stand : ℕ → ℕ) (a b : Top) → LabelledTop a → LabelledTop b → stand a.number ≡ stand b.number → image_by stand a.node.at ≡ image_by stand b.node.at
 top_image stand a b x y e = ap (image_by stand) x.0 ∙ ap (λ (n : ℕ). Within n []) e ∙ sym (ap (image_by stand) y.0)
 
-module _ (scope : Scope) (units : List (FileUnit Spot)) (rule : Rule) (files : List ℕ) (is : IsAlike scope units rule.alike) (choice : IsChoice units rule) (old : AreOld units) (known : (i : ℕ) (u : FileUnit Spot) → Nth 0 units i u → In u.file files) where
+module _ (scope : TopScope) (units : List (FileUnit Spot)) (rule : Rule) (files : List ℕ) (is : IsAlike scope units rule.alike) (choice : IsChoice units rule) (old : AreOld units)
+    (known : (i : ℕ) (u : FileUnit Spot) → Nth 0 units i u → In u.file files) where
   abbrev parts : List PartialUnit
   parts = partials rule units files
 
@@ -86,7 +86,8 @@ module _ (scope : Scope) (units : List (FileUnit Spot)) (rule : Rule) (files : L
         nth = n.nth;
         user = subst (λ (w : List ℕ). In t.unit w) (sym k.users) (used rule.alike units t.number t there self);
         top = k.top;
-        has = subst (λ (w : Row). Has (name_list t) (OfTop k.top) w) (sym (row_found rule units files n.number k.part n.nth)) (((part_is n.number k.part).tops_are (name_list t) k.top).1 (k.holds, names));
+        has = subst (λ (w : Row). Has (name_list t) (OfTop k.top) w) (sym (row_found rule units files n.number k.part n.nth))
+            (((part_is n.number k.part).tops_are (name_list t) k.top).1 (k.holds, names));
         same = stand_seen scope units rule is choice old.tops_named t k.top there top_there mv same;
       }
 
@@ -122,12 +123,14 @@ module _ (scope : Scope) (units : List (FileUnit Spot)) (rule : Rule) (files : L
       let r = unit_row units t.unit o.unit o.nth o.compile in
       let k = row_kinded o.unit.file t.unit (language o.unit.unit) [] r.first (row_of units t.unit) o.unit.unit.below r.is in
       let s = tops_somewhere (row_of units t.unit) k t o.in_row in
-      subst (λ (w : List (List ℕ)). Has w (OfTop t) (row_of units t.unit)) (sym (top_names o.unit.file t.unit (language o.unit.unit) [] r.first (row_of units t.unit) o.unit.unit.below r.is s.names t s.has)) s.has
+      subst (λ (w : List (List ℕ)). Has w (OfTop t) (row_of units t.unit))
+      (sym (top_names o.unit.file t.unit (language o.unit.unit) [] r.first (row_of units t.unit) o.unit.unit.below r.is s.names t s.has)) s.has
 
   -- and so does one like it, in spaces with the same names
   stands_like : (i : ℕ) (own : List (List ℕ)) (s : Top) (t : HasTopLike units m i own s) (names : List (List ℕ)) → own ≡ names → Has names (OfTop t.top) (row_of units i)
   stands_like i own s t names same =
-      subst (λ (w : ℕ). Has names (OfTop t.top) (row_of units w)) t.unit_is (subst (λ (w : List (List ℕ)). Has w (OfTop t.top) (row_of units t.top.unit)) (t.names_are ∙ same) (stands_at t.top t.there))
+      subst (λ (w : ℕ). Has names (OfTop t.top) (row_of units w)) t.unit_is
+      (subst (λ (w : List (List ℕ)). Has w (OfTop t.top) (row_of units t.top.unit)) (t.names_are ∙ same) (stands_at t.top t.there))
 
   space_like : (n : ℕ) (part : PartialUnit) → Nth 0 parts n part → (i : ℕ) → In i part.users → (names : List (List ℕ)) (e : Node Spot) → Has names (OfSpace e) (m.rows n) → HasSpaceLike units i names e
   space_like n part nth i user names e h =

@@ -3,9 +3,9 @@ use Rattle.std.proofs.Common.{◌≡◌, ℕ, ℤ, suc, ◌+◌, ◌⊎◌, List
 use Rattle.dwz_meanings.specs.Documents.{Entries, Node, entries_map, node_map}
 use Rattle.dwz_docs.specs.Lists.{In}
 use Rattle.dwz_docs.specs.Trees.{End, Entry}
+use Rattle.dwz_docs.proofs.ListFacts.{in_cases}
 use Rattle.dwz_seen.specs.Shown.{keys}
 use Rattle.dwz_seen.specs.Spaces.{tops_under}
-use Rattle.dwz_seen.proofs.Members.{in_cases}
 use Rattle.dwz_alike.specs.Spots.{ASpace, ATop, Nothing, Row, SpaceName, Spot, Top, name_of}
 use Rattle.dwz_alike.proofs.RowLemmas.{RowIs}
 use Rattle.dwz_moving.specs.IsPlan.{Has, OfSpace, OfTop}
@@ -46,7 +46,8 @@ tree_key stand (ASpace e inner next) last c g k (inr r) =
     later (FromSpaceKey names d a b) = FromSpaceKey names d (inr (inr a)) b
     later (LastKey a) = LastKey a
 
-    pick : (In k (keys (tree (image_by stand) inner End)) → TreeKey inner End k) → (In k (keys (tree (image_by stand) next last)) → TreeKey next last k) → In k (keys (tree (image_by stand) inner End)) ⊎ In k (keys (tree (image_by stand) next last)) → TreeKey (ASpace e inner next) last k
+    pick : (In k (keys (tree (image_by stand) inner End)) → TreeKey inner End k) → (In k (keys (tree (image_by stand) next last)) → TreeKey next last k)
+        → In k (keys (tree (image_by stand) inner End)) ⊎ In k (keys (tree (image_by stand) next last)) → TreeKey (ASpace e inner next) last k
     pick a b (inl x) = inside (a x)
     pick a b (inr y) = later (b y)
 
@@ -56,7 +57,8 @@ module _ (file unit : ℕ) (tongue : Option ℤ) where
   unfolding tree entries_map
   tree_is f spaces n Nothing End h = refl
   tree_is f spaces n (ATop t row) (Entry e g k) h =
-      ap (λ (w : Top). Entry (node_map f w.node) (entries_map f w.below) (tree f row End)) (sym h.1) ∙ ap (λ (w : Entries Spot). Entry (node_map f e) (entries_map f g) w) (tree_is f spaces (suc n) row k h.2)
+      ap (λ (w : Top). Entry (node_map f w.node) (entries_map f w.below) (tree f row End)) (sym h.1) ∙ ap (λ (w : Entries Spot). Entry (node_map f e) (entries_map f g) w)
+      (tree_is f spaces (suc n) row k h.2)
   tree_is f spaces n (ASpace d inner row) (Entry e g k) h =
       ap (λ (w : Node Spot). Entry (node_map f w) (tree f inner End) (tree f row End)) (sym h.2)
       ∙ ap (λ (w : Entries Spot). Entry (node_map f e) w (tree f row End)) (tree_is f (spaces ++ name_of h.0 e ∷ []) n inner g h.3)

@@ -39,11 +39,12 @@ part_kinded p want (ATop t next) last k l = go (part_kinded p want next last k.1
   go : Kinded (row_part p want next last) → (b : Bool) → Kinded (elim b as (λ _. Row) [ true ↦ ATop t (row_part p want next last) | false ↦ row_part p want next last ])
   go more true = (k.0, more)
   go more false = more
-part_kinded p want (ASpace e inner next) last k l = go (part_kinded p want next last k.2 l) (part_kinded p true inner (row_part p false inner Nothing) k.1 (part_kinded p false inner Nothing k.1 tt)) (same_bool (p.space e.at || row_pinned p inner) want) where
-  go : Kinded (row_part p want next last) → Kinded (row_part p true inner (row_part p false inner Nothing)) → (b : Bool)
-      → Kinded (elim b as (λ _. Row) [ true ↦ ASpace e (row_part p true inner (row_part p false inner Nothing)) (row_part p want next last) | false ↦ row_part p want next last ])
-  go more inside true = (k.0, inside, more)
-  go more inside false = more
+part_kinded p want (ASpace e inner next) last k l = go (part_kinded p want next last k.2 l) (part_kinded p true inner (row_part p false inner Nothing) k.1 (part_kinded p false inner Nothing k.1 tt))
+    (same_bool (p.space e.at || row_pinned p inner) want) where
+      go : Kinded (row_part p want next last) → Kinded (row_part p true inner (row_part p false inner Nothing)) → (b : Bool)
+          → Kinded (elim b as (λ _. Row) [ true ↦ ASpace e (row_part p true inner (row_part p false inner Nothing)) (row_part p want next last) | false ↦ row_part p want next last ])
+      go more inside true = (k.0, inside, more)
+      go more inside false = more
 
 pub kept_kinded : (gone : ℕ → Bool) (units : List (FileUnit Spot)) (i : ℕ) → Kinded (row_of units i) → Kinded (kept_row gone units i)
 kept_kinded gone units i k =
@@ -72,9 +73,11 @@ unfolding chains
 chains_kinded part tops chain [] h = tt
 chains_kinded part tops chain (t ∷ leads) h =
     beside_kinded (chain_down part chain 0 t.spaces (top_row (filter (same_names t) tops) Nothing)) (chains part tops (suc chain) leads)
-    (down_kinded part chain 0 t.spaces (top_row (filter (same_names t) tops) Nothing) (top_row_kinded (filter (same_names t) tops) Nothing (λ u is. h u (in_filter_from (same_names t) u tops is).0) tt))
+    (down_kinded part chain 0 t.spaces (top_row (filter (same_names t) tops) Nothing)
+    (top_row_kinded (filter (same_names t) tops) Nothing (λ u is. h u (in_filter_from (same_names t) u tops is).0) tt))
     (chains_kinded part tops (suc chain) leads h)
 
 pub part_row_kinded : (n : ℕ) (part : PartialUnit) → ((t : Top) → In t part.tops → space_text t.node ≡ None) → Kinded (part_row n part)
 part_row_kinded n part h =
-    top_row_kinded (filter in_root part.tops) (chains n part.tops 0 (leading (filter (λ t. not (in_root t)) part.tops))) (λ t is. h t (in_filter_from in_root t part.tops is).0) (chains_kinded n part.tops 0 (leading (filter (λ t. not (in_root t)) part.tops)) h)
+    top_row_kinded (filter in_root part.tops) (chains n part.tops 0 (leading (filter (λ t. not (in_root t)) part.tops))) (λ t is. h t (in_filter_from in_root t part.tops is).0)
+    (chains_kinded n part.tops 0 (leading (filter (λ t. not (in_root t)) part.tops)) h)

@@ -3,9 +3,10 @@ use Rattle.std.proofs.Common.{◌≡◌, ℕ, ℤ, suc, ◌+◌, ◌⊎◌, Bool
 use Rattle.dwz_meanings.specs.Documents.{Compile, DwUnit, Entries, Kind, Node, OfType, Partial, entries_map, kind_map, language, node_map, unit_map}
 use Rattle.dwz_docs.specs.Lists.{In}
 use Rattle.dwz_docs.specs.Trees.{End, Entry}
+use Rattle.dwz_docs.proofs.ListFacts.{in_cases}
 use Rattle.dwz_seen.specs.Lists.{Nth}
 use Rattle.dwz_seen.specs.Spaces.{IsUnder, tops_under}
-use Rattle.dwz_seen.proofs.Members.{in_cases, in_map_from}
+use Rattle.dwz_seen.proofs.Members.{in_map_from}
 use Rattle.dwz_alike.specs.Spots.{ASpace, ATop, FileUnit, Nothing, Row, SpaceName, Spot, Top, name_of, row_of, row_tops, tops_of}
 use Rattle.dwz_alike.proofs.RowLemmas.{RowIs, unit_row}
 use Rattle.dwz_alike.proofs.Tops.{row_top, unit_of}
@@ -76,7 +77,8 @@ under_below names e (Entry d g k) (inr (inl i)) = inr (inl (under_below i.1 e g 
 under_below names e (Entry d g k) (inr (inr r)) = inr (inr (under_below names e k r))
 
 module _ (file unit : ℕ) (tongue : Option ℤ) where
-  pub top_below : (spaces : List SpaceName) (n : ℕ) (items : Row) (g : Entries Spot) → RowIs file unit tongue spaces n items g → (t : Top) → In t (row_tops items) → (d : Node Spot) → EntryOfTop d t → IsBelow d g
+  pub top_below : (spaces : List SpaceName) (n : ℕ) (items : Row) (g : Entries Spot) → RowIs file unit tongue spaces n items g → (t : Top) → In t (row_tops items) → (d : Node Spot) → EntryOfTop d t
+      → IsBelow d g
   unfolding row_tops
   top_below spaces n Nothing g h t is d x = absurd is
   top_below spaces n (ATop u next) (Entry e f g) h t (inl y) d x = elim (subst (EntryOfTop d) (sym (h.1 ∙ y)) x) [ inl a ↦ inl a | inr b ↦ inr (inl b) ]
@@ -84,7 +86,8 @@ module _ (file unit : ℕ) (tongue : Option ℤ) where
   top_below spaces n (ASpace c inner next) (Entry e f g) h t is d x =
       pick (top_below (spaces ++ name_of h.0 e ∷ []) n inner f h.3 t) (top_below spaces (n + tops_under f) next g h.4 t) (in_cases t (row_tops inner) (row_tops next) is)
     where
-      pick : (In t (row_tops inner) → (d : Node Spot) → EntryOfTop d t → IsBelow d f) → (In t (row_tops next) → (d : Node Spot) → EntryOfTop d t → IsBelow d g) → In t (row_tops inner) ⊎ In t (row_tops next) → IsBelow d (Entry e f g)
+      pick : (In t (row_tops inner) → (d : Node Spot) → EntryOfTop d t → IsBelow d f) → (In t (row_tops next) → (d : Node Spot) → EntryOfTop d t → IsBelow d g)
+          → In t (row_tops inner) ⊎ In t (row_tops next) → IsBelow d (Entry e f g)
       pick a b (inl y) = inr (inl (a y d x))
       pick a b (inr y) = inr (inr (b y d x))
   top_below spaces n (ATop u next) End h t is d x = absurd h
@@ -126,14 +129,15 @@ module _ (units : List (FileUnit Spot)) (m : Move) (old : AreOld units) (held : 
   mapped i u nth e h = let o = below_map f u.unit.below e h in OldEntry u.unit (in_units 0 units i u nth) o.0 (inr o.1) o.2
 
   from_below : (i : ℕ) (u : FileUnit Spot) → Nth 0 units i u → (e : Node Spot) → (k : Kind Spot) → u.unit.kind ≡ k → (b : Bool) → IsBelow e (kept_below m units b i k u.unit.below) → From e
-  from_below i u nth e Compile kind true h = go (node_from f (kept_row m.gone units i) (imports i 0 parts) (kept_kinded m.gone units i (row_kinded u.file i (language u.unit) [] (unit_row units i u nth kind).first (row_of units i) u.unit.below (unit_row units i u nth kind).is)) e h) where
-    go : NodeFrom f (kept_row m.gone units i) (imports i 0 parts) e → From e
-    go (FromTop names t has d x y) = from_top t (row_top units i t (tops_among (row_of units i) names t ((kept_is m.gone units i names (OfTop t)).0 has).0)).0 d e x y
-    go (FromSpace names d has x) =
-        let r = unit_row units i u nth kind in
-        let under = item_under u.file i (language u.unit) [] r.first (row_of units i) u.unit.below r.is names (OfSpace d) ((kept_is m.gone units i names (OfSpace d)).0 has).0 in
-        OldEntry u.unit (in_units 0 units i u nth) d (inr (under_below names d u.unit.below under)) x
-    go (FromLast z) = from_import i e z
+  from_below i u nth e Compile kind true h = go (node_from f (kept_row m.gone units i) (imports i 0 parts)
+      (kept_kinded m.gone units i (row_kinded u.file i (language u.unit) [] (unit_row units i u nth kind).first (row_of units i) u.unit.below (unit_row units i u nth kind).is)) e h) where
+        go : NodeFrom f (kept_row m.gone units i) (imports i 0 parts) e → From e
+        go (FromTop names t has d x y) = from_top t (row_top units i t (tops_among (row_of units i) names t ((kept_is m.gone units i names (OfTop t)).0 has).0)).0 d e x y
+        go (FromSpace names d has x) =
+            let r = unit_row units i u nth kind in
+            let under = item_under u.file i (language u.unit) [] r.first (row_of units i) u.unit.below r.is names (OfSpace d) ((kept_is m.gone units i names (OfSpace d)).0 has).0 in
+            OldEntry u.unit (in_units 0 units i u nth) d (inr (under_below names d u.unit.below under)) x
+        go (FromLast z) = from_import i e z
   from_below i u nth e Compile kind false h = mapped i u nth e h
   from_below i u nth e (OfType signature main) kind true h = mapped i u nth e h
   from_below i u nth e (OfType signature main) kind false h = mapped i u nth e h
@@ -151,7 +155,8 @@ module _ (units : List (FileUnit Spot)) (m : Move) (old : AreOld units) (held : 
     | inr b ↦ from_kept b.number b.unit b.nth e (subst (IsEntryOf e) (sym b.is) h)
   ]
 
-unit_by : (a b : Spot) (k : Kind Spot) (root : Node Spot) (x y : Entries Spot) → a ≡ b → x ≡ y → (let u : DwUnit Spot = record { at = a; kind = k; root = root; below = x } in let v : DwUnit Spot = record { at = b; kind = k; root = root; below = y } in u ≡ v)
+unit_by : (a b : Spot) (k : Kind Spot) (root : Node Spot) (x y : Entries Spot) → a ≡ b → x ≡ y
+    → (let u : DwUnit Spot = record { at = a; kind = k; root = root; below = x } in let v : DwUnit Spot = record { at = b; kind = k; root = root; below = y } in u ≡ v)
 unit_by a b k root x y p q = cc
 
 -- a type unit is kept with its places replaced

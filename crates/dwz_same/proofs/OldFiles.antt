@@ -1,19 +1,21 @@
 -- The names that stand for the places of several files are as they are asked for.
 use Rattle.std.proofs.Common.{◌≡◌, ℕ, suc, ◌+◌, ◌≤◌, ◌⊎◌, List, [], ◌∷◌, ◌++◌, length, map, refl, sym, ap, subst, ◌∙◌, arith, inl, inr, eq-eqb, append_assoc}
 use Rattle.std.proofs.lemmas.Bool.{ne_eqb}
-use Rattle.std.proofs.lemmas.List.{map-append}
+use Rattle.std.proofs.lemmas.List.{length-append, map-append}
 use Rattle.dwz_meanings.specs.Documents.{Attr, Compile, Doc, DwUnit, Entries, Kind, Node, OfType, Partial, attr_map, entries_map, kind_map, node_map, unit_map}
-use Rattle.dwz_docs.specs.Lists.{In}
+use Rattle.dwz_docs.specs.Lists.{Each, In}
 use Rattle.dwz_docs.specs.Trees.{End, Entry}
-use Rattle.dwz_seen.specs.Lists.{Each, NoneTwice, Nth}
+use Rattle.dwz_docs.proofs.ListFacts.{in_cases, in_left, in_right}
+use Rattle.dwz_seen.specs.Lists.{NoneTwice, Nth}
 use Rattle.dwz_seen.specs.Seen.{Closed, IsShown, Named, Seen, all_seen, named_map, named_value, seen_below, seen_roots}
 use Rattle.dwz_seen.specs.Shown.{AreShown, HaveMains, UnitsShown}
 use Rattle.dwz_seen.proofs.MainLemmas.{mains_map}
-use Rattle.dwz_seen.proofs.Members.{in_cases, in_left, in_right, nth_from}
+use Rattle.dwz_seen.proofs.Members.{nth_from}
 use Rattle.dwz_seen.proofs.ShownLemmas.{closed_shown, map_shown}
 use Rattle.dwz_alike.specs.Spots.{FileUnit, LabelledTop, Row, Spot, Top, in_file, named_files, named_in, row_below, row_from, row_tops, spot_in, spots_from, top_count, tops_among, tops_from, units_of}
 use Rattle.dwz_alike.proofs.NameLists.{count_map, firsts, spots_firsts}
 use Rattle.dwz_alike.proofs.RowLemmas.{behind, row_here, row_later}
+use Rattle.dwz_alike.proofs.TopNumbers.{below_length}
 use Rattle.dwz_same.specs.After.{AreOld, ArePlaced, IsNamedUnit, Place, at_file, name_from, placed_from}
 use Rattle.dwz_same.specs.Images.{units_in}
 use Rattle.dwz_same.proofs.OldNames.{tops_labelled, units_named_at}
@@ -95,7 +97,8 @@ files_tops file unit top (doc ∷ docs) p t h =
           (subst (λ (w : ℕ). In t (tops_from (unit + w) (top + counted own) rest)) (filed_length spots file doc.units) b))
     ]
 
-files_units : (file unit top : ℕ) (docs : List (Doc ℕ)) → ArePlacedAll docs → (i : ℕ) (u : FileUnit Spot) → Nth unit (named_files file unit top docs) i u → IsNamedUnit i (row_from unit top (named_files file unit top docs) i) u.unit
+files_units : (file unit top : ℕ) (docs : List (Doc ℕ)) → ArePlacedAll docs → (i : ℕ) (u : FileUnit Spot) → Nth unit (named_files file unit top docs) i u
+    → IsNamedUnit i (row_from unit top (named_files file unit top docs) i) u.unit
 unfolding named_files
 files_units file unit top [] p i u h = absurd h
 files_units file unit top (doc ∷ docs) p i u h =
@@ -103,7 +106,8 @@ files_units file unit top (doc ∷ docs) p i u h =
     let own = map (in_file file) (named_in spots doc.units) in
     let rest = named_files (suc file) (unit + length doc.units) (top + tops_among doc.units) docs in
     elim (nth_cases unit own rest i u h) [
-      | inl a ↦ subst (λ (w : Row). IsNamedUnit i w u.unit) (sym (row_first unit top own rest i u a)) (units_named_at spots (once_in unit top doc.units p.0) file unit top doc.units p.0.kinds (λ x is. is) i u a)
+      | inl a ↦ subst (λ (w : Row). IsNamedUnit i w u.unit) (sym (row_first unit top own rest i u a))
+          (units_named_at spots (once_in unit top doc.units p.0) file unit top doc.units p.0.kinds (λ x is. is) i u a)
       | inr b ↦
           let long = filed_length spots file doc.units in
           let more = files_units (suc file) (unit + length doc.units) (top + tops_among doc.units) docs p.1 i u (subst (λ (w : ℕ). Nth (unit + w) rest i u) long b) in
@@ -201,7 +205,8 @@ files_old docs p = record {
 
 -- ---- places of several files
 
-names_by : {P Q R : Type 0} (g : P → Q) (h : P → R) (k : Q → R) → ((x : P) → k (g x) ≡ h x) → (attrs : List (Attr P)) → map named_value (map (attr_map h) attrs) ≡ map (named_map k) (map named_value (map (attr_map g) attrs))
+names_by : {P Q R : Type 0} (g : P → Q) (h : P → R) (k : Q → R) → ((x : P) → k (g x) ≡ h x) → (attrs : List (Attr P))
+    → map named_value (map (attr_map h) attrs) ≡ map (named_map k) (map named_value (map (attr_map g) attrs))
 names_by g h k same [] = refl
 names_by {P} {Q} {R} g h k same (a ∷ attrs) =
     ap (λ (w : List R). record { name = a.name; value = record { plain = a.value.plain; refs = w } } ∷ map named_value (map (attr_map h) attrs)) (refs_by a.value.refs)
@@ -228,14 +233,15 @@ units_by : {P Q R : Type 0} (g : P → Q) (h : P → R) (k : Q → R) → ((x : 
 units_by g h k same [] = tt
 units_by g h k same (u ∷ units) = (record { kind = kind_by g h k same u.kind; root = node_by g h k same u.root; below = entries_by g h k same u.below }, units_by g h k same units)
 
-shown_append : {P Q : Type 0} (g : P → Q) (us us' : List (DwUnit P)) (vs vs' : List (DwUnit Q)) → UnitsShown g us vs → UnitsShown g us' vs' → UnitsShown g (us ++ us') (vs ++ vs')
+pub shown_append : {P Q : Type 0} (g : P → Q) (us us' : List (DwUnit P)) (vs vs' : List (DwUnit Q)) → UnitsShown g us vs → UnitsShown g us' vs' → UnitsShown g (us ++ us') (vs ++ vs')
 shown_append g [] us' [] vs' h k = k
 shown_append g (u ∷ us) us' (v ∷ vs) vs' h k = (h.0, shown_append g us us' vs vs' h.1 k)
 shown_append g [] us' (v ∷ vs) vs' h k = absurd h
 shown_append g (u ∷ us) us' [] vs' h k = absurd h
 
 -- a function that gives the places of these files their names shows them
-shown_from : (name : Place → Spot) (file unit top : ℕ) (docs : List (Doc ℕ)) → ((f x : ℕ) → file ≤ f → name (at_file f x) ≡ name_from file unit top docs (at_file f x)) → UnitsShown name (placed_from file docs) (units_in (named_files file unit top docs))
+shown_from : (name : Place → Spot) (file unit top : ℕ) (docs : List (Doc ℕ)) → ((f x : ℕ) → file ≤ f → name (at_file f x) ≡ name_from file unit top docs (at_file f x))
+    → UnitsShown name (placed_from file docs) (units_in (named_files file unit top docs))
 unfolding named_files placed_from name_from
 shown_from name file unit top [] h = tt
 shown_from name file unit top (doc ∷ docs) h =
@@ -243,11 +249,21 @@ shown_from name file unit top (doc ∷ docs) h =
     let named = named_in spots doc.units in
     let rest = named_files (suc file) (unit + length doc.units) (top + tops_among doc.units) docs in
     let here : (f : ℕ) (x : ℕ) → file ≡ f → name_from file unit top (doc ∷ docs) (at_file f x) ≡ spot_in spots x = λ f x e. rw (eq-eqb file f e, name_from) refl in
-    let later : (f : ℕ) (x : ℕ) → (file ≡ f → ⊥) → name_from file unit top (doc ∷ docs) (at_file f x) ≡ name_from (suc file) (unit + length doc.units) (top + tops_among doc.units) docs (at_file f x) = λ f x ne. rw (ne_eqb file f ne, name_from) refl in
-    subst (UnitsShown name (map (unit_map (at_file file)) doc.units ++ placed_from (suc file) docs)) (sym (units_append (map (in_file file) named) rest ∙ ap (λ (w : List (DwUnit Spot)). w ++ units_in rest) (filed_units file named)))
+    let later : (f : ℕ) (x : ℕ) → (file ≡ f → ⊥) → name_from file unit top (doc ∷ docs) (at_file f x) ≡ name_from (suc file) (unit + length doc.units) (top + tops_among doc.units) docs (at_file f x) =
+    λ f x ne. rw (ne_eqb file f ne, name_from) refl in
+    subst (UnitsShown name (map (unit_map (at_file file)) doc.units ++ placed_from (suc file) docs))
+    (sym (units_append (map (in_file file) named) rest ∙ ap (λ (w : List (DwUnit Spot)). w ++ units_in rest) (filed_units file named)))
     (shown_append name (map (unit_map (at_file file)) doc.units) (placed_from (suc file) docs) named (units_in rest)
     (units_by (at_file file) (spot_in spots) name (λ x. h file x (omega arith) ∙ here file x refl) doc.units)
     (shown_from name (suc file) (unit + length doc.units) (top + tops_among doc.units) docs (λ f x le. h f x (omega (arith, le)) ∙ later f x (λ e. omega (arith, e, le)))))
 
 pub files_shown : (docs : List (Doc ℕ)) → UnitsShown (name_from 0 0 0 docs) (placed_from 0 docs) (units_in (units_of docs))
 files_shown docs = shown_from (name_from 0 0 0 docs) 0 0 0 docs (λ f x le. refl)
+
+pub tops_length : (s n : ℕ) (xs : List (FileUnit Spot)) → length (tops_from s n xs) ≡ counted xs
+unfolding tops_from counted
+tops_length s n [] = refl
+tops_length s n (f ∷ xs) =
+    let count = top_count f.unit.kind f.unit.below in
+    let first = row_tops (row_below f.file s n f.unit f.unit.kind) in
+    length-append first (tops_from (suc s) (n + count) xs) ∙ (λ i. below_length f.file s n f.unit f.unit.kind i + tops_length (suc s) (n + count) xs i)

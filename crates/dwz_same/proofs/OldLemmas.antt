@@ -3,9 +3,10 @@ use Rattle.std.proofs.Common.{◌≡◌, ℕ, suc, List, [], ◌∷◌, map, ref
 use Rattle.dwz_meanings.specs.Documents.{Attr, Compile, DwUnit, Entries, Kind, Node, OfType, Partial, attr_map, kind_map, language, node_map, ref}
 use Rattle.dwz_docs.specs.Lists.{In}
 use Rattle.dwz_docs.specs.Trees.{End, Entry}
+use Rattle.dwz_docs.proofs.ListFacts.{in_cases, in_map}
 use Rattle.dwz_seen.specs.Lists.{Nth}
 use Rattle.dwz_seen.specs.Seen.{IsImport, IsPartial, Named, Seen, all_seen, named_value, seen, seen_below, seen_roots}
-use Rattle.dwz_seen.proofs.Members.{in_cases, in_map, in_map_from}
+use Rattle.dwz_seen.proofs.Members.{in_map_from}
 use Rattle.dwz_seen.proofs.SeenLemmas.{root_from, seen_from}
 use Rattle.dwz_seen.proofs.ShownLemmas.{EntryWith}
 use Rattle.dwz_alike.specs.Spots.{FileUnit, Import, InChain, InType, Labelled, LabelledTop, PartialOf, PartialRoot, RootOf, SpaceAt, Spot, Top, UnitOf, Within, row_of}
@@ -113,7 +114,8 @@ first_of_refs f (r ∷ refs) s e = (r, inl refl, cc)
 abbrev named_ref : ℕ → Spot → Named Spot
 named_ref name s = record { name = name; value = ref s }
 
-pub no_partial_root : (units : List (FileUnit Spot)) (old : AreOld units) (stand : ℕ → ℕ) (attrs : List (Attr Spot)) → EntryWith (units_in units) attrs → (n : ℕ) → In (record { name = 0x18; value = ref (PartialRoot n) }) (map named_value (map (attr_map (image_by stand)) attrs)) → ⊥
+pub no_partial_root : (units : List (FileUnit Spot)) (old : AreOld units) (stand : ℕ → ℕ) (attrs : List (Attr Spot)) → EntryWith (units_in units) attrs → (n : ℕ)
+    → In (record { name = 0x18; value = ref (PartialRoot n) }) (map named_value (map (attr_map (image_by stand)) attrs)) → ⊥
 no_partial_root units old stand attrs o n is =
     let f = image_by stand in
     let x = in_map_from named_value (named_ref 0x18 (PartialRoot n)) (map (attr_map f) attrs) is in
@@ -137,10 +139,12 @@ module _ (units : List (FileUnit Spot)) (old : AreOld units) (m : Move) (outs : 
   pub partial_is_new : (v : DwUnit Spot) → In v outs → IsPartial v.kind → IsNewUnit m v
   partial_is_new v there partial = elim (after.from v there) [
     | inl a ↦ a
-    | inr b ↦ absurd (kept_kind (m.stand) units b.number b.unit.unit.kind b.unit.unit.below (old.units_named b.number b.unit b.nth).below (subst (λ (w : DwUnit Spot). IsPartial w.kind) (sym b.is) partial))
+    | inr b ↦ absurd (kept_kind (m.stand) units b.number b.unit.unit.kind b.unit.unit.below (old.units_named b.number b.unit b.nth).below
+        (subst (λ (w : DwUnit Spot). IsPartial w.kind) (sym b.is) partial))
   ]
 
   pub no_import : (e : Node Spot) → EntryWith (units_in units) e.attrs → (v : DwUnit Spot) → IsImport outs (node_map (image_in m) e) v → ⊥
   no_import e o v is =
       let n = partial_is_new v is.unit is.partial in
-      no_partial_root units old (m.stand) e.attrs o n.number (subst (λ (w : DwUnit Spot). In (record { name = 0x18; value = ref w.root.at }) (map named_value (map (attr_map (image_in m)) e.attrs))) (sym n.is) is.names)
+      no_partial_root units old (m.stand) e.attrs o n.number (subst (λ (w : DwUnit Spot). In (record { name = 0x18; value = ref w.root.at }) (map named_value (map (attr_map (image_in m)) e.attrs)))
+      (sym n.is) is.names)

@@ -4,9 +4,9 @@ use Rattle.std.proofs.lemmas.List.{map-append}
 use Rattle.dwz_meanings.specs.Documents.{Attr, Entries, Node, first_named}
 use Rattle.dwz_docs.specs.Lists.{In}
 use Rattle.dwz_docs.specs.Trees.{End, Entry}
+use Rattle.dwz_docs.proofs.ListFacts.{in_cases, in_left, in_right}
 use Rattle.dwz_seen.specs.Seen.{Seen, see, seen, seen_tops}
 use Rattle.dwz_seen.specs.Spaces.{IsUnder, space_text, tops_under}
-use Rattle.dwz_seen.proofs.Members.{in_cases, in_left, in_right}
 use Rattle.dwz_seen.proofs.SpaceLemmas.{some_none}
 use Rattle.dwz_alike.specs.Spots.{ASpace, ATop, LabelledSpaces, Nothing, Row, SpaceAt, SpaceName, Spot, Top, name_by, name_list, name_of, row_tops}
 use Rattle.dwz_alike.proofs.RowLemmas.{RowIs, top_at}
@@ -66,7 +66,8 @@ tops_among (ASpace e inner next) names t (inr (inl i)) = in_left t (row_tops inn
 tops_among (ASpace e inner next) names t (inr (inr y)) = in_right t (row_tops inner) (row_tops next) (tops_among next names t y)
 
 -- each list of names before the one of a top is that of a space
-pub space_before : (row : Row) (outer : List (List ℕ)) (text : List ℕ) (others : List (List ℕ)) (x : Item) → Has (outer ++ text ∷ others) x row → (d : Node Spot) × Has outer (OfSpace d) row × (space_text d ≡ Some text)
+pub space_before : (row : Row) (outer : List (List ℕ)) (text : List ℕ) (others : List (List ℕ)) (x : Item) → Has (outer ++ text ∷ others) x row
+    → (d : Node Spot) × Has outer (OfSpace d) row × (space_text d ≡ Some text)
 space_before Nothing outer text others x h = absurd h
 space_before (ATop t next) outer text others x (inl y) = absurd (none_there outer text others y.0) where
   none_there : (xs : List (List ℕ)) (y : List ℕ) (ys : List (List ℕ)) → xs ++ y ∷ ys ≡ [] → ⊥
@@ -86,7 +87,8 @@ space_before (ASpace e inner next) (a ∷ outer) text others x (inr (inr y)) = l
 
 -- ---- spaces are at their own names
 
-pub space_place : (unit : ℕ) (path : List ℕ) (i : ℕ) (row : Row) → LabelledSpaces unit path i row → (names : List (List ℕ)) (d : Node Spot) → Has names (OfSpace d) row → (p : List ℕ) × (d.at ≡ SpaceAt unit p)
+pub space_place : (unit : ℕ) (path : List ℕ) (i : ℕ) (row : Row) → LabelledSpaces unit path i row → (names : List (List ℕ)) (d : Node Spot) → Has names (OfSpace d) row
+    → (p : List ℕ) × (d.at ≡ SpaceAt unit p)
 space_place unit path i Nothing l names d h = absurd h
 space_place unit path i (ATop t next) l names d (inl y) = absurd (let z = y.1 in cc)
 space_place unit path i (ATop t next) l names d (inr y) = space_place unit path (suc i) next l names d y
@@ -117,7 +119,8 @@ module _ (file unit : ℕ) (tongue : Option ℤ) where
     pub has : Has names item row
     pub is : node_of item ≡ e
 
-  pub item_of : (spaces : List SpaceName) (n : ℕ) (row : Row) (f : Entries Spot) → RowIs file unit tongue spaces n row f → (names : List (List ℕ)) (e : Node Spot) → IsUnder names e f → IsItem row names e
+  pub item_of : (spaces : List SpaceName) (n : ℕ) (row : Row) (f : Entries Spot) → RowIs file unit tongue spaces n row f → (names : List (List ℕ)) (e : Node Spot) → IsUnder names e f
+      → IsItem row names e
   item_of spaces n Nothing End h names e u = absurd u
   item_of spaces n (ATop t row) (Entry d f g) h names e (inl y) = record { item = OfTop t; has = inl (y.0, refl); is = ap (λ (w : Top). w.node) (sym h.1) ∙ y.1 }
   item_of spaces n (ATop t row) (Entry d f g) h names e (inr (inl i)) = some_none (space_text d) i.0 i.2 h.0
@@ -132,18 +135,21 @@ module _ (file unit : ℕ) (tongue : Option ℤ) where
   item_of spaces n (ATop t row) End h names e u = absurd h
   item_of spaces n (ASpace d inner row) End h names e u = absurd h
 
-  pub item_under : (spaces : List SpaceName) (n : ℕ) (row : Row) (f : Entries Spot) → RowIs file unit tongue spaces n row f → (names : List (List ℕ)) (x : Item) → Has names x row → IsUnder names (node_of x) f
+  pub item_under : (spaces : List SpaceName) (n : ℕ) (row : Row) (f : Entries Spot) → RowIs file unit tongue spaces n row f → (names : List (List ℕ)) (x : Item) → Has names x row
+      → IsUnder names (node_of x) f
   item_under spaces n Nothing f h names x u = absurd u
   item_under spaces n (ATop t row) (Entry d f g) h names x (inl y) = inl (y.0, ap (λ (w : Top). w.node) h.1 ∙ ap node_of y.1)
   item_under spaces n (ATop t row) (Entry d f g) h names x (inr y) = inr (inr (item_under spaces (suc n) row g h.2 names x y))
   item_under spaces n (ASpace d' inner row) (Entry d f g) h names x (inl y) = inl (y.0, h.2 ∙ ap node_of y.1)
-  item_under spaces n (ASpace d' inner row) (Entry d f g) h names x (inr (inl i)) = inr (inl (i.0, i.1, ap space_text h.2 ∙ i.2, i.3, item_under (spaces ++ name_of h.0 d ∷ []) n inner f h.3 i.1 x i.4))
+  item_under spaces n (ASpace d' inner row) (Entry d f g) h names x (inr (inl i)) =
+      inr (inl (i.0, i.1, ap space_text h.2 ∙ i.2, i.3, item_under (spaces ++ name_of h.0 d ∷ []) n inner f h.3 i.1 x i.4))
   item_under spaces n (ASpace d' inner row) (Entry d f g) h names x (inr (inr y)) = inr (inr (item_under spaces (n + tops_under f) row g h.4 names x y))
   item_under spaces n (ATop t row) End h names x u = absurd h
   item_under spaces n (ASpace d inner row) End h names x u = absurd h
 
   -- a top's name list is that of the spaces that it stands in
-  pub top_names : (spaces : List SpaceName) (n : ℕ) (row : Row) (f : Entries Spot) → RowIs file unit tongue spaces n row f → (names : List (List ℕ)) (t : Top) → Has names (OfTop t) row → name_list t ≡ texts spaces ++ names
+  pub top_names : (spaces : List SpaceName) (n : ℕ) (row : Row) (f : Entries Spot) → RowIs file unit tongue spaces n row f → (names : List (List ℕ)) (t : Top) → Has names (OfTop t) row
+      → name_list t ≡ texts spaces ++ names
   top_names spaces n Nothing f h names t u = absurd u
   top_names spaces n (ATop v row) (Entry d f g) h names t (inl y) =
       ap name_list (sym (h.1 ∙ top_item v t y.1)) ∙ sym (nil_right (texts spaces)) ∙ ap (λ (w : List (List ℕ)). texts spaces ++ w) (sym y.0)
@@ -176,16 +182,18 @@ module _ (file unit : ℕ) (tongue : Option ℤ) where
   pub seen_in_top : (spaces : List SpaceName) (n : ℕ) (row : Row) (f : Entries Spot) → RowIs file unit tongue spaces n row f → (e : Seen Spot) → In e (seen_tops f) → SeenIn row e
   unfolding seen_tops row_tops
   seen_in_top spaces n Nothing End h e is = absurd is
-  seen_in_top spaces n (ATop t row) (Entry d f g) h e is = pick (seen_in_top spaces (suc n) row g h.2 e) (subst (λ (o : Option (List ℕ)). In e (elim o as (λ _. List (Seen Spot)) [ None ↦ see d f ∷ (seen f ++ seen_tops g) | Some text ↦ seen_tops f ++ seen_tops g ])) h.0 is) where
-    here : In e (raw_top (top_at file unit tongue spaces n d f)) → SeenIn (ATop t row) e
-    here x = record { top = t; there = inl refl; is = subst (λ (w : Top). In e (raw_top w)) h.1 x }
+  seen_in_top spaces n (ATop t row) (Entry d f g) h e is = pick (seen_in_top spaces (suc n) row g h.2 e)
+      (subst (λ (o : Option (List ℕ)). In e (elim o as (λ _. List (Seen Spot)) [ None ↦ see d f ∷ (seen f ++ seen_tops g) | Some text ↦ seen_tops f ++ seen_tops g ])) h.0 is) where
+        here : In e (raw_top (top_at file unit tongue spaces n d f)) → SeenIn (ATop t row) e
+        here x = record { top = t; there = inl refl; is = subst (λ (w : Top). In e (raw_top w)) h.1 x }
 
-    pick : (In e (seen_tops g) → SeenIn row e) → In e (see d f ∷ (seen f ++ seen_tops g)) → SeenIn (ATop t row) e
-    pick more (inl x) = here (inl x)
-    pick more (inr r) = elim (in_cases e (seen f) (seen_tops g) r) [ inl a ↦ here (inr a) | inr b ↦ (let o = more b in record { top = o.top; there = inr o.there; is = o.is }) ]
+        pick : (In e (seen_tops g) → SeenIn row e) → In e (see d f ∷ (seen f ++ seen_tops g)) → SeenIn (ATop t row) e
+        pick more (inl x) = here (inl x)
+        pick more (inr r) = elim (in_cases e (seen f) (seen_tops g) r) [ inl a ↦ here (inr a) | inr b ↦ (let o = more b in record { top = o.top; there = inr o.there; is = o.is }) ]
   seen_in_top spaces n (ASpace d' inner row) (Entry d f g) h e is =
       pick (seen_in_top (spaces ++ name_of h.0 d ∷ []) n inner f h.3 e) (seen_in_top spaces (n + tops_under f) row g h.4 e)
-      (in_cases e (seen_tops f) (seen_tops g) (subst (λ (o : Option (List ℕ)). In e (elim o as (λ _. List (Seen Spot)) [ None ↦ see d f ∷ (seen f ++ seen_tops g) | Some text ↦ seen_tops f ++ seen_tops g ])) h.1 is))
+      (in_cases e (seen_tops f) (seen_tops g) (subst (λ (o : Option (List ℕ)). In e
+      (elim o as (λ _. List (Seen Spot)) [ None ↦ see d f ∷ (seen f ++ seen_tops g) | Some text ↦ seen_tops f ++ seen_tops g ])) h.1 is))
     where
       pick : (In e (seen_tops f) → SeenIn inner e) → (In e (seen_tops g) → SeenIn row e) → In e (seen_tops f) ⊎ In e (seen_tops g) → SeenIn (ASpace d' inner row) e
       pick a b (inl x) = let o = a x in record { top = o.top; there = in_left o.top (row_tops inner) (row_tops row) o.there; is = o.is }
@@ -194,7 +202,8 @@ module _ (file unit : ℕ) (tongue : Option ℤ) where
   seen_in_top spaces n (ATop t row) End h e is = absurd h
   seen_in_top spaces n (ASpace d inner row) End h e is = absurd h
 
-  pub raw_seen : (spaces : List SpaceName) (n : ℕ) (row : Row) (f : Entries Spot) → RowIs file unit tongue spaces n row f → (t : Top) → In t (row_tops row) → (e : Seen Spot) → In e (raw_top t) → In e (seen f)
+  pub raw_seen : (spaces : List SpaceName) (n : ℕ) (row : Row) (f : Entries Spot) → RowIs file unit tongue spaces n row f → (t : Top) → In t (row_tops row) → (e : Seen Spot) → In e (raw_top t)
+      → In e (seen f)
   unfolding row_tops seen
   raw_seen spaces n Nothing f h t is e x = absurd is
   raw_seen spaces n (ATop u row) (Entry d f g) h t (inl y) e x = in_left e (see d f ∷ seen f) (seen g) (subst (λ (w : Top). In e (raw_top w)) (sym (h.1 ∙ y)) x)
@@ -202,7 +211,8 @@ module _ (file unit : ℕ) (tongue : Option ℤ) where
   raw_seen spaces n (ASpace d' inner row) (Entry d f g) h t is e x =
       pick (raw_seen (spaces ++ name_of h.0 d ∷ []) n inner f h.3 t) (raw_seen spaces (n + tops_under f) row g h.4 t) (in_cases t (row_tops inner) (row_tops row) is)
     where
-      pick : (In t (row_tops inner) → (e : Seen Spot) → In e (raw_top t) → In e (seen f)) → (In t (row_tops row) → (e : Seen Spot) → In e (raw_top t) → In e (seen g)) → In t (row_tops inner) ⊎ In t (row_tops row) → In e (see d f ∷ (seen f ++ seen g))
+      pick : (In t (row_tops inner) → (e : Seen Spot) → In e (raw_top t) → In e (seen f)) → (In t (row_tops row) → (e : Seen Spot) → In e (raw_top t) → In e (seen g))
+          → In t (row_tops inner) ⊎ In t (row_tops row) → In e (see d f ∷ (seen f ++ seen g))
       pick a b (inl y) = inr (in_left e (seen f) (seen g) (a y e x))
       pick a b (inr y) = inr (in_right e (seen f) (seen g) (b y e x))
   raw_seen spaces n (ATop u row) End h t is e x = absurd h

@@ -1,7 +1,7 @@
 -- Which entries have one image.
 use Rattle.std.proofs.Common.{◌≡◌, ℕ, ◌⊎◌, Bool, true, false, List, refl, sym, ap, ◌∙◌, inl, inr}
 use Rattle.dwz_docs.specs.Lists.{In}
-use Rattle.dwz_alike.specs.Alike.{IsAlike, Scope}
+use Rattle.dwz_alike.specs.Alike.{IsAlike, TopScope}
 use Rattle.dwz_alike.specs.Spots.{FileUnit, Spot, Top, Within, tops_of}
 use Rattle.dwz_alike.proofs.AlikePer.{scope_file}
 use Rattle.dwz_alike.proofs.Tops.{one_file, one_top}
@@ -38,7 +38,8 @@ stands_tell units rule fair a b x y e = go (moves rule units a.number) (moves ru
       absurd (let z : rule.alike b.number a.number ≡ true = ap (rule.alike b.number) (sym same) ∙ r.alike_is in let h = moves_same units rule fair b.number a.number z in cc)
   go false false p q = inl (sym (stay_fixed units rule a.number p) ∙ e ∙ stay_fixed units rule b.number q)
 
-pub one_image : (scope : Scope) (units : List (FileUnit Spot)) (rule : Rule) → IsAlike scope units rule.alike → IsChoice units rule → OneImage scope units (λ n. moves rule units n ≡ true) (image rule units)
+pub one_image : (scope : TopScope) (units : List (FileUnit Spot)) (rule : Rule) → IsAlike scope units rule.alike → IsChoice units rule
+    → OneImage scope units (λ n. moves rule units n ≡ true) (image rule units)
 one_image scope units rule is choice =
     let fair_is = fair scope units rule is choice in
     let stand = stand_in rule units in
@@ -82,8 +83,9 @@ alone_names units rule = λ d e x y h same. alone_image (stand_in rule units) d.
 -- ---- with other places
 
 -- where the images of entries have different places
-pub one_placed : {K P : Type 0} (scope : Scope) (units : List (FileUnit Spot)) (moving : ℕ → Type 0) (f : Spot → K) (g : K → P)
-    → ((d e : Seen Spot) → In d (all_seen (units_in units)) → In e (all_seen (units_in units)) → g (f d.at) ≡ g (f e.at) → f d.at ≡ f e.at) → OneImage scope units moving f → OneImage scope units moving (λ s. g (f s))
+pub one_placed : {K P : Type 0} (scope : TopScope) (units : List (FileUnit Spot)) (moving : ℕ → Type 0) (f : Spot → K) (g : K → P)
+    → ((d e : Seen Spot) → In d (all_seen (units_in units)) → In e (all_seen (units_in units)) → g (f d.at) ≡ g (f e.at) → f d.at ≡ f e.at) → OneImage scope units moving f
+    → OneImage scope units moving (λ s. g (f s))
 one_placed {K} {P} scope units moving f g one h =
     let back : (a b : Top) (p q : List ℕ) → IsEntry units a p → IsEntry units b q → g (f (Within a.number p)) ≡ g (f (Within b.number q)) → f (Within a.number p) ≡ f (Within b.number q) =
     λ a b p q x y e. ap f (sym x.2) ∙ one x.0 y.0 x.1 y.1 (ap (λ (s : Spot). g (f s)) x.2 ∙ e ∙ ap (λ (s : Spot). g (f s)) (sym y.2)) ∙ ap f y.2 in

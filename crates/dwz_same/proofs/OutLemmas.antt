@@ -2,8 +2,9 @@
 use Rattle.std.proofs.Common.{◌≡◌, ℕ, suc, ◌⊎◌, ◌==◌, Bool, true, false, List, [], ◌∷◌, refl, sym, ap, subst, ◌∙◌, inl, inr, eq-eqb}
 use Rattle.dwz_meanings.specs.Documents.{DwUnit}
 use Rattle.dwz_docs.specs.Lists.{In}
+use Rattle.dwz_docs.proofs.ListFacts.{in_cases, in_left, in_right}
 use Rattle.dwz_seen.specs.Lists.{Nth}
-use Rattle.dwz_seen.proofs.Members.{each_in, in_cases, in_left, in_right, nth_in}
+use Rattle.dwz_seen.proofs.Members.{each_in, nth_in}
 use Rattle.dwz_alike.specs.Spots.{FileUnit, Spot}
 use Rattle.dwz_moving.specs.Homes.{Common, Home, Local, Rule, Stay, is_home, same_home}
 use Rattle.dwz_moving.specs.IsPlan.{IsPart}
@@ -67,7 +68,8 @@ module _ (m : Move) (units : List (FileUnit Spot)) where
   kept_from file s [] v is = absurd is
   kept_from file s (f ∷ some) v is = go (kept_from file (suc s) some v) (f.file == file) is where
     go : (In v (kept_units m units file (suc s) some) → KeptFrom m units (suc s) some v) → (b : Bool)
-        → In v (elim b as (λ _. List (DwUnit Spot)) [ true ↦ kept_unit m units s f ∷ kept_units m units file (suc s) some | false ↦ kept_units m units file (suc s) some ]) → KeptFrom m units s (f ∷ some) v
+        → In v (elim b as (λ _. List (DwUnit Spot)) [ true ↦ kept_unit m units s f ∷ kept_units m units file (suc s) some | false ↦ kept_units m units file (suc s) some ])
+        → KeptFrom m units s (f ∷ some) v
     go more true (inl x) = record { number = s; unit = f; nth = inl (refl, refl); is = x }
     go more true (inr r) = let o = more r in record { number = o.number; unit = o.unit; nth = inr o.nth; is = o.is }
     go more false r = let o = more r in record { number = o.number; unit = o.unit; nth = inr o.nth; is = o.is }
@@ -99,7 +101,8 @@ module _ (m : Move) (units : List (FileUnit Spot)) where
     | inr b ↦ (let o = file_from_units some v b in record { file = o.file; there = inr o.there; is = o.is })
   ]
 
-  new_in : (files : List ℕ) (n : ℕ) (part : PartialUnit) → Nth 0 m.parts n part → (h : Home) → part.home ≡ h → is_home h ≡ true → ((file : ℕ) → h ≡ Local file → In file files) → In (partial_unit m n) (all_units m units files)
+  new_in : (files : List ℕ) (n : ℕ) (part : PartialUnit) → Nth 0 m.parts n part → (h : Home) → part.home ≡ h → is_home h ≡ true → ((file : ℕ) → h ≡ Local file → In file files)
+      → In (partial_unit m n) (all_units m units files)
   unfolding common_units out_units
   new_in files n part nth Common e moving known = in_left (partial_unit m n) (common_units m) (file_units m units files) (part_nth Common 0 m.parts n part nth e)
   new_in files n part nth (Local file) e moving known =
@@ -140,9 +143,11 @@ local_file rule units files part file is e = elim (in_cases part (partials_at ru
 ]
 
 -- the units of the common file and of all files are all that stand after
-pub all_outs : (units : List (FileUnit Spot)) (rule : Rule) (files : List ℕ) → ((i : ℕ) (u : FileUnit Spot) → Nth 0 units i u → In u.file files) → AreAfter (plan rule units files) units (all_units (plan rule units files) units files)
+pub all_outs : (units : List (FileUnit Spot)) (rule : Rule) (files : List ℕ) → ((i : ℕ) (u : FileUnit Spot) → Nth 0 units i u → In u.file files)
+    → AreAfter (plan rule units files) units (all_units (plan rule units files) units files)
 all_outs units rule files known = record {
-  new = λ n part nth. new_in (plan rule units files) units files n part nth part.home refl (each_in (IsPart rule units) part (partials rule units files) (are_parts rule units files) (nth_in 0 (partials rule units files) n part nth)).moves
+  new = λ n part nth. new_in (plan rule units files) units files n part nth part.home refl
+      (each_in (IsPart rule units) part (partials rule units files) (are_parts rule units files) (nth_in 0 (partials rule units files) n part nth)).moves
       (λ file e. local_file rule units files part file (nth_in 0 (partials rule units files) n part nth) e);
   kept = λ i u nth. kept_in (plan rule units files) units files i u nth (known i u nth);
   from = unit_from (plan rule units files) units files;

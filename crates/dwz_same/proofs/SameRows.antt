@@ -9,19 +9,22 @@ use Rattle.dwz_docs.specs.Trees.{End, Entry}
 use Rattle.dwz_docs.specs.Values.{value_bytes}
 use Rattle.dwz_seen.specs.Seen.{seen}
 use Rattle.dwz_seen.specs.Spaces.{space_text, tops_under}
-use Rattle.dwz_alike.specs.Alike.{Apart, Scope, Together, any_entry, is_addressed, unit_in}
+use Rattle.dwz_alike.specs.Alike.{Apart, TopScope, Together, any_entry, is_addressed, unit_in}
 use Rattle.dwz_alike.specs.Deciding.{alike_test, bound_test, look_test, same_by, same_entries, same_int, same_part, same_plain, top_in}
-use Rattle.dwz_alike.specs.Spots.{FileUnit, Import, InChain, PartialOf, SpaceAt, Spot, UnitOf, Within, entry_spots, named_files, row_from, row_in, row_tops, same_numbers, same_spot, spot_in, spots_from, top_spots, tops_among, tops_from}
+use Rattle.dwz_alike.specs.Spots.{FileUnit, Import, InChain, PartialOf, SpaceAt, Spot, UnitOf, Within, entry_spots, named_files, row_from, row_in, row_tops, same_numbers, same_spot, spot_in}
+use Rattle.dwz_alike.specs.Spots.{spots_from, top_spots, tops_among, tops_from}
 use Rattle.dwz_moving.specs.Gain.{attrs_weight, bare_bytes, entries_weight, gain_rule, gain_test, gains_test, group_weight, weights}
 use Rattle.dwz_moving.specs.Homes.{candidate, file_of, first_alike, home, numbers_from, users}
 use Rattle.dwz_moving.specs.Moves.{Move, line_attrs, part_at, plan, root_of}
-use Rattle.dwz_moving.specs.Plan.{beside, chain_down, chains, distinct, imports, is_pinned, is_pinned_at, joined_parts, leading, local_partials, partials, partials_at, representatives, row_part, row_pinned, row_staying, stand_in, top_row, uleb_targets}
+use Rattle.dwz_moving.specs.Plan.{beside, chain_down, chains, distinct, imports, is_pinned, is_pinned_at, joined_parts, leading, local_partials, partials, partials_at, representatives, row_part}
+use Rattle.dwz_moving.specs.Plan.{row_pinned, row_staying, stand_in, top_row, uleb_targets}
 use Rattle.dwz_same.specs.Units.{changes, common_units, kept_units, out_units, partial_units, tree}
-use Rattle.dwz_alike.proofs.SmallDocs.{carried, cycles, entry, files_of, int_type, ints, listed, long_type, one, pinned, short_type, space, spaces, then, twice_in_a_unit, two_lists_of_users, unit, unspecified}
+use Rattle.dwz_alike.proofs.SmallDocs.{carried, cycles, entry, files_of, int_type, ints, listed, long_type, one, pinned, short_type, space, spaces, then, twice_in_a_unit, two_lists_of_users, unit}
+use Rattle.dwz_alike.proofs.SmallDocs.{unspecified}
 
 -- ---- what is computed
 
-abbrev move_in : Scope → List (FileUnit Spot) → Move
+abbrev move_in : TopScope → List (FileUnit Spot) → Move
 move_in scope units = plan (gain_rule (alike_test scope units) units) units (0 ∷ 1 ∷ [])
 
 -- where each unit stands, and each entry below its root
@@ -29,8 +32,12 @@ abbrev shown : List (DwUnit Spot) → List (Spot × List Spot)
 shown units = map {B = Spot × List Spot} (λ v. (v.at, map (λ e. e.at) (seen v.below))) units
 
 -- the units of a file, and of the common one
-after : Scope → List (FileUnit Spot) → ℕ → List (Spot × List Spot)
-unfolding entries_map first_named has any_entry unit_in alike_test bound_test look_test same_by same_entries same_int same_part same_plain top_in entry_spots named_files tops_under space_text same_numbers same_spot spot_in spots_from top_spots tops_among tops_from row_from row_in row_tops is_addressed candidate file_of first_alike home numbers_from users attrs_weight bare_bytes entries_weight gain_test gains_test group_weight weights value_bytes form_rows le_bytes padded groups_in seen line_attrs part_at root_of beside chain_down chains distinct imports is_pinned is_pinned_at joined_parts leading local_partials partials partials_at representatives row_part row_pinned row_staying stand_in top_row uleb_targets changes common_units kept_units out_units partial_units tree
+after : TopScope → List (FileUnit Spot) → ℕ → List (Spot × List Spot)
+unfolding entries_map first_named has any_entry unit_in alike_test bound_test look_test same_by same_entries same_int same_part same_plain top_in entry_spots named_files tops_under space_text
+    same_numbers same_spot spot_in spots_from top_spots tops_among tops_from row_from row_in row_tops is_addressed candidate file_of first_alike home numbers_from users attrs_weight bare_bytes
+    entries_weight gain_test gains_test group_weight weights value_bytes form_rows le_bytes padded groups_in seen line_attrs part_at root_of beside chain_down chains distinct imports is_pinned
+    is_pinned_at joined_parts leading local_partials partials partials_at representatives row_part row_pinned row_staying stand_in top_row uleb_targets changes common_units kept_units out_units
+    partial_units tree
 after scope units file = shown (out_units (move_in scope units) units file)
 
 common : List (FileUnit Spot) → List (Spot × List Spot)

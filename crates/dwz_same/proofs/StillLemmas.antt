@@ -1,15 +1,19 @@
 -- A file of which nothing moves has its units as they were.
-use Rattle.std.proofs.Common.{◌≡◌, ℕ, ℤ, suc, ◌+◌, ◌⊎◌, ◌==◌, cond, Bool, true, false, List, [], ◌∷◌, ◌++◌, Option, Some, None, length, map, refl, sym, ap, subst, ◌∙◌, arith, inl, inr, eqb-true, eq-eqb, append_assoc}
+use Rattle.std.proofs.Common.{◌≡◌, ℕ, ℤ, suc, ◌+◌, ◌⊎◌, ◌==◌, cond, Bool, true, false, List, [], ◌∷◌, ◌++◌, Option, Some, None, length, map, refl, sym, ap, subst, ◌∙◌, arith, inl, inr, eqb-true}
+use Rattle.std.proofs.Common.{eq-eqb, append_assoc}
 use Rattle.std.proofs.lemmas.List.{map-append}
 use Rattle.std.specs.List.{filter}
 use Rattle.dwz_meanings.specs.Documents.{Attr, Compile, Doc, DwUnit, Entries, Kind, Node, OfType, Partial, attr_map, entries_map, kind_map, language, node_map, unit_map}
 use Rattle.dwz_docs.specs.Lists.{In}
 use Rattle.dwz_docs.specs.Trees.{End, Entry}
+use Rattle.dwz_docs.proofs.ListFacts.{in_cases, in_left, in_right}
 use Rattle.dwz_seen.specs.Spaces.{space_text, tops_under}
-use Rattle.dwz_seen.proofs.Members.{each_in, in_cases, in_left, in_right}
+use Rattle.dwz_seen.proofs.Members.{each_in}
 use Rattle.dwz_seen.proofs.SpaceLemmas.{text_map, under_count}
-use Rattle.dwz_alike.specs.Alike.{IsAlike, Scope}
-use Rattle.dwz_alike.specs.Spots.{ASpace, ATop, FileUnit, InChain, InType, Import, Nothing, PartialOf, PartialRoot, RootOf, Row, SpaceAt, SpaceName, Spot, Top, UnitOf, Within, below_spots, entry_spots, in_file, name_of, named_files, named_in, row_below, row_in, row_tops, spot_in, spots_from, top_count, top_spots, tops_among, tops_from, tops_of, units_of}
+use Rattle.dwz_alike.specs.Alike.{IsAlike, TopScope}
+use Rattle.dwz_alike.specs.Spots.{ASpace, ATop, FileUnit, InChain, InType, Import, Nothing, PartialOf, PartialRoot, RootOf, Row, SpaceAt, SpaceName, Spot, Top, UnitOf, Within, below_spots}
+use Rattle.dwz_alike.specs.Spots.{entry_spots, in_file, name_of, named_files, named_in, row_below, row_in, row_tops, spot_in, spots_from, top_count, top_spots, tops_among, tops_from, tops_of}
+use Rattle.dwz_alike.specs.Spots.{units_of}
 use Rattle.dwz_alike.proofs.RowLemmas.{RowIs, row_is}
 use Rattle.dwz_moving.specs.Homes.{Home, IsChoice, Local, Rule, Stay, candidate, home, is_home, moves, same_home, users}
 use Rattle.dwz_moving.specs.IsPlan.{IsHome, IsPart}
@@ -45,7 +49,8 @@ entry_names name path i (Entry e f k) x (inr r) = elim (in_cases x (entry_spots 
 ]
 
 module _ (g : ℕ → Spot) (file : ℕ) where
-  row_names : (unit : ℕ) (tongue : Option ℤ) (spaces : List SpaceName) (n : ℕ) (row : Row) (f : Entries ℕ) → RowIs file unit tongue spaces n row (entries_map g f) → (path : List ℕ) (i : ℕ) (x : ℕ × Spot) → In x (top_spots unit path i n f) → OfTops file (row_tops row) x.1
+  row_names : (unit : ℕ) (tongue : Option ℤ) (spaces : List SpaceName) (n : ℕ) (row : Row) (f : Entries ℕ) → RowIs file unit tongue spaces n row (entries_map g f)
+      → (path : List ℕ) (i : ℕ) (x : ℕ × Spot) → In x (top_spots unit path i n f) → OfTops file (row_tops row) x.1
   unfolding entries_map row_tops top_spots
   row_names unit tongue spaces n Nothing End h path i x is = absurd is
   row_names unit tongue spaces n (ATop u row) (Entry e f k) h path i x is =
@@ -109,7 +114,8 @@ found : (xs : List (ℕ × Spot)) (p : ℕ) → (spot_in xs p ≡ UnitOf 0) ⊎ 
 unfolding spot_in
 found [] p = inl refl
 found (x ∷ xs) p = go (x.0 == p) (found xs p) where
-  go : (b : Bool) → (spot_in xs p ≡ UnitOf 0) ⊎ ((y : ℕ × Spot) × In y xs × (y.1 ≡ spot_in xs p)) → (let s : Spot = elim b as (λ _. Spot) [ true ↦ x.1 | false ↦ spot_in xs p ] in (s ≡ UnitOf 0) ⊎ ((y : ℕ × Spot) × In y (x ∷ xs) × (y.1 ≡ s)))
+  go : (b : Bool) → (spot_in xs p ≡ UnitOf 0) ⊎ ((y : ℕ × Spot) × In y xs × (y.1 ≡ spot_in xs p))
+      → (let s : Spot = elim b as (λ _. Spot) [ true ↦ x.1 | false ↦ spot_in xs p ] in (s ≡ UnitOf 0) ⊎ ((y : ℕ × Spot) × In y (x ∷ xs) × (y.1 ≡ s)))
   go true more = inr (x, inl refl, refl)
   go false (inl e) = inl e
   go false (inr o) = inr (o.0, inr o.1, o.2)
@@ -145,12 +151,14 @@ module _ (f : Spot → Spot) (g : ℕ → Spot) (fixed : (x : ℕ) → f (g x) �
   attrs_fixed : (attrs : List (Attr ℕ)) → map (attr_map f) (map (attr_map g) attrs) ≡ map (attr_map g) attrs
   attrs_fixed [] = refl
   attrs_fixed (a ∷ attrs) =
-      ap (λ (w : List Spot). record { name = a.name; form = a.form; raw = a.raw; value = record { plain = a.value.plain; refs = w } } ∷ map (attr_map f) (map (attr_map g) attrs)) (refs_fixed a.value.refs)
+      ap (λ (w : List Spot). record { name = a.name; form = a.form; raw = a.raw; value = record { plain = a.value.plain; refs = w } } ∷ map (attr_map f) (map (attr_map g) attrs))
+      (refs_fixed a.value.refs)
       ∙ ap (λ (w : List (Attr Spot)). attr_map g a ∷ w) (attrs_fixed attrs)
 
   node_fixed : (e : Node ℕ) → node_map f (node_map g e) ≡ node_map g e
   node_fixed e = node_by (f (g e.at)) (g e.at) (map (attr_map f) (map (attr_map g) e.attrs)) (map (attr_map g) e.attrs) (fixed e.at) (attrs_fixed e.attrs) where
-    node_by : (a b : Spot) (x y : List (Attr Spot)) → a ≡ b → x ≡ y → (let c : Node Spot = record { at = a; tag = e.tag; attrs = x } in let d : Node Spot = record { at = b; tag = e.tag; attrs = y } in c ≡ d)
+    node_by : (a b : Spot) (x y : List (Attr Spot)) → a ≡ b → x ≡ y → (let c : Node Spot = record { at = a; tag = e.tag; attrs = x } in let d : Node Spot =
+        record { at = b; tag = e.tag; attrs = y } in c ≡ d)
     node_by a b x y p q = cc
 
   entries_fixed : (k : Entries ℕ) → entries_map f (entries_map g k) ≡ entries_map g k
@@ -167,10 +175,12 @@ module _ (f : Spot → Spot) (g : ℕ → Spot) (fixed : (x : ℕ) → f (g x) �
   kind_fixed Partial = refl
 
   unit_fixed : (u : DwUnit ℕ) → unit_map f (unit_map g u) ≡ unit_map g u
-  unit_fixed u = unit_by (f (g u.at)) (g u.at) (kind_map f (kind_map g u.kind)) (kind_map g u.kind) (node_map f (node_map g u.root)) (node_map g u.root) (entries_map f (entries_map g u.below)) (entries_map g u.below)
+  unit_fixed u = unit_by (f (g u.at)) (g u.at) (kind_map f (kind_map g u.kind)) (kind_map g u.kind) (node_map f (node_map g u.root)) (node_map g u.root) (entries_map f (entries_map g u.below))
+      (entries_map g u.below)
       (fixed u.at) (kind_fixed u.kind) (node_fixed u.root) (entries_fixed u.below)
     where
-      unit_by : (a b : Spot) (k l : Kind Spot) (r s : Node Spot) (x y : Entries Spot) → a ≡ b → k ≡ l → r ≡ s → x ≡ y → (let c : DwUnit Spot = record { at = a; kind = k; root = r; below = x } in let d : DwUnit Spot = record { at = b; kind = l; root = s; below = y } in c ≡ d)
+      unit_by : (a b : Spot) (k l : Kind Spot) (r s : Node Spot) (x y : Entries Spot) → a ≡ b → k ≡ l → r ≡ s → x ≡ y
+          → (let c : DwUnit Spot = record { at = a; kind = k; root = r; below = x } in let d : DwUnit Spot = record { at = b; kind = l; root = s; below = y } in c ≡ d)
       unit_by a b k l r s x y p q v w = cc
 
 -- ---- the units of a file
@@ -197,7 +207,7 @@ module _ (file : ℕ) where
   at_other own [] e = refl
   at_other own (u ∷ units) e = rw e (at_other own units e)
 
-tops_append : (s n : ℕ) (xs ys : List (FileUnit Spot)) → tops_from s n (xs ++ ys) ≡ tops_from s n xs ++ tops_from (s + length xs) (n + counted xs) ys
+pub tops_append : (s n : ℕ) (xs ys : List (FileUnit Spot)) → tops_from s n (xs ++ ys) ≡ tops_from s n xs ++ tops_from (s + length xs) (n + counted xs) ys
 unfolding tops_from counted
 tops_append s n [] ys = (let e : s + 0 ≡ s = omega arith in let k : n + 0 ≡ n = omega arith in rw (e, k) refl)
 tops_append s n (f ∷ xs) ys =
@@ -214,22 +224,26 @@ module _ (stand : ℕ → ℕ) (file : ℕ) where
   abbrev f : Spot → Spot
   f = image_by stand
 
-  own_fixed : (own unit n : ℕ) (units : List (DwUnit ℕ)) → (spots : List (ℕ × Spot)) → spots ≡ spots_from unit n units → Rests stand file (tops_from unit n (map (in_file own) (named_in spots units))) → own ≡ file → map (unit_map f) (named_in spots units) ≡ named_in spots units
+  own_fixed : (own unit n : ℕ) (units : List (DwUnit ℕ)) → (spots : List (ℕ × Spot)) → spots ≡ spots_from unit n units → Rests stand file (tops_from unit n (map (in_file own) (named_in spots units)))
+      → own ≡ file → map (unit_map f) (named_in spots units) ≡ named_in spots units
   own_fixed own unit n units spots e rests same = all units where
     fixed : (x : ℕ) → f (spot_in spots x) ≡ spot_in spots x
     fixed x = elim (found spots x) [
       | inl y ↦ ap f y ∙ sym y
       | inr o ↦
           ap f (sym o.2)
-          ∙ name_fixed stand own (tops_from unit n (map (in_file own) (named_in spots units))) (λ t there of. rests t there (of ∙ same)) o.0.1 (file_names (spot_in spots) own unit n units o.0 (subst (In o.0) e o.1))
+          ∙ name_fixed stand own (tops_from unit n (map (in_file own) (named_in spots units))) (λ t there of. rests t there (of ∙ same)) o.0.1
+          (file_names (spot_in spots) own unit n units o.0 (subst (In o.0) e o.1))
           ∙ o.2
     ]
 
     all : (some : List (DwUnit ℕ)) → map (unit_map f) (named_in spots some) ≡ named_in spots some
     all [] = refl
-    all (u ∷ some) = ap (λ (w : DwUnit Spot). w ∷ map (unit_map f) (named_in spots some)) (unit_fixed f (spot_in spots) fixed u) ∙ ap (λ (w : List (DwUnit Spot)). unit_map (spot_in spots) u ∷ w) (all some)
+    all (u ∷ some) = ap (λ (w : DwUnit Spot). w ∷ map (unit_map f) (named_in spots some)) (unit_fixed f (spot_in spots) fixed u) ∙ ap (λ (w : List (DwUnit Spot)). unit_map (spot_in spots) u ∷ w)
+        (all some)
 
-  files_fixed : (first unit n : ℕ) (docs : List (Doc ℕ)) → Rests stand file (tops_from unit n (named_files first unit n docs)) → map (unit_map f) (units_at file (named_files first unit n docs)) ≡ units_at file (named_files first unit n docs)
+  files_fixed : (first unit n : ℕ) (docs : List (Doc ℕ)) → Rests stand file (tops_from unit n (named_files first unit n docs)) → map (unit_map f) (units_at file (named_files first unit n docs))
+      ≡ units_at file (named_files first unit n docs)
   unfolding named_files units_at
   files_fixed first unit n [] rests = refl
   files_fixed first unit n (doc ∷ docs) rests =
@@ -238,17 +252,21 @@ module _ (stand : ℕ → ℕ) (file : ℕ) where
       let rest = named_files (suc first) (unit + length doc.units) (n + tops_among doc.units) docs in
       let tops = tops_append unit n own rest in
       let later : tops_from (unit + length own) (n + counted own) rest ≡ tops_from (unit + length doc.units) (n + tops_among doc.units) rest =
-      ap (λ (w : ℕ). tops_from (unit + w) (n + counted own) rest) (filed_length spots first doc.units) ∙ ap (λ (w : ℕ). tops_from (unit + length doc.units) (n + w) rest) (filed_count spots first doc.units) in
-      let mine : Rests stand file (tops_from unit n own) = λ t there. rests t (subst (In t) (sym tops) (in_left t (tops_from unit n own) (tops_from (unit + length own) (n + counted own) rest) there)) in
+      ap (λ (w : ℕ). tops_from (unit + w) (n + counted own) rest) (filed_length spots first doc.units) ∙ ap (λ (w : ℕ). tops_from (unit + length doc.units) (n + w) rest)
+      (filed_count spots first doc.units) in
+      let mine : Rests stand file (tops_from unit n own) = λ t there. rests t
+      (subst (In t) (sym tops) (in_left t (tops_from unit n own) (tops_from (unit + length own) (n + counted own) rest) there)) in
       let others : Rests stand file (tops_from (unit + length doc.units) (n + tops_among doc.units) rest) =
       λ t there. rests t (subst (In t) (sym tops) (in_right t (tops_from unit n own) (tops_from (unit + length own) (n + counted own) rest) (subst (In t) (sym later) there))) in
       let a = units_at file own in
       let b = units_at file rest in
       let x : map (unit_map f) a ≡ a = here (named_in spots doc.units) (own_fixed first unit n doc.units spots refl mine) (first == file) refl in
       let y : map (unit_map f) b ≡ b = files_fixed (suc first) (unit + length doc.units) (n + tops_among doc.units) docs others in
-      ap (map (unit_map f)) (at_append file own rest) ∙ map-append (unit_map f) a b ∙ ap (λ (w : List (DwUnit Spot)). w ++ map (unit_map f) b) x ∙ ap (λ (w : List (DwUnit Spot)). a ++ w) y ∙ sym (at_append file own rest)
+      ap (map (unit_map f)) (at_append file own rest) ∙ map-append (unit_map f) a b ∙ ap (λ (w : List (DwUnit Spot)). w ++ map (unit_map f) b) x ∙ ap (λ (w : List (DwUnit Spot)). a ++ w) y
+      ∙ sym (at_append file own rest)
     where
-      here : (us : List (DwUnit Spot)) → (first ≡ file → map (unit_map f) us ≡ us) → (b : Bool) → (first == file) ≡ b → map (unit_map f) (units_at file (map (in_file first) us)) ≡ units_at file (map (in_file first) us)
+      here : (us : List (DwUnit Spot)) → (first ≡ file → map (unit_map f) us ≡ us) → (b : Bool) → (first == file) ≡ b → map (unit_map f) (units_at file (map (in_file first) us))
+          ≡ units_at file (map (in_file first) us)
       here us fixed true e =
           let same = eqb-true first file e in
           let at : units_at file (map (in_file first) us) ≡ us = subst (λ (w : ℕ). units_at w (map (in_file first) us) ≡ us) same (at_own first us) in
@@ -261,7 +279,8 @@ no_parts : (m : Move) (h : Home) (s : ℕ) (parts : List PartialUnit) → ((p : 
 unfolding partial_units
 no_parts m h s [] none = refl
 no_parts m h s (p ∷ parts) none = go (same_home p.home h) refl (no_parts m h (suc s) parts (λ q is. none q (inr is))) where
-  go : (b : Bool) → same_home p.home h ≡ b → partial_units m h (suc s) parts ≡ [] → (elim b as (λ _. List (DwUnit Spot)) [ true ↦ partial_unit m s ∷ partial_units m h (suc s) parts | false ↦ partial_units m h (suc s) parts ]) ≡ []
+  go : (b : Bool) → same_home p.home h ≡ b → partial_units m h (suc s) parts ≡ []
+      → (elim b as (λ _. List (DwUnit Spot)) [ true ↦ partial_unit m s ∷ partial_units m h (suc s) parts | false ↦ partial_units m h (suc s) parts ]) ≡ []
   go true e more = absurd (none p (inl refl) (home_true p.home h e))
   go false e more = more
 
@@ -270,13 +289,15 @@ kept_same m units i u c e =
     by (kind_map (image_in m) u.unit.kind) (node_map (image_in m) u.unit.root) (kept_unit m units i u).below (ap (λ (w : DwUnit Spot). w.kind) e) (ap (λ (w : DwUnit Spot). w.root) e)
     (kept_still m units i u c ∙ ap (λ (w : DwUnit Spot). w.below) e)
   where
-    by : (k : Kind Spot) (r : Node Spot) (x : Entries Spot) → k ≡ u.unit.kind → r ≡ u.unit.root → x ≡ u.unit.below → (let a : DwUnit Spot = record { at = u.unit.at; kind = k; root = r; below = x } in a ≡ u.unit)
+    by : (k : Kind Spot) (r : Node Spot) (x : Entries Spot) → k ≡ u.unit.kind → r ≡ u.unit.root → x ≡ u.unit.below
+        → (let a : DwUnit Spot = record { at = u.unit.at; kind = k; root = r; below = x } in a ≡ u.unit)
     by k r x p q v = cc
 
 heads_same : (x y : DwUnit Spot) (xs ys : List (DwUnit Spot)) → x ∷ xs ≡ y ∷ ys → (x ≡ y) × (xs ≡ ys)
 heads_same x y xs ys e = (cc, cc)
 
-all_kept : (m : Move) (units : List (FileUnit Spot)) (file : ℕ) → changes m units file ≡ false → (s : ℕ) (some : List (FileUnit Spot)) → map (unit_map (image_in m)) (units_at file some) ≡ units_at file some → kept_units m units file s some ≡ units_at file some
+all_kept : (m : Move) (units : List (FileUnit Spot)) (file : ℕ) → changes m units file ≡ false → (s : ℕ) (some : List (FileUnit Spot))
+    → map (unit_map (image_in m)) (units_at file some) ≡ units_at file some → kept_units m units file s some ≡ units_at file some
 unfolding kept_units units_at
 all_kept m units file c s [] h = refl
 all_kept m units file c s (u ∷ some) h = go (u.file == file) refl (all_kept m units file c (suc s) some) h where
@@ -288,7 +309,8 @@ all_kept m units file c s (u ∷ some) h = go (u.file == file) refl (all_kept m 
 
   go : (b : Bool) → (u.file == file) ≡ b → (map g (units_at file some) ≡ units_at file some → kept_units m units file (suc s) some ≡ units_at file some)
       → map g (map (λ w. w.unit) (cond b (u ∷ more) more)) ≡ map (λ w. w.unit) (cond b (u ∷ more) more)
-      → (elim b as (λ _. List (DwUnit Spot)) [ true ↦ kept_unit m units s u ∷ kept_units m units file (suc s) some | false ↦ kept_units m units file (suc s) some ]) ≡ map (λ w. w.unit) (cond b (u ∷ more) more)
+      → (elim b as (λ _. List (DwUnit Spot)) [ true ↦ kept_unit m units s u ∷ kept_units m units file (suc s) some | false ↦ kept_units m units file (suc s) some ])
+      ≡ map (λ w. w.unit) (cond b (u ∷ more) more)
   go true e rest k =
       let z = heads_same (g u.unit) u.unit (map g (units_at file some)) (units_at file some) k in
       let own : changes m units u.file ≡ false = ap (changes m units) (eqb-true u.file file e) ∙ c in
@@ -302,7 +324,7 @@ home_candidate rule units n file = go (rule.chosen n) where
   go true e = e
   go false e = absurd cc
 
-module _ (scope : Scope) (docs : List (Doc ℕ)) (rule : Rule) (is : IsAlike scope (units_of docs) rule.alike) (choice : IsChoice (units_of docs) rule) (files : List ℕ) (file : ℕ) where
+module _ (scope : TopScope) (docs : List (Doc ℕ)) (rule : Rule) (is : IsAlike scope (units_of docs) rule.alike) (choice : IsChoice (units_of docs) rule) (files : List ℕ) (file : ℕ) where
   abbrev units : List (FileUnit Spot)
   units = units_of docs
 
@@ -323,7 +345,8 @@ module _ (scope : Scope) (docs : List (Doc ℕ)) (rule : Rule) (is : IsAlike sco
       let at : home rule units t.number ≡ Local file = belongs.home ∙ e in
       let mv : moves rule units t.number ≡ true = ap is_home at in
       let self = moves_self units rule (fair scope units rule is choice) t.number mv in
-      let h : IsHome units (users rule.alike units t.number) (Local file) = subst (IsHome units (users rule.alike units t.number)) (home_candidate rule units t.number file at) (home_is rule.alike units t.number) in
+      let h : IsHome units (users rule.alike units t.number) (Local file) = subst (IsHome units (users rule.alike units t.number)) (home_candidate rule units t.number file at)
+      (home_is rule.alike units t.number) in
       let of : t.file ≡ file = sym (file_of_top units t belongs.there) ∙ h.5 t.unit (used rule.alike units t.number t belongs.there self) in
       let z : changes m units file ≡ true = ap (changes m units) (sym of) ∙ top_changes m units t belongs.there mv in
       cc

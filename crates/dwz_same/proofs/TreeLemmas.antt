@@ -3,9 +3,9 @@ use Rattle.std.proofs.Common.{◌≡◌, ℕ, ◌⊎◌, List, [], ◌∷◌, �
 use Rattle.dwz_meanings.specs.Documents.{Entries, Node, node_map}
 use Rattle.dwz_docs.specs.Lists.{In}
 use Rattle.dwz_docs.specs.Trees.{End}
+use Rattle.dwz_docs.proofs.ListFacts.{in_cases, in_left, in_right}
 use Rattle.dwz_seen.specs.Seen.{IsChild, Seen, named_value, see, seen, seen_map}
 use Rattle.dwz_seen.specs.Spaces.{IsUnder, space_text}
-use Rattle.dwz_seen.proofs.Members.{in_cases, in_left, in_right}
 use Rattle.dwz_seen.proofs.SeenLemmas.{see_map, seen_entries}
 use Rattle.dwz_seen.proofs.SpaceLemmas.{some_none, text_map}
 use Rattle.dwz_alike.specs.Spots.{ASpace, ATop, Nothing, Row, Spot, Top}
@@ -106,7 +106,8 @@ module _ (f : Spot → Spot) where
     later (OfASpace names c a b) = OfASpace names c (inr (inr a)) b
     later (Behind a) = Behind a
 
-    pick : (In e (seen (tree f inner End)) → TreeOrigin inner End e) → (In e (seen (tree f next last)) → TreeOrigin next last e) → In e (see (node_map f d) (tree f inner End) ∷ (seen (tree f inner End) ++ seen (tree f next last))) → TreeOrigin (ASpace d inner next) last e
+    pick : (In e (seen (tree f inner End)) → TreeOrigin inner End e) → (In e (seen (tree f next last)) → TreeOrigin next last e)
+        → In e (see (node_map f d) (tree f inner End) ∷ (seen (tree f inner End) ++ seen (tree f next last))) → TreeOrigin (ASpace d inner next) last e
     pick a b (inl x) = OfASpace [] d (inl (refl, refl)) (ap (λ (w : Seen Spot). w.attrs) (sym x))
     pick a b (inr r) = elim (in_cases e (seen (tree f inner End)) (seen (tree f next last)) r) [ inl x ↦ inside (a x) | inr y ↦ later (b y) ]
 

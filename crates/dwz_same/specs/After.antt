@@ -6,8 +6,9 @@ use Rattle.dwz_docs.specs.Trees.{End, Entry}
 use Rattle.dwz_seen.specs.Lists.{NoneTwice, Nth}
 use Rattle.dwz_seen.specs.Seen.{Closed, IsPartial, SameAlong}
 use Rattle.dwz_seen.specs.Shown.{HaveMains, OnePlace, UnitsShown, units_keys}
-use Rattle.dwz_alike.specs.Alike.{Scope}
-use Rattle.dwz_alike.specs.Spots.{FileUnit, InType, Labelled, LabelledSpaces, LabelledTop, RootOf, Row, Spot, Top, UnitOf, row_of, spot_in, spots_from, tops_among, tops_of, units_of}
+use Rattle.dwz_alike.specs.Alike.{TopScope}
+use Rattle.dwz_alike.specs.Spots.{FileUnit, InType, Labelled, LabelledSpaces, LabelledTop, RootOf, Row, Spot, Top, UnitOf, row_of, spot_in}
+use Rattle.dwz_alike.specs.Spots.{spots_from, tops_among, tops_of, units_of}
 use Rattle.dwz_moving.specs.Homes.{Rule, moves}
 use Rattle.dwz_moving.specs.IsPlan.{Has, OfSpace}
 use Rattle.dwz_moving.specs.Moves.{Move, image_in, plan}
@@ -80,7 +81,8 @@ pub data ComesFrom (m : Move) (units : List (FileUnit Spot)) (e : Node Spot) : T
   OldEntry : (u : DwUnit Spot) → In u (units_in units) → (d : Node Spot) → IsEntryOf d u → e ≡ node_map (image_in m) d → ComesFrom m units e
   NewImport : (unit part : ℕ) → e ≡ import_of unit part → ComesFrom m units e
   NewRoot : (n : ℕ) → e ≡ partial_root m n → ComesFrom m units e
-  NewSpace : (n : ℕ) (part : PartialUnit) (names : List (List ℕ)) (d : Node Spot) → Nth 0 m.parts n part → Has names (OfSpace d) (m.rows n) → e ≡ node_map (image_in m) d → ComesFrom m units e
+  NewSpace : (n : ℕ) (part : PartialUnit) (names : List (List ℕ)) (d : Node Spot) → Nth 0 m.parts n part → Has names (OfSpace d) (m.rows n)
+      → e ≡ node_map (image_in m) d → ComesFrom m units e
 
 -- ---- places before: a file's number, and a place in its `.debug_info`
 
@@ -126,7 +128,7 @@ pub record StandsAt (units : List (DwUnit Spot)) (placed : List (DwUnit ℕ)) : 
 -- A file of which nothing moves has its units as they were, at their places. No name stands twice among the units after, and each
 -- reference there names an entry, as does the type of a type unit. Read back at places, one for each name, they are the same as
 -- before, along the places of images; and just what nothing tells apart, and moves, has one place.
-pub record AreSame (scope : Scope) (docs : List (Doc ℕ)) (rule : Rule) (m : Move) (outs : List (DwUnit Spot)) : Type 0 where
+pub record AreSame (scope : TopScope) (docs : List (Doc ℕ)) (rule : Rule) (m : Move) (outs : List (DwUnit Spot)) : Type 0 where
   pub still : (file : ℕ) → changes m (units_of docs) file ≡ false → out_units m (units_of docs) file ≡ units_at file (units_of docs)
   pub stands : (file : ℕ) (doc : Doc ℕ) → Nth 0 docs file doc → changes m (units_of docs) file ≡ false
       → StandsAt (out_units m (units_of docs) file) doc.units
@@ -140,5 +142,6 @@ pub record AreSame (scope : Scope) (docs : List (Doc ℕ)) (rule : Rule) (m : Mo
       → OneImage scope (units_of docs) (λ n. moves rule (units_of docs) n ≡ true) (λ s. g (image rule (units_of docs) s))
 
 -- so of the units after of all these files, where the tops of a choice move
-abbrev pub FilesSame : Scope → List (Doc ℕ) → Rule → List ℕ → Type 0
-FilesSame scope docs rule files = AreSame scope docs rule (plan rule (units_of docs) files) (all_units (plan rule (units_of docs) files) (units_of docs) files)
+abbrev pub FilesSame : TopScope → List (Doc ℕ) → Rule → List ℕ → Type 0
+FilesSame scope docs rule files = AreSame scope docs rule (plan rule (units_of docs) files)
+    (all_units (plan rule (units_of docs) files) (units_of docs) files)

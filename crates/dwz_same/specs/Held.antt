@@ -1,8 +1,8 @@
 -- What is asked of a move, so that what stands after says the same as what stood before.
 use Rattle.std.specs.Prelude.{◌≡◌, ℕ, true, List, [], map, Some, None}
 use Rattle.dwz_meanings.specs.Documents.{Node}
-use Rattle.dwz_docs.specs.Lists.{In}
-use Rattle.dwz_seen.specs.Lists.{Each, Nth}
+use Rattle.dwz_docs.specs.Lists.{Each, In}
+use Rattle.dwz_seen.specs.Lists.{Nth}
 use Rattle.dwz_seen.specs.Seen.{Named, named_value}
 use Rattle.dwz_seen.specs.Spaces.{space_text}
 use Rattle.dwz_alike.specs.Spots.{ASpace, ATop, FileUnit, Nothing, Row, Spot, Top, name_list, row_of, tops_of}
@@ -46,9 +46,13 @@ HasSpaceLike units i names e = (d : Node Spot) × Has names (OfSpace d) (row_of 
 -- and each of its users has one like it; and each of its spaces is like one of each of its users, and its attributes name nothing.
 pub record IsHeld (units : List (FileUnit Spot)) (m : Move) : Type 0 where
   pub held : (t : Top) → In t (tops_of units) → m.gone t.number ≡ true → IsHeldIn units m t
-  pub used : (n : ℕ) (part : PartialUnit) → Nth 0 m.parts n part → (i : ℕ) → In i part.users → (names : List (List ℕ)) (s : Top) → Has names (OfTop s) (m.rows n) → HasTopLike units m i names s
-  pub spaces : (n : ℕ) (part : PartialUnit) → Nth 0 m.parts n part → (i : ℕ) → In i part.users → (names : List (List ℕ)) (e : Node Spot) → Has names (OfSpace e) (m.rows n) → HasSpaceLike units i names e
+  pub used : (n : ℕ) (part : PartialUnit) → Nth 0 m.parts n part → (i : ℕ) → In i part.users → (names : List (List ℕ)) (s : Top)
+      → Has names (OfTop s) (m.rows n) → HasTopLike units m i names s
+  pub spaces : (n : ℕ) (part : PartialUnit) → Nth 0 m.parts n part → (i : ℕ) → In i part.users → (names : List (List ℕ)) (e : Node Spot)
+      → Has names (OfSpace e) (m.rows n) → HasSpaceLike units i names e
   pub kinds : (n : ℕ) (part : PartialUnit) → Nth 0 m.parts n part → Kinded (m.rows n)
-  pub tops : (n : ℕ) (part : PartialUnit) → Nth 0 m.parts n part → (names : List (List ℕ)) (s : Top) → Has names (OfTop s) (m.rows n) → In s (tops_of units)
-  pub plain : (n : ℕ) (part : PartialUnit) → Nth 0 m.parts n part → (names : List (List ℕ)) (e : Node Spot) → Has names (OfSpace e) (m.rows n) → NameNone (map named_value e.attrs)
+  pub tops : (n : ℕ) (part : PartialUnit) → Nth 0 m.parts n part → (names : List (List ℕ)) (s : Top) → Has names (OfTop s) (m.rows n)
+      → In s (tops_of units)
+  pub plain : (n : ℕ) (part : PartialUnit) → Nth 0 m.parts n part → (names : List (List ℕ)) (e : Node Spot)
+      → Has names (OfSpace e) (m.rows n) → NameNone (map named_value e.attrs)
   pub roots : (n : ℕ) → NameNone (map named_value (m.roots n))

@@ -3,7 +3,7 @@ use Rattle.std.specs.Prelude.{◌⊎◌, ◌≡◌, ◌≢◌, ◌↔◌, ℕ, L
 use Rattle.dwz_meanings.specs.Documents.{DwUnit}
 use Rattle.dwz_docs.specs.Lists.{In}
 use Rattle.dwz_seen.specs.Seen.{Seen, all_seen}
-use Rattle.dwz_alike.specs.Alike.{Alike, InScope, Scope}
+use Rattle.dwz_alike.specs.Alike.{Alike, InScope, TopScope}
 use Rattle.dwz_alike.specs.Spots.{FileUnit, Spot, Top, Within, tops_of}
 
 abbrev pub units_in : List (FileUnit Spot) → List (DwUnit Spot)
@@ -15,11 +15,14 @@ IsEntry units t path = (d : Seen Spot) × In d (all_seen (units_in units)) × (d
 
 -- Entries of different units in one scope have one image exactly if their paths are equal and their tops are alike and move. Entries
 -- of one unit have one exactly if they are the same entry, or their paths are equal and their tops are alike and move.
-pub record OneImage (scope : Scope) (units : List (FileUnit Spot)) (moving : ℕ → Type 0) {Q : Type 0} (f : Spot → Q) : Type 0 where
-  pub apart : (a b : Top) (p q : List ℕ) → In a (tops_of units) → In b (tops_of units) → InScope scope a b → IsEntry units a p → IsEntry units b q → a.unit ≢ b.unit
+pub record OneImage (scope : TopScope) (units : List (FileUnit Spot)) (moving : ℕ → Type 0) {Q : Type 0} (f : Spot → Q) : Type 0 where
+  pub apart : (a b : Top) (p q : List ℕ) → In a (tops_of units) → In b (tops_of units) → InScope scope a b → IsEntry units a p
+      → IsEntry units b q → a.unit ≢ b.unit
       → (f (Within a.number p) ≡ f (Within b.number q)) ↔ ((p ≡ q) × Alike units a.number b.number × moving a.number)
-  pub one : (a b : Top) (p q : List ℕ) → In a (tops_of units) → In b (tops_of units) → IsEntry units a p → IsEntry units b q → a.unit ≡ b.unit
-      → (f (Within a.number p) ≡ f (Within b.number q)) ↔ ((p ≡ q) × ((a.number ≡ b.number) ⊎ (Alike units a.number b.number × moving a.number)))
+  pub one : (a b : Top) (p q : List ℕ) → In a (tops_of units) → In b (tops_of units) → IsEntry units a p → IsEntry units b q
+      → a.unit ≡ b.unit
+      → (f (Within a.number p) ≡ f (Within b.number q)) ↔
+      ((p ≡ q) × ((a.number ≡ b.number) ⊎ (Alike units a.number b.number × moving a.number)))
 
 -- the name is of no entry of a top
 abbrev pub InNoTop : Spot → Type 0

@@ -1,11 +1,11 @@
 -- Laws on units with names, before and after.
 use Rattle.std.specs.Prelude.{◌≡◌, ℕ, true, false, List, map}
 use Rattle.dwz_meanings.specs.Documents.{Doc, DwUnit, Node, OfType, unit_map}
-use Rattle.dwz_docs.specs.Lists.{In}
-use Rattle.dwz_seen.specs.Lists.{Each, NoneTwice, Nth, Rising}
+use Rattle.dwz_docs.specs.Lists.{Each, In}
+use Rattle.dwz_seen.specs.Lists.{NoneTwice, Nth, Rising}
 use Rattle.dwz_seen.specs.Seen.{Closed, SameAlong}
 use Rattle.dwz_seen.specs.Shown.{HaveMains, OnePlace, UnitsShown, units_keys}
-use Rattle.dwz_alike.specs.Alike.{IsAlike, Scope}
+use Rattle.dwz_alike.specs.Alike.{IsAlike, TopScope}
 use Rattle.dwz_alike.specs.Spots.{FileUnit, Spot, file_numbers, units_of}
 use Rattle.dwz_moving.specs.Homes.{IsChoice, Rule, moves}
 use Rattle.dwz_moving.specs.IsPlan.{AreFilesOf}
@@ -13,7 +13,8 @@ use Rattle.dwz_moving.specs.Moves.{Move, image_in, plan}
 use Rattle.dwz_moving.specs.Plan.{image}
 use Rattle.dwz_same.specs.Held.{IsHeld}
 use Rattle.dwz_same.specs.Units.{all_units, changes, kept_unit, out_units, units_at}
-use Rattle.dwz_same.specs.After.{AreAfter, AreOld, ArePlaced, ComesFrom, FilesSame, IsEntryOf, Place, Replaces, StandsAt, name_in, placed_from}
+use Rattle.dwz_same.specs.After.{AreAfter, AreOld, ArePlaced, ComesFrom, FilesSame, IsEntryOf, Place, Replaces, StandsAt, name_in}
+use Rattle.dwz_same.specs.After.{placed_from}
 use Rattle.dwz_same.specs.Images.{IsAlone, OneImage, units_in}
 
 -- ---- places and names
@@ -32,29 +33,37 @@ FilesLaw = (docs : List (Doc ℕ)) → AreFilesOf (units_of docs) (file_numbers 
 
 -- the units of the common file and of each file are all that stand after
 abbrev pub AfterLaw : Type 0
-AfterLaw = (units : List (FileUnit Spot)) (rule : Rule) (files : List ℕ) → AreFilesOf units files → AreAfter (plan rule units files) units (all_units (plan rule units files) units files)
+AfterLaw = (units : List (FileUnit Spot)) (rule : Rule) (files : List ℕ) → AreFilesOf units files
+    → AreAfter (plan rule units files) units (all_units (plan rule units files) units files)
 
 -- a file of which nothing moves has its units and no others, with the names that they had
 abbrev pub StillLaw : Type 0
 StillLaw =
-    (scope : Scope) (docs : List (Doc ℕ)) (rule : Rule) → IsAlike scope (units_of docs) rule.alike → IsChoice (units_of docs) rule → (files : List ℕ) (file : ℕ)
-    → changes (plan rule (units_of docs) files) (units_of docs) file ≡ false → out_units (plan rule (units_of docs) files) (units_of docs) file ≡ units_at file (units_of docs)
+    (scope : TopScope) (docs : List (Doc ℕ)) (rule : Rule) → IsAlike scope (units_of docs) rule.alike → IsChoice (units_of docs) rule
+    → (files : List ℕ) (file : ℕ)
+    → changes (plan rule (units_of docs) files) (units_of docs) file ≡ false
+    → out_units (plan rule (units_of docs) files) (units_of docs) file ≡ units_at file (units_of docs)
 
 -- it stands at its old places
 abbrev pub StandsLaw : Type 0
 StandsLaw =
-    (scope : Scope) (docs : List (Doc ℕ)) (rule : Rule) → Each (λ doc. ArePlaced doc.units) docs → IsAlike scope (units_of docs) rule.alike → IsChoice (units_of docs) rule
-    → (files : List ℕ) → Rising files → (file : ℕ) (doc : Doc ℕ) → Nth 0 docs file doc → changes (plan rule (units_of docs) files) (units_of docs) file ≡ false
+    (scope : TopScope) (docs : List (Doc ℕ)) (rule : Rule) → Each (λ doc. ArePlaced doc.units) docs
+    → IsAlike scope (units_of docs) rule.alike
+    → IsChoice (units_of docs) rule
+    → (files : List ℕ) → Rising files → (file : ℕ) (doc : Doc ℕ) → Nth 0 docs file doc
+    → changes (plan rule (units_of docs) files) (units_of docs) file ≡ false
     → StandsAt (out_units (plan rule (units_of docs) files) (units_of docs) file) doc.units
 
 -- no name stands twice among the units after
 abbrev pub ApartLaw : Type 0
-ApartLaw = (units : List (FileUnit Spot)) (rule : Rule) → AreOld units → (files : List ℕ) → Rising files → NoneTwice (units_keys (all_units (plan rule units files) units files))
+ApartLaw = (units : List (FileUnit Spot)) (rule : Rule) → AreOld units → (files : List ℕ) → Rising files
+    → NoneTwice (units_keys (all_units (plan rule units files) units files))
 
 -- the plan is a move as is asked, in any scope, for any choice
 abbrev pub HeldLaw : Type 0
 HeldLaw =
-    (scope : Scope) (units : List (FileUnit Spot)) (rule : Rule) (files : List ℕ) → IsAlike scope units rule.alike → IsChoice units rule → AreOld units → AreFilesOf units files
+    (scope : TopScope) (units : List (FileUnit Spot)) (rule : Rule) (files : List ℕ) → IsAlike scope units rule.alike → IsChoice units rule
+    → AreOld units → AreFilesOf units files
     → IsHeld units (plan rule units files)
 
 -- ---- what stands after any move
@@ -88,7 +97,7 @@ MainsLaw = Always (λ units m outs. HaveMains outs)
 -- entries have one image exactly where they move and nothing tells them apart
 abbrev pub ImagesLaw : Type 0
 ImagesLaw =
-    (scope : Scope) (units : List (FileUnit Spot)) (rule : Rule) → IsAlike scope units rule.alike → IsChoice units rule
+    (scope : TopScope) (units : List (FileUnit Spot)) (rule : Rule) → IsAlike scope units rule.alike → IsChoice units rule
     → OneImage scope units (λ n. moves rule units n ≡ true) (image rule units)
 
 -- and an entry in no top shares its image with no other
@@ -110,5 +119,7 @@ PlacedLaw =
 -- all of it holds of files at once, with the common file, where their places differ
 abbrev pub FilesSameLaw : Type 0
 FilesSameLaw =
-    (scope : Scope) (docs : List (Doc ℕ)) (rule : Rule) → Each (λ doc. ArePlaced doc.units) docs → IsAlike scope (units_of docs) rule.alike → IsChoice (units_of docs) rule
+    (scope : TopScope) (docs : List (Doc ℕ)) (rule : Rule) → Each (λ doc. ArePlaced doc.units) docs
+    → IsAlike scope (units_of docs) rule.alike
+    → IsChoice (units_of docs) rule
     → FilesSame scope docs rule (file_numbers 0 docs)

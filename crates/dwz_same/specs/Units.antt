@@ -25,7 +25,11 @@ partial_unit m n = record { at = PartialOf n; kind = Partial; root = partial_roo
 -- the partial units with that home; the first of all has that number
 unfoldable pub partial_units : Move → Home → ℕ → List PartialUnit → List (DwUnit Spot)
 partial_units m h n [] = []
-partial_units m h n (part ∷ parts) = elim (same_home part.home h) as (λ _. List (DwUnit Spot)) [ true ↦ partial_unit m n ∷ partial_units m h (suc n) parts | false ↦ partial_units m h (suc n) parts ]
+partial_units m h n (part ∷ parts) = elim (same_home part.home h) as (λ _. List (DwUnit Spot)) [
+  | true ↦ partial_unit m n
+      ∷ partial_units m h (suc n) parts
+  | false ↦ partial_units m h (suc n) parts
+]
 
 -- something of a file moves
 unfoldable pub changes : Move → List (FileUnit Spot) → ℕ → Bool
@@ -48,7 +52,10 @@ kept_unit m units i u = record {
 unfoldable pub kept_units : Move → List (FileUnit Spot) → ℕ → ℕ → List (FileUnit Spot) → List (DwUnit Spot)
 kept_units m all file i [] = []
 kept_units m all file i (f ∷ units) =
-    elim (f.file == file) as (λ _. List (DwUnit Spot)) [ true ↦ kept_unit m all i f ∷ kept_units m all file (suc i) units | false ↦ kept_units m all file (suc i) units ]
+    elim (f.file == file) as (λ _. List (DwUnit Spot)) [
+      | true ↦ kept_unit m all i f ∷ kept_units m all file (suc i) units
+      | false ↦ kept_units m all file (suc i) units
+    ]
 
 -- the units of the common file
 unfoldable pub common_units : Move → List (DwUnit Spot)

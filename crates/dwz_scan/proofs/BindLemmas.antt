@@ -1,23 +1,27 @@
 -- What a value says that binds, by the class of its form.
-use Rattle.std.proofs.Common.{◌≡◌, ◌≢◌, ◌↔◌, ◌⊎◌, ℕ, Bool, true, false, zero, suc, List, [], ◌∷◌, length, drop, map, Option, Some, None, ℤ, Ok, refl, sym, ap, subst, ◌∙◌, eqb, eqb-true, inl, inr, arith}
+use Rattle.std.proofs.Common.{◌≡◌, ◌≢◌, ◌↔◌, ◌⊎◌, ℕ, Bool, true, false, zero, suc, List, [], ◌∷◌, length, drop, map, Option, Some, None, ℤ, Ok, refl, sym, ap, subst, ◌∙◌, eqb, eqb-true, inl, inr}
+use Rattle.std.proofs.Common.{arith}
 use Rattle.std.specs.Prelude.{not, ◌==◌, ◌||◌, if◌then◌else◌, slice_index_or}
 use Rattle.std.specs.List.{list_all, list_any}
 use Rattle.std.proofs.lemmas.Bool.{false≢true, ne_eqb}
+use Rattle.dwz_bytes.proofs.GroupLemmas.{chosen}
 use Rattle.dwz_alike.specs.Alike.{attr_binds, binding_forms, holds_place, leaves}
 use Rattle.dwz_alike.specs.Spots.{Spot, Top}
 use Rattle.dwz_alike.proofs.AddressLemmas.{address_tells}
-use Rattle.dwz_alike.proofs.Targets.{or_left, or_right}
 use Rattle.dwz_docs.specs.Entries.{RawAttr}
 use Rattle.dwz_docs.specs.Lists.{has}
-use Rattle.dwz_docs.proofs.PartLemmas.{chosen}
+use Rattle.dwz_docs.proofs.CaseFacts.{or_left, or_right}
+use Rattle.dwz_docs.proofs.AbbrevLemmas.{and_true}
 use Rattle.dwz_meanings.specs.declared.exprs.Operand.{Operand}
-use Rattle.dwz_meanings.specs.Documents.{Loc, Plain, Value, attr_map, only, ref}
+use Rattle.dwz_meanings.specs.Documents.{Plain, Value, attr_map, only, ref}
 use Rattle.dwz_meanings.specs.Exprs.{Expression, expr_at}
-use Rattle.dwz_meanings.specs.Meanings.{Class, ClassRow, IfSo, IsExpression, IsFileBy, MeansAs, OfAddress, OfBlock, OfCommonEntry, OfCommonText, OfConstant, OfExpression, OfFlag, OfIndex, OfInfoEntry, OfListIndex, OfOffset, OfSignature, OfText, OfTextBySlot, OfTextInLineStr, OfTextInStr, OfUnitEntry, Scope, Unread, class_in, class_of, attr_with, bytes_of, class_rows, constant_value, content_at, expr_context, expr_value, meaning, names_file, number_of, stmt_list, target_of}
-use Rattle.dwz_meanings.proofs.ClassLemmas.{and_true}
+use Rattle.dwz_meanings.specs.Meanings.{Class, ClassRow, IfSo, IsExpression, IsFileBy, MeansAs, OfAddress, OfBlock, OfCommonEntry, OfCommonText, OfConstant, OfExpression, OfFlag, OfIndex, OfInfoEntry}
+use Rattle.dwz_meanings.specs.Meanings.{OfListIndex, OfOffset, OfSignature, OfText, OfTextBySlot, OfTextInLineStr, OfTextInStr, OfUnitEntry, Scope, Unread, class_in, class_of, attr_with, bytes_of}
+use Rattle.dwz_meanings.specs.Meanings.{class_rows, constant_value, content_at, expr_context, expr_value, meaning, names_file, number_of, stmt_list, target_of}
 use Rattle.dwz_meanings.proofs.ExprLemmas.{expr_agrees}
 use Rattle.dwz_meanings.proofs.MeaningLemmas.{value_agrees}
 use Rattle.dwz_resolve.specs.Named.{refs_beside, value_refs}
+use Rattle.dwz_resolve.proofs.PlainBeside.{none_beside}
 use Rattle.dwz_scan.specs.Bound.{AreInto, count_of, is_expression}
 use Rattle.dwz_index.specs.Names.{top_in}
 use Rattle.dwz_scan.specs.Values.{is_entry}
@@ -189,10 +193,6 @@ module _ (tops : List Top) (unit : ℕ) (name : ℕ → Spot) (a : RawAttr) (v :
 
 abbrev pub Free : List Top → ℕ → (ℕ → Spot) → RawAttr → Value ℕ → Type 0
 Free tops unit name a v = false ≡ attr_binds tops unit (attr_map name (attr_with a v))
-
-none_beside : (plain : Plain) → refs_beside {P = ℕ} plain [] ≡ []
-none_beside (Loc exprs) = refl
-none_beside _ = refl
 
 no_refs : (v : Value ℕ) → v.refs ≡ [] → length (value_refs v) ≡ 0
 no_refs v e = ap (λ (ps : List ℕ). length (refs_beside v.plain ps)) e ∙ ap (λ (ps : List ℕ). length ps) (none_beside v.plain)

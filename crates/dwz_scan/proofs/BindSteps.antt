@@ -8,13 +8,13 @@ use Rattle.dwz_alike.specs.Alike.{any_attr, attr_binds, entry_binds}
 use Rattle.dwz_alike.specs.Spots.{Spot, Top}
 use Rattle.dwz_docs.specs.Entries.{RawAttr}
 use Rattle.dwz_docs.specs.Units.{RawUnit}
+use Rattle.dwz_docs.proofs.ListFacts.{drop_here}
 use Rattle.dwz_flat.specs.Rows.{AreAttrsMeant, IsEntryMeant, node_refs}
 use Rattle.dwz_flat.proofs.TreeLemmas.{node_attrs}
 use Rattle.dwz_flat.proofs.StepLemmas.{entry, no_value, sibling, value}
 use Rattle.dwz_meanings.specs.Documents.{Attr, Node, Value, attr_map, node_map}
 use Rattle.dwz_meanings.specs.Meanings.{Scope, attr_with, meaning}
 use Rattle.dwz_resolve.specs.Named.{attrs_refs, value_refs}
-use Rattle.dwz_resolve.proofs.RowLemmas.{drop_here}
 use Rattle.dwz_unit.specs.declared.rows.RawEntry.{RawEntry as RawEntryOfCode}
 use Rattle.dwz_unit.specs.Rows.{EntryRow, shown_entries}
 use Rattle.dwz_scan.specs.Bound.{AreInto}
@@ -53,10 +53,12 @@ pub record BindLeft (raw : List RawUnit) (s : Scope ℕ) (tops : List Top) (unit
   pub asks : binds_in tops unit name attrs ≡ all
 
 module _ (raw : List RawUnit) (s : Scope ℕ) (tops : List Top) (unit : ℕ) (name : ℕ → Spot) (into : List (Option ℕ)) where
-  pub bind_all : (numbers : List ℕ) (i : ℕ) (r : EntryRow) (d : Node ℕ) → IsEntryMeant raw s i numbers r d → AreInto name into (node_refs d) → BindLeft raw s tops unit name r.entry.attrs into 0 (any_attr (attr_binds tops unit) (node_map name d))
+  pub bind_all : (numbers : List ℕ) (i : ℕ) (r : EntryRow) (d : Node ℕ) → IsEntryMeant raw s i numbers r d → AreInto name into (node_refs d)
+      → BindLeft raw s tops unit name r.entry.attrs into 0 (any_attr (attr_binds tops unit) (node_map name d))
   bind_all numbers i r d m h = record { numbers = numbers; attrs = d.attrs; meant = entry raw s i numbers r d m; tops_are = h; asks = refl }
 
-  pub bind_sibling : (values : List RawAttr) (j next : ℕ) (a : RawAttr) (all : Bool) → slice_get values j ≡ Some a → a.pair.name ≡ 0x01 → BindLeft raw s tops unit name (drop j values) into next all → BindLeft raw s tops unit name (drop (j + 1) values) into next all
+  pub bind_sibling : (values : List RawAttr) (j next : ℕ) (a : RawAttr) (all : Bool) → slice_get values j ≡ Some a → a.pair.name ≡ 0x01 → BindLeft raw s tops unit name (drop j values) into next all
+      → BindLeft raw s tops unit name (drop (j + 1) values) into next all
   bind_sibling values j next a all is e h = record {
     numbers = h.numbers;
     attrs = h.attrs;
@@ -76,7 +78,8 @@ module _ (raw : List RawUnit) (s : Scope ℕ) (tops : List Top) (unit : ℕ) (na
     pub tops_are : AreInto name (drop (next + length (value_refs v)) into) (attrs_refs left)
     pub asks : (attr_binds tops unit (attr_map name (attr_with a v)) || binds_in tops unit name left) ≡ all
 
-  pub bind_next : (values : List RawAttr) (j next : ℕ) (a : RawAttr) (all : Bool) → slice_get values j ≡ Some a → a.pair.name ≢ 0x01 → BindLeft raw s tops unit name (drop j values) into next all → NextBinds values j next a all
+  pub bind_next : (values : List RawAttr) (j next : ℕ) (a : RawAttr) (all : Bool) → slice_get values j ≡ Some a → a.pair.name ≢ 0x01 → BindLeft raw s tops unit name (drop j values) into next all
+      → NextBinds values j next a all
   bind_next values j next a all is ne h =
       let n = value raw s h.numbers a (drop (j + 1) values) h.attrs ne (subst (λ (vs : List RawAttr). AreAttrsMeant raw s h.numbers vs h.attrs) (drop_here values j a is) h.meant) in
       let both : AreInto name (drop next into) (value_refs n.value ++ attrs_refs n.left) = subst (λ (as' : List (Attr ℕ)). AreInto name (drop next into) (attrs_refs as')) n.parts h.tops_are in
@@ -96,7 +99,8 @@ module _ (raw : List RawUnit) (s : Scope ℕ) (tops : List Top) (unit : ℕ) (na
   bind_here values j next a all n b = (λ i. b i || binds_in tops unit name n.left) ∙ n.asks
 
   -- it doesn't
-  pub bind_more : (values : List RawAttr) (j next new : ℕ) (a : RawAttr) (all : Bool) → (n : NextBinds values j next a all) → false ≡ attr_binds tops unit (attr_map name (attr_with a n.v)) → new ≡ next + length (value_refs n.v) → BindLeft raw s tops unit name (drop (j + 1) values) into new all
+  pub bind_more : (values : List RawAttr) (j next new : ℕ) (a : RawAttr) (all : Bool) → (n : NextBinds values j next a all) → false ≡ attr_binds tops unit (attr_map name (attr_with a n.v))
+      → new ≡ next + length (value_refs n.v) → BindLeft raw s tops unit name (drop (j + 1) values) into new all
   bind_more values j next new a all n b e = record {
     numbers = n.numbers;
     attrs = n.left;
@@ -112,7 +116,8 @@ module _ (raw : List RawUnit) (s : Scope ℕ) (tops : List Top) (unit : ℕ) (na
 
 -- ---- an entry, by its tag and its attributes
 
-module _ (s : Scope ℕ) (tops : List Top) (unit : ℕ) (name : ℕ → Spot) (raw : List RawUnit) (i : ℕ) (numbers : List ℕ) (r : EntryRow) (d : Node ℕ) (m : IsEntryMeant raw s i numbers r d) (x : RawEntryOfCode) (shown : slice_get (shown_entries raw) i ≡ Some x) where
+module _ (s : Scope ℕ) (tops : List Top) (unit : ℕ) (name : ℕ → Spot) (raw : List RawUnit) (i : ℕ) (numbers : List ℕ) (r : EntryRow) (d : Node ℕ) (m : IsEntryMeant raw s i numbers r d)
+    (x : RawEntryOfCode) (shown : slice_get (shown_entries raw) i ≡ Some x) where
   tag_is : d.tag ≡ x.tag
   tag_is = (node_attrs s r.entry d m.means).1 ∙ ap (λ (w : RawEntryOfCode). w.tag) (shown_row raw i r x m.found shown)
 

@@ -5,16 +5,17 @@ use Rattle.std.proofs.lemmas.List.{drop-map}
 use Rattle.dwz_alike.specs.Spots.{Spot, Top}
 use Rattle.dwz_docs.specs.Trees.{End, Entry, size}
 use Rattle.dwz_docs.specs.Units.{RawUnit}
+use Rattle.dwz_docs.proofs.ListFacts.{drop_first}
 use Rattle.dwz_flat.specs.Rows.{AreRowsMeant, AreTargets, RowsMean, node_refs, nodes, nodes_refs}
 use Rattle.dwz_flat.specs.Tops.{HasTopOfFile}
 use Rattle.dwz_flat.proofs.PartLemmas.{part_meant, rows_unit}
-use Rattle.dwz_flat.proofs.StepLemmas.{first_of}
 use Rattle.dwz_flat.proofs.TreeLemmas.{tree_means}
 use Rattle.dwz_meanings.specs.Documents.{DwUnit, Node}
 use Rattle.dwz_meanings.specs.Meanings.{Around, Scope, scope_of}
-use Rattle.dwz_resolve.specs.Resolved.{Each, place_at}
-use Rattle.dwz_resolve.proofs.RowLemmas.{below-length}
+use Rattle.dwz_resolve.specs.Resolved.{place_at}
+use Rattle.dwz_docs.specs.Lists.{Each}
 use Rattle.dwz_unit.specs.Rows.{EntryRow, rows_below, rows_of}
+use Rattle.dwz_unit.proofs.RowLemmas.{shown-length}
 use Rattle.dwz_scan.specs.Bound.{AreInto, EachInto}
 use Rattle.dwz_index.specs.Names.{top_in}
 use Rattle.dwz_scan.specs.Known.{KnowsRefs, StandsAt, tops_of_refs}
@@ -28,15 +29,17 @@ into_targets name raw (i ∷ numbers) (p ∷ places) h = (ap (λ (q : ℕ). top_
 module _ (around : Around ℕ) (raw : List RawUnit) (name : ℕ → Spot) (refs starts : List ℕ) (into : List (Option ℕ)) (knows : KnowsRefs around raw name refs starts into) where
   -- rows of one unit
   module _ (n : ℕ) (u : _) (is_unit : slice_get raw n ≡ Some u) where
-    pub each_into : (i : ℕ) (rows after : List EntryRow) (ds : List (Node ℕ)) → Each (λ row. row.unit ≡ n) rows → drop i (rows_of raw) ≡ rows ++ after → RowsMean (scope_of around u) rows ds → EachInto name into starts i ds
+    pub each_into : (i : ℕ) (rows after : List EntryRow) (ds : List (Node ℕ)) → Each (λ row. row.unit ≡ n) rows → drop i (rows_of raw) ≡ rows ++ after → RowsMean (scope_of around u) rows ds
+        → EachInto name into starts i ds
     each_into i rows after [] own found means = tt
     each_into i [] after (d ∷ ds) own found means = absurd means
     each_into i (row ∷ rows) after (d ∷ ds) own found means =
         let m = part_meant around raw refs starts knows.parted knows.entries n u is_unit i (i + length (row ∷ rows)) (row ∷ rows) after (d ∷ ds) own found refl means in
         let into_here = into_targets name raw (drop (slice_index starts i) refs) (node_refs d ++ nodes_refs ds) m.targets in
-        let same : tops_of_refs name raw (drop (slice_index starts i) refs) ≡ drop (slice_index starts i) into = sym (drop-map (λ (k : ℕ). top_in (name (place_at raw k))) (slice_index starts i) refs) ∙ ap (drop (slice_index starts i)) (sym knows.into_are) in (
+        let same : tops_of_refs name raw (drop (slice_index starts i) refs) ≡ drop (slice_index starts i) into = sym (drop-map (λ (k : ℕ). top_in (name (place_at raw k))) (slice_index starts i) refs)
+        ∙ ap (drop (slice_index starts i)) (sym knows.into_are) in (
           into_first name (drop (slice_index starts i) into) (node_refs d) (nodes_refs ds) (subst (λ (w : List (Option ℕ)). AreInto name w (node_refs d ++ nodes_refs ds)) same into_here),
-          each_into (i + 1) rows after ds own.1 (first_of (rows_of raw) i row (rows ++ after) found).1 means.1,
+          each_into (i + 1) rows after ds own.1 (drop_first (rows_of raw) i row (rows ++ after) found).1 means.1,
         )
 
   -- ---- a top
@@ -59,10 +62,11 @@ module _ (around : Around ℕ) (raw : List RawUnit) (name : ℕ → Spot) (refs 
 
     pub rows_meant : AreRowsMeant raw s first end (drop (slice_index starts first) refs) rows h.top.after ds
     rows_meant =
-        let count : h.top.p.before + length rows ≡ first + 1 + size h.top.c = (let many = below-length (Entry h.top.e h.top.c End) h.n h.top.p in let from = stands.from in omega arith) in
+        let count : h.top.p.before + length rows ≡ first + 1 + size h.top.c = (let many = shown-length (Entry h.top.e h.top.c End) h.n h.top.p in let from = stands.from in omega arith) in
         let found : drop first (rows_of raw) ≡ rows ++ h.top.after = ap (λ (k : ℕ). drop k (rows_of raw)) (sym stands.from) ∙ h.top.stand in
         let from = stands.from in
-        part_meant around raw refs starts knows.parted knows.entries h.n h.u h.is_unit first end rows h.top.after ds (rows_unit (Entry h.top.e h.top.c End) h.n h.top.p) found (let to = stands.to in omega arith) means
+        part_meant around raw refs starts knows.parted knows.entries h.n h.u h.is_unit first end rows h.top.after ds (rows_unit (Entry h.top.e h.top.c End) h.n h.top.p) found
+        (let to = stands.to in omega arith) means
 
     pub into_top : EachInto name into starts first ds
     into_top = each_into h.n h.u h.is_unit first rows h.top.after ds (rows_unit (Entry h.top.e h.top.c End) h.n h.top.p) (ap (λ (k : ℕ). drop k (rows_of raw)) (sym stands.from) ∙ h.top.stand) means

@@ -11,12 +11,14 @@ entry_at raw [] k h l = absurd (omega arith)
 entry_at raw (i ∷ refs) zero h l = h.0
 entry_at raw (i ∷ refs) (suc k) h l = entry_at raw refs k h.1 (omega arith)
 
-refs_more : (name : ℕ → Spot) (raw : List RawUnit) (refs : List ℕ) (k : ℕ) → k < length refs → tops_of_refs name raw (take (suc k) refs) ≡ tops_of_refs name raw (take k refs) ++ top_in (name (place_at raw (get_or refs k 0))) ∷ []
+refs_more : (name : ℕ → Spot) (raw : List RawUnit) (refs : List ℕ) (k : ℕ) → k < length refs → tops_of_refs name raw (take (suc k) refs) ≡ tops_of_refs name raw (take k refs)
+    ++ top_in (name (place_at raw (get_or refs k 0))) ∷ []
 refs_more name raw [] k l = absurd (omega arith)
 refs_more name raw (i ∷ refs) zero l = refl
 refs_more name raw (i ∷ refs) (suc k) l = ap (λ (ts : List (Option ℕ)). top_in (name (place_at raw i)) ∷ ts) (refs_more name raw refs k (omega arith))
 
-pub refs_next : (name : ℕ → Spot) (raw : List RawUnit) (refs : List ℕ) (k : ℕ) (now new : List (Option ℕ)) (top : Option ℕ) → k < length refs → now ≡ tops_of_refs name raw (take k refs) → top ≡ top_in (name (place_at raw (get_or refs k 0))) → new ≡ now ++ top ∷ [] → new ≡ tops_of_refs name raw (take (k + 1) refs)
+pub refs_next : (name : ℕ → Spot) (raw : List RawUnit) (refs : List ℕ) (k : ℕ) (now new : List (Option ℕ)) (top : Option ℕ) → k < length refs → now ≡ tops_of_refs name raw (take k refs)
+    → top ≡ top_in (name (place_at raw (get_or refs k 0))) → new ≡ now ++ top ∷ [] → new ≡ tops_of_refs name raw (take (k + 1) refs)
 refs_next name raw refs k now new top l e f g =
     let one : suc k ≡ k + 1 = omega arith in
     g ∙ (λ i. e i ++ f i ∷ []) ∙ sym (refs_more name raw refs k l) ∙ ap (λ (j : ℕ). tops_of_refs name raw (take j refs)) one

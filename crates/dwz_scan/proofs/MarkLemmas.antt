@@ -1,10 +1,11 @@
 -- One mark after another.
-use Rattle.std.proofs.Common.{◌≡◌, ◌↔◌, ◌⊎◌, ℕ, zero, suc, ◌+◌, ◌<◌, ◌≤◌, Bool, true, false, List, [], ◌∷◌, ◌++◌, Option, Some, None, length, take, get_or, refl, sym, ap, subst, ◌∙◌, inl, inr, ⊎_elim, arith, if◌then◌else◌}
+use Rattle.std.proofs.Common.{◌≡◌, ◌↔◌, ◌⊎◌, ℕ, zero, suc, ◌+◌, ◌<◌, ◌≤◌, Bool, true, false, List, [], ◌∷◌, ◌++◌, Option, Some, None, length, take, get_or, refl, sym, ap, subst, ◌∙◌, inl, inr, ⊎_elim}
+use Rattle.std.proofs.Common.{arith, if◌then◌else◌}
 use Rattle.std.proofs.Math.ListN.{set}
 use Rattle.std.proofs.lemmas.List.{length-set, take_all}
 use Rattle.dwz_docs.specs.Lists.{In}
+use Rattle.dwz_docs.proofs.ListFacts.{in_cases, in_left, in_right}
 use Rattle.dwz_meanings.specs.declared.exprs.Operand.{Operand}
-use Rattle.dwz_seen.proofs.Members.{in_cases, in_left, in_right}
 use Rattle.dwz_spread.specs.Spreading.{IsMarked}
 use Rattle.dwz_spread.proofs.SpreadLemmas.{set_cases, set_here, set_kept}
 use Rattle.dwz_scan.specs.Marked.{Marks, MarksIf, asked_tops, if_asked, is_asked, later_tops, next_top}
@@ -32,7 +33,8 @@ marks_set marks x l = record {
   len = length-set marks x true;
   each = λ n low. (
     λ h. ⊎_elim (λ o. inl o) (λ e. inr (inl (ap (λ (k : ℕ). Some k) e))) (set_cases marks x n l h),
-    λ h. ⊎_elim (λ o. set_kept marks x n o) (λ (i : In (Some n) (Some x ∷ [])). ⊎_elim (λ e. subst (λ (k : ℕ). IsMarked (set marks x true) k) (some_is x n e) (set_here marks x l)) (λ no. absurd no) i) h,
+    λ h. ⊎_elim (λ o. set_kept marks x n o) (λ (i : In (Some n) (Some x ∷ [])). ⊎_elim (λ e. subst (λ (k : ℕ). IsMarked (set marks x true) k) (some_is x n e) (set_here marks x l)) (λ no. absurd no) i)
+        h,
   );
 }
 
@@ -49,7 +51,8 @@ pub marks_none : (marks : List Bool) → Marks (None ∷ []) marks marks
 marks_none marks = marks_nothing (λ n. In (Some n) (None ∷ [])) marks (λ n i. ⊎_elim (λ e. cc) (λ no. no) i)
 
 pub marks_append : (xs ys : List (Option ℕ)) (a b c : List Bool) → Marks xs a b → Marks ys b c → Marks (xs ++ ys) a c
-marks_append xs ys a b c x y = marks_both (λ n. In (Some n) xs) (λ n. In (Some n) ys) (λ n. In (Some n) (xs ++ ys)) a b c (λ n. (in_cases (Some n) xs ys, λ h. ⊎_elim (in_left (Some n) xs ys) (in_right (Some n) xs ys) h)) x y
+marks_append xs ys a b c x y = marks_both (λ n. In (Some n) xs) (λ n. In (Some n) ys) (λ n. In (Some n) (xs ++ ys)) a b c
+    (λ n. (in_cases (Some n) xs ys, λ h. ⊎_elim (in_left (Some n) xs ys) (in_right (Some n) xs ys) h)) x y
 
 -- ---- operands, one after the other
 
@@ -65,21 +68,26 @@ asked_step : (b : Bool) (t : Option ℕ) (xs ys : List (Option ℕ)) → (if b t
 asked_step true t xs ys = refl
 asked_step false t xs ys = refl
 
-asked_more : (u : Bool) (os : List Operand) (into : List (Option ℕ)) (k : ℕ) (d : Operand) → k < length os → asked_tops u (take (suc k) os) into ≡ asked_tops u (take k os) into ++ if_asked (is_asked u (get_or os k d)) (get_or into k None)
+asked_more : (u : Bool) (os : List Operand) (into : List (Option ℕ)) (k : ℕ) (d : Operand) → k < length os → asked_tops u (take (suc k) os) into ≡ asked_tops u (take k os) into
+    ++ if_asked (is_asked u (get_or os k d)) (get_or into k None)
 asked_more u [] into k d l = absurd (omega arith)
 asked_more u (o ∷ os) into zero d l = ap (if_asked (is_asked u o)) (at_next into)
 asked_more u (o ∷ os) into (suc k) d l =
-    ap (λ (ts : List (Option ℕ)). if is_asked u o then next_top into ∷ ts else ts) (asked_more u os (later_tops into) k d (omega arith) ∙ ap (λ (t : Option ℕ). asked_tops u (take k os) (later_tops into) ++ if_asked (is_asked u (get_or os k d)) t) (at_later into k))
+    ap (λ (ts : List (Option ℕ)). if is_asked u o then next_top into ∷ ts else ts)
+    (asked_more u os (later_tops into) k d (omega arith) ∙ ap (λ (t : Option ℕ). asked_tops u (take k os) (later_tops into) ++ if_asked (is_asked u (get_or os k d)) t) (at_later into k))
     ∙ asked_step (is_asked u o) (next_top into) (asked_tops u (take k os) (later_tops into)) (if_asked (is_asked u (get_or os k d)) (get_or into (suc k) None))
 
-pub asked_next : (u : Bool) (os : List Operand) (into : List (Option ℕ)) (k : ℕ) (d : Operand) (old now new : List Bool) (b : Bool) (top : Option ℕ) → k < length os → b ≡ is_asked u (get_or os k d) → top ≡ get_or into k None
+pub asked_next : (u : Bool) (os : List Operand) (into : List (Option ℕ)) (k : ℕ) (d : Operand) (old now new : List Bool) (b : Bool) (top : Option ℕ) → k < length os → b ≡ is_asked u (get_or os k d)
+    → top ≡ get_or into k None
     → Marks (asked_tops u (take k os) into) old now → Marks (if_asked b top) now new → Marks (asked_tops u (take (k + 1) os) into) old new
 asked_next u os into k d old now new b top l f e m n =
     let one : suc k ≡ k + 1 = omega arith in
-    subst (λ (ts : List (Option ℕ)). Marks ts old new) ((λ i. asked_tops u (take k os) into ++ if_asked (f i) (e i)) ∙ sym (asked_more u os into k d l) ∙ ap (λ (j : ℕ). asked_tops u (take j os) into) one)
+    subst (λ (ts : List (Option ℕ)). Marks ts old new) ((λ i. asked_tops u (take k os) into ++ if_asked (f i) (e i)) ∙ sym (asked_more u os into k d l)
+    ∙ ap (λ (j : ℕ). asked_tops u (take j os) into) one)
     (marks_append (asked_tops u (take k os) into) (if_asked b top) old now new m n)
 
-pub asked_all : (u : Bool) (os : List Operand) (into : List (Option ℕ)) (k : ℕ) (old now : List Bool) → length os ≤ k → Marks (asked_tops u (take k os) into) old now → Marks (asked_tops u os into) old now
+pub asked_all : (u : Bool) (os : List Operand) (into : List (Option ℕ)) (k : ℕ) (old now : List Bool) → length os ≤ k → Marks (asked_tops u (take k os) into) old now
+    → Marks (asked_tops u os into) old now
 asked_all u os into k old now le m = subst (λ (ps : List Operand). Marks (asked_tops u ps into) old now) (take_all k os le) m
 
 pub marks_empty : (old : List Bool) → Marks [] old old

@@ -8,12 +8,12 @@ use Rattle.dwz_alike.specs.Spots.{Spot}
 use Rattle.dwz_alike.proofs.Targets.{or_first, or_second}
 use Rattle.dwz_docs.specs.Entries.{RawAttr}
 use Rattle.dwz_docs.specs.Units.{RawUnit}
+use Rattle.dwz_docs.proofs.ListFacts.{drop_here}
 use Rattle.dwz_flat.specs.Rows.{AreAttrsMeant, IsEntryMeant, node_refs}
 use Rattle.dwz_flat.proofs.StepLemmas.{entry, sibling, value}
 use Rattle.dwz_meanings.specs.Documents.{Attr, Node, Value, attr_map, node_map}
 use Rattle.dwz_meanings.specs.Meanings.{Scope, attr_with, meaning}
 use Rattle.dwz_resolve.specs.Named.{attrs_refs, value_refs}
-use Rattle.dwz_resolve.proofs.RowLemmas.{drop_here}
 use Rattle.dwz_spread.specs.Spreading.{IsMarked}
 use Rattle.dwz_unit.specs.Rows.{EntryRow}
 use Rattle.dwz_scan.specs.Bound.{AreInto}
@@ -37,10 +37,12 @@ pub record MarkLeft (test : Test) (raw : List RawUnit) (s : Scope ℕ) (name : �
   pub each : (n : ℕ) → n < length old → (IsMarked now n ⊎ (said test name attrs n ≡ true)) ↔ (IsMarked old n ⊎ (all n ≡ true))
 
 module _ (test : Test) (raw : List RawUnit) (s : Scope ℕ) (name : ℕ → Spot) where
-  pub mark_all : (numbers : List ℕ) (i : ℕ) (r : EntryRow) (d : Node ℕ) (into : List (Option ℕ)) (old : List Bool) → IsEntryMeant raw s i numbers r d → AreInto name into (node_refs d) → MarkLeft test raw s name r.entry.attrs into old old (λ n. any_attr (test n) (node_map name d))
+  pub mark_all : (numbers : List ℕ) (i : ℕ) (r : EntryRow) (d : Node ℕ) (into : List (Option ℕ)) (old : List Bool) → IsEntryMeant raw s i numbers r d → AreInto name into (node_refs d)
+      → MarkLeft test raw s name r.entry.attrs into old old (λ n. any_attr (test n) (node_map name d))
   mark_all numbers i r d into old m h = record { numbers = numbers; attrs = d.attrs; meant = entry raw s i numbers r d m; tops_are = h; len = refl; each = λ n l. (λ x. x, λ x. x) }
 
-  pub mark_sibling : (values : List RawAttr) (j : ℕ) (a : RawAttr) (into : List (Option ℕ)) (old now : List Bool) (all : ℕ → Bool) → slice_get values j ≡ Some a → a.pair.name ≡ 0x01 → MarkLeft test raw s name (drop j values) into old now all → MarkLeft test raw s name (drop (j + 1) values) into old now all
+  pub mark_sibling : (values : List RawAttr) (j : ℕ) (a : RawAttr) (into : List (Option ℕ)) (old now : List Bool) (all : ℕ → Bool) → slice_get values j ≡ Some a → a.pair.name ≡ 0x01
+      → MarkLeft test raw s name (drop j values) into old now all → MarkLeft test raw s name (drop (j + 1) values) into old now all
   mark_sibling values j a into old now all is e h = record {
     numbers = h.numbers;
     attrs = h.attrs;
@@ -65,7 +67,8 @@ module _ (test : Test) (raw : List RawUnit) (s : Scope ℕ) (name : ℕ → Spot
         numbers = drop (length (value_refs n.value)) h.numbers;
         attrs = n.left;
         meant = n.rest;
-        tops_are = subst (λ (w : List (Option ℕ)). AreInto name w (attrs_refs n.left)) (ap (λ (k : ℕ). drop k into) z ∙ sym (behind n.value n.means)) (into_rest name into 0 (value_refs n.value) (attrs_refs n.left) both);
+        tops_are = subst (λ (w : List (Option ℕ)). AreInto name w (attrs_refs n.left)) (ap (λ (k : ℕ). drop k into) z ∙ sym (behind n.value n.means))
+            (into_rest name into 0 (value_refs n.value) (attrs_refs n.left) both);
         len = m.len ∙ h.len;
         each = λ k l. (
             let low : k < length now = (let e = h.len in omega arith) in

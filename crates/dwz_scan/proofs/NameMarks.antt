@@ -11,7 +11,9 @@ use Rattle.dwz_docs.specs.Lists.{In}
 use Rattle.dwz_meanings.specs.declared.exprs.Operand.{Operand}
 use Rattle.dwz_meanings.specs.Documents.{Plain, Sec, Value, attr_map, only, ref}
 use Rattle.dwz_meanings.specs.Exprs.{parts_from}
-use Rattle.dwz_meanings.specs.Meanings.{Class, IfSo, IsExpression, IsFileBy, IsLocList, MeansAs, OfAddress, OfBlock, OfCommonEntry, OfCommonText, OfConstant, OfExpression, OfFlag, OfIndex, OfInfoEntry, OfListIndex, OfOffset, OfSignature, OfText, OfTextBySlot, OfTextInLineStr, OfTextInStr, OfUnitEntry, Scope, Unread, attr_with, class_of, constant_value, meaning, names_file, names_list, number_of, offset_of, stmt_list, target_of, targets}
+use Rattle.dwz_meanings.specs.Meanings.{Class, IfSo, IsExpression, IsFileBy, IsLocList, MeansAs, OfAddress, OfBlock, OfCommonEntry, OfCommonText, OfConstant, OfExpression, OfFlag, OfIndex}
+use Rattle.dwz_meanings.specs.Meanings.{OfInfoEntry, OfListIndex, OfOffset, OfSignature, OfText, OfTextBySlot, OfTextInLineStr, OfTextInStr, OfUnitEntry, Scope, Unread, attr_with, class_of}
+use Rattle.dwz_meanings.specs.Meanings.{constant_value, meaning, names_file, names_list, number_of, offset_of, stmt_list, target_of, targets}
 use Rattle.dwz_meanings.proofs.MeaningLemmas.{value_agrees}
 use Rattle.dwz_moving.specs.Plan.{pins, uleb_targets}
 use Rattle.dwz_resolve.specs.Named.{value_refs}
@@ -50,7 +52,8 @@ asked_same name n u (o ∷ os) [] into many h = absurd (omega (arith, many))
 asked_same name n u (o ∷ os) (p ∷ refs) [] many h = absurd h
 asked_same name n u (o ∷ os) (p ∷ refs) (t ∷ into) many h = by (is_asked u o) (asked_same name n u os refs into (omega (arith, many)) h.1) where
   by : (b : Bool) → Both n u os (map name refs) into
-      → (list_any (is_in n) (if b then name p ∷ asked_spots u os (map name refs) else asked_spots u os (map name refs)) ≡ true) ↔ In (Some n) (if b then t ∷ asked_tops u os into else asked_tops u os into)
+      → (list_any (is_in n) (if b then name p ∷ asked_spots u os (map name refs) else asked_spots u os (map name refs)) ≡ true) ↔ In (Some n)
+      (if b then t ∷ asked_tops u os into else asked_tops u os into)
   by true more = (
     λ e. ⊎_elim (λ x. inl (h.0 ∙ (is_top n (name p)).0 x)) (λ y. inr (more.0 y)) (or_cases (is_in n (name p)) (list_any (is_in n) (asked_spots u os (map name refs))) e),
     λ i. ⊎_elim (λ e. or_first (is_in n (name p)) _ ((is_top n (name p)).1 (sym h.0 ∙ e))) (λ j. or_second (is_in n (name p)) _ (more.1 j)) i,
@@ -74,13 +77,17 @@ ulebs_asked at bytes [] (s ∷ spots) many = absurd (omega (arith, many))
 ulebs_asked at bytes (o ∷ os) [] many = absurd (omega (arith, many))
 ulebs_asked at bytes (o ∷ os) (s ∷ spots) many = by o.uleb (ulebs_asked (o.at + o.width) (drop (o.at + o.width - at) bytes) os spots (omega (arith, many))) where
   by : (b : Bool) → uleb_targets (parts_from (o.at + o.width) (drop (o.at + o.width - at) bytes) os) spots ≡ asked_spots true os spots
-      → (elim b as (λ _. List Spot) [ true ↦ s ∷ uleb_targets (parts_from (o.at + o.width) (drop (o.at + o.width - at) bytes) os) spots | false ↦ uleb_targets (parts_from (o.at + o.width) (drop (o.at + o.width - at) bytes) os) spots ])
+      → (elim b as (λ _. List Spot) [
+        | true ↦ s ∷ uleb_targets (parts_from (o.at + o.width) (drop (o.at + o.width - at) bytes) os) spots
+        | false ↦ uleb_targets (parts_from (o.at + o.width) (drop (o.at + o.width - at) bytes) os) spots
+      ])
       ≡ (if b || false then s ∷ asked_spots true os spots else asked_spots true os spots)
   by true e = ap (λ (w : List Spot). s ∷ w) e
   by false e = e
 
 -- an expression names no top where it has no operand
-some_operand : (at : ℕ) (bytes : List ℕ) (os : List Operand) (spots : List Spot) (n : ℕ) → length spots ≡ length os → (list_any is_operand (parts_from at bytes os) && list_any (is_in n) spots) ≡ list_any (is_in n) spots
+some_operand : (at : ℕ) (bytes : List ℕ) (os : List Operand) (spots : List Spot) (n : ℕ) → length spots ≡ length os → (list_any is_operand (parts_from at bytes os) && list_any (is_in n) spots)
+    ≡ list_any (is_in n) spots
 unfolding parts_from
 some_operand at bytes [] [] n many = refl
 some_operand at bytes [] (s ∷ spots) n many = absurd (omega (arith, many))

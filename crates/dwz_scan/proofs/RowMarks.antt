@@ -33,17 +33,20 @@ pub record RowsMarkLeft (test : Test) (raw : List RawUnit) (s : Scope ℕ) (name
   pub each : (n : ℕ) → n < length old → (IsMarked now n ⊎ (rows_said test name ds n ≡ true)) ↔ (IsMarked old n ⊎ (all n ≡ true))
 
 module _ (test : Test) (raw : List RawUnit) (s : Scope ℕ) (name : ℕ → Spot) (into : List (Option ℕ)) (starts : List ℕ) (end : ℕ) where
-  pub rows_mark_all : (first : ℕ) (numbers : List ℕ) (rows after : List EntryRow) (ds : List (Node ℕ)) (old : List Bool) → AreRowsMeant raw s first end numbers rows after ds → EachInto name into starts first ds → RowsMarkLeft test raw s name into starts first end old old (rows_said test name ds)
+  pub rows_mark_all : (first : ℕ) (numbers : List ℕ) (rows after : List EntryRow) (ds : List (Node ℕ)) (old : List Bool) → AreRowsMeant raw s first end numbers rows after ds
+      → EachInto name into starts first ds → RowsMarkLeft test raw s name into starts first end old old (rows_said test name ds)
   rows_mark_all first numbers rows after ds old m h = record { numbers = numbers; rows = rows; after = after; ds = ds; meant = m; tops_are = h; len = refl; each = λ n l. (λ x. x, λ x. x) }
 
   pub rows_mark_more : (i : ℕ) (old now new : List Bool) (all : ℕ → Bool) → i < end
-      → ((numbers : List ℕ) (r : EntryRow) (d : Node ℕ) → IsEntryMeant raw s i numbers r d → AreInto name (drop (slice_index starts i) into) (node_refs d) → MarksIf (λ n. any_attr (test n) (node_map name d) ≡ true) now new)
+      → ((numbers : List ℕ) (r : EntryRow) (d : Node ℕ) → IsEntryMeant raw s i numbers r d → AreInto name (drop (slice_index starts i) into) (node_refs d)
+      → MarksIf (λ n. any_attr (test n) (node_map name d) ≡ true) now new)
       → RowsMarkLeft test raw s name into starts i end old now all → RowsMarkLeft test raw s name into starts (i + 1) end old new all
   rows_mark_more i old now new all lt marks h =
       let n = row raw s i end h.numbers h.rows h.after h.ds lt h.meant in
       let both : EachInto name into starts i (n.d ∷ n.left) = subst (λ (ds : List (Node ℕ)). EachInto name into starts i ds) n.ds_are h.tops_are in
       let m = marks h.numbers n.row n.d n.entry both.0 in
-      let split : (k : ℕ) → rows_said test name h.ds k ≡ (any_attr (test k) (node_map name n.d) || rows_said test name n.left k) = λ k. ap (λ (ds : List (Node ℕ)). rows_said test name ds k) n.ds_are in
+      let split : (k : ℕ) → rows_said test name h.ds k ≡ (any_attr (test k) (node_map name n.d) || rows_said test name n.left k) = λ k. ap (λ (ds : List (Node ℕ)). rows_said test name ds k)
+      n.ds_are in
       record {
         numbers = drop (length (node_refs n.d)) h.numbers;
         rows = n.others;

@@ -1,6 +1,7 @@
 -- Each top stands where its file's index says.
-use Rattle.std.proofs.Common.{◌≡◌, ℕ, zero, suc, ◌+◌, ◌<◌, List, [], ◌∷◌, ◌++◌, length, map, get_or, Some, Ok, slice_get, sym, ap, subst, ◌∙◌, arith}
+use Rattle.std.proofs.Common.{◌≡◌, ℕ, ◌+◌, ◌<◌, List, [], ◌++◌, map, Some, Ok, slice_get, sym, ap, subst, ◌∙◌, arith}
 use Rattle.std.proofs.lemmas.List.{get_or-map}
+use Rattle.std.proofs.lemmas.Option.{get_or_from_slice_get}
 use Rattle.dwz_alike.specs.Spots.{LabelledTop, Spot, Top, Within, in_file, named, spot_in, spots_from, tops_from}
 use Rattle.dwz_alike.proofs.NameLists.{spots_firsts}
 use Rattle.dwz_docs.specs.Lists.{In}
@@ -8,9 +9,9 @@ use Rattle.dwz_docs.specs.Entries.{RawEntry}
 use Rattle.dwz_docs.specs.Trees.{End, Entry, behind}
 use Rattle.dwz_docs.specs.Units.{RawUnit, entries_in}
 use Rattle.dwz_docs.proofs.PartLemmas.{bind_ok}
+use Rattle.dwz_docs.proofs.ListFacts.{drop_first, got_below, same_got}
 use Rattle.dwz_flat.specs.Tops.{HasTopOfFile}
 use Rattle.dwz_flat.proofs.FileTops.{file_top}
-use Rattle.dwz_flat.proofs.StepLemmas.{first_of}
 use Rattle.dwz_flat.proofs.TreeLemmas.{parts}
 use Rattle.dwz_index.specs.declared.index.Starts.{Starts}
 use Rattle.dwz_index.specs.declared.index.TopEntry.{TopEntry}
@@ -33,19 +34,6 @@ use Rattle.dwz_unit.specs.Rows.{EntryRow, rows_below, rows_of, shown_entries}
 use Rattle.dwz_scan.specs.Known.{StandsAt}
 use Rattle.dwz_scan.proofs.RowSteps.{shown_row}
 
-below : {X : Type 0} (xs : List X) (i : ℕ) (x : X) → slice_get xs i ≡ Some x → i < length xs
-below [] i x e = absurd cc
-below (y ∷ xs) zero x e = omega arith
-below (y ∷ xs) (suc i) x e = let l = below xs i x e in omega arith
-
-same_item : {X : Type 0} (xs : List X) (i : ℕ) (x y : X) → slice_get xs i ≡ Some x → slice_get xs i ≡ Some y → x ≡ y
-same_item {X} xs i x y p q = let both : Some x ≡ Some y = sym p ∙ q in cc
-
-got_or : {X : Type 0} (xs : List X) (i : ℕ) (x d : X) → slice_get xs i ≡ Some x → get_or xs i d ≡ x
-got_or [] i x d e = absurd cc
-got_or (y ∷ xs) zero x d e = cc
-got_or (y ∷ xs) (suc i) x d e = got_or xs i x d e
-
 -- where an entry stands that is meant
 node_place : (s : Scope ℕ) (e : RawEntry) (d : Node ℕ) → node_meaning s e ≡ Ok d → d.at ≡ s.around.place e.at
 node_place s e d h =
@@ -54,7 +42,8 @@ node_place s e d h =
     let same : n ≡ d = cc in
     ap (λ (w : Node ℕ). w.at) (sym same)
 
-module _ (l : Limits) (bytes : List ℕ) (raw : List RawUnit) (doc : Doc ℕ) (starts : Starts) (file : ℕ) (t : Top) (reads : file_meaning l bytes ≡ Ok (raw, doc)) (once : NoneTwice (units_keys doc.units))
+module _ (l : Limits) (bytes : List ℕ) (raw : List RawUnit) (doc : Doc ℕ) (starts : Starts) (file : ℕ) (t : Top) (reads : file_meaning l bytes ≡ Ok (raw, doc))
+    (once : NoneTwice (units_keys doc.units))
     (is : In t (tops_from starts.unit starts.top (map (in_file file) (named starts.unit starts.top doc.units)))) where
   abbrev spots : List (ℕ × Spot)
   spots = spots_from starts.unit starts.top doc.units
@@ -79,13 +68,14 @@ module _ (l : Limits) (bytes : List ℕ) (raw : List RawUnit) (doc : Doc ℕ) (s
 
   row_here : slice_get (rows_of raw) i ≡ Some row
   unfolding rows_below
-  row_here = (first_of (rows_of raw) i row ((rows_below h.top.c h.n (record { before = i + 1; depth = h.top.p.depth + 1 }) ++ []) ++ h.top.after) h.top.stand).0
+  row_here = (drop_first (rows_of raw) i row ((rows_below h.top.c h.n (record { before = i + 1; depth = h.top.p.depth + 1 }) ++ []) ++ h.top.after) h.top.stand).0
 
   within : i < entries_in raw
-  within = let a = below (rows_of raw) i row row_here in let b = rows-length raw in omega arith
+  within = let a = got_below (rows_of raw) i row row_here in let b = rows-length raw in omega arith
 
   place_is : place_at raw i ≡ h.top.e.at
-  place_is = get_or-map (λ (r : EntryRow). r.entry.at) (rows_of raw) i row 0 (below (rows_of raw) i row row_here) ∙ ap (λ (r : EntryRow). r.entry.at) (got_or (rows_of raw) i row row row_here)
+  place_is = get_or-map (λ (r : EntryRow). r.entry.at) (rows_of raw) i row 0 (got_below (rows_of raw) i row row_here)
+      ∙ ap (λ (r : EntryRow). r.entry.at) (get_or_from_slice_get (rows_of raw) i row row row_here)
 
   -- its name is that of the top
   named_so : slice_get (names_from starts.unit starts.top doc.units) i ≡ Some (Within t.number [])
@@ -98,12 +88,14 @@ module _ (l : Limits) (bytes : List ℕ) (raw : List RawUnit) (doc : Doc ℕ) (s
       ∙ ap (λ (q : ℕ). Some (name q)) (place_is ∙ sym at)
       ∙ ap (λ (q : Spot). Some q) (sym own ∙ labelled.0)
 
-  pub stands_there : (k : ℕ) (x : TopEntry) (e : RawEntryOfCode) → slice_get (all_tops is_space starts 0 (map below_root doc.units)) k ≡ Some x → t.number ≡ starts.top + k → slice_get (shown_entries raw) x.entry ≡ Some e
+  pub stands_there : (k : ℕ) (x : TopEntry) (e : RawEntryOfCode) → slice_get (all_tops is_space starts 0 (map below_root doc.units)) k ≡ Some x → t.number ≡ starts.top + k
+      → slice_get (shown_entries raw) x.entry ≡ Some e
       → StandsAt (around_of bytes raw) name raw doc.units file starts.unit t x.entry e.end
   stands_there k x e got number shown =
       let f = found starts doc.units (read_whole l bytes raw doc reads) i t.number named_so in
       let same_k : f.behind ≡ k = (let a = f.number in omega arith) in
-      let same_x : f.top ≡ x = same_item (all_tops is_space starts 0 (map below_root doc.units)) k f.top x (subst (λ (j : ℕ). slice_get (all_tops is_space starts 0 (map below_root doc.units)) j ≡ Some f.top) same_k f.found) got in
+      let same_x : f.top ≡ x = same_got (all_tops is_space starts 0 (map below_root doc.units)) k f.top x
+      (subst (λ (j : ℕ). slice_get (all_tops is_space starts 0 (map below_root doc.units)) j ≡ Some f.top) same_k f.found) got in
       let from : i ≡ x.entry = sym f.entry ∙ ap (λ (w : TopEntry). w.entry) same_x in
       let ends = ap (λ (w : RawEntryOfCode). w.end) (shown_row raw x.entry row e (subst (λ (j : ℕ). slice_get (rows_of raw) j ≡ Some row) from row_here) shown) in
       record { stands = h; from = from; to = omega arith }

@@ -30,7 +30,8 @@ pub record RowsBindLeft (raw : List RawUnit) (s : Scope ℕ) (tops : List Top) (
   pub asks : rows_bind tops unit name ds ≡ all
 
 module _ (raw : List RawUnit) (s : Scope ℕ) (tops : List Top) (unit : ℕ) (name : ℕ → Spot) (into : List (Option ℕ)) (starts : List ℕ) (end : ℕ) where
-  pub bind_all_rows : (first : ℕ) (numbers : List ℕ) (rows after : List EntryRow) (ds : List (Node ℕ)) → AreRowsMeant raw s first end numbers rows after ds → EachInto name into starts first ds → RowsBindLeft raw s tops unit name into starts first end (rows_bind tops unit name ds)
+  pub bind_all_rows : (first : ℕ) (numbers : List ℕ) (rows after : List EntryRow) (ds : List (Node ℕ)) → AreRowsMeant raw s first end numbers rows after ds → EachInto name into starts first ds
+      → RowsBindLeft raw s tops unit name into starts first end (rows_bind tops unit name ds)
   bind_all_rows first numbers rows after ds m h = record { numbers = numbers; rows = rows; after = after; ds = ds; meant = m; tops_are = h; asks = refl }
 
   -- the next row
@@ -78,9 +79,11 @@ somes_more [] i l = absurd (omega arith)
 somes_more (t ∷ into) zero l = append-nil (some_of t)
 somes_more (t ∷ into) (suc i) l = ap (λ (ts : List ℕ). some_of t ++ ts) (somes_more into i (omega arith)) ∙ sym (append_assoc (some_of t) (somes (take i into)) (some_of (get_or into i None)))
 
-pub targets_more : (top : ℕ) (into : List (Option ℕ)) (i : ℕ) (old now new : List Pair) → i < length into → now ≡ old ++ map (target_of top) (somes (take i into)) → new ≡ now ++ map (target_of top) (some_of (get_or into i None)) → new ≡ old ++ map (target_of top) (somes (take (i + 1) into))
+pub targets_more : (top : ℕ) (into : List (Option ℕ)) (i : ℕ) (old now new : List Pair) → i < length into → now ≡ old ++ map (target_of top) (somes (take i into))
+    → new ≡ now ++ map (target_of top) (some_of (get_or into i None)) → new ≡ old ++ map (target_of top) (somes (take (i + 1) into))
 targets_more top into i old now new l e f =
     let one : suc i ≡ i + 1 = omega arith in
     f ∙ ap (λ (w : List Pair). w ++ map (target_of top) (some_of (get_or into i None))) e
     ∙ append_assoc old (map (target_of top) (somes (take i into))) (map (target_of top) (some_of (get_or into i None)))
-    ∙ ap (λ (w : List Pair). old ++ w) (sym (map-append (target_of top) (somes (take i into)) (some_of (get_or into i None))) ∙ ap (map (target_of top)) (sym (somes_more into i l) ∙ ap (λ (k : ℕ). somes (take k into)) one))
+    ∙ ap (λ (w : List Pair). old ++ w) (sym (map-append (target_of top) (somes (take i into)) (some_of (get_or into i None)))
+    ∙ ap (map (target_of top)) (sym (somes_more into i l) ∙ ap (λ (k : ℕ). somes (take k into)) one))

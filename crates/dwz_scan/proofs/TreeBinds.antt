@@ -21,7 +21,8 @@ or_none false true = refl
 or_none false false = refl
 
 -- an entry with all below it
-pub any_whole : (test : Node Spot → Bool) (name : ℕ → Spot) (d : Node ℕ) (g : Entries ℕ) → (test (node_map name d) || any_entry test (entries_map name g)) ≡ list_any test (map (node_map name) (nodes (Entry d g End)))
+pub any_whole : (test : Node Spot → Bool) (name : ℕ → Spot) (d : Node ℕ) (g : Entries ℕ) → (test (node_map name d) || any_entry test (entries_map name g))
+    ≡ list_any test (map (node_map name) (nodes (Entry d g End)))
 unfolding any_entry entries_map
 any_whole test name d g =
     sym (or_none (test (node_map name d)) (any_entry test (entries_map name g)))

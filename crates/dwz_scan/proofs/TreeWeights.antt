@@ -11,10 +11,11 @@ use Rattle.dwz_meanings.specs.Documents.{Entries, Node, entries_map, node_map}
 use Rattle.dwz_meanings.specs.Meanings.{Scope, entries_meaning}
 use Rattle.dwz_moving.specs.Gain.{entries_weight, top_weight}
 use Rattle.dwz_unit.specs.Rows.{EntryRow, rows_below}
-use Rattle.dwz_resolve.proofs.RowLemmas.{below-length}
+use Rattle.dwz_unit.proofs.RowLemmas.{shown-length}
 use Rattle.dwz_scan.specs.Weights.{node_weight, rows_weight}
 
-weight_append : (name : ℕ → Spot) (i : ℕ) (xs ys : List EntryRow) (as' bs : List (Node ℕ)) → length xs ≡ length as' → rows_weight name i (xs ++ ys) (as' ++ bs) ≡ rows_weight name i xs as' + rows_weight name (i + length xs) ys bs
+weight_append : (name : ℕ → Spot) (i : ℕ) (xs ys : List EntryRow) (as' bs : List (Node ℕ)) → length xs ≡ length as' → rows_weight name i (xs ++ ys) (as' ++ bs) ≡ rows_weight name i xs as'
+    + rows_weight name (i + length xs) ys bs
 unfolding rows_weight
 weight_append name i [] ys [] bs e = let z : i ≡ i + 0 = omega arith in let same = ap (λ (k : ℕ). rows_weight name k ys bs) z in omega arith
 weight_append name i [] ys (a ∷ as') bs e = absurd (omega (arith, e))
@@ -37,14 +38,15 @@ parent i n d (Entry x f g) w e =
     let own = ap (λ (b : Bool). node_weight b d) yes in
     omega (arith, own)
 
-pub tree_weighs : (s : Scope ℕ) (name : ℕ → Spot) (f : Forest RawEntry) (g : Entries ℕ) (unit : ℕ) (p : Position) → entries_meaning s f ≡ Ok g → rows_weight name p.before (rows_below f unit p) (nodes g) ≡ entries_weight (entries_map name g)
+pub tree_weighs : (s : Scope ℕ) (name : ℕ → Spot) (f : Forest RawEntry) (g : Entries ℕ) (unit : ℕ) (p : Position) → entries_meaning s f ≡ Ok g
+    → rows_weight name p.before (rows_below f unit p) (nodes g) ≡ entries_weight (entries_map name g)
 unfolding rows_below nodes rows_weight entries_map entries_weight
 tree_weighs s name End g unit p h = subst (λ (w : Entries ℕ). rows_weight name p.before [] (nodes w) ≡ entries_weight (entries_map name w)) (no_more s g h) refl
 tree_weighs s name (Entry e c n) g unit p h =
     let x = parts s e c n g h in
     let first = rows_below c unit (first_below p) in
     let rest = rows_below n unit (behind p c) in
-    let many : length first ≡ size c = below-length c unit (first_below p) in
+    let many : length first ≡ size c = shown-length c unit (first_below p) in
     let count : length first ≡ length (nodes x.below) = omega (arith, many, nodes_many x.below, same_size s c x.below x.of_below) in
     let split = weight_append name (p.before + 1) first rest (nodes x.below) (nodes x.next) count in
     let below = tree_weighs s name c x.below unit (first_below p) x.of_below in

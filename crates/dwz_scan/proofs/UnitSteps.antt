@@ -1,22 +1,21 @@
 -- The rows of a unit, with the tops that its references go into.
-use Rattle.std.proofs.Common.{◌≡◌, ℕ, zero, suc, ◌+◌, List, [], ◌∷◌, ◌++◌, Option, length, drop, Some, Ok, Err, Result, slice_get, refl, sym, ap, ◌∙◌, arith}
-use Rattle.std.specs.Prelude.{OnOk, slice_index}
+use Rattle.std.proofs.Common.{◌≡◌, ℕ, zero, suc, ◌+◌, List, [], ◌∷◌, ◌++◌, Option, length, drop, Some, Ok, slice_get, refl, sym, ap, ◌∙◌, arith}
+use Rattle.std.specs.Prelude.{slice_index}
 use Rattle.std.proofs.lemmas.List.{append_assoc, drop_at, length-append}
 use Rattle.dwz_alike.specs.Alike.{any_attr}
 use Rattle.dwz_alike.specs.Spots.{Spot}
-use Rattle.dwz_bytes.specs.Reading.{◌>>=◌}
 use Rattle.dwz_docs.specs.Entries.{root_position}
 use Rattle.dwz_docs.specs.Trees.{End, Entry}
 use Rattle.dwz_docs.specs.Units.{RawUnit, entry_count}
-use Rattle.dwz_docs.proofs.PartLemmas.{bind_ok}
 use Rattle.dwz_flat.specs.Rows.{AreRowsMeant, RowsMean, nodes}
 use Rattle.dwz_flat.proofs.PartLemmas.{part_meant, rows_unit}
 use Rattle.dwz_flat.proofs.TreeLemmas.{tree_means}
 use Rattle.dwz_meanings.specs.Documents.{DwUnit, Node, unit_map}
-use Rattle.dwz_meanings.specs.Meanings.{Around, entries_meaning, kind_meaning, node_meaning, scope_of, unit_meaning, unit_with, with_next}
-use Rattle.dwz_resolve.proofs.RowLemmas.{in-length}
+use Rattle.dwz_meanings.specs.Meanings.{Around, scope_of, unit_meaning}
+use Rattle.dwz_meanings.proofs.UnitMeans.{root_is}
 use Rattle.dwz_unit.specs.declared.rows.RawUnit.{RawUnit as UnitOfCode}
 use Rattle.dwz_unit.specs.Rows.{EntryRow, rows_from, rows_in, rows_of, shown_from, shown_units, unit_shown}
+use Rattle.dwz_unit.proofs.ShownLemmas.{rows_in-length}
 use Rattle.dwz_scan.specs.Bound.{EachInto}
 use Rattle.dwz_scan.specs.Known.{KnowsRefs, in_unit}
 use Rattle.dwz_scan.proofs.FileSteps.{each_into}
@@ -51,7 +50,7 @@ rows_at (u ∷ raw) k before zero x e =
 rows_at (u ∷ raw) k before (suc n) x e =
     let r = rows_at raw (k + 1) (before + entry_count u) n x e in
     let here = rows_in u k before in
-    let len = in-length u k before in
+    let len = rows_in-length u k before in
     let many = r.many in
     let both = length-append here r.front in
     let z : k + 1 + n ≡ k + suc n = omega arith in record {
@@ -59,25 +58,16 @@ rows_at (u ∷ raw) k before (suc n) x e =
       is_unit = r.is_unit;
       front = here ++ r.front;
       after = r.after;
-      rows = ap (λ (w : List EntryRow). here ++ w) (r.rows ∙ ap (λ (j : ℕ). r.front ++ (rows_in r.u j x.first ++ r.after)) z) ∙ sym (append_assoc here r.front (rows_in r.u (k + suc n) x.first ++ r.after));
+      rows = ap (λ (w : List EntryRow). here ++ w) (r.rows ∙ ap (λ (j : ℕ). r.front ++ (rows_in r.u j x.first ++ r.after)) z)
+          ∙ sym (append_assoc here r.front (rows_in r.u (k + suc n) x.first ++ r.after));
       many = omega arith;
     }
 
 -- ---- a unit that means something
 
-root_is : (around : Around ℕ) (u : RawUnit) (v : DwUnit ℕ) → unit_meaning around u ≡ Ok v → entries_meaning (scope_of around u) (Entry u.root u.below End) ≡ Ok (Entry v.root v.below End)
-unfolding entries_meaning
-root_is around u v e =
-    let s = scope_of around u in
-    let x = bind_ok (kind_meaning s u.kind) (λ kind. node_meaning s u.root >>= λ root. entries_meaning s u.below >>= unit_with around u kind root) v e in
-    let y = bind_ok (node_meaning s u.root) (λ root. entries_meaning s u.below >>= unit_with around u x.0 root) v x.2 in
-    let z = bind_ok (entries_meaning s u.below) (unit_with around u x.0 y.0) v y.2 in
-    let is : record { at = around.place u.at; kind = x.0; root = y.0; below = z.0 } ≡ v = cc in
-    (λ i. y.1 i >>= λ d. entries_meaning s u.below >>= λ below. Ok End >>= with_next d below)
-    ∙ (λ i. z.1 i >>= λ below. Ok End >>= with_next y.0 below)
-    ∙ (λ i. Ok (Entry (is i).root (is i).below End))
-
-module _ (around : Around ℕ) (raw : List RawUnit) (name : ℕ → Spot) (refs starts : List ℕ) (into : List (Option ℕ)) (knows : KnowsRefs around raw name refs starts into) (n : ℕ) (u : RawUnit) (v : DwUnit ℕ) (x : UnitOfCode) (is_unit : slice_get raw n ≡ Some u) (means : unit_meaning around u ≡ Ok v) (shown : slice_get (shown_units raw) n ≡ Some x) (end : ℕ) (to : x.first + entry_count u ≡ end) where
+module _ (around : Around ℕ) (raw : List RawUnit) (name : ℕ → Spot) (refs starts : List ℕ) (into : List (Option ℕ)) (knows : KnowsRefs around raw name refs starts into) (n : ℕ) (u : RawUnit)
+    (v : DwUnit ℕ) (x : UnitOfCode) (is_unit : slice_get raw n ≡ Some u) (means : unit_meaning around u ≡ Ok v) (shown : slice_get (shown_units raw) n ≡ Some x) (end : ℕ)
+    (to : x.first + entry_count u ≡ end) where
   abbrev pub there : UnitRows (rows_of raw) raw 0 0 n x
   there = rows_at raw 0 0 n x shown
 
@@ -100,15 +90,11 @@ module _ (around : Around ℕ) (raw : List RawUnit) (name : ℕ → Spot) (refs 
   rows_mean = tree_means (scope_of around u) (Entry u.root u.below End) (Entry v.root v.below End) n (root_position x.first) (root_is around u v means)
 
   pub unit_meant : AreRowsMeant raw (scope_of around u) x.first end (drop (slice_index starts x.first) refs) rows there.after ds
-  unit_meant = part_meant around raw refs starts knows.parted knows.entries n u is_unit x.first end rows there.after ds (rows_unit (Entry u.root u.below End) n (root_position x.first)) found (let many = in-length u n x.first in omega arith) rows_mean
+  unit_meant = part_meant around raw refs starts knows.parted knows.entries n u is_unit x.first end rows there.after ds (rows_unit (Entry u.root u.below End) n (root_position x.first)) found
+      (let many = rows_in-length u n x.first in omega arith) rows_mean
 
   pub unit_into : EachInto name into starts x.first ds
   unit_into = each_into around raw name refs starts into knows n u is_unit x.first rows there.after ds (rows_unit (Entry u.root u.below End) n (root_position x.first)) found rows_mean
 
   pub unit_said : (test : Test) (t : ℕ) → rows_said test name ds t ≡ in_unit (any_attr (test t)) (unit_map name v)
   unit_said test t = sym (any_whole (any_attr (test t)) name v.root v.below)
-
--- what holds after a call, from what else does
-pub on_ok : {X E : Type 0} (r : Result X E) (A B : Type 0) → (A → B) → OnOk r A → OnOk r B
-on_ok (Ok x) A B f h = f h
-on_ok (Err e) A B f h = h

@@ -1,20 +1,21 @@
 -- What a value weighs, by the class of its form; an expression is as long whatever its operands are.
-use Rattle.std.proofs.Common.{◌≡◌, ◌≢◌, ℕ, ◌+◌, ◌-◌, ◌<◌, Bool, true, false, List, [], ◌∷◌, ◌++◌, length, map, take, drop, Option, Some, None, Ok, refl, sym, ap, subst, ◌∙◌, arith, if◌then◌else◌, ltb, ltb-true, ◌==◌, ◌||◌, not}
+use Rattle.std.proofs.Common.{◌≡◌, ◌≢◌, ℕ, ◌+◌, ◌-◌, ◌<◌, Bool, true, false, List, [], ◌∷◌, ◌++◌, length, map, take, drop, Option, Some, None, Ok, refl, sym, ap, subst, ◌∙◌, arith, if◌then◌else◌, ltb}
+use Rattle.std.proofs.Common.{ltb-true, ◌==◌, ◌||◌, not}
 use Rattle.std.specs.List.{list_all}
 use Rattle.std.proofs.Math.Logic.{inl, inr}
 use Rattle.std.proofs.lemmas.Bool.{eq-eqb, ne_eqb}
 use Rattle.std.proofs.lemmas.List.{length-append, length-map}
-use Rattle.dwz_bytes.specs.Spelling.{le_bytes, uleb}
-use Rattle.dwz_codes.specs.declared.shape.Shape.{Shape}
-use Rattle.dwz_codes.specs.declared.shape.Shape.TheVariants.{Fixed16, ZeroEnded, Block1, Block2, Block4, BlockUleb}
+use Rattle.dwz_bytes.specs.Spelling.{le_bytes}
 use Rattle.dwz_codes.specs.Forms.{form_rows}
 use Rattle.dwz_codes.specs.Rows.{RowView, row_of}
 use Rattle.dwz_docs.specs.Entries.{RawAttr}
-use Rattle.dwz_docs.specs.Values.{Bytes, HasSpelling, Number, Raw, SpellsShape, constant_of, run_bytes, shape_in, shape_of, value_bytes, written_rows}
+use Rattle.dwz_docs.specs.Values.{Bytes, HasSpelling, Number, Raw, SpellsShape, constant_of, shape_in, shape_of, value_bytes, written_rows}
 use Rattle.dwz_meanings.specs.declared.exprs.Operand.{Operand}
 use Rattle.dwz_meanings.specs.Documents.{Addr, Block, Expr, File, Flag, Index, Loc, Num, Plain, Ref, Sec, Sig, Text, Value, only, ref}
 use Rattle.dwz_meanings.specs.Exprs.{Expression, ExprContext, SpellsExpr, parts_from, parts_of}
-use Rattle.dwz_meanings.specs.Meanings.{Class, MeansAs, MeansValue, IfSo, OfAddress, OfBlock, OfCommonEntry, OfCommonText, OfConstant, OfExpression, OfFlag, OfIndex, OfInfoEntry, OfListIndex, OfOffset, OfSignature, OfText, OfTextBySlot, OfTextInLineStr, OfTextInStr, OfUnitEntry, Scope, Unread, bytes_of, class_in, class_of, class_rows, expr_context, meaning, constant_value, content_at, kept_width, names_file, names_list, number_of, offset_of, stmt_list, IsExpression, IsFileBy, IsLocList}
+use Rattle.dwz_meanings.specs.Meanings.{Class, MeansAs, MeansValue, IfSo, OfAddress, OfBlock, OfCommonEntry, OfCommonText, OfConstant, OfExpression, OfFlag, OfIndex, OfInfoEntry, OfListIndex}
+use Rattle.dwz_meanings.specs.Meanings.{OfOffset, OfSignature, OfText, OfTextBySlot, OfTextInLineStr, OfTextInStr, OfUnitEntry, Scope, Unread, bytes_of, class_in, class_of, class_rows, expr_context}
+use Rattle.dwz_meanings.specs.Meanings.{meaning, constant_value, content_at, kept_width, names_file, names_list, number_of, offset_of, stmt_list, IsExpression, IsFileBy, IsLocList}
 use Rattle.dwz_meanings.specs.Patching.{filled, number_bytes}
 use Rattle.dwz_meanings.proofs.ClassLemmas.{row_checked}
 use Rattle.dwz_meanings.proofs.CutLemmas.{le_len, number_len}
@@ -22,6 +23,7 @@ use Rattle.dwz_meanings.proofs.MeaningLemmas.{value_agrees}
 use Rattle.dwz_meanings.proofs.PatchedLemmas.{patched_length}
 use Rattle.dwz_moving.specs.Gain.{bare_bytes, value_weight}
 use Rattle.dwz_writing.proofs.StoredClasses.{class_agrees, is_bytes, is_number, rows_agree, stores_bytes}
+use Rattle.dwz_writing.proofs.WriteLengths.{run_len}
 use Rattle.dwz_scan.specs.Weights.{capped, set_weight}
 
 -- ---- counted up to 64
@@ -31,7 +33,8 @@ capped_add a b = grind arith
 
 -- ---- expressions
 
-bare_same : (at : ℕ) (bytes : List ℕ) (os : List Operand) (numbers : List ℕ) → length numbers ≡ length os → length (bare_bytes (parts_from at bytes os)) ≡ length (filled (parts_from at bytes os) numbers)
+bare_same : (at : ℕ) (bytes : List ℕ) (os : List Operand) (numbers : List ℕ) → length numbers ≡ length os
+    → length (bare_bytes (parts_from at bytes os)) ≡ length (filled (parts_from at bytes os) numbers)
 unfolding bare_bytes filled parts_from
 bare_same at bytes [] numbers many = refl
 bare_same at bytes (o ∷ os) [] many = absurd (omega (arith, many))
@@ -40,26 +43,22 @@ bare_same at bytes (o ∷ os) (n ∷ numbers) many =
     let bare = bare_bytes (parts_from (o.at + o.width) (drop (o.at + o.width - at) bytes) os) in
     let full = filled (parts_from (o.at + o.width) (drop (o.at + o.width - at) bytes) os) numbers in
     let front = take (o.at - at) bytes in
-    omega (arith, rest, le_len o.width 0, number_len o.uleb o.width n, length-append front (le_bytes o.width 0 ++ bare), length-append (le_bytes o.width 0) bare, length-append front (number_bytes o.uleb o.width n ++ full), length-append (number_bytes o.uleb o.width n) full)
+    omega (
+      arith,
+      rest,
+      le_len o.width 0,
+      number_len o.uleb o.width n,
+      length-append front (le_bytes o.width 0 ++ bare),
+      length-append (le_bytes o.width 0) bare,
+      length-append front (number_bytes o.uleb o.width n ++ full),
+      length-append (number_bytes o.uleb o.width n) full,
+    )
 
 pub bare_length : (c : ExprContext) (e : Expression) (start : ℕ) (bytes : List ℕ) → SpellsExpr c e start bytes → length (bare_bytes (parts_of e)) ≡ length bytes
 bare_length c e start bytes s =
     let zeros : List ℕ = map (λ (o : Operand). 0) e.operands in
     let many : length zeros ≡ length e.operands = length-map e.operands (λ (o : Operand). 0) in
     bare_same e.at e.bytes e.operands zeros many ∙ patched_length c e start bytes zeros s many
-
--- bytes are as long in a form as others of the same length
-front_same : (f : ℕ → List ℕ) (xs ys : List ℕ) → length xs ≡ length ys → length (f (length xs) ++ xs) ≡ length (f (length ys) ++ ys)
-front_same f xs ys e = omega (arith, e, ap (λ (n : ℕ). length (f n)) e, length-append (f (length xs)) xs, length-append (f (length ys)) ys)
-
-run_same : (shape : Shape) (xs ys : List ℕ) → length xs ≡ length ys → length (run_bytes shape xs) ≡ length (run_bytes shape ys)
-run_same Fixed16 xs ys e = e
-run_same ZeroEnded xs ys e = omega (arith, e, length-append xs (0 ∷ []), length-append ys (0 ∷ []))
-run_same Block1 xs ys e = front_same (le_bytes 1) xs ys e
-run_same Block2 xs ys e = front_same (le_bytes 2) xs ys e
-run_same Block4 xs ys e = front_same (le_bytes 4) xs ys e
-run_same BlockUleb xs ys e = front_same uleb xs ys e
-run_same _ xs ys e = refl
 
 -- ---- forms
 
@@ -127,9 +126,10 @@ module _ (s : Scope ℕ) (a : RawAttr) (v : Value ℕ) (other : a.pair.form ≢ 
   unfolding value_bytes
   expression m b = plain_is a size v (Expr (parts_of m.expression)) (ap plain_of m.value)
       (ap (λ (r : Raw). length (value_bytes a.pair.form r)) b
-      ∙ run_same (shape_of written_rows a.pair.form) (bytes_of a.raw) (bare_bytes (parts_of m.expression)) (sym (bare_length (expr_context s 1) m.expression (content_at a) (bytes_of a.raw) m.spelled)))
+      ∙ run_len (shape_of written_rows a.pair.form) (bytes_of a.raw) (bare_bytes (parts_of m.expression)) (sym (bare_length (expr_context s 1) m.expression (content_at a) (bytes_of a.raw) m.spelled)))
 
-  constant : (file : Bool) → IfSo file (IsFileBy (stmt_list s) s (number_of a.raw) v) (v ≡ constant_value a) → a.raw ≡ Number (number_of a.raw) → Weighs a (weight_or (set_weight OfConstant file) size) v.plain
+  constant : (file : Bool) → IfSo file (IsFileBy (stmt_list s) s (number_of a.raw) v) (v ≡ constant_value a) → a.raw ≡ Number (number_of a.raw)
+      → Weighs a (weight_or (set_weight OfConstant file) size) v.plain
   constant true m n = of_file (stmt_list s) m
   constant false m n = number (Num (kept_width a.pair.name a.pair.form (offset_of a)) (number_of a.raw)) m n refl
 
@@ -137,7 +137,8 @@ module _ (s : Scope ℕ) (a : RawAttr) (v : Value ℕ) (other : a.pair.form ≢ 
   offset true m n = list (offset_of a) m n
   offset false m n = number (Sec (offset_of a)) m n refl
 
-  by_class : (c : Class) → MeansAs c s a v → (stores_bytes c ≡ false → a.raw ≡ Number (number_of a.raw)) → (stores_bytes c ≡ true → a.raw ≡ Bytes (bytes_of a.raw)) → Weighs a (weight_or (set_weight c (names_file a.pair.name)) size) v.plain
+  by_class : (c : Class) → MeansAs c s a v → (stores_bytes c ≡ false → a.raw ≡ Number (number_of a.raw)) → (stores_bytes c ≡ true → a.raw ≡ Bytes (bytes_of a.raw))
+      → Weighs a (weight_or (set_weight c (names_file a.pair.name)) size) v.plain
   by_class OfAddress m n b = number (Addr (offset_of a)) m (n refl) refl
   by_class OfBlock m n b = block m (b refl)
   by_class OfConstant m n b = constant (names_file a.pair.name) m (n refl)
@@ -159,7 +160,8 @@ module _ (s : Scope ℕ) (a : RawAttr) (v : Value ℕ) (other : a.pair.form ≢ 
 
   own_number : HasSpelling a.pair.form a.raw → MeansValue s a v → stores_bytes (class_of a.pair.form) ≡ false → a.raw ≡ Number (number_of a.raw)
   own_number h m e =
-      let spelled : SpellsShape (shape_of written_rows a.pair.form) (constant_of h.pair) h.bytes a.raw = subst (λ (f : ℕ). SpellsShape (shape_of written_rows f) (constant_of h.pair) h.bytes a.raw) h.of_form h.spelled in
+      let spelled : SpellsShape (shape_of written_rows a.pair.form) (constant_of h.pair) h.bytes a.raw = subst (λ (f : ℕ). SpellsShape (shape_of written_rows f) (constant_of h.pair) h.bytes a.raw)
+      h.of_form h.spelled in
       elim (class_agrees class_rows a.pair.form rows_agree) [
         | inl none ↦ absurd (let no : MeansAs Unread s a v = subst (λ (c : Class). MeansAs c s a v) none m in no)
         | inr same ↦ is_number (constant_of h.pair) h.bytes a.raw (shape_of written_rows a.pair.form) (sym same ∙ e) spelled
@@ -167,7 +169,8 @@ module _ (s : Scope ℕ) (a : RawAttr) (v : Value ℕ) (other : a.pair.form ≢ 
 
   own_bytes : HasSpelling a.pair.form a.raw → MeansValue s a v → stores_bytes (class_of a.pair.form) ≡ true → a.raw ≡ Bytes (bytes_of a.raw)
   own_bytes h m e =
-      let spelled : SpellsShape (shape_of written_rows a.pair.form) (constant_of h.pair) h.bytes a.raw = subst (λ (f : ℕ). SpellsShape (shape_of written_rows f) (constant_of h.pair) h.bytes a.raw) h.of_form h.spelled in
+      let spelled : SpellsShape (shape_of written_rows a.pair.form) (constant_of h.pair) h.bytes a.raw = subst (λ (f : ℕ). SpellsShape (shape_of written_rows f) (constant_of h.pair) h.bytes a.raw)
+      h.of_form h.spelled in
       elim (class_agrees class_rows a.pair.form rows_agree) [
         | inl none ↦ absurd (let no : MeansAs Unread s a v = subst (λ (c : Class). MeansAs c s a v) none m in no)
         | inr same ↦ is_bytes (constant_of h.pair) h.bytes a.raw (shape_of written_rows a.pair.form) (sym same ∙ e) spelled

@@ -5,13 +5,13 @@ use Rattle.std.specs.Prelude.{nat_lt}
 use Rattle.dwz_alike.specs.Spots.{Spot}
 use Rattle.dwz_docs.specs.Entries.{RawAttr}
 use Rattle.dwz_docs.specs.Units.{RawUnit}
+use Rattle.dwz_docs.proofs.ListFacts.{drop_here}
 use Rattle.dwz_flat.specs.Rows.{AreAttrsMeant, AreRowsMeant, IsEntryMeant, node_refs}
 use Rattle.dwz_flat.proofs.StepLemmas.{entry, no_row, no_value, row, sibling, value}
 use Rattle.dwz_meanings.specs.Documents.{Attr, Node, Value, attr_map, node_map}
 use Rattle.dwz_meanings.specs.Meanings.{Scope, meaning, number_of}
 use Rattle.dwz_moving.specs.Gain.{attrs_weight, value_weight}
 use Rattle.dwz_resolve.specs.Named.{value_refs}
-use Rattle.dwz_resolve.proofs.RowLemmas.{drop_here}
 use Rattle.dwz_unit.specs.Rows.{EntryRow}
 use Rattle.dwz_scan.specs.Weights.{capped, node_weight, rows_weight}
 use Rattle.dwz_scan.proofs.WeightLemmas.{capped_add}
@@ -35,7 +35,8 @@ own_low true = refl
 own_low false = refl
 
 module _ (raw : List RawUnit) (s : Scope ℕ) (name : ℕ → Spot) where
-  pub left_all : (numbers : List ℕ) (i : ℕ) (row : EntryRow) (d : Node ℕ) (weight own : ℕ) → IsEntryMeant raw s i numbers row d → weight ≡ own → capped own ≡ own → AreLeft raw s name row.entry.attrs weight (own + named_weight name d.attrs)
+  pub left_all : (numbers : List ℕ) (i : ℕ) (row : EntryRow) (d : Node ℕ) (weight own : ℕ) → IsEntryMeant raw s i numbers row d → weight ≡ own → capped own ≡ own
+      → AreLeft raw s name row.entry.attrs weight (own + named_weight name d.attrs)
   left_all numbers i row d weight own m e low = record {
     numbers = numbers;
     attrs = d.attrs;
@@ -44,7 +45,8 @@ module _ (raw : List RawUnit) (s : Scope ℕ) (name : ℕ → Spot) where
     low = subst (λ (w : ℕ). capped w ≡ w) (sym e) low;
   }
 
-  pub left_sibling : (values : List RawAttr) (j : ℕ) (a : RawAttr) (weight all : ℕ) → slice_get values j ≡ Some a → a.pair.name ≡ 0x01 → AreLeft raw s name (drop j values) weight all → AreLeft raw s name (drop (j + 1) values) weight all
+  pub left_sibling : (values : List RawAttr) (j : ℕ) (a : RawAttr) (weight all : ℕ) → slice_get values j ≡ Some a → a.pair.name ≡ 0x01 → AreLeft raw s name (drop j values) weight all
+      → AreLeft raw s name (drop (j + 1) values) weight all
   left_sibling values j a weight all is e h = record {
     numbers = h.numbers;
     attrs = h.attrs;
@@ -93,8 +95,18 @@ pub record RowsLeft (raw : List RawUnit) (s : Scope ℕ) (name : ℕ → Spot) (
   pub low : capped weight ≡ weight
 
 module _ (raw : List RawUnit) (s : Scope ℕ) (name : ℕ → Spot) (end : ℕ) where
-  pub rows_all : (first : ℕ) (numbers : List ℕ) (rows after : List EntryRow) (ds : List (Node ℕ)) → AreRowsMeant raw s first end numbers rows after ds → RowsLeft raw s name first end 0 (rows_weight name first rows ds)
-  rows_all first numbers rows after ds m = record { numbers = numbers; rows = rows; after = after; ds = ds; meant = m; weighs = (let z : 0 + rows_weight name first rows ds ≡ rows_weight name first rows ds = omega arith in ap capped z); low = refl }
+  pub rows_all : (first : ℕ) (numbers : List ℕ) (rows after : List EntryRow) (ds : List (Node ℕ)) → AreRowsMeant raw s first end numbers rows after ds
+      → RowsLeft raw s name first end 0 (rows_weight name first rows ds)
+  rows_all first numbers rows after ds m =
+      record {
+        numbers = numbers;
+        rows = rows;
+        after = after;
+        ds = ds;
+        meant = m;
+        weighs = (let z : 0 + rows_weight name first rows ds ≡ rows_weight name first rows ds = omega arith in ap capped z);
+        low = refl;
+      }
 
   pub rows_more : (i weight more new all : ℕ) → i < end
       → ((numbers : List ℕ) (r : EntryRow) (d : Node ℕ) → IsEntryMeant raw s i numbers r d → more ≡ capped (node_weight (nat_lt (i + 1) r.end) (node_map name d))) → new ≡ capped (weight + more)
@@ -112,7 +124,8 @@ module _ (raw : List RawUnit) (s : Scope ℕ) (name : ℕ → Spot) (end : ℕ) 
         after = h.after;
         ds = n.left;
         meant = n.rest;
-        weighs = ap (λ (w : ℕ). capped (w + rest)) made ∙ capped_add (weight + more) rest ∙ ap (λ (w : ℕ). capped (weight + w + rest)) is ∙ both weight own rest ∙ ap (λ (w : ℕ). capped (weight + w)) (sym split) ∙ h.weighs;
+        weighs = ap (λ (w : ℕ). capped (w + rest)) made ∙ capped_add (weight + more) rest ∙ ap (λ (w : ℕ). capped (weight + w + rest)) is ∙ both weight own rest
+            ∙ ap (λ (w : ℕ). capped (weight + w)) (sym split) ∙ h.weighs;
         low = ap capped made ∙ twice (weight + more) ∙ sym made;
       }
     where

@@ -1,5 +1,6 @@
 -- Tops that references go into, and the tops of a unit.
-use Rattle.std.specs.Prelude.{◌≡◌, ℕ, ◌+◌, ◌++◌, drop, slice_index, Bool, true, false, List, [], ◌∷◌, Option, Some, None, ◌&&◌, nat_lt, not, if◌then◌else◌}
+use Rattle.std.specs.Prelude.{◌≡◌, ℕ, ◌+◌, ◌++◌, drop, slice_index, Bool, true, false, List, [], ◌∷◌, Option, Some, None, ◌&&◌, nat_lt, not}
+use Rattle.std.specs.Prelude.{if◌then◌else◌}
 use Rattle.dwz_alike.specs.Alike.{is_number, unit_in}
 use Rattle.dwz_alike.specs.Spots.{Spot, Top}
 use Rattle.dwz_flat.specs.Rows.{node_refs}

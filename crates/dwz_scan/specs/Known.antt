@@ -20,13 +20,15 @@ abbrev pub tops_of_refs : (ℕ → Spot) → List RawUnit → List ℕ → List 
 tops_of_refs name raw refs = map (λ i. top_in (name (place_at raw i))) refs
 
 -- The references of each entry begin at its start, and the tops are those that they go into.
-pub record KnowsRefs (around : Around ℕ) (raw : List RawUnit) (name : ℕ → Spot) (refs starts : List ℕ) (into : List (Option ℕ)) : Type 0 where
+pub record KnowsRefs (around : Around ℕ) (raw : List RawUnit) (name : ℕ → Spot) (refs starts : List ℕ) (into : List (Option ℕ)) : Type
+    0 where
   pub parted : AreParted around raw (entries_in raw) refs starts
   pub entries : AreEntries raw refs
   pub into_are : into ≡ tops_of_refs name raw refs
 
 -- The top stands from the entry with one number to before that with another.
-pub record StandsAt (around : Around ℕ) (name : ℕ → Spot) (raw : List RawUnit) (units : List (DwUnit ℕ)) (file unit : ℕ) (t : Top) (first end : ℕ) : Type 0 where
+pub record StandsAt (around : Around ℕ) (name : ℕ → Spot) (raw : List RawUnit) (units : List (DwUnit ℕ)) (file unit : ℕ) (t : Top)
+    (first end : ℕ) : Type 0 where
   pub stands : HasTopOfFile around name raw units file unit t
   pub from : stands.top.p.before ≡ first
   pub to : first + 1 + size stands.top.c ≡ end

@@ -1,5 +1,6 @@
 -- Tops that are marked.
-use Rattle.std.specs.Prelude.{◌≡◌, ◌↔◌, ◌⊎◌, ℕ, ◌<◌, Bool, true, false, List, [], ◌∷◌, Option, Some, None, length, ◌&&◌, ◌||◌, not, if◌then◌else◌}
+use Rattle.std.specs.Prelude.{◌≡◌, ◌↔◌, ◌⊎◌, ℕ, ◌<◌, Bool, true, false, List, [], ◌∷◌, Option, Some, None, length, ◌&&◌, ◌||◌, not}
+use Rattle.std.specs.Prelude.{if◌then◌else◌}
 use Rattle.dwz_alike.specs.Alike.{is_in, operand_names}
 use Rattle.dwz_alike.specs.Spots.{Spot}
 use Rattle.dwz_docs.specs.Lists.{In}
@@ -34,7 +35,8 @@ is_asked ulebs o = o.uleb || not ulebs
 -- the tops of the references of operands that are asked for; those of all operands stand first
 abbrev pub asked_tops : Bool → List Operand → List (Option ℕ) → List (Option ℕ)
 asked_tops ulebs [] into = []
-asked_tops ulebs (o ∷ operands) into = if is_asked ulebs o then next_top into ∷ asked_tops ulebs operands (later_tops into) else asked_tops ulebs operands (later_tops into)
+asked_tops ulebs (o ∷ operands) into = if is_asked ulebs o then next_top into ∷ asked_tops ulebs operands (later_tops into) else asked_tops
+    ulebs operands (later_tops into)
 
 -- ---- in documents
 

@@ -87,7 +87,9 @@ fn value_binds(
     raw: &Raw,
     operands: &mut Vec<Operand>,
 ) -> Result<bool, NoMemory>
-    ensures { (s : Scope ℕ) (at : ℕ) (v : Value ℕ) (tops : List Top) (unit : ℕ) (name : ℕ → Spot) → HasTops tops unit own.now → meaning s (stored at end pair.now raw.now) ≡ Ok v → AreInto name (drop next into.now) (value_refs v) → IfOk result (λ b. b ≡ attr_binds tops unit (attr_map name (attr_with (stored at end pair.now raw.now) v))) }
+    ensures { (s : Scope ℕ) (at : ℕ) (v : Value ℕ) (tops : List Top) (unit : ℕ) (name : ℕ → Spot) → HasTops tops unit own.now
+        → meaning s (stored at end pair.now raw.now) ≡ Ok v → AreInto name (drop next into.now) (value_refs v)
+        → IfOk result (λ b. b ≡ attr_binds tops unit (attr_map name (attr_with (stored at end pair.now raw.now) v))) }
 {
     if is_binding(pair.form) {
         return Ok(true);
@@ -124,7 +126,9 @@ pub(crate) fn entry_binds(
     operands: &mut Vec<Operand>,
 ) -> Result<bool, NoMemory>
     requires { i < entries_in (units_of units.now) }
-    ensures { (s : Scope ℕ) (numbers : List ℕ) (row : EntryRow) (d : Node ℕ) (tops : List Top) (unit : ℕ) (name : ℕ → Spot) → HasTops tops unit own.now → IsEntryMeant (units_of units.now) s i numbers row d → AreInto name into.now (node_refs d) → IfOk result (λ b. b ≡ entry_binds tops unit (node_map name d)) }
+    ensures { (s : Scope ℕ) (numbers : List ℕ) (row : EntryRow) (d : Node ℕ) (tops : List Top) (unit : ℕ) (name : ℕ → Spot)
+        → HasTops tops unit own.now → IsEntryMeant (units_of units.now) s i numbers row d → AreInto name into.now (node_refs d)
+        → IfOk result (λ b. b ≡ entry_binds tops unit (node_map name d)) }
 {
     if units.entry(i).tag == IMPORTED_UNIT {
         return Ok(true);

@@ -16,7 +16,8 @@ use std::alloc::Global;
 #[inline(always)]
 fn top_of(index: &Index, entry: u32) -> Option<u32>
     requires { length index.now.steps < 2 ^ 32 }
-    ensures { (names : List Spot) (s : Spot) → IsIndex names index.now → entry < length index.now.steps → slice_get names entry ≡ Some s → result ≡ top_in s }
+    ensures { (names : List Spot) (s : Spot) → IsIndex names index.now → entry < length index.now.steps → slice_get names entry ≡ Some s
+        → result ≡ top_in s }
 {
     if entry < index.len() {
         index.top_of(entry)
@@ -28,7 +29,8 @@ fn top_of(index: &Index, entry: u32) -> Option<u32>
 /// For each reference of a file, by the number of the entry that it names, the top that it goes into.
 pub fn tops_of(alloc: Global, index: &Index, refs: &[u32]) -> Result<Vec<Option<u32>>, NoMemory>
     requires { length index.now.steps < 2 ^ 32 }
-    ensures { (raw : List RawUnit) (names : List Spot) (name : ℕ → Spot) → IsIndex names index.now → length index.now.steps ≡ entries_in raw → NamesEntries raw name names → AreEntries raw refs.now → IfOk result (λ into. into.items ≡ tops_of_refs name raw refs.now) }
+    ensures { (raw : List RawUnit) (names : List Spot) (name : ℕ → Spot) → IsIndex names index.now → length index.now.steps ≡ entries_in raw
+        → NamesEntries raw name names → AreEntries raw refs.now → IfOk result (λ into. into.items ≡ tops_of_refs name raw refs.now) }
 {
     let mut into = Vec::with_capacity(alloc, refs.len())?;
     for entry in refs {

@@ -18,5 +18,11 @@ ghost use Rattle.dwz_unit.specs.Rows.{shown_entries};
 /// In a file that is read, in whose document no place stands twice, each top stands from the entry that its file's index gives it up to
 /// where that entry ends.
 pub fn stand_laws()
-    ensures { (l : Limits) (bytes : List ℕ) (raw : List RawUnit) (doc : Doc ℕ) (starts : Starts) (file : ℕ) (t : Top) (k : ℕ) (x : TopEntry) (e : RawEntry) → file_meaning l bytes ≡ Ok (raw, doc) → NoneTwice (units_keys doc.units) → In t (tops_from starts.unit starts.top (map (in_file file) (named starts.unit starts.top doc.units))) → slice_get (all_tops is_space starts 0 (map below_root doc.units)) k ≡ Some x → t.number ≡ starts.top + k → slice_get (shown_entries raw) x.entry ≡ Some e → StandsAt (around_of bytes raw) (spot_in (spots_from starts.unit starts.top doc.units)) raw doc.units file starts.unit t x.entry e.end }
+    ensures { (l : Limits) (bytes : List ℕ) (raw : List RawUnit) (doc : Doc ℕ) (starts : Starts) (file : ℕ) (t : Top) (k : ℕ) (x : TopEntry)
+        (e : RawEntry) → file_meaning l bytes ≡ Ok (raw, doc) → NoneTwice (units_keys doc.units)
+        → In t (tops_from starts.unit starts.top (map (in_file file) (named starts.unit starts.top doc.units)))
+        → slice_get (all_tops is_space starts 0 (map below_root doc.units)) k ≡ Some x → t.number ≡ starts.top + k
+        → slice_get (shown_entries raw) x.entry ≡ Some e
+        → StandsAt (around_of bytes raw) (spot_in (spots_from starts.unit starts.top doc.units)) raw doc.units file starts.unit t x.entry
+        e.end }
 {}

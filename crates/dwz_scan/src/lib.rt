@@ -6,8 +6,6 @@ mod into;
 mod laws;
 mod marks;
 mod scan;
-#[cfg(test)]
-mod tests;
 mod tops;
 mod values;
 mod weight;

@@ -1,6 +1,7 @@
 //! Which tops operands of expressions name.
 
-ghost use Rattle.std.specs.Prelude.{◌≡◌, ◌↔◌, ◌⊎◌, ℕ, ◌<◌, ◌≤◌, ◌∷◌, [], List, Ok, Some, false, true, drop, length, map, slice_get, take, IfOk, OnOk};
+ghost use Rattle.std.specs.Prelude.{◌≡◌, ◌↔◌, ◌⊎◌, ℕ, ◌<◌, ◌≤◌, ◌∷◌, [], List, Ok, Some, false, true, drop, length, map, slice_get, take};
+ghost use Rattle.std.specs.Prelude.{IfOk, OnOk};
 ghost use Rattle.std.specs.List.{list_any};
 ghost use Rattle.dwz_alike.specs.Alike.{any_attr};
 ghost use Rattle.dwz_alike.specs.Spots.{Spot};
@@ -100,8 +101,14 @@ pub(crate) fn mark_entry(
     operands: &mut Vec<Operand>,
 ) -> Result<(), NoMemory>
     requires { i < entries_in (units_of units.now) }
-    ensures any { (s : Scope ℕ) (numbers : List ℕ) (row : EntryRow) (d : Node ℕ) (name : ℕ → Spot) → IsEntryMeant (units_of units.now) s i numbers row d → AreInto name into.now (node_refs d) → OnOk result (MarksIf (λ n. any_attr (expression_names n) (node_map name d) ≡ true) named.old.by_any.items named.new.by_any.items) }
-    ensures uleb { (s : Scope ℕ) (numbers : List ℕ) (row : EntryRow) (d : Node ℕ) (name : ℕ → Spot) → IsEntryMeant (units_of units.now) s i numbers row d → AreInto name into.now (node_refs d) → OnOk result (MarksIf (λ n. any_attr (expression_pins n) (node_map name d) ≡ true) named.old.by_uleb.items named.new.by_uleb.items) }
+    ensures any { (s : Scope ℕ) (numbers : List ℕ) (row : EntryRow) (d : Node ℕ) (name : ℕ → Spot)
+        → IsEntryMeant (units_of units.now) s i numbers row d → AreInto name into.now (node_refs d)
+        → OnOk result (MarksIf (λ n. any_attr (expression_names n) (node_map name d) ≡ true) named.old.by_any.items
+        named.new.by_any.items) }
+    ensures uleb { (s : Scope ℕ) (numbers : List ℕ) (row : EntryRow) (d : Node ℕ) (name : ℕ → Spot)
+        → IsEntryMeant (units_of units.now) s i numbers row d → AreInto name into.now (node_refs d)
+        → OnOk result (MarksIf (λ n. any_attr (expression_pins n) (node_map name d) ≡ true) named.old.by_uleb.items
+        named.new.by_uleb.items) }
 {
     let Values { pairs, mut cursor } = units.values(i);
     let mut rest = into;
@@ -126,9 +133,16 @@ fn mark_value<'a>(
     raw: &Raw,
     operands: &mut Vec<Operand>,
 ) -> Result<&'a [Option<u32>], NoMemory>
-    ensures any { (s : Scope ℕ) (at : ℕ) (v : Value ℕ) (name : ℕ → Spot) → meaning s (stored at end pair.now raw.now) ≡ Ok v → AreInto name into.now (value_refs v) → OnOk result (MarksIf (λ n. expression_names n (attr_map name (attr_with (stored at end pair.now raw.now) v)) ≡ true) named.old.by_any.items named.new.by_any.items) }
-    ensures uleb { (s : Scope ℕ) (at : ℕ) (v : Value ℕ) (name : ℕ → Spot) → meaning s (stored at end pair.now raw.now) ≡ Ok v → AreInto name into.now (value_refs v) → OnOk result (MarksIf (λ n. expression_pins n (attr_map name (attr_with (stored at end pair.now raw.now) v)) ≡ true) named.old.by_uleb.items named.new.by_uleb.items) }
-    ensures rest { (s : Scope ℕ) (at : ℕ) (v : Value ℕ) → meaning s (stored at end pair.now raw.now) ≡ Ok v → IfOk result (λ rest. rest.now ≡ drop (length (value_refs v)) into.now) }
+    ensures any { (s : Scope ℕ) (at : ℕ) (v : Value ℕ) (name : ℕ → Spot) → meaning s (stored at end pair.now raw.now) ≡ Ok v
+        → AreInto name into.now (value_refs v) → OnOk result
+        (MarksIf (λ n. expression_names n (attr_map name (attr_with (stored at end pair.now raw.now) v)) ≡ true) named.old.by_any.items
+        named.new.by_any.items) }
+    ensures uleb { (s : Scope ℕ) (at : ℕ) (v : Value ℕ) (name : ℕ → Spot) → meaning s (stored at end pair.now raw.now) ≡ Ok v
+        → AreInto name into.now (value_refs v) → OnOk result
+        (MarksIf (λ n. expression_pins n (attr_map name (attr_with (stored at end pair.now raw.now) v)) ≡ true) named.old.by_uleb.items
+        named.new.by_uleb.items) }
+    ensures rest { (s : Scope ℕ) (at : ℕ) (v : Value ℕ) → meaning s (stored at end pair.now raw.now) ≡ Ok v
+        → IfOk result (λ rest. rest.now ≡ drop (length (value_refs v)) into.now) }
 {
     let class = class_of(pair.form);
     if is_entry(class) {
@@ -155,8 +169,14 @@ pub(crate) fn mark_entries(
     operands: &mut Vec<Operand>,
 ) -> Result<(), NoMemory>
     requires { end ≤ entries_in (units_of units.now) }
-    ensures any { (s : Scope ℕ) (numbers : List ℕ) (rows after : List EntryRow) (ds : List (Node ℕ)) (name : ℕ → Spot) → AreRowsMeant (units_of units.now) s first end numbers rows after ds → EachInto name into.now starts.now first ds → OnOk result (MarksIf (λ n. list_any (any_attr (expression_names n)) (map (node_map name) ds) ≡ true) named.old.by_any.items named.new.by_any.items) }
-    ensures uleb { (s : Scope ℕ) (numbers : List ℕ) (rows after : List EntryRow) (ds : List (Node ℕ)) (name : ℕ → Spot) → AreRowsMeant (units_of units.now) s first end numbers rows after ds → EachInto name into.now starts.now first ds → OnOk result (MarksIf (λ n. list_any (any_attr (expression_pins n)) (map (node_map name) ds) ≡ true) named.old.by_uleb.items named.new.by_uleb.items) }
+    ensures any { (s : Scope ℕ) (numbers : List ℕ) (rows after : List EntryRow) (ds : List (Node ℕ)) (name : ℕ → Spot)
+        → AreRowsMeant (units_of units.now) s first end numbers rows after ds → EachInto name into.now starts.now first ds
+        → OnOk result (MarksIf (λ n. list_any (any_attr (expression_names n)) (map (node_map name) ds) ≡ true) named.old.by_any.items
+        named.new.by_any.items) }
+    ensures uleb { (s : Scope ℕ) (numbers : List ℕ) (rows after : List EntryRow) (ds : List (Node ℕ)) (name : ℕ → Spot)
+        → AreRowsMeant (units_of units.now) s first end numbers rows after ds → EachInto name into.now starts.now first ds
+        → OnOk result (MarksIf (λ n. list_any (any_attr (expression_pins n)) (map (node_map name) ds) ≡ true) named.old.by_uleb.items
+        named.new.by_uleb.items) }
 {
     for i in first..end {
         mark_entry(

@@ -26,7 +26,9 @@ use dwz_unit::Units;
 /// About how many bytes the top takes whose entries are those from one number to before another. Where that is 64 or more, it is 64.
 pub fn top_weight(units: &Units, first: u32, end: u32) -> u32
     requires { end ≤ entries_in (units_of units.now) }
-    ensures { (around : Around ℕ) (refs starts : List ℕ) (into : List (Option ℕ)) (name : ℕ → Spot) (said : List (DwUnit ℕ)) (file unit : ℕ) (t : Top) → KnowsRefs around (units_of units.now) name refs starts into → StandsAt around name (units_of units.now) said file unit t first end → result ≡ capped (Gain.top_weight t) }
+    ensures { (around : Around ℕ) (refs starts : List ℕ) (into : List (Option ℕ)) (name : ℕ → Spot) (said : List (DwUnit ℕ)) (file unit : ℕ)
+        (t : Top) → KnowsRefs around (units_of units.now) name refs starts into
+        → StandsAt around name (units_of units.now) said file unit t first end → result ≡ capped (Gain.top_weight t) }
 {
     weight_of_entries(units, first, end) as u32
 }
@@ -43,7 +45,10 @@ pub fn top_binds(
     operands: &mut Vec<Operand>,
 ) -> Result<bool, NoMemory>
     requires { end ≤ entries_in (units_of units.now) }
-    ensures { (around : Around ℕ) (refs : List ℕ) (name : ℕ → Spot) (said : List (DwUnit ℕ)) (file unit : ℕ) (tops : List Top) (t : Top) → KnowsRefs around (units_of units.now) name refs starts.now into.now → StandsAt around name (units_of units.now) said file unit t first end → HasTops tops t.unit own.now → IfOk result (λ b. b ≡ any_in (Alike.entry_binds tops t.unit) t) }
+    ensures { (around : Around ℕ) (refs : List ℕ) (name : ℕ → Spot) (said : List (DwUnit ℕ)) (file unit : ℕ) (tops : List Top) (t : Top)
+        → KnowsRefs around (units_of units.now) name refs starts.now into.now
+        → StandsAt around name (units_of units.now) said file unit t first end → HasTops tops t.unit own.now
+        → IfOk result (λ b. b ≡ any_in (Alike.entry_binds tops t.unit) t) }
 {
     entries_bind(units, own, into, starts, first, end, operands)
 }
@@ -59,8 +64,16 @@ pub fn mark_unit(
     operands: &mut Vec<Operand>,
 ) -> Result<(), NoMemory>
     requires { n < length (units_of units.now) }
-    ensures any { (around : Around ℕ) (refs : List ℕ) (name : ℕ → Spot) (u : RawUnit) (v : DwUnit ℕ) → KnowsRefs around (units_of units.now) name refs starts.now into.now → slice_get (units_of units.now) n ≡ Some u → unit_meaning around u ≡ Ok v → OnOk result (MarksIf (λ t. in_unit (any_attr (expression_names t)) (unit_map name v) ≡ true) named.old.by_any.items named.new.by_any.items) }
-    ensures uleb { (around : Around ℕ) (refs : List ℕ) (name : ℕ → Spot) (u : RawUnit) (v : DwUnit ℕ) → KnowsRefs around (units_of units.now) name refs starts.now into.now → slice_get (units_of units.now) n ≡ Some u → unit_meaning around u ≡ Ok v → OnOk result (MarksIf (λ t. in_unit (any_attr (expression_pins t)) (unit_map name v) ≡ true) named.old.by_uleb.items named.new.by_uleb.items) }
+    ensures any { (around : Around ℕ) (refs : List ℕ) (name : ℕ → Spot) (u : RawUnit) (v : DwUnit ℕ)
+        → KnowsRefs around (units_of units.now) name refs starts.now into.now → slice_get (units_of units.now) n ≡ Some u
+        → unit_meaning around u ≡ Ok v → OnOk result
+        (MarksIf (λ t. in_unit (any_attr (expression_names t)) (unit_map name v) ≡ true) named.old.by_any.items
+        named.new.by_any.items) }
+    ensures uleb { (around : Around ℕ) (refs : List ℕ) (name : ℕ → Spot) (u : RawUnit) (v : DwUnit ℕ)
+        → KnowsRefs around (units_of units.now) name refs starts.now into.now → slice_get (units_of units.now) n ≡ Some u
+        → unit_meaning around u ≡ Ok v → OnOk result
+        (MarksIf (λ t. in_unit (any_attr (expression_pins t)) (unit_map name v) ≡ true) named.old.by_uleb.items
+        named.new.by_uleb.items) }
 {
     let unit = units.unit(n);
     let here = here_of(units, n, &unit);

@@ -44,7 +44,9 @@ pub(crate) fn entries_bind(
     operands: &mut Vec<Operand>,
 ) -> Result<bool, NoMemory>
     requires { end ≤ entries_in (units_of units.now) }
-    ensures { (s : Scope ℕ) (numbers : List ℕ) (rows after : List EntryRow) (ds : List (Node ℕ)) (tops : List Top) (unit : ℕ) (name : ℕ → Spot) → HasTops tops unit own.now → AreRowsMeant (units_of units.now) s first end numbers rows after ds → EachInto name into.now starts.now first ds → IfOk result (λ b. b ≡ list_any (entry_binds tops unit) (map (node_map name) ds)) }
+    ensures { (s : Scope ℕ) (numbers : List ℕ) (rows after : List EntryRow) (ds : List (Node ℕ)) (tops : List Top) (unit : ℕ)
+        (name : ℕ → Spot) → HasTops tops unit own.now → AreRowsMeant (units_of units.now) s first end numbers rows after ds
+        → EachInto name into.now starts.now first ds → IfOk result (λ b. b ≡ list_any (entry_binds tops unit) (map (node_map name) ds)) }
 {
     for i in first..end {
         if entry_binds(

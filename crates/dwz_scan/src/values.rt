@@ -51,7 +51,9 @@ pub(crate) fn read_expression(
     end: u64,
     operands: &mut Vec<Operand>,
 ) -> Result<bool, NoMemory>
-    ensures { (s : Scope ℕ) (e : Expression) → expr_at (expr_context s 1) (record { at = end - length (Meanings.bytes_of (raw_view raw.now)); rest = Meanings.bytes_of (raw_view raw.now) }) ≡ Ok e → IfOk result (λ address. (address ≡ e.address) × (operands.new.items ≡ e.operands)) }
+    ensures { (s : Scope ℕ) (e : Expression) → expr_at (expr_context s 1)
+        (record { at = end - length (Meanings.bytes_of (raw_view raw.now)); rest = Meanings.bytes_of (raw_view raw.now) }) ≡ Ok e
+        → IfOk result (λ address. (address ≡ e.address) × (operands.new.items ≡ e.operands)) }
 {
     let bytes = bytes_of(raw);
     let at = end.saturating_sub(bytes.len() as u64);

@@ -78,7 +78,8 @@ fn set_weight(class: Class, file: bool) -> Option<u64>
 #[inline(always)]
 pub(crate) fn weight_of_value(pair: &Pair, raw: &Raw) -> u64
     requires { HasSpelling pair.now.form (raw_view raw.now) }
-    ensures { (s : Scope ℕ) (at end : ℕ) (v : Value ℕ) → meaning s (stored at end pair.now raw.now) ≡ Ok v → result ≡ value_weight pair.now.form (number_of (raw_view raw.now)) v.plain }
+    ensures { (s : Scope ℕ) (at end : ℕ) (v : Value ℕ) → meaning s (stored at end pair.now raw.now) ≡ Ok v
+        → result ≡ value_weight pair.now.form (number_of (raw_view raw.now)) v.plain }
 {
     if pair.form == STRING {
         return bytes_of(raw).len() as u64 + 1;
@@ -100,7 +101,8 @@ fn own_weight(parent: bool) -> u64
 /// What an entry weighs itself, counted up to 64: 1, one more if it has children, and what its values weigh.
 pub(crate) fn weight_of_entry(units: &Units, i: u32) -> u64
     requires { i < entries_in (units_of units.now) }
-    ensures { (s : Scope ℕ) (numbers : List ℕ) (row : EntryRow) (d : Node ℕ) (name : ℕ → Spot) → IsEntryMeant (units_of units.now) s i numbers row d → result ≡ capped (node_weight (nat_lt (i + 1) row.end) (node_map name d)) }
+    ensures { (s : Scope ℕ) (numbers : List ℕ) (row : EntryRow) (d : Node ℕ) (name : ℕ → Spot)
+        → IsEntryMeant (units_of units.now) s i numbers row d → result ≡ capped (node_weight (nat_lt (i + 1) row.end) (node_map name d)) }
 {
     let entry = units.entry(i);
     let mut weight = own_weight(u64::from(entry.end) > u64::from(i) + 1);
@@ -118,7 +120,8 @@ pub(crate) fn weight_of_entry(units: &Units, i: u32) -> u64
 pub(crate) fn weight_of_entries(units: &Units, first: u32, end: u32) -> u64
     requires { end ≤ entries_in (units_of units.now) }
     ensures few { result ≤ 64 }
-    ensures weight { (s : Scope ℕ) (numbers : List ℕ) (rows after : List EntryRow) (ds : List (Node ℕ)) (name : ℕ → Spot) → AreRowsMeant (units_of units.now) s first end numbers rows after ds → result ≡ capped (rows_weight name first rows ds) }
+    ensures weight { (s : Scope ℕ) (numbers : List ℕ) (rows after : List EntryRow) (ds : List (Node ℕ)) (name : ℕ → Spot)
+        → AreRowsMeant (units_of units.now) s first end numbers rows after ds → result ≡ capped (rows_weight name first rows ds) }
 {
     let mut weight = 0;
     for i in first..end {

@@ -1,7 +1,8 @@
 -- Numbers written over bytes, byte by byte: what is left to write is written over the bytes that are there by now.
-use Rattle.std.proofs.Common.{◌≡◌, ℕ, zero, suc, ◌+◌, ◌-◌, ◌/◌, ◌%◌, ◌<◌, ◌≤◌, Bool, true, false, List, ◌∷◌, cond, eqb, eqb-true, length, set, refl, sym, ap, ◌∙◌, arith}
+use Rattle.std.proofs.Common.{◌≡◌, ℕ, zero, suc, ◌+◌, ◌-◌, ◌/◌, ◌%◌, ◌<◌, ◌≤◌, List, ◌∷◌, eqb, length, set, refl, sym, ap, ◌∙◌, arith}
 use Rattle.std.proofs.Math.ListN.{length-set}
 use Rattle.dwz_bytes.specs.Spelling.{le_bytes, padded}
+use Rattle.dwz_bytes.proofs.PaddedLemmas.{group_of, padded_first}
 use Rattle.dwz_meanings.specs.Patching.{written_at}
 
 -- ---- of a fixed width
@@ -25,21 +26,6 @@ unfolding le_bytes written_at
 le_done old out at width number place left rest le h = (let none : left ≡ 0 = omega (arith, le) in sym (ap (λ (n : ℕ). written_at place (le_bytes n rest) out) none) ∙ h.same)
 
 -- ---- as groups
-
-abbrev pub group_of : Bool → ℕ → ℕ
-group_of last rest = cond last (rest % 128) (rest % 128 + 128)
-
-padded_first : (left rest : ℕ) → 0 < left → padded left rest ≡ group_of (eqb left 1) rest ∷ padded (left - 1) (rest / 128)
-unfolding padded
-padded_first zero rest lt = absurd (omega (arith, lt))
-padded_first (suc zero) rest lt = refl
-padded_first (suc (suc k)) rest lt =
-    let one : suc (suc k) - 1 ≡ suc k = omega arith in
-    let no : eqb (suc (suc k)) 1 ≡ false = other (eqb (suc (suc k)) 1) refl in
-    sym (λ i. group_of (no i) rest ∷ padded (one i) (rest / 128)) where
-      other : (b : Bool) → eqb (suc (suc k)) 1 ≡ b → b ≡ false
-      other true e = absurd (let same = eqb-true (suc (suc k)) 1 e in omega (arith, same))
-      other false e = refl
 
 first_written : (place b : ℕ) (rest out : List ℕ) → written_at place (b ∷ rest) out ≡ written_at (place + 1) rest (set out place b)
 unfolding written_at

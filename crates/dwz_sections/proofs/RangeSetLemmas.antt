@@ -1,5 +1,6 @@
 -- The place beside a number that was searched; sets whose units have their places beside where they began.
-use Rattle.std.proofs.Common.{◌≡◌, ◌⊎◌, ℕ, zero, suc, ◌+◌, ◌<◌, ◌≤◌, Bool, true, false, cond, eqb, List, [], ◌∷◌, ◌++◌, length, get_or, map, take, Result, Ok, Err, IfOk, IsOkAnd, refl, sym, ap, subst, ◌∙◌, inl, inr, arith}
+use Rattle.std.proofs.Common.{◌≡◌, ℕ, zero, suc, ◌+◌, ◌<◌, ◌≤◌, Bool, true, false, cond, eqb, List, [], ◌∷◌, ◌++◌, length, get_or, map, take, Result, Ok, IfOk, IsOkAnd, refl, sym, ap, subst, ◌∙◌, inl}
+use Rattle.std.proofs.Common.{inr, arith}
 use Rattle.std.specs.List.Sorted.{IsStrictlyIncreasing}
 use Rattle.std.proofs.lemmas.Bool.{cases_lt, eq-eqb, eqb-true, ne_eqb}
 use Rattle.std.proofs.lemmas.List.{length-map, map-append, take_all, take_more}
@@ -13,6 +14,7 @@ use Rattle.dwz_meanings.proofs.RangeLemmas.{sets_agree}
 use Rattle.dwz_aranges.specs.Patching.{IsPatched}
 use Rattle.dwz_aranges.specs.Views.{any_unit, set_view, set_views}
 use Rattle.dwz_aranges.specs.declared.sets.Set.{Set}
+use Rattle.dwz_aranges.proofs.PatchedMeans.{of_any}
 use Rattle.dwz_sections.specs.Ranges.{AreMoved, beside}
 
 -- ---- beside a number
@@ -33,12 +35,6 @@ beside_none (s ∷ starts) [] n none = refl
 beside_none (s ∷ starts) (p ∷ places) n none =
     ap (λ (b : Bool). cond b p (beside starts places n)) (ne_eqb s n (none 0 (omega arith)))
     ∙ beside_none starts places n (λ k less. none (suc k) (omega (arith, less)))
-
-pub rising : (starts : List ℕ) → IsStrictlyIncreasing starts → (i j : ℕ) → i ≤ j → j < length starts → get_or starts i 0 ≤ get_or starts j 0
-rising starts rises i j le lt = go (cases_lt i j) where
-  go : (i < j) ⊎ (j ≤ i) → get_or starts i 0 ≤ get_or starts j 0
-  go (inl less) = let pair = AllPairs-from_increasing starts rises i j 0 less lt in omega (arith, pair)
-  go (inr more) = let same : i ≡ j = omega (arith, le, more) in omega (arith, ap (λ (k : ℕ). get_or starts k 0) same)
 
 pub found_beside : (starts places : List ℕ) (i n : ℕ) → IsStrictlyIncreasing starts → i < length starts → get_or starts i 0 ≡ n → get_or places i 0 ≡ beside starts places n
 found_beside starts places i n rises lt at =
@@ -89,27 +85,11 @@ moved_sets starts places section numbers new sets read are is =
     subst (λ (r : Result (List RangeSet) Fault). IfOk r (λ found. new ≡ with_units found (map (λ (s : RangeSet). beside starts places s.unit) found) section)) (sym read)
     (whole ∙ ap (λ (w : List ℕ). with_units (set_views sets) w section) (are ∙ map_views starts places sets))
 
-pub if_more : {X E : Type 0} (r : Result X E) (P Q : X → Type 0) → ((x : X) → P x → Q x) → IfOk r P → IfOk r Q
-if_more (Ok x) P Q more is = more x is
-if_more (Err e) P Q more is = tt
-
 -- what stands for a set where there is none
 abbrev pub no_set : Set
 no_set = record { at = 0; unit = 0 }
 
 -- ---- the sets of a file
-
-of_any : (is_unit : ℕ → Bool) (sets : List RangeSet) (start : ℕ) (bytes : List ℕ) → SpellsSets is_unit sets start bytes → SpellsSets any_unit sets start bytes
-of_any is_unit [] start bytes s = s
-of_any is_unit (set ∷ sets) start bytes s =
-    let one = s.first in
-    record {
-      first_bytes = s.first_bytes;
-      first = record { place = one.place; whole = one.whole; some = one.some; version = one.version; unit = one.unit; known = refl };
-      second_bytes = s.second_bytes;
-      second = of_any is_unit sets (start + length s.first_bytes) s.second_bytes s.second;
-      parts = s.parts;
-    }
 
 own_places : (is_unit : ℕ → Bool) (place : ℕ → ℕ) (starts : List ℕ) → ((n : ℕ) → is_unit n ≡ true → In n starts) → (sets : List RangeSet) (start : ℕ) (bytes : List ℕ)
     → SpellsSets is_unit sets start bytes

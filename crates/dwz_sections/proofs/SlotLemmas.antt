@@ -1,51 +1,31 @@
 -- Slots get their numbers one by one: those that had their turn have new numbers, and bytes of no such slot are the old ones.
-use Rattle.std.proofs.Common.{◌≡◌, ◌⊎◌, ℕ, zero, suc, ◌+◌, ◌-◌, ◌^◌, ◌<◌, ◌≤◌, true, false, cond, List, [], ◌∷◌, ◌++◌, length, take, drop, get_or, set, map, Option, Some, None, All, Contains, IsSome, refl, sym, ap, subst, ◌∙◌, inl, inr, arith}
+use Rattle.std.proofs.Common.{◌≡◌, ◌⊎◌, ℕ, zero, suc, ◌+◌, ◌-◌, ◌^◌, ◌<◌, ◌≤◌, true, false, cond, List, [], ◌∷◌, ◌++◌, length, take, drop, get_or, map, Option, Some, None, All, Contains, IsSome, refl}
+use Rattle.std.proofs.Common.{sym, ap, subst, ◌∙◌, inl, inr, arith}
 use Rattle.std.specs.Prelude.{is_some, SomeIff}
-use Rattle.std.proofs.Math.ListN.{length-set}
 use Rattle.std.proofs.Math.Seq.{drop-append_seam, take-append_seam}
-use Rattle.std.proofs.lemmas.List.{ext_get_or, get_or-drop, get_or-set_other, get_or-set_same, get_or-take, length-drop, length-take-le, take_all, take_more}
+use Rattle.std.proofs.lemmas.List.{ext_get_or, get_or-drop, get_or-take, length-drop, length-take-le, take_all, take_more}
 use Rattle.std.proofs.lemmas.List.Elements.{All-contains}
 use Rattle.std.specs.Option.{unwrap_or}
 use Rattle.dwz_bytes.specs.Spelling.{SpellsFixed, le_bytes, le_value}
 use Rattle.dwz_bytes.proofs.FixedLemmas.{fixed_written}
-use Rattle.dwz_docs.specs.Lists.{In}
+use Rattle.dwz_docs.specs.Lists.{Each, In}
 use Rattle.dwz_docs.specs.Parts.{StandsAt}
 use Rattle.dwz_docs.specs.OffsetTables.{slots_in}
 use Rattle.dwz_docs.specs.Pruning.{new_number}
 use Rattle.dwz_docs.specs.Texts.{text_at}
+use Rattle.dwz_docs.proofs.ListFacts.{in_cases, in_left, in_map, in_right}
 use Rattle.dwz_meanings.specs.Patching.{written_at}
 use Rattle.dwz_meanings.proofs.CutLemmas.{le_len}
 use Rattle.dwz_meanings.proofs.PatchedListLemmas.{cut_at}
-use Rattle.dwz_meanings.proofs.WriteOver.{written_len}
-use Rattle.dwz_seen.specs.Lists.{Each, EachPair}
-use Rattle.dwz_seen.proofs.Members.{each_in, in_cases, in_filter, in_left, in_map, in_right}
+use Rattle.dwz_meanings.proofs.WriteOver.{written_in, written_len, written_other}
+use Rattle.dwz_seen.specs.Lists.{EachPair}
+use Rattle.dwz_seen.proofs.Members.{each_in, in_filter}
 use Rattle.dwz_strs.specs.Pruned.{IsPruned, Pruning, moved_in}
 use Rattle.dwz_writing.specs.Pruned.{AreNewSlots, known_slots, number_in_slot, slot_after, slot_uses, slots_or_none}
 use Rattle.dwz_writing.proofs.SlotsLemmas.{slots_stand}
 use Rattle.dwz_sections.specs.Slots.{moved_or_same}
 
 -- ---- bytes written over others
-
-written_out : (at : ℕ) (new bytes : List ℕ) (b : ℕ) → (b < at) ⊎ (at + length new ≤ b) → get_or (written_at at new bytes) b 0 ≡ get_or bytes b 0
-unfolding written_at
-written_out at [] bytes b out = refl
-written_out at (n ∷ new) bytes b out =
-    let apart : b ≡ at → ⊥ = λ same. elim out [ inl before ↦ omega (arith, same, before) | inr behind ↦ omega (arith, same, behind) ] in
-    let rest : (b < at + 1) ⊎ (at + 1 + length new ≤ b) = elim out [ inl before ↦ inl (omega (arith, before)) | inr behind ↦ inr (omega (arith, behind)) ] in
-    written_out (at + 1) new (set bytes at n) b rest ∙ get_or-set_other bytes at b n 0 apart
-
-written_in : (at : ℕ) (new bytes : List ℕ) (k : ℕ) → k < length new → at + length new ≤ length bytes → get_or (written_at at new bytes) (at + k) 0 ≡ get_or new k 0
-unfolding written_at
-written_in at [] bytes k lt le = absurd (omega (arith, lt))
-written_in at (n ∷ new) bytes zero lt le =
-    let here : at + 0 ≡ at = omega arith in
-    ap (λ (b : ℕ). get_or (written_at (at + 1) new (set bytes at n)) b 0) here
-    ∙ written_out (at + 1) new (set bytes at n) at (inl (omega arith))
-    ∙ get_or-set_same bytes at n 0 (omega (arith, le))
-written_in at (n ∷ new) bytes (suc k) lt le =
-    let next : at + suc k ≡ at + 1 + k = omega arith in
-    ap (λ (b : ℕ). get_or (written_at (at + 1) new (set bytes at n)) b 0) next
-    ∙ written_in (at + 1) new (set bytes at n) k (omega (arith, lt)) (omega (arith, le, length-set bytes at n))
 
 -- four bytes at a place are those bytes
 four_are : (place : ℕ) (bytes four : List ℕ) → place + 4 ≤ length bytes → length four ≡ 4 → ((k : ℕ) → k < 4 → get_or bytes (place + k) 0 ≡ get_or four k 0) → take 4 (drop place bytes) ≡ four
@@ -123,7 +103,7 @@ slot_step number places old out new i m s lt is fits written h = record { len = 
 
   -- bytes of no slot that it has
   apart : (b : ℕ) → (b < p) ⊎ (p + 4 ≤ b) → get_or new b 0 ≡ get_or out b 0
-  apart b out_of = ap (λ (w : List ℕ). get_or w b 0) written ∙ written_out p four out b (elim out_of [ inl before ↦ inl before | inr behind ↦ inr (omega (arith, behind, size)) ])
+  apart b out_of = ap (λ (w : List ℕ). get_or w b 0) written ∙ written_other p four out b (elim out_of [ inl before ↦ inl before | inr behind ↦ inr (omega (arith, behind, size)) ])
 
   own : number_in_slot new p ≡ number (number_in_slot old p)
   own =

@@ -6,8 +6,6 @@ mod location_lists;
 mod numbers;
 mod range_sets;
 mod slot_numbers;
-#[cfg(test)]
-mod tests;
 
 pub use laws::section_laws;
 pub use location_lists::lists;

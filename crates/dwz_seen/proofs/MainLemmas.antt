@@ -4,8 +4,9 @@ use Rattle.std.proofs.lemmas.List.{map-append}
 use Rattle.dwz_meanings.specs.Documents.{Compile, DwUnit, Entries, Kind, OfType, Partial, entries_map, kind_map, unit_map}
 use Rattle.dwz_docs.specs.Lists.{In}
 use Rattle.dwz_docs.specs.Trees.{End, Entry}
+use Rattle.dwz_docs.proofs.ListFacts.{in_map}
 use Rattle.dwz_seen.specs.Shown.{AreShown, HasMain, HaveMains, UnitsShown, keys}
-use Rattle.dwz_seen.proofs.Members.{in_map, in_map_from}
+use Rattle.dwz_seen.proofs.Members.{in_map_from}
 
 pub keys_map : {P Q : Type 0} (f : P → Q) (g : Entries P) → keys (entries_map f g) ≡ map f (keys g)
 unfolding keys entries_map

@@ -1,29 +1,14 @@
 -- Members of lists: of joined, mapped and filtered ones; the n-th; each pair.
-use Rattle.std.proofs.Common.{◌≡◌, ℕ, suc, ◌≤◌, ◌⊎◌, ◌||◌, cond, Bool, true, false, List, [], ◌∷◌, ◌++◌, map, refl, sym, ap, subst, ◌∙◌, arith, inl, inr, eq-eqb, ◌==◌, if◌then◌else◌}
+use Rattle.std.proofs.Common.{◌≡◌, ℕ, suc, ◌≤◌, ◌||◌, cond, Bool, true, false, List, [], ◌∷◌, ◌++◌, map, refl, sym, ap, subst, ◌∙◌, arith, inl, inr, eq-eqb, ◌==◌, if◌then◌else◌, ◌+◌, ◌<◌, length}
+use Rattle.std.proofs.Common.{zero, Some, get_or}
 use Rattle.std.specs.List.{filter, list_any}
-use Rattle.dwz_docs.specs.Lists.{In, has}
-use Rattle.dwz_seen.specs.Lists.{Each, EachPair, Nth}
+use Rattle.std.specs.Prelude.{slice_get}
+use Rattle.dwz_docs.specs.Lists.{Each, In, has}
+use Rattle.dwz_docs.specs.Values.{AreBytes}
+use Rattle.dwz_docs.proofs.ListFacts.{in_left}
+use Rattle.dwz_seen.specs.Lists.{EachPair, Nth}
 
 -- ---- in joined and mapped lists
-
-pub in_left : {X : Type 0} (x : X) (xs ys : List X) → In x xs → In x (xs ++ ys)
-in_left x [] ys h = absurd h
-in_left x (y ∷ xs) ys (inl e) = inl e
-in_left x (y ∷ xs) ys (inr r) = inr (in_left x xs ys r)
-
-pub in_right : {X : Type 0} (x : X) (xs ys : List X) → In x ys → In x (xs ++ ys)
-in_right x [] ys h = h
-in_right x (y ∷ xs) ys h = inr (in_right x xs ys h)
-
-pub in_cases : {X : Type 0} (x : X) (xs ys : List X) → In x (xs ++ ys) → In x xs ⊎ In x ys
-in_cases x [] ys h = inr h
-in_cases x (y ∷ xs) ys (inl e) = inl (inl e)
-in_cases x (y ∷ xs) ys (inr r) = elim (in_cases x xs ys r) [ inl a ↦ inl (inr a) | inr b ↦ inr b ]
-
-pub in_map : {X Y : Type 0} (f : X → Y) (x : X) (xs : List X) → In x xs → In (f x) (map f xs)
-in_map f x [] h = absurd h
-in_map f x (y ∷ xs) (inl e) = inl (ap f e)
-in_map f x (y ∷ xs) (inr r) = inr (in_map f x xs r)
 
 -- what a member of a mapped list comes from
 pub record From {X Y : Type 0} (f : X → Y) (xs : List X) (y : Y) : Type 0 where
@@ -199,3 +184,25 @@ any_false p x xs is e = go (p x) refl where
   go : (b : Bool) → p x ≡ b → b ≡ false
   go true q = let h = any_true p x xs is q in absurd cc
   go false q = refl
+
+pub nth_below : {X : Type 0} (s : ℕ) (xs : List X) (n : ℕ) (x : X) → Nth s xs n x → n < s + length xs
+nth_below s [] n x h = absurd h
+nth_below s (y ∷ xs) n x (inl e) = (let q = e.0 in omega arith)
+nth_below s (y ∷ xs) n x (inr later) = (let q = nth_below (suc s) xs n x later in omega arith)
+
+pub nth_of : {X : Type 0} (s : ℕ) (xs : List X) (g : ℕ) (x : X) → slice_get xs g ≡ Some x → Nth s xs (s + g) x
+nth_of s [] g x e = absurd cc
+nth_of s (y ∷ xs) zero x e = inl (omega arith, cc)
+nth_of {X} s (y ∷ xs) (suc g) x e = inr (let n : suc s + g ≡ s + suc g = omega arith in subst (λ (k : ℕ). Nth (suc s) xs k x) n (nth_of (suc s) xs g x e))
+
+pub nth_get : {X : Type 0} (s : ℕ) (xs : List X) (n k : ℕ) (x : X) → Nth s xs n x → n ≡ s + k → slice_get xs k ≡ Some x
+nth_get s [] n k x h e = absurd h
+nth_get s (y ∷ xs) n zero x (inl h) e = ap (λ w. Some w) h.1
+nth_get s (y ∷ xs) n (suc k) x (inl h) e = absurd (let same = h.0 in omega arith)
+nth_get s (y ∷ xs) n zero x (inr h) e = absurd (let high = nth_from (suc s) xs n x h in omega arith)
+nth_get s (y ∷ xs) n (suc k) x (inr h) e = nth_get (suc s) xs n k x h (omega arith)
+
+-- each of them, by its number
+pub each_below : (xs : List (List ℕ)) → ((k : ℕ) → k < length xs → AreBytes (get_or xs k [])) → Each AreBytes xs
+each_below [] are = tt
+each_below (x ∷ xs) are = (are zero (omega arith), each_below xs (λ k less. are (suc k) (omega arith)))

@@ -1,8 +1,9 @@
 -- Lists in which nothing stands twice.
 use Rattle.std.proofs.Common.{◌≡◌, ℕ, ◌<◌, List, [], ◌∷◌, ◌++◌, map, refl, sym, subst, arith, inl, inr}
 use Rattle.dwz_docs.specs.Lists.{In}
+use Rattle.dwz_docs.proofs.ListFacts.{in_cases, in_left, in_right}
 use Rattle.dwz_seen.specs.Lists.{NoneTwice, Rising}
-use Rattle.dwz_seen.proofs.Members.{each_in, in_cases, in_left, in_map_from, in_right}
+use Rattle.dwz_seen.proofs.Members.{each_in, in_map_from}
 
 pub none_append : {X : Type 0} (xs ys : List X) → NoneTwice xs → NoneTwice ys → ((x : X) → In x xs → In x ys → ⊥) → NoneTwice (xs ++ ys)
 none_append [] ys h k f = k

@@ -4,9 +4,9 @@ use Rattle.std.proofs.lemmas.List.{map-append}
 use Rattle.dwz_meanings.specs.Documents.{Attr, Compile, DwUnit, Entries, Kind, Node, OfType, Partial, attr_map, entries_map, node_map, value_map}
 use Rattle.dwz_docs.specs.Lists.{In}
 use Rattle.dwz_docs.specs.Trees.{End, Entry}
+use Rattle.dwz_docs.proofs.ListFacts.{in_cases, in_left, in_right}
 use Rattle.dwz_seen.specs.Seen.{IsChild, Named, Seen, all_seen, heads, named_map, named_value, see, seen, seen_below, seen_inner, seen_inside, seen_map, seen_roots, seen_tops}
 use Rattle.dwz_seen.specs.Spaces.{space_text}
-use Rattle.dwz_seen.proofs.Members.{in_cases, in_left, in_right}
 
 -- ---- replaced places
 
@@ -77,7 +77,8 @@ pub tops_seen : {P : Type 0} (f : Entries P) (e : Seen P) → In e (seen_tops f)
 unfolding seen_tops seen
 tops_seen End e h = h
 tops_seen {P} (Entry d f g) e h = go (tops_seen f e) (tops_seen g e) (space_text d) h where
-  go : (In e (seen_tops f) → In e (seen f)) → (In e (seen_tops g) → In e (seen g)) → (o : Option (List ℕ)) → In e (elim o as (λ _. List (Seen P)) [ None ↦ see d f ∷ (seen f ++ seen_tops g) | Some s ↦ seen_tops f ++ seen_tops g ]) → In e (see d f ∷ (seen f ++ seen g))
+  go : (In e (seen_tops f) → In e (seen f)) → (In e (seen_tops g) → In e (seen g)) → (o : Option (List ℕ))
+      → In e (elim o as (λ _. List (Seen P)) [ None ↦ see d f ∷ (seen f ++ seen_tops g) | Some s ↦ seen_tops f ++ seen_tops g ]) → In e (see d f ∷ (seen f ++ seen g))
   go inner rest None (inl x) = inl x
   go inner rest None (inr r) = inr (elim (in_cases e (seen f) (seen_tops g) r) [ inl a ↦ in_left e (seen f) (seen g) a | inr b ↦ in_right e (seen f) (seen g) (rest b) ])
   go inner rest (Some s) r = inr (elim (in_cases e (seen_tops f) (seen_tops g) r) [ inl a ↦ in_left e (seen f) (seen g) (inner a) | inr b ↦ in_right e (seen f) (seen g) (rest b) ])

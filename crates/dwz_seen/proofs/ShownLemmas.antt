@@ -4,10 +4,12 @@ use Rattle.std.proofs.lemmas.List.{map-append}
 use Rattle.dwz_meanings.specs.Documents.{Attr, Compile, DwUnit, Entries, Kind, Node, OfType, Partial, Plain, Ref, entries_map, kind_map, ref, unit_map}
 use Rattle.dwz_docs.specs.Lists.{In}
 use Rattle.dwz_docs.specs.Trees.{End, Entry}
-use Rattle.dwz_seen.specs.Seen.{Closed, EntriesSame, Expands, HasAt, HasImage, InCompile, InsideSame, IsChild, IsImport, IsPartial, IsShown, Named, Seen, TypesSame, UnitsSame, all_seen, heads, named_map, named_value, see, seen, seen_below, seen_inner, seen_inside, seen_map, seen_roots, seen_tops}
+use Rattle.dwz_docs.proofs.ListFacts.{in_cases, in_left, in_map, in_right}
+use Rattle.dwz_seen.specs.Seen.{Closed, EntriesSame, Expands, HasAt, HasImage, InCompile, InsideSame, IsChild, IsImport, IsPartial, IsShown, Named, Seen, TypesSame, UnitsSame, all_seen, heads}
+use Rattle.dwz_seen.specs.Seen.{named_map, named_value, see, seen, seen_below, seen_inner, seen_inside, seen_map, seen_roots, seen_tops}
 use Rattle.dwz_seen.specs.Shown.{AreShown, IsShownUnit, OnePlace, UnitsShown, keys, unit_keys, units_keys}
 use Rattle.dwz_seen.specs.Spaces.{IsSpace, IsUnder, space_text}
-use Rattle.dwz_seen.proofs.Members.{in_cases, in_left, in_map, in_map_from, in_right}
+use Rattle.dwz_seen.proofs.Members.{in_map_from}
 use Rattle.dwz_seen.proofs.SeenLemmas.{entry_seen, root_from, seen_from}
 use Rattle.dwz_seen.proofs.SpaceLemmas.{child_under, node_shown, shown_text, under_seen}
 
@@ -41,7 +43,8 @@ entry_under units u names e is under =
 
 -- ---- what is seen
 
-entry_by : {P : Type 0} (a b : P) (s t : ℕ) (x y : List (Named P)) (c d : List P) → a ≡ b → s ≡ t → x ≡ y → c ≡ d → (let e : Seen P = record { at = a; tag = s; attrs = x; children = c } in let k : Seen P = record { at = b; tag = t; attrs = y; children = d } in e ≡ k)
+entry_by : {P : Type 0} (a b : P) (s t : ℕ) (x y : List (Named P)) (c d : List P) → a ≡ b → s ≡ t → x ≡ y → c ≡ d
+    → (let e : Seen P = record { at = a; tag = s; attrs = x; children = c } in let k : Seen P = record { at = b; tag = t; attrs = y; children = d } in e ≡ k)
 entry_by a b s t x y c d p q r u = cc
 
 module _ {P Q : Type 0} (g : P → Q) where
@@ -82,13 +85,17 @@ module _ {P Q : Type 0} (g : P → Q) where
   tops_shown : (f : Entries P) (f' : Entries Q) → AreShown g f f' → seen_tops f' ≡ map (seen_map g) (seen_tops f)
   unfolding seen_tops
   tops_shown End End h = refl
-  tops_shown (Entry e f k) (Entry d f' k') h = go (see_shown e d f f' h.0 h.1) (seen_shown f f' h.1) (tops_shown f f' h.1) (tops_shown k k' h.2) (space_text d) (space_text e) (shown_text g e d h.0) where
-    go : see d f' ≡ seen_map g (see e f) → seen f' ≡ map (seen_map g) (seen f) → seen_tops f' ≡ map (seen_map g) (seen_tops f) → seen_tops k' ≡ map (seen_map g) (seen_tops k) → (o p : Option (List ℕ)) → o ≡ p
-        → (elim o as (λ _. List (Seen Q)) [ None ↦ see d f' ∷ (seen f' ++ seen_tops k') | Some t ↦ seen_tops f' ++ seen_tops k' ]) ≡ map (seen_map g) (elim p as (λ _. List (Seen P)) [ None ↦ see e f ∷ (seen f ++ seen_tops k) | Some t ↦ seen_tops f ++ seen_tops k ])
-    go x y z w None None s = rw (map-append (seen_map g) (seen f) (seen_tops k), x, y, w) refl
-    go x y z w (Some t) (Some t') s = rw (map-append (seen_map g) (seen_tops f) (seen_tops k), z, w) refl
-    go x y z w None (Some t') s = absurd cc
-    go x y z w (Some t) None s = absurd cc
+  tops_shown (Entry e f k) (Entry d f' k') h = go (see_shown e d f f' h.0 h.1) (seen_shown f f' h.1) (tops_shown f f' h.1) (tops_shown k k' h.2) (space_text d) (space_text e)
+      (shown_text g e d h.0) where
+        go : see d f' ≡ seen_map g (see e f) → seen f' ≡ map (seen_map g) (seen f) → seen_tops f' ≡ map (seen_map g) (seen_tops f) → seen_tops k' ≡ map (seen_map g) (seen_tops k)
+            → (o p : Option (List ℕ))
+            → o ≡ p
+            → (elim o as (λ _. List (Seen Q)) [ None ↦ see d f' ∷ (seen f' ++ seen_tops k') | Some t ↦ seen_tops f' ++ seen_tops k' ])
+            ≡ map (seen_map g) (elim p as (λ _. List (Seen P)) [ None ↦ see e f ∷ (seen f ++ seen_tops k) | Some t ↦ seen_tops f ++ seen_tops k ])
+        go x y z w None None s = rw (map-append (seen_map g) (seen f) (seen_tops k), x, y, w) refl
+        go x y z w (Some t) (Some t') s = rw (map-append (seen_map g) (seen_tops f) (seen_tops k), z, w) refl
+        go x y z w None (Some t') s = absurd cc
+        go x y z w (Some t) None s = absurd cc
   tops_shown _ _ h = absurd h
 
   inside_shown : (k : Kind P) (f : Entries P) (f' : Entries Q) → AreShown g f f' → seen_inside (kind_map g k) f' ≡ map (seen_map g) (seen_inside k f)
@@ -167,7 +174,8 @@ module _ {P Q : Type 0} (g : P → Q) where
 
   -- ---- references
 
-  closed_from : (units : List (DwUnit P)) (others : List (DwUnit Q)) → all_seen others ≡ map (seen_map g) (all_seen units) → Closed units → (d : Seen P) → In d (all_seen units) → (a : Named P) → In a d.attrs → (p : P) → In p a.value.refs → (q : Q) → g p ≡ q
+  closed_from : (units : List (DwUnit P)) (others : List (DwUnit Q)) → all_seen others ≡ map (seen_map g) (all_seen units) → Closed units → (d : Seen P) → In d (all_seen units) → (a : Named P)
+      → In a d.attrs → (p : P) → In p a.value.refs → (q : Q) → g p ≡ q
       → (e : Seen Q) × In e (all_seen others) × (e.at ≡ q)
   closed_from units others all closed d there a attr p ref q same =
       let t = closed d a p there attr ref in
@@ -186,7 +194,10 @@ pub seen_key : {K : Type 0} (f : Entries K) (d : Seen K) → In d (seen f) → I
 unfolding seen keys
 seen_key End d h = absurd h
 seen_key {K} (Entry e f g) d (inl x) = inl (ap (λ (w : Seen K). w.at) x)
-seen_key (Entry e f g) d (inr r) = elim (in_cases d (seen f) (seen g) r) [ inl a ↦ inr (in_left d.at (keys f) (keys g) (seen_key f d a)) | inr b ↦ inr (in_right d.at (keys f) (keys g) (seen_key g d b)) ]
+seen_key (Entry e f g) d (inr r) = elim (in_cases d (seen f) (seen g) r) [
+  | inl a ↦ inr (in_left d.at (keys f) (keys g) (seen_key f d a))
+  | inr b ↦ inr (in_right d.at (keys f) (keys g) (seen_key g d b))
+]
 
 pub unit_key : {K : Type 0} (units : List (DwUnit K)) (u : DwUnit K) (k : K) → In u units → In k (unit_keys u) → In k (units_keys units)
 unfolding units_keys
@@ -230,13 +241,15 @@ kind_then f g (OfType signature main) = refl
 kind_then f g Partial = refl
 
 -- entries that are the same along names are so along places
-pub entries_placed : {A K P : Type 0} (g : K → P) (f : A → K) (before : List (DwUnit A)) (after : List (DwUnit K)) (placed : List (DwUnit P)) → UnitsShown g after placed → EntriesSame f before after → EntriesSame (λ x. g (f x)) before placed
+pub entries_placed : {A K P : Type 0} (g : K → P) (f : A → K) (before : List (DwUnit A)) (after : List (DwUnit K)) (placed : List (DwUnit P)) → UnitsShown g after placed → EntriesSame f before after
+    → EntriesSame (λ x. g (f x)) before placed
 entries_placed {A} {K} {P} g f before after placed shown h = λ e is.
     subst (In (seen_map (λ x. g (f x)) e)) (sym (below_shown g after placed shown))
     (subst (λ (w : Seen P). In w (map (seen_map g) (seen_below after))) (seen_then f g e) (in_map (seen_map g) (seen_map f e) (seen_below after) (h e is)))
 
 -- and so are the roots of type units
-pub types_placed : {A K P : Type 0} (g : K → P) (f : A → K) (before : List (DwUnit A)) (after : List (DwUnit K)) (placed : List (DwUnit P)) → UnitsShown g after placed → TypesSame f before after → TypesSame (λ x. g (f x)) before placed
+pub types_placed : {A K P : Type 0} (g : K → P) (f : A → K) (before : List (DwUnit A)) (after : List (DwUnit K)) (placed : List (DwUnit P)) → UnitsShown g after placed → TypesSame f before after
+    → TypesSame (λ x. g (f x)) before placed
 types_placed {A} {K} {P} g f before after placed shown h = λ u signature main is kind.
     let e = see u.root u.below in
     subst (In (seen_map (λ x. g (f x)) e)) (sym (roots_shown g after placed shown))
@@ -269,7 +282,8 @@ shown_entries f g End End (Entry k c c') x y = absurd y
 shown_entries f g (Entry d a a') (Entry e b b') End x y = absurd y
 shown_entries f g _ _ _ x y = absurd x
 
-pub shown_then : {A B C : Type 0} (f : A → B) (g : B → C) (us : List (DwUnit A)) (vs : List (DwUnit B)) (ws : List (DwUnit C)) → UnitsShown f us vs → UnitsShown g vs ws → UnitsShown (λ x. g (f x)) us ws
+pub shown_then : {A B C : Type 0} (f : A → B) (g : B → C) (us : List (DwUnit A)) (vs : List (DwUnit B)) (ws : List (DwUnit C)) → UnitsShown f us vs → UnitsShown g vs ws
+    → UnitsShown (λ x. g (f x)) us ws
 shown_then f g [] [] [] x y = tt
 shown_then f g (u ∷ us) (v ∷ vs) (w ∷ ws) x y = (
   record {
@@ -320,11 +334,13 @@ module _ {K P : Type 0} (g : K → P) (units : List (DwUnit K)) (placed : List (
     unit = there;
     partial = subst IsPartial (sym s.kind) (partial_to g w.kind is.partial);
     tag = h.tag ∙ is.tag;
-    names = subst (λ (q : P). In (named_ref 0x18 q) (map named_value d.attrs)) (sym s.root.at) (subst (In (named_ref 0x18 (g w.root.at))) (sym h.attrs) (in_map (named_map g) (named_ref 0x18 w.root.at) (map named_value e.attrs) is.names));
+    names = subst (λ (q : P). In (named_ref 0x18 q) (map named_value d.attrs)) (sym s.root.at)
+        (subst (In (named_ref 0x18 (g w.root.at))) (sym h.attrs) (in_map (named_map g) (named_ref 0x18 w.root.at) (map named_value e.attrs) is.names));
   }
 
   -- an import after is one before
-  import_back : Closed units → OnePlace g units → (e : Node K) → EntryWith units e.attrs → (d : Node P) → IsShown g e d → (w : DwUnit K) → In w units → (v : DwUnit P) → IsShownUnit g w v → IsImport placed d v → IsImport units e w
+  import_back : Closed units → OnePlace g units → (e : Node K) → EntryWith units e.attrs → (d : Node P) → IsShown g e d → (w : DwUnit K) → In w units → (v : DwUnit P) → IsShownUnit g w v
+      → IsImport placed d v → IsImport units e w
   import_back closed one e c d h w there v s im =
       let names = subst (λ (q : P). In (named_ref 0x18 q) (map named_value d.attrs)) s.root.at im.names in
       let a = attr_from g (map named_value e.attrs) (named_ref 0x18 (g w.root.at)) (g w.root.at) (subst (In (named_ref 0x18 (g w.root.at))) h.attrs names) (inl refl) in
@@ -338,7 +354,8 @@ module _ {K P : Type 0} (g : K → P) (units : List (DwUnit K)) (placed : List (
         names = subst (λ (x : K). In (named_ref 0x18 x) (map named_value e.attrs)) same (subst (λ (x : Named K). In x (map named_value e.attrs)) single_attr a.there);
       }
 
-  has_up : Closed units → OnePlace g units → (u : DwUnit K) → In u units → (v : DwUnit P) → IsShownUnit g u v → (names : List (List ℕ)) (q : K) → HasAt units names u.below q → HasAt placed names v.below (g q)
+  has_up : Closed units → OnePlace g units → (u : DwUnit K) → In u units → (v : DwUnit P) → IsShownUnit g u v → (names : List (List ℕ)) (q : K) → HasAt units names u.below q
+      → HasAt placed names v.below (g q)
   has_up closed one u is v s names q c =
       let d = under_to g names u.below v.below s.below c.entry c.under in
       record {
@@ -351,7 +368,8 @@ module _ {K P : Type 0} (g : K → P) (units : List (DwUnit K)) (placed : List (
         at = d.2.at ∙ ap g c.at;
       }
 
-  has_down : Closed units → OnePlace g units → (u : DwUnit K) → In u units → (v : DwUnit P) → IsShownUnit g u v → (names : List (List ℕ)) (p : P) → HasAt placed names v.below p → (q : K) × HasAt units names u.below q × (g q ≡ p)
+  has_down : Closed units → OnePlace g units → (u : DwUnit K) → In u units → (v : DwUnit P) → IsShownUnit g u v → (names : List (List ℕ)) (p : P) → HasAt placed names v.below p
+      → (q : K) × HasAt units names u.below q × (g q ≡ p)
   has_down closed one u is v s names p c =
       let e = under_from g names u.below v.below s.below c.entry c.under in (
         e.0.at,
@@ -367,7 +385,8 @@ module _ {K P : Type 0} (g : K → P) (units : List (DwUnit K)) (placed : List (
         sym e.2.at ∙ c.at,
       )
 
-  expands_up : Closed units → OnePlace g units → (u : DwUnit K) → In u units → (v : DwUnit P) → IsShownUnit g u v → (names : List (List ℕ)) (q : K) → Expands units u names q → Expands placed v names (g q)
+  expands_up : Closed units → OnePlace g units → (u : DwUnit K) → In u units → (v : DwUnit P) → IsShownUnit g u v → (names : List (List ℕ)) (q : K) → Expands units u names q
+      → Expands placed v names (g q)
   expands_up closed one u is v s names q (inl c) = inl (has_up closed one u is v s names q c)
   expands_up closed one u is v s names q (inr c) =
       let d = child_to g u.below v.below s.below c.0 c.2 in
@@ -384,7 +403,8 @@ module _ {K P : Type 0} (g : K → P) (units : List (DwUnit K)) (placed : List (
     pub unit_shown : IsShownUnit g unit v
     pub imports : IsImport units entry unit
 
-  import_was : Closed units → OnePlace g units → (u : DwUnit K) → In u units → (v : DwUnit P) → IsShownUnit g u v → (d : Node P) → IsChild d v.below → (w : DwUnit P) → IsImport placed d w → ImportBack u d w
+  import_was : Closed units → OnePlace g units → (u : DwUnit K) → In u units → (v : DwUnit P) → IsShownUnit g u v → (d : Node P) → IsChild d v.below → (w : DwUnit P) → IsImport placed d w
+      → ImportBack u d w
   import_was closed one u is v s d child w im =
       let e = child_from g u.below v.below s.below d child in
       let o = shown_from g units placed shown w im.unit in
@@ -398,7 +418,8 @@ module _ {K P : Type 0} (g : K → P) (units : List (DwUnit K)) (placed : List (
         imports = import_back closed one e.0 (entry_under units u [] e.0 is (child_under e.0 u.below e.1)) d e.2 o.unit o.there w o.shown im;
       }
 
-  expands_down : Closed units → OnePlace g units → (u : DwUnit K) → In u units → (v : DwUnit P) → IsShownUnit g u v → (names : List (List ℕ)) (p : P) → Expands placed v names p → (q : K) × Expands units u names q × (g q ≡ p)
+  expands_down : Closed units → OnePlace g units → (u : DwUnit K) → In u units → (v : DwUnit P) → IsShownUnit g u v → (names : List (List ℕ)) (p : P) → Expands placed v names p
+      → (q : K) × Expands units u names q × (g q ≡ p)
   expands_down closed one u is v s names p (inl c) = let o = has_down closed one u is v s names p c in (o.0, inl o.1, o.2)
   expands_down closed one u is v s names p (inr c) =
       let b = import_was closed one u is v s c.0 c.2 c.1 c.3 in
@@ -442,7 +463,8 @@ inside_placed {A} {K} {P} g f after placed shown closed one u v is w s h = recor
 }
 
 -- units that are the same along names are so along places
-pub units_placed : {A K P : Type 0} (g : K → P) (f : A → K) (before : List (DwUnit A)) (after : List (DwUnit K)) (placed : List (DwUnit P)) → UnitsShown g after placed → Closed after → OnePlace g after → UnitsSame f before after → UnitsSame (λ x. g (f x)) before placed
+pub units_placed : {A K P : Type 0} (g : K → P) (f : A → K) (before : List (DwUnit A)) (after : List (DwUnit K)) (placed : List (DwUnit P)) → UnitsShown g after placed → Closed after
+    → OnePlace g after → UnitsSame f before after → UnitsSame (λ x. g (f x)) before placed
 units_placed {A} {K} {P} g f before after placed shown closed one h = λ u is.
     let o = h u is in
     let s = o.1 in
@@ -459,7 +481,8 @@ units_placed {A} {K} {P} g f before after placed shown closed one h = λ u is.
 
 -- ---- places before, in place of names
 
-inside_named : {A K P : Type 0} (name : A → K) (f : K → P) (after : List (DwUnit P)) (u : DwUnit A) (v : DwUnit K) → IsShownUnit name u v → (w : DwUnit P) → InsideSame f after v w → InsideSame (λ x. f (name x)) after u w
+inside_named : {A K P : Type 0} (name : A → K) (f : K → P) (after : List (DwUnit P)) (u : DwUnit A) (v : DwUnit K) → IsShownUnit name u v → (w : DwUnit P) → InsideSame f after v w
+    → InsideSame (λ x. f (name x)) after u w
 inside_named {A} {K} {P} name f after u v s w h = record {
   spaces = λ names d space. (
       let r = space_to name names u.below v.below s.below d space in
@@ -484,7 +507,8 @@ inside_named {A} {K} {P} name f after u v s w h = record {
       (r.0, r.1));
 }
 
-pub units_named : {A K P : Type 0} (name : A → K) (f : K → P) (before : List (DwUnit A)) (named : List (DwUnit K)) (after : List (DwUnit P)) → UnitsShown name before named → UnitsSame f named after → UnitsSame (λ x. f (name x)) before after
+pub units_named : {A K P : Type 0} (name : A → K) (f : K → P) (before : List (DwUnit A)) (named : List (DwUnit K)) (after : List (DwUnit P)) → UnitsShown name before named → UnitsSame f named after
+    → UnitsSame (λ x. f (name x)) before after
 units_named {A} {K} {P} name f before named after shown h = λ u is.
     let v = shown_in name before named shown u is in
     let o = h v.unit v.there in
@@ -499,12 +523,14 @@ units_named {A} {K} {P} name f before named after shown h = λ u is.
       },
     )
 
-pub entries_named : {A K P : Type 0} (name : A → K) (f : K → P) (before : List (DwUnit A)) (named : List (DwUnit K)) (after : List (DwUnit P)) → UnitsShown name before named → EntriesSame f named after → EntriesSame (λ x. f (name x)) before after
+pub entries_named : {A K P : Type 0} (name : A → K) (f : K → P) (before : List (DwUnit A)) (named : List (DwUnit K)) (after : List (DwUnit P)) → UnitsShown name before named
+    → EntriesSame f named after → EntriesSame (λ x. f (name x)) before after
 entries_named {A} {K} {P} name f before named after shown h = λ e is.
     let there = subst (In (seen_map name e)) (sym (inner_shown name before named shown)) (in_map (seen_map name) e (seen_inner before) is) in
     subst (λ (w : Seen P). In w (seen_below after)) (seen_then name f e) (h (seen_map name e) there)
 
-pub types_named : {A K P : Type 0} (name : A → K) (f : K → P) (before : List (DwUnit A)) (named : List (DwUnit K)) (after : List (DwUnit P)) → UnitsShown name before named → TypesSame f named after → TypesSame (λ x. f (name x)) before after
+pub types_named : {A K P : Type 0} (name : A → K) (f : K → P) (before : List (DwUnit A)) (named : List (DwUnit K)) (after : List (DwUnit P)) → UnitsShown name before named → TypesSame f named after
+    → TypesSame (λ x. f (name x)) before after
 types_named {A} {K} {P} name f before named after shown h = λ u signature main is kind.
     let v = shown_in name before named shown u is in
     let there = h v.unit signature (name main) v.there (v.shown.kind ∙ ap (kind_map name) kind) in

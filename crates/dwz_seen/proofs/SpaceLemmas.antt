@@ -3,9 +3,9 @@ use Rattle.std.proofs.Common.{◌≡◌, ℕ, ◌+◌, suc, Bool, true, false, L
 use Rattle.dwz_meanings.specs.Documents.{Attr, Entries, Node, entries_map, first_named, node_map}
 use Rattle.dwz_docs.specs.Lists.{In}
 use Rattle.dwz_docs.specs.Trees.{End, Entry}
+use Rattle.dwz_docs.proofs.ListFacts.{in_left, in_right}
 use Rattle.dwz_seen.specs.Seen.{IsChild, IsShown, Named, Seen, named_map, named_value, see, seen}
 use Rattle.dwz_seen.specs.Spaces.{IsUnder, space_text, text_at, text_in, tops_under}
-use Rattle.dwz_seen.proofs.Members.{in_left, in_right}
 use Rattle.dwz_seen.proofs.SeenLemmas.{names_map}
 
 -- ---- the name is told by the tag and by the names and values of attributes
@@ -18,7 +18,8 @@ text_named : {P : Type 0} (attrs : List (Attr P)) → text_at (first_named 0x03 
 unfolding first_named named_text
 text_named [] = refl
 text_named {P} (a ∷ attrs) = go (text_named attrs) (a.name == 0x03) where
-  go : text_at (first_named 0x03 attrs) ≡ named_text (map named_value attrs) → (b : Bool) → text_at (if b then Some a else first_named 0x03 attrs) ≡ (if b then text_in a.value.plain else named_text (map named_value attrs))
+  go : text_at (first_named 0x03 attrs) ≡ named_text (map named_value attrs) → (b : Bool) → text_at (if b then Some a else first_named 0x03 attrs)
+      ≡ (if b then text_in a.value.plain else named_text (map named_value attrs))
   go more true = refl
   go more false = more
 
@@ -26,7 +27,8 @@ text_kept : {P Q : Type 0} (g : P → Q) (attrs : List (Named P)) → named_text
 unfolding named_text
 text_kept g [] = refl
 text_kept g (a ∷ attrs) = go (text_kept g attrs) (a.name == 0x03) where
-  go : named_text (map (named_map g) attrs) ≡ named_text attrs → (b : Bool) → (if b then text_in a.value.plain else named_text (map (named_map g) attrs)) ≡ (if b then text_in a.value.plain else named_text attrs)
+  go : named_text (map (named_map g) attrs) ≡ named_text attrs → (b : Bool) → (if b then text_in a.value.plain else named_text (map (named_map g) attrs))
+      ≡ (if b then text_in a.value.plain else named_text attrs)
   go more true = refl
   go more false = more
 
@@ -36,7 +38,8 @@ text_by tag text = elim (tag == 0x39) as (λ _. Option (List ℕ)) [ true ↦ te
 text_is : {P : Type 0} (e : Node P) → space_text e ≡ text_by e.tag (named_text (map named_value e.attrs))
 unfolding space_text text_by
 text_is e = go (e.tag == 0x39) where
-  go : (b : Bool) → (elim b as (λ _. Option (List ℕ)) [ true ↦ text_at (first_named 0x03 e.attrs) | false ↦ None ]) ≡ (elim b as (λ _. Option (List ℕ)) [ true ↦ named_text (map named_value e.attrs) | false ↦ None ])
+  go : (b : Bool) → (elim b as (λ _. Option (List ℕ)) [ true ↦ text_at (first_named 0x03 e.attrs) | false ↦ None ])
+      ≡ (elim b as (λ _. Option (List ℕ)) [ true ↦ named_text (map named_value e.attrs) | false ↦ None ])
   go true = text_named e.attrs
   go false = refl
 
@@ -56,7 +59,8 @@ unfolding tops_under entries_map
 under_count g End = refl
 under_count g (Entry e f k) = go (under_count g f) (under_count g k) (space_text (node_map g e)) (space_text e) (text_map g e) where
   go : tops_under (entries_map g f) ≡ tops_under f → tops_under (entries_map g k) ≡ tops_under k → (o p : Option (List ℕ)) → o ≡ p
-      → (elim o as (λ _. ℕ) [ None ↦ suc (tops_under (entries_map g k)) | Some s ↦ tops_under (entries_map g f) + tops_under (entries_map g k) ]) ≡ (elim p as (λ _. ℕ) [ None ↦ suc (tops_under k) | Some s ↦ tops_under f + tops_under k ])
+      → (elim o as (λ _. ℕ) [ None ↦ suc (tops_under (entries_map g k)) | Some s ↦ tops_under (entries_map g f) + tops_under (entries_map g k) ])
+      ≡ (elim p as (λ _. ℕ) [ None ↦ suc (tops_under k) | Some s ↦ tops_under f + tops_under k ])
   go x y None None e = ap (λ (n : ℕ). suc n) y
   go x y (Some s) (Some t) e = rw (x, y) refl
   go x y None (Some t) e = absurd cc

@@ -1,11 +1,6 @@
 -- Relations on lists.
 use Rattle.std.specs.Prelude.{◌≡◌, ◌⊎◌, ℕ, suc, ◌<◌, List, [], ◌∷◌}
-use Rattle.dwz_docs.specs.Lists.{In}
-
--- P holds of each of them
-abbrev pub Each : {X : Type 0} → (X → Type 0) → List X → Type 0
-Each P [] = Unit {0}
-Each P (x ∷ xs) = P x × Each P xs
+use Rattle.dwz_docs.specs.Lists.{Each, In}
 
 -- R holds of each element and each behind it
 abbrev pub EachPair : {X : Type 0} → (X → X → Type 0) → List X → Type 0

@@ -47,7 +47,11 @@ all_seen units = seen_roots units ++ seen_below units
 -- the entries of tops: no spaces
 unfoldable pub seen_tops : {P : Type 0} → Entries P → List (Seen P)
 seen_tops End = []
-seen_tops {P} (Entry e children next) = elim (space_text e) as (λ _. List (Seen P)) [ None ↦ see e children ∷ (seen children ++ seen_tops next) | Some text ↦ seen_tops children ++ seen_tops next ]
+seen_tops {P} (Entry e children next) = elim (space_text e) as (λ _. List (Seen P)) [
+  | None ↦ see e children
+      ∷ (seen children ++ seen_tops next)
+  | Some text ↦ seen_tops children ++ seen_tops next
+]
 
 abbrev pub seen_inside : {P : Type 0} → Kind P → Entries P → List (Seen P)
 seen_inside (OfType signature main) below = seen below
@@ -119,7 +123,8 @@ pub record InsideSame {P Q : Type 0} (f : P → Q) (after : List (DwUnit Q)) (u 
   pub spaces : (names : List (List ℕ)) (d : Node P) → IsSpace names d u.below → (e : Node Q) × IsSpace names e v.below × IsShown f d e
   pub no_more : (names : List (List ℕ)) (e : Node Q) → IsSpace names e v.below → (d : Node P) × IsSpace names d u.below × IsShown f d e
   pub children : (names : List (List ℕ)) (q : Q) → Expands after v names q ↔ HasImage f names u.below q
-  pub imported : (e : Node Q) (w : DwUnit Q) → IsChild e v.below → IsImport after e w → (names : List (List ℕ)) (b : Node Q) → IsSpace names b w.below
+  pub imported : (e : Node Q) (w : DwUnit Q) → IsChild e v.below → IsImport after e w → (names : List (List ℕ)) (b : Node Q)
+      → IsSpace names b w.below
       → (d : Node P) × IsSpace names d u.below
 
 abbrev pub InCompile : {P : Type 0} → Kind P → Type 0 → Type 0
@@ -140,7 +145,8 @@ UnitsSame {P} {Q} f before after = (u : DwUnit P) → In u before → (v : DwUni
 -- the root at the image of a type unit's root is this root with each place replaced, its children in order
 abbrev pub TypesSame : {P Q : Type 0} → (P → Q) → List (DwUnit P) → List (DwUnit Q) → Type 0
 TypesSame {P} f before after =
-    (u : DwUnit P) (signature : ℕ) (main : P) → In u before → u.kind ≡ OfType signature main → In (seen_map f (see u.root u.below)) (seen_roots after)
+    (u : DwUnit P) (signature : ℕ) (main : P) → In u before → u.kind ≡ OfType signature main
+    → In (seen_map f (see u.root u.below)) (seen_roots after)
 
 -- what sameness along a function of places says of entries, of units, and of the roots of type units
 pub record SameAlong {P Q : Type 0} (f : P → Q) (before : List (DwUnit P)) (after : List (DwUnit Q)) : Type 0 where
@@ -153,4 +159,5 @@ pub record SameAlong {P Q : Type 0} (f : P → Q) (before : List (DwUnit P)) (af
 -- each reference names an entry
 abbrev pub Closed : {P : Type 0} → List (DwUnit P) → Type 0
 Closed {P} units =
-    (e : Seen P) (a : Named P) (p : P) → In e (all_seen units) → In a e.attrs → In p a.value.refs → (d : Seen P) × In d (all_seen units) × (d.at ≡ p)
+    (e : Seen P) (a : Named P) (p : P) → In e (all_seen units) → In a e.attrs → In p a.value.refs → (d : Seen P) × In d (all_seen units)
+    × (d.at ≡ p)

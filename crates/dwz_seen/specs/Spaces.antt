@@ -35,4 +35,7 @@ pub record IsSpace {P : Type 0} (names : List (List ℕ)) (e : Node P) (f : Entr
 -- how many entries stand in a row and in its spaces that are no spaces themselves
 unfoldable pub tops_under : {P : Type 0} → Entries P → ℕ
 tops_under End = 0
-tops_under (Entry e children next) = elim (space_text e) as (λ _. ℕ) [ None ↦ suc (tops_under next) | Some text ↦ tops_under children + tops_under next ]
+tops_under (Entry e children next) = elim (space_text e) as (λ _. ℕ) [
+  | None ↦ suc (tops_under next)
+  | Some text ↦ tops_under children + tops_under next
+]

@@ -1,9 +1,8 @@
 -- All that is read of files and moves is sound as it is written: values are carried, and what roots say of bases stands.
-use Rattle.std.proofs.Common.{◌≡◌, suc, Bool, true, false, List, ◌∷◌, map, Option, refl, sym, ap, subst, arith, inl, inr, ◌<◌, ◌^◌, length, ℕ, []}
-use Rattle.dwz_alike.specs.Alike.{IsAlike, Scope}
-use Rattle.dwz_alike.specs.Spots.{FileUnit, PartialOf, Spot, Top, file_numbers, in_file, named, named_files, spot_in, spots_from, units_of}
+use Rattle.std.proofs.Common.{◌≡◌, Bool, true, false, List, ◌∷◌, refl, sym, ap, subst, arith, inl, inr, ◌<◌, ◌^◌, length, ℕ, []}
+use Rattle.dwz_alike.specs.Alike.{IsAlike, TopScope}
+use Rattle.dwz_alike.specs.Spots.{FileUnit, PartialOf, Spot, Top, file_numbers, named, units_of}
 use Rattle.dwz_back.proofs.BasesLemmas.{out_bases}
-use Rattle.dwz_back.proofs.CarriedRoots.{RootsCarried}
 use Rattle.dwz_back.proofs.CommonLemmas.{common_within}
 use Rattle.dwz_back.proofs.FewTexts.{read_few}
 use Rattle.dwz_back.proofs.FreeOperands.{UnitAsksNone, asks_operands, home_asks}
@@ -11,7 +10,7 @@ use Rattle.dwz_back.proofs.HomeLemmas.{parts_from, top_file}
 use Rattle.dwz_back.proofs.LineLemmas.{common_bases, local_roots, part_bases}
 use Rattle.dwz_back.proofs.NameLemmas.{common_entries, common_names, common_there, file_once, file_there, fitted_entries, fitted_names, not_common, run_once}
 use Rattle.dwz_back.proofs.NamedOperands.{IsTold, files_read}
-use Rattle.dwz_back.proofs.OriginLemmas.{bases_mapped, part_origin}
+use Rattle.dwz_back.proofs.OriginLemmas.{part_origin}
 use Rattle.dwz_back.proofs.OutOperands.{out_operands}
 use Rattle.dwz_back.proofs.OutsCarried.{new_carried, out_carried, part_spaces}
 use Rattle.dwz_back.proofs.PathLemmas.{paths_carried}
@@ -20,28 +19,28 @@ use Rattle.dwz_back.proofs.ReadPlaces.{read_from}
 use Rattle.dwz_back.proofs.WithinLemmas.{within}
 use Rattle.dwz_back.specs.AllFiles.{AreRead}
 use Rattle.dwz_back.specs.Back.{WasReadFrom, run_of}
-use Rattle.dwz_back.specs.Files.{Run, Stored, common_fitted, common_forms, common_out, file_forms, file_out, files_out, fitted, fitted_if, formed, imports_common, lists_named, origin_in, paths, shared, shared_if, sources, tells, tells_common, texts, uses}
-use Rattle.dwz_docs.specs.Lists.{In}
+use Rattle.dwz_back.specs.Files.{Run, Stored, common_fitted, common_forms, common_out, file_forms, file_out, files_out, fitted, fitted_if, formed, imports_common, lists_named, origin_in, paths}
+use Rattle.dwz_back.specs.Files.{shared, shared_if, sources, tells, tells_common, texts, uses}
+use Rattle.dwz_back.proofs.AllLemmas.{WasRead, all_placed, common_roots, files_carried}
+use Rattle.dwz_back.proofs.StillPlaces.{number_nth}
+use Rattle.dwz_docs.specs.Lists.{Each, In}
 use Rattle.dwz_docs.specs.Trees.{End, Entry}
-use Rattle.dwz_meanings.specs.Documents.{Attr, Doc, DwUnit, Entries, Node, unit_map}
+use Rattle.dwz_meanings.specs.Documents.{Attr, Doc, DwUnit, Entries, Node}
 use Rattle.dwz_meanings.specs.Files.{sources_of}
 use Rattle.dwz_meanings.specs.Meanings.{Sources}
 use Rattle.dwz_meanings.specs.Shared.{NoneShared, operands_in_lists}
 use Rattle.dwz_moving.proofs.RowParts.{part_is as part_row_is}
-use Rattle.dwz_moving.specs.Homes.{Common, Home, IsChoice, Rule}
+use Rattle.dwz_moving.specs.Homes.{Common, IsChoice, Rule}
 use Rattle.dwz_moving.specs.IsPlan.{Has, OfTop}
-use Rattle.dwz_moving.specs.Moves.{line_attrs, line_in, names_path, plan, root_in_part}
-use Rattle.dwz_moving.specs.Plan.{PartialUnit}
 use Rattle.dwz_same.proofs.FileLemmas.{files_same, replaced}
-use Rattle.dwz_same.proofs.HeldLemmas.{part_found, row_found}
+use Rattle.dwz_same.proofs.HeldLemmas.{row_found}
 use Rattle.dwz_same.specs.After.{ArePlaced, FilesSame, Replaces, at_file, name_in}
 use Rattle.dwz_same.specs.Units.{all_units, common_units, out_units, partial_units, units_at}
-use Rattle.dwz_seen.proofs.Members.{each_more, each_of, in_cases, in_map_from, nth_in}
-use Rattle.dwz_seen.specs.Lists.{Each, NoneTwice, Nth}
+use Rattle.dwz_seen.proofs.Members.{each_more, each_of, in_map_from, nth_in}
+use Rattle.dwz_seen.specs.Lists.{NoneTwice, Nth}
 use Rattle.dwz_seen.specs.Shown.{units_keys}
 use Rattle.dwz_sound.proofs.NewNumbers.{new_sound}
 use Rattle.dwz_sound.specs.Sound.{FewTexts}
-use Rattle.dwz_writing.proofs.CarriedMaps.{unit_carried}
 use Rattle.dwz_writing.proofs.Chosen.{units_good}
 use Rattle.dwz_writing.proofs.PoolLemmas.{paths_texts, units_paths, units_texts}
 use Rattle.dwz_writing.proofs.Rising.{entries_are_keys}
@@ -73,66 +72,14 @@ module _ {K : Type 0} (from : From) (origin : Bases) where
   any_unit : (u : DwUnit K) → CarriedUnit from origin u → CarriedUnit OfAny origin u
   any_unit u h = record { kind = h.kind; main = h.main; root = any_node u.root h.root; below = any_entries u.below h.below }
 
--- ---- the units before
-
--- the units of each file were read so
-abbrev WasRead : (ℕ → From) → FileUnit Spot → Type 0
-WasRead from u = CarriedUnit (from u.file) (bases_in u.unit) u.unit
-
-file_carried : (from : ℕ → From) (file : ℕ) (f : ℕ → Spot) (some : List (DwUnit ℕ)) → Each (λ v. CarriedUnit (from file) (bases_in v) v) some → (u : FileUnit Spot)
-    → In u (map (in_file file) (map (unit_map f) some)) → WasRead from u
-file_carried from file f [] are u there = absurd there
-file_carried from file f (v ∷ some) are u (inl e) =
-    subst (WasRead from) e (subst (λ (b : Bases). CarriedUnit (from file) b (unit_map f v)) (sym (bases_mapped f v)) (unit_carried (from file) (bases_in v) f v are.0))
-file_carried from file f (v ∷ some) are u (inr r) = file_carried from file f some are.1 u r
-
-abbrev Read : (ℕ → From) → ℕ → List (Doc ℕ) → Type 0
-Read from own docs = (file : ℕ) (doc : Doc ℕ) → Nth own docs file doc → Each (λ v. CarriedUnit (from file) (bases_in v) v) doc.units
-
-files_carried : (from : ℕ → From) (own unit top : ℕ) (docs : List (Doc ℕ)) → Read from own docs → (u : FileUnit Spot) → In u (named_files own unit top docs) → WasRead from u
-unfolding named_files
-files_carried from own unit top [] read u there = absurd there
-files_carried from own unit top (doc ∷ docs) read u there = elim (in_cases u (map (in_file own) (named unit top doc.units)) _ there) [
-  | inl a ↦ file_carried from own (spot_in (spots_from unit top doc.units)) doc.units (read own doc (inl (refl, refl))) u a
-  | inr b ↦ files_carried from (suc own) _ _ docs (λ file d nth. read file d (inr nth)) u b
-]
-
-all_placed : (own : ℕ) (docs : List (Doc ℕ)) → ((file : ℕ) (doc : Doc ℕ) → Nth own docs file doc → ArePlaced doc.units) → Each (λ doc. ArePlaced doc.units) docs
-all_placed own [] read = tt
-all_placed own (doc ∷ docs) read = (read own doc (inl (refl, refl)), all_placed (suc own) docs (λ file d nth. read file d (inr nth)))
-
--- ---- the root of a partial unit of the common file
-
-common_root : (units : List (FileUnit Spot)) (origin : Bases) (part : PartialUnit) → part.home ≡ Common → Each (CarriedAttr OfAny origin) (line_attrs units part)
-unfolding line_attrs
-common_root units origin part home = by (names_path part) where
-  by : (b : Bool) → Each (CarriedAttr OfAny origin) (elim b as (λ _. List (Attr Spot)) [ true ↦ line_in units part.home part.tops ∷ [] | false ↦ [] ])
-  by true = (
-    subst (λ (h : Home). CarriedAttr OfAny origin (line_in units h part.tops)) (sym home)
-        (inr (inr (record { name = refl; form = refl; place = 0; raw = refl; fits = omega arith; value = refl }))),
-    tt,
-  )
-  by false = tt
-
-common_roots : (rule : Rule) (units : List (FileUnit Spot)) (files : List ℕ) → RootsCarried OfAny (plan rule units files) units Common
-common_roots rule units files n part nth home =
-    let m = plan rule units files in
-    subst (λ (o : Option PartialUnit). Each (CarriedAttr OfAny (origin_in m units (PartialOf n))) (root_in_part units o)) (sym (part_found 0 m.parts n n part nth (omega arith)))
-    (common_root units (origin_in m units (PartialOf n)) part home)
-
 -- ---- location lists
-
-doc_at : (own : ℕ) (docs : List (Doc ℕ)) (file : ℕ) → In file (file_numbers own docs) → (doc : Doc ℕ) × Nth own docs file doc
-unfolding file_numbers
-doc_at own [] file there = absurd there
-doc_at own (doc ∷ docs) file (inl e) = (doc, inl (e, refl))
-doc_at own (doc ∷ docs) file (inr r) = (let o = doc_at (suc own) docs file r in (o.0, inr o.1))
 
 none_named : NoneShared []
 unfolding operands_in_lists
 none_named place shared = shared.1
 
-module _ (scope : Scope) (docs : List (Doc ℕ)) (input : Stored) (are : AreRead input docs) (rule : Rule) (is : IsAlike scope (units_of docs) rule.alike) (choice : IsChoice (units_of docs) rule) where
+module _ (scope : TopScope) (docs : List (Doc ℕ)) (input : Stored) (are : AreRead input docs) (rule : Rule) (is : IsAlike scope (units_of docs) rule.alike)
+    (choice : IsChoice (units_of docs) rule) where
   abbrev r : Run
   r = run_of rule docs input
 
@@ -234,7 +181,7 @@ module _ (scope : Scope) (docs : List (Doc ℕ)) (input : Stored) (are : AreRead
   shared_few few false = omega arith
 
   file_few : (file : ℕ) → In file r.files → length (sources r file).strs < 2 ^ 32
-  file_few file there = (let o = doc_at 0 docs file there in let read = are file o.0 o.1 in read_few read.limits (input.bytes file) (input.raw file) o.0 read.reads 3)
+  file_few file there = (let o = number_nth 0 docs file there in let read = are file o.0 o.1 in read_few read.limits (input.bytes file) (input.raw file) o.0 read.reads 3)
 
   formed_sound : FewTexts r → (file : ℕ) → In file r.files → Each SoundUnit (formed r file)
   unfolding formed

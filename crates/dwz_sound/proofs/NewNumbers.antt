@@ -1,26 +1,18 @@
 -- Units stay sound where their texts have new numbers, which are no greater than the section is long.
-use Rattle.std.proofs.Common.{◌≡◌, ℕ, ℤ, pos, ◌<◌, ◌^◌, Bool, true, false, List, [], ◌∷◌, length, map, take, cond, eqb, refl, sym, subst, ◌∙◌, arith}
+use Rattle.std.proofs.Common.{◌≡◌, ℕ, pos, ◌<◌, ◌^◌, Bool, true, false, List, [], ◌∷◌, length, map, take, cond, eqb, sym, subst, ◌∙◌, arith}
 use Rattle.std.proofs.lemmas.List.{length-take}
 use Rattle.dwz_bytes.specs.Spelling.{le_bytes, reach}
-use Rattle.dwz_codes.specs.Forms.{form_rows}
 use Rattle.dwz_docs.specs.Pruning.{is_kept, new_number}
-use Rattle.dwz_docs.specs.Values.{Number, SpellsShape, shape_of, written_rows}
 use Rattle.dwz_docs.proofs.PruneLemmas.{length_kept}
 use Rattle.dwz_docs.specs.Trees.{End, Entry}
 use Rattle.dwz_meanings.specs.Documents.{Attr, DwUnit, Entries}
 use Rattle.dwz_meanings.specs.Meanings.{Class, OfTextInStr, Unread}
-use Rattle.dwz_seen.specs.Lists.{Each}
+use Rattle.dwz_docs.specs.Lists.{Each}
 use Rattle.dwz_writing.specs.Placing.{with_form}
 use Rattle.dwz_writing.specs.Pruned.{renumbered, renumbered_attr, renumbered_unit, renumbered_units}
 use Rattle.dwz_writing.specs.Sound.{SoundAttr, SoundEntries, SoundUnit, StoresAs}
-use Rattle.dwz_bytes.proofs.FixedLemmas.{fixed_written}
 use Rattle.dwz_writing.proofs.PoolLemmas.{le_are}
-use Rattle.dwz_writing.proofs.ChosenValues.{str_class}
-
--- four bytes
-strp_spelled : (number : ℤ) (x : ℕ) → x < 2 ^ 32 → SpellsShape (shape_of written_rows 0x0e) number (le_bytes 4 x) (Number (pos x))
-unfolding form_rows
-strp_spelled number x lt = record { content = x; spelled = fixed_written 4 x (omega (arith, lt)); value = refl }
+use Rattle.dwz_writing.proofs.ChosenValues.{str_class, strp_spelled}
 
 -- the number of a text is at most as great as the section is long
 number_less : (strs uses : List ℕ) → length strs < 2 ^ 32 → (n : ℕ) → new_number strs uses n < 2 ^ 32

@@ -3,6 +3,9 @@ use Rattle.std.proofs.Common.{◌≡◌, ℕ, zero, suc, ◌+◌, ◌<◌, ◌�
 use Rattle.std.specs.Prelude.{replicate}
 use Rattle.std.specs.List.{list_any}
 use Rattle.std.proofs.lemmas.List.{length-map, take_all}
+use Rattle.std.proofs.lemmas.Option.{get_or_from_slice_get}
+use Rattle.dwz_docs.proofs.ListFacts.{got_below, got_map, item_got}
+use Rattle.dwz_docs.proofs.CaseFacts.{same_bool}
 use Rattle.dwz_meanings.specs.Documents.{Doc, Node}
 use Rattle.dwz_alike.specs.Spots.{FileUnit, Spot, UnitOf, same_spot, units_of}
 use Rattle.dwz_graph.specs.declared.file.File.{File}
@@ -15,14 +18,14 @@ use Rattle.dwz_moving.specs.Plan.{is_pinned_at, pinned_in}
 use Rattle.dwz_order.specs.Lists.{all_spaces}
 use Rattle.dwz_order.specs.Marks.{flag_at}
 use Rattle.dwz_order.specs.Spaces.{Numbered, spaces_of}
+use Rattle.dwz_order.proofs.SpaceNumbers.{numbered_by}
 use Rattle.dwz_scan.specs.Marked.{MarksIf}
 use Rattle.dwz_unit.specs.Rows.{units_of as raw_units}
 use Rattle.dwz_across.specs.Across.{IsFileAmong, file_units, name_at, starts_at}
 use Rattle.dwz_across.proofs.FileCounts.{all_ends, are_many, starts_are}
 use Rattle.dwz_across.proofs.FileWalk.{is_among}
-use Rattle.dwz_across.proofs.ListGets.{got_below, got_index, got_map, item_got}
 use Rattle.dwz_across.proofs.TopRows.{units_long}
-use Rattle.dwz_marks.proofs.MarkSteps.{MarkedBy, files_first, files_next, same_bool, starts_zero}
+use Rattle.dwz_marks.proofs.MarkSteps.{MarkedBy, files_first, files_next, starts_zero}
 use Rattle.dwz_marks.proofs.FilesKnown.{below}
 use Rattle.dwz_spaces.specs.Pinned.{ArePinned, FlagsSpace}
 use Rattle.dwz_spaces.specs.Places.{NamesApart, spot_at}
@@ -48,12 +51,14 @@ pins_begin docs indexes flags e =
     let count = length (all_spaces indexes) in
     subst (λ (s : Starts). MarkedBy units (pins_number units) count s.unit flags) (sym (starts_zero docs indexes)) (files_first units (pins_number units) count flags e)
 
-module _ (contents : List (List ℕ)) (files : List File) (indexes : List Index) (kept : AreKept contents files) (all : AreIndexes (docs_of contents) indexes) (k : ℕ) (f : File) (x : Index) (got_f : slice_get files k ≡ Some f) (got_x : slice_get indexes k ≡ Some x) where
+module _ (contents : List (List ℕ)) (files : List File) (indexes : List Index) (kept : AreKept contents files) (all : AreIndexes (docs_of contents) indexes) (k : ℕ) (f : File) (x : Index)
+    (got_f : slice_get files k ≡ Some f) (got_x : slice_get indexes k ≡ Some x) where
   abbrev units : List (FileUnit Spot)
   units = units_of (docs_of contents)
 
   pub pins_next : (old new : List Bool) → MarkedBy units (pins_number units) (length (all_spaces indexes)) (starts_at (docs_of contents) indexes k).unit old
-      → ((contents : List (List ℕ)) (k : ℕ) (bytes : List ℕ) (spots : List Spot) (is : IsFileAmong contents k bytes f x) → NamesApart spots x (raw_units f.units) (name_at x.starts is.kept.read.doc) → length old ≡ length spots
+      → ((contents : List (List ℕ)) (k : ℕ) (bytes : List ℕ) (spots : List Spot) (is : IsFileAmong contents k bytes f x) → NamesApart spots x (raw_units f.units) (name_at x.starts is.kept.read.doc)
+      → length old ≡ length spots
       → MarksIf (λ t. list_any (pinned_in (same_spot (spot_at spots t))) (file_units x.starts k is.kept.read.doc) ≡ true) old new)
       → MarkedBy units (pins_number units) (length (all_spaces indexes)) (starts_at (docs_of contents) indexes (k + 1)).unit new
   pins_next old new h one =
@@ -71,14 +76,10 @@ module _ (contents : List (List ℕ)) (files : List File) (indexes : List Index)
       subst (λ (n : ℕ). MarkedBy units (pins_number units) count n new) behind
       (files_next units own (pins_number units) count x.starts.unit old new r.is.units (subst (λ (n : ℕ). MarkedBy units (pins_number units) count n old) (sym begins) h) marks)
 
-numbered_from : {X : Type 0} (P : ℕ → X → Type 0) (n : ℕ) (xs : List X) → ((k : ℕ) (x : X) → slice_get xs k ≡ Some x → P (n + k) x) → Numbered P n xs
-numbered_from P n [] h = tt
-numbered_from P n (x ∷ xs) h =
-    let none : n + 0 ≡ n = omega arith in
-    (subst (λ (j : ℕ). P j x) none (h 0 x refl), numbered_from P (suc n) xs (λ k y e. (let next : n + suc k ≡ suc n + k = omega arith in subst (λ (j : ℕ). P j y) next (h (suc k) y e))))
-
-pub pins_all : (contents : List (List ℕ)) (files : List File) (indexes : List Index) (k : ℕ) → AreKept contents files → AreIndexes (docs_of contents) indexes → length files ≤ k → k ≤ length files → (flags : List Bool)
-    → MarkedBy (units_of (docs_of contents)) (pins_number (units_of (docs_of contents))) (length (all_spaces indexes)) (starts_at (docs_of contents) indexes k).unit flags → ArePinned (units_of (docs_of contents)) flags
+pub pins_all : (contents : List (List ℕ)) (files : List File) (indexes : List Index) (k : ℕ) → AreKept contents files → AreIndexes (docs_of contents) indexes → length files ≤ k → k ≤ length files
+    → (flags : List Bool)
+    → MarkedBy (units_of (docs_of contents)) (pins_number (units_of (docs_of contents))) (length (all_spaces indexes)) (starts_at (docs_of contents) indexes k).unit flags
+    → ArePinned (units_of (docs_of contents)) flags
 unfolding is_pinned_at
 pins_all contents files indexes k kept all low high flags h =
     let docs = docs_of contents in
@@ -92,17 +93,19 @@ pins_all contents files indexes k kept all low high flags h =
     let count = many_spaces docs indexes all in
     record {
       len = h.len ∙ sym count;
-      each = numbered_from (FlagsSpace units flags) 0 (spaces_of units) (λ n e got. (
+      each = numbered_by (FlagsSpace units flags) 0 (spaces_of units) (λ n e got. (
           let lt = got_below (spaces_of units) n e got in
           let r = h.each n (omega arith) in
-          let spot : spot_at (space_spots units) n ≡ e.at = got_index (space_spots units) n e.at (UnitOf 0) (got_map (λ (w : Node Spot). w.at) (spaces_of units) n e got) in
-          let same = same_bool (flag_at flags n) (list_any (pins_number units n) units) (λ x. sym (ap (list_any (pins_number units n)) taken) ∙ r.0 x, λ x. r.1 (ap (list_any (pins_number units n)) taken ∙ x)) in
+          let spot : spot_at (space_spots units) n ≡ e.at = get_or_from_slice_get (space_spots units) n e.at (UnitOf 0) (got_map (λ (w : Node Spot). w.at) (spaces_of units) n e got) in
+          let same = same_bool (flag_at flags n) (list_any (pins_number units n) units)
+          (λ x. sym (ap (list_any (pins_number units n)) taken) ∙ r.0 x, λ x. r.1 (ap (list_any (pins_number units n)) taken ∙ x)) in
           let none : 0 + n ≡ n = omega arith in
           ap (flag_at flags) none ∙ same ∙ ap (λ (s : Spot). list_any (pinned_in (same_spot s)) units) spot));
     }
 
 -- where there are no spaces
-pub none_pinned : (docs : List (Doc ℕ)) (indexes : List Index) (flags : List Bool) → AreIndexes docs indexes → flags ≡ replicate (length (all_spaces indexes)) false → length flags ≡ 0 → ArePinned (units_of docs) flags
+pub none_pinned : (docs : List (Doc ℕ)) (indexes : List Index) (flags : List Bool) → AreIndexes docs indexes → flags ≡ replicate (length (all_spaces indexes)) false → length flags ≡ 0
+    → ArePinned (units_of docs) flags
 none_pinned docs indexes flags is e none =
     let units = units_of docs in
     let count = many_spaces docs indexes is in
@@ -128,4 +131,5 @@ module _ (contents : List (List ℕ)) (files : List File) (indexes : List Index)
   got_index_of = item_got indexes k x (below contents files indexes k kept all lt) xe
 
   pub room_of : x.starts.space + length x.spaces < 2 ^ 32
-  room_of = (let room = room_for contents files indexes kept all k f x got_file got_index_of in let at = ap (λ (s : Starts). s.space) (begins contents files indexes kept all k f x got_file got_index_of) in omega arith)
+  room_of = (let room = room_for contents files indexes kept all k f x got_file got_index_of in let at =
+      ap (λ (s : Starts). s.space) (begins contents files indexes kept all k f x got_file got_index_of) in omega arith)

@@ -1,11 +1,13 @@
 -- What is marked of one file, from what is known of its spaces and of its operands.
 use Rattle.std.proofs.Common.{◌≡◌, ◌↔◌, ◌⊎◌, ℕ, ◌<◌, Bool, true, false, List, [], ◌∷◌, length, map, Option, Some, None, slice_get, refl, sym, ap, subst, ◌∙◌, inl, inr, ⊎_elim, arith}
 use Rattle.std.specs.List.{list_any}
+use Rattle.std.proofs.lemmas.Option.{get_or_from_slice_get}
 use Rattle.dwz_alike.specs.Alike.{any_attr}
 use Rattle.dwz_alike.specs.Spots.{Spot, UnitOf, same_spot}
 use Rattle.dwz_alike.proofs.SpotLemmas.{same_spot-same, same_spot-true}
 use Rattle.dwz_docs.specs.Lists.{In}
 use Rattle.dwz_docs.specs.Units.{RawUnit, entries_in}
+use Rattle.dwz_docs.proofs.ListFacts.{got_there, in_cases, in_left, in_right}
 use Rattle.dwz_graph.specs.declared.file.File.{File}
 use Rattle.dwz_index.specs.Index.{Index}
 use Rattle.dwz_index.specs.Names.{top_in}
@@ -18,10 +20,8 @@ use Rattle.dwz_resolve.specs.Parts.{AreParted}
 use Rattle.dwz_resolve.specs.Resolved.{AreEntries, place_at}
 use Rattle.dwz_scan.specs.Known.{KnowsRefs, in_unit, tops_of_refs}
 use Rattle.dwz_scan.specs.Marked.{Marks, MarksIf, expression_pins, if_asked}
-use Rattle.dwz_seen.proofs.Members.{in_cases, in_left, in_right}
 use Rattle.dwz_unit.specs.Rows.{units_of as raw_units}
 use Rattle.dwz_across.specs.Across.{IsFileAmong, file_units, name_at}
-use Rattle.dwz_across.proofs.ListGets.{get_there, got_index}
 use Rattle.dwz_marks.proofs.FileMarks.{lists_pin}
 use Rattle.dwz_marks.proofs.UnitAttrs.{any_filed, named_attrs, pins_either}
 use Rattle.dwz_spaces.specs.Places.{AreSpaceNumbers, NamesApart, list_spaces, number_at, spot_at}
@@ -89,7 +89,8 @@ module _ (contents : List (List ℕ)) (file : ℕ) (bytes : List ℕ) (f : File)
         let low : r.x.entry < length numbers = (let e = r.is_entry in omega arith) in
         let some = are.all r.j r.x r.there low in
         let q = are.each r.x.entry some.0 some.1 in
-        let there : slice_get spots some.0 ≡ Some (name (place_at raw entry)) = ap (slice_get spots) q.number ∙ apart.own q.j q.x q.there ∙ ap (λ (n : ℕ). Some (name (place_at raw n))) (q.is_entry ∙ r.is_entry) in
+        let there : slice_get spots some.0 ≡ Some (name (place_at raw entry)) = ap (slice_get spots) q.number ∙ apart.own q.j q.x q.there
+        ∙ ap (λ (n : ℕ). Some (name (place_at raw n))) (q.is_entry ∙ r.is_entry) in
         let same : some.0 ≡ t = apart.one some.0 t (name (place_at raw entry)) there h in
         ap (number_at numbers) (sym r.is_entry) ∙ some.1 ∙ ap Some same),
   )
@@ -104,7 +105,8 @@ module _ (contents : List (List ℕ)) (file : ℕ) (bytes : List ℕ) (f : File)
   into_are [] h = refl
   into_are (r ∷ refs) h = (λ i. number_same r h.0 i ∷ into_are refs h.1 i)
 
-  pub knows : (refs starts : List ℕ) (into : List (Option ℕ)) → refs ≡ f.resolved.refs.items → starts ≡ f.resolved.starts.items → into ≡ map (number_at numbers) refs → KnowsRefs (around_of bytes raw) raw (numbered spots name) f.resolved.refs.items starts into
+  pub knows : (refs starts : List ℕ) (into : List (Option ℕ)) → refs ≡ f.resolved.refs.items → starts ≡ f.resolved.starts.items → into ≡ map (number_at numbers) refs
+      → KnowsRefs (around_of bytes raw) raw (numbered spots name) f.resolved.refs.items starts into
   knows refs starts into r s i = record {
     parted = subst (λ (w : List ℕ). AreParted (around_of bytes raw) raw (entries_in raw) f.resolved.refs.items w) (sym s) is.kept.read.parts;
     entries = is.kept.read.within;
@@ -132,7 +134,8 @@ module _ (contents : List (List ℕ)) (file : ℕ) (bytes : List ℕ) (f : File)
         λ h. whole ∙ either.1 (⊎_elim (λ a. inl (sym exprs ∙ a)) (λ b. (let r = rows_are.0 b in inr (lists.1 (r.0, r.1, (r.2.0, (each r.0 r.1).0 r.2.1))))) h),
       )
     where
-      tells : (t : ℕ) (s : Spot) → slice_get spots t ≡ Some s → (o : ListOperand) → In o f.resolved.operands.items → (number_at numbers o.entry ≡ Some t) ↔ (same_spot s (name (place_at raw o.entry)) ≡ true)
+      tells : (t : ℕ) (s : Spot) → slice_get spots t ≡ Some s → (o : ListOperand) → In o f.resolved.operands.items
+          → (number_at numbers o.entry ≡ Some t) ↔ (same_spot s (name (place_at raw o.entry)) ≡ true)
       tells t s there o inside =
           let low = (is.kept.read.of_file o inside).entry in
           let a = entry_tells o.entry t low in
@@ -145,4 +148,4 @@ module _ (contents : List (List ℕ)) (file : ℕ) (bytes : List ℕ) (f : File)
   file_pins rows e old mid new many a b =
       marks_both (λ t. list_any (in_unit (any_attr (expression_pins t))) (map (unit_map (numbered spots name)) doc.units) ≡ true) (λ t. In (Some t) (list_spaces numbers f.resolved.operands.items))
       (λ t. list_any (pinned_in (same_spot (spot_at spots t))) (file_units x.starts file doc) ≡ true) old mid new a (subst (λ (w : List ListOperand). Marks (list_spaces numbers w) mid new) e b)
-      (λ t lt. (let g = get_there spots t (omega arith) in pins_space t (spot_at spots t) (g.1 ∙ ap (λ w. Some w) (sym (got_index spots t g.0 (UnitOf 0) g.1)))))
+      (λ t lt. (let g = got_there spots t (omega arith) in pins_space t (spot_at spots t) (g.1 ∙ ap (λ w. Some w) (sym (get_or_from_slice_get spots t g.0 (UnitOf 0) g.1)))))

@@ -1,9 +1,7 @@
 -- The names of the spaces of a file, as they are read.
-use Rattle.std.proofs.Common.{◌≡◌, ℕ, zero, suc, ◌+◌, ◌<◌, ◌^◌, All, List, [], ◌∷◌, length, Option, Some, None, Ok, slice_get, refl, sym, ap, subst, ◌∙◌, inl, inr, arith}
-use Rattle.dwz_docs.specs.Entries.{root_position}
-use Rattle.dwz_docs.specs.Trees.{End, Entry, Forest, Position, behind, first_below}
-use Rattle.dwz_docs.specs.Entries.{RawEntry}
-use Rattle.dwz_docs.specs.Units.{RawUnit, entries_in, entry_count}
+use Rattle.std.proofs.Common.{◌≡◌, ℕ, zero, suc, ◌+◌, ◌<◌, ◌^◌, All, List, [], ◌∷◌, length, Option, Some, None, Ok, slice_get, refl, sym, ap, subst, ◌∙◌, arith}
+use Rattle.dwz_docs.specs.Units.{RawUnit, entries_in}
+use Rattle.dwz_docs.proofs.ListFacts.{got_below, got_map}
 use Rattle.dwz_meanings.specs.Documents.{Attr, Doc, Node, first_named, node_map}
 use Rattle.dwz_meanings.specs.Files.{around_of}
 use Rattle.dwz_meanings.specs.Meanings.{Scope, Sources, alone, node_meaning}
@@ -16,7 +14,6 @@ use Rattle.dwz_graph.specs.Files.{AreKept, docs_of}
 use Rattle.dwz_index.specs.declared.index.SpaceEntry.{SpaceEntry}
 use Rattle.dwz_index.specs.declared.index.Starts.{Starts}
 use Rattle.dwz_index.specs.Index.{Index}
-use Rattle.dwz_index.proofs.TopLemmas.{get_cases}
 use Rattle.dwz_indexes.specs.Indexed.{AreIndexes}
 use Rattle.dwz_order.specs.Shown.{Pairs, text_of}
 use Rattle.dwz_order.specs.Spaces.{name_by as named_by, name_in, said_of, spaces_of}
@@ -26,11 +23,11 @@ use Rattle.dwz_resolve.specs.declared.sections.Sections.{Sections}
 use Rattle.dwz_resolve.specs.Resolved.{IsHere, around, scope_in}
 use Rattle.dwz_resolve.proofs.RowLemmas.{row_is, rows-length}
 use Rattle.dwz_unit.specs.declared.rows.RawEntry.{RawEntry as EntryOfCode}
-use Rattle.dwz_unit.specs.Rows.{EntryRow, rows_below, rows_from, rows_in, rows_of, shown_entries, units_of as raw_units}
+use Rattle.dwz_unit.specs.Rows.{EntryRow, rows_of, shown_entries, units_of as raw_units}
 use Rattle.dwz_across.specs.Across.{IsFileAmong, IsPart, file_units, name_at, starts_at}
 use Rattle.dwz_across.proofs.FileCounts.{next_starts_are, starts_are}
 use Rattle.dwz_across.proofs.FileWalk.{is_among}
-use Rattle.dwz_across.proofs.ListGets.{got_below, got_map, part_get}
+use Rattle.dwz_across.proofs.ListGets.{part_get}
 use Rattle.dwz_spaces.specs.Names.{IsSpaceNamed, Reads}
 use Rattle.dwz_spaces.proofs.SpaceCounts.{spaces_few, spaces_part, starts_low}
 use Rattle.dwz_spaces.proofs.SpaceEntries.{IsSpaceOf, file_spaces, said_spaces, spaces_named}
@@ -56,7 +53,8 @@ module _ (contents : List (List ℕ)) (k : ℕ) (bytes : List ℕ) (f : File) (x
   name = name_at x.starts doc
 
   pub pairs : Pairs (IsSpaceOf raw (around_of bytes raw)) x.spaces (said_spaces doc.units)
-  pairs = subst (λ (w : List SpaceEntry). Pairs (IsSpaceOf raw (around_of bytes raw)) w (said_spaces doc.units)) (sym is.index.tops.spaces_are) (file_spaces is.kept.limits bytes raw doc x.starts is.kept.read.means)
+  pairs = subst (λ (w : List SpaceEntry). Pairs (IsSpaceOf raw (around_of bytes raw)) w (said_spaces doc.units)) (sym is.index.tops.spaces_are)
+      (file_spaces is.kept.limits bytes raw doc x.starts is.kept.read.means)
 
   pub entries_there : All (λ e. e.entry < entries_in raw) x.spaces
   entries_there = by x.spaces (said_spaces doc.units) pairs where
@@ -71,7 +69,8 @@ module _ (contents : List (List ℕ)) (k : ℕ) (bytes : List ℕ) (f : File) (x
       → (d : Node ℕ) × IsSpaceOf raw (around_of bytes raw) e d × (slice_get (spaces_of (units_of (docs_of contents))) (x.starts.space + j) ≡ Some (node_map name d))
   node_there part j e got =
       let r = beside_first (IsSpaceOf raw (around_of bytes raw)) x.spaces (said_spaces doc.units) pairs j e got in
-      let own : slice_get (spaces_of (file_units x.starts k doc)) j ≡ Some (node_map name r.0) = ap (λ (w : List (Node Spot)). slice_get w j) (spaces_named k name doc.units) ∙ got_map (node_map name) (said_spaces doc.units) j r.0 r.1 in
+      let own : slice_get (spaces_of (file_units x.starts k doc)) j ≡ Some (node_map name r.0) = ap (λ (w : List (Node Spot)). slice_get w j) (spaces_named k name doc.units)
+      ∙ got_map (node_map name) (said_spaces doc.units) j r.0 r.1 in
       (r.0, r.2, part_get (spaces_of (units_of (docs_of contents))) (spaces_of (file_units x.starts k doc)) x.starts.space j (node_map name r.0) part own)
 
   name_text : (text : List ℕ) (o : Option (Attr Spot)) → text_of (name_by text o) ≡ text
@@ -85,32 +84,13 @@ module _ (contents : List (List ℕ)) (k : ℕ) (bytes : List ℕ) (f : File) (x
       let h = r.1 in
       let node = node_map name r.0 in
       let said : text_of (said_of (units_of (docs_of contents)) (x.starts.space + j)) ≡ h.text =
-      ap (λ (o : Option (Node Spot)). text_of (name_in o)) r.2 ∙ ap (λ (o : Option (List ℕ)). text_of (named_by node o)) (text_map name r.0 ∙ h.is_space) ∙ name_text h.text (first_named 0x03 node.attrs) in
+      ap (λ (o : Option (Node Spot)). text_of (name_in o)) r.2 ∙ ap (λ (o : Option (List ℕ)). text_of (named_by node o)) (text_map name r.0 ∙ h.is_space)
+      ∙ name_text h.text (first_named 0x03 node.attrs) in
       let one : IsSpaceNamed raw (around_of bytes raw) e.entry h.text = record { u = h.u; row = h.row; d = r.0; found = h.found; is_unit = h.is_unit; means = h.means; is_space = h.is_space } in
       subst (λ (w : List ℕ). IsSpaceNamed raw (around f.sections raw) e.entry w) (sym said)
       (subst (λ (w : Sources). IsSpaceNamed raw (alone w raw) e.entry h.text) (sym is.kept.read.sections) one)
 
 -- ---- units of entries
-
-rows_unit : (f : Forest RawEntry) (unit : ℕ) (p : Position) (i : ℕ) (row : EntryRow) → slice_get (rows_below f unit p) i ≡ Some row → row.unit ≡ unit
-unfolding rows_below
-rows_unit End unit p i row e = absurd cc
-rows_unit (Entry d c n) unit p zero row e = (let first : EntryRow = record { entry = d; unit = unit; depth = p.depth; end = (behind p c).before } in let same : first ≡ row = cc in ap (λ (w : EntryRow). w.unit) (sym same))
-rows_unit (Entry d c n) unit p (suc i) row e = elim (get_cases (rows_below c unit (first_below p)) (rows_below n unit (behind p c)) i row e) [
-  | inl a ↦ rows_unit c unit (first_below p) i row a
-  | inr b ↦ rows_unit n unit (behind p c) b.0 row b.2
-]
-
-units_high : (raw : List RawUnit) (unit before i : ℕ) (row : EntryRow) → slice_get (rows_from raw unit before) i ≡ Some row → row.unit < unit + length raw
-unfolding rows_from
-units_high [] unit before i row e = absurd cc
-units_high (u ∷ raw) unit before i row e = elim (get_cases (rows_in u unit before) (rows_from raw (unit + 1) (before + entry_count u)) i row e) [
-  | inl a ↦ (let at = rows_unit (Entry u.root u.below End) unit (root_position before) i row a in omega arith)
-  | inr b ↦ (let lt = units_high raw (unit + 1) (before + entry_count u) b.0 row b.2 in omega arith)
-]
-
-pub unit_within : (raw : List RawUnit) (i : ℕ) (row : EntryRow) → slice_get (rows_of raw) i ≡ Some row → row.unit < length raw
-unit_within raw i row e = (let lt = units_high raw 0 0 i row e in omega arith)
 
 -- an entry that is shown is of the unit of its row
 pub unit_shown : (raw : List RawUnit) (i : ℕ) (row : EntryRow) (r : EntryOfCode) → slice_get (rows_of raw) i ≡ Some row → slice_get (shown_entries raw) i ≡ Some r → row.unit ≡ r.unit
@@ -118,14 +98,16 @@ unit_shown raw i row r found shown = ap (λ (w : EntryOfCode). w.unit) (row_is r
 
 -- the name that is read
 pub name_read : (sections : Sections) (raw : List RawUnit) (e : ℕ) (text : List ℕ) (h : Here) (named : IsSpaceNamed raw (around sections raw) e text) → IsHere raw named.u h → (read : List ℕ)
-    → ((s : Scope ℕ) (row : EntryRow) (d : Node ℕ) (text : List ℕ) → IsOwn sections h.offsets s → slice_get (rows_of raw) e ≡ Some row → node_meaning s row.entry ≡ Ok d → space_text d ≡ Some text → read ≡ text) → read ≡ text
+    → ((s : Scope ℕ) (row : EntryRow) (d : Node ℕ) (text : List ℕ) → IsOwn sections h.offsets s → slice_get (rows_of raw) e ≡ Some row → node_meaning s row.entry ≡ Ok d → space_text d ≡ Some text
+    → read ≡ text) → read ≡ text
 name_read sections raw e text h named at read reads =
     let s = scope_in sections raw named.u in
     reads s named.row named.d text (record { sources = refl; common = refl; base_is = at.base }) named.found (((node_agrees s named.row.entry).ok named.d).1 named.means) named.is_space
 
 -- ---- file by file
 
-module _ (contents : List (List ℕ)) (files : List File) (indexes : List Index) (kept : AreKept contents files) (all : AreIndexes (docs_of contents) indexes) (k : ℕ) (f : File) (x : Index) (got_f : slice_get files k ≡ Some f) (got_x : slice_get indexes k ≡ Some x) where
+module _ (contents : List (List ℕ)) (files : List File) (indexes : List Index) (kept : AreKept contents files) (all : AreIndexes (docs_of contents) indexes) (k : ℕ) (f : File) (x : Index)
+    (got_f : slice_get files k ≡ Some f) (got_x : slice_get indexes k ≡ Some x) where
   pub begins : x.starts ≡ starts_at (docs_of contents) indexes k
   begins = (starts_are contents files indexes k f x kept all got_f got_x).0
 

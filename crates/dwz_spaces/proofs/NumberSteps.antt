@@ -1,15 +1,16 @@
 -- The numbers of spaces are set one after the other.
-use Rattle.std.proofs.Common.{◌≡◌, ℕ, zero, suc, ◌+◌, ◌<◌, ◌≤◌, Bool, false, List, [], ◌∷◌, ◌++◌, length, get_or, map, take, Option, Some, None, slice_get, slice_set, refl, sym, ap, ◌∙◌, inl, inr, arith, get_or-set_other, get_or-set_same}
+use Rattle.std.proofs.Common.{◌≡◌, ℕ, zero, suc, ◌+◌, ◌<◌, ◌≤◌, Bool, false, List, [], ◌∷◌, ◌++◌, length, get_or, map, take, Option, Some, None, slice_get, slice_set, refl, sym, ap, ◌∙◌, inl, inr}
+use Rattle.std.proofs.Common.{arith, get_or-set_other, get_or-set_same}
 use Rattle.std.specs.Prelude.{replicate}
 use Rattle.std.proofs.lemmas.Bool.Decides.{eqb_tells}
 use Rattle.std.proofs.lemmas.List.{append-nil, length-append, length-set, map-append, replicate-append-replicate, take_more}
 use Rattle.std.proofs.lemmas.List.Concat.{flat_map-append}
 use Rattle.dwz_docs.specs.Lists.{In}
+use Rattle.dwz_docs.proofs.ListFacts.{got_below}
 use Rattle.dwz_index.specs.declared.index.SpaceEntry.{SpaceEntry}
 use Rattle.dwz_index.specs.Index.{Index}
 use Rattle.dwz_resolve.specs.declared.operands.ListOperand.{ListOperand}
 use Rattle.dwz_scan.specs.Marked.{Marks, if_asked}
-use Rattle.dwz_across.proofs.ListGets.{got_below}
 use Rattle.dwz_marks.proofs.MarkSteps.{in_more, marks_none, marks_then, set_both}
 use Rattle.dwz_order.specs.Lists.{all_spaces}
 use Rattle.dwz_order.proofs.SpaceSteps.{spaces_more}
@@ -58,7 +59,8 @@ module _ (first : ℕ) (spaces : List SpaceEntry) (k : ℕ) (numbers : List (Opt
   pub set_more : (n : ℕ) → n ≡ first + k → x.entry < length numbers → SetUpTo first spaces (k + 1) (slice_set numbers x.entry (Some n))
   set_more n is low = record {
     each = λ entry m e. elim (eqb_tells entry x.entry) [
-      | inl p ↦ (let both : Some n ≡ Some m = sym here ∙ ap (number_at (slice_set numbers x.entry (Some n))) (sym p.1) ∙ e in let same : n ≡ m = cc in record { j = k; x = x; there = got; is_entry = sym p.1; number = sym same ∙ is })
+      | inl p ↦ (let both : Some n ≡ Some m = sym here ∙ ap (number_at (slice_set numbers x.entry (Some n))) (sym p.1) ∙ e in let same : n ≡ m =
+          cc in record { j = k; x = x; there = got; is_entry = sym p.1; number = sym same ∙ is })
       | inr p ↦ h.each entry m (sym (other entry p.1) ∙ e)
     ];
     all = λ j y lt f less. elim (eqb_tells y.entry x.entry) [
@@ -85,7 +87,8 @@ set_last first spaces k numbers le h = record {
 
 -- ---- references
 
-pub refs_more : (numbers : List (Option ℕ)) (refs : List ℕ) (k : ℕ) (now new : List (Option ℕ)) (o : Option ℕ) → k < length refs → now ≡ map (number_at numbers) (take k refs) → o ≡ number_at numbers (get_or refs k 0) → new ≡ now ++ o ∷ [] → new ≡ map (number_at numbers) (take (k + 1) refs)
+pub refs_more : (numbers : List (Option ℕ)) (refs : List ℕ) (k : ℕ) (now new : List (Option ℕ)) (o : Option ℕ) → k < length refs → now ≡ map (number_at numbers) (take k refs)
+    → o ≡ number_at numbers (get_or refs k 0) → new ≡ now ++ o ∷ [] → new ≡ map (number_at numbers) (take (k + 1) refs)
 refs_more numbers refs k now new o lt e f g =
     g ∙ (λ i. e i ++ f i ∷ [])
     ∙ sym (map-append (number_at numbers) (take k refs) (get_or refs k 0 ∷ []))
@@ -96,19 +99,22 @@ refs_more numbers refs k now new o lt e f g =
 pub lists_first : (numbers : List (Option ℕ)) (rows : List ListOperand) (flags : List Bool) → Marks (list_spaces numbers (take 0 rows)) flags flags
 lists_first numbers rows flags = marks_none (λ n. In (Some n) (list_spaces numbers (take 0 rows))) (λ n h. h) flags
 
-pub lists_next : (numbers : List (Option ℕ)) (rows : List ListOperand) (k : ℕ) (d : ListOperand) → k < length rows → (o : Option ℕ) → o ≡ number_at numbers (get_or rows k d).entry → (old now new : List Bool)
+pub lists_next : (numbers : List (Option ℕ)) (rows : List ListOperand) (k : ℕ) (d : ListOperand) → k < length rows → (o : Option ℕ) → o ≡ number_at numbers (get_or rows k d).entry
+    → (old now new : List Bool)
     → Marks (list_spaces numbers (take k rows)) old now → Marks (if_asked (get_or rows k d).uleb o) now new → Marks (list_spaces numbers (take (k + 1) rows)) old new
 lists_next numbers rows k d lt o e old now new a b =
     let row = get_or rows k d in
     let asked = λ (r : ListOperand). if_asked r.uleb (number_at numbers r.entry) in
     let more : list_spaces numbers (take (k + 1) rows) ≡ list_spaces numbers (take k rows) ++ if_asked row.uleb o =
-    ap (list_spaces numbers) (take_more rows k d lt) ∙ flat_map-append asked (take k rows) (row ∷ []) ∙ ap (λ (w : List (Option ℕ)). list_spaces numbers (take k rows) ++ w) (append-nil (asked row) ∙ ap (if_asked row.uleb) (sym e)) in
+    ap (list_spaces numbers) (take_more rows k d lt) ∙ flat_map-append asked (take k rows) (row ∷ []) ∙ ap (λ (w : List (Option ℕ)). list_spaces numbers (take k rows) ++ w)
+    (append-nil (asked row) ∙ ap (if_asked row.uleb) (sym e)) in
     marks_then (λ n. In (Some n) (list_spaces numbers (take k rows))) (λ n. In (Some n) (if_asked row.uleb o)) (λ n. In (Some n) (list_spaces numbers (take (k + 1) rows))) old now new a b
     (λ n. in_more (Some n) (list_spaces numbers (take k rows)) (if_asked row.uleb o) (list_spaces numbers (take (k + 1) rows)) more)
 
 -- ---- flags
 
-pub flags_more : (xs : List Index) (k : ℕ) (x : Index) (spaces : List SpaceEntry) (now new : List Bool) → k < length xs → x ≡ get_or xs k x → spaces ≡ x.spaces → now ≡ replicate (length (all_spaces (take k xs))) false
+pub flags_more : (xs : List Index) (k : ℕ) (x : Index) (spaces : List SpaceEntry) (now new : List Bool) → k < length xs → x ≡ get_or xs k x → spaces ≡ x.spaces
+    → now ≡ replicate (length (all_spaces (take k xs))) false
     → new ≡ now ++ replicate (length spaces) false → new ≡ replicate (length (all_spaces (take (k + 1) xs))) false
 flags_more xs k x spaces now new lt is own e f =
     let sum = ap (λ (w : List SpaceEntry). length w) (spaces_more xs k x lt is) ∙ length-append (all_spaces (take k xs)) x.spaces in

@@ -3,6 +3,7 @@
 use Rattle.std.proofs.Common.{◌≡◌, ◌↔◌, ℕ, zero, suc, ◌+◌, Bool, true, false, List, [], ◌∷◌, map, Option, Some, None, slice_get, refl, sym, ap, subst, ◌∙◌, arith, eq-eqb, eqb-true}
 use Rattle.std.specs.Prelude.{◌||◌, ◌&&◌}
 use Rattle.std.specs.List.{list_any}
+use Rattle.dwz_docs.proofs.CaseFacts.{same_bool}
 use Rattle.dwz_alike.specs.Alike.{any_attr, is_in}
 use Rattle.dwz_alike.specs.Spots.{Spot, UnitOf, Within, same_spot}
 use Rattle.dwz_alike.proofs.SpotLemmas.{same_spot-same, same_spot-true}
@@ -11,7 +12,6 @@ use Rattle.dwz_meanings.specs.Documents.{Attr, DwUnit, Operand, Part, Same, attr
 use Rattle.dwz_moving.specs.Plan.{parts_of, uleb_targets}
 use Rattle.dwz_scan.specs.Known.{in_unit}
 use Rattle.dwz_scan.specs.Marked.{expression_pins, in_expression}
-use Rattle.dwz_marks.proofs.MarkSteps.{same_bool}
 use Rattle.dwz_marks.proofs.UnitAttrs.{any_named, expression_pins_by, named_attrs, units_attrs}
 
 -- ---- the number of a name
@@ -87,7 +87,8 @@ module _ (spots : List Spot) (one : (m n : ℕ) (s : Spot) → slice_get spots m
 
   -- ---- of attributes
 
-  targets_same : (f g : ℕ → Spot) (P Q : Spot → Bool) → ((p : ℕ) → P (f p) ≡ Q (g p)) → (parts : List Part) (refs : List ℕ) → list_any P (uleb_targets parts (map f refs)) ≡ list_any Q (uleb_targets parts (map g refs))
+  targets_same : (f g : ℕ → Spot) (P Q : Spot → Bool) → ((p : ℕ) → P (f p) ≡ Q (g p)) → (parts : List Part) (refs : List ℕ)
+      → list_any P (uleb_targets parts (map f refs)) ≡ list_any Q (uleb_targets parts (map g refs))
   unfolding uleb_targets
   targets_same f g P Q same [] refs = refl
   targets_same f g P Q same (Same bytes ∷ parts) refs = targets_same f g P Q same parts refs
@@ -103,7 +104,8 @@ module _ (spots : List Spot) (one : (m n : ℕ) (s : Spot) → slice_get spots m
       → list_any (expression_pins t) (map (attr_map (numbered spots name)) attrs) ≡ list_any (expression_pins_by (same_spot s)) (map (attr_map name) attrs)
   attrs_same name t s there [] = refl
   attrs_same name t s there (a ∷ attrs) =
-      let one_attr = ap (λ (b : Bool). in_expression a.value.plain && b) (targets_same (numbered spots name) name (is_in t) (same_spot s) (same_test name t s there) (parts_of a.value.plain) a.value.refs) in
+      let one_attr = ap (λ (b : Bool). in_expression a.value.plain && b)
+      (targets_same (numbered spots name) name (is_in t) (same_spot s) (same_test name t s there) (parts_of a.value.plain) a.value.refs) in
       (λ i. one_attr i || attrs_same name t s there attrs i)
 
   -- what is marked of units by the number of a space is told by its name

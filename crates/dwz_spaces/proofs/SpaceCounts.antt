@@ -23,12 +23,13 @@ use Rattle.dwz_order.specs.Lists.{all_spaces}
 use Rattle.dwz_order.specs.Spaces.{spaces_below, spaces_of}
 use Rattle.dwz_order.proofs.RowLemmas.{spaces_counted}
 use Rattle.dwz_order.proofs.UnitRows.{spaces_append}
+use Rattle.dwz_order.proofs.FileChains.{entries_many}
 use Rattle.dwz_unit.specs.Rows.{units_of as raw_units}
 use Rattle.dwz_across.specs.Across.{IsFileAmong, IsPart, file_units, name_at, starts_at, starts_from}
 use Rattle.dwz_across.proofs.FileWalk.{first_doc}
 use Rattle.dwz_across.proofs.TopRows.{units_long}
+use Rattle.dwz_across.proofs.FileRoom.{no_doc}
 use Rattle.dwz_spaces.proofs.SpaceEntries.{said_spaces, spaces_named}
-use Rattle.dwz_spaces.proofs.SpaceRises.{unit_many}
 
 -- ---- of a file
 
@@ -45,7 +46,7 @@ said_count s at [] = refl
 said_count s at (v ∷ units) =
     let next = behind_unit is_space s (below_root v) in
     length-append (spaces_below v.kind v.below) (said_spaces units)
-    ∙ (λ i. (unit_count v ∙ sym (unit_many s.space at (below_root v))) i + said_count next (at + 1 + size v.below) units i)
+    ∙ (λ i. (unit_count v ∙ sym (entries_many s.space at (below_root v))) i + said_count next (at + 1 + size v.below) units i)
     ∙ sym (length-append (space_entries is_space s.space at (below_root v)) (unit_entries is_space next (at + 1 + size v.below) (map below_root units)))
 
 pub file_count : (s : Starts) (file : ℕ) (doc : Doc ℕ) (x : Index) → IsIndexOf s doc x → length (spaces_of (file_units s file doc)) ≡ length x.spaces
@@ -57,7 +58,8 @@ file_count s file doc x h =
 
 -- ---- of all files
 
-pub all_count : (n : ℕ) (s end : Starts) (docs : List (Doc ℕ)) (indexes : List Index) → AreIndexed s docs indexes end → length (spaces_of (named_files n s.unit s.top docs)) ≡ length (all_spaces indexes)
+pub all_count : (n : ℕ) (s end : Starts) (docs : List (Doc ℕ)) (indexes : List Index) → AreIndexed s docs indexes end → length (spaces_of (named_files n s.unit s.top docs))
+    ≡ length (all_spaces indexes)
 unfolding named_files spaces_of
 all_count n s end [] [] h = refl
 all_count n s end [] (x ∷ indexes) h = absurd h
@@ -117,7 +119,8 @@ before n s end (d ∷ docs) (x ∷ indexes) h (suc k) m e =
     omega arith
 
 -- those of a file are a part
-pub spaces_part : (contents : List (List ℕ)) (k : ℕ) (bytes : List ℕ) (f : File) (x : Index) (indexes : List Index) (is : IsFileAmong contents k bytes f x) → AreIndexes (docs_of contents) indexes → x.starts ≡ starts_at (docs_of contents) indexes k
+pub spaces_part : (contents : List (List ℕ)) (k : ℕ) (bytes : List ℕ) (f : File) (x : Index) (indexes : List Index) (is : IsFileAmong contents k bytes f x) → AreIndexes (docs_of contents) indexes
+    → x.starts ≡ starts_at (docs_of contents) indexes k
     → IsPart (spaces_of (units_of (docs_of contents))) x.starts.space (spaces_of (file_units x.starts k is.kept.read.doc))
 spaces_part contents k bytes f x indexes is all begins =
     let docs = docs_of contents in
@@ -142,7 +145,8 @@ list_few : (f : Entries ℕ) → spaces_by is_space f ≤ size f
 unfolding spaces_by
 list_few End = omega arith
 list_few (Entry e c n) = by (is_space e) (list_few c) (list_few n) where
-  by : (b : Bool) → spaces_by is_space c ≤ size c → spaces_by is_space n ≤ size n → (elim b as (λ _. ℕ) [ false ↦ spaces_by is_space n | true ↦ suc (spaces_by is_space c + spaces_by is_space n) ]) ≤ size (Entry e c n)
+  by : (b : Bool) → spaces_by is_space c ≤ size c → spaces_by is_space n ≤ size n → (elim b as (λ _. ℕ) [ false ↦ spaces_by is_space n | true ↦ suc (spaces_by is_space c + spaces_by is_space n) ]) ≤
+      size (Entry e c n)
   by false a b = omega (arith, a, b)
   by true a b = omega (arith, a, b)
 
@@ -153,7 +157,8 @@ unit_few v = by v.kind where
   by (OfType signature main) = omega arith
   by Partial = omega arith
 
-entries_enough : (around : Around ℕ) (s : Starts) (at : ℕ) (raw : List RawUnit) (said : List (DwUnit ℕ)) → MeanUnits around raw said → length (unit_entries is_space s at (map below_root said)) ≤ entries_in raw
+entries_enough : (around : Around ℕ) (s : Starts) (at : ℕ) (raw : List RawUnit) (said : List (DwUnit ℕ)) → MeanUnits around raw said
+    → length (unit_entries is_space s at (map below_root said)) ≤ entries_in raw
 unfolding unit_entries entries_in
 entries_enough around s at [] [] h = omega arith
 entries_enough around s at [] (v ∷ said) h = absurd h
@@ -161,18 +166,15 @@ entries_enough around s at (u ∷ raw) [] h = absurd h
 entries_enough around s at (u ∷ raw) (v ∷ said) h =
     let next = behind_unit is_space s (below_root v) in
     let own = space_entries is_space s.space at (below_root v) in
-    let a = unit_many s.space at (below_root v) in
+    let a = entries_many s.space at (below_root v) in
     let b = unit_few v in
     let c = means_size (scope_of around u) u.below v.below h.0.below in
     let d = entries_enough around next (at + 1 + size v.below) raw said h.1 in
     let e = length-append own (unit_entries is_space next (at + 1 + size v.below) (map below_root said)) in
     omega arith
 
-no_doc : (l : Limits) (n : ℕ) (d : Doc ℕ) (docs : List (Doc ℕ)) → files_meaning l n [] ≡ Ok (d ∷ docs) → ⊥
-unfolding files_meaning
-no_doc l n d docs e = cc
-
-room : (most : ℕ) (l : Limits) (contents : List (List ℕ)) (files : List File) (left : Limits) (n : ℕ) (docs : List (Doc ℕ)) (indexes : List Index) (s end : Starts) → AreRead l n contents files left → files_meaning l n contents ≡ Ok docs → AreIndexed s docs indexes end
+room : (most : ℕ) (l : Limits) (contents : List (List ℕ)) (files : List File) (left : Limits) (n : ℕ) (docs : List (Doc ℕ)) (indexes : List Index) (s end : Starts) → AreRead l n contents files left
+    → files_meaning l n contents ≡ Ok docs → AreIndexed s docs indexes end
     → s.space + l.bytes ≤ most → s.space + length (all_spaces indexes) ≤ most
 room most l contents files left n docs [] s end h m is le = omega arith
 room most l contents files left n [] (x ∷ indexes) s end h m is le = absurd is

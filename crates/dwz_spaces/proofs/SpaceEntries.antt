@@ -5,6 +5,7 @@ use Rattle.std.proofs.lemmas.List.{append-nil, append_assoc, drop_at, map-append
 use Rattle.dwz_docs.specs.Entries.{RawEntry, root_position}
 use Rattle.dwz_docs.specs.Trees.{End, Entry, Forest, Position, behind, first_below, size}
 use Rattle.dwz_docs.specs.Units.{RawUnit, entry_count}
+use Rattle.dwz_docs.proofs.ListFacts.{drop_first}
 use Rattle.dwz_meanings.specs.Documents.{Compile, Doc, DwUnit, Entries, Kind, Node, OfType, Partial, entries_map, kind_map, node_map, unit_map}
 use Rattle.dwz_meanings.specs.Files.{Limits, around_of, file_meaning}
 use Rattle.dwz_meanings.specs.Meanings.{Around, MeanEntries, MeanUnits, MeansNode, scope_of}
@@ -13,12 +14,13 @@ use Rattle.dwz_seen.specs.Spaces.{space_text}
 use Rattle.dwz_seen.proofs.SpaceLemmas.{text_map}
 use Rattle.dwz_alike.specs.Spots.{Spot, in_file}
 use Rattle.dwz_unit.specs.Rows.{EntryRow, rows_below, rows_from, rows_in, rows_of}
-use Rattle.dwz_resolve.proofs.RowLemmas.{below-length, in-length}
+use Rattle.dwz_unit.proofs.RowLemmas.{shown-length}
+use Rattle.dwz_unit.proofs.ShownLemmas.{rows_in-length}
 use Rattle.dwz_index.specs.declared.index.SpaceEntry.{SpaceEntry}
 use Rattle.dwz_index.specs.declared.index.Starts.{Starts}
 use Rattle.dwz_index.specs.Steps.{all_spaces, below_root, is_compile, is_space, space_entries, space_entry, spaces_among, spaces_by, starts_behind}
 use Rattle.dwz_index.proofs.AmongLemmas.{spaces_space, spaces_top}
-use Rattle.dwz_index.proofs.ListLemmas.{drop_first, drop_more}
+use Rattle.dwz_index.proofs.ListLemmas.{drop_more}
 use Rattle.dwz_index.proofs.ListMeans.{means_size}
 use Rattle.dwz_order.specs.Shown.{Pairs}
 use Rattle.dwz_order.specs.Spaces.{spaces_below, spaces_of, spaces_under}
@@ -46,7 +48,8 @@ module _ (raw : List RawUnit) (around : Around ℕ) (u : RawUnit) (local : ℕ) 
   abbrev Stands : ℕ → ℕ → Forest RawEntry → Type 0
   Stands at depth f = (after : List EntryRow) × (drop at (rows_of raw) ≡ rows_below f local (record { before = at; depth = depth }) ++ after)
 
-  list_spaces : (f : Forest RawEntry) (g : Entries ℕ) (inner k at depth : ℕ) → MeanEntries (scope_of around u) f g → Stands at depth f → Pairs (IsSpaceOf raw around) (spaces_among is_space inner k at g) (spaces_under g)
+  list_spaces : (f : Forest RawEntry) (g : Entries ℕ) (inner k at depth : ℕ) → MeanEntries (scope_of around u) f g → Stands at depth f
+      → Pairs (IsSpaceOf raw around) (spaces_among is_space inner k at g) (spaces_under g)
   unfolding rows_below spaces_among spaces_under
   list_spaces End End inner k at depth h stands = tt
   list_spaces End (Entry d c' m') inner k at depth h stands = absurd h
@@ -73,7 +76,11 @@ module _ (raw : List RawUnit) (around : Around ℕ) (u : RawUnit) (local : ℕ) 
       below_stands = (others ++ stands.0, here.1 ∙ append_assoc inside others stands.0)
 
       behind_stands : Stands (at + 1 + size c) depth m
-      behind_stands = (stands.0, drop_more (rows_of raw) (at + 1) (size c) ∙ ap (drop (size c)) (here.1 ∙ append_assoc inside others stands.0) ∙ drop_at inside (others ++ stands.0) (size c) (below-length c local (first_below p)))
+      behind_stands = (
+        stands.0,
+        drop_more (rows_of raw) (at + 1) (size c) ∙ ap (drop (size c)) (here.1 ∙ append_assoc inside others stands.0)
+            ∙ drop_at inside (others ++ stands.0) (size c) (shown-length c local (first_below p)),
+      )
 
       len : size c ≡ size c'
       len = means_size (scope_of around u) c c' h.1
@@ -88,7 +95,8 @@ module _ (raw : List RawUnit) (around : Around ℕ) (u : RawUnit) (local : ℕ) 
       by q r (Some text) named =
           let a = spaces_among is_space (suc k) (suc k) (at + 1) c' in
           let b = spaces_among is_space inner (suc k + spaces_by is_space c') (at + 1 + size c) m' in
-          let kept = spaces_space is_space d c' m' inner k at (ap is_some named) ∙ ap (λ (z : ℕ). space_entry at inner ∷ (a ++ spaces_among is_space inner (suc k + spaces_by is_space c') (at + 1 + z) m')) (sym len) in
+          let kept = spaces_space is_space d c' m' inner k at (ap is_some named)
+          ∙ ap (λ (z : ℕ). space_entry at inner ∷ (a ++ spaces_among is_space inner (suc k + spaces_by is_space c') (at + 1 + z) m')) (sym len) in
           let one : IsSpaceOf raw around (space_entry at inner) d = record { u = u; row = row; text = text; found = here.0; is_unit = is_unit; means = h.0; is_space = named } in
           subst (λ (w : List SpaceEntry). Pairs (IsSpaceOf raw around) w (spaces_under (Entry d c' m'))) (sym kept)
           (subst (Pairs (IsSpaceOf raw around) (space_entry at inner ∷ (a ++ b))) (sym (under_space d c' m' text named))
@@ -97,7 +105,8 @@ module _ (raw : List RawUnit) (around : Around ℕ) (u : RawUnit) (local : ℕ) 
 -- ---- unit by unit
 
 module _ (raw : List RawUnit) (around : Around ℕ) where
-  unit_spaces : (u : RawUnit) (v : DwUnit ℕ) (local at k : ℕ) (after : List EntryRow) → slice_get raw local ≡ Some u → MeanEntries (scope_of around u) u.below v.below → drop at (rows_of raw) ≡ rows_in u local at ++ after
+  unit_spaces : (u : RawUnit) (v : DwUnit ℕ) (local at k : ℕ) (after : List EntryRow) → slice_get raw local ≡ Some u → MeanEntries (scope_of around u) u.below v.below
+      → drop at (rows_of raw) ≡ rows_in u local at ++ after
       → Pairs (IsSpaceOf raw around) (space_entries is_space k at (below_root v)) (spaces_below v.kind v.below)
   unfolding rows_below
   unit_spaces u v local at k after is_unit means rows = by v.kind where
@@ -125,13 +134,15 @@ module _ (raw : List RawUnit) (around : Around ℕ) where
       let first_rows = rows_in u local at in
       let behind_rows : drop (at + 1 + size v.below) (rows_of raw) ≡ rows_from us (local + 1) (at + 1 + size v.below) =
       ap (λ (n : ℕ). drop n (rows_of raw)) (sym more) ∙ drop_more (rows_of raw) at (entry_count u) ∙ ap (drop (entry_count u)) rows
-      ∙ drop_at first_rows (rows_from us (local + 1) (at + entry_count u)) (entry_count u) (in-length u local at) ∙ ap (rows_from us (local + 1)) more in
-      pairs_append (IsSpaceOf raw around) (space_entries is_space s.space at (below_root v)) (all_spaces is_space next (at + 1 + size v.below) (map below_root said)) (spaces_below v.kind v.below) (said_spaces said)
+      ∙ drop_at first_rows (rows_from us (local + 1) (at + entry_count u)) (entry_count u) (rows_in-length u local at) ∙ ap (rows_from us (local + 1)) more in
+      pairs_append (IsSpaceOf raw around) (space_entries is_space s.space at (below_root v)) (all_spaces is_space next (at + 1 + size v.below) (map below_root said)) (spaces_below v.kind v.below)
+      (said_spaces said)
       (unit_spaces u v local at s.space (rows_from us (local + 1) (at + entry_count u)) unit_here.0 h.0.below rows)
       (units_spaces next (at + 1 + size v.below) (local + 1) us said h.1 unit_here.1 behind_rows)
 
 -- those of a file that begins with these numbers
-pub file_spaces : (l : Limits) (bytes : List ℕ) (raw : List RawUnit) (doc : Doc ℕ) (s : Starts) → file_meaning l bytes ≡ Ok (raw, doc) → Pairs (IsSpaceOf raw (around_of bytes raw)) (all_spaces is_space s 0 (map below_root doc.units)) (said_spaces doc.units)
+pub file_spaces : (l : Limits) (bytes : List ℕ) (raw : List RawUnit) (doc : Doc ℕ) (s : Starts) → file_meaning l bytes ≡ Ok (raw, doc)
+    → Pairs (IsSpaceOf raw (around_of bytes raw)) (all_spaces is_space s 0 (map below_root doc.units)) (said_spaces doc.units)
 file_spaces l bytes raw doc s reads =
     let r = ((file_agrees l bytes).ok (raw, doc)).0 reads in
     units_spaces raw (around_of bytes raw) s 0 0 raw doc.units r.means refl refl

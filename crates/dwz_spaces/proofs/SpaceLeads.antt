@@ -1,6 +1,7 @@
 -- What is known of the spaces of all files, from what is of each.
 use Rattle.std.proofs.Common.{◌≡◌, ℕ, zero, suc, ◌+◌, ◌≤◌, ◌^◌, All, List, [], ◌∷◌, ◌++◌, length, map, Some, slice_get, refl, sym, ap, subst, ◌∙◌, arith}
 use Rattle.std.proofs.lemmas.List.{append-nil, length-map}
+use Rattle.dwz_docs.proofs.ListFacts.{got_below}
 use Rattle.dwz_meanings.specs.Documents.{Doc}
 use Rattle.dwz_alike.specs.Spots.{SpaceName, Top, named_files, tops_from, tops_of, units_of}
 use Rattle.dwz_index.specs.declared.index.SpaceEntry.{SpaceEntry}
@@ -20,7 +21,6 @@ use Rattle.dwz_order.proofs.FileChains.{file_chain}
 use Rattle.dwz_order.proofs.RowLemmas.{numbered_split}
 use Rattle.dwz_order.proofs.UnitRows.{spaces_append}
 use Rattle.dwz_across.specs.Across.{file_tops, file_units, name_at}
-use Rattle.dwz_across.proofs.ListGets.{got_below}
 use Rattle.dwz_across.proofs.TopRows.{tops_behind}
 use Rattle.dwz_spaces.specs.declared.spaces.Spaces.{Spaces}
 use Rattle.dwz_spaces.specs.Known.{AreSpaces}
@@ -43,7 +43,8 @@ files_low s end [] [] h = tt
 files_low s end [] (x ∷ indexes) h = absurd h
 files_low s end (d ∷ docs) [] h = absurd h
 files_low s end (d ∷ docs) (x ∷ indexes) h =
-    low_append s.space (length x.spaces) x.spaces (all_spaces indexes) refl (subst (OutersLow s.space) (sym h.0.tops.spaces_are) (units_low s 0 d.units)) (files_low (starts_behind s d x) end docs indexes h.1)
+    low_append s.space (length x.spaces) x.spaces (all_spaces indexes) refl (subst (OutersLow s.space) (sym h.0.tops.spaces_are) (units_low s 0 d.units))
+    (files_low (starts_behind s d x) end docs indexes h.1)
 
 pub rows_rise : (docs : List (Doc ℕ)) (indexes : List Index) → AreIndexes docs indexes → IsRising (rows_from 0 (all_spaces indexes))
 rows_rise docs indexes is k row e =
@@ -55,7 +56,8 @@ rows_rise docs indexes is k row e =
 -- ---- what tops stand in
 
 leads_from : (rows : List SpaceRow) (said : ℕ → SpaceName) (n : ℕ) (s end : Starts) (docs : List (Doc ℕ)) (indexes : List Index) → AreIndexed s docs indexes end
-    → RowsFrom rows s.space (all_spaces indexes) → Numbered (SaidIs said) s.space (spaces_of (named_files n s.unit s.top docs)) → Pairs (LeadsUp rows said) (all_tops indexes) (tops_from s.unit s.top (named_files n s.unit s.top docs))
+    → RowsFrom rows s.space (all_spaces indexes) → Numbered (SaidIs said) s.space (spaces_of (named_files n s.unit s.top docs))
+    → Pairs (LeadsUp rows said) (all_tops indexes) (tops_from s.unit s.top (named_files n s.unit s.top docs))
 unfolding named_files tops_from
 leads_from rows said n s end [] [] h from under = tt
 leads_from rows said n s end [] (x ∷ indexes) h from under = absurd h
@@ -73,7 +75,8 @@ leads_from rows said n s end (d ∷ docs) (x ∷ indexes) h from under =
     subst (Pairs (LeadsUp rows said) (x.tops ++ all_tops indexes)) (sym (tops_behind s n d others))
     (pairs_append (LeadsUp rows said) x.tops (all_tops indexes) (file_tops s n d) (tops_from next.unit next.top others) first rest)
 
-pub all_lead : (docs : List (Doc ℕ)) (indexes : List Index) → AreIndexes docs indexes → Pairs (LeadsUp (rows_from 0 (all_spaces indexes)) (said_of (units_of docs))) (all_tops indexes) (tops_of (units_of docs))
+pub all_lead : (docs : List (Doc ℕ)) (indexes : List Index) → AreIndexes docs indexes
+    → Pairs (LeadsUp (rows_from 0 (all_spaces indexes)) (said_of (units_of docs))) (all_tops indexes) (tops_of (units_of docs))
 all_lead docs indexes is =
     leads_from (rows_from 0 (all_spaces indexes)) (said_of (units_of docs)) 0 first_starts is.end docs indexes is.are
     (record { after = []; rest = sym (append-nil (rows_from 0 (all_spaces indexes))) }) (all_said (units_of docs))
@@ -82,18 +85,21 @@ up_low : (rows : List SpaceRow) (k : ℕ) (ups : List ℕ) → Up rows k ups →
 up_low rows k [] h = omega (arith, h)
 up_low rows k (s ∷ ups) h = (let lt = got_below rows h.0 h.1 h.3 in let at = h.2 in omega arith)
 
-pub within_rows : (rows : List SpaceRow) (said : ℕ → SpaceName) (lists : List ℕ) (tops : List TopEntry) (ts : List Top) → Pairs (LeadsUp rows said) tops ts → All (λ x. x.inner ≤ length rows) (map (spaces_at lists) tops)
+pub within_rows : (rows : List SpaceRow) (said : ℕ → SpaceName) (lists : List ℕ) (tops : List TopEntry) (ts : List Top) → Pairs (LeadsUp rows said) tops ts
+    → All (λ x. x.inner ≤ length rows) (map (spaces_at lists) tops)
 within_rows rows said lists [] ts h k d lt = absurd (omega arith)
 within_rows rows said lists (x ∷ tops) [] h k d lt = absurd h
 within_rows rows said lists (x ∷ tops) (t ∷ ts) h zero d lt = up_low rows x.inner h.0.ups h.0.up
 within_rows rows said lists (x ∷ tops) (t ∷ ts) h (suc k) d lt = within_rows rows said lists tops ts h.1 k d (omega arith)
 
-pub tops_many : (rows : List SpaceRow) (said : ℕ → SpaceName) (lists : List ℕ) (tops : List TopEntry) (ts : List Top) → Pairs (LeadsUp rows said) tops ts → length (map (spaces_at lists) tops) ≡ length ts
+pub tops_many : (rows : List SpaceRow) (said : ℕ → SpaceName) (lists : List ℕ) (tops : List TopEntry) (ts : List Top) → Pairs (LeadsUp rows said) tops ts
+    → length (map (spaces_at lists) tops) ≡ length ts
 tops_many rows said lists tops ts h = length-map tops (spaces_at lists) ∙ pairs_long (LeadsUp rows said) tops ts h
 
 -- ---- all that is known
 
-pub all_known : (docs : List (Doc ℕ)) (indexes : List Index) → AreIndexes docs indexes → (s : Spaces) (texts lists : List ℕ) → s.rows.items ≡ rows_from 0 (all_spaces indexes) → s.of_tops.items ≡ map (spaces_at lists) (all_tops indexes)
+pub all_known : (docs : List (Doc ℕ)) (indexes : List Index) → AreIndexes docs indexes → (s : Spaces) (texts lists : List ℕ) → s.rows.items ≡ rows_from 0 (all_spaces indexes)
+    → s.of_tops.items ≡ map (spaces_at lists) (all_tops indexes)
     → length (all_spaces indexes) ≤ 2 ^ 29 → NumbersTexts (rows_from 0 (all_spaces indexes)) (said_of (units_of docs)) texts → AreLists s.rows.items texts lists → AreSpaces docs indexes s
 all_known docs indexes is s texts lists rows tops few numbers are =
     let spaces = all_spaces indexes in
@@ -113,7 +119,8 @@ all_known docs indexes is s texts lists rows tops few numbers are =
       };
       rising = subst IsRising (sym rows) (rows_rise docs indexes is);
       within = subst (λ (w : List SpaceRow). All (λ x. x.inner ≤ length w) s.of_tops.items) (sym rows)
-          (subst (λ (w : List TopSpaces). All (λ x. x.inner ≤ length (rows_from 0 spaces)) w) (sym tops) (within_rows (rows_from 0 spaces) said lists (all_tops indexes) (tops_of (units_of docs)) lead));
+          (subst (λ (w : List TopSpaces). All (λ x. x.inner ≤ length (rows_from 0 spaces)) w) (sym tops)
+          (within_rows (rows_from 0 spaces) said lists (all_tops indexes) (tops_of (units_of docs)) lead));
       few = omega arith;
       many = long ∙ sym (many_spaces docs indexes is);
       many_tops = ap (λ (w : List TopSpaces). length w) tops ∙ tops_many (rows_from 0 spaces) said lists (all_tops indexes) (tops_of (units_of docs)) lead;

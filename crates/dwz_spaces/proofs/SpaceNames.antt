@@ -1,7 +1,8 @@
 -- No two spaces have one name, and the spaces of a file alone have theirs there.
-use Rattle.std.proofs.Common.{◌≡◌, ℕ, zero, suc, ◌+◌, ◌<◌, ◌≤◌, List, [], ◌∷◌, ◌++◌, length, map, Some, slice_get, refl, sym, ap, subst, ◌∙◌, inl, inr, arith}
+use Rattle.std.proofs.Common.{◌≡◌, ℕ, zero, suc, ◌+◌, ◌<◌, List, [], ◌∷◌, ◌++◌, length, map, Some, slice_get, refl, sym, ap, subst, ◌∙◌, inl, inr, arith}
 use Rattle.std.proofs.lemmas.List.{length-map}
 use Rattle.dwz_docs.specs.Units.{RawUnit, entries_in}
+use Rattle.dwz_docs.proofs.ListFacts.{get_first, got_below, got_map, got_there, same_got}
 use Rattle.dwz_meanings.specs.Documents.{Doc, Node, node_map}
 use Rattle.dwz_alike.specs.Spots.{Spot, units_of}
 use Rattle.dwz_graph.specs.declared.file.File.{File}
@@ -10,12 +11,13 @@ use Rattle.dwz_index.specs.declared.index.SpaceEntry.{SpaceEntry}
 use Rattle.dwz_index.specs.declared.index.Starts.{Starts}
 use Rattle.dwz_index.specs.Index.{Index}
 use Rattle.dwz_index.specs.Names.{names_from}
-use Rattle.dwz_index.proofs.TopLemmas.{get_cases, get_first, get_later}
+use Rattle.dwz_index.proofs.TopLemmas.{get_cases, get_later}
 use Rattle.dwz_indexes.specs.Indexed.{AreIndexed, AreIndexes, first_starts, starts_behind}
 use Rattle.dwz_known.specs.Images.{starts_from}
 use Rattle.dwz_known.specs.Names.{all_names}
 use Rattle.dwz_known.proofs.OnceNames.{one_entry}
 use Rattle.dwz_known.proofs.WholeLemmas.{file_at}
+use Rattle.dwz_known.proofs.StartLemmas.{files_apart}
 use Rattle.dwz_order.specs.Lists.{all_spaces}
 use Rattle.dwz_order.specs.Spaces.{spaces_of}
 use Rattle.dwz_resolve.specs.Resolved.{place_at}
@@ -26,7 +28,6 @@ use Rattle.dwz_across.specs.Across.{IsFileAmong, name_at}
 use Rattle.dwz_across.proofs.FileCounts.{are_many, starts_are}
 use Rattle.dwz_across.proofs.FileEntries.{all_entries, names_entries}
 use Rattle.dwz_across.proofs.FileWalk.{is_among}
-use Rattle.dwz_across.proofs.ListGets.{get_there, got_below, got_map, same_got}
 use Rattle.dwz_spaces.specs.Places.{IsSpaceNumber, NamesApart}
 use Rattle.dwz_spaces.proofs.FileTexts.{node_there}
 use Rattle.dwz_spaces.proofs.SpaceCounts.{many_spaces, spaces_part}
@@ -40,32 +41,6 @@ start_there c [] k x e = absurd cc
 start_there c (y ∷ xs) zero x e = (c, refl)
 start_there c (y ∷ xs) (suc k) x e = start_there (c + length y.steps) xs k x e
 
-start_low : (c : ℕ) (xs : List Index) (k a : ℕ) → slice_get (starts_from c xs) k ≡ Some a → c ≤ a
-unfolding starts_from
-start_low c [] k a e = absurd cc
-start_low c (y ∷ xs) zero a e = (let same : c ≡ a = cc in omega arith)
-start_low c (y ∷ xs) (suc k) a e = (let r = start_low (c + length y.steps) xs k a e in omega arith)
-
--- an entry of a file has a number that none of another has
-files_apart : (c : ℕ) (xs : List Index) (k m : ℕ) (x y : Index) (a b i j : ℕ) → slice_get xs k ≡ Some x → slice_get xs m ≡ Some y → slice_get (starts_from c xs) k ≡ Some a → slice_get (starts_from c xs) m ≡ Some b
-    → i < length x.steps → j < length y.steps → a + i ≡ b + j → (k ≡ m) × (i ≡ j)
-unfolding starts_from
-files_apart c [] k m x y a b i j p q e f lt less same = absurd cc
-files_apart c (z ∷ xs) zero zero x y a b i j p q e f lt less same = (let u : c ≡ a = cc in let v : c ≡ b = cc in (refl, omega arith))
-files_apart c (z ∷ xs) zero (suc m) x y a b i j p q e f lt less same =
-    let u : c ≡ a = cc in
-    let is : z ≡ x = cc in
-    let long = ap (λ (w : Index). length w.steps) is in
-    let low = start_low (c + length z.steps) xs m b f in
-    absurd (omega arith)
-files_apart c (z ∷ xs) (suc k) zero x y a b i j p q e f lt less same =
-    let u : c ≡ b = cc in
-    let is : z ≡ y = cc in
-    let long = ap (λ (w : Index). length w.steps) is in
-    let low = start_low (c + length z.steps) xs k a e in
-    absurd (omega arith)
-files_apart c (z ∷ xs) (suc k) (suc m) x y a b i j p q e f lt less same = (let r = files_apart (c + length z.steps) xs k m x y a b i j p q e f lt less same in (ap suc r.0, r.1))
-
 -- ---- the file of a space
 
 pub record IsSpaceIn (indexes : List Index) (n : ℕ) : Type 0 where
@@ -77,7 +52,8 @@ pub record IsSpaceIn (indexes : List Index) (n : ℕ) : Type 0 where
   pub there : slice_get x.spaces j ≡ Some e
   pub number : n ≡ x.starts.space + j
 
-space_from : (s end : Starts) (docs : List (Doc ℕ)) (indexes : List Index) → AreIndexed s docs indexes end → (m : ℕ) (e : SpaceEntry) → slice_get (all_spaces indexes) m ≡ Some e → (n : ℕ) → n ≡ s.space + m → IsSpaceIn indexes n
+space_from : (s end : Starts) (docs : List (Doc ℕ)) (indexes : List Index) → AreIndexed s docs indexes end → (m : ℕ) (e : SpaceEntry) → slice_get (all_spaces indexes) m ≡ Some e → (n : ℕ)
+    → n ≡ s.space + m → IsSpaceIn indexes n
 space_from s end docs [] h m e got n is = absurd cc
 space_from s end [] (x ∷ indexes) h m e got n is = absurd h
 space_from s end (d ∷ docs) (x ∷ indexes) h m e got n is = elim (get_cases x.spaces (all_spaces indexes) m e got) [
@@ -111,7 +87,7 @@ module _ (contents : List (List ℕ)) (files : List File) (indexes : List Index)
       let lt = got_below indexes k x e in
       let a = many.0 in
       let b = many.1 in
-      let g = get_there files k (omega arith) in
+      let g = got_there files k (omega arith) in
       let r = is_among contents files indexes k g.0 x kept all g.1 e in
       record { f = g.0; bytes = r.bytes; got_f = g.1; got_x = e; is = r.is }
 
@@ -122,7 +98,8 @@ module _ (contents : List (List ℕ)) (files : List File) (indexes : List Index)
   raw_of k x h = raw_units h.f.units
 
   -- the name of an entry stands among all
-  stands : (k : ℕ) (x : Index) (h : IsOne k x) (a i : ℕ) → slice_get (starts_from 0 indexes) k ≡ Some a → i < entries_in (raw_of k x h) → slice_get (all_names docs) (a + i) ≡ Some (name_of k x h (place_at (raw_of k x h) i))
+  stands : (k : ℕ) (x : Index) (h : IsOne k x) (a i : ℕ) → slice_get (starts_from 0 indexes) k ≡ Some a → i < entries_in (raw_of k x h)
+      → slice_get (all_names docs) (a + i) ≡ Some (name_of k x h (place_at (raw_of k x h) i))
   stands k x h a i start lt =
       let doc = h.is.kept.read.doc in
       let w = file_at docs indexes all k a x h.got_x start in
@@ -134,7 +111,8 @@ module _ (contents : List (List ℕ)) (files : List File) (indexes : List Index)
       (λ j. slice_get (names_from (begins j).unit (begins j).top (doc_is j).units) i) ∙ names_entries contents k h.bytes h.f x h.is i lt in
       let got = get_first names st.after i (name_of k x h (place_at (raw_of k x h) i)) own in
       let at : a + i ≡ length st.before + i = (let e = st.start_is in omega arith) in
-      ap (λ (w : List Spot). slice_get w (a + i)) st.parts ∙ ap (slice_get (st.before ++ (names ++ st.after))) at ∙ get_later st.before (names ++ st.after) i (name_of k x h (place_at (raw_of k x h) i)) got
+      ap (λ (w : List Spot). slice_get w (a + i)) st.parts ∙ ap (slice_get (st.before ++ (names ++ st.after))) at
+      ∙ get_later st.before (names ++ st.after) i (name_of k x h (place_at (raw_of k x h) i)) got
 
   -- entries with one name are one
   same_entry : (k m : ℕ) (x y : Index) (h : IsOne k x) (g : IsOne m y) (i j : ℕ) → i < entries_in (raw_of k x h) → j < entries_in (raw_of m y g)
@@ -150,7 +128,8 @@ module _ (contents : List (List ℕ)) (files : List File) (indexes : List Index)
       files_apart 0 indexes k m x y a.0 b.0 i j h.got_x g.got_x a.1 b.1 (omega arith) (omega arith) at
 
   -- a space of a file has the name of its entry
-  own : (k : ℕ) (x : Index) (h : IsOne k x) (j : ℕ) (e : SpaceEntry) → slice_get x.spaces j ≡ Some e → (e.entry < entries_in (raw_of k x h)) × (slice_get spots (x.starts.space + j) ≡ Some (name_of k x h (place_at (raw_of k x h) e.entry)))
+  own : (k : ℕ) (x : Index) (h : IsOne k x) (j : ℕ) (e : SpaceEntry) → slice_get x.spaces j ≡ Some e
+      → (e.entry < entries_in (raw_of k x h)) × (slice_get spots (x.starts.space + j) ≡ Some (name_of k x h (place_at (raw_of k x h) e.entry)))
   own k x h j e got =
       let begins = (starts_are contents files indexes k h.f x kept all h.got_f h.got_x).0 in
       let part = spaces_part contents k h.bytes h.f x indexes h.is all begins in
@@ -169,14 +148,15 @@ module _ (contents : List (List ℕ)) (files : List File) (indexes : List Index)
       let low = got_below spots n s e in
       let long = length-map (spaces_of (units_of docs)) (λ (d : Node Spot). d.at) in
       let many = many_spaces docs indexes all in
-      let g = get_there (all_spaces indexes) n (omega arith) in
+      let g = got_there (all_spaces indexes) n (omega arith) in
       space_from first_starts all.end docs indexes all.are n g.0 g.1 n (let none : n ≡ 0 + n = omega arith in none)
 
   rises : (k : ℕ) (x : Index) (h : IsOne k x) → EntriesRise 0 (0 + entries_among h.is.kept.read.doc.units) x.spaces
   rises k x h = subst (EntriesRise 0 (0 + entries_among h.is.kept.read.doc.units)) (sym h.is.index.tops.spaces_are) (units_rise x.starts 0 h.is.kept.read.doc.units)
 
   -- its name tells the file and the entry
-  space_tells : (n : ℕ) (s : Spot) → slice_get spots n ≡ Some s → (r : IsSpaceIn indexes n) → (m : ℕ) (y : Index) (g : IsOne m y) (i : ℕ) → i < entries_in (raw_of m y g) → s ≡ name_of m y g (place_at (raw_of m y g) i) → (r.file ≡ m) × (r.e.entry ≡ i)
+  space_tells : (n : ℕ) (s : Spot) → slice_get spots n ≡ Some s → (r : IsSpaceIn indexes n) → (m : ℕ) (y : Index) (g : IsOne m y) (i : ℕ) → i < entries_in (raw_of m y g)
+      → s ≡ name_of m y g (place_at (raw_of m y g) i) → (r.file ≡ m) × (r.e.entry ≡ i)
   space_tells n s got r m y g i lt is =
       let h = one_of r.file r.x r.index_is in
       let o = own r.file r.x h r.j r.e r.there in
@@ -194,10 +174,12 @@ module _ (contents : List (List ℕ)) (files : List File) (indexes : List Index)
       let same : s ≡ name_of q.file q.x g (place_at (raw_of q.file q.x g) q.e.entry) = cc in
       let t = space_tells m s e r q.file q.x g q.e.entry o.0 same in
       let x_is : r.x ≡ q.x = same_got indexes q.file r.x q.x (ap (slice_get indexes) (sym t.0) ∙ r.index_is) q.index_is in
-      let j_is : r.j ≡ q.j = one_space 0 (0 + entries_among g.is.kept.read.doc.units) q.x.spaces (rises q.file q.x g) r.j q.j r.e q.e (ap (λ (w : Index). slice_get w.spaces r.j) (sym x_is) ∙ r.there) q.there t.1 in
+      let j_is : r.j ≡ q.j = one_space 0 (0 + entries_among g.is.kept.read.doc.units) q.x.spaces (rises q.file q.x g) r.j q.j r.e q.e (ap (λ (w : Index). slice_get w.spaces r.j) (sym x_is) ∙ r.there)
+      q.there t.1 in
       r.number ∙ (λ i. (x_is i).starts.space + j_is i) ∙ sym q.number
 
-  found : (k : ℕ) (x : Index) (h : IsOne k x) (n entry : ℕ) → entry < entries_in (raw_of k x h) → slice_get spots n ≡ Some (name_of k x h (place_at (raw_of k x h) entry)) → IsSpaceNumber x.starts.space x.spaces entry n
+  found : (k : ℕ) (x : Index) (h : IsOne k x) (n entry : ℕ) → entry < entries_in (raw_of k x h) → slice_get spots n ≡ Some (name_of k x h (place_at (raw_of k x h) entry))
+      → IsSpaceNumber x.starts.space x.spaces entry n
   found k x h n entry lt e =
       let s = name_of k x h (place_at (raw_of k x h) entry) in
       let r = file_of n s e in
@@ -211,7 +193,8 @@ module _ (contents : List (List ℕ)) (files : List File) (indexes : List Index)
         number = r.number ∙ ap (λ (w : Index). w.starts.space + r.j) x_is;
       }
 
-  pub apart_there : (k : ℕ) (x : Index) (f : File) (bytes : List ℕ) → slice_get files k ≡ Some f → slice_get indexes k ≡ Some x → (is : IsFileAmong contents k bytes f x) → NamesApart spots x (raw_units f.units) (name_at x.starts is.kept.read.doc)
+  pub apart_there : (k : ℕ) (x : Index) (f : File) (bytes : List ℕ) → slice_get files k ≡ Some f → slice_get indexes k ≡ Some x → (is : IsFileAmong contents k bytes f x)
+      → NamesApart spots x (raw_units f.units) (name_at x.starts is.kept.read.doc)
   apart_there k x f bytes got_f got_x is =
       let h : IsOne k x = record { f = f; bytes = bytes; got_f = got_f; got_x = got_x; is = is } in
       record { one = one_name; own = λ j e got. (own k x h j e got).1; found = found k x h }

@@ -6,6 +6,7 @@ use Rattle.dwz_index.specs.declared.index.SpaceEntry.{SpaceEntry}
 use Rattle.dwz_index.specs.declared.index.Starts.{Starts}
 use Rattle.dwz_index.specs.Steps.{Below, all_spaces, below_root, is_space, space_entries, space_entry, spaces_among, spaces_by, spaces_of_list, starts_behind}
 use Rattle.dwz_index.proofs.AmongLemmas.{spaces_many}
+use Rattle.dwz_order.proofs.FileChains.{entries_many}
 
 -- ---- what stands in what: each outer number is at most the space's own
 
@@ -91,12 +92,16 @@ list_rise outer k at (Entry e c n) =
     ends : at + 1 + size c + size n ≡ at + size (Entry e c n)
     ends = omega arith
 
-    by : (t : Bool) → EntriesRise (at + 1 + size c) (at + 1 + size c + size n) (spaces_among is_space outer k (at + 1 + size c) n) → EntriesRise (at + 1) (at + 1 + size c) a → EntriesRise (at + 1 + size c) (at + 1 + size c + size n) b
+    by : (t : Bool) → EntriesRise (at + 1 + size c) (at + 1 + size c + size n) (spaces_among is_space outer k (at + 1 + size c) n) → EntriesRise (at + 1) (at + 1 + size c) a
+        → EntriesRise (at + 1 + size c) (at + 1 + size c + size n) b
         → EntriesRise at (at + size (Entry e c n)) (elim t as (λ _. List SpaceEntry) [ false ↦ spaces_among is_space outer k (at + 1 + size c) n | true ↦ space_entry at outer ∷ (a ++ b) ])
     by false p q r = subst (λ (w : ℕ). EntriesRise at w (spaces_among is_space outer k (at + 1 + size c) n)) ends (rise_from (at + 1 + size c) at (at + 1 + size c + size n) _ (omega arith) p)
     by true p q r =
-        let one : at + 1 ≡ suc at = omega arith in
-        (omega arith, subst (λ (w : ℕ). EntriesRise (suc at) w (a ++ b)) ends (subst (λ (w : ℕ). EntriesRise w (at + 1 + size c + size n) (a ++ b)) one (rise_append (at + 1) (at + 1 + size c) (at + 1 + size c + size n) a b q r)))
+        let one : at + 1 ≡ suc at = omega arith in (
+          omega arith,
+          subst (λ (w : ℕ). EntriesRise (suc at) w (a ++ b)) ends
+              (subst (λ (w : ℕ). EntriesRise w (at + 1 + size c + size n) (a ++ b)) one (rise_append (at + 1) (at + 1 + size c) (at + 1 + size c + size n) a b q r)),
+        )
 
 -- ---- of units
 
@@ -112,19 +117,13 @@ unit_rise k at b = by b.compile where
   by true = rise_from (at + 1) at (at + 1 + size b.list) (spaces_among is_space 0 k (at + 1) b.list) (omega arith) (list_rise 0 k (at + 1) b.list)
   by false = omega arith
 
-pub unit_many : (k at : ℕ) (b : Below (Node ℕ)) → length (space_entries is_space k at b) ≡ spaces_of_list is_space b
-unit_many k at b = by b.compile where
-  by : (t : Bool) → length (space_entries is_space k at (record { compile = t; list = b.list })) ≡ spaces_of_list is_space (record { compile = t; list = b.list })
-  by true = spaces_many is_space 0 k (at + 1) b.list
-  by false = refl
-
 pub units_low : (s : Starts) (at : ℕ) (units : List (DwUnit ℕ)) → OutersLow s.space (all_spaces is_space s at (map below_root units))
 unfolding all_spaces
 units_low s at [] = tt
 units_low s at (v ∷ units) =
     let next = starts_behind is_space s (below_root v) in
     low_append s.space (spaces_of_list is_space (below_root v)) (space_entries is_space s.space at (below_root v)) (all_spaces is_space next (at + 1 + size v.below) (map below_root units))
-    (unit_many s.space at (below_root v)) (unit_low s.space at (below_root v)) (units_low next (at + 1 + size v.below) units)
+    (entries_many s.space at (below_root v)) (unit_low s.space at (below_root v)) (units_low next (at + 1 + size v.below) units)
 
 -- how many entries these units have
 unfoldable pub entries_among : List (DwUnit ℕ) → ℕ

@@ -19,7 +19,8 @@ none_numbered names found none = record { under = λ j lt. absurd (omega arith);
 pub none_found : (m : BTreeMap (Bor (List ℕ)) ℕ) → m.entries ≡ [] → (text : List ℕ) → look m text ≡ None
 none_found m e text = rw e refl
 
-module _ (names : ℕ → List ℕ) (texts : List ℕ) (old after : List ℕ → Option ℕ) (number : ℕ) (h : HaveNumbers names texts old) (put : IsFound old after (names (length texts)) (length texts) number) where
+module _ (names : ℕ → List ℕ) (texts : List ℕ) (old after : List ℕ → Option ℕ) (number : ℕ) (h : HaveNumbers names texts old)
+    (put : IsFound old after (names (length texts)) (length texts) number) where
   abbrev n : ℕ
   n = length texts
 
@@ -84,7 +85,8 @@ module _ (names : ℕ → List ℕ) (texts : List ℕ) (old after : List ℕ →
   }
 
 -- the next name, which is that of the next number
-pub numbered_next : (names : ℕ → List ℕ) (texts new : List ℕ) (old after : List ℕ → Option ℕ) (text : List ℕ) (next at number : ℕ) → HaveNumbers names texts old → next ≡ length texts → at ≡ length texts → text ≡ names at → IsFound old after text next number
+pub numbered_next : (names : ℕ → List ℕ) (texts new : List ℕ) (old after : List ℕ → Option ℕ) (text : List ℕ) (next at number : ℕ) → HaveNumbers names texts old → next ≡ length texts
+    → at ≡ length texts → text ≡ names at → IsFound old after text next number
     → new ≡ texts ++ number ∷ [] → HaveNumbers names new after
 numbered_next names texts new old after text next at number h n_is at_is text_is put is =
     let name : text ≡ names (length texts) = text_is ∙ ap names at_is in
@@ -93,7 +95,8 @@ numbered_next names texts new old after text next at number h n_is at_is text_is
 
 -- ---- all of them
 
-pub all_numbered : (said : ℕ → SpaceName) (spaces : List SpaceEntry) (texts : List ℕ) (found : List ℕ → Option ℕ) → length texts ≡ length spaces → HaveNumbers (λ k. text_of (said k)) texts found → NumbersTexts (rows_from 0 spaces) said texts
+pub all_numbered : (said : ℕ → SpaceName) (spaces : List SpaceEntry) (texts : List ℕ) (found : List ℕ → Option ℕ) → length texts ≡ length spaces → HaveNumbers (λ k. text_of (said k)) texts found
+    → NumbersTexts (rows_from 0 spaces) said texts
 all_numbered said spaces texts found long h = record {
   same = λ j k lj lk. (
       let all = rows_long 0 spaces in

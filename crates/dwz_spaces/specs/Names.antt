@@ -33,7 +33,8 @@ pub record IsSpaceNamed (raw : List RawUnit) (around : Around ℕ) (e : ℕ) (te
 
 -- each of these spaces has the name of its number, where the first has that number
 abbrev pub Reads : List RawUnit → Around ℕ → (ℕ → List ℕ) → ℕ → List SpaceEntry → Type 0
-Reads raw around names first spaces = (j : ℕ) (x : SpaceEntry) → slice_get spaces j ≡ Some x → IsSpaceNamed raw around x.entry (names (first + j))
+Reads raw around names first spaces = (j : ℕ) (x : SpaceEntry) → slice_get spaces j ≡ Some x
+    → IsSpaceNamed raw around x.entry (names (first + j))
 
 -- ---- numbers
 

@@ -4,7 +4,7 @@ use Rattle.dwz_alike.specs.Spots.{FileUnit, Spot, tops_of}
 use Rattle.dwz_meanings.specs.Documents.{Node}
 use Rattle.dwz_moving.specs.Moves.{Move}
 use Rattle.dwz_moving.specs.Plan.{pinned_of}
-use Rattle.dwz_seen.specs.Lists.{Each}
+use Rattle.dwz_docs.specs.Lists.{Each}
 use Rattle.dwz_order.specs.declared.marks.Marks.{Marks}
 use Rattle.dwz_order.specs.Marks.{flag_at}
 use Rattle.dwz_order.specs.Named.{MarksAll, MarksTop}
@@ -22,5 +22,6 @@ pub record ArePinned (units : List (FileUnit Spot)) (flags : List Bool) : Type 0
 -- with what is known of each top, all is known
 abbrev pub MarksLaw : Type 0
 MarksLaw =
-    (moved : Move) (units : List (FileUnit Spot)) (marks : Marks) → Each (MarksTop moved.gone (pinned_of units) marks) (tops_of units) → ArePinned units marks.spaces.now
+    (moved : Move) (units : List (FileUnit Spot)) (marks : Marks) → Each (MarksTop moved.gone (pinned_of units) marks) (tops_of units)
+    → ArePinned units marks.spaces.now
     → MarksAll moved units marks

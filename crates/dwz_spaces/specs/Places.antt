@@ -29,7 +29,8 @@ pub record IsSpaceNumber (first : ℕ) (spaces : List SpaceEntry) (entry n : ℕ
 -- each number is of a space of its entry, and each entry that is a space has one
 pub record AreSpaceNumbers (first : ℕ) (spaces : List SpaceEntry) (numbers : List (Option ℕ)) : Type 0 where
   pub each : (entry n : ℕ) → number_at numbers entry ≡ Some n → IsSpaceNumber first spaces entry n
-  pub all : (j : ℕ) (x : SpaceEntry) → slice_get spaces j ≡ Some x → x.entry < length numbers → (n : ℕ) × (number_at numbers x.entry ≡ Some n)
+  pub all : (j : ℕ) (x : SpaceEntry) → slice_get spaces j ≡ Some x → x.entry < length numbers
+      → (n : ℕ) × (number_at numbers x.entry ≡ Some n)
 
 -- the spaces that operands of location lists name that are ULEB128 numbers
 abbrev pub list_spaces : List (Option ℕ) → List ListOperand → List (Option ℕ)
@@ -43,5 +44,7 @@ spot_at spots n = slice_index_or spots n (UnitOf 0)
 -- Of the names of all spaces no two are equal; the spaces of the file have theirs, and no other entry of it has one of them.
 pub record NamesApart (spots : List Spot) (x : Index) (raw : List RawUnit) (name : ℕ → Spot) : Type 0 where
   pub one : (m n : ℕ) (s : Spot) → slice_get spots m ≡ Some s → slice_get spots n ≡ Some s → m ≡ n
-  pub own : (j : ℕ) (e : SpaceEntry) → slice_get x.spaces j ≡ Some e → slice_get spots (x.starts.space + j) ≡ Some (name (place_at raw e.entry))
-  pub found : (n entry : ℕ) → entry < entries_in raw → slice_get spots n ≡ Some (name (place_at raw entry)) → IsSpaceNumber x.starts.space x.spaces entry n
+  pub own : (j : ℕ) (e : SpaceEntry) → slice_get x.spaces j ≡ Some e → slice_get spots (x.starts.space + j)
+      ≡ Some (name (place_at raw e.entry))
+  pub found : (n entry : ℕ) → entry < entries_in raw → slice_get spots n ≡ Some (name (place_at raw entry))
+      → IsSpaceNumber x.starts.space x.spaces entry n

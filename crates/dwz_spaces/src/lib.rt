@@ -5,8 +5,6 @@ mod laws;
 mod names;
 mod pinned;
 mod spaces;
-#[cfg(test)]
-mod tests;
 
 pub use laws::mark_laws;
 pub use names::space_texts;

@@ -44,7 +44,8 @@ fn number_of<'t>(
 // What is kept of the unit with a number. It may be the one that was looked at last.
 fn here_for(units: &Units, last: Option<Here>, number: u32) -> Here
     requires { number < length (raw_units units.now) }
-    ensures { (u : RawUnit) → WasHere (raw_units units.now) last → slice_get (raw_units units.now) number ≡ Some u → IsHere (raw_units units.now) u result }
+    ensures { (u : RawUnit) → WasHere (raw_units units.now) last → slice_get (raw_units units.now) number ≡ Some u
+        → IsHere (raw_units units.now) u result }
 {
     if let Some(here) = last {
         if here.number == number {
@@ -63,7 +64,9 @@ fn name_of<'t>(
     entry: u32,
 ) -> &'t [u8]
     requires { entry < entries_in (raw_units units.now) }
-    ensures { (s : Scope ℕ) (row : EntryRow) (d : Node ℕ) (text : List ℕ) → IsOwn sections.now base s → slice_get (rows_of (raw_units units.now)) entry ≡ Some row → node_meaning s row.entry ≡ Ok d → Seen.space_text d ≡ Some text → result.now ≡ text }
+    ensures { (s : Scope ℕ) (row : EntryRow) (d : Node ℕ) (text : List ℕ) → IsOwn sections.now base s
+        → slice_get (rows_of (raw_units units.now)) entry ≡ Some row → node_meaning s row.entry ≡ Ok d → Seen.space_text d ≡ Some text
+        → result.now ≡ text }
 {
     match space_text(units, sections, base, entry) {
         Some(text) => text,
@@ -82,7 +85,9 @@ fn put_texts<'t>(
     requires few { length texts.old.items + length spaces.now < 2 ^ 32 }
     requires entries { All (λ x. x.entry < entries_in (raw_units units.now)) spaces.now }
     ensures len { OnOk result (length texts.new.items ≡ length texts.old.items + length spaces.now) }
-    ensures numbers { (names : ℕ → List ℕ) → Reads (raw_units units.now) (around sections.now (raw_units units.now)) names (length texts.old.items) spaces.now → HaveNumbers names texts.old.items (look seen.old) → OnOk result (HaveNumbers names texts.new.items (look seen.new)) }
+    ensures numbers { (names : ℕ → List ℕ) → Reads (raw_units units.now) (around sections.now (raw_units units.now)) names
+        (length texts.old.items) spaces.now → HaveNumbers names texts.old.items (look seen.old)
+        → OnOk result (HaveNumbers names texts.new.items (look seen.new)) }
 {
     let mut last: Option<Here> = None;
     for space in spaces {
@@ -103,7 +108,8 @@ pub fn space_texts(alloc: Global, graph: &Graph, indexes: &[Index]) -> Result<Ve
     requires { AreIndexes (docs_of graph.now) indexes.now }
     ensures len { IfOk result (λ texts. length texts.items ≡ length (all_spaces indexes.now)) }
     ensures few { OnOk result (length (all_spaces indexes.now) ≤ 2 ^ 29) }
-    ensures numbers { IfOk result (λ texts. NumbersTexts (rows_from 0 (all_spaces indexes.now)) (said_of (units_of (docs_of graph.now))) texts.items) }
+    ensures numbers { IfOk result (λ texts. NumbersTexts (rows_from 0 (all_spaces indexes.now)) (said_of (units_of (docs_of graph.now)))
+        texts.items) }
 {
     let mut seen = BTreeMap::new(alloc);
     let mut texts = Vec::new(alloc);

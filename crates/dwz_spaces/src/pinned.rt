@@ -98,7 +98,10 @@ fn pin_units(
     named: &mut Named,
     operands: &mut Vec<Operand>,
 ) -> Result<(), NoMemory>
-    ensures { (around : Around ℕ) (refs : List ℕ) (name : ℕ → Spot) (said : List (DwUnit ℕ)) → KnowsRefs around (raw_units units.now) name refs starts.now into.now → units_meaning around (raw_units units.now) ≡ Ok said → OnOk result (MarksIf (λ t. list_any (in_unit (any_attr (expression_pins t))) (map (unit_map name) said) ≡ true) named.old.by_uleb.items named.new.by_uleb.items) }
+    ensures { (around : Around ℕ) (refs : List ℕ) (name : ℕ → Spot) (said : List (DwUnit ℕ))
+        → KnowsRefs around (raw_units units.now) name refs starts.now into.now → units_meaning around (raw_units units.now) ≡ Ok said
+        → OnOk result (MarksIf (λ t. list_any (in_unit (any_attr (expression_pins t))) (map (unit_map name) said) ≡ true)
+        named.old.by_uleb.items named.new.by_uleb.items) }
 {
     for n in 0..units.len() {
         mark_unit(units, into, starts, n, named, operands)?;
@@ -125,7 +128,11 @@ fn pin_file(
 ) -> Result<(), NoMemory>
     requires few { length index.now.steps < 2 ^ 32 }
     requires room { index.now.starts.space + length index.now.spaces < 2 ^ 32 }
-    ensures { (contents : List (List ℕ)) (k : ℕ) (bytes : List ℕ) (spots : List Spot) (is : IsFileAmong contents k bytes file.now index.now) → NamesApart spots index.now (raw_units file.now.units) (name_at index.now.starts is.kept.read.doc) → length named.old.by_uleb.items ≡ length spots → OnOk result (MarksIf (λ t. list_any (pinned_in (same_spot (spot_at spots t))) (file_units index.now.starts k is.kept.read.doc) ≡ true) named.old.by_uleb.items named.new.by_uleb.items) }
+    ensures { (contents : List (List ℕ)) (k : ℕ) (bytes : List ℕ) (spots : List Spot) (is : IsFileAmong contents k bytes file.now index.now)
+        → NamesApart spots index.now (raw_units file.now.units) (name_at index.now.starts is.kept.read.doc)
+        → length named.old.by_uleb.items ≡ length spots
+        → OnOk result (MarksIf (λ t. list_any (pinned_in (same_spot (spot_at spots t))) (file_units index.now.starts k is.kept.read.doc)
+        ≡ true) named.old.by_uleb.items named.new.by_uleb.items) }
 {
     let resolved = &file.resolved;
     let numbers = space_numbers(alloc, index)?;

@@ -33,11 +33,6 @@ in_more list i n l h = ⊎_elim (λ j. inl j) (λ j. inr (in_one n (get_or list 
 more_in : (list : List ℕ) (i n : ℕ) → i < length list → In n (take i list) ⊎ (get_or list i 0 ≡ n) → In n (take (suc i) list)
 more_in list i n l h = subst (λ (xs : List ℕ). In n xs) (sym (take-suc list i 0 l)) (⊎_elim (λ j. in_left n (take i list) _ j) (λ e. in_right n (take i list) (get_or list i 0 ∷ []) (inl e)) h)
 
-pub in_at : (list : List ℕ) (i : ℕ) → i < length list → In (get_or list i 0) list
-in_at [] i l = absurd (omega arith)
-in_at (x ∷ list) zero l = inl refl
-in_at (x ∷ list) (suc i) l = inr (in_at list i (omega arith))
-
 -- ---- one mark more
 
 marked_inside : (marks : List Bool) (n : ℕ) → IsMarked marks n → n < length marks
@@ -74,7 +69,8 @@ set_here (b ∷ marks) (suc x) l = set_here marks x (omega arith)
 pub marks_none : (list : List ℕ) (old : List Bool) (work : List ℕ) → Marks (take 0 list) old work old work
 marks_none list old work = record { len = refl; kept = λ n h. h; listed = λ n i. absurd i; only = λ n h. inl h; queued = λ n i. i; from = λ n i. inl i; count = refl }
 
-pub marks_skip : (list : List ℕ) (i : ℕ) (old : List Bool) (work : List ℕ) (new : List Bool) (more : List ℕ) → i < length list → IsMarked new (get_or list i 0) → Marks (take i list) old work new more → Marks (take (suc i) list) old work new more
+pub marks_skip : (list : List ℕ) (i : ℕ) (old : List Bool) (work : List ℕ) (new : List Bool) (more : List ℕ) → i < length list → IsMarked new (get_or list i 0) → Marks (take i list) old work new more
+    → Marks (take (suc i) list) old work new more
 marks_skip list i old work new more l here m = record {
   len = m.len;
   kept = m.kept;
@@ -85,7 +81,8 @@ marks_skip list i old work new more l here m = record {
   count = m.count;
 }
 
-pub marks_add : (list : List ℕ) (i : ℕ) (old : List Bool) (work : List ℕ) (new : List Bool) (more : List ℕ) → i < length list → get_or list i 0 < length old → get_or new (get_or list i 0) false ≡ false
+pub marks_add : (list : List ℕ) (i : ℕ) (old : List Bool) (work : List ℕ) (new : List Bool) (more : List ℕ) → i < length list → get_or list i 0 < length old
+    → get_or new (get_or list i 0) false ≡ false
     → Marks (take i list) old work new more → Marks (take (suc i) list) old work (set new (get_or list i 0) true) (more ++ get_or list i 0 ∷ [])
 marks_add list i old work new more l low free m =
     let x = get_or list i 0 in
@@ -124,7 +121,8 @@ spreading_init sources old work w = record {
   closed = λ m n h i. inr ((w m).1 h);
 }
 
-pub spreading_step : (sources : List (List ℕ)) (old marks : List Bool) (work left : List ℕ) (m : ℕ) (new : List Bool) (more : List ℕ) → work ≡ left ++ m ∷ [] → Spreading sources old marks work → Marks (sources_of sources m) marks left new more → Spreading sources old new more
+pub spreading_step : (sources : List (List ℕ)) (old marks : List Bool) (work left : List ℕ) (m : ℕ) (new : List Bool) (more : List ℕ) → work ≡ left ++ m ∷ [] → Spreading sources old marks work
+    → Marks (sources_of sources m) marks left new more → Spreading sources old new more
 spreading_step sources old marks work left m new more e s t =
     let here : IsMarked marks m = s.marked m (subst (λ (xs : List ℕ). In m xs) (sym e) (in_right m left (m ∷ []) (inl refl))) in
     let leads = s.sound m here in record {
@@ -153,7 +151,8 @@ pub spreading_done : (sources : List (List ℕ)) (old marks : List Bool) → Spr
 spreading_done sources old marks s = record { len = s.len; each = λ n. (s.sound n, λ h. leads_marked sources old marks s h.0 n h.1) }
 
 -- what is marked, as far as it was looked at
-pub found_more : (marks : List Bool) (i : ℕ) (work : List ℕ) → i < length marks → IsMarked marks i → ((n : ℕ) → (In n work → IsMarked marks n × (n < i)) × (IsMarked marks n × (n < i) → In n work)) → (n : ℕ) → (In n (work ++ i ∷ []) → IsMarked marks n × (n < i + 1)) × (IsMarked marks n × (n < i + 1) → In n (work ++ i ∷ []))
+pub found_more : (marks : List Bool) (i : ℕ) (work : List ℕ) → i < length marks → IsMarked marks i → ((n : ℕ) → (In n work → IsMarked marks n × (n < i)) × (IsMarked marks n × (n < i) → In n work))
+    → (n : ℕ) → (In n (work ++ i ∷ []) → IsMarked marks n × (n < i + 1)) × (IsMarked marks n × (n < i + 1) → In n (work ++ i ∷ []))
 found_more marks i work l here h n = (
   λ j. ⊎_elim
       (λ (k : In n work). let r = (h n).0 k in let low = r.1 in (r.0, omega arith))
@@ -165,7 +164,8 @@ found_more marks i work l here h n = (
       (let low = r.1 in grind arith),
 )
 
-pub found_skip : (marks : List Bool) (i : ℕ) (work : List ℕ) → get_or marks i false ≡ false → ((n : ℕ) → (In n work → IsMarked marks n × (n < i)) × (IsMarked marks n × (n < i) → In n work)) → (n : ℕ) → (In n work → IsMarked marks n × (n < i + 1)) × (IsMarked marks n × (n < i + 1) → In n work)
+pub found_skip : (marks : List Bool) (i : ℕ) (work : List ℕ) → get_or marks i false ≡ false → ((n : ℕ) → (In n work → IsMarked marks n × (n < i)) × (IsMarked marks n × (n < i) → In n work)) → (n : ℕ)
+    → (In n work → IsMarked marks n × (n < i + 1)) × (IsMarked marks n × (n < i + 1) → In n work)
 found_skip marks i work free h n = (
   λ j. let r = (h n).0 j in let low = r.1 in (r.0, omega arith),
   λ r. ⊎_elim
@@ -174,7 +174,8 @@ found_skip marks i work free h n = (
       (let low = r.1 in grind arith),
 )
 
-pub found_all : (marks : List Bool) (work : List ℕ) (i : ℕ) → length marks ≤ i → ((n : ℕ) → (In n work → IsMarked marks n × (n < i)) × (IsMarked marks n × (n < i) → In n work)) → (n : ℕ) → (In n work → IsMarked marks n) × (IsMarked marks n → In n work)
+pub found_all : (marks : List Bool) (work : List ℕ) (i : ℕ) → length marks ≤ i → ((n : ℕ) → (In n work → IsMarked marks n × (n < i)) × (IsMarked marks n × (n < i) → In n work)) → (n : ℕ)
+    → (In n work → IsMarked marks n) × (IsMarked marks n → In n work)
 found_all marks work i l h n = (λ j. ((h n).0 j).0, λ j. (h n).1 (j, let low = marked_inside marks n j in omega arith))
 
 pub work_inside : (sources : List (List ℕ)) (old marks : List Bool) (work left : List ℕ) (m : ℕ) → work ≡ left ++ m ∷ [] → Spreading sources old marks work → m < length old

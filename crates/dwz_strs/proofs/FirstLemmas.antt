@@ -1,7 +1,6 @@
 -- The first zero byte ends a text.
-use Rattle.std.proofs.Common.{◌≡◌, ℕ, ◌-◌, ◌≤◌, List, [], length, take, drop, Some, None, ap, ◌∙◌, arith}
+use Rattle.std.proofs.Common.{◌≡◌, ℕ, ◌≤◌, List, [], length, take, drop, Some, None, ap, ◌∙◌, arith}
 use Rattle.std.proofs.lemmas.Bool.{eq-eqb, eqb-true}
-use Rattle.std.proofs.lemmas.Grind.{common_steps}
 use Rattle.std.proofs.Math.ListN.{drop_of_length-le}
 use Rattle.memchr.specs.Find.{IsFirstByte, is_byte}
 use Rattle.dwz_docs.specs.Texts.{text_in}
@@ -15,6 +14,3 @@ some_first bytes end is = text_in-some bytes end is.0.high (λ k lt e. is.0.befo
 
 pub past_end : (section : List ℕ) (offset : ℕ) → length section ≤ offset → text_in (drop offset section) ≡ None
 past_end section offset le = ap text_in (drop_of_length-le section le) ∙ none_again [] tt
-
-pub whole_rest : (section : List ℕ) (offset : ℕ) → take (length section - offset) (drop offset section) ≡ drop offset section
-whole_rest section offset = grind (arith, common_steps)

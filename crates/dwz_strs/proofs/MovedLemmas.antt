@@ -1,5 +1,6 @@
 -- Looking a use up among ascending ones, and that their order and number don't matter for what stays.
-use Rattle.std.proofs.Common.{◌≡◌, ◌⊎◌, ℕ, ◌+◌, ◌<◌, ◌≤◌, Bool, true, false, cond, eqb, List, [], ◌∷◌, length, get_or, position, take, Option, Some, None, Result, Ok, Err, IfOk, IsSome, All, Contains, refl, sym, ap, subst, ◌∙◌, inl, inr, arith}
+use Rattle.std.proofs.Common.{◌≡◌, ◌⊎◌, ℕ, ◌<◌, ◌≤◌, Bool, true, false, eqb, List, length, get_or, position, take, Option, Some, None, Result, Ok, Err, IfOk, IsSome, All, Contains, refl, sym, ap}
+use Rattle.std.proofs.Common.{subst, ◌∙◌, inl, inr, arith}
 use Rattle.std.specs.Prelude.{SomeIff}
 use Rattle.std.specs.Option.{option_map}
 use Rattle.std.specs.List.{list_any}
@@ -11,9 +12,10 @@ use Rattle.std.proofs.lemmas.List.Folds.{Any-from_list_any, list_any-from_Any}
 use Rattle.std.proofs.lemmas.List.Kept.{AllPairs-from_increasing}
 use Rattle.std.proofs.lemmas.List.Quantifiers.{position-Some}
 use Rattle.std.proofs.lemmas.List.Sums.{position_or_len_is}
-use Rattle.dwz_docs.specs.Pruning.{bytes_kept, is_in_range, is_kept, new_number}
+use Rattle.dwz_docs.specs.Pruning.{is_in_range, is_kept, new_number}
 use Rattle.dwz_docs.specs.Texts.{text_at}
 use Rattle.dwz_docs.proofs.TextRowLemmas.{first_at}
+use Rattle.dwz_docs.proofs.PruneLemmas.{same_kept}
 use Rattle.dwz_strs.specs.Pruned.{IsPruned, Pruning, RisesAlong, moved_in, pruning}
 
 -- ---- looking up
@@ -47,13 +49,6 @@ module _ (bytes uses numbers : List ℕ) (along : RisesAlong uses numbers) (offs
         side k (inr more) lt at = omega (arith, above k more lt, at)
 
 -- ---- the same uses
-
-same_kept : (keep others : ℕ → Bool) → ((k : ℕ) → keep k ≡ others k) → (at : ℕ) (xs : List ℕ) → bytes_kept keep at xs ≡ bytes_kept others at xs
-unfolding bytes_kept
-same_kept keep others same at [] = refl
-same_kept keep others same at (x ∷ xs) =
-    let rest = same_kept keep others same (at + 1) xs in
-    (λ j. cond (same at j) (x ∷ rest j) (rest j))
 
 module _ (section xs ys : List ℕ) (to : (u : ℕ) → Contains xs u → Contains ys u) (back : (u : ℕ) → Contains ys u → Contains xs u) where
   one_way : (p : ℕ → Bool) (us vs : List ℕ) → ((u : ℕ) → Contains us u → Contains vs u) → list_any p us ≡ true → list_any p vs ≡ true

@@ -1,5 +1,6 @@
 -- Pruning use by use, in ascending order: a use lies in the range of the one before, or begins a range behind all of them.
-use Rattle.std.proofs.Common.{◌≡◌, ◌⊎◌, ℕ, zero, suc, ◌+◌, ◌-◌, ◌<◌, ◌≤◌, max, Bool, true, false, cond, leb, ltb, eqb, List, [], ◌∷◌, ◌++◌, length, get_or, take, drop, position, Option, Some, None, IsSome, Contains, All, refl, sym, ap, subst, ◌∙◌, inl, inr, arith, append-nil, length-append, length-take, length-drop}
+use Rattle.std.proofs.Common.{◌≡◌, ◌⊎◌, ℕ, zero, suc, ◌+◌, ◌-◌, ◌<◌, ◌≤◌, max, Bool, true, false, cond, leb, ltb, eqb, List, [], ◌∷◌, ◌++◌, length, get_or, take, drop, position, Option, Some, None}
+use Rattle.std.proofs.Common.{IsSome, Contains, All, refl, sym, ap, subst, ◌∙◌, inl, inr, arith, append-nil, length-append, length-take, length-drop}
 use Rattle.std.specs.Prelude.{SomeIff, ◌&&◌}
 use Rattle.std.specs.Option.{option_map}
 use Rattle.std.specs.List.Sorted.{IsStrictlyIncreasing}
@@ -171,10 +172,13 @@ module _ (section uses : List ℕ) (i end : ℕ) (out moved : List ℕ) (so_far 
       let last_len = part_len start next section (omega (arith, more, longer)) fits in
       let first : take start section ≡ take end section ++ middle = take_parts end start section (omega arith) (omega (arith, fits, more, longer)) in
       let second : take next section ≡ take start section ++ last = take_parts start next section (omega (arith, more, longer)) fits in
-      let none : bytes_kept keep (0 + length (take end section)) middle ≡ [] = none_kept keep (0 + length (take end section)) middle (λ k le less. gap k (omega (arith, le, end_len)) (omega (arith, less, end_len, middle_len))) in
-      let all : bytes_kept keep (0 + length (take start section)) last ≡ last = all_kept keep (0 + length (take start section)) last (λ k le less. whole k (omega (arith, le, start_len)) (omega (arith, less, start_len, last_len, more, longer))) in
+      let none : bytes_kept keep (0 + length (take end section)) middle ≡ [] =
+      none_kept keep (0 + length (take end section)) middle (λ k le less. gap k (omega (arith, le, end_len)) (omega (arith, less, end_len, middle_len))) in
+      let all : bytes_kept keep (0 + length (take start section)) last ≡ last =
+      all_kept keep (0 + length (take start section)) last (λ k le less. whole k (omega (arith, le, start_len)) (omega (arith, less, start_len, last_len, more, longer))) in
       let to_start : bytes_kept keep 0 (take start section) ≡ out =
-      ap (bytes_kept keep 0) first ∙ kept-append keep 0 (take end section) middle ∙ ap (λ (w : List ℕ). bytes_kept keep 0 (take end section) ++ w) none ∙ append-nil (bytes_kept keep 0 (take end section)) ∙ sym so_far.bytes in
+      ap (bytes_kept keep 0) first ∙ kept-append keep 0 (take end section) middle ∙ ap (λ (w : List ℕ). bytes_kept keep 0 (take end section) ++ w) none
+      ∙ append-nil (bytes_kept keep 0 (take end section)) ∙ sym so_far.bytes in
       sym (ap (bytes_kept keep 0) second ∙ kept-append keep 0 (take start section) last ∙ (λ j. to_start j ++ all j))
 
   -- what stays before the use, and its range behind that
@@ -187,7 +191,8 @@ module _ (section uses : List ℕ) (i end : ℕ) (out moved : List ℕ) (so_far 
       let last = take (next - used) (drop used section) in
       let last_len = part_len used next section (omega (arith, more)) fits in
       let parts : take next section ≡ take used section ++ last = take_parts used next section (omega (arith, more)) fits in
-      let all : bytes_kept keep (0 + length (take used section)) last ≡ last = all_kept keep (0 + length (take used section)) last (λ k le less. whole k (omega (arith, le, used_len)) (omega (arith, less, used_len, last_len, more))) in
+      let all : bytes_kept keep (0 + length (take used section)) last ≡ last =
+      all_kept keep (0 + length (take used section)) last (λ k le less. whole k (omega (arith, le, used_len)) (omega (arith, less, used_len, last_len, more))) in
       ap (λ (w : List ℕ). length (bytes_kept keep 0 w)) parts
       ∙ ap length (kept-append keep 0 (take used section) last ∙ ap (λ (w : List ℕ). bytes_kept keep 0 (take used section) ++ w) all)
       ∙ length-append (bytes_kept keep 0 (take used section)) last ∙ ap (λ (n : ℕ). length (bytes_kept keep 0 (take used section)) + n) last_len
@@ -217,17 +222,20 @@ module _ (section uses : List ℕ) (i end : ℕ) (out moved : List ℕ) (so_far 
   pub counted : (next : ℕ) (new : List ℕ) → next ≡ end_behind section used end → new ≡ out ++ take (next - max used end) (drop (max used end) section) → Counted next new
   counted next new is_next is_new =
       let to : next ≡ range_end section used = is_next ∙ next_is in
-      let bytes : new ≡ bytes_kept (is_kept section uses) 0 (take (range_end section used) section) = is_new ∙ ap (λ (m : ℕ). out ++ take (m - max used end) (drop (max used end) section)) to ∙ bytes_next in
+      let bytes : new ≡ bytes_kept (is_kept section uses) 0 (take (range_end section used) section) = is_new ∙ ap (λ (m : ℕ). out ++ take (m - max used end) (drop (max used end) section)) to
+      ∙ bytes_next in
       record {
         enough = omega (arith, to, ap length bytes, number_is);
         small = omega (arith, to, ap length bytes, number_is, number_below);
       }
 
-  pub next_use : (next n : ℕ) (new numbers : List ℕ) → next ≡ end_behind section used end → new ≡ out ++ take (next - max used end) (drop (max used end) section) → n ≡ length new - (next - used) → numbers ≡ moved ++ n ∷ []
+  pub next_use : (next n : ℕ) (new numbers : List ℕ) → next ≡ end_behind section used end → new ≡ out ++ take (next - max used end) (drop (max used end) section) → n ≡ length new - (next - used)
+      → numbers ≡ moved ++ n ∷ []
       → SoFar section uses (i + 1) next new numbers
   next_use next n new numbers is_next is_new is_n is_numbers =
       let to : next ≡ range_end section used = is_next ∙ next_is in
-      let bytes : new ≡ bytes_kept (is_kept section uses) 0 (take (range_end section used) section) = is_new ∙ ap (λ (m : ℕ). out ++ take (m - max used end) (drop (max used end) section)) to ∙ bytes_next in
+      let bytes : new ≡ bytes_kept (is_kept section uses) 0 (take (range_end section used) section) = is_new ∙ ap (λ (m : ℕ). out ++ take (m - max used end) (drop (max used end) section)) to
+      ∙ bytes_next in
       let number : n ≡ new_number section uses used = omega (arith, is_n, to, ap length bytes, number_is) in
       record {
         within = omega (arith, to, end_within section used some);
@@ -280,7 +288,8 @@ module _ (section uses given : List ℕ) (i end : ℕ) (out moved : List ℕ) (s
 
 -- ---- all uses
 
-module _ (section uses : List ℕ) (i end : ℕ) (out moved : List ℕ) (so_far : SoFar section uses i end out moved) (rises : IsStrictlyIncreasing uses) (done : length uses ≤ i) (within : i ≤ length uses) where
+module _ (section uses : List ℕ) (i end : ℕ) (out moved : List ℕ) (so_far : SoFar section uses i end out moved) (rises : IsStrictlyIncreasing uses) (done : length uses ≤ i)
+    (within : i ≤ length uses) where
   pub rises_along : RisesAlong uses moved
   rises_along = record { rises = rises; long = omega (arith, so_far.count, done, within) }
 
@@ -290,7 +299,8 @@ module _ (section uses : List ℕ) (i end : ℕ) (out moved : List ℕ) (so_far 
       let behind = drop end section in
       let end_len : length (take end section) ≡ end = omega (arith, length-take end section, so_far.within) in
       let none : bytes_kept (is_kept section uses) (0 + length (take end section)) behind ≡ [] =
-      none_kept (is_kept section uses) (0 + length (take end section)) behind (λ k le less. nowhere section uses k (λ m lt. inr (omega (arith, so_far.ends m (omega (arith, lt, done)), le, end_len)))) in
+      none_kept (is_kept section uses) (0 + length (take end section)) behind
+      (λ k le less. nowhere section uses k (λ m lt. inr (omega (arith, so_far.ends m (omega (arith, lt, done)), le, end_len)))) in
       sym (ap (bytes_kept (is_kept section uses) 0) (sym (take-append-drop end section)) ∙ kept-append (is_kept section uses) 0 (take end section) behind
       ∙ ap (λ (w : List ℕ). bytes_kept (is_kept section uses) 0 (take end section) ++ w) none ∙ append-nil (bytes_kept (is_kept section uses) 0 (take end section)) ∙ sym so_far.bytes)
 

@@ -1,5 +1,6 @@
 -- Contributions one after the other: what is left decides the rest.
-use Rattle.std.proofs.Common.{◌≡◌, ℕ, zero, suc, ◌+◌, ◌-◌, ◌*◌, ◌<◌, ◌≤◌, Bool, true, false, cond, List, [], ◌∷◌, ◌++◌, length, drop, Option, Some, None, refl, sym, ap, ◌∙◌, arith, append_assoc, append-nil, length-drop}
+use Rattle.std.proofs.Common.{◌≡◌, ℕ, zero, suc, ◌+◌, ◌-◌, ◌*◌, ◌<◌, ◌≤◌, Bool, true, false, cond, List, [], ◌∷◌, ◌++◌, length, drop, Option, Some, None, refl, sym, ap, ◌∙◌, arith, append_assoc}
+use Rattle.std.proofs.Common.{append-nil, length-drop}
 use Rattle.std.specs.Option.{option_map}
 use Rattle.std.proofs.lemmas.List.{drop-drop, drop_all}
 use Rattle.dwz_docs.specs.OffsetTables.{count_at, counts_in, is_contribution, places_from, slot_places, slots_in}
@@ -7,7 +8,8 @@ use Rattle.dwz_docs.proofs.OffsetLemmas.{counts_end, counts_step, whole}
 
 -- ---- places
 
-pub one_place : (start count i at : ℕ) (old new all : List ℕ) → i < count → at ≡ start + 4 * i → new ≡ old ++ at ∷ [] → old ++ places_from (start + 4 * i) (count - i) ≡ all → new ++ places_from (start + 4 * (i + 1)) (count - (i + 1)) ≡ all
+pub one_place : (start count i at : ℕ) (old new all : List ℕ) → i < count → at ≡ start + 4 * i → new ≡ old ++ at ∷ [] → old ++ places_from (start + 4 * i) (count - i) ≡ all
+    → new ++ places_from (start + 4 * (i + 1)) (count - (i + 1)) ≡ all
 one_place start count i at old new all lt is_at is so_far =
     let left : count - i ≡ suc (count - (i + 1)) = omega (arith, lt) in
     let next : start + 4 * i + 4 ≡ start + 4 * (i + 1) = omega arith in
@@ -66,10 +68,12 @@ module _ (section : List ℕ) (at : ℕ) (places : List ℕ) (so_far : SlotsSoFa
   fits e = let w = whole (drop at section) e in omega (arith, w.size, w.fits, w.long, so_far.within, length-drop at section)
 
   joined_rows : (end : ℕ) (new : List ℕ) → end ≡ at + (8 + 4 * count_at (drop at section)) → new ≡ places ++ places_from (at + 8) (count_at (drop at section)) → (o : Option (List ℕ))
-      → option_map (λ (counts : List ℕ). new ++ slot_places end counts) o ≡ option_map (λ (counts : List ℕ). places ++ slot_places at counts) (option_map (λ (counts : List ℕ). count_at (drop at section) ∷ counts) o)
+      → option_map (λ (counts : List ℕ). new ++ slot_places end counts) o ≡ option_map (λ (counts : List ℕ). places ++ slot_places at counts)
+      (option_map (λ (counts : List ℕ). count_at (drop at section) ∷ counts) o)
   joined_rows end new is_end is_new None = refl
   joined_rows end new is_end is_new (Some counts) =
-      ap (λ (w : List ℕ). Some w) ((λ j. is_new j ++ slot_places (is_end j) counts) ∙ append_assoc places (places_from (at + 8) (count_at (drop at section))) (slot_places (at + (8 + 4 * count_at (drop at section))) counts))
+      ap (λ (w : List ℕ). Some w) ((λ j. is_new j ++ slot_places (is_end j) counts) ∙ append_assoc places (places_from (at + 8) (count_at (drop at section)))
+      (slot_places (at + (8 + 4 * count_at (drop at section))) counts))
 
   pub next_row : (end : ℕ) (new : List ℕ) → at < length section → is_contribution (drop at section) ≡ true → end ≡ at + (8 + 4 * count_at (drop at section))
       → new ≡ places ++ places_from (at + 8) (count_at (drop at section)) → SlotsSoFar section end new

@@ -16,9 +16,6 @@ pub use offset_tables::slots;
 pub use pruned::Pruned;
 pub use pruning::prune;
 
-#[cfg(test)]
-mod tests;
-
 // The text at the front of bytes.
 #[inline(always)]
 fn front_text(bytes: &[u8]) -> Option<&[u8]>

@@ -1,27 +1,14 @@
 -- The sections of the supplementary file: their codes rise, so no two are one, and their numbers fit.
-use Rattle.std.proofs.Common.{◌≡◌, ℕ, zero, suc, ◌+◌, ◌^◌, ◌<◌, ◌≤◌, true, List, [], ◌∷◌, ◌++◌, length, All, AllPairs, Option, Some, None, refl, arith, codes, bit_and, Bool, false, eqb, not, ◌&&◌}
-use Rattle.std.proofs.lemmas.Bool.{eqb-false}
-use Rattle.std.specs.List.{list_all}
+use Rattle.std.proofs.Common.{◌≡◌, ℕ, ◌+◌, ◌^◌, ◌<◌, ◌≤◌, true, List, [], ◌∷◌, ◌++◌, length, All, AllPairs, Option, Some, None, refl, arith, codes, bit_and}
 use Rattle.std.proofs.lemmas.List.Kept.{AllPairs-cons}
-use Rattle.dwz_model.specs.declared.sections.Sections.{Sections}
+use Rattle.dwz_model.specs.declared.sections.NewSections.{NewSections}
 use Rattle.dwz_docs.specs.ElfLayout.{too_large}
 use Rattle.dwz_docs.specs.ElfNames.{code_of}
 use Rattle.dwz_docs.specs.PlainFile.{AreKnown, FitsPlain, PlainSection, common_sections, if_there, plain_file, plain_section, sections_with, text_section_of}
 use Rattle.dwz_docs.specs.Supplementary.{sup_bytes}
 use Rattle.dwz_docs.specs.Texts.{NoZero}
-
--- a name without zero bytes, by a test
-no_zero_in : (name : List ℕ) → list_all (λ (b : ℕ). not (eqb b 0)) name ≡ true → NoZero name
-no_zero_in [] e = tt
-no_zero_in (b ∷ name) e = go (eqb b 0) refl (no_zero_in name) e where
-  go : (t : Bool) → eqb b 0 ≡ t → (list_all (λ (x : ℕ). not (eqb x 0)) name ≡ true → NoZero name) → (not t && list_all (λ (x : ℕ). not (eqb x 0)) name) ≡ true → NoZero (b ∷ name)
-  go true is rest e = absurd cc
-  go false is rest e = (eqb-false b 0 is, rest e)
-
--- one more element
-all_cons : {X : Type 0} (P : X → Type 0) (x : X) (xs : List X) → P x → All P xs → All P (x ∷ xs)
-all_cons P x xs first rest zero d lt = first
-all_cons P x xs first rest (suc k) d lt = rest k d (omega (arith, lt))
+use Rattle.dwz_docs.proofs.PlainReads.{no_zero_in}
+use Rattle.dwz_docs.proofs.ListFacts.{all_more}
 
 -- what holds of a section by itself
 record IsGood (s : PlainSection) : Type 0 where
@@ -47,12 +34,13 @@ weaker low c sections less r = record {
 rising-cons : (low c : ℕ) (s : PlainSection) (sections : List PlainSection) → code_of s.name ≡ c → IsGood s → low < c → Rising c sections → Rising low (s ∷ sections)
 rising-cons low c s sections is good less r = record {
   pairs = AllPairs-cons (λ (a b : PlainSection). code_of a.name < code_of b.name) s sections (λ k d lt. let one = r.above k d lt in omega (arith, one, is)) r.pairs;
-  above = all_cons (λ (t : PlainSection). low < code_of t.name) s sections (omega (arith, is, less)) (λ k d lt. let one = r.above k d lt in omega (arith, one, less));
-  good = all_cons IsGood s sections good r.good;
+  above = all_more (λ (t : PlainSection). low < code_of t.name) s sections (omega (arith, is, less)) (λ k d lt. let one = r.above k d lt in omega (arith, one, less));
+  good = all_more IsGood s sections good r.good;
   count = omega (arith, r.count, less);
 }
 
-rising-if : (low c : ℕ) (make : List ℕ → PlainSection) (o : Option (List ℕ)) (sections : List PlainSection) → ((bytes : List ℕ) → code_of (make bytes).name ≡ c) → ((bytes : List ℕ) → IsGood (make bytes)) → low < c → Rising c sections
+rising-if : (low c : ℕ) (make : List ℕ → PlainSection) (o : Option (List ℕ)) (sections : List PlainSection) → ((bytes : List ℕ) → code_of (make bytes).name ≡ c)
+    → ((bytes : List ℕ) → IsGood (make bytes)) → low < c → Rising c sections
     → Rising low (if_there make o ++ sections)
 rising-if low c make None sections is good less r = weaker low c sections less r
 rising-if low c make (Some bytes) sections is good less r = rising-cons low c (make bytes) sections (is bytes) (good bytes) less r
@@ -60,7 +48,7 @@ rising-if low c make (Some bytes) sections is good less r = rising-cons low c (m
 plain_good : (name bytes : List ℕ) → NoZero name → IsGood (plain_section name bytes)
 plain_good name bytes n = record { name = n; flags = omega arith; plain = refl }
 
-all_rise : (s : Sections) (sup : List ℕ) → Rising 0 (sections_with s sup)
+all_rise : (s : NewSections) (sup : List ℕ) → Rising 0 (sections_with s sup)
 all_rise s sup =
     let none : Rising 9 [] = record {
       pairs = λ i j d less lt. absurd (omega (arith, lt));
@@ -69,15 +57,19 @@ all_rise s sup =
       count = omega arith;
     } in
     let last = rising-cons 8 9 (plain_section (codes ".debug_sup") sup) [] refl (plain_good (codes ".debug_sup") sup (no_zero_in (codes ".debug_sup") refl)) (omega arith) none in
-    let aranges = rising-if 7 8 (plain_section (codes ".debug_aranges")) s.aranges _ (λ bytes. refl) (λ bytes. plain_good (codes ".debug_aranges") bytes (no_zero_in (codes ".debug_aranges") refl)) (omega arith) last in
-    let loclists = rising-if 6 7 (plain_section (codes ".debug_loclists")) s.loclists _ (λ bytes. refl) (λ bytes. plain_good (codes ".debug_loclists") bytes (no_zero_in (codes ".debug_loclists") refl)) (omega arith) aranges in
-    let line = rising-if 5 6 (plain_section (codes ".debug_line")) s.line _ (λ bytes. refl) (λ bytes. plain_good (codes ".debug_line") bytes (no_zero_in (codes ".debug_line") refl)) (omega arith) loclists in
-    let offsets = rising-if 3 5 (plain_section (codes ".debug_str_offsets")) s.offsets _ (λ bytes. refl) (λ bytes. plain_good (codes ".debug_str_offsets") bytes (no_zero_in (codes ".debug_str_offsets") refl)) (omega arith) line in
+    let aranges = rising-if 7 8 (plain_section (codes ".debug_aranges")) s.aranges _ (λ bytes. refl) (λ bytes. plain_good (codes ".debug_aranges") bytes (no_zero_in (codes ".debug_aranges") refl))
+    (omega arith) last in
+    let loclists = rising-if 6 7 (plain_section (codes ".debug_loclists")) s.loclists _ (λ bytes. refl)
+    (λ bytes. plain_good (codes ".debug_loclists") bytes (no_zero_in (codes ".debug_loclists") refl)) (omega arith) aranges in
+    let line = rising-if 5 6 (plain_section (codes ".debug_line")) s.line _ (λ bytes. refl) (λ bytes. plain_good (codes ".debug_line") bytes (no_zero_in (codes ".debug_line") refl)) (omega arith)
+    loclists in
+    let offsets = rising-if 3 5 (plain_section (codes ".debug_str_offsets")) s.offsets _ (λ bytes. refl)
+    (λ bytes. plain_good (codes ".debug_str_offsets") bytes (no_zero_in (codes ".debug_str_offsets") refl)) (omega arith) line in
     let texts = rising-if 2 3 text_section_of s.strs _ (λ bytes. refl) (λ bytes. record { name = no_zero_in (codes ".debug_str") refl; flags = omega arith; plain = refl }) (omega arith) offsets in
     let abbrevs = rising-cons 1 2 (plain_section (codes ".debug_abbrev") s.abbrev) _ refl (plain_good (codes ".debug_abbrev") s.abbrev (no_zero_in (codes ".debug_abbrev") refl)) (omega arith) texts in
     rising-cons 0 1 (plain_section (codes ".debug_info") s.info) _ refl (plain_good (codes ".debug_info") s.info (no_zero_in (codes ".debug_info") refl)) (omega arith) abbrevs
 
-pub common_known : (s : Sections) (sum : List ℕ) → AreKnown (common_sections s sum)
+pub common_known : (s : NewSections) (sum : List ℕ) → AreKnown (common_sections s sum)
 common_known s sum =
     let r = all_rise s (sup_bytes (record { supplementary = true; name = []; sum = sum })) in
     record {
@@ -87,7 +79,8 @@ common_known s sum =
       uncompressed = λ k d lt. (r.good k d lt).plain;
     }
 
-pub common_fits : (machine flags : ℕ) (s : Sections) (sum : List ℕ) → machine < 2 ^ 16 → flags < 2 ^ 32 → length (plain_file machine flags (common_sections s sum)) < too_large → FitsPlain machine flags (common_sections s sum)
+pub common_fits : (machine flags : ℕ) (s : NewSections) (sum : List ℕ) → machine < 2 ^ 16 → flags < 2 ^ 32 → length (plain_file machine flags (common_sections s sum)) < too_large
+    → FitsPlain machine flags (common_sections s sum)
 common_fits machine flags s sum fits_machine fits_flags small =
     let r = all_rise s (sup_bytes (record { supplementary = true; name = []; sum = sum })) in
     record {

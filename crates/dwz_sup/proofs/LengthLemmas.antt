@@ -5,7 +5,7 @@ use Rattle.std.proofs.lemmas.Grind.{flat_map-append}
 use Rattle.std.proofs.lemmas.List.{map-append}
 use Rattle.std.specs.Prelude.{slice_index}
 use Rattle.sha2.specs.Sha256.{digest_bytes, final_hash, initial_hash_256, sha256}
-use Rattle.dwz_model.specs.declared.sections.Sections.{Sections}
+use Rattle.dwz_model.specs.declared.sections.NewSections.{NewSections}
 use Rattle.dwz_bytes.specs.Spelling.{le_bytes, uleb}
 use Rattle.dwz_bytes.proofs.PaddedLemmas.{uleb_small}
 use Rattle.dwz_docs.specs.ElfLayout.{too_large}
@@ -39,7 +39,7 @@ sup_len sum is =
 -- ---- the file
 
 -- all sections but the last
-abbrev front_of : Sections → List PlainSection
+abbrev front_of : NewSections → List PlainSection
 front_of s =
     plain_section (codes ".debug_info") s.info
     ∷ plain_section (codes ".debug_abbrev") s.abbrev
@@ -49,7 +49,7 @@ front_of s =
     ++ (if_there (plain_section (codes ".debug_loclists")) s.loclists
     ++ if_there (plain_section (codes ".debug_aranges")) s.aranges))))
 
-last_behind : (s : Sections) (sup : List ℕ) → sections_with s sup ≡ front_of s ++ plain_section (codes ".debug_sup") sup ∷ []
+last_behind : (s : NewSections) (sup : List ℕ) → sections_with s sup ≡ front_of s ++ plain_section (codes ".debug_sup") sup ∷ []
 last_behind s sup = simp append_assoc
 
 -- one content for another of its length changes no place
@@ -79,7 +79,7 @@ module _ (front : List PlainSection) (name a b : List ℕ) (same : length a ≡ 
       ≡ plain_headers_at (front ++ plain_section name b ∷ []) + 64 * (length (front ++ plain_section name b ∷ []) + 2)
   same_end = (λ j. next_multiple_of (64 + contents_len j + length (0 ∷ (same_names j ++ (codes ".shstrtab" ++ 0 ∷ [])))) 8 + 64 * (same_length j + 2))
 
-pub length_common : (machine flags : ℕ) (s : Sections) → length (common_file machine flags s) ≡ common_length s
+pub length_common : (machine flags : ℕ) (s : NewSections) → length (common_file machine flags s) ≡ common_length s
 length_common machine flags s =
     let sup = sup_bytes (record { supplementary = true; name = []; sum = common_sum s }) in
     let zeros = replicate {A = ℕ} sup_length 0 in

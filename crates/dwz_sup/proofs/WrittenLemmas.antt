@@ -1,34 +1,12 @@
 -- Parts that are written one behind the other.
-use Rattle.std.proofs.Common.{◌≡◌, ℕ, suc, ◌+◌, ◌-◌, ◌*◌, ◌^◌, ◌<◌, ◌≤◌, Bool, List, Option, Some, None, [], ◌∷◌, ◌++◌, length, drop, get_or, replicate, refl, sym, ap, ◌∙◌, arith, append_assoc, append-nil, length-append, codes, unwrap_or}
-use Rattle.std.proofs.lemmas.List.{drop_all, drop_more}
-use Rattle.dwz_model.specs.declared.sections.Sections.{Sections}
+use Rattle.std.proofs.Common.{◌≡◌, ℕ, ◌+◌, ◌-◌, ◌*◌, ◌^◌, ◌<◌, ◌≤◌, Bool, List, Option, Some, None, [], ◌∷◌, ◌++◌, length, replicate, ap, ◌∙◌, arith, append_assoc, length-append, codes, unwrap_or}
+use Rattle.dwz_model.specs.declared.sections.NewSections.{NewSections}
 use Rattle.dwz_bytes.specs.Spelling.{le_bytes, uleb}
 use Rattle.dwz_docs.specs.ElfLayout.{numbers, too_large}
-use Rattle.dwz_docs.specs.PlainFile.{PlainSection, if_there, names_header_bytes, plain_contents, plain_end, plain_file, plain_front, plain_headers, plain_headers_at, plain_names, plain_names_at, plain_section, section_fields, section_names, sections_with, text_section_of}
+use Rattle.dwz_docs.specs.PlainFile.{PlainSection, if_there, names_header_bytes, plain_contents, plain_end, plain_file, plain_front, plain_headers, plain_headers_at, plain_names, plain_names_at}
+use Rattle.dwz_docs.specs.PlainFile.{plain_section, section_fields, section_names, sections_with, text_section_of}
 use Rattle.dwz_docs.specs.Supplementary.{flag_byte, sup_bytes}
 use Rattle.dwz_docs.proofs.PlainLemmas.{length_plain}
-
--- ---- numbers and zero bytes
-
-pub one_number : (fields : List (ℕ × ℕ)) (i : ℕ) (d : ℕ × ℕ) (old new all : List ℕ) → i < length fields → new ≡ old ++ le_bytes (get_or fields i d).0 (get_or fields i d).1 → old ++ numbers (drop i fields) ≡ all → new ++ numbers (drop (i + 1) fields) ≡ all
-unfolding numbers
-one_number fields i d old new all less is so_far =
-    let parts : numbers (drop i fields) ≡ le_bytes (get_or fields i d).0 (get_or fields i d).1 ++ numbers (drop (i + 1) fields) = rw (drop_more fields i d less) refl in
-    rw (is, append_assoc, ← parts) so_far
-
-pub all_numbers : (fields : List (ℕ × ℕ)) (i : ℕ) (old all : List ℕ) → length fields ≤ i → old ++ numbers (drop i fields) ≡ all → old ≡ all
-unfolding numbers
-all_numbers fields i old all done so_far =
-    let none : drop i fields ≡ [] = drop_all i fields done in
-    sym (append-nil old) ∙ (rw none at so_far)
-
-more_zeros : (k m : ℕ) → k ≡ m + 1 → replicate {A = ℕ} k 0 ≡ 0 ∷ replicate {A = ℕ} m 0
-more_zeros k m is = let e : k ≡ suc m = omega (arith, is) in rw e refl
-
-pub one_zero : (count i : ℕ) (old new all : List ℕ) → i < count → new ≡ old ++ 0 ∷ [] → old ++ replicate (count - i) 0 ≡ all → new ++ replicate (count - (i + 1)) 0 ≡ all
-one_zero count i old new all less is so_far =
-    let left = more_zeros (count - i) (count - (i + 1)) (omega (arith, less)) in
-    rw (is, append_assoc, ← left) so_far
 
 -- ---- the file
 
@@ -100,7 +78,7 @@ texts_within None rest = omega arith
 texts_within (Some texts) rest = omega (arith, length-append texts (plain_contents rest))
 
 -- the parts of the checksum are parts of the file
-pub summed : (s : Sections) (sup : List ℕ) → length (plain_contents (sections_with s sup)) < 2 ^ 32 → length s.info + length (unwrap_or s.strs []) + length s.abbrev < 2 ^ 61
+pub summed : (s : NewSections) (sup : List ℕ) → length (plain_contents (sections_with s sup)) < 2 ^ 32 → length s.info + length (unwrap_or s.strs []) + length s.abbrev < 2 ^ 61
 summed s sup small =
     let rest = if_there (plain_section (codes ".debug_str_offsets")) s.offsets
     ++ (if_there (plain_section (codes ".debug_line")) s.line

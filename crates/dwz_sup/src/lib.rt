@@ -11,6 +11,3 @@ pub use common::common_file;
 pub use laws::common_laws;
 pub use plain::{PlainSection, plain_file};
 pub use sup::{checksum, debug_sup};
-
-#[cfg(test)]
-mod tests;

@@ -1,45 +1,58 @@
--- A shape and its code, in a table that counts its codes up from 1.
-use Rattle.std.proofs.Common.{◌≡◌, ℕ, ◌+◌, List, length, Option, Some, None, sym, ap, subst, ◌∙◌, arith}
-use Rattle.std.specs.Prelude.{IfOk, OnErr, OnOk, Result, Ok, Err}
+-- A shape that is put behind the others: its code, and those of the others, are found under their keys.
+use Rattle.std.proofs.Common.{◌≡◌, ℕ, suc, ◌+◌, Bool, true, false, List, [], ◌∷◌, ◌++◌, length, All, Option, Some, None, refl, sym, ap, ◌∙◌, arith}
+use Rattle.std.specs.BTreeMap.{BTreeMap}
+use Rattle.std.specs.Global.{Vec}
+use Rattle.std.specs.Map.{update}
+use Rattle.std.specs.Str.{bytes_eq}
 use Rattle.std.proofs.lemmas.List.{length-map}
-use Rattle.dwz_docs.specs.Abbrevs.{Declaration, added, added_under, code_in as least_code}
-use Rattle.dwz_writing.specs.Writing.{Shape, code_in, with_shape}
+use Rattle.std.proofs.lemmas.Slice.Eq.{bytes_eq-Decides}
+use Rattle.dwz_docs.specs.Abbrevs.{Declaration, with_code}
+use Rattle.dwz_writing.specs.Writing.{Shape, code_in, same_shape, with_shape}
+use Rattle.dwz_writing.proofs.SameLemmas.{same_shape-true}
 use Rattle.dwz_writing.proofs.WriteCodes.{code_last}
-use Rattle.dwz_tables.specs.Shapes.{IsCoded, shape_in, shapes_in}
-use Rattle.dwz_tables.proofs.CodedLemmas.{code_is, coded_grown, entry_shape, shapes_grown, with_known, with_new}
+use Rattle.dwz_tables.specs.Keys.{AreCodes, HasBits, key_of}
+use Rattle.dwz_tables.specs.Maps.{FindsNone, Puts, look}
+use Rattle.dwz_tables.specs.Shapes.{shape_in, shapes_in}
+use Rattle.dwz_tables.proofs.CodedLemmas.{entry_shape, shapes_grown, with_new}
+use Rattle.dwz_tables.proofs.KeyLemmas.{key_same}
 
-module _ (table : List Declaration) (s : Shape) (is : IsCoded table) (none : least_code (entry_shape s) table ≡ None) where
-  new_code : (new : List Declaration) (code : ℕ) → (new, code) ≡ added (entry_shape s) table → code ≡ length table + 1
-  new_code new code e = ap (λ (p : List Declaration × ℕ). p.1) e ∙ ap (λ (o : Option ℕ). (added_under (entry_shape s) table o).1) none
+pub codes_none : (codes : BTreeMap (Vec ℕ) ℕ) → FindsNone codes → AreCodes codes []
+unfolding code_in
+codes_none codes none = record { found = λ s bits. none (key_of s) }
 
-  none_there : code_in 1 (shapes_in table) s ≡ None
-  none_there = sym (code_is table s is) ∙ none
+abbrev picked : Bool → ℕ → Option ℕ → Option ℕ
+picked test n o = elim test as (λ _. Option ℕ) [ true ↦ Some n | false ↦ o ]
 
-  module _ {E : Type 0} (r : Result ℕ E) (new : List Declaration) (ok : IfOk r (λ code. (new, code) ≡ added (entry_shape s) table)) where
-    pub coded_after : OnErr r (new ≡ table) → IsCoded new
-    coded_after err = go r ok err where
-      go : (q : Result ℕ E) → IfOk q (λ code. (new, code) ≡ added (entry_shape s) table) → OnErr q (new ≡ table) → IsCoded new
-      go (Ok code) e f = coded_grown table s is none new code e
-      go (Err e) f same = subst IsCoded (sym same) is
+-- the code of another shape stays
+code_other : (n : ℕ) (shapes : List Shape) (s t : Shape) → (s ≡ t → ⊥) → code_in n (shapes ++ s ∷ []) t ≡ code_in n shapes t
+unfolding code_in
+code_other n [] s t other = go (same_shape s t) refl where
+  go : (test : Bool) → same_shape s t ≡ test → picked test n None ≡ None
+  go true e = absurd (other (same_shape-true s t e))
+  go false e = refl
+code_other n (u ∷ shapes) s t other = ap (picked (same_shape u t) n) (code_other (suc n) shapes s t other)
 
-    pub code_after : IfOk r (λ code. code_in 1 (shapes_in new) s ≡ Some code)
-    code_after = go r ok where
-      go : (q : Result ℕ E) → IfOk q (λ code. (new, code) ≡ added (entry_shape s) table) → IfOk q (λ code. code_in 1 (shapes_in new) s ≡ Some code)
-      go (Ok code) e =
-          let count : 1 + length (shapes_in table) ≡ code = omega (arith, new_code new code e, length-map table shape_in) in
-          ap (λ (t : List Shape). code_in 1 t s) (shapes_grown table s is none new code e) ∙ code_last 1 (shapes_in table) s none_there ∙ ap (λ (n : ℕ). Some n) count
-      go (Err e) f = tt
+-- it is put behind the others
+module _ (table new : List Declaration) (s : Shape) (code : ℕ) (none : code_in 1 (shapes_in table) s ≡ None) (next : code ≡ length table + 1)
+    (grown : new ≡ table ++ with_code (entry_shape s) code ∷ []) where
+  abbrev behind : shapes_in new ≡ shapes_in table ++ s ∷ []
+  behind = shapes_grown table new s code next grown
 
-    pub shapes_after : OnOk r (shapes_in new ≡ with_shape (shapes_in table) s)
-    shapes_after = go r ok where
-      go : (q : Result ℕ E) → IfOk q (λ code. (new, code) ≡ added (entry_shape s) table) → OnOk q (shapes_in new ≡ with_shape (shapes_in table) s)
-      go (Ok code) e = shapes_grown table s is none new code e ∙ sym (with_new (shapes_in table) s none_there)
-      go (Err e) f = tt
+  pub code_after : code_in 1 (shapes_in new) s ≡ Some code
+  code_after =
+      let count : 1 + length (shapes_in table) ≡ code = omega (arith, next, length-map table shape_in) in
+      ap (λ (t : List Shape). code_in 1 t s) behind ∙ code_last 1 (shapes_in table) s none ∙ ap (λ (n : ℕ). Some n) count
 
--- the shape is known
-module _ (table : List Declaration) (s : Shape) (is : IsCoded table) (code : ℕ) (found : Some code ≡ least_code (entry_shape s) table) where
-  pub code_known : code_in 1 (shapes_in table) s ≡ Some code
-  code_known = sym (code_is table s is) ∙ sym found
+  pub shapes_after : shapes_in new ≡ with_shape (shapes_in table) s
+  shapes_after = behind ∙ sym (with_new (shapes_in table) s none)
 
-  pub shapes_known : shapes_in table ≡ with_shape (shapes_in table) s
-  shapes_known = sym (with_known (shapes_in table) s code code_known)
+  pub codes_after : (old codes : BTreeMap (Vec ℕ) ℕ) → All HasBits s.pairs → AreCodes old (shapes_in table) → Puts old codes (key_of s) (Some code) → AreCodes codes (shapes_in new)
+  codes_after old codes bits are puts = record { found = λ t more. puts (key_of t) ∙ go t more (bytes_eq (key_of s) (key_of t)) refl } where
+    go : (t : Shape) → All HasBits t.pairs → (test : Bool) → bytes_eq (key_of s) (key_of t) ≡ test
+        → update bytes_eq (look old) (key_of s) (Some code) (key_of t) ≡ code_in 1 (shapes_in new) t
+    go t more true e =
+        let same : s ≡ t = key_same s t bits more ((bytes_eq-Decides (key_of s) (key_of t)).0 e) in
+        (rw e refl) ∙ sym code_after ∙ ap (code_in 1 (shapes_in new)) same
+    go t more false e =
+        let other : s ≡ t → ⊥ = λ same. absurd (let is : bytes_eq (key_of s) (key_of t) ≡ true = (bytes_eq-Decides (key_of s) (key_of t)).1 (ap key_of same) in cc) in
+        (rw e refl) ∙ are.found t more ∙ sym (ap (λ (shapes : List Shape). code_in 1 shapes t) behind ∙ code_other 1 (shapes_in table) s t other)

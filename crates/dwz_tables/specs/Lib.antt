@@ -1,2 +1,4 @@
+pub mod Keys
+pub mod Maps
 pub mod Shapes
 pub mod Tables

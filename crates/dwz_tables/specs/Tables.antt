@@ -1,21 +1,17 @@
 -- How tables are held in memory.
-use Rattle.std.specs.Prelude.{◌≡◌, ℕ, ◌+◌, List, [], ◌∷◌, length, map}
+use Rattle.std.specs.Prelude.{◌≡◌, ℕ, List, [], ◌∷◌, drop, length, sum, take}
+use Rattle.std.specs.BTreeMap.{BTreeMap}
 use Rattle.std.specs.Global.{Vec}
-use Rattle.dwz_writing.specs.Writing.{joined}
+use Rattle.dwz_writing.specs.Writing.{joined, table_in}
+use Rattle.dwz_tables.specs.Maps.{look}
 
--- a table, and its offset
-abbrev pub Placed : Type 0
-Placed = Vec ℕ × ℕ
+-- parts with these lengths, one behind the other
+abbrev pub parts : List ℕ → List ℕ → List (List ℕ)
+parts [] section = []
+parts (n ∷ lengths) section = take n section ∷ parts lengths (drop n section)
 
-abbrev pub tables_in : List Placed → List (List ℕ)
-tables_in placed = map (λ p. p.0.items) placed
-
--- each table stands where those before it end, the first at an offset
-abbrev pub FollowEachOther : ℕ → List Placed → Type 0
-FollowEachOther at [] = Unit {0}
-FollowEachOther at (p ∷ placed) = (p.1 ≡ at) × FollowEachOther (at + length p.0.items) placed
-
--- the section has the tables one behind the other
-pub record HasTables (section : List ℕ) (placed : List Placed) : Type 0 where
-  pub joined : section ≡ joined (tables_in placed)
-  pub offsets : FollowEachOther 0 placed
+-- the section is tables with these lengths, and the offset of each is found under it
+pub record HasTables (section lengths : List ℕ) (offsets : BTreeMap (Vec ℕ) ℕ) : Type 0 where
+  pub long : sum lengths ≡ length section
+  pub joined : section ≡ joined (parts lengths section)
+  pub found : (table : List ℕ) → look offsets table ≡ table_in 0 (parts lengths section) table

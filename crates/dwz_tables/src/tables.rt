@@ -1,19 +1,22 @@
 //! The tables of `.debug_abbrev`, each once.
 
-ghost use Rattle.std.specs.Prelude.{◌≡◌, ◌==◌, ◌<◌, ◌^◌, ◌+◌, ◌++◌, ◌∷◌, [], None, IfOk, OnErr, OnOk, length};
+ghost use Rattle.std.specs.Prelude.{◌≡◌, ◌==◌, ◌<◌, ◌^◌, ◌+◌, ◌++◌, ◌∷◌, [], None, IfOk, OnErr, OnOk, Some, length};
 ghost use Rattle.dwz_writing.specs.Writing.{joined, or_zero, table_in, with_table};
+ghost use Rattle.dwz_tables.specs.Maps.{FindsSame, Puts};
 
 use dwz_model::NoMemory;
-use indexmap::IndexMap;
 use std::alloc::Global;
+use std::collections::BTreeMap;
 use std::marker::Model;
 
 /// Tables, one behind the other. Clauses see them in that order.
 #[derive(Drop)]
 pub struct Tables {
     section: Vec<u8>,
+    // The length of each table, in their order.
+    lengths: Vec<usize>,
     // Each table with its offset in the section.
-    offsets: IndexMap<Vec<u8>, u64>,
+    offsets: BTreeMap<Vec<u8>, u64>,
 }
 
 impl Model for Tables {
@@ -21,11 +24,32 @@ impl Model for Tables {
 
     ghost Value = { List (List ℕ) };
 
-    ghost use Rattle.dwz_tables.specs.Tables.{HasTables, tables_in};
+    ghost use Rattle.dwz_tables.specs.Tables.{HasTables, parts};
 
-    ghost view = { λ t. tables_in t.offsets.entries };
+    ghost view = { λ t. parts t.lengths.items t.section.items };
 
-    ghost invariant = { λ t. HasTables t.section.items t.offsets.entries };
+    ghost invariant = { λ t. HasTables t.section.items t.lengths.items t.offsets };
+}
+
+// Appends a table to a section, and keeps its offset. After an error nothing has changed.
+fn put(
+    section: &mut Vec<u8>,
+    offsets: &mut BTreeMap<Vec<u8>, u64>,
+    table: Vec<u8>,
+) -> Result<u64, NoMemory>
+    ensures offset { IfOk result (λ offset. offset ≡ length section.old.items) }
+    ensures section { OnOk result (section.new.items ≡ section.old.items ++ table.items) }
+    ensures offsets { IfOk result (λ offset. Puts offsets.old offsets.new table.items (Some offset)) }
+    ensures err { OnErr result (section.new.items ≡ section.old.items) }
+    ensures same { OnErr result (FindsSame offsets.old offsets.new) }
+{
+    let before = section.len();
+    section.extend_from_slice(&table)?;
+    if let Err(failed) = offsets.insert(table, before as u64) {
+        section.truncate(before);
+        return Err(failed.into());
+    }
+    Ok(before as u64)
 }
 
 impl Tables {
@@ -35,7 +59,8 @@ impl Tables {
     {
         Tables {
             section: Vec::new(alloc),
-            offsets: IndexMap::new(alloc),
+            lengths: Vec::new(alloc),
+            offsets: BTreeMap::new(alloc),
         }
     }
 
@@ -68,13 +93,14 @@ impl Tables {
         ensures ok { OnOk result (self.new ≡ self.old ++ table.items ∷ []) }
         ensures err { OnErr result (self.new ≡ self.old) }
     {
-        let before = self.section.len();
-        self.section.extend_from_slice(&table)?;
-        if let Err(failed) = self.offsets.insert(table, before as u64) {
-            self.section.truncate(before);
-            return Err(failed.into());
+        self.lengths.push(table.len())?;
+        match put(&mut self.section, &mut self.offsets, table) {
+            Ok(offset) => Ok(offset),
+            Err(failed) => {
+                self.lengths.pop();
+                Err(failed)
+            }
         }
-        Ok(before as u64)
     }
 
     /// The offset of a table, which is appended if it isn't among them. After an error nothing has changed.

@@ -1,5 +1,5 @@
-//! Files with texts, line tables, type units and namespaces of which something moves, and what is written of them. The bytes were worked out
-//! by a model that was written independently.
+//! Files with texts, line tables, type units and namespaces of which something moves, and what is written of them. The bytes were worked
+//! out by a model that was written independently.
 
 use crate::case::{After, Case};
 use crate::elf::Section;

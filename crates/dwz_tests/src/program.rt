@@ -1,5 +1,5 @@
-//! A program of two units as a compiler writes it: line tables, texts by their offsets, location lists with views, address ranges. The bytes
-//! of what is written were worked out by a model that was written independently.
+//! A program of two units as a compiler writes it: line tables, texts by their offsets, location lists with views, address ranges. The
+//! bytes of what is written were worked out by a model that was written independently.
 
 use crate::case::{After, Case};
 use crate::elf::Section;

@@ -1,6 +1,6 @@
-//! Three programs as a compiler writes them, whose units share headers: line tables in which these have other numbers, texts by their offsets,
-//! location lists, address ranges. And what is written of them with a common file (DWARF 5, 7.3.6), as a model worked it out that was written
-//! independently.
+//! Three programs as a compiler writes them, whose units share headers: line tables in which these have other numbers, texts by their
+//! offsets, location lists, address ranges. And what is written of them with a common file (DWARF 5, 7.3.6), as a model worked it out that
+//! was written independently.
 
 use crate::elf::Section;
 

@@ -6,11 +6,12 @@ use Rattle.std.proofs.lemmas.List.Concat.{flat_map-cons}
 use Rattle.std.proofs.lemmas.List.Sums.{length-filter}
 use Rattle.dwz_docs.specs.Entries.{RawAttr}
 use Rattle.dwz_docs.specs.Units.{RawUnit}
+use Rattle.dwz_docs.proofs.ListFacts.{get_first}
 use Rattle.dwz_meanings.specs.Meanings.{Around}
 use Rattle.dwz_unit.specs.Rows.{EntryRow}
 use Rattle.dwz_graph.specs.declared.file.File.{File}
 use Rattle.dwz_index.specs.Index.{Index}
-use Rattle.dwz_index.proofs.TopLemmas.{get_first, get_later}
+use Rattle.dwz_index.proofs.TopLemmas.{get_later}
 use Rattle.dwz_known.specs.declared.firsts.Before.{Before}
 use Rattle.dwz_known.specs.Befores.{befores_from, behind, is_pair_placed, text_count}
 use Rattle.dwz_places.specs.declared.known.FileRows.{FileRows}

@@ -2,9 +2,11 @@
 use Rattle.std.proofs.Common.{◌≡◌, ℕ, ◌+◌, List, map, Option, Some, None, slice_get, refl, sym, ap, subst, ◌∙◌, arith}
 use Rattle.std.specs.Option.{option_and_then, option_map_or}
 use Rattle.std.specs.Prelude.{slice_index, slice_index_or}
+use Rattle.std.proofs.lemmas.Option.{get_or_from_slice_get}
 use Rattle.dwz_bytes.specs.Spelling.{reach}
 use Rattle.dwz_docs.specs.Entries.{RawAttr}
 use Rattle.dwz_docs.specs.Units.{RawUnit}
+use Rattle.dwz_docs.proofs.ListFacts.{got_below, got_map, got_there, same_got}
 use Rattle.dwz_meanings.specs.Documents.{Attr, DwUnit, Node, Text, node_map, only}
 use Rattle.dwz_meanings.specs.Files.{around_of, sources_of}
 use Rattle.dwz_meanings.specs.Meanings.{Around, alone, class_of, scope_of}
@@ -15,7 +17,6 @@ use Rattle.dwz_flat.proofs.TreeLemmas.{node_attrs}
 use Rattle.dwz_unit.specs.Rows.{EntryRow, rows_of, units_of as raw_units}
 use Rattle.dwz_graph.specs.declared.file.File.{File}
 use Rattle.dwz_index.specs.Index.{Index}
-use Rattle.dwz_across.proofs.ListGets.{get_there, got_below, got_index, got_map, same_got}
 use Rattle.dwz_writing.specs.Bases.{Bases}
 use Rattle.dwz_writing.specs.Placing.{Fit}
 use Rattle.dwz_back.specs.Files.{name_after}
@@ -82,11 +83,11 @@ module _ (f : Facts) (t : TextsAt) (k : Known) (facts : AreFacts f) (listed : Ar
         let count = b.count in
         let first : (firsts_at k (file_read f n bytes x) i).text ≡ b.from =
         ap (λ (o : Option FileRows). (option_map_or (λ (g : FileRows). slice_index_or g.firsts.items i no_firsts) o no_firsts).text) at.row_is
-        ∙ ap (λ (w : Firsts). w.text) (got_index at.row.firsts.items i (firsts_from (slice_index x.resolved.starts.items i) b.b) no_firsts (at.listed.firsts i b.b b.is))
+        ∙ ap (λ (w : Firsts). w.text) (get_or_from_slice_get at.row.firsts.items i (firsts_from (slice_index x.resolved.starts.items i) b.b) no_firsts (at.listed.firsts i b.b b.is))
         ∙ (let e : b.b.texts ≡ b.from = omega arith in e) in
         let there : (j : ℕ) (w : TextAt) → slice_get (row_texts around raw r) j ≡ Some w → text_at k n (b.from + j) ≡ w = λ j w h. (
         ap (λ (o : Option FileRows). option_map_or (λ (g : FileRows). slice_index_or g.texts.items (b.from + j) no_text) o no_text) at.row_is
-        ∙ got_index at.row.texts.items (b.from + j) w no_text (ap (λ (l : List TextAt). slice_get l (b.from + j)) (at.listed.texts_are ∙ texts_are) ∙ b.stand j w h)) in
+        ∙ get_or_from_slice_get at.row.texts.items (b.from + j) w no_text (ap (λ (l : List TextAt). slice_get l (b.from + j)) (at.listed.texts_are ∙ texts_are) ∙ b.stand j w h)) in
         let s = scope_of around read.unit in
         subst (λ (m : ℕ). EachFrom (λ j a. IsText ft None a (text_at k n j)) m (texts_in (node_map (name_after (run f) n) d).attrs)) (sym first)
         (attrs_are around.sources.offsets base ft refl offsets_are u.kind refl slots k n (name_after (run f) n) s r.entry.attrs d.attrs b.from (node_attrs s r.entry d read.means).0 there)
@@ -98,9 +99,9 @@ module _ (f : Facts) (t : TextsAt) (k : Known) (facts : AreFacts f) (listed : Ar
         let own = stand.spaces.each space n i has.read.limits bytes raw has.read.read.doc r entry has.read.there read.found in
         let low = got_below (space_entries 0 f.indexes) space (entry_row n i) entry in
         let many = listed.many_commons in
-        let common = get_there t.commons space (omega (arith, low, many)) in
+        let common = got_there t.commons space (omega (arith, low, many)) in
         let at : space_at k space ≡ record { row = entry_row n i; text = row_name around raw r; common = common.0 } =
-        got_index k.spaces.items space (record { row = entry_row n i; text = row_name around raw r; common = common.0 }) no_space
+        get_or_from_slice_get k.spaces.items space (record { row = entry_row n i; text = row_name around raw r; common = common.0 }) no_space
         (ap (λ (l : List SpaceRow). slice_get l space) listed.spaces
         ∙ space_row (space_entries 0 f.indexes) t.spaces t.commons space (entry_row n i) (row_name around raw r) common.0 entry own common.1) in
         let a : Attr Spot = record { name = 0x03; form = name.b.form; raw = name.b.raw; value = only (Text text) } in

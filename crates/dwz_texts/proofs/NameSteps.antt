@@ -4,17 +4,19 @@ use Rattle.std.specs.Option.{option_map}
 use Rattle.std.proofs.lemmas.List.{append-nil, append_assoc, length-append, length-map, take_all}
 use Rattle.std.proofs.lemmas.Option.{slice_get-map}
 use Rattle.dwz_docs.specs.Units.{RawUnit}
+use Rattle.dwz_docs.proofs.ListFacts.{get_first}
 use Rattle.dwz_meanings.specs.Documents.{Doc}
 use Rattle.dwz_meanings.specs.Files.{Limits, around_of, file_meaning, limits_after, no_files_before}
 use Rattle.dwz_meanings.specs.Meanings.{alone}
 use Rattle.dwz_unit.specs.Rows.{EntryRow, rows_of, units_of as raw_units}
 use Rattle.dwz_resolve.specs.Resolved.{around}
+use Rattle.dwz_resolve.proofs.RowLemmas.{found_in_map}
 use Rattle.dwz_graph.specs.declared.file.File.{File}
 use Rattle.dwz_graph.specs.Files.{AreKept, AreRead, HasFile, IsRead}
 use Rattle.dwz_graph.proofs.GraphLemmas.{same_raw}
 use Rattle.dwz_index.specs.declared.index.SpaceEntry.{SpaceEntry}
 use Rattle.dwz_index.specs.Index.{Index}
-use Rattle.dwz_index.proofs.TopLemmas.{get_cases, get_first, get_later}
+use Rattle.dwz_index.proofs.TopLemmas.{get_cases, get_later}
 use Rattle.dwz_places.specs.declared.known.Row.{Row}
 use Rattle.dwz_places.specs.declared.known.TextAt.{TextAt}
 use Rattle.dwz_laid.specs.Listed.{entry_row, space_entries}
@@ -60,17 +62,12 @@ no_entries : (file : ℕ) → space_entries file [] ≡ []
 unfolding space_entries
 no_entries file = refl
 
-got_from_map : {X Y : Type 0} (g : X → Y) (xs : List X) (k : ℕ) (y : Y) → slice_get (map g xs) k ≡ Some y → (x : X) × (slice_get xs k ≡ Some x) × (g x ≡ y)
-got_from_map g [] k y e = absurd cc
-got_from_map g (x ∷ xs) zero y e = (x, refl, (let is : g x ≡ y = cc in is))
-got_from_map g (x ∷ xs) (suc k) y e = got_from_map g xs k y e
-
 -- files are counted upward
 high : (file : ℕ) (indexes : List Index) (k : ℕ) (r : Row) → slice_get (space_entries file indexes) k ≡ Some r → file ≤ r.file
 high file [] k r e = absurd (let none : slice_get [] k ≡ Some r = ap (λ (w : List Row). slice_get w k) (sym (no_entries file)) ∙ e in cc)
 high file (x ∷ indexes) k r e =
     elim (get_cases (map (of_space file) x.spaces) (space_entries (suc file) indexes) k r (ap (λ (w : List Row). slice_get w k) (sym (first_entries file x indexes)) ∙ e)) [
-      | inl a ↦ (let m = got_from_map (of_space file) x.spaces k r a in let same = ap (λ (w : Row). w.file) m.2 in omega arith)
+      | inl a ↦ (let m = found_in_map (of_space file) x.spaces k r a in let same = ap (λ (w : Row). w.file) m.2 in omega arith)
       | inr b ↦ (let rest = high (suc file) indexes b.0 r b.2 in omega arith)
     ]
 
@@ -123,7 +120,7 @@ module _ (entry : ℕ) (bytes : List ℕ) (raw : List RawUnit) (r : EntryRow) (f
       let read : IsRead l n bytes f = subst (λ (w : List ℕ). IsRead l n w f) same.0 h.0 in
       elim (get_cases (map (of_space n) x.spaces) (space_entries (suc n) indexes) space (entry_row file entry) (ap (λ (w : List Row). slice_get w space) (sym (first_entries n x indexes)) ∙ e)) [
         | inl a ↦
-            let g = got_from_map (of_space n) x.spaces space (entry_row file entry) a in
+            let g = found_in_map (of_space n) x.spaces space (entry_row file entry) a in
             get_first (file_names f x) (all_names files indexes) space (row_name (around_of bytes raw) raw r)
             (own_name n l f read same.1 x space g.0 g.1 (ap (λ (w : Row). w.entry) g.2))
         | inr c ↦ absurd (let up = high (suc n) indexes c.0 (entry_row file entry) c.2 in omega arith)
@@ -132,7 +129,7 @@ module _ (entry : ℕ) (bytes : List ℕ) (raw : List RawUnit) (r : EntryRow) (f
       let units = raw_units f.units in
       let rest = rest_has l contents k m units h.0.doc doc b h.0.means has in
       elim (get_cases (map (of_space n) x.spaces) (space_entries (suc n) indexes) space (entry_row file entry) (ap (λ (w : List Row). slice_get w space) (sym (first_entries n x indexes)) ∙ e)) [
-        | inl a ↦ absurd (let g = got_from_map (of_space n) x.spaces space (entry_row file entry) a in let same = ap (λ (w : Row). w.file) g.2 in omega arith)
+        | inl a ↦ absurd (let g = found_in_map (of_space n) x.spaces space (entry_row file entry) a in let same = ap (λ (w : Row). w.file) g.2 in omega arith)
         | inr c ↦
             let found_there = each_name (limits_after l b units) contents files left (suc n) h.1 indexes (omega arith) k file c.0 m doc (omega arith) rest c.2 in
             let a = length-map x.spaces (of_space n) in

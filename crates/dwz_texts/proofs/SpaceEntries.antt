@@ -3,13 +3,12 @@ use Rattle.std.proofs.Common.{◌≡◌, ℕ, suc, ◌+◌, ◌<◌, Bool, true,
 use Rattle.std.specs.Prelude.{All}
 use Rattle.std.proofs.lemmas.List.{length-append}
 use Rattle.std.proofs.lemmas.Option.{slice_get-get_or}
-use Rattle.dwz_docs.specs.Lists.{In}
+use Rattle.dwz_docs.specs.Lists.{Each, In}
 use Rattle.dwz_docs.specs.Trees.{End, Entry, size}
 use Rattle.dwz_docs.specs.Units.{entries_in}
+use Rattle.dwz_docs.proofs.ListFacts.{got_in, in_cases}
 use Rattle.dwz_meanings.specs.Documents.{DwUnit, Entries}
-use Rattle.dwz_seen.specs.Lists.{Each}
 use Rattle.dwz_seen.specs.Seen.{IsPartial}
-use Rattle.dwz_seen.proofs.Members.{in_cases}
 use Rattle.dwz_alike.specs.Spots.{top_count}
 use Rattle.dwz_unit.specs.Rows.{units_of as raw_units}
 use Rattle.dwz_graph.specs.declared.file.File.{File}
@@ -23,7 +22,6 @@ use Rattle.dwz_index.proofs.NameLemmas.{read_whole}
 use Rattle.dwz_index.proofs.ShowLemmas.{unit_many, unit_names}
 use Rattle.dwz_across.specs.Across.{IsFileAmong}
 use Rattle.dwz_across.proofs.FileEntries.{all_entries}
-use Rattle.dwz_across.proofs.ListGets.{got_in}
 
 -- of a list whose first entry has that number
 among_within : (outer k first : ℕ) (f : Entries ℕ) (s : SpaceEntry) → In s (spaces_among is_space outer k first f) → s.entry < first + size f

@@ -10,6 +10,3 @@ pub use files::texts_of_files;
 pub use laws::text_laws;
 pub use names::texts_of_spaces;
 pub use texts::texts_of;
-
-#[cfg(test)]
-mod tests;

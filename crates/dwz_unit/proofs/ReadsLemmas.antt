@@ -1,28 +1,26 @@
 -- The values of an entry, read one after the other.
-use Rattle.std.proofs.Common.{◌≡◌, ℕ, suc, ◌+◌, ◌<◌, List, [], ◌∷◌, drop, get_or, length, Some, slice_get, Result, Ok, Err, sym, ap, subst, ◌∙◌, arith, refl, zero}
+use Rattle.std.proofs.Common.{◌≡◌, ℕ, suc, ◌+◌, ◌<◌, List, [], ◌∷◌, drop, get_or, length, Some, slice_get, Ok, sym, ap, subst, ◌∙◌, arith, refl, zero}
 use Rattle.dwz_bytes.specs.Input.{Input}
 use Rattle.dwz_bytes.specs.Reading.{◌>>=◌}
 use Rattle.dwz_codes.specs.Forms.{form_rows}
 use Rattle.dwz_docs.specs.Entries.{RawAttr, attrs_at, in_entry, with_value}
 use Rattle.dwz_docs.specs.Values.{Raw, value_at}
-use Rattle.dwz_docs.proofs.PartLemmas.{bind_ok, same_input, same_value}
-use Rattle.dwz_model.specs.declared.fault.Fault.{Fault}
+use Rattle.dwz_docs.proofs.PartLemmas.{bind_ok, same_value}
+use Rattle.dwz_docs.proofs.ListFacts.{drop_pairs}
 use Rattle.dwz_model.specs.declared.place.Pair.{Pair}
 use Rattle.dwz_unit.specs.Rows.{EntryRow, Source, rows_of, units_of}
 use Rattle.dwz_unit.specs.Values.{Reads}
 use Rattle.dwz_unit.proofs.FrontLemmas.{attrs_count}
+use Rattle.dwz_unit.proofs.AttrLemmas.{in_entry_ok}
 
 -- of the row that is found
-pub reads_row : (source : Source) (i at : ℕ) (pairs : List Pair) (mid j : Input) (row other : EntryRow) → slice_get (rows_of (units_of source)) i ≡ Some row → slice_get (rows_of (units_of source)) i ≡ Some other → at ≡ row.entry.at
+pub reads_row : (source : Source) (i at : ℕ) (pairs : List Pair) (mid j : Input) (row other : EntryRow) → slice_get (rows_of (units_of source)) i ≡ Some row
+    → slice_get (rows_of (units_of source)) i ≡ Some other → at ≡ row.entry.at
     → attrs_at form_rows at pairs mid ≡ Ok (row.entry.attrs, j) → Reads other.entry.at pairs mid other.entry.attrs
 reads_row source i at pairs mid j row other is found same read =
     let both : Some row ≡ Some other = sym is ∙ found in
     let one : row ≡ other = cc in
     subst (λ (r : EntryRow). Reads r.entry.at pairs mid r.entry.attrs) one (record { behind = j; read = ap (λ (n : ℕ). attrs_at form_rows n pairs mid) (sym same) ∙ read })
-
-in_entry_ok : {X : Type 0} (entry : ℕ) (r : Result X Fault) (x : X) → in_entry entry r ≡ Ok x → r ≡ Ok x
-in_entry_ok {X} entry (Ok y) x e = let same : y ≡ x = cc in ap (λ (w : X). Ok w) same
-in_entry_ok entry (Err d) x e = absurd cc
 
 -- the next value, and those behind it
 pub record Next (entry : ℕ) (pairs : List Pair) (k : ℕ) (pair : Pair) (at : Input) (attrs : List RawAttr) : Type 0 where
@@ -31,13 +29,6 @@ pub record Next (entry : ℕ) (pairs : List Pair) (k : ℕ) (pair : Pair) (at : 
   pub value : value_at form_rows pair at ≡ Ok (raw, place)
   pub is : slice_get attrs k ≡ Some (record { at = at.at; end = place.at; pair = pair; raw = raw })
   pub rest : Reads entry (drop (k + 1) pairs) place (drop (k + 1) attrs)
-
-drop_pairs : {X : Type 0} (xs : List X) (k : ℕ) (d : X) → k < length xs → drop k xs ≡ get_or xs k d ∷ drop (k + 1) xs
-drop_pairs [] k d lt = absurd (omega arith)
-drop_pairs (x ∷ xs) zero d lt = refl
-drop_pairs (x ∷ xs) (suc k) d lt =
-    let one : suc (k + 1) ≡ suc k + 1 = omega arith in
-    drop_pairs xs k d (omega arith) ∙ ap (λ (n : ℕ). get_or xs k d ∷ drop n (x ∷ xs)) one
 
 first_left : (attrs : List RawAttr) (k : ℕ) (a : RawAttr) (rest : List RawAttr) → a ∷ rest ≡ drop k attrs → (slice_get attrs k ≡ Some a) × (rest ≡ drop (k + 1) attrs)
 first_left [] zero a rest e = absurd cc
@@ -49,7 +40,8 @@ first_left (x ∷ attrs) (suc k) a rest e =
     let two : suc (k + 1) ≡ suc k + 1 = omega arith in
     (r.0, r.1 ∙ ap (λ (n : ℕ). drop n (x ∷ attrs)) two)
 
-pub reads_next : (entry : ℕ) (pairs : List Pair) (k : ℕ) (d : Pair) (at : Input) (attrs : List RawAttr) → k < length pairs → Reads entry (drop k pairs) at (drop k attrs) → Next entry pairs k (get_or pairs k d) at attrs
+pub reads_next : (entry : ℕ) (pairs : List Pair) (k : ℕ) (d : Pair) (at : Input) (attrs : List RawAttr) → k < length pairs → Reads entry (drop k pairs) at (drop k attrs)
+    → Next entry pairs k (get_or pairs k d) at attrs
 unfolding attrs_at
 reads_next entry pairs k d at attrs lt reads =
     let pair = get_or pairs k d in

@@ -76,7 +76,8 @@ pub(crate) fn pass_front(
     depth: u32,
     cursor: &mut Cursor,
 ) -> Result<Option<Front>, Fault>
-    ensures { Leaves (λ x. x) cursor.new result (front_passed (context_view context.now) (record { before = before; depth = depth }) cursor.old) }
+    ensures { Leaves (λ x. x) cursor.new result (front_passed (context_view context.now) (record { before = before; depth = depth })
+        cursor.old) }
 {
     let at = cursor.at();
     let code = read_code(context, cursor)?;

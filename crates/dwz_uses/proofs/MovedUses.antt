@@ -10,11 +10,12 @@ use Rattle.dwz_docs.specs.Entries.{RawAttr, RawEntry}
 use Rattle.dwz_docs.specs.Lists.{In}
 use Rattle.dwz_docs.specs.Pruning.{new_number}
 use Rattle.dwz_docs.proofs.PartLemmas.{bind_ok}
+use Rattle.dwz_docs.proofs.ListFacts.{in_left, in_right}
 use Rattle.dwz_meanings.specs.Documents.{Attr, Node, Value, attr_map, node_map}
-use Rattle.dwz_meanings.specs.Meanings.{Class, OfConstant, OfExpression, OfInfoEntry, OfTextBySlot, OfTextInLineStr, OfTextInStr, OfUnitEntry, Scope, Unread, as_class, attr_with, attrs_meaning, class_of, meaning, names_file, node_with, scope_of, with_attr, without_siblings}
+use Rattle.dwz_meanings.specs.Meanings.{Class, OfConstant, OfExpression, OfInfoEntry, OfTextBySlot, OfTextInLineStr, OfTextInStr, OfUnitEntry, Scope, Unread, as_class, attr_with, attrs_meaning}
+use Rattle.dwz_meanings.specs.Meanings.{class_of, meaning, names_file, node_with, scope_of, with_attr, without_siblings}
 use Rattle.dwz_alike.specs.Spots.{Spot}
 use Rattle.dwz_flat.proofs.StepLemmas.{skipped, taken}
-use Rattle.dwz_seen.proofs.Members.{in_left, in_right}
 use Rattle.dwz_strs.specs.Pruned.{IsPruned, Pruning, moved_in}
 use Rattle.dwz_unit.specs.Rows.{EntryRow}
 use Rattle.dwz_sections.specs.Slots.{moved_or_same}

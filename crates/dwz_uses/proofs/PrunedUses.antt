@@ -1,5 +1,5 @@
 -- All uses name texts, so slots that are among them have the numbers that are asked for.
-use Rattle.std.proofs.Common.{◌≡◌, ℕ, suc, true, false, cond, List, [], ◌∷◌, ◌++◌, map, Option, Some, None, All, Contains, IsSome, is_some, refl, sym, ap, subst, ◌∙◌, inl, inr, arith}
+use Rattle.std.proofs.Common.{◌≡◌, ℕ, true, false, cond, List, [], ◌∷◌, ◌++◌, map, Option, Some, None, All, Contains, IsSome, is_some, refl, sym, ap, subst, ◌∙◌, inl, inr}
 use Rattle.std.specs.Prelude.{SomeIff}
 use Rattle.std.specs.Option.{unwrap_or}
 use Rattle.std.proofs.lemmas.List.{append-nil}
@@ -9,10 +9,12 @@ use Rattle.dwz_docs.specs.Lists.{In}
 use Rattle.dwz_docs.specs.OffsetTables.{slots_in}
 use Rattle.dwz_docs.specs.Pruning.{new_number}
 use Rattle.dwz_docs.specs.Texts.{text_at}
+use Rattle.dwz_docs.proofs.ListFacts.{in_map, in_right}
 use Rattle.dwz_meanings.specs.Patching.{written_at}
-use Rattle.dwz_seen.proofs.Members.{in_filter, in_map, in_right}
+use Rattle.dwz_seen.proofs.Members.{in_filter}
 use Rattle.dwz_strs.specs.Pruned.{IsPruned, Pruning, moved_in}
 use Rattle.dwz_writing.specs.Pruned.{known_slots, number_in_slot, slot_after, slot_uses, slots_or_none}
+use Rattle.dwz_writing.proofs.PrunedUnits.{in_contains}
 use Rattle.dwz_sections.specs.Slots.{moved_or_same}
 use Rattle.dwz_out.specs.Contents.{with_slots}
 use Rattle.dwz_uses.specs.declared.pruning.PrunedFile.{PrunedFile}
@@ -24,11 +26,6 @@ Name strs used = IsSome (text_at strs used)
 slots_name : (strs offsets places : List ℕ) → All (Name strs) (slot_uses strs offsets places)
 unfolding slot_uses
 slots_name strs offsets places = filter_passes (λ n. is_some (text_at strs n)) (map (number_in_slot offsets) places)
-
-in_contains : (n : ℕ) (ns : List ℕ) → In n ns → Contains ns n
-in_contains n [] there = absurd there
-in_contains n (m ∷ ns) (inl e) = (0, omega arith, e)
-in_contains n (m ∷ ns) (inr r) = (let c = in_contains n ns r in (suc c.0, omega (arith, c.1), c.2))
 
 places_are : (offsets places : List ℕ) → slots_in offsets ≡ Some places → places ≡ known_slots offsets
 places_are offsets places e = sym (ap slots_or_none e)

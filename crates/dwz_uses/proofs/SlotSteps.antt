@@ -4,10 +4,9 @@ use Rattle.std.proofs.lemmas.List.{drop_all}
 use Rattle.std.proofs.lemmas.Option.{slice_get-get_or}
 use Rattle.dwz_bytes.specs.Spelling.{le_bytes, le_value}
 use Rattle.dwz_docs.specs.Texts.{text_at}
+use Rattle.dwz_docs.proofs.ListFacts.{drop_here, whole_rest}
 use Rattle.dwz_meanings.specs.Patching.{written_at}
 use Rattle.dwz_meanings.proofs.WriteOver.{written_len}
-use Rattle.dwz_resolve.proofs.RowLemmas.{drop_here}
-use Rattle.dwz_strs.proofs.FirstLemmas.{whole_rest}
 use Rattle.dwz_writing.specs.Pruned.{number_in_slot, slot_uses}
 use Rattle.dwz_out.specs.Contents.{with_slots}
 

@@ -2,7 +2,7 @@
 use Rattle.std.proofs.Common.{◌≡◌, ℕ, zero, suc, ◌+◌, List, [], ◌∷◌, sym, subst, inl, inr, arith}
 use Rattle.std.specs.List.{flat_map}
 use Rattle.dwz_docs.specs.Lists.{In}
-use Rattle.dwz_seen.proofs.Members.{in_left, in_right}
+use Rattle.dwz_docs.proofs.ListFacts.{in_left, in_right}
 use Rattle.dwz_places.specs.declared.order.UnitItems.{UnitItems}
 use Rattle.dwz_places.specs.declared.walk.Slot.{Slot}
 use Rattle.dwz_places.specs.Attributes.{here_of}

@@ -1,11 +1,12 @@
 -- Texts that are used, one value, entry and unit after the other: those that are found and those that are left are all of them.
-use Rattle.std.proofs.Common.{◌≡◌, ℕ, suc, ◌+◌, ◌<◌, ◌≤◌, List, [], ◌∷◌, ◌++◌, cond, drop, eqb, get_or, length, Bool, true, false, Option, Some, None, Result, slice_get, refl, sym, ap, subst, ◌∙◌, append_assoc, append-nil, arith}
+use Rattle.std.proofs.Common.{◌≡◌, ℕ, suc, ◌+◌, ◌<◌, ◌≤◌, List, [], ◌∷◌, ◌++◌, cond, drop, eqb, get_or, length, Bool, true, false, Option, Some, None, Result, slice_get, refl, sym, ap, subst, ◌∙◌}
+use Rattle.std.proofs.Common.{append_assoc, append-nil, arith}
 use Rattle.std.specs.Prelude.{OnOk}
 use Rattle.std.specs.List.{flat_map}
 use Rattle.std.proofs.lemmas.List.{drop_all}
 use Rattle.std.proofs.lemmas.Option.{slice_get-get_or}
 use Rattle.dwz_model.specs.declared.place.Pair.{Pair}
-use Rattle.dwz_resolve.proofs.RowLemmas.{drop_here}
+use Rattle.dwz_docs.proofs.ListFacts.{drop_here}
 use Rattle.dwz_writing.specs.Placing.{Holder}
 use Rattle.dwz_places.specs.declared.known.Known.{Known}
 use Rattle.dwz_places.specs.declared.known.TextAt.{TextAt}

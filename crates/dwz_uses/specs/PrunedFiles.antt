@@ -13,4 +13,5 @@ file_uses strs offsets of_values = of_values ++ slot_uses strs offsets (known_sl
 pub record IsPrunedFile (strs offsets of_values : List ℕ) (p : PrunedFile) : Type 0 where
   pub texts : IsPruned strs (file_uses strs offsets of_values) p.strs
   pub slots : p.offsets.items
-      ≡ with_slots (λ place. slot_after strs (file_uses strs offsets of_values) (number_in_slot offsets place)) (known_slots offsets) offsets
+      ≡ with_slots (λ place. slot_after strs (file_uses strs offsets of_values) (number_in_slot offsets place)) (known_slots offsets)
+      offsets

@@ -95,7 +95,8 @@ fn new_slots(
     pruned: &Pruned,
 ) -> Result<Vec<u8>, NoMemory>
     requires { slots_in offsets.now ≡ Some places.now }
-    ensures { IfOk result (λ out. out.items ≡ with_slots (λ place. moved_or_same pruned.now (number_in_slot offsets.now place)) places.now offsets.now) }
+    ensures { IfOk result (λ out. out.items ≡ with_slots (λ place. moved_or_same pruned.now (number_in_slot offsets.now place)) places.now
+        offsets.now) }
 {
     let mut out = offsets.to_vec(alloc)?;
     for place in places {

@@ -44,7 +44,8 @@ fn put_value(
     next: &mut u64,
     pair: &Pair,
 ) -> Result<(), NoMemory>
-    ensures uses { OnOk result (uses.new.items ≡ uses.old.items ++ way_uses known.now file next.old (Ways.way_of (holder_view holder) pair.now)) }
+    ensures uses { OnOk result (uses.new.items ≡ uses.old.items
+        ++ way_uses known.now file next.old (Ways.way_of (holder_view holder) pair.now)) }
     ensures next { OnOk result (next.new ≡ text_behind next.old (Ways.way_of (holder_view holder) pair.now)) }
 {
     match way_of(holder, pair) {

@@ -25,7 +25,8 @@ pub(crate) fn walk<R: Threads + Sync>(
 ) -> Result<Counts, GraphErr>
     requires some { 0 < length files.now }
     requires few { length files.now < 2 ^ 32 }
-    ensures reads { FilesAnswer (λ c. docs_of (map (λ v. v.items) files.now)) result (files_meaning no_files_before 0 (map (λ v. v.items) files.now)) }
+    ensures reads { FilesAnswer (λ c. docs_of (map (λ v. v.items) files.now)) result
+        (files_meaning no_files_before 0 (map (λ v. v.items) files.now)) }
     ensures counts { IfOk result (λ c. (bytes : List ℕ) → slice_get (map (λ v. v.items) files.now) 0 ≡ Some bytes → AreCounted bytes c) }
 {
     let graph = Graph::read(rt, alloc, files, 1)?;

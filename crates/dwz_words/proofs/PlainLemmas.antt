@@ -4,7 +4,7 @@ use Rattle.std.specs.Prelude.{fold, if◌then◌else◌, ◌||◌, is_some}
 use Rattle.std.specs.List.{flat_map, list_all, list_any}
 use Rattle.std.specs.Option.{option_map_or}
 use Rattle.clap.specs.Words.{Row, Rule, Text, Kinds, built, fault_of, matches_of}
-use Rattle.std.proofs.lemmas.Bool.{not-true}
+use Rattle.std.proofs.lemmas.Bool.{not-true, or_parts}
 use Rattle.std.proofs.lemmas.List.{length-append}
 use Rattle.clap.specs.Kinds.{or_else}
 use Rattle.clap.specs.Simple.{entered}
@@ -14,7 +14,7 @@ use Rattle.clap.proofs.OnLiterals.{clap_on_literals}
 use Rattle.clap.proofs.WalkLemmas.{both}
 use Rattle.dwz_words.specs.Command.{dwz_command}
 use Rattle.dwz_words.proofs.PlainWalk.{Pending, Stands, after_argument, all_after, between, full_rows, held, is_new, row_after, rules, top}
-use Rattle.dwz_words.proofs.PlainRows.{kept_has_row, name_differs, neither, option_or_file}
+use Rattle.dwz_words.proofs.PlainRows.{kept_has_row, name_differs, option_or_file}
 use Rattle.dwz_words.specs.Plain.{ArePlain, Argument, are_once, same_option, is_plain, option_name, words_of}
 
 -- ---- what is new stays new
@@ -35,7 +35,7 @@ all_keep : (p : Argument) (ps : List Argument) (rows : List Row) → list_any (s
     → are_new ps (row_after p rows) ≡ true
 all_keep p [] rows h new = refl
 all_keep p (q ∷ qs) rows h new =
-    let others = neither _ _ h in
+    let others = or_parts _ _ h in
     let parts = both (is_new q rows) (are_new qs rows) new in
     rw (keeps p q rows others.0 parts.0, all_keep p qs rows others.1 parts.1) refl
 

@@ -1,10 +1,11 @@
 -- Which row of `clap`'s matches an argument of plain words leaves, and which rows it keeps.
-use Rattle.std.proofs.Common.{◌≡◌, ◌⊎◌, ◌∙◌, ◌≤◌, ◌∷◌, [], ◌++◌, refl, sym, ap, subst, inl, inr, Bool, true, false, List, Option, Some, None, codes, arith, length, not, map, option_map, append-nil, append_assoc}
-use Rattle.std.specs.Prelude.{find, filter, if◌then◌else◌, is_some, unwrap_or, ◌||◌}
+use Rattle.std.proofs.Common.{◌≡◌, ◌⊎◌, ◌∙◌, ◌≤◌, ◌∷◌, [], ◌++◌, refl, sym, ap, subst, inl, inr, Bool, true, false, List, Option, Some, None, codes, arith, length, not, map, option_map, append-nil}
+use Rattle.std.proofs.Common.{append_assoc}
+use Rattle.std.specs.Prelude.{find, filter, if◌then◌else◌, is_some, unwrap_or}
 use Rattle.std.specs.Str.{bytes_eq}
 use Rattle.std.specs.List.{list_any}
 use Rattle.std.specs.Option.{option_map_or}
-use Rattle.std.proofs.lemmas.Bool.{not-true}
+use Rattle.std.proofs.lemmas.Bool.{not-true, or_parts}
 use Rattle.std.proofs.lemmas.List.{map-append}
 use Rattle.std.proofs.lemmas.List.Elements.{filter-append}
 use Rattle.clap.specs.Words.{Row, Text}
@@ -122,15 +123,11 @@ made_row p k rows h none = elim (option_or_file p) [
 
 -- ---- rows after all arguments
 
-pub neither : (a b : Bool) → (a || b) ≡ false → (a ≡ false) × (b ≡ false)
-neither true b e = cc
-neither false b e = (refl, e)
-
 module _ (k : Text) (no_file : bytes_eq (codes "FILE") k ≡ false) where
   untouched : (ps : List Argument) (rows : List Row) → list_any (is_option k) ps ≡ false → row_at k (all_after ps rows) ≡ row_at k rows
   untouched [] rows h = refl
   untouched (p ∷ ps) rows h =
-      let parts = neither (is_option k p) (list_any (is_option k) ps) h in
+      let parts = or_parts (is_option k p) (list_any (is_option k) ps) h in
       untouched ps (row_after p rows) parts.1 ∙ kept_row p k rows (id_differs p k parts.0 no_file)
 
   -- the row of an option that stands once is that of the argument

@@ -1,5 +1,6 @@
 -- The numbers that a parse gives are in the ranges of their options.
-use Rattle.std.proofs.Common.{◌≡◌, ◌⊎◌, ◌∙◌, ◌<◌, ◌≤◌, ◌+◌, ◌∷◌, [], refl, sym, ap, subst, inl, inr, ℕ, zero, suc, Bool, true, false, List, Option, Some, None, codes, arith, length, not, map, option_map}
+use Rattle.std.proofs.Common.{◌≡◌, ◌⊎◌, ◌∙◌, ◌<◌, ◌≤◌, ◌+◌, ◌∷◌, [], refl, sym, ap, subst, inl, inr, ℕ, zero, suc, Bool, true, false, List, Option, Some, None, codes, arith, length, not, map}
+use Rattle.std.proofs.Common.{option_map}
 use Rattle.std.specs.Prelude.{◌&&◌, ◌||◌, ◌==◌, IfSome, pos, slice_get, unwrap_or, option_and_then, if◌then◌else◌}
 use Rattle.std.specs.List.{All, list_all, slice_index_or}
 use Rattle.std.specs.Str.{bytes_eq}

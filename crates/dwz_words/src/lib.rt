@@ -25,6 +25,3 @@ mod reading;
 
 pub use options::{Options, WordsErr};
 pub use reading::parse;
-
-#[cfg(test)]
-mod tests;

@@ -40,11 +40,17 @@ use Rattle.dwz_worked.proofs.Runs.{run_in}
 
 -- what files say; whatever unfolds this unfolds all by which they are read
 unfoldable pub said : List (List ℕ) → Result (List (Doc ℕ)) Refusal
-unfolding run_in row_at row_from times_at list_kind_rows sleb_at file_table_at tables_at values_at rows_said nth_path plain_file plain_headers numbers files_meaning file_meaning section_of longest_file longest_files most_entries headers_from number_at name_in elf_fault field_fault first_in first_other header_fault identification_fault missing_fault names_fault section_range unkept_fault units_at units_from unit_at entries_in header_reason tree_at zero_count front_at attrs_at siblings_at forest_at table_at declaration_at pair_at items_at items_from uleb_at groups_at shaped_at text_in units_meaning entries_meaning attrs_meaning meaning without_siblings all_places places_in first_raw unit_places none_shared least_place operands_in_lists operands_of places_from lists_of_units lists_of_entries lists_of_attrs list_of_attr list_at list_entry_at most_inside parts_from set_at lib.Count.ones
+unfolding run_in row_at row_from times_at list_kind_rows sleb_at file_table_at tables_at values_at rows_said nth_path plain_file plain_headers numbers files_meaning file_meaning section_of
+    longest_file longest_files most_entries headers_from number_at name_in elf_fault field_fault first_in first_other header_fault identification_fault missing_fault names_fault section_range
+    unkept_fault units_at units_from unit_at entries_in header_reason tree_at zero_count front_at attrs_at siblings_at forest_at table_at declaration_at pair_at items_at items_from uleb_at groups_at
+    shaped_at text_in units_meaning entries_meaning attrs_meaning meaning without_siblings all_places places_in first_raw unit_places none_shared least_place operands_in_lists operands_of places_from
+    lists_of_units lists_of_entries lists_of_attrs list_of_attr list_at list_entry_at most_inside parts_from set_at lib.Count.ones
 said contents = files_meaning no_files_before 0 contents
 
 -- what is written of files of these contents that say these documents, and of which these are prunable; whatever unfolds this unfolds all
 -- by which it is found
-unfoldable pub come : Options → List (List ℕ) → List (Doc ℕ) → List Bool → Run
-unfolding said name_from sup_bytes elf_of align_at content_at inside_fault keep_end layout_fault moving new_headers placed_from rebuilt rebuilt_length spread sup_header raws with_operands with_units written_at lists_after offsets_after ranges_after sections_after strs_after with_slots file_after has_common in_order put_in_order files_puts summary_lines count_at counts_in is_contribution bytes_kept is_kept range_end
+unfoldable pub come : (o : Options) (contents : List (List ℕ)) (docs : List (Doc ℕ)) (prunes : List Bool) → Run
+unfolding said name_from sup_bytes elf_of align_at content_at inside_fault keep_end layout_fault moving new_headers placed_from rebuilt rebuilt_length spread sup_header raws with_operands with_units
+    written_at lists_after offsets_after ranges_after sections_after strs_after with_slots file_after has_common in_order put_in_order files_puts summary_lines count_at counts_in is_contribution
+    bytes_kept is_kept range_end
 come o contents docs prunes = run_for o contents docs prunes

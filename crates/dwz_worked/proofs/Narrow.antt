@@ -15,7 +15,8 @@ use Rattle.dwz_outside.specs.declared.puts.Put.{Put}
 use Rattle.dwz_words.specs.declared.options.Options.{Options}
 use Rattle.dwz_out.specs.Contents.{listed, lists_after, new_number}
 use Rattle.dwz_out.specs.FilesAfter.{has_common}
-use Rattle.dwz_out.specs.Refusals.{CommonRefusal, FirstNarrow, InFile, IsNarrow, OfFirst, OutFault, SectionsFault, narrow_at, operands_of_attr, operands_of_attrs, operands_of_entries, operands_of_units, spoken}
+use Rattle.dwz_out.specs.Refusals.{CommonRefusal, FirstNarrow, InFile, IsNarrow, OfFirst, OutFault, SectionsFault, narrow_at, operands_of_attr, operands_of_attrs, operands_of_entries}
+use Rattle.dwz_out.specs.Refusals.{operands_of_units, spoken}
 use Rattle.dwz_out.specs.Out.{all_puts}
 use Rattle.dwz_worked.proofs.Files.{far_doc}
 use Rattle.dwz_worked.proofs.Comes.{come, said}

@@ -4,13 +4,13 @@ use Rattle.std.proofs.Math.Logic.{inl, inr}
 use Rattle.std.proofs.lemmas.List.{map-append}
 use Rattle.dwz_meanings.specs.Documents.{Attr, Compile, DwUnit, Entries, Kind, Node, OfType, Partial, Value, attr_map, entries_map, kind_map, node_map, unit_map, value_map}
 use Rattle.dwz_docs.specs.Trees.{End, Entry}
-use Rattle.dwz_seen.specs.Lists.{Each}
+use Rattle.dwz_docs.proofs.ListFacts.{in_map}
+use Rattle.dwz_docs.specs.Lists.{Each}
 use Rattle.dwz_writing.specs.Bases.{Bases}
 use Rattle.dwz_writing.specs.Carried.{CameFrom, CarriedAttr, CarriedEntries, CarriedNode, CarriedUnit, From, Imports, NamesLines}
 use Rattle.dwz_writing.specs.Meant.{KindSays, entry_keys}
 use Rattle.dwz_seen.specs.Shown.{keys}
 use Rattle.dwz_writing.specs.Sound.{SoundKind}
-use Rattle.dwz_seen.proofs.Members.{in_map}
 
 map_twice : {P Q R : Type 0} (f : P → Q) (g : Q → R) (ps : List P) → map g (map f ps) ≡ map (λ p. g (f p)) ps
 map_twice f g [] = refl

@@ -9,9 +9,12 @@ use Rattle.dwz_codes.specs.Forms.{form_rows}
 use Rattle.dwz_docs.specs.Abbrevs.{SpellsPair}
 use Rattle.dwz_meanings.specs.Documents.{Attr, Expr, Plain, Sec, Text, Value, only, ref, value_map}
 use Rattle.dwz_docs.specs.Entries.{RawAttr}
-use Rattle.dwz_meanings.specs.Meanings.{Class, IfSo, IsExpression, IsFileBy, MeansAs, OfAddress, OfBlock, OfCommonEntry, OfCommonText, OfConstant, OfExpression, OfFlag, OfIndex, OfInfoEntry, OfListIndex, OfOffset, OfSignature, OfText, OfTextBySlot, OfTextInLineStr, OfTextInStr, OfUnitEntry, Scope, Unread, bytes_of, class_in, class_of, class_rows, content_at, expr_context, names_file, names_list, number_of, path_by, stmt_list, target_of, targets, texts_of}
+use Rattle.dwz_meanings.specs.Meanings.{Class, IsExpression, IsFileBy, MeansAs, OfAddress, OfBlock, OfCommonEntry, OfCommonText, OfConstant, OfExpression, OfFlag, OfIndex, OfInfoEntry, OfListIndex}
+use Rattle.dwz_meanings.specs.Meanings.{OfOffset, OfSignature, OfText, OfTextBySlot, OfTextInLineStr, OfTextInStr, OfUnitEntry, Scope, Unread, bytes_of, class_in, class_of, class_rows, content_at}
+use Rattle.dwz_meanings.specs.Meanings.{expr_context, names_file, names_list, number_of, path_by, stmt_list, target_of, targets, texts_of}
 use Rattle.dwz_meanings.specs.declared.exprs.Operand.{Operand}
 use Rattle.dwz_meanings.specs.Exprs.{ExprContext, Expression, SpellsExpr, parts_of}
+use Rattle.dwz_meanings.proofs.DecideLemmas.{if_false, if_true}
 use Rattle.dwz_docs.specs.Texts.{IsSlot, IsTextAt}
 use Rattle.dwz_docs.specs.Values.{Bytes, Number, Raw, SpellsShape, SpellsValue, constant_of, shape_of, written_rows}
 use Rattle.dwz_docs.proofs.WrittenLemmas.{same_shape}
@@ -21,7 +24,7 @@ use Rattle.dwz_writing.specs.Meant.{AttrSays, FileSays, Own, SaysAs, Tells, WasR
 use Rattle.dwz_writing.specs.Placing.{Chosen, Fit, as_constant, as_entry, as_file, as_read, fit_as, fit_attr, with_form, zeros}
 use Rattle.dwz_writing.specs.Sound.{HasBytes, SoundAttr, StoresAs}
 use Rattle.dwz_writing.specs.Writing.{block_in, expr_bytes, pair_of, text_in}
-use Rattle.dwz_writing.proofs.ValuesMean.{not_so, plain_is, so_not}
+use Rattle.dwz_writing.proofs.ValuesMean.{plain_is, so_not}
 use Rattle.dwz_bytes.proofs.FixedLemmas.{fixed_written}
 use Rattle.dwz_bytes.specs.Spelling.{le_bytes}
 use Rattle.dwz_docs.specs.Lists.{has}
@@ -32,11 +35,7 @@ use Rattle.dwz_writing.proofs.FilledParts.{expr_as_long}
 
 -- ---- an attribute that came from a file
 
-pub so : (b : Bool) (P Q : Type 0) → b ≡ true → IfSo b P Q → P
-so true P Q e h = h
-so false P Q e h = absurd cc
-
-implicit_is : (form : ℕ) (number : ℤ) (bytes : List ℕ) (raw : Raw) → form ≡ 0x21 → SpellsShape (shape_of written_rows form) number bytes raw → raw ≡ Number number
+pub implicit_is : (form : ℕ) (number : ℤ) (bytes : List ℕ) (raw : Raw) → form ≡ 0x21 → SpellsShape (shape_of written_rows form) number bytes raw → raw ≡ Number number
 unfolding form_rows
 implicit_is form number bytes raw e is = (let is' = subst (λ (f : ℕ). SpellsShape (shape_of written_rows f) number bytes raw) e is in is'.value)
 
@@ -63,7 +62,8 @@ pub record Placed {K : Type 0} (from : From) (a : Attr K) : Type 0 where
   pub text : List ℕ
   pub value : a.value ≡ only (Text text)
   pub sound : SoundAttr a
-  pub class : ((class_of a.form ≡ OfTextInStr) × IsTextAt scope.around.sources.strs (reach a.raw) text) ⊎ ((class_of a.form ≡ OfTextInLineStr) × IsTextAt scope.around.sources.line_strs (reach a.raw) text)
+  pub class : ((class_of a.form ≡ OfTextInStr) × IsTextAt scope.around.sources.strs (reach a.raw) text)
+      ⊎ ((class_of a.form ≡ OfTextInLineStr) × IsTextAt scope.around.sources.line_strs (reach a.raw) text)
 
 -- a text by its slot
 pub record Slotted {K : Type 0} (from : From) (origin : Bases) (a : Attr K) : Type 0 where
@@ -143,7 +143,8 @@ module _ {K : Type 0} (from : From) (origin : Bases) (a : Attr K) (came : CameFr
   has_bytes = record {
     bytes = came.stored.bytes;
     are_bytes = came.stored.are_bytes;
-    spelled = subst (λ (z : ℤ). SpellsShape (shape_of written_rows a.form) z came.stored.bytes old.raw) same_constant (subst (λ (f : ℕ). SpellsShape (shape_of written_rows f) (constant_of old.pair) came.stored.bytes old.raw) same_form stored);
+    spelled = subst (λ (z : ℤ). SpellsShape (shape_of written_rows a.form) z came.stored.bytes old.raw) same_constant
+        (subst (λ (f : ℕ). SpellsShape (shape_of written_rows f) (constant_of old.pair) came.stored.bytes old.raw) same_form stored);
   }
 
   fits_constant : a.form ≡ 0x21 → fits_i64 a.raw ≡ true
@@ -189,7 +190,15 @@ module _ {K : Type 0} (from : From) (origin : Bases) (a : Attr K) (came : CameFr
   }
 
   reference : (c : Class) → class_of a.form ≡ c → ((f : Fit K) → fit_as c f a ≡ as_entry f a) → (k : K) → a.value ≡ ref k → Reference a
-  reference c e form k value = record { some_name = some_name; name_fits = name_fits; no_sibling = no_sibling; target = k; value = value; chosen = λ f. ap (λ (d : Class). with_form a (fit_as d f a)) e ∙ ap (λ (x : Chosen). with_form a x) (form f) }
+  reference c e form k value = record {
+    some_name = some_name;
+    name_fits = name_fits;
+    no_sibling = no_sibling;
+    target = k;
+    value = value;
+    chosen = λ f. ap (λ (d : Class). with_form a (fit_as d f a)) e
+        ∙ ap (λ (x : Chosen). with_form a x) (form f);
+  }
 
   abbrev w : WasRead a
   w = came.was_read
@@ -229,7 +238,7 @@ module _ {K : Type 0} (from : From) (origin : Bases) (a : Attr K) (came : CameFr
     file = came.file;
     numbers = (e, names);
     says = subst (λ (o : Option ℕ). FileSays (texts_of w.scope.around.sources) w.scope.around.sources.line o a) (ap (λ (b : Bases). b.line) came.unit)
-        (file_by (stmt_list w.scope) (so (names_file old.pair.name) _ _ (ap names_file same_name ∙ names) m));
+        (file_by (stmt_list w.scope) (if_true (names_file old.pair.name) _ _ (ap names_file same_name ∙ names) m));
     chosen = λ f. ap (λ (d : Class). with_form a (fit_as d f a)) e ∙ ap (λ (b : Bool). with_form a (as_constant b f a)) names;
     sound = other_sound (subst (λ (d : Class). StoresAs d a) (sym e) (number OfConstant e refl (λ x. cc) has_bytes));
   }))))
@@ -242,9 +251,11 @@ module _ {K : Type 0} (from : From) (origin : Bases) (a : Attr K) (came : CameFr
   -- its length is that of a block that was read
   short_expr : class_of a.form ≡ OfExpression → (m : IsExpression w.scope old w.read.value) → length (expr_bytes zeros 0 a.value.plain a.value.refs) < 2 ^ 64
   short_expr e m =
-      let block = exprloc_block (constant_of (pair_of a)) has_bytes.bytes old.raw (subst (λ (f : ℕ). SpellsShape (shape_of written_rows f) (constant_of (pair_of a)) has_bytes.bytes old.raw) (expression_form a.form e) has_bytes.spelled) in
+      let block = exprloc_block (constant_of (pair_of a)) has_bytes.bytes old.raw
+      (subst (λ (f : ℕ). SpellsShape (shape_of written_rows f) (constant_of (pair_of a)) has_bytes.bytes old.raw) (expression_form a.form e) has_bytes.spelled) in
       let refs : a.value.refs ≡ map w.name (targets w.scope m.expression.operands) = ap (λ (v : Value K). v.refs) same_value ∙ ap (λ (v : Value ℕ). map w.name v.refs) m.value in
-      let many : length a.value.refs ≡ length m.expression.operands = ap length refs ∙ length-map (targets w.scope m.expression.operands) w.name ∙ length-map m.expression.operands (λ (o : Operand). w.scope.around.place (target_of w.scope o)) in
+      let many : length a.value.refs ≡ length m.expression.operands = ap length refs ∙ length-map (targets w.scope m.expression.operands) w.name
+      ∙ length-map m.expression.operands (λ (o : Operand). w.scope.around.place (target_of w.scope o)) in
       let as_long = expr_as_long zeros 0 (expr_context w.scope 1) m.expression (content_at old) (bytes_of old.raw) a.value.refs m.spelled many in
       let same = ap (λ (p : Plain). length (expr_bytes zeros 0 p a.value.refs)) (plain_is_expr m) in
       omega (arith, block, as_long, same)
@@ -299,7 +310,7 @@ module _ {K : Type 0} (from : From) (origin : Bases) (a : Attr K) (came : CameFr
       sound = other_sound (subst (λ (d : Class). StoresAs d a) (sym e) (number OfOffset e refl (λ x. cc) has_bytes));
     }))))))
     by false names =
-        (let m' = not_so (names_list old.pair.name) _ _ (ap names_list same_name ∙ names) m in
+        (let m' = if_false (names_list old.pair.name) _ _ (ap names_list same_name ∙ names) m in
         inr (inr (inr (inr (inr (inr (other OfOffset e (λ f. refl) (number OfOffset e refl (λ x. cc))
         (λ r t own. so_not (names_list a.name) _ _ names (same_value ∙ ap (λ (v : Value ℕ). value_map w.name v) m' ∙ ap (λ (z : ℤ). only (Sec (reach z))) same_raw)))))))))
   by_class OfExpression e built m = inr (inr (inr (inr (inl (record {
@@ -354,7 +365,9 @@ lines_is a is =
     let bytes : HasBytes a (Number a.raw) = record {
       bytes = le_bytes 4 is.place;
       are_bytes = le_are 4 is.place;
-      spelled = subst (λ (z : ℤ). SpellsShape (shape_of written_rows a.form) (constant_of (pair_of a)) (le_bytes 4 is.place) (Number z)) (sym is.raw) (subst (λ (f : ℕ). SpellsShape (shape_of written_rows f) (constant_of (pair_of a)) (le_bytes 4 is.place) (Number (pos is.place))) (sym is.form) (offset_spelled (constant_of (pair_of a)) is.place is.fits));
+      spelled = subst (λ (z : ℤ). SpellsShape (shape_of written_rows a.form) (constant_of (pair_of a)) (le_bytes 4 is.place) (Number z)) (sym is.raw)
+          (subst (λ (f : ℕ). SpellsShape (shape_of written_rows f) (constant_of (pair_of a)) (le_bytes 4 is.place) (Number (pos is.place))) (sym is.form)
+          (offset_spelled (constant_of (pair_of a)) is.place is.fits));
     } in
     record {
       stays = λ f. ap (λ (d : Class). with_form a (fit_as d f a)) class;

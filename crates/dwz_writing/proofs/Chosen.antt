@@ -2,30 +2,35 @@
 use Rattle.std.proofs.Common.{◌≡◌, ◌⊎◌, ℕ, ◌<◌, ◌^◌, Bool, true, false, List, [], ◌∷◌, length, map, Some, refl, sym, ap, subst, ◌∙◌, cond, eqb}
 use Rattle.std.proofs.Math.Logic.{inl, inr}
 use Rattle.dwz_meanings.specs.Documents.{Attr, Compile, DwUnit, Entries, Kind, OfType, Partial, Plain, first_named}
-use Rattle.dwz_docs.specs.Lists.{In}
+use Rattle.dwz_docs.specs.Lists.{Each, In}
 use Rattle.dwz_meanings.specs.Meanings.{Class, OfListIndex, OfOffset, class_of, names_list}
 use Rattle.dwz_docs.specs.Trees.{End, Entry}
-use Rattle.dwz_seen.specs.Lists.{Each}
+use Rattle.dwz_docs.proofs.ListFacts.{in_left, in_right}
 use Rattle.dwz_writing.specs.Bases.{Bases, bases_in, offset_in}
-use Rattle.dwz_writing.specs.Carried.{ApartIn, AttrOperands, AttrPaths, AttrTexts, BasesStand, CarriedAttr, CarriedEntries, CarriedUnit, ClosedIn, ComesFromItself, ExprIn, FileStands, From, OperandsStand, OperandsStandAs, SectionsStand, UnitPaths, UnitTexts}
+use Rattle.dwz_writing.specs.Carried.{ApartIn, AttrOperands, AttrPaths, AttrTexts, BasesStand, CarriedAttr, CarriedEntries, CarriedUnit, ClosedIn, ComesFromItself, ExprIn, FileStands, From}
+use Rattle.dwz_writing.specs.Carried.{OperandsStand, OperandsStandAs, SectionsStand, UnitPaths, UnitTexts}
 use Rattle.dwz_meanings.specs.LinesWritten.{AreTexts}
+use Rattle.dwz_meanings.proofs.DecideLemmas.{if_true}
 use Rattle.dwz_writing.specs.Fitting.{EachAttr}
 use Rattle.dwz_writing.specs.Meant.{AttrSays, EntriesSay, KindSays, NodeSays, Own, SaysAs, Tells, UnitSays, UnitsSay, all_entry_keys, entry_keys, own_of}
-use Rattle.dwz_writing.specs.Placing.{FileFit, Fit, Forms, Holder, fit, fit_as, fit_attr, fit_node, fit_unit, fit_units, has_key, holder_of, lines_bytes, reach_by, ref_form, texts_bytes, unit_fit, with_form, with_keys}
+use Rattle.dwz_writing.specs.Placing.{FileFit, Fit, Forms, Holder, fit, fit_as, fit_attr, fit_node, fit_unit, fit_units, has_key, holder_of, lines_bytes, reach_by, ref_form, texts_bytes, unit_fit}
+use Rattle.dwz_writing.specs.Placing.{with_form, with_keys}
 use Rattle.dwz_seen.specs.Shown.{unit_keys, units_keys}
 use Rattle.dwz_seen.specs.Seen.{Seen, all_seen, see, seen_below, seen_roots}
 use Rattle.dwz_writing.specs.Sound.{SoundAttr, SoundEntries, SoundUnit}
 use Rattle.dwz_seen.specs.Lists.{NoneTwice}
 use Rattle.dwz_writing.proofs.Carrying.{Computed, Listed, Reference, carried_is}
 use Rattle.dwz_writing.proofs.ReadAgain.{same_bases}
-use Rattle.dwz_writing.proofs.ValuesMean.{so_true, so_yes}
+use Rattle.dwz_writing.proofs.ValuesMean.{so_yes}
 use Rattle.dwz_writing.proofs.Places.{IsSame}
 use Rattle.dwz_seen.proofs.SeenLemmas.{root_in, seen_in}
 use Rattle.dwz_writing.proofs.Rising.{entries_are_keys}
 use Rattle.dwz_writing.proofs.WriteLengths.{FixedUnit}
-use Rattle.dwz_seen.proofs.Members.{each_in, in_left, in_right}
-use Rattle.dwz_writing.proofs.ChosenNames.{EntriesName, NamesAll, NodeNames, SeenNames, each_fixed, entries_name, fit_all_keys, fit_entry_keys, fit_units_keys, has_in, node_names, offset_fit, unit_apart}
-use Rattle.dwz_writing.proofs.ChosenValues.{AttrAt, FileAt, Good, SectionsAt, SourcesAt, TextFor, chosen, chosen_sound, common_says_it, file_good, form_is, info_says_it, refs_are, slot_good, text_good, unit_says_it}
+use Rattle.dwz_seen.proofs.Members.{each_in}
+use Rattle.dwz_writing.proofs.ChosenNames.{EntriesName, NamesAll, NodeNames, SeenNames, each_fixed, entries_name, fit_all_keys, fit_entry_keys, fit_units_keys, has_in, node_names, offset_fit}
+use Rattle.dwz_writing.proofs.ChosenNames.{unit_apart}
+use Rattle.dwz_writing.proofs.ChosenValues.{AttrAt, FileAt, Good, SectionsAt, SourcesAt, TextFor, chosen, chosen_sound, common_says_it, file_good, form_is, info_says_it, refs_are, slot_good}
+use Rattle.dwz_writing.proofs.ChosenValues.{text_good, unit_says_it}
 
 pub none_has : {K : Type 0} (same : K → K → Bool) (is : IsSame same) (k : K) (ks : List K) → In k ks → has_key same k ks ≡ false → ⊥
 unfolding has_key
@@ -44,7 +49,8 @@ first_fit : {K : Type 0} (x : Fit K) (name : ℕ) (attrs : List (Attr K)) → of
 unfolding first_named
 first_fit x name [] = refl
 first_fit x name (a ∷ attrs) = by (first_fit x name attrs) (eqb a.name name) where
-  by : offset_in (first_named name (map (fit_attr x) attrs)) ≡ offset_in (first_named name attrs) → (b : Bool) → offset_in (cond b (Some (fit_attr x a)) (first_named name (map (fit_attr x) attrs))) ≡ offset_in (cond b (Some a) (first_named name attrs))
+  by : offset_in (first_named name (map (fit_attr x) attrs)) ≡ offset_in (first_named name attrs) → (b : Bool) → offset_in (cond b (Some (fit_attr x a)) (first_named name (map (fit_attr x) attrs)))
+      ≡ offset_in (cond b (Some a) (first_named name attrs))
   by rest true = offset_fit x a
   by rest false = rest
 
@@ -58,8 +64,10 @@ own_fit {K} f u =
 
 -- ---- each value is written as its form says
 
-module _ {K : Type 0} (f : FileFit K) (is : IsSame f.same) (from : From) (t : Tells K) (small : length t.strs < 2 ^ 32) (u : DwUnit K) (within : (k : K) → In k t.all → In k f.keys) (other : (k : K) → In k t.common → In k f.keys → ⊥)
-    (entries : (k : K) → In k (unit_keys u) → In k f.keys) (apart : In u.at t.all → ⊥) (sections_at : SectionsAt (holder_of f.is_common u.kind) from (unit_fit f u) t) (itself : ComesFromItself (holder_of f.is_common u.kind) (bases_in u) (f.origin u.at)) where
+module _ {K : Type 0} (f : FileFit K) (is : IsSame f.same) (from : From) (t : Tells K) (small : length t.strs < 2 ^ 32) (u : DwUnit K) (within : (k : K) → In k t.all → In k f.keys)
+    (other : (k : K) → In k t.common → In k f.keys → ⊥)
+    (entries : (k : K) → In k (unit_keys u) → In k f.keys) (apart : In u.at t.all → ⊥) (sections_at : SectionsAt (holder_of f.is_common u.kind) from (unit_fit f u) t)
+    (itself : ComesFromItself (holder_of f.is_common u.kind) (bases_in u) (f.origin u.at)) where
   abbrev x : Fit K
   x = unit_fit f u
 
@@ -90,19 +98,24 @@ module _ {K : Type 0} (f : FileFit K) (is : IsSame f.same) (from : From) (t : Te
       let operands = subst (λ (p : Plain). ExprIn t own p a.value.refs) k.plain (subst (λ (c : Class). OperandsStandAs c t own a) k.class there) in
       record {
         sound = subst SoundAttr (sym stays) k.sound;
-        says = subst (AttrSays t own) (sym stays) (subst (λ (c : Class). SaysAs c t own a) (sym k.class) (record { context = k.context; expression = k.expression; start = k.start; bytes = k.bytes; spelled = k.spelled; plain = k.plain; operands = operands }));
+        says = subst (AttrSays t own) (sym stays) (subst (λ (c : Class). SaysAs c t own a) (sym k.class)
+            (record { context = k.context; expression = k.expression; start = k.start; bytes = k.bytes; spelled = k.spelled; plain = k.plain; operands = operands }));
       }
 
   list_good : (a : Attr K) → Listed a → AttrOperands t own a → Good t own (fit_attr x a)
   list_good a k there = record { sound = subst SoundAttr (sym (k.stays x)) k.sound; says = subst (AttrSays t own) (sym (k.stays x)) (by k.class) } where
     by : ((class_of a.form ≡ OfOffset) × (names_list a.name ≡ true)) ⊎ (class_of a.form ≡ OfListIndex) → AttrSays t own a
     by (inl c) = subst (λ (d : Class). SaysAs d t own a) (sym c.0) (so_yes (names_list a.name) _ _ c.1
-        (so_true (names_list a.name) _ _ c.1 (subst (λ (d : Class). OperandsStandAs d t own a) c.0 there)))
+        (if_true (names_list a.name) _ _ c.1 (subst (λ (d : Class). OperandsStandAs d t own a) c.0 there)))
     by (inr c) = subst (λ (d : Class). SaysAs d t own a) (sym c) (subst (λ (d : Class). OperandsStandAs d t own a) c there)
 
   attr_good : (a : Attr K) → CarriedAttr from (f.origin u.at) a → Each (λ k. In k t.all ⊎ In k t.common) a.value.refs → At a → Good t own (fit_attr x a)
   attr_good a carried names at = elim (carried_is from (f.origin u.at) a carried) [
-    | inl r ↦ record { sound = subst SoundAttr (sym (form_is a r x)) (chosen_sound a r (reach_by (has_key f.same r.target (unit_keys u)) (has_key f.same r.target f.keys))); says = ref_says a r (subst (Each (λ k. In k t.all ⊎ In k t.common)) (refs_are a r) names).0 }
+    | inl r ↦ record {
+      sound = subst SoundAttr (sym (form_is a r x)) (chosen_sound a r (reach_by (has_key f.same r.target (unit_keys u)) (has_key f.same r.target f.keys)));
+      says =
+          ref_says a r (subst (Each (λ k. In k t.all ⊎ In k t.common)) (refs_are a r) names).0;
+    }
     | inr rest ↦ elim rest [
       | inl p ↦ text_good from t small own a p (holder_of f.is_common u.kind) x refl sections_at at.0.0
       | inr more ↦ elim more [
@@ -160,7 +173,8 @@ module _ {K : Type 0} (f : FileFit K) (is : IsSame f.same) (from : From) (t : Te
 
 -- ---- the units of a file
 
-file_at : {K : Type 0} (from : From) (f : Forms K) (x : Fit K) (t : Tells K) (units : List (DwUnit K)) → f.offsets ≡ x.offsets → f.shared ≡ x.shared → SectionsStand false from f t units → FileAt from x t
+file_at : {K : Type 0} (from : From) (f : Forms K) (x : Fit K) (t : Tells K) (units : List (DwUnit K)) → f.offsets ≡ x.offsets → f.shared ≡ x.shared → SectionsStand false from f t units
+    → FileAt from x t
 file_at from f x t units offsets shared at = record {
   sources = subst (λ (w : List ℕ). SourcesAt from w t) offsets at.1;
   shared = at.2.strs ∙ ap texts_bytes shared;
@@ -225,7 +239,8 @@ keys_within {K} (w ∷ units) u (inl e) k is = in_left k (unit_keys w) (units_ke
 keys_within (w ∷ units) u (inr r) k is = in_right k (unit_keys w) (units_keys units) (keys_within units u r k is)
 
 module _ {K : Type 0} (f : Forms K) (is : IsSame f.same) (from : From) (t : Tells K) (units : List (DwUnit K)) (all : t.all ≡ all_entry_keys units) (once : NoneTwice (units_keys units))
-    (carried : Each (λ u. CarriedUnit from (f.origin u.at) u) units) (closed : ClosedIn t units) (apart : ApartIn t units) (stand : SectionsStand f.is_common from f t units) (bases : Each (BasesStand f) units) (operands : Each (OperandsStand t) units) where
+    (carried : Each (λ u. CarriedUnit from (f.origin u.at) u) units) (closed : ClosedIn t units) (apart : ApartIn t units) (stand : SectionsStand f.is_common from f t units)
+    (bases : Each (BasesStand f) units) (operands : Each (OperandsStand t) units) where
   abbrev file : FileFit K
   file = with_keys f (units_keys units)
 

@@ -2,14 +2,15 @@
 use Rattle.std.proofs.Common.{◌≡◌, ◌⊎◌, ℕ, Bool, true, false, List, [], ◌∷◌, ◌++◌, map, Some, None, refl, sym, ap, subst, ◌∙◌, cond, eqb, eqb-true}
 use Rattle.std.proofs.Math.Logic.{inl, inr}
 use Rattle.dwz_meanings.specs.Documents.{Attr, DwUnit, Entries, Node}
-use Rattle.dwz_docs.specs.Lists.{In}
+use Rattle.dwz_docs.specs.Lists.{Each, In}
 use Rattle.dwz_meanings.specs.Meanings.{Class, OfCommonEntry, OfConstant, OfInfoEntry, OfTextBySlot, OfTextInLineStr, OfTextInStr, OfUnitEntry, class_in, class_of, class_rows, names_file}
 use Rattle.dwz_bytes.specs.Spelling.{reach}
 use Rattle.dwz_docs.specs.Trees.{End, Entry}
-use Rattle.dwz_seen.specs.Lists.{Each}
+use Rattle.dwz_docs.proofs.ListFacts.{in_cases, in_left, in_map, in_right}
 use Rattle.dwz_writing.specs.Bases.{offset_in}
 use Rattle.dwz_writing.specs.Meant.{Tells, all_entry_keys, entry_keys}
-use Rattle.dwz_writing.specs.Placing.{CommonUnit, FileFit, Fit, Holder, InCommon, InFile, InUnit, NewUnit, OldUnit, Reach, as_constant, as_file, as_line_text, as_slot, as_strp_if, as_text, fit, fit_as, fit_attr, fit_unit, has_key, has_text, reach_of, ref_form, slot_number, unit_fit, with_form}
+use Rattle.dwz_writing.specs.Placing.{CommonUnit, FileFit, Fit, Holder, InCommon, InFile, InUnit, NewUnit, OldUnit, Reach, as_constant, as_file, as_line_text, as_slot, as_strp_if, as_text, fit}
+use Rattle.dwz_writing.specs.Placing.{fit_as, fit_attr, fit_unit, has_key, has_text, reach_of, ref_form, slot_number, unit_fit, with_form}
 use Rattle.dwz_writing.specs.Writing.{text_in}
 use Rattle.dwz_seen.specs.Shown.{keys, unit_keys, units_keys}
 use Rattle.dwz_seen.specs.Seen.{Named, Seen, all_seen, named_value, see, seen, seen_below, seen_roots}
@@ -19,7 +20,7 @@ use Rattle.dwz_seen.proofs.OnceLemmas.{none_both, none_left, none_right}
 use Rattle.dwz_seen.proofs.ShownLemmas.{seen_key}
 use Rattle.dwz_writing.proofs.Rising.{entries_are_keys}
 use Rattle.dwz_writing.proofs.WriteLengths.{Fixed, FixedAs, FixedEntries, FixedUnit}
-use Rattle.dwz_seen.proofs.Members.{each_of, in_cases, in_left, in_map, in_right}
+use Rattle.dwz_seen.proofs.Members.{each_of}
 use Rattle.dwz_writing.proofs.ChosenValues.{chosen}
 use Rattle.dwz_writing.proofs.StoredClasses.{offset_class}
 

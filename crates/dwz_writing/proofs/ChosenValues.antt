@@ -2,8 +2,9 @@
 use Rattle.std.proofs.Common.{◌≡◌, ℕ, ℤ, pos, ◌<◌, ◌^◌, List, [], ◌∷◌, ◌++◌, length, Option, Some, None, refl, sym, ap, subst, ◌∙◌, arith, Bool, true, false, suc}
 use Rattle.std.proofs.Math.Logic.{inl, inr}
 use Rattle.dwz_meanings.specs.Documents.{Attr, File, Plain, Text, Value, only}
-use Rattle.dwz_docs.specs.Lists.{In}
-use Rattle.dwz_meanings.specs.Meanings.{Class, OfCommonEntry, OfCommonText, OfConstant, OfInfoEntry, OfTextInLineStr, OfTextInStr, OfUnitEntry, Scope, Unread, class_in, class_of, class_rows, names_file, texts_of}
+use Rattle.dwz_docs.specs.Lists.{Each, In}
+use Rattle.dwz_meanings.specs.Meanings.{Class, OfCommonEntry, OfCommonText, OfConstant, OfInfoEntry, OfTextInLineStr, OfTextInStr, OfUnitEntry, Scope, Unread, class_in, class_of, class_rows}
+use Rattle.dwz_meanings.specs.Meanings.{names_file, texts_of}
 use Rattle.dwz_docs.specs.Entries.{RawAttr}
 use Rattle.dwz_bytes.specs.Spelling.{le_bytes, reach, uleb}
 use Rattle.dwz_bytes.proofs.FixedLemmas.{fixed_written}
@@ -13,11 +14,11 @@ use Rattle.dwz_docs.proofs.TextLemmas.{here_slot}
 use Rattle.dwz_meanings.specs.LineTables.{FileTable, IsFileTable, TextSections, nth_path}
 use Rattle.dwz_writing.proofs.ValuesMean.{so_yes}
 use Rattle.dwz_docs.specs.Values.{Number, SpellsShape, constant_of, shape_of, written_rows}
-use Rattle.dwz_seen.specs.Lists.{Each}
 use Rattle.dwz_writing.specs.Bases.{Bases}
 use Rattle.dwz_writing.specs.Carried.{AttrPaths, AttrTexts, ComesFromItself, FileStands, From, IsOf, LineFor, PathAs, TextAs}
 use Rattle.dwz_writing.specs.Meant.{AttrSays, FileSays, Own, SaysAs, Tells, told_texts}
-use Rattle.dwz_writing.specs.Placing.{CommonUnit, Fit, Holder, InCommon, InFile, InUnit, NewUnit, OldUnit, Reach, as_common, as_file, as_line_text, as_slot, as_strp, as_strp_if, as_text, file_number, fit_as, fit_attr, has_key, has_text, lines_bytes, path_index, reach_by, reach_of, ref_form, slot_number, text_place, texts_bytes, with_form}
+use Rattle.dwz_writing.specs.Placing.{CommonUnit, Fit, Holder, InCommon, InFile, InUnit, NewUnit, OldUnit, Reach, as_common, as_file, as_line_text, as_slot, as_strp, as_strp_if, as_text, file_number}
+use Rattle.dwz_writing.specs.Placing.{fit_as, fit_attr, has_key, has_text, lines_bytes, path_index, reach_by, reach_of, ref_form, slot_number, text_place, texts_bytes, with_form}
 use Rattle.dwz_writing.specs.Sound.{HasBytes, SoundAttr, StoresAs}
 use Rattle.dwz_writing.proofs.Carrying.{Filed, Placed, Reference, Slotted}
 use Rattle.dwz_meanings.proofs.LinesWritten.{header_many, header_table}
@@ -92,7 +93,7 @@ module _ {K : Type 0} (a : Attr K) (r : Reference a) where
 
 -- ---- texts
 
-strp_spelled : (number : ℤ) (x : ℕ) → x < 2 ^ 32 → SpellsShape (shape_of written_rows 0x0e) number (le_bytes 4 x) (Number (pos x))
+pub strp_spelled : (number : ℤ) (x : ℕ) → x < 2 ^ 32 → SpellsShape (shape_of written_rows 0x0e) number (le_bytes 4 x) (Number (pos x))
 unfolding form_rows
 strp_spelled number x lt = record { content = x; spelled = fixed_written 4 x (omega (arith, lt)); value = refl }
 

@@ -3,6 +3,7 @@ use Rattle.std.proofs.Common.{◌≡◌, ℕ, suc, ◌+◌, ◌-◌, ◌<◌, tr
 use Rattle.dwz_model.specs.declared.place.Base.{Base}
 use Rattle.dwz_model.specs.declared.place.Base.TheVariants.{Unit as FromUnit, Info as FromInfo}
 use Rattle.dwz_docs.specs.Lists.{In, has}
+use Rattle.dwz_docs.proofs.ListFacts.{in_map}
 use Rattle.dwz_meanings.specs.declared.exprs.Operand.{Operand}
 use Rattle.dwz_meanings.specs.Documents.{Part, Same}
 use Rattle.dwz_meanings.specs.Documents as document
@@ -10,7 +11,7 @@ use Rattle.dwz_meanings.specs.Exprs.{ExprContext, Expression, SpellsExpr, parts_
 use Rattle.dwz_meanings.specs.Meanings.{Scope, entries_for, leads_to}
 use Rattle.dwz_meanings.specs.Patching.{LeadTo, filled, number_bytes}
 use Rattle.dwz_meanings.proofs.PatchedLemmas.{patched_length}
-use Rattle.dwz_seen.proofs.Members.{in_has, in_map}
+use Rattle.dwz_seen.proofs.Members.{in_has}
 use Rattle.dwz_writing.specs.Fitting.{OperandsFit}
 use Rattle.dwz_writing.specs.Meant.{OperandIn, OperandsIn, Own, Tells}
 use Rattle.dwz_writing.specs.Writing.{Numbering, base_place, parts_bytes}
@@ -42,7 +43,8 @@ module _ {K : Type 0} (n : Numbering K) (unit : ℕ) where
       let rest = numbers_many (o.at + o.width) (drop (o.at + o.width - at) bytes) os refs (omega (arith, many)) in ap (λ (m : ℕ). suc m) rest
 
   -- where as many entries are named as there are operands, what is written is as long as what was read
-  pub expr_as_long : (c : ExprContext) (e : Expression) (start : ℕ) (bytes : List ℕ) (refs : List K) → SpellsExpr c e start bytes → length refs ≡ length e.operands → length (parts_bytes n unit (parts_of e) refs) ≡ length bytes
+  pub expr_as_long : (c : ExprContext) (e : Expression) (start : ℕ) (bytes : List ℕ) (refs : List K) → SpellsExpr c e start bytes → length refs ≡ length e.operands
+      → length (parts_bytes n unit (parts_of e) refs) ≡ length bytes
   expr_as_long c e start bytes refs spelled many =
       ap length (parts_filled (parts_of e) refs) ∙ patched_length c e start bytes (numbers_of (parts_of e) refs) spelled (numbers_many e.at e.bytes e.operands refs many)
 

@@ -3,7 +3,8 @@ use Rattle.std.proofs.Common.{◌≡◌, ℕ, ◌-◌, ◌<◌, true, List, [], 
 use Rattle.std.proofs.lemmas.List.{map-append}
 use Rattle.dwz_bytes.specs.Spelling.{reach}
 use Rattle.dwz_docs.specs.Entries.{RawAttr}
-use Rattle.dwz_docs.specs.Lists.{In, has}
+use Rattle.dwz_docs.specs.Lists.{Each, In, has}
+use Rattle.dwz_docs.proofs.ListFacts.{in_map}
 use Rattle.dwz_model.specs.declared.place.Base.{Base}
 use Rattle.dwz_model.specs.declared.place.Base.TheVariants.{Unit as FromUnit, Info as FromInfo}
 use Rattle.dwz_meanings.specs.declared.exprs.Operand.{Operand}
@@ -16,8 +17,7 @@ use Rattle.dwz_meanings.specs.PatchedLists.{CanHave, IsPatched, NamesAlike, list
 use Rattle.dwz_meanings.specs.Shared.{NamedList, operands_of, own_operands}
 use Rattle.dwz_meanings.proofs.NamedAgain.{names_again}
 use Rattle.dwz_alike.specs.Alike.{joined_parts}
-use Rattle.dwz_seen.specs.Lists.{Each}
-use Rattle.dwz_seen.proofs.Members.{each_append, in_has, in_map}
+use Rattle.dwz_seen.proofs.Members.{each_append, in_has}
 use Rattle.dwz_writing.specs.Fitting.{ListFits, OperandsFit}
 use Rattle.dwz_writing.specs.Meant.{ListSays, OperandIn, OperandsIn, Own, Tells, led_to}
 use Rattle.dwz_writing.specs.Writing.{Numbering, base_place}

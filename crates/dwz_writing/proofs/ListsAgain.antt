@@ -1,9 +1,10 @@
 -- The location lists that units name after are those that they named, with new numbers, so they share nothing.
 use Rattle.std.proofs.Common.{◌≡◌, ℕ, ◌+◌, Bool, true, false, List, [], ◌∷◌, map, Option, Some, None, Result, Ok, Err, cond, refl, sym, ap, subst, ◌∙◌, inl, inr}
 use Rattle.dwz_docs.specs.Entries.{RawAttr}
-use Rattle.dwz_docs.specs.Lists.{In}
+use Rattle.dwz_docs.specs.Lists.{Each, In}
 use Rattle.dwz_docs.specs.Texts.{slot}
 use Rattle.dwz_docs.specs.Trees.{End, Entry}
+use Rattle.dwz_docs.proofs.ListFacts.{in_cases, in_left, in_map, in_right}
 use Rattle.dwz_model.specs.declared.fault.Fault.{Fault}
 use Rattle.dwz_meanings.specs.Documents.{Attr, DwUnit, Entries}
 use Rattle.dwz_meanings.specs.LocLists.{LocList}
@@ -13,9 +14,9 @@ use Rattle.dwz_meanings.specs.PatchedLists.{named_with}
 use Rattle.dwz_meanings.specs.Shared.{IsShared, ListOperand, NamedList, NoneShared, of_unit, operands_in_lists, own_operands}
 use Rattle.dwz_meanings.proofs.NamedAgain.{none_again}
 use Rattle.dwz_meanings.proofs.NamedLemmas.{attr_is, units_name}
-use Rattle.dwz_seen.specs.Lists.{Each}
+use Rattle.dwz_meanings.proofs.DecideLemmas.{if_true}
+use Rattle.dwz_meanings.proofs.FoundLemmas.{lists_in}
 use Rattle.dwz_seen.specs.Shown.{unit_keys, units_keys}
-use Rattle.dwz_seen.proofs.Members.{in_cases, in_left, in_map, in_right}
 use Rattle.dwz_writing.specs.Fitting.{AttrFits, EntriesFit, FitsAs, UnitFits}
 use Rattle.dwz_writing.specs.Meant.{AttrSays, EntriesSay, IsAround, ListSays, Own, SaysAs, Tells, UnitsSay, own_of}
 use Rattle.dwz_writing.specs.Sound.{SoundAttr, SoundEntries, SoundUnit}
@@ -24,7 +25,6 @@ use Rattle.dwz_writing.proofs.ListMeans.{list_again, unit_again}
 use Rattle.dwz_writing.proofs.RawUnits.{raw_attrs, raw_entries, raw_unit, raw_units}
 use Rattle.dwz_writing.proofs.ScopeIs.{IsScope}
 use Rattle.dwz_writing.proofs.UnitsMean.{all_stay, unit_scope}
-use Rattle.dwz_writing.proofs.ValuesMean.{so_true}
 
 -- ---- an attribute names one list
 
@@ -91,7 +91,7 @@ module _ {K P : Type 0} (n : Numbering K) (g : K → P) (unit : ℕ) (t : Tells 
     by : (c : Class) → class_of a.form ≡ c → FitsAs c n unit a → SaysAs c t own a → b.raw ≡ stored_as c n unit a → NamesAs c s b l → Again l
     by OfOffset e fits says raw' named =
         let name : names_list a.name ≡ true = ap names_list (sym (ap (λ p. p.name) pair)) ∙ named.0 in
-        says_again a fits (so_true (names_list a.name) _ _ name says) b pair (ap number_of raw') l names
+        says_again a fits (if_true (names_list a.name) _ _ name says) b pair (ap number_of raw') l names
     by OfListIndex e fits says raw' named = says_again a fits says b pair (ap number_of raw') l names
     by _ e fits says raw' named = absurd named
 
@@ -130,18 +130,12 @@ module _ {K P : Type 0} (n : Numbering K) (g : K → P) (tables : List (List ℕ
 
 -- ---- fewer lists share no more
 
-operands_to : (lists : List NamedList) (l : NamedList) (o : ListOperand) → In l lists → In o (map (of_unit l.unit) (own_operands l)) → In o (operands_in_lists lists)
-unfolding operands_in_lists
-operands_to [] l o there h = absurd there
-operands_to (m ∷ lists) l o (inl e) h = in_left o (map (of_unit m.unit) (own_operands m)) (operands_in_lists lists) (subst (λ (x : NamedList). In o (map (of_unit x.unit) (own_operands x))) (sym e) h)
-operands_to (m ∷ lists) l o (inr r) h = in_right o (map (of_unit m.unit) (own_operands m)) (operands_in_lists lists) (operands_to lists l o r h)
-
 module _ (few many : List NamedList) (into : (l : NamedList) → In l few → In l many) where
   operands_into : (some : List NamedList) → ((l : NamedList) → In l some → In l many) → (o : ListOperand) → In o (operands_in_lists some) → In o (operands_in_lists many)
   unfolding operands_in_lists
   operands_into [] to o h = absurd h
   operands_into (l ∷ some) to o h = elim (in_cases o (map (of_unit l.unit) (own_operands l)) (operands_in_lists some) h) [
-    | inl a ↦ operands_to many l o (to l (inl refl)) a
+    | inl a ↦ lists_in many l o (to l (inl refl)) a
     | inr b ↦ operands_into some (λ m there. to m (inr there)) o b
   ]
 

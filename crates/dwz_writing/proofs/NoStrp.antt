@@ -1,5 +1,6 @@
 -- A line table none of whose formats has the form strp is the same whatever stands in `.debug_str`.
-use Rattle.std.proofs.Common.{◌≡◌, ℕ, Bool, true, false, ◌||◌, List, [], ◌∷◌, cond, eqb, refl, sym, ap, subst, ◌∙◌, inl, inr}
+use Rattle.std.proofs.Common.{◌≡◌, ℕ, Bool, true, false, List, [], ◌∷◌, cond, eqb, refl, sym, ap, subst, ◌∙◌, inl, inr}
+use Rattle.std.proofs.lemmas.Bool.{or_parts}
 use Rattle.dwz_model.specs.declared.place.Pair.{Pair}
 use Rattle.dwz_bytes.specs.Spelling.{reach}
 use Rattle.dwz_docs.specs.Lists.{In}
@@ -7,20 +8,17 @@ use Rattle.dwz_docs.specs.Texts.{IsTextAt}
 use Rattle.dwz_docs.specs.Values.{Bytes, Number, Raw}
 use Rattle.dwz_meanings.specs.LineTables.{FileTable, IsFileTable, IsPathText, PathRow, SayRows, SaysRow, SaysTable, Tables, TextSections, names_strs, with_content}
 
-neither : (a b : Bool) → (a || b) ≡ false → (a ≡ false) × (b ≡ false)
-neither true b e = absurd cc
-neither false b e = (refl, e)
-
 -- a value has one of the formats
 has_format : (content : ℕ) (formats : List Pair) (raws : List Raw) (x : Pair × Raw) → names_strs formats ≡ false → In x (with_content content formats raws) → eqb x.0.form 0x0e ≡ false
 has_format content [] raws x none there = absurd there
 has_format content (pair ∷ pairs) [] x none there = absurd there
-has_format content (pair ∷ pairs) (raw ∷ raws) x none there = go (neither (eqb pair.form 0x0e) (names_strs pairs) none) (λ n r. has_format content pairs raws x n r) (eqb pair.name content) there where
-  go : (eqb pair.form 0x0e ≡ false) × (names_strs pairs ≡ false) → (names_strs pairs ≡ false → In x (with_content content pairs raws) → eqb x.0.form 0x0e ≡ false)
-      → (b : Bool) → In x (cond b ((pair, raw) ∷ with_content content pairs raws) (with_content content pairs raws)) → eqb x.0.form 0x0e ≡ false
-  go not rest true (inl e) = ap (λ (y : Pair × Raw). eqb y.0.form 0x0e) (sym e) ∙ not.0
-  go not rest true (inr r) = rest not.1 r
-  go not rest false r = rest not.1 r
+has_format content (pair ∷ pairs) (raw ∷ raws) x none there = go (or_parts (eqb pair.form 0x0e) (names_strs pairs) none) (λ n r. has_format content pairs raws x n r) (eqb pair.name content)
+    there where
+      go : (eqb pair.form 0x0e ≡ false) × (names_strs pairs ≡ false) → (names_strs pairs ≡ false → In x (with_content content pairs raws) → eqb x.0.form 0x0e ≡ false)
+          → (b : Bool) → In x (cond b ((pair, raw) ∷ with_content content pairs raws) (with_content content pairs raws)) → eqb x.0.form 0x0e ≡ false
+      go not rest true (inl e) = ap (λ (y : Pair × Raw). eqb y.0.form 0x0e) (sym e) ∙ not.0
+      go not rest true (inr r) = rest not.1 r
+      go not rest false r = rest not.1 r
 
 module _ (s : TextSections) (strs : List ℕ) where
   abbrev other : TextSections
@@ -48,7 +46,7 @@ module _ (s : TextSections) (strs : List ℕ) where
 
   table_other : (t : Tables) (f : FileTable) → SaysTable s t f → f.has_strp ≡ false → SaysTable other t f
   table_other t f is none =
-      let not = neither (names_strs t.dirs.formats) (names_strs t.files.formats) (sym (ap (λ (x : FileTable). x.has_strp) is.made) ∙ none) in
+      let not = or_parts (names_strs t.dirs.formats) (names_strs t.files.formats) (sym (ap (λ (x : FileTable). x.has_strp) is.made) ∙ none) in
       record {
         formats = is.formats;
         dirs = is.dirs;

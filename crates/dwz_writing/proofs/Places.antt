@@ -3,9 +3,8 @@ use Rattle.std.proofs.Common.{◌≡◌, ℕ, ◌+◌, Bool, true, false, List, 
 use Rattle.std.proofs.Math.Logic.{inl, inr}
 use Rattle.std.proofs.lemmas.List.{map-append}
 use Rattle.dwz_meanings.specs.Documents.{DwUnit, Entries}
-use Rattle.dwz_docs.specs.Lists.{In}
+use Rattle.dwz_docs.specs.Lists.{Each, In}
 use Rattle.dwz_docs.specs.Trees.{End, Entry}
-use Rattle.dwz_seen.specs.Lists.{Each}
 use Rattle.dwz_writing.specs.Placing.{FileOut, Stands, UnitsStand, files_keys, files_placed, number_in, numbering, placed, units_placed, zeros}
 use Rattle.dwz_seen.specs.Shown.{keys, unit_keys, units_keys}
 use Rattle.dwz_seen.specs.Lists.{NoneTwice}
@@ -31,7 +30,8 @@ module _ {K : Type 0} (n : Numbering K) where
     placed_stands End at fixed h = tt
     placed_stands (Entry e children next) at fixed h =
         let front : length (node_bytes zeros 0 table e children) ≡ length (node_bytes n unit table e children) = node_len zeros n 0 unit table e children fixed.0 in
-        let inner : length (if_any children (spelled zeros 0 table children)) ≡ length (if_any children (spelled n unit table children)) = if_len children _ _ (spelled_len zeros n 0 unit table children fixed.1) in
+        let inner : length (if_any children (spelled zeros 0 table children)) ≡ length (if_any children (spelled n unit table children)) =
+        if_len children _ _ (spelled_len zeros n 0 unit table children fixed.1) in
         let parts = agrees_split (placed table (at + length (node_bytes zeros 0 table e children)) children) _ h.1 in
         let first : Agrees n (placed table (at + length (node_bytes n unit table e children)) children) = rw front at parts.0 in
         let second = rw (front, inner) at parts.1 in
@@ -42,7 +42,8 @@ module _ {K : Type 0} (n : Numbering K) where
     stands_placed End at fixed h = tt
     stands_placed (Entry e children next) at fixed h =
         let front : length (node_bytes n unit table e children) ≡ length (node_bytes zeros 0 table e children) = node_len n zeros unit 0 table e children fixed.0 in
-        let inner : length (if_any children (spelled n unit table children)) ≡ length (if_any children (spelled zeros 0 table children)) = if_len children _ _ (spelled_len n zeros unit 0 table children fixed.1) in
+        let inner : length (if_any children (spelled n unit table children)) ≡ length (if_any children (spelled zeros 0 table children)) =
+        if_len children _ _ (spelled_len n zeros unit 0 table children fixed.1) in
         let first : Agrees n (placed table (at + length (node_bytes zeros 0 table e children)) children) = rw front at (stands_placed children _ fixed.1 h.1) in
         let second = rw (front, inner) at (stands_placed next _ fixed.2 h.2) in
         (h.0, agrees_append _ _ first second)
@@ -64,7 +65,8 @@ module _ {K : Type 0} (n : Numbering K) where
   stands_units (u ∷ units) at fixed h =
       let front : length (node_bytes n at (table_of u) u.root u.below) ≡ length (node_bytes zeros 0 (table_of u) u.root u.below) = node_len n zeros at 0 (table_of u) u.root u.below fixed.0.0 in
       let all : unit_size n at u ≡ unit_size zeros 0 u = size_len n zeros at 0 u fixed.0 in
-      let below : Agrees n (placed (table_of u) (at + header_size u.kind + length (node_bytes zeros 0 (table_of u) u.root u.below)) u.below) = rw front at (stands_placed at (table_of u) u.below _ fixed.0.1 h.0.below) in
+      let below : Agrees n (placed (table_of u) (at + header_size u.kind + length (node_bytes zeros 0 (table_of u) u.root u.below)) u.below) =
+      rw front at (stands_placed at (table_of u) u.below _ fixed.0.1 h.0.below) in
       let others : Agrees n (units_placed (at + unit_size zeros 0 u) units) = subst (λ (s : ℕ). Agrees n (units_placed (at + s) units)) all (stands_units units _ fixed.1 h.1) in
       (h.0.unit, (h.0.root, agrees_append _ _ below others))
 
@@ -132,7 +134,7 @@ units_placed_keys (u ∷ units) at =
     let ys = units_placed (at + unit_size zeros 0 u) units in
     rw (map-append (λ p. p.0) xs ys, placed_keys (table_of u) u.below inner, units_placed_keys units (at + unit_size zeros 0 u)) refl
 
-files_placed_keys : {K : Type 0} (files : List (FileOut K)) → firsts (files_placed files) ≡ files_keys files
+pub files_placed_keys : {K : Type 0} (files : List (FileOut K)) → firsts (files_placed files) ≡ files_keys files
 unfolding files_placed files_keys
 files_placed_keys [] = refl
 files_placed_keys (f ∷ files) = rw (map-append (λ p. p.0) (units_placed 0 f.units) (files_placed files), units_placed_keys f.units 0, files_placed_keys files) refl
@@ -156,6 +158,8 @@ module _ {K : Type 0} (same : K → K → Bool) (is : IsSame same) (files : List
       units_stand (numbering same files) f.units 0 fixed (file_agrees (numbering same files) files all f there)
 
   -- and no other numbers do
-  pub stands_numbering : (n : Numbering K) → ((f : FileOut K) → In f files → Each FixedUnit f.units × UnitsStand n f.units 0) → (k : K) → In k (files_keys files) → n.place k ≡ (numbering same files).place k
+  pub stands_numbering : (n : Numbering K) → ((f : FileOut K) → In f files → Each FixedUnit f.units × UnitsStand n f.units 0) → (k : K) → In k (files_keys files)
+      → n.place k ≡ (numbering same files).place k
   stands_numbering n stand k is_key =
-      agrees_number same is n (files_placed files) k (agrees_all n files (λ f there. stands_units n f.units 0 (stand f there).0 (stand f there).1)) (subst (In k) (sym (files_placed_keys files)) is_key)
+      agrees_number same is n (files_placed files) k (agrees_all n files (λ f there. stands_units n f.units 0 (stand f there).0 (stand f there).1))
+      (subst (In k) (sym (files_placed_keys files)) is_key)

@@ -6,19 +6,19 @@ use Rattle.dwz_bytes.specs.Spelling.{group_count, le_bytes, padded, uleb}
 use Rattle.dwz_meanings.specs.Documents.{Attr, DwUnit, Entries, File, Plain}
 use Rattle.dwz_meanings.specs.LineTables.{nth_path}
 use Rattle.dwz_meanings.specs.LinesWritten.{AreTexts, with_row_0}
-use Rattle.dwz_docs.specs.Lists.{In}
+use Rattle.dwz_docs.specs.Lists.{Each, In}
 use Rattle.dwz_meanings.specs.Meanings.{Class, OfTextBySlot, OfTextInLineStr, OfTextInStr, class_of}
 use Rattle.dwz_docs.specs.Texts.{IsTextAt, NoZero}
 use Rattle.dwz_docs.specs.Trees.{End, Entry}
 use Rattle.dwz_docs.specs.Values.{AreBytes}
+use Rattle.dwz_docs.proofs.ListFacts.{in_left, in_right}
 use Rattle.dwz_alike.specs.Spots.{same_numbers}
-use Rattle.dwz_seen.specs.Lists.{Each}
 use Rattle.dwz_writing.specs.Carried.{AttrPaths, AttrTexts, PathAs, TextAs, UnitPaths, UnitTexts}
 use Rattle.dwz_writing.specs.Fitting.{EachAttr}
-use Rattle.dwz_writing.specs.Placing.{add_unless, attr_path, attr_text, attrs_with, entries_with, has_text, path_as, path_index, paths_of, text_as, text_place, texts_bytes, texts_of, units_with, with_text}
+use Rattle.dwz_writing.specs.Placing.{add_unless, attr_path, attr_text, attrs_with, entries_with, has_text, path_as, path_index, paths_of, text_as, text_place, texts_bytes, texts_of, units_with}
+use Rattle.dwz_writing.specs.Placing.{with_text}
 use Rattle.dwz_writing.specs.Writing.{text_in}
 use Rattle.dwz_alike.proofs.SpotLemmas.{numbers_same, numbers_true}
-use Rattle.dwz_seen.proofs.Members.{in_left, in_right}
 
 pub le_are : (k n : ℕ) → AreBytes (le_bytes k n)
 unfolding le_bytes
@@ -39,7 +39,8 @@ pub pool_stands : (texts : List (List ℕ)) (text : List ℕ) → In text texts 
 unfolding texts_bytes text_place
 pool_stands [] text there none = absurd there
 pool_stands (t ∷ texts) text there none = by (λ r. pool_stands texts text r none) (same_numbers t text) refl where
-  by : (In text texts → IsTextAt (texts_bytes texts) (text_place texts text) text) → (b : Bool) → same_numbers t text ≡ b → IsTextAt (t ++ 0 ∷ texts_bytes texts) (elim b as (λ _. ℕ) [ true ↦ 0 | false ↦ length t + 1 + text_place texts text ]) text
+  by : (In text texts → IsTextAt (texts_bytes texts) (text_place texts text) text) → (b : Bool) → same_numbers t text ≡ b
+      → IsTextAt (t ++ 0 ∷ texts_bytes texts) (elim b as (λ _. ℕ) [ true ↦ 0 | false ↦ length t + 1 + text_place texts text ]) text
   by rest true e = (let same = numbers_true t text e in record {
     before = [];
     front = text ++ 0 ∷ [];

@@ -1,25 +1,28 @@
 -- Units of a file of whose texts only those stay that are used are sound, and say the same.
-use Rattle.std.proofs.Common.{◌≡◌, ℕ, pos, suc, ◌<◌, ◌^◌, Bool, true, false, List, [], ◌∷◌, ◌++◌, length, map, Option, Some, None, refl, sym, ap, subst, ◌∙◌, arith, cond, eqb, eqb-true, is_some, Contains, inl, inr}
+use Rattle.std.proofs.Common.{◌≡◌, ℕ, pos, suc, ◌<◌, ◌^◌, Bool, true, false, List, [], ◌∷◌, ◌++◌, length, map, Option, Some, None, refl, sym, ap, subst, ◌∙◌, arith, cond, eqb, eqb-true, is_some}
+use Rattle.std.proofs.Common.{Contains, inl, inr}
 use Rattle.dwz_model.specs.declared.place.Base.{Base}
 use Rattle.dwz_model.specs.declared.place.Base.TheVariants.{Unit as FromUnit, Info as FromInfo}
 use Rattle.dwz_bytes.specs.Spelling.{SpellsFixed, reach}
-use Rattle.dwz_docs.specs.Lists.{In}
+use Rattle.dwz_docs.specs.Lists.{Each, In}
 use Rattle.dwz_docs.specs.Parts.{StandsAt}
 use Rattle.dwz_docs.specs.Pruning.{is_kept, new_number, pruned}
 use Rattle.dwz_docs.specs.Texts.{IsSlot, IsTextAt, slot, slot_place, text_at}
 use Rattle.dwz_docs.proofs.PruneLemmas.{length_kept, text_stays}
 use Rattle.dwz_docs.proofs.TextLemmas.{here_slot, here_text, text_here}
 use Rattle.dwz_docs.specs.Trees.{End, Entry}
-use Rattle.dwz_meanings.specs.Documents.{Attr, DwUnit, Entries, Kind, Node, Part, Plain, Same, only}
+use Rattle.dwz_docs.proofs.ListFacts.{in_cases, in_left, in_map, in_right}
+use Rattle.dwz_meanings.specs.Documents.{Attr, DwUnit, Entries, Part, Same}
 use Rattle.dwz_meanings.specs.Documents as document
 use Rattle.dwz_meanings.specs.Exprs.{parts_of}
 use Rattle.dwz_alike.specs.Alike.{joined_parts}
 use Rattle.dwz_meanings.specs.Meanings.{Class, IfSo, OfConstant, OfExpression, OfListIndex, OfOffset, OfTextBySlot, OfTextInStr, class_of, names_file, names_list}
-use Rattle.dwz_seen.specs.Lists.{Each}
-use Rattle.dwz_seen.proofs.Members.{in_cases, in_filter, in_left, in_map, in_right}
+use Rattle.dwz_seen.proofs.Members.{in_filter}
 use Rattle.dwz_writing.specs.Fitting.{EachAttr}
-use Rattle.dwz_writing.specs.Meant.{AttrSays, EntriesSay, ExprSays, FileSays, KindSays, ListSays, NodeSays, OperandIn, OperandsIn, Own, SaysAs, SlotSays, Tells, UnitSays, UnitsSay, WasRead, own_of, told_texts}
-use Rattle.dwz_writing.specs.Pruned.{AreNewSlots, AttrStays, HasNoStrp, StaysAs, UnitStays, all_uses, attr_uses, attrs_uses, entries_uses, number_in_slot, renumbered, renumbered_attr, renumbered_node, renumbered_unit, renumbered_units, slot_after, known_slots, slot_uses, units_uses, with_texts}
+use Rattle.dwz_writing.specs.Meant.{AttrSays, EntriesSay, ExprSays, FileSays, KindSays, ListSays, NodeSays, OperandIn, OperandsIn, Own, SaysAs, SlotSays, Tells, UnitSays, UnitsSay, WasRead, own_of}
+use Rattle.dwz_writing.specs.Meant.{told_texts}
+use Rattle.dwz_writing.specs.Pruned.{AreNewSlots, AttrStays, HasNoStrp, StaysAs, UnitStays, all_uses, attr_uses, attrs_uses, entries_uses, number_in_slot, renumbered, renumbered_attr, renumbered_node}
+use Rattle.dwz_writing.specs.Pruned.{renumbered_unit, renumbered_units, slot_after, known_slots, slot_uses, units_uses, with_texts}
 use Rattle.dwz_writing.specs.Sound.{SoundAttr, SoundEntries, SoundUnit}
 use Rattle.dwz_writing.specs.Placing.{with_form}
 use Rattle.dwz_writing.proofs.ChosenValues.{Good, place_less, str_class, strp_good}
@@ -28,7 +31,7 @@ use Rattle.dwz_writing.proofs.Renumbered.{own_renumbered}
 use Rattle.dwz_writing.proofs.StoredClasses.{strp_form}
 
 -- a number that is one of them
-in_contains : (n : ℕ) (ns : List ℕ) → In n ns → Contains ns n
+pub in_contains : (n : ℕ) (ns : List ℕ) → In n ns → Contains ns n
 in_contains n [] there = absurd there
 in_contains n (m ∷ ns) (inl e) = (0, omega arith, e)
 in_contains n (m ∷ ns) (inr r) = (let c = in_contains n ns r in (suc c.0, omega (arith, c.1), c.2))

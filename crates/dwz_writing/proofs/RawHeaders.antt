@@ -76,7 +76,8 @@ type_spelled mode signature main size offset whole sig_fits main_fits some lt sm
     }
 
 module _ {K : Type 0} (n : Numbering K) (unit : ℕ) where
-  pub header_spelled : (kind : Kind K) (tag : ℕ) (mode : Mode) (size offset : ℕ) → SoundKind kind tag → KindFits n unit kind → mode.whole ≡ true → mode.partial ≡ true → 4 ≤ size → size < 2 ^ 32 - 16 → offset < 2 ^ 32
+  pub header_spelled : (kind : Kind K) (tag : ℕ) (mode : Mode) (size offset : ℕ) → SoundKind kind tag → KindFits n unit kind → mode.whole ≡ true → mode.partial ≡ true → 4 ≤ size → size < 2 ^ 32 - 16
+      → offset < 2 ^ 32
       → SpellsHeader mode (raw_kind n unit kind) size offset (header_bytes n unit offset size kind)
   header_spelled Compile tag mode size offset s fits whole partial some lt small = compile_spelled mode size offset whole some lt small
   header_spelled (OfType signature main) tag mode size offset s fits whole partial some lt small = type_spelled mode signature (n.place main - unit) size offset whole s.1 fits.1 some lt small

@@ -12,11 +12,12 @@ use Rattle.dwz_meanings.specs.Meanings.{Class, OfCommonEntry, OfExpression, OfIn
 use Rattle.dwz_docs.specs.Trees.{End, Entry, IfChildren, Position, SpellsForest, behind, first_below, size}
 use Rattle.dwz_docs.specs.Values.{Bytes, Number, Raw, SpellsShape, SpellsValue, shape_of, value_bytes, written_rows}
 use Rattle.dwz_docs.proofs.WrittenLemmas.{value_written}
-use Rattle.dwz_seen.specs.Lists.{Each}
+use Rattle.dwz_docs.specs.Lists.{Each}
 use Rattle.dwz_writing.specs.Fitting.{AttrFits, EntriesFit, FitsAs, FitsInfo, FitsUnit, NodeFits, back_forms, depth}
 use Rattle.dwz_writing.specs.Placing.{Stands, zeros}
 use Rattle.dwz_writing.specs.Sound.{HasBytes, SoundAttr, SoundEntries, SoundNode, StoresAs}
-use Rattle.dwz_writing.specs.Writing.{Numbering, Shape as TableShape, any, attrs_bytes, code_bytes, code_in, coded, declaration_of, expr_bytes, first_place, if_any, node_bytes, pair_of, shape_of as entry_shape, spelled, stored, stored_as}
+use Rattle.dwz_writing.specs.Writing.{Numbering, Shape as TableShape, any, attrs_bytes, code_bytes, code_in, coded, declaration_of, expr_bytes, first_place, if_any, node_bytes, pair_of}
+use Rattle.dwz_writing.specs.Writing.{shape_of as entry_shape, spelled, stored, stored_as}
 use Rattle.dwz_writing.proofs.WriteLengths.{expr_len}
 use Rattle.dwz_writing.proofs.RawUnits.{code_of, raw_attrs, raw_entries, raw_entry}
 use Rattle.dwz_writing.proofs.WriteCodes.{Covers, Has, code_bounds, code_found}
@@ -65,7 +66,8 @@ module _ {K : Type 0} (n : Numbering K) (unit : ℕ) where
       rw s.form (exprloc_spelled _ (expr_bytes n unit a.value.plain a.value.refs) (omega (arith, same, short)))
   as_spelled c a s fits = has_spelled a _ s
 
-  pub attrs_spelled : (attrs : List (Attr K)) (at : ℕ) → Each SoundAttr attrs → Each (AttrFits n unit) attrs → SpellsAttrs written_rows (map pair_of attrs) (raw_attrs n unit at attrs) at (attrs_bytes n unit attrs)
+  pub attrs_spelled : (attrs : List (Attr K)) (at : ℕ) → Each SoundAttr attrs → Each (AttrFits n unit) attrs
+      → SpellsAttrs written_rows (map pair_of attrs) (raw_attrs n unit at attrs) at (attrs_bytes n unit attrs)
   unfolding attrs_bytes raw_attrs
   attrs_spelled [] at s fits = refl
   attrs_spelled (a ∷ attrs) at s fits = record {
@@ -93,7 +95,8 @@ code_spelled table s h few =
     rw h.is (record { code = h.code; spelled = uleb_spells h.code fits; some_code = omega (arith, b.0); declared = code_found 1 table s h.code h.is })
 
 module _ {K : Type 0} (n : Numbering K) (unit : ℕ) (table : List TableShape) (root_tag end : ℕ) (mode : Mode) (forms : mode.forms ≡ back_forms) where
-  pub entry_spelled : (e : Node K) (children : Entries K) (p : Position) (start : ℕ) (h : Has table (entry_shape e children)) → length table < 2 ^ 63 → SoundNode e → NodeFits n unit e → n.place e.at ≡ start
+  pub entry_spelled : (e : Node K) (children : Entries K) (p : Position) (start : ℕ) (h : Has table (entry_shape e children)) → length table < 2 ^ 63 → SoundNode e → NodeFits n unit e
+      → n.place e.at ≡ start
       → (p.depth ≡ 1 → e.tag ≡ root_tag) → p.depth ≤ mode.depth → p.before < mode.entries
       → SpellsEntry (context table root_tag end mode) p (raw_entry n unit table e children) start (node_bytes n unit table e children)
   unfolding node_bytes
@@ -109,7 +112,8 @@ module _ {K : Type 0} (n : Numbering K) (unit : ℕ) (table : List TableShape) (
           first_bytes = code_of table e children;
           first = code_spelled table (entry_shape e children) h few;
           second_bytes = attrs_bytes n unit e.attrs;
-          second = subst (λ (f : ℕ → Bool → List RowView). SpellsAttrs (f root_tag (p.depth == 1)) (map pair_of e.attrs) (raw_attrs n unit (n.place e.at + length (code_of table e children)) e.attrs) (n.place e.at + length (code_of table e children)) (attrs_bytes n unit e.attrs)) (sym forms) (attrs_spelled n unit e.attrs _ s.attrs fits);
+          second = subst (λ (f : ℕ → Bool → List RowView). SpellsAttrs (f root_tag (p.depth == 1)) (map pair_of e.attrs) (raw_attrs n unit (n.place e.at + length (code_of table e children)) e.attrs)
+              (n.place e.at + length (code_of table e children)) (attrs_bytes n unit e.attrs)) (sym forms) (attrs_spelled n unit e.attrs _ s.attrs fits);
           parts = refl;
         };
       } in
@@ -120,7 +124,8 @@ module _ {K : Type 0} (n : Numbering K) (unit : ℕ) (table : List TableShape) (
   size_raw End = refl
   size_raw (Entry e children next) = (let a = size_raw children in let b = size_raw next in omega (arith, a, b))
 
-  pub if_spelled : (children : Entries K) (bytes : List ℕ) (Spelled : List ℕ → Type 0) → Spelled bytes → IfChildren (any children) (raw_entries n unit table children) (Spelled (if_any children bytes)) (if_any children bytes)
+  pub if_spelled : (children : Entries K) (bytes : List ℕ) (Spelled : List ℕ → Type 0) → Spelled bytes
+      → IfChildren (any children) (raw_entries n unit table children) (Spelled (if_any children bytes)) (if_any children bytes)
   unfolding raw_entries
   if_spelled End bytes Spelled is = (refl, refl)
   if_spelled (Entry e c d) bytes Spelled is = is
@@ -134,12 +139,14 @@ module _ {K : Type 0} (n : Numbering K) (unit : ℕ) (table : List TableShape) (
       let front = node_bytes n unit table e children in
       let inner = if_any children (spelled n unit table children) in
       let children_at = forest_spelled children (first_below p) (at + length front) few covers.1 s.1 fits.1 stands.1 (omega (arith, below)) (omega (arith, deep)) (omega (arith, room)) in
-      let next_at = forest_spelled next (behind p (raw_entries n unit table children)) (at + length front + length inner) few covers.2 s.2 fits.2 stands.2 below (omega (arith, deep)) (omega (arith, room, size_raw children)) in
+      let next_at = forest_spelled next (behind p (raw_entries n unit table children)) (at + length front + length inner) few covers.2 s.2 fits.2 stands.2 below (omega (arith, deep))
+      (omega (arith, room, size_raw children)) in
       record {
         first_bytes = front;
         first = entry_spelled e children p at covers.0 few s.0 fits.0 stands.0 (λ e. absurd (omega (arith, e, below))) (omega (arith, deep)) (omega (arith, room));
         second_bytes = inner;
-        second = if_spelled children (spelled n unit table children) (λ b. SpellsForest (λ e. e.children) (SpellsFront (context table root_tag end mode)) (raw_entries n unit table children) (first_below p) (at + length front) b) children_at;
+        second = if_spelled children (spelled n unit table children) (λ b. SpellsForest (λ e. e.children) (SpellsFront (context table root_tag end mode)) (raw_entries n unit table children)
+            (first_below p) (at + length front) b) children_at;
         third_bytes = spelled n unit table next;
         third = next_at;
         parts = refl;

@@ -9,18 +9,19 @@ use Rattle.dwz_alike.specs.Alike.{joined_parts}
 use Rattle.dwz_meanings.specs.Exprs.{parts_of}
 use Rattle.dwz_model.specs.declared.place.Base.{Base}
 use Rattle.dwz_model.specs.declared.place.Base.TheVariants.{Unit as FromUnit, Info as FromInfo}
-use Rattle.dwz_docs.specs.Lists.{In}
+use Rattle.dwz_docs.specs.Lists.{Each, In}
 use Rattle.dwz_meanings.specs.Meanings.{Class, IfSo, OfCommonEntry, OfExpression, OfInfoEntry, OfListIndex, OfOffset, OfUnitEntry, class_of, names_list}
 use Rattle.dwz_docs.specs.Trees.{End, Entry}
-use Rattle.dwz_seen.specs.Lists.{Each}
-use Rattle.dwz_writing.specs.Fitting.{AttrFits, EachAttr, EntriesFit, ExprFits, FitsAs, FitsInfo, FitsUnit, FitsWidth, HasRoom, HasRoomAs, KindFits, ListFits, OperandsFit, OperandsHaveRoom, PlainHasRoom, UnitFits, UnitHasRoom}
+use Rattle.dwz_docs.proofs.ListFacts.{in_cases, in_left, in_right}
+use Rattle.dwz_writing.specs.Fitting.{AttrFits, EachAttr, EntriesFit, ExprFits, FitsAs, FitsInfo, FitsUnit, FitsWidth, HasRoom, HasRoomAs, KindFits, ListFits, OperandsFit, OperandsHaveRoom}
+use Rattle.dwz_writing.specs.Fitting.{PlainHasRoom, UnitFits, UnitHasRoom}
 use Rattle.dwz_writing.specs.Meant.{AttrSays, EntriesSay, ExprSays, KindSays, ListSays, OperandIn, OperandsIn, Own, SaysAs, Tells, UnitSays, UnitsSay, all_entry_keys, entry_keys, own_of}
 use Rattle.dwz_writing.specs.Placing.{Stands, UnitStands, UnitsStand}
 use Rattle.dwz_seen.specs.Shown.{keys, unit_keys, units_keys}
 use Rattle.dwz_writing.specs.Writing.{Numbering, Shape, base_place, header_size, if_any, node_bytes, spelled, table_of, tree_bytes, unit_size}
 use Rattle.dwz_writing.proofs.UnitsSpelled.{header_some, node_some, units_size}
 use Rattle.dwz_writing.proofs.WriteCodes.{Covers, is_table}
-use Rattle.dwz_seen.proofs.Members.{each_more, in_cases, in_left, in_right}
+use Rattle.dwz_seen.proofs.Members.{each_more}
 
 -- the places of keys rise from one place to below another
 abbrev pub Rises : {K : Type 0} → Numbering K → ℕ → List K → ℕ → Type 0
@@ -65,7 +66,8 @@ module _ {K : Type 0} (n : Numbering K) where
       let inner = if_any u.below (spelled n at (table_of u) u.below) in
       let some = node_some n at (table_of u) u.root u.below t.root in
       let len : at + header_size u.kind + length front + length inner ≡ at + (header_size u.kind + length (front ++ inner)) = omega (arith, length-append front inner) in
-      let a = rises_if u.below (spelled n at (table_of u) u.below) (at + header_size u.kind + length front) (entries_rise at (table_of u) u.below (at + header_size u.kind + length front) t.below h.below) in
+      let a = rises_if u.below (spelled n at (table_of u) u.below) (at + header_size u.kind + length front)
+      (entries_rise at (table_of u) u.below (at + header_size u.kind + length front) t.below h.below) in
       let a' = subst (λ (k : ℕ). Rises n (at + header_size u.kind + length front) (keys u.below) k) len a in
       (omega (arith, h.unit), (omega (arith, h.unit, h.root, head), rises_lower (keys u.below) (at + header_size u.kind + length front) _ (n.place u.root.at + 1) (omega (arith, h.root, some)) a'))
 
@@ -224,7 +226,8 @@ module _ {K : Type 0} (n : Numbering K) (t : Tells K) (small : (k : K) → In k 
         (unit_fits u at stands.0 (omega (arith, same, lt)) room.0 says.0, each_fits units _ stands.1 (omega (arith, lt)) room.1 says.1)
 
 -- the numbers of units that stand in fewer than 2^32 bytes fit
-pub units_fit : {K : Type 0} (n : Numbering K) (t : Tells K) (units : List (DwUnit K)) → t.all ≡ all_entry_keys units → ((k : K) → In k t.common → FitsInfo n k) → UnitsStand n units 0 → units_size n units < 2 ^ 32 → Each (UnitHasRoom n) units → UnitsSay t units
+pub units_fit : {K : Type 0} (n : Numbering K) (t : Tells K) (units : List (DwUnit K)) → t.all ≡ all_entry_keys units → ((k : K) → In k t.common → FitsInfo n k) → UnitsStand n units 0
+    → units_size n units < 2 ^ 32 → Each (UnitHasRoom n) units → UnitsSay t units
     → Each (UnitFits n) units
 units_fit {K} n t units same common stands lt room says =
     let small : (k : K) → In k t.all → FitsInfo n k = λ k is. (let to = place_within n units stands k (entries_are_keys units k (subst (In k) same is)) in omega (arith, to, lt)) in

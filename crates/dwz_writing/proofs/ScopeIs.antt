@@ -1,11 +1,16 @@
 -- What a scope has, where a unit that was written is read.
-use Rattle.std.proofs.Common.{◌≡◌, ℕ, List, map, Some}
+use Rattle.std.proofs.Common.{◌≡◌, ℕ, List, map, Some, Ok}
 use Rattle.dwz_docs.specs.Lists.{In}
 use Rattle.dwz_docs.specs.Texts.{IsTextAt}
-use Rattle.dwz_meanings.specs.Meanings.{Common, Scope, loclists_base, stmt_list, str_offsets_base}
+use Rattle.dwz_docs.specs.Units.{RawUnit}
+use Rattle.dwz_meanings.specs.Meanings.{Around, Common, Scope, loclists_base, scope_of, stmt_list, str_offsets_base, unit_meaning}
 use Rattle.dwz_writing.specs.Meant.{AreRenumbered, Own, Tells}
 use Rattle.dwz_meanings.specs.Shared.{NoneShared}
+use Rattle.dwz_meanings.specs.Documents.{DwUnit}
+use Rattle.dwz_meanings.proofs.MeaningLemmas.{unit_agrees}
 use Rattle.dwz_writing.specs.Writing.{Numbering}
+use Rattle.dwz_writing.specs.Bases.{bases_in, bases_of}
+use Rattle.dwz_writing.proofs.ReadAgain.{bases_read}
 
 -- the scope of a unit that was written, where its keys have these places
 pub record IsScope {K P : Type 0} (n : Numbering K) (g : K → P) (at : ℕ) (t : Tells K) (own : Own K) (s : Scope P) : Type 0 where
@@ -26,3 +31,7 @@ pub record IsScope {K P : Type 0} (n : Numbering K) (g : K → P) (at : ℕ) (t 
   pub place_own : (k : K) → In k own.keys → s.around.place (n.place k) ≡ g k
   pub place_all : (k : K) → In k t.all → s.around.place (n.place k) ≡ g k
   pub common : (k : K) → In k t.common → (c : Common P) × (s.around.common ≡ Some c) × In (n.place k) c.entries × (c.place (n.place k) ≡ g k)
+
+-- its root says the same of slots, of a line table and of lists
+pub own_bases : (around : Around ℕ) (u : RawUnit) (v : DwUnit ℕ) → unit_meaning around u ≡ Ok v → bases_of (scope_of around u) ≡ bases_in v
+own_bases around u v e = bases_read (scope_of around u) v.root.attrs (((unit_agrees around u).ok v).0 e).root.attrs

@@ -1,11 +1,12 @@
 -- Slots of `.debug_str_offsets` stand in it, and none begins inside another.
 use Rattle.std.proofs.Common.{◌≡◌, ℕ, zero, suc, ◌+◌, ◌*◌, ◌≤◌, List, [], ◌∷◌, ◌++◌, length, Option, Some, None, refl, sym, ap, subst, ◌∙◌, arith, inl, inr}
 use Rattle.std.proofs.lemmas.List.{length-append}
-use Rattle.dwz_docs.specs.Lists.{In}
+use Rattle.dwz_docs.specs.Lists.{Each, In}
 use Rattle.dwz_docs.specs.OffsetTables.{SpellContributions, SpellsContribution, places_from, slot_places, slots_in}
 use Rattle.dwz_docs.proofs.OffsetLemmas.{slots_found}
-use Rattle.dwz_seen.specs.Lists.{Each, EachPair}
-use Rattle.dwz_seen.proofs.Members.{each_of, in_cases, pair_append}
+use Rattle.dwz_docs.proofs.ListFacts.{in_cases}
+use Rattle.dwz_seen.specs.Lists.{EachPair}
+use Rattle.dwz_seen.proofs.Members.{each_of, pair_append}
 use Rattle.dwz_writing.specs.Pruned.{known_slots, slots_or_none}
 
 -- ---- in a contribution

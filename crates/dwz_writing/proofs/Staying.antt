@@ -3,14 +3,16 @@ use Rattle.std.proofs.Common.{◌≡◌, ℕ, ℤ, Bool, true, false, List, [], 
 use Rattle.dwz_bytes.specs.Spelling.{reach}
 use Rattle.dwz_docs.specs.Trees.{End, Entry}
 use Rattle.dwz_meanings.specs.Documents.{Attr, Compile, DwUnit, Entries, Kind, Node, OfType, Partial}
-use Rattle.dwz_meanings.specs.Meanings.{Class, OfCommonEntry, OfConstant, OfInfoEntry, OfTextBySlot, OfTextInLineStr, OfTextInStr, OfUnitEntry, Sources, class_in, class_of, class_rows, names_file, number_of, texts_of}
+use Rattle.dwz_meanings.specs.Meanings.{Class, OfCommonEntry, OfConstant, OfInfoEntry, OfTextBySlot, OfTextInLineStr, OfTextInStr, OfUnitEntry, Sources, class_in, class_of, class_rows, names_file}
+use Rattle.dwz_meanings.specs.Meanings.{number_of, texts_of}
 use Rattle.dwz_meanings.specs.LineTables.{TextSections}
-use Rattle.dwz_seen.specs.Lists.{Each}
+use Rattle.dwz_docs.specs.Lists.{Each}
 use Rattle.dwz_seen.specs.Shown.{units_keys}
 use Rattle.dwz_writing.specs.Bases.{Bases, bases_in}
 use Rattle.dwz_writing.specs.Carried.{BasesStand, CarriedAttr, CarriedEntries, CarriedNode, CarriedUnit, ComesFromItself, FileStands, OfFile}
 use Rattle.dwz_writing.specs.Fitting.{EachAttr}
-use Rattle.dwz_writing.specs.Placing.{Chosen, CommonUnit, FileFit, Fit, Forms, Holder, InCommon, InFile, InUnit, NewUnit, OldUnit, Reach, as_constant, as_file, as_line_text, as_slot, as_strp_if, as_text, fit, fit_as, fit_attr, fit_unit, fit_units, has_text, holder_of, reach_of, ref_form, slot_number, unit_fit, with_keys}
+use Rattle.dwz_writing.specs.Placing.{Chosen, CommonUnit, FileFit, Fit, Forms, Holder, InCommon, InFile, InUnit, NewUnit, OldUnit, Reach, as_constant, as_file, as_line_text, as_slot, as_strp_if}
+use Rattle.dwz_writing.specs.Placing.{as_text, fit, fit_as, fit_attr, fit_unit, fit_units, has_text, holder_of, reach_of, ref_form, slot_number, unit_fit, with_keys}
 use Rattle.dwz_writing.specs.Pruned.{AttrStays, StaysAs, StaysIn, UnitStays}
 use Rattle.dwz_writing.specs.Writing.{text_in}
 use Rattle.dwz_writing.proofs.Carrying.{import_class}

@@ -42,7 +42,7 @@ pub rows_agree : agree class_rows ≡ true
 unfolding class_rows form_rows
 rows_agree = refl
 
-two_tests : (a b : Bool) → cond a b false ≡ true → (a ≡ true) × (b ≡ true)
+pub two_tests : (a b : Bool) → cond a b false ≡ true → (a ≡ true) × (b ≡ true)
 two_tests true b e = (refl, e)
 two_tests false b e = absurd cc
 
@@ -52,7 +52,8 @@ class_agrees [] form e = inl refl
 class_agrees (r ∷ rows) form e =
     let t = two_tests (same_bool (stores_bytes r.class) (holds_bytes (shape_of written_rows r.form))) (agree rows) e in
     go (same_bool-true _ _ t.0) (class_agrees rows form t.1) (eqb r.form form) refl where
-      go : stores_bytes r.class ≡ holds_bytes (shape_of written_rows r.form) → (class_in rows form ≡ Unread) ⊎ (stores_bytes (class_in rows form) ≡ holds_bytes (shape_of written_rows form)) → (b : Bool) → eqb r.form form ≡ b
+      go : stores_bytes r.class ≡ holds_bytes (shape_of written_rows r.form) → (class_in rows form ≡ Unread) ⊎ (stores_bytes (class_in rows form) ≡ holds_bytes (shape_of written_rows form))
+          → (b : Bool) → eqb r.form form ≡ b
           → (cond b r.class (class_in rows form) ≡ Unread) ⊎ (stores_bytes (cond b r.class (class_in rows form)) ≡ holds_bytes (shape_of written_rows form))
       go same rest true e = inr (same ∙ ap (λ (f : ℕ). holds_bytes (shape_of written_rows f)) (eqb-true r.form form e))
       go same rest false e = rest

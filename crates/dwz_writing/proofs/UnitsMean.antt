@@ -4,22 +4,23 @@ use Rattle.std.proofs.Math.Logic.{inl, inr}
 use Rattle.std.proofs.lemmas.List.{map-append}
 use Rattle.dwz_meanings.specs.Documents.{Attr, Compile, DwUnit, Entries, Kind, Node, OfType, Partial, first_named, kind_map}
 use Rattle.dwz_docs.specs.Entries.{RawAttr}
-use Rattle.dwz_docs.specs.Lists.{In}
-use Rattle.dwz_meanings.specs.Meanings.{Around, Class, MeanAttrs, MeanEntries, MeanUnits, MeansAttr, MeansKind, MeansNode, MeansUnit, OfOffset, Scope, all_places, base_in, class_of, first_raw, number_of, places_in, places_of, scope_of, without_siblings}
+use Rattle.dwz_docs.specs.Lists.{Each, In}
+use Rattle.dwz_meanings.specs.Meanings.{Around, Class, MeanAttrs, MeanEntries, MeanUnits, MeansAttr, MeansKind, MeansNode, MeansUnit, OfOffset, Scope, all_places, base_in, class_of, first_raw}
+use Rattle.dwz_meanings.specs.Meanings.{number_of, places_in, places_of, scope_of, without_siblings}
 use Rattle.dwz_bytes.specs.Spelling.{reach}
 use Rattle.dwz_writing.specs.Bases.{offset_in}
 use Rattle.dwz_docs.specs.Trees.{End, Entry}
 use Rattle.dwz_docs.specs.Values.{value_bytes}
-use Rattle.dwz_seen.specs.Lists.{Each}
+use Rattle.dwz_docs.proofs.ListFacts.{in_left, in_map, in_right}
 use Rattle.dwz_writing.specs.Fitting.{AttrFits, EntriesFit, KindFits, NodeFits, UnitFits}
-use Rattle.dwz_writing.specs.Meant.{AttrSays, EntriesSay, IsAround, KindSays, NodeSays, Own, Tells, own_of, UnitSays, UnitsSay, all_entry_keys, entry_keys, placed_attr, placed_entries, placed_node, placed_unit, placed_units}
+use Rattle.dwz_writing.specs.Meant.{AttrSays, EntriesSay, IsAround, KindSays, NodeSays, Own, Tells, own_of, UnitSays, UnitsSay, all_entry_keys, entry_keys, placed_attr, placed_entries, placed_node}
+use Rattle.dwz_writing.specs.Meant.{placed_unit, placed_units}
 use Rattle.dwz_seen.specs.Shown.{keys, unit_keys, units_keys}
 use Rattle.dwz_writing.specs.Sound.{SoundAttr, SoundEntries, SoundNode, SoundUnit}
 use Rattle.dwz_writing.specs.Writing.{Numbering, Shape, pair_of, stored, stored_as, table_of}
 use Rattle.dwz_writing.proofs.RawUnits.{raw_attrs, raw_entries, raw_entry, raw_kind, raw_unit, raw_units}
 use Rattle.dwz_writing.proofs.ScopeIs.{IsScope}
 use Rattle.dwz_writing.proofs.ValuesMean.{as_means}
-use Rattle.dwz_seen.proofs.Members.{in_left, in_map, in_right}
 use Rattle.dwz_writing.proofs.StoredClasses.{offset_class}
 
 -- ---- attributes
@@ -35,22 +36,26 @@ all_stay n unit (a ∷ attrs) at sound =
     ap (λ (b : Bool). cond b (without_siblings others) (here ∷ without_siblings others)) test ∙ ap (λ (w : List RawAttr). here ∷ w) (all_stay n unit attrs _ sound.1)
 
 module _ {K P : Type 0} (n : Numbering K) (g : K → P) (unit : ℕ) (t : Tells K) (own : Own K) (s : Scope P) (is : IsScope n g unit t own s) where
-  attr_means : (a : Attr K) (at end : ℕ) → SoundAttr a → AttrFits n unit a → AttrSays t own a → MeansAttr s (record { at = at; end = end; pair = pair_of a; raw = stored n unit a }) (placed_attr n g unit a)
+  attr_means : (a : Attr K) (at end : ℕ) → SoundAttr a → AttrFits n unit a → AttrSays t own a
+      → MeansAttr s (record { at = at; end = end; pair = pair_of a; raw = stored n unit a }) (placed_attr n g unit a)
   attr_means a at end sound fits says = record { name = refl; form = refl; raw = refl; value = as_means n g unit t own s is (class_of a.form) a at end refl sound.known sound.value fits says }
 
-  attrs_mean : (attrs : List (Attr K)) (at : ℕ) → Each SoundAttr attrs → Each (AttrFits n unit) attrs → Each (AttrSays t own) attrs → MeanAttrs s (raw_attrs n unit at attrs) (map (placed_attr n g unit) attrs)
+  attrs_mean : (attrs : List (Attr K)) (at : ℕ) → Each SoundAttr attrs → Each (AttrFits n unit) attrs → Each (AttrSays t own) attrs
+      → MeanAttrs s (raw_attrs n unit at attrs) (map (placed_attr n g unit) attrs)
   unfolding raw_attrs
   attrs_mean [] at sound fits says = tt
   attrs_mean (a ∷ attrs) at sound fits says = (attr_means a at _ sound.0 fits.0 says.0, attrs_mean attrs _ sound.1 fits.1 says.1)
 
-  node_means : (table : List Shape) (e : Node K) (children : Entries K) → g e.at ≡ s.around.place (n.place e.at) → SoundNode e → NodeFits n unit e → NodeSays t own e → MeansNode s (raw_entry n unit table e children) (placed_node n g unit e)
+  node_means : (table : List Shape) (e : Node K) (children : Entries K) → g e.at ≡ s.around.place (n.place e.at) → SoundNode e → NodeFits n unit e → NodeSays t own e
+      → MeansNode s (raw_entry n unit table e children) (placed_node n g unit e)
   node_means table e children place sound fits says = record {
     place = place;
     tag = refl;
     attrs = subst (λ (w : List RawAttr). MeanAttrs s w (map (placed_attr n g unit) e.attrs)) (sym (all_stay n unit e.attrs _ sound.attrs)) (attrs_mean e.attrs _ sound.attrs fits says);
   }
 
-  entries_mean : (table : List Shape) (f : Entries K) → ((k : K) → In k (keys f) → In k own.keys) → SoundEntries f → EntriesFit n unit f → EntriesSay t own f → MeanEntries s (raw_entries n unit table f) (placed_entries n g unit f)
+  entries_mean : (table : List Shape) (f : Entries K) → ((k : K) → In k (keys f) → In k own.keys) → SoundEntries f → EntriesFit n unit f → EntriesSay t own f
+      → MeanEntries s (raw_entries n unit table f) (placed_entries n g unit f)
   unfolding raw_entries placed_entries keys
   entries_mean table End inside sound fits says = tt
   entries_mean table (Entry e children next) inside sound fits says = (
@@ -80,7 +85,8 @@ pub base_raw : {K : Type 0} (n : Numbering K) (unit name : ℕ) (attrs : List (A
 unfolding raw_attrs first_raw first_named
 base_raw n unit name [] at = refl
 base_raw {K} n unit name (a ∷ attrs) at =
-    by (record { at = at; end = at + length (value_bytes a.form (stored n unit a)); pair = pair_of a; raw = stored n unit a }) (raw_attrs n unit (at + length (value_bytes a.form (stored n unit a))) attrs)
+    by (record { at = at; end = at + length (value_bytes a.form (stored n unit a)); pair = pair_of a; raw = stored n unit a })
+    (raw_attrs n unit (at + length (value_bytes a.form (stored n unit a))) attrs)
     (offset_raw n unit a at (at + length (value_bytes a.form (stored n unit a)))) (base_raw n unit name attrs (at + length (value_bytes a.form (stored n unit a)))) (eqb a.name name) where
       by : (here : RawAttr) (others : List RawAttr) → base_in (Some here) ≡ offset_in (Some a) → base_in (first_raw name others) ≡ offset_in (first_named name attrs)
           → (b : Bool) → base_in (cond b (Some here) (first_raw name others)) ≡ offset_in (cond b (Some a) (first_named name attrs))
@@ -108,7 +114,8 @@ all_raw n tables (u ∷ units) =
 
 -- ---- units
 
-module _ {K P : Type 0} (n : Numbering K) (g : K → P) (tables : List (List ℕ)) (t : Tells K) (keys : List K) (around : Around P) (is : IsAround n g t keys around) (within : (k : K) → In k t.all → In k keys) where
+module _ {K P : Type 0} (n : Numbering K) (g : K → P) (tables : List (List ℕ)) (t : Tells K) (keys : List K) (around : Around P) (is : IsAround n g t keys around)
+    (within : (k : K) → In k t.all → In k keys) where
   -- what is known where one of the units is read
   abbrev pub unit_scope : (u : DwUnit K) → ((k : K) → In k (entry_keys u) → In k keys) → IsScope n g (n.place u.at) t (own_of u) (scope_of around (raw_unit n tables u))
   unit_scope u inside = record {
@@ -144,7 +151,8 @@ module _ {K P : Type 0} (n : Numbering K) (g : K → P) (tables : List (List ℕ
         below = entries_mean n g unit t (own_of u) s scope (table_of u) u.below (λ k there. inr there) sound.below fits.below says.below;
       }
 
-  pub units_mean : (units : List (DwUnit K)) → ((k : K) → In k (units_keys units) → In k keys) → Each SoundUnit units → Each (UnitFits n) units → UnitsSay t units → MeanUnits around (raw_units n tables units) (placed_units n g units)
+  pub units_mean : (units : List (DwUnit K)) → ((k : K) → In k (units_keys units) → In k keys) → Each SoundUnit units → Each (UnitFits n) units → UnitsSay t units
+      → MeanUnits around (raw_units n tables units) (placed_units n g units)
   unfolding raw_units units_keys
   units_mean [] inside sound fits says = tt
   units_mean (u ∷ units) inside sound fits says = (

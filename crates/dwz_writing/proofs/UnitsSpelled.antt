@@ -7,11 +7,12 @@ use Rattle.dwz_meanings.specs.Documents.{Compile, DwUnit, Entries, Kind, Node, O
 use Rattle.dwz_docs.specs.Entries.{Mode, SpellsFront, UnitContext, root_position}
 use Rattle.dwz_docs.specs.Trees.{End, Entry, SpellsForest, first_below, size}
 use Rattle.dwz_docs.specs.Units.{SpellsHeader, SpellsTree, SpellsUnit, SpellsUnits, entry_count, root_tag}
-use Rattle.dwz_seen.specs.Lists.{Each}
+use Rattle.dwz_docs.specs.Lists.{Each}
 use Rattle.dwz_writing.specs.Fitting.{UnitFits, back_forms, depth, entry_total}
 use Rattle.dwz_writing.specs.Placing.{UnitStands, UnitsStand}
 use Rattle.dwz_writing.specs.Sound.{SoundKind, SoundUnit}
-use Rattle.dwz_writing.specs.Writing.{Numbering, Shape, abbrevs_of, attrs_bytes, header_size, if_any, joined, node_bytes, shape_of, spelled, table_of, table_offset, tree_bytes, unit_bytes, unit_size, units_bytes}
+use Rattle.dwz_writing.specs.Writing.{Numbering, Shape, abbrevs_of, attrs_bytes, header_size, if_any, joined, node_bytes, shape_of, spelled, table_of, table_offset, tree_bytes, unit_bytes, unit_size}
+use Rattle.dwz_writing.specs.Writing.{units_bytes}
 use Rattle.dwz_writing.proofs.RawHeaders.{header_bytes, header_len, header_spelled, unit_len, unit_parts}
 use Rattle.dwz_writing.proofs.RawSpelled.{context, entry_spelled, forest_spelled, if_spelled, size_raw}
 use Rattle.dwz_writing.proofs.RawUnits.{raw_entries, raw_entry, raw_kind, raw_unit, raw_units}
@@ -93,7 +94,8 @@ module _ {K : Type 0} (n : Numbering K) (tables : List (List ℕ)) (mode : Mode)
   few_shapes : Writes n tables mode before u → length (table_of u) < 2 ^ 63
   few_shapes w = (let len = (is_table u).len in omega (arith, len, few_entries w))
 
-  tree_spelled : Writes n tables mode before u → UnitStands n u unit → SpellsTree c before (raw_entry n unit (table_of u) u.root u.below) (raw_entries n unit (table_of u) u.below) (unit + header_size u.kind) (tree_bytes n unit u)
+  tree_spelled : Writes n tables mode before u → UnitStands n u unit → SpellsTree c before (raw_entry n unit (table_of u) u.root u.below) (raw_entries n unit (table_of u) u.below)
+      (unit + header_size u.kind) (tree_bytes n unit u)
   unfolding tree_bytes
   tree_spelled w stands =
       let t = is_table u in
@@ -101,12 +103,15 @@ module _ {K : Type 0} (n : Numbering K) (tables : List (List ℕ)) (mode : Mode)
       let p = root_position before in
       let deep = w.deep in
       let room = w.room in
-      let below = forest_spelled n unit (table_of u) (root_tag (raw_kind n unit u.kind)) (unit + unit_size n unit u) mode w.forms u.below (first_below p) (unit + header_size u.kind + length front) (few_shapes w) t.below w.sound.below w.fits.below stands.below (omega arith) (omega (arith, deep)) (omega (arith, room)) in
+      let below = forest_spelled n unit (table_of u) (root_tag (raw_kind n unit u.kind)) (unit + unit_size n unit u) mode w.forms u.below (first_below p) (unit + header_size u.kind + length front)
+      (few_shapes w) t.below w.sound.below w.fits.below stands.below (omega arith) (omega (arith, deep)) (omega (arith, room)) in
       record {
         first_bytes = front;
-        first = entry_spelled n unit (table_of u) (root_tag (raw_kind n unit u.kind)) (unit + unit_size n unit u) mode w.forms u.root u.below p (unit + header_size u.kind) t.root (few_shapes w) w.sound.root w.fits.root stands.root (λ e. root_tag_of n unit u.kind u.root.tag w.sound.kind) (omega (arith, deep)) (omega (arith, room));
+        first = entry_spelled n unit (table_of u) (root_tag (raw_kind n unit u.kind)) (unit + unit_size n unit u) mode w.forms u.root u.below p (unit + header_size u.kind) t.root (few_shapes w)
+            w.sound.root w.fits.root stands.root (λ e. root_tag_of n unit u.kind u.root.tag w.sound.kind) (omega (arith, deep)) (omega (arith, room));
         second_bytes = if_any u.below (spelled n unit (table_of u) u.below);
-        second = if_spelled n unit (table_of u) (root_tag (raw_kind n unit u.kind)) (unit + unit_size n unit u) mode w.forms u.below (spelled n unit (table_of u) u.below) (λ b. SpellsForest (λ e. e.children) (SpellsFront c) (raw_entries n unit (table_of u) u.below) (first_below p) (unit + header_size u.kind + length front) b) below;
+        second = if_spelled n unit (table_of u) (root_tag (raw_kind n unit u.kind)) (unit + unit_size n unit u) mode w.forms u.below (spelled n unit (table_of u) u.below)
+            (λ b. SpellsForest (λ e. e.children) (SpellsFront c) (raw_entries n unit (table_of u) u.below) (first_below p) (unit + header_size u.kind + length front) b) below;
         parts = refl;
       }
 
@@ -136,7 +141,8 @@ module _ {K : Type 0} (n : Numbering K) (tables : List (List ℕ)) (mode : Mode)
         header = header;
         is_header = subst (λ (k : ℕ). SpellsHeader mode (raw_kind n unit u.kind) k offset header) len head;
         tree = tree;
-        is_tree = subst (λ (k : ℕ). SpellsTree c before (raw_entry n unit (table_of u) u.root u.below) (raw_entries n unit (table_of u) u.below) (unit + k) tree) (sym (header_len n unit u.kind offset size)) (tree_spelled w stands);
+        is_tree = subst (λ (k : ℕ). SpellsTree c before (raw_entry n unit (table_of u) u.root u.below) (raw_entries n unit (table_of u) u.below) (unit + k) tree)
+            (sym (header_len n unit u.kind offset size)) (tree_spelled w stands);
         padding = [];
         zeros = tt;
         parts = unit_parts n unit offset u ∙ ap (λ (b : List ℕ). header ++ b) (sym (append-nil tree));
@@ -158,7 +164,8 @@ units_len n tables (u ∷ units) =
 
 module _ {K : Type 0} (n : Numbering K) (tables : List (List ℕ)) (mode : Mode) where
   pub units_spelled : (units : List (DwUnit K)) (at before : ℕ) → UnitsStand n units at → Each SoundUnit units → Each (UnitFits n) units → HasTables tables units
-      → mode.whole ≡ true → mode.partial ≡ true → mode.forms ≡ back_forms → Each (λ u. suc (depth u.below) ≤ mode.depth) units → before + entry_total units ≤ mode.entries → units_size n units < 2 ^ 32 - 16 → length (joined tables) < 2 ^ 32
+      → mode.whole ≡ true → mode.partial ≡ true → mode.forms ≡ back_forms → Each (λ u. suc (depth u.below) ≤ mode.depth) units → before + entry_total units ≤ mode.entries
+      → units_size n units < 2 ^ 32 - 16 → length (joined tables) < 2 ^ 32
       → SpellsUnits (joined tables) mode before (raw_units n tables units) at (units_bytes n tables units)
   unfolding units_bytes raw_units units_size entry_total
   units_spelled [] at before stands s fits has whole partial forms deep room small tables_small = refl
@@ -166,17 +173,32 @@ module _ {K : Type 0} (n : Numbering K) (tables : List (List ℕ)) (mode : Mode)
       let unit = n.place u.at in
       let bytes = unit_bytes n (table_offset tables u) unit u in
       let place = stands.0.unit in
-      let w : Writes n tables mode before u = record { sound = s.0; fits = fits.0; whole = whole; partial = partial; forms = forms; deep = deep.0; room = omega (arith, room); small = omega (arith, small); has = has.0; tables_small = tables_small } in
+      let w : Writes n tables mode before u =
+      record {
+        sound = s.0;
+        fits = fits.0;
+        whole = whole;
+        partial = partial;
+        forms = forms;
+        deep = deep.0;
+        room = omega (arith, room);
+        small = omega (arith, small);
+        has = has.0;
+        tables_small =
+            tables_small;
+      } in
       let here : UnitStands n u unit = subst (UnitStands n u) (sym place) stands.0 in
       let raw = raw_unit n tables u in
       let one : SpellsUnit (joined tables) mode before raw at bytes = subst (λ (k : ℕ). SpellsUnit (joined tables) mode before raw k bytes) place (unit_spelled n tables mode before u w here) in
       let len : at + unit_size n at u ≡ at + length bytes = ap (λ (k : ℕ). at + unit_size n k u) (sym place) ∙ ap (λ (k : ℕ). at + k) (sym (unit_len n unit (table_offset tables u) u)) in
       let count : before + (size u.below + 1) ≡ before + entry_count raw = ap (λ (k : ℕ). before + (k + 1)) (sym (size_raw n unit (table_of u) 0 0 mode forms u.below)) in
-      let others = units_spelled units (at + unit_size n at u) (before + (size u.below + 1)) stands.1 s.1 fits.1 has.1 whole partial forms deep.1 (omega (arith, room)) (omega (arith, small)) tables_small in
+      let others = units_spelled units (at + unit_size n at u) (before + (size u.below + 1)) stands.1 s.1 fits.1 has.1 whole partial forms deep.1 (omega (arith, room)) (omega (arith, small))
+      tables_small in
       record {
         first_bytes = bytes;
         first = one;
         second_bytes = units_bytes n tables units;
-        second = subst (λ (k : ℕ). SpellsUnits (joined tables) mode k (raw_units n tables units) (at + length bytes) (units_bytes n tables units)) count (subst (λ (k : ℕ). SpellsUnits (joined tables) mode (before + (size u.below + 1)) (raw_units n tables units) k (units_bytes n tables units)) len others);
+        second = subst (λ (k : ℕ). SpellsUnits (joined tables) mode k (raw_units n tables units) (at + length bytes) (units_bytes n tables units)) count
+            (subst (λ (k : ℕ). SpellsUnits (joined tables) mode (before + (size u.below + 1)) (raw_units n tables units) k (units_bytes n tables units)) len others);
         parts = refl;
       }

@@ -3,16 +3,18 @@ use Rattle.std.proofs.Common.{◌≡◌, ℕ, ℤ, ◌+◌, ◌-◌, Bool, true,
 use Rattle.dwz_bytes.specs.Spelling.{reach}
 use Rattle.dwz_meanings.specs.Documents.{Addr, Attr, Block, Flag, Index, Num, Plain, Sec, Sig, Text, Value, only, ref, value_map}
 use Rattle.dwz_docs.specs.Entries.{RawAttr}
-use Rattle.dwz_docs.specs.Lists.{In}
-use Rattle.dwz_meanings.specs.Meanings.{Class, IfSo, IsCommonText, IsEntryAmong, IsFileBy, IsLocList, IsTextBySlot, IsTextIn, MeansAs, OfAddress, OfBlock, OfCommonEntry, OfCommonText, OfConstant, OfExpression, OfFlag, OfIndex, OfInfoEntry, OfListIndex, OfOffset, OfSignature, OfText, OfTextBySlot, OfTextInLineStr, OfTextInStr, OfUnitEntry, Scope, Unread, bytes_of, class_of, kept_width, names_file, names_list, number_of, stmt_list}
+use Rattle.dwz_docs.specs.Lists.{Each, In}
+use Rattle.dwz_meanings.specs.Meanings.{Class, IfSo, IsCommonText, IsEntryAmong, IsFileBy, IsLocList, IsTextBySlot, IsTextIn, MeansAs, OfAddress, OfBlock, OfCommonEntry, OfCommonText, OfConstant}
+use Rattle.dwz_meanings.specs.Meanings.{OfExpression, OfFlag, OfIndex, OfInfoEntry, OfListIndex, OfOffset, OfSignature, OfText, OfTextBySlot, OfTextInLineStr, OfTextInStr, OfUnitEntry, Scope, Unread}
+use Rattle.dwz_meanings.specs.Meanings.{bytes_of, class_of, kept_width, names_file, names_list, number_of, stmt_list}
 use Rattle.dwz_meanings.specs.LineTables.{IsFileTable}
+use Rattle.dwz_meanings.proofs.DecideLemmas.{if_false, if_true}
 use Rattle.dwz_docs.specs.Texts.{IsSlot, IsTextAt}
-use Rattle.dwz_seen.specs.Lists.{Each}
+use Rattle.dwz_docs.proofs.ListFacts.{in_map}
 use Rattle.dwz_writing.specs.Fitting.{FitsAs, FitsUnit}
 use Rattle.dwz_writing.specs.Meant.{FileSays, ListSays, Own, SaysAs, SlotSays, Tells, TextSays, WasRead, told_texts}
 use Rattle.dwz_writing.specs.Sound.{StoresAs}
 use Rattle.dwz_writing.specs.Writing.{Numbering, block_in, first_place, pair_of, stored_as, text_in}
-use Rattle.dwz_seen.proofs.Members.{in_map}
 use Rattle.dwz_writing.proofs.ExprMeans.{expr_means}
 use Rattle.dwz_writing.proofs.ListMeans.{list_means}
 use Rattle.dwz_writing.proofs.ScopeIs.{IsScope}
@@ -44,17 +46,9 @@ read_of c a e w =
       same = ap (λ (b : Attr _). b.value) w.same;
     }
 
-pub not_so : (b : Bool) (P Q : Type 0) → b ≡ false → IfSo b P Q → Q
-not_so true P Q e h = absurd cc
-not_so false P Q e h = h
-
 pub so_yes : (b : Bool) (P Q : Type 0) → b ≡ true → P → IfSo b P Q
 so_yes true P Q e h = h
 so_yes false P Q e h = absurd cc
-
-pub so_true : (b : Bool) (P Q : Type 0) → b ≡ true → IfSo b P Q → P
-so_true true P Q e h = h
-so_true false P Q e h = absurd cc
 
 pub so_not : (b : Bool) (P Q : Type 0) → b ≡ false → Q → IfSo b P Q
 so_not true P Q e h = absurd cc
@@ -129,13 +123,15 @@ module _ {K P : Type 0} (n : Numbering K) (g : K → P) (unit : ℕ) (t : Tells 
     }
 
   -- one entry is named, and it is among these
-  names : (place : ℕ → P) (a : Attr K) (k : K) (keys : List K) (places : List ℕ) (p : ℕ) → a.value ≡ ref k → In k keys → places ≡ map n.place keys → n.place k ≡ p → place (n.place k) ≡ g k → IsEntryAmong place places p (value_map g a.value)
+  names : (place : ℕ → P) (a : Attr K) (k : K) (keys : List K) (places : List ℕ) (p : ℕ) → a.value ≡ ref k → In k keys → places ≡ map n.place keys → n.place k ≡ p → place (n.place k) ≡ g k
+      → IsEntryAmong place places p (value_map g a.value)
   names place a k keys places p value there same here at =
       let among : In (n.place k) places = subst (In (n.place k)) (sym same) (in_map n.place k keys there) in
       let value' : value_map g a.value ≡ ref (g k) = ap (λ (w : Value K). value_map g w) value in
       (subst (λ (q : ℕ). In q places) here among, value' ∙ ap (λ (q : P). ref q) (sym at) ∙ ap (λ (q : ℕ). ref (place q)) here)
 
-  pub as_means : (c : Class) (a : Attr K) (at end : ℕ) → class_of a.form ≡ c → (class_of a.form ≡ Unread → ⊥) → StoresAs c a → FitsAs c n unit a → SaysAs c t own a → MeansAs c s (stored_at c n unit a at end) (value_map g a.value)
+  pub as_means : (c : Class) (a : Attr K) (at end : ℕ) → class_of a.form ≡ c → (class_of a.form ≡ Unread → ⊥) → StoresAs c a → FitsAs c n unit a → SaysAs c t own a
+      → MeansAs c s (stored_at c n unit a at end) (value_map g a.value)
   as_means OfAddress a at end e known stores fits says = (let r = read_of OfAddress a e says in kept g a r.named r.value _ r.same r.means ∙ ap (λ (z : ℤ). only (Addr (reach z))) r.number)
   as_means OfBlock a at end e known stores fits says =
       let r = read_of OfBlock a e says in
@@ -147,7 +143,7 @@ module _ {K P : Type 0} (n : Numbering K) (g : K → P) (unit : ℕ) (t : Tells 
     by true names f = file_means a f
     by false names w =
         let r = read_of OfConstant a e w in
-        let means = not_so (names_file r.old.pair.name) _ _ (ap names_file r.name ∙ names) r.means in
+        let means = if_false (names_file r.old.pair.name) _ _ (ap names_file r.name ∙ names) r.means in
         kept g a r.named r.value _ r.same means ∙ ap (λ (p : Plain). only p) (same_number _ _ _ _ _ _ r.name r.form r.number)
   as_means OfFlag a at end e known stores fits says = (let r = read_of OfFlag a e says in kept g a r.named r.value _ r.same r.means ∙ ap (λ (p : Plain). only p) (same_flag _ _ _ _ r.form r.number))
   as_means OfText a at end e known stores fits says =
@@ -183,7 +179,7 @@ module _ {K P : Type 0} (n : Numbering K) (g : K → P) (unit : ℕ) (t : Tells 
     by true names says =
         (let means = list_means n g unit t own s is a says fits (stored_at OfOffset n unit a at end) refl refl refl in
         let as_offset = subst (λ (c : Class). MeansAs c s (stored_at OfOffset n unit a at end) (value_map g a.value)) e means in
-        so_true (names_list a.name) _ _ names as_offset)
+        if_true (names_list a.name) _ _ names as_offset)
     by false names says = ap (λ (w : Value K). value_map g w) says
   as_means OfExpression a at end e known stores fits says = expr_means n g unit t own s is a at end fits says
   as_means OfListIndex a at end e known stores fits says =

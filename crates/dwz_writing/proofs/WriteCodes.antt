@@ -5,7 +5,7 @@ use Rattle.std.proofs.lemmas.List.{append-nil, length-append}
 use Rattle.dwz_docs.specs.Abbrevs.{Declaration, find_decl}
 use Rattle.dwz_meanings.specs.Documents.{DwUnit, Entries}
 use Rattle.dwz_docs.specs.Trees.{End, Entry, size}
-use Rattle.dwz_seen.specs.Lists.{Each}
+use Rattle.dwz_docs.specs.Lists.{Each}
 use Rattle.dwz_writing.specs.Writing.{Shape, add_if, code_in, coded, declaration_of, same_shape, shape_of, shapes_in, table_of, with_shape}
 use Rattle.dwz_alike.proofs.SpotLemmas.{eqb_same}
 use Rattle.dwz_writing.proofs.SameLemmas.{same_shape-same, same_shape-true}

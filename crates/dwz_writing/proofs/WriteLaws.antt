@@ -2,10 +2,9 @@
 use Rattle.std.proofs.Common.{◌≡◌, ℕ, suc, ◌-◌, ◌<◌, ◌≤◌, ◌^◌, List, [], ◌∷◌, refl, subst, arith}
 use Rattle.dwz_meanings.specs.Documents.{DwUnit}
 use Rattle.dwz_docs.specs.Entries.{Mode}
-use Rattle.dwz_docs.specs.Lists.{In}
+use Rattle.dwz_docs.specs.Lists.{Each, In}
 use Rattle.dwz_meanings.specs.Meanings.{Around, MeanUnits}
 use Rattle.dwz_docs.specs.Units.{SpellsUnits}
-use Rattle.dwz_seen.specs.Lists.{Each}
 use Rattle.dwz_writing.specs.Fitting.{AreWritable, IsRoomy, UnitFits, deepest, depth, mode_for}
 use Rattle.dwz_writing.specs.Meant.{IsAround, Spells, Tells, UnitsSay, all_entry_keys, placed_units}
 use Rattle.dwz_writing.specs.Placing.{sections}
@@ -40,19 +39,23 @@ module _ {K : Type 0} (n : Numbering K) (common : List K) (units : List (DwUnit 
       let small = size_small w in
       units_fit n t units all (λ k there. w.common_fits k (subst (In k) same there)) w.stands (omega (arith, small)) w.room says
 
-  pub spelled : (mode : Mode) → AreWritable n common units → Each (UnitFits n) units → IsRoomy units mode → SpellsUnits (sections n units).abbrevs mode 0 (raw_units n (tables_of [] units) units) 0 (sections n units).info
+  pub spelled : (mode : Mode) → AreWritable n common units → Each (UnitFits n) units → IsRoomy units mode
+      → SpellsUnits (sections n units).abbrevs mode 0 (raw_units n (tables_of [] units) units) 0 (sections n units).info
   unfolding sections
   spelled mode w fit roomy =
       let small = w.fits.1 in
-      units_spelled n (tables_of [] units) mode units 0 0 w.stands w.sound fit (tables_there units) roomy.whole roomy.partial roomy.forms roomy.depth (omega (arith, roomy.entries)) (size_small w) (omega (arith, small))
+      units_spelled n (tables_of [] units) mode units 0 0 w.stands w.sound fit (tables_there units) roomy.whole roomy.partial roomy.forms roomy.depth (omega (arith, roomy.entries)) (size_small w)
+      (omega (arith, small))
 
 -- what is spelled means the units with places for names, whatever surrounds them, where their names stand there
-pub means : {K P : Type 0} (n : Numbering K) (g : K → P) (units : List (DwUnit K)) (t : Tells K) (around : Around P) → t.all ≡ all_entry_keys units → IsAround n g t (units_keys units) around → Each SoundUnit units → Each (UnitFits n) units → UnitsSay t units
+pub means : {K P : Type 0} (n : Numbering K) (g : K → P) (units : List (DwUnit K)) (t : Tells K) (around : Around P) → t.all ≡ all_entry_keys units → IsAround n g t (units_keys units) around
+    → Each SoundUnit units → Each (UnitFits n) units → UnitsSay t units
     → MeanUnits around (raw_units n (tables_of [] units) units) (placed_units n g units)
 means n g units t around all is sound fit says =
     units_mean n g (tables_of [] units) t (units_keys units) around is (λ k there. entries_are_keys units k (subst (In k) all there)) units (λ k there. there) sound fit says
 
-pub spells : {K : Type 0} (n : Numbering K) (common : List K) (units : List (DwUnit K)) (mode : Mode) → AreWritable n common units → Each (UnitFits n) units → IsRoomy units mode → Spells n (sections n units) mode units
+pub spells : {K : Type 0} (n : Numbering K) (common : List K) (units : List (DwUnit K)) (mode : Mode) → AreWritable n common units → Each (UnitFits n) units → IsRoomy units mode
+    → Spells n (sections n units) mode units
 spells n common units mode w fit roomy = record {
   raw = raw_units n (tables_of [] units) units;
   spelled = spelled n common units mode w fit roomy;

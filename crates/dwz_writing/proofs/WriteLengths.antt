@@ -1,5 +1,5 @@
 -- No length depends on the numbers that are written.
-use Rattle.std.proofs.Common.{◌≡◌, ℕ, ℤ, zero, suc, ◌/◌, List, [], ◌∷◌, length, refl, sym, ap, ◌∙◌, arith}
+use Rattle.std.proofs.Common.{◌≡◌, ℕ, ℤ, zero, suc, ◌/◌, List, [], ◌∷◌, length, refl, sym, ap, ◌∙◌, arith, ◌<◌}
 use Rattle.std.proofs.lemmas.List.{length-append}
 use Rattle.dwz_bytes.specs.Spelling.{group_count, le_bytes, reach, uleb}
 use Rattle.dwz_bytes.proofs.PaddedLemmas.{padded_len}
@@ -10,10 +10,13 @@ use Rattle.dwz_meanings.specs.Documents.{Attr, Compile, DwUnit, Entries, Expr, K
 use Rattle.dwz_meanings.specs.Meanings.{Class, OfCommonEntry, OfExpression, OfInfoEntry, OfUnitEntry, class_of}
 use Rattle.dwz_docs.specs.Trees.{End, Entry}
 use Rattle.dwz_docs.specs.Values.{Bytes, Number, run_bytes, shape_of, value_bytes, written_rows}
-use Rattle.dwz_seen.specs.Lists.{Each}
+use Rattle.dwz_docs.specs.ElfLayout.{too_large}
+use Rattle.dwz_docs.specs.Lists.{Each}
 use Rattle.dwz_writing.specs.Sound.{SoundAttr, SoundEntries, SoundUnit, StoresAs}
 use Rattle.dwz_meanings.proofs.CutLemmas.{number_len}
+use Rattle.dwz_alike.specs.Spots.{Spot}
 use Rattle.dwz_writing.specs.Writing.{Numbering, Shape as TableShape, attrs_bytes, expr_bytes, if_any, kind_bytes, node_bytes, parts_bytes, spelled, stored, stored_as, table_of, tree_bytes, unit_size}
+use Rattle.dwz_writing.specs.Placing.{lines_bytes, paths_of, units_with}
 
 pub le_len : (k n : ℕ) → length (le_bytes k n) ≡ k
 unfolding le_bytes
@@ -38,7 +41,7 @@ module _ {K : Type 0} (m n : Numbering K) (p q : ℕ) where
 
 -- ---- values
 
-run_len : (shape : Shape) (xs ys : List ℕ) → length xs ≡ length ys → length (run_bytes shape xs) ≡ length (run_bytes shape ys)
+pub run_len : (shape : Shape) (xs ys : List ℕ) → length xs ≡ length ys → length (run_bytes shape xs) ≡ length (run_bytes shape ys)
 run_len Fixed16 xs ys e = e
 run_len ZeroEnded xs ys e = simp length-append (omega (arith, e))
 run_len Block1 xs ys e = simp (length-append, le_len) (omega (arith, e))
@@ -156,3 +159,7 @@ sound_unit u s = (sound_fixed u.root.attrs s.root.attrs, sound_entries u.below s
 pub sound_units : {K : Type 0} (units : List (DwUnit K)) → Each SoundUnit units → Each FixedUnit units
 sound_units [] s = tt
 sound_units (u ∷ units) s = (sound_unit u s.0, sound_units units s.1)
+
+pub no_lines : length (lines_bytes (paths_of {K = Spot} [] [])) < too_large
+unfolding units_with
+no_lines = omega arith

@@ -1,5 +1,6 @@
 -- Tables by first use: each is spelled, and stands where it is looked for.
-use Rattle.std.proofs.Common.{◌≡◌, ◌≢◌, ℕ, ℤ, pos, suc, ◌+◌, ◌<◌, ◌≤◌, ◌^◌, ◌⊎◌, Bool, true, false, List, [], ◌∷◌, ◌++◌, length, map, Option, Some, None, refl, sym, ap, ◌∙◌, append_assoc, arith, cond, eqb, eqb-true, ltb, ne_eqb}
+use Rattle.std.proofs.Common.{◌≡◌, ◌≢◌, ℕ, ℤ, pos, suc, ◌+◌, ◌<◌, ◌≤◌, ◌^◌, ◌⊎◌, Bool, true, false, List, [], ◌∷◌, ◌++◌, length, map, Option, Some, None, refl, sym, ap, ◌∙◌, append_assoc, arith, cond}
+use Rattle.std.proofs.Common.{eqb, eqb-true, ltb, ne_eqb}
 use Rattle.std.specs.Prelude.{MatchBool}
 use Rattle.std.proofs.Math.Logic.{inl, inr}
 use Rattle.std.proofs.lemmas.Bool.{ltb-true}
@@ -8,13 +9,13 @@ use Rattle.dwz_model.specs.declared.place.Pair.{Pair}
 use Rattle.dwz_bytes.specs.Spelling.{SpellsSleb, SpellsUleb, fits_i64, sleb, uleb}
 use Rattle.dwz_bytes.proofs.PaddedLemmas.{uleb_spells}
 use Rattle.dwz_bytes.proofs.SignedLemmas.{sleb_spells}
-use Rattle.dwz_docs.specs.Abbrevs.{Declaration, EndsPairs, EndsTable, IsDeclared, IsPair, SpellsDeclaration, SpellsPair, SpellsTable, constant_bytes, declaration_bytes, find_decl, pair_bytes, pairs_bytes, table_bytes}
+use Rattle.dwz_docs.specs.Abbrevs.{Declaration, EndsPairs, EndsTable, IsDeclared, IsPair, SpellsDeclaration, SpellsPair, SpellsTable, constant_bytes, declaration_bytes, find_decl, pair_bytes}
+use Rattle.dwz_docs.specs.Abbrevs.{pairs_bytes, table_bytes}
 use Rattle.dwz_meanings.specs.Documents.{Attr, DwUnit, Entries, Node}
-use Rattle.dwz_docs.specs.Lists.{SpellsItems}
+use Rattle.dwz_docs.specs.Lists.{Each, SpellsItems}
 use Rattle.dwz_meanings.specs.Meanings.{ClassRow, Unread, class_in, class_of, class_rows}
 use Rattle.dwz_docs.specs.Parts.{StandsAt}
 use Rattle.dwz_docs.specs.Trees.{End, Entry, size}
-use Rattle.dwz_seen.specs.Lists.{Each}
 use Rattle.dwz_writing.specs.Sound.{SoundAttr, SoundEntries, SoundNode, SoundUnit}
 use Rattle.dwz_alike.specs.Spots.{same_numbers}
 use Rattle.dwz_writing.specs.Writing.{Shape, abbrevs_of, add_table, coded, declaration_of, joined, pair_of, shape_of, table_in, table_of, tables_of, with_table}
@@ -92,7 +93,8 @@ New n earlier = (c : ℕ) → n ≤ c → find_decl earlier c ≡ None
 find_behind : (earlier others : List Declaration) (c : ℕ) → find_decl earlier c ≡ None → find_decl (earlier ++ others) c ≡ find_decl others c
 find_behind [] others c e = refl
 find_behind (d ∷ earlier) others c e = go (find_behind earlier others c) (eqb d.code c) e where
-  go : (find_decl earlier c ≡ None → find_decl (earlier ++ others) c ≡ find_decl others c) → (t : Bool) → cond t (Some d) (find_decl earlier c) ≡ None → cond t (Some d) (find_decl (earlier ++ others) c) ≡ find_decl others c
+  go : (find_decl earlier c ≡ None → find_decl (earlier ++ others) c ≡ find_decl others c) → (t : Bool) → cond t (Some d) (find_decl earlier c) ≡ None
+      → cond t (Some d) (find_decl (earlier ++ others) c) ≡ find_decl others c
   go rest true e = absurd cc
   go rest false e = rest e
 
@@ -101,7 +103,8 @@ new_next n s earlier new c le =
     let test : eqb n c ≡ false = ne_eqb n c (λ h. omega (arith, h, le)) in
     find_behind earlier (declaration_of n s ∷ []) c (new c (omega (arith, le))) ∙ ap (λ (b : Bool). cond b (Some (declaration_of n s)) None) test
 
-shapes_written : (table : List Shape) (n : ℕ) (earlier : List Declaration) → 0 < n → n + length table < 2 ^ 64 → New n earlier → Each GoodShape table → SpellsItems IsDeclared EndsTable earlier (coded n table) (table_bytes (coded n table))
+shapes_written : (table : List Shape) (n : ℕ) (earlier : List Declaration) → 0 < n → n + length table < 2 ^ 64 → New n earlier → Each GoodShape table
+    → SpellsItems IsDeclared EndsTable earlier (coded n table) (table_bytes (coded n table))
 unfolding coded table_bytes
 shapes_written [] n earlier some fits new good = zero_spelled
 shapes_written (s ∷ table) n earlier some fits new good = record {
@@ -166,7 +169,8 @@ table_last : (tables : List (List ℕ)) (at : ℕ) (t : List ℕ) → (o : ℕ) 
 unfolding table_in
 table_last [] at t = (at, rw (numbers_same t, table_in) refl)
 table_last (u ∷ tables) at t = go (same_numbers u t) (table_last tables (at + length u) t) where
-  go : (b : Bool) → ((o : ℕ) × (table_in (at + length u) (tables ++ t ∷ []) t ≡ Some o)) → (o : ℕ) × ((elim b as (λ _. Option ℕ) [ true ↦ Some at | false ↦ table_in (at + length u) (tables ++ t ∷ []) t ]) ≡ Some o)
+  go : (b : Bool) → ((o : ℕ) × (table_in (at + length u) (tables ++ t ∷ []) t ≡ Some o))
+      → (o : ℕ) × ((elim b as (λ _. Option ℕ) [ true ↦ Some at | false ↦ table_in (at + length u) (tables ++ t ∷ []) t ]) ≡ Some o)
   go true r = (at, refl)
   go false r = r
 
@@ -188,7 +192,8 @@ tables_have (u ∷ units) tables =
     let t = abbrevs_of u in
     let first = with_table-has tables t in
     let others = tables_have units (with_table tables t) in
-    let here : HasTable (tables_of (with_table tables t) units) t = record { offset = first.0.offset; is = ap (λ (x : List (List ℕ)). table_in 0 x t) others.1.is ∙ table_grows 0 (with_table tables t) others.1.more t first.0.offset first.0.is } in
+    let here : HasTable (tables_of (with_table tables t) units) t =
+    record { offset = first.0.offset; is = ap (λ (x : List (List ℕ)). table_in 0 x t) others.1.is ∙ table_grows 0 (with_table tables t) others.1.more t first.0.offset first.0.is } in
     ((here, others.0), Grown-then _ _ _ first.1 others.1)
 
 -- each unit's table is among those that are written
@@ -229,7 +234,8 @@ class_range [] form e = inl refl
 class_range (r ∷ rows) form e =
     let t = two_tests (ltb 0 r.form) (ltb r.form 0x10000) (in_range rows) e in
     go t (class_range rows form t.2) (eqb r.form form) refl where
-      go : (ltb 0 r.form ≡ true) × (ltb r.form 0x10000 ≡ true) × (in_range rows ≡ true) → (class_in rows form ≡ Unread) ⊎ ((0 < form) × (form ≤ 0xffff)) → (b : Bool) → eqb r.form form ≡ b → (cond b r.class (class_in rows form) ≡ Unread) ⊎ ((0 < form) × (form ≤ 0xffff))
+      go : (ltb 0 r.form ≡ true) × (ltb r.form 0x10000 ≡ true) × (in_range rows ≡ true) → (class_in rows form ≡ Unread) ⊎ ((0 < form) × (form ≤ 0xffff)) → (b : Bool) → eqb r.form form ≡ b
+          → (cond b r.class (class_in rows form) ≡ Unread) ⊎ ((0 < form) × (form ≤ 0xffff))
       go t rest true e = let same = eqb-true r.form form e in inr (omega (arith, ltb-true 0 r.form t.0), omega (arith, ltb-true r.form 0x10000 t.1))
       go t rest false e = rest
 
@@ -264,7 +270,8 @@ module _ {K : Type 0} where
   good_table u s = each_of_table GoodShape u (good_shape u.root u.below s.root) (good_shapes u.below s.below)
 
   -- where few entries are in the unit, its table stands at the offset that the unit names
-  pub unit_table : (tables : List (List ℕ)) (u : DwUnit K) (h : HasTable tables (abbrevs_of u)) → SoundUnit u → size u.below < 2 ^ 63 → StandsAt SpellsTable (joined tables) h.offset (coded 1 (table_of u))
+  pub unit_table : (tables : List (List ℕ)) (u : DwUnit K) (h : HasTable tables (abbrevs_of u)) → SoundUnit u → size u.below < 2 ^ 63
+      → StandsAt SpellsTable (joined tables) h.offset (coded 1 (table_of u))
   unit_table tables u h s few =
       let at = table_stands tables (abbrevs_of u) h in
       let len = (is_table u).len in

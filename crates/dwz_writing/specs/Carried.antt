@@ -6,11 +6,11 @@ use Rattle.dwz_meanings.specs.Documents.{Attr, DwUnit, Entries, Expr, File, Node
 use Rattle.dwz_meanings.specs.LinesWritten.{AreTexts}
 use Rattle.dwz_docs.specs.ElfLayout.{too_large}
 use Rattle.dwz_docs.specs.Entries.{RawAttr}
-use Rattle.dwz_docs.specs.Lists.{In}
-use Rattle.dwz_meanings.specs.Meanings.{Class, IfSo, OfCommonText, OfConstant, OfExpression, OfListIndex, OfOffset, OfTextBySlot, OfTextInLineStr, OfTextInStr, Scope, Sources, Unread, class_of, names_file, names_list}
+use Rattle.dwz_docs.specs.Lists.{Each, In}
+use Rattle.dwz_meanings.specs.Meanings.{Class, IfSo, OfCommonText, OfConstant, OfExpression, OfListIndex, OfOffset, OfTextBySlot}
+use Rattle.dwz_meanings.specs.Meanings.{OfTextInLineStr, OfTextInStr, Scope, Sources, Unread, class_of, names_file, names_list}
 use Rattle.dwz_docs.specs.Trees.{End, Entry}
 use Rattle.dwz_docs.specs.Values.{AreBytes, SpellsValue}
-use Rattle.dwz_seen.specs.Lists.{Each}
 use Rattle.dwz_seen.specs.Seen.{Named, Seen, all_seen}
 use Rattle.dwz_seen.specs.Shown.{units_keys}
 use Rattle.dwz_writing.specs.Bases.{Bases, bases_in, bases_of}
@@ -83,7 +83,8 @@ pub record CarriedNode {K : Type 0} (from : From) (origin : Bases) (e : Node K) 
 
 abbrev pub CarriedEntries : {K : Type 0} → From → Bases → Entries K → Type 0
 CarriedEntries from origin End = Unit {0}
-CarriedEntries from origin (Entry e children next) = CarriedNode from origin e × CarriedEntries from origin children × CarriedEntries from origin next
+CarriedEntries from origin (Entry e children next) = CarriedNode from origin e × CarriedEntries from origin children
+    × CarriedEntries from origin next
 
 -- the root has the tag of its kind, and the type of a type unit is an entry of that unit
 pub record CarriedUnit {K : Type 0} (from : From) (origin : Bases) (u : DwUnit K) : Type 0 where

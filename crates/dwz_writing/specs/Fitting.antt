@@ -3,13 +3,12 @@ use Rattle.std.specs.Prelude.{◌≡◌, ℕ, suc, ◌+◌, ◌-◌, ◌<◌, �
 use Rattle.dwz_meanings.specs.Documents.{Attr, Compile, DwUnit, Entries, Expr, Kind, Loc, Node, OfType, Part, Partial, Plain, Same}
 use Rattle.dwz_meanings.specs.Documents as document
 use Rattle.dwz_docs.specs.Entries.{Mode}
-use Rattle.dwz_docs.specs.Lists.{In}
+use Rattle.dwz_docs.specs.Lists.{Each, In}
 use Rattle.dwz_meanings.specs.Meanings.{Class, OfCommonEntry, OfExpression, OfInfoEntry, OfListIndex, OfOffset, OfUnitEntry, class_of}
 use Rattle.dwz_meanings.specs.Patching.{FitsIn}
 use Rattle.dwz_docs.specs.Trees.{End, Entry, size}
 use Rattle.dwz_docs.specs.Values.{written_rows}
 use Rattle.dwz_codes.specs.Rows.{RowView}
-use Rattle.dwz_seen.specs.Lists.{Each}
 use Rattle.dwz_alike.specs.Alike.{joined_parts}
 use Rattle.dwz_writing.specs.Placing.{FitsSections, UnitsStand, sections}
 use Rattle.dwz_writing.specs.Sound.{SoundUnit}

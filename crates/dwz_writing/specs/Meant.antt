@@ -1,9 +1,12 @@
 -- What the units that are written mean: the same units, with places for keys.
 use Rattle.std.specs.Prelude.{◌≡◌, ℕ, ◌+◌, ◌-◌, pos, List, [], ◌∷◌, ◌++◌, map, Option, Some, None}
-use Rattle.dwz_meanings.specs.Documents.{Attr, Compile, DwUnit, Entries, Expr, File, Kind, Loc, Node, OfType, Part, Partial, Same, Sec, Text, attr_map, kind_map, only, value_map}
+use Rattle.dwz_meanings.specs.Documents.{Attr, Compile, DwUnit, Entries, Expr, File, Kind, Loc, Node, OfType, Part, Partial, Same, Sec}
+use Rattle.dwz_meanings.specs.Documents.{Text, attr_map, kind_map, only, value_map}
 use Rattle.dwz_docs.specs.Entries.{Mode, RawAttr}
-use Rattle.dwz_docs.specs.Lists.{In}
-use Rattle.dwz_meanings.specs.Meanings.{Around, Class, Common, IfSo, MeanUnits, MeansAttr, OfCommonEntry, OfCommonText, OfConstant, OfExpression, OfInfoEntry, OfListIndex, OfOffset, OfTextBySlot, OfTextInLineStr, OfTextInStr, OfUnitEntry, Scope, all_places, class_of, loclists_base, names_file, names_list, number_of, path_by}
+use Rattle.dwz_docs.specs.Lists.{Each, In}
+use Rattle.dwz_meanings.specs.Meanings.{Around, Class, Common, IfSo, MeanUnits, MeansAttr, OfCommonEntry, OfCommonText, OfConstant}
+use Rattle.dwz_meanings.specs.Meanings.{OfExpression, OfInfoEntry, OfListIndex, OfOffset, OfTextBySlot, OfTextInLineStr, OfTextInStr}
+use Rattle.dwz_meanings.specs.Meanings.{OfUnitEntry, Scope, all_places, class_of, loclists_base, names_file, names_list, number_of, path_by}
 use Rattle.dwz_model.specs.declared.place.Base.{Base}
 use Rattle.dwz_model.specs.declared.place.Base.TheVariants.{Unit as FromUnit, Info as FromInfo}
 use Rattle.dwz_meanings.specs.Documents as document
@@ -19,7 +22,6 @@ use Rattle.dwz_bytes.specs.Spelling.{reach}
 use Rattle.dwz_docs.specs.Texts.{IsSlot, IsTextAt}
 use Rattle.dwz_docs.specs.Trees.{End, Entry}
 use Rattle.dwz_docs.specs.Units.{RawUnit, SpellsUnits}
-use Rattle.dwz_seen.specs.Lists.{Each}
 use Rattle.dwz_writing.specs.Placing.{UnitSections}
 use Rattle.dwz_seen.specs.Shown.{keys, units_keys}
 use Rattle.dwz_writing.specs.Writing.{Numbering, base_place, stored}
@@ -34,10 +36,17 @@ placed_node n g unit e = record { at = g e.at; tag = e.tag; attrs = map (placed_
 
 unfoldable pub placed_entries : {K P : Type 0} → Numbering K → (K → P) → ℕ → Entries K → Entries P
 placed_entries n g unit End = End
-placed_entries n g unit (Entry e children next) = Entry (placed_node n g unit e) (placed_entries n g unit children) (placed_entries n g unit next)
+placed_entries n g unit (Entry e children next) = Entry (placed_node n g unit e) (placed_entries n g unit children)
+    (placed_entries n g unit next)
 
 abbrev pub placed_unit : {K P : Type 0} → Numbering K → (K → P) → DwUnit K → DwUnit P
-placed_unit n g u = record { at = g u.at; kind = kind_map g u.kind; root = placed_node n g (n.place u.at) u.root; below = placed_entries n g (n.place u.at) u.below }
+placed_unit n g u = record {
+  at = g u.at;
+  kind = kind_map g u.kind;
+  root = placed_node n g (n.place u.at) u.root;
+  below =
+      placed_entries n g (n.place u.at) u.below;
+}
 
 abbrev pub placed_units : {K P : Type 0} → Numbering K → (K → P) → List (DwUnit K) → List (DwUnit P)
 placed_units n g units = map (placed_unit n g) units
@@ -225,7 +234,8 @@ pub record IsAround {K P : Type 0} (n : Numbering K) (g : K → P) (t : Tells K)
   pub line_strs : around.sources.line_strs ≡ t.line_strs
   pub offsets : around.sources.offsets ≡ t.offsets
   pub line : around.sources.line ≡ t.line
-  pub common_strs : (at : ℕ) (text : List ℕ) → IsTextAt t.common_strs at text → (c : Common P) × (around.common ≡ Some c) × IsTextAt c.strs at text
+  pub common_strs : (at : ℕ) (text : List ℕ) → IsTextAt t.common_strs at text → (c : Common P) × (around.common ≡ Some c)
+      × IsTextAt c.strs at text
   pub none_shared : NoneShared t.named
   pub lists : AreRenumbered n t around.sources.lists
   pub all : around.all ≡ map n.place t.all
@@ -239,4 +249,5 @@ pub record Spells {K : Type 0} (n : Numbering K) (s : UnitSections) (mode : Mode
   pub raw : List RawUnit
   pub spelled : SpellsUnits s.abbrevs mode 0 raw 0 s.info
   pub places : all_places raw ≡ map n.place (all_entry_keys units)
-  pub means : (place : K → ℕ) (t : Tells K) (around : Around ℕ) → t.all ≡ all_entry_keys units → IsAround n place t (units_keys units) around → UnitsSay t units → MeanUnits around raw (placed_units n place units)
+  pub means : (place : K → ℕ) (t : Tells K) (around : Around ℕ) → t.all ≡ all_entry_keys units
+      → IsAround n place t (units_keys units) around → UnitsSay t units → MeanUnits around raw (placed_units n place units)

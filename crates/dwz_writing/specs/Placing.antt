@@ -5,12 +5,14 @@ use Rattle.dwz_docs.specs.ElfLayout.{too_large}
 use Rattle.dwz_docs.specs.Texts.{slot}
 use Rattle.dwz_meanings.specs.Documents.{Attr, DwUnit, Entries, File, Kind, Node, Partial, Plain}
 use Rattle.dwz_meanings.specs.LinesWritten.{header_written}
-use Rattle.dwz_meanings.specs.Meanings.{Class, OfCommonEntry, OfConstant, OfInfoEntry, OfTextBySlot, OfTextInLineStr, OfTextInStr, OfUnitEntry, class_of, names_file}
+use Rattle.dwz_meanings.specs.Meanings.{Class, OfCommonEntry, OfConstant, OfInfoEntry, OfTextBySlot, OfTextInLineStr, OfTextInStr}
+use Rattle.dwz_meanings.specs.Meanings.{OfUnitEntry, class_of, names_file}
 use Rattle.dwz_docs.specs.Trees.{End, Entry}
 use Rattle.dwz_seen.specs.Shown.{unit_keys, units_keys}
 use Rattle.dwz_alike.specs.Spots.{same_numbers}
 use Rattle.dwz_writing.specs.Bases.{Bases}
-use Rattle.dwz_writing.specs.Writing.{Numbering, Shape, header_size, if_any, joined, node_bytes, or_zero, spelled, table_of, tables_of, text_in, unit_size, units_bytes}
+use Rattle.dwz_writing.specs.Writing.{Numbering, Shape, header_size, if_any, joined, node_bytes, or_zero, spelled, table_of, tables_of}
+use Rattle.dwz_writing.specs.Writing.{text_in, unit_size, units_bytes}
 
 -- all numbers are 0, which serves where only lengths are asked for
 abbrev pub zeros : {K : Type 0} → Numbering K
@@ -154,8 +156,8 @@ has_text (t ∷ texts) text = elim (same_numbers t text) as (λ _. Bool) [ true 
 abbrev pub as_common : {K : Type 0} → Fit K → Attr K → Chosen
 as_common f a = record { form = 0x0e; raw = pos (text_place f.texts (text_in a.value.plain)) }
 
--- a text of a file that stands at an offset of `.debug_str`: where it is shared DW_FORM_strp_sup, with its place in that of the common file;
--- and else DW_FORM_strp
+-- a text of a file that stands at an offset of `.debug_str`: where it is shared DW_FORM_strp_sup, with its place in that of the common
+-- file; and else DW_FORM_strp
 abbrev pub as_strp_if : {K : Type 0} → Bool → Fit K → Attr K → ℕ → Chosen
 as_strp_if true f a at = record { form = 0x1d; raw = pos (text_place f.shared (text_in a.value.plain)) }
 as_strp_if false f a at = record { form = 0x0e; raw = pos at }

@@ -1,8 +1,9 @@
 -- A file of whose texts only those stay that are used: the uses, the new numbers, and the section of slots.
-use Rattle.std.specs.Prelude.{◌≡◌, ◌⊎◌, ℕ, pos, ◌+◌, ◌<◌, ◌≤◌, true, false, List, [], ◌∷◌, ◌++◌, length, take, drop, map, Option, Some, None, is_some, slice_index, ◌==◌, if◌then◌else◌}
+use Rattle.std.specs.Prelude.{◌≡◌, ◌⊎◌, ℕ, pos, ◌+◌, ◌<◌, ◌≤◌, true, false, List, [], ◌∷◌, ◌++◌, length, take, drop, map, Option, Some}
+use Rattle.std.specs.Prelude.{None, is_some, slice_index, ◌==◌, if◌then◌else◌}
 use Rattle.std.specs.List.{filter}
 use Rattle.dwz_bytes.specs.Spelling.{SpellsFixed, le_value, reach}
-use Rattle.dwz_docs.specs.Lists.{In}
+use Rattle.dwz_docs.specs.Lists.{Each, In}
 use Rattle.dwz_docs.specs.OffsetTables.{slots_in}
 use Rattle.dwz_docs.specs.Parts.{StandsAt}
 use Rattle.dwz_docs.specs.Pruning.{new_number}
@@ -11,7 +12,6 @@ use Rattle.dwz_docs.specs.Trees.{End, Entry}
 use Rattle.dwz_meanings.specs.Documents.{Attr, DwUnit, Entries, Node}
 use Rattle.dwz_meanings.specs.LineTables.{FileTable, IsFileTable, TextSections}
 use Rattle.dwz_meanings.specs.Meanings.{Class, OfConstant, OfTextBySlot, Sources, class_of, names_file, offset_of, texts_of}
-use Rattle.dwz_seen.specs.Lists.{Each}
 use Rattle.dwz_writing.specs.Bases.{Bases, bases_in, bases_of}
 use Rattle.dwz_writing.specs.Carried.{From}
 use Rattle.dwz_writing.specs.Fitting.{EachAttr}

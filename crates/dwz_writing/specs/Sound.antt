@@ -5,7 +5,7 @@ use Rattle.dwz_meanings.specs.Documents.{Attr, Compile, DwUnit, Entries, Kind, N
 use Rattle.dwz_meanings.specs.Meanings.{Class, OfCommonEntry, OfExpression, OfInfoEntry, OfUnitEntry, Unread, class_of}
 use Rattle.dwz_docs.specs.Trees.{End, Entry}
 use Rattle.dwz_docs.specs.Values.{AreBytes, Raw, SpellsValue, written_rows}
-use Rattle.dwz_seen.specs.Lists.{Each}
+use Rattle.dwz_docs.specs.Lists.{Each}
 use Rattle.dwz_writing.specs.Placing.{zeros}
 use Rattle.dwz_writing.specs.Writing.{expr_bytes, pair_of, stored_as}
 

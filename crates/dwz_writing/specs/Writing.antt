@@ -1,11 +1,13 @@
 -- The bytes of units whose places are keys, under numbers for the keys (DWARF 5, 7.5).
-use Rattle.std.specs.Prelude.{ℕ, pos, suc, ◌+◌, ◌-◌, Bool, true, false, List, [], ◌∷◌, ◌++◌, length, map, Option, Some, None, ◌==◌, if◌then◌else◌}
+use Rattle.std.specs.Prelude.{ℕ, pos, suc, ◌+◌, ◌-◌, Bool, true, false, List, [], ◌∷◌, ◌++◌, length, map, Option, Some, None, ◌==◌}
+use Rattle.std.specs.Prelude.{if◌then◌else◌}
 use Rattle.dwz_model.specs.declared.place.Base.{Base}
 use Rattle.dwz_model.specs.declared.place.Base.TheVariants.{Unit as FromUnit, Info as FromInfo}
 use Rattle.dwz_model.specs.declared.place.Pair.{Pair}
 use Rattle.dwz_bytes.specs.Spelling.{le_bytes, uleb}
 use Rattle.dwz_docs.specs.Abbrevs.{Declaration, children_byte, table_bytes}
-use Rattle.dwz_meanings.specs.Documents.{Attr, Block, Compile, DwUnit, Entries, Expr, Kind, Node, OfType, Operand, Part, Partial, Plain, Same, Text}
+use Rattle.dwz_meanings.specs.Documents.{Attr, Block, Compile, DwUnit, Entries, Expr, Kind, Node, OfType, Operand, Part, Partial, Plain}
+use Rattle.dwz_meanings.specs.Documents.{Same, Text}
 use Rattle.dwz_meanings.specs.Meanings.{Class, OfBlock, OfCommonEntry, OfExpression, OfInfoEntry, OfText, OfUnitEntry, class_of}
 use Rattle.dwz_meanings.specs.Patching.{number_bytes}
 use Rattle.dwz_docs.specs.Trees.{End, Entry}
@@ -42,7 +44,8 @@ unfoldable pub parts_bytes : {K : Type 0} → Numbering K → ℕ → List Part 
 parts_bytes n unit [] refs = []
 parts_bytes n unit (Same bytes ∷ parts) refs = bytes ++ parts_bytes n unit parts refs
 parts_bytes n unit (Operand width uleb base ∷ parts) [] = []
-parts_bytes n unit (Operand width uleb base ∷ parts) (k ∷ refs) = number_bytes uleb width (n.place k - base_place unit base) ++ parts_bytes n unit parts refs
+parts_bytes n unit (Operand width uleb base ∷ parts) (k ∷ refs) = number_bytes uleb width (n.place k - base_place unit base)
+    ++ parts_bytes n unit parts refs
 
 abbrev pub expr_bytes : {K : Type 0} → Numbering K → ℕ → Plain → List K → List ℕ
 expr_bytes n unit (Expr parts) refs = parts_bytes n unit parts refs
@@ -85,11 +88,22 @@ abbrev pub shape_of : {K : Type 0} → Node K → Entries K → Shape
 shape_of e children = record { tag = e.tag; children = any children; pairs = map pair_of e.attrs }
 
 abbrev pub same_pair : Pair → Pair → Bool
-same_pair p q = elim (p.name == q.name) as (λ _. Bool) [ true ↦ elim (p.form == q.form) as (λ _. Bool) [ true ↦ same_int p.constant q.constant | false ↦ false ] | false ↦ false ]
+same_pair p q = elim (p.name == q.name) as (λ _. Bool) [
+  | true ↦
+      elim (p.form == q.form) as (λ _. Bool) [ true ↦ same_int p.constant q.constant | false ↦ false ]
+  | false ↦ false
+]
 
 unfoldable pub same_shape : Shape → Shape → Bool
 same_shape a b =
-    elim (a.tag == b.tag) as (λ _. Bool) [ true ↦ elim (children_byte a.children == children_byte b.children) as (λ _. Bool) [ true ↦ same_by same_pair a.pairs b.pairs | false ↦ false ] | false ↦ false ]
+    elim (a.tag == b.tag) as (λ _. Bool) [
+      | true ↦
+          elim (children_byte a.children == children_byte b.children) as (λ _. Bool) [
+            | true ↦ same_by same_pair a.pairs b.pairs
+            | false ↦ false
+          ]
+      | false ↦ false
+    ]
 
 -- the code of a shape, where the first of the table has that code
 unfoldable pub code_in : ℕ → List Shape → Shape → Option ℕ

@@ -3,31 +3,35 @@
 ghost use Rattle.std.specs.Prelude.{◌≡◌, ◌↔◌, ◌+◌, ◌<◌, ◌≤◌, ◌^◌, ℕ, Bool, false, true, List, length, map};
 ghost use Rattle.dwz_meanings.specs.Documents.{Attr, DwUnit, Entries, Kind, Node, entries_map, node_map, unit_map};
 ghost use Rattle.dwz_docs.specs.Entries.{Mode, own_forms};
-ghost use Rattle.dwz_docs.specs.Lists.{In};
+ghost use Rattle.dwz_docs.specs.Lists.{Each, In};
 ghost use Rattle.dwz_docs.specs.Pruning.{new_number, pruned};
 ghost use Rattle.dwz_meanings.specs.Meanings.{Around, MeanUnits, Sources, texts_of};
 ghost use Rattle.dwz_docs.specs.Units.{RawUnit, SpellsUnits};
 ghost use Rattle.dwz_docs.specs.Values.{AreBytes};
-ghost use Rattle.dwz_seen.specs.Lists.{Each, EachPair};
+ghost use Rattle.dwz_seen.specs.Lists.{EachPair, NoneTwice};
 ghost use Rattle.dwz_writing.specs.Bases.{Bases, bases_in};
-ghost use Rattle.dwz_writing.specs.Carried.{ApartIn, BasesStand, BuiltUnit, CarriedEntries, CarriedNode, CarriedUnit, ClosedIn, OfAny, OfFile, OperandsStand, SectionsStand};
+ghost use Rattle.dwz_writing.specs.Carried.{ApartIn, BasesStand, BuiltUnit, CarriedEntries, CarriedNode, CarriedUnit, ClosedIn, OfAny};
+ghost use Rattle.dwz_writing.specs.Carried.{OfFile, OperandsStand, SectionsStand};
 ghost use Rattle.dwz_writing.specs.Fitting.{AreWritable, IsRoomy, UnitFits, mode_for};
 ghost use Rattle.dwz_writing.specs.Meant.{Spells, Tells, UnitsSay, all_entry_keys, told_texts};
 ghost use Rattle.dwz_writing.specs.Placing.{FileOut, Forms, UnitsStand, files_keys, fit_units, numbering, sections};
-ghost use Rattle.dwz_writing.specs.Pruned.{AreNewSlots, StaysIn, UnitStays, all_uses, known_slots, renumbered_units, slot_after, with_texts};
+ghost use Rattle.dwz_writing.specs.Pruned.{AreNewSlots, StaysIn, UnitStays, all_uses, known_slots, renumbered_units, slot_after};
+ghost use Rattle.dwz_writing.specs.Pruned.{with_texts};
 ghost use Rattle.dwz_seen.specs.Shown.{units_keys};
 ghost use Rattle.dwz_writing.specs.Sound.{SoundAttr, SoundEntries, SoundNode, SoundUnit};
 ghost use Rattle.dwz_alike.specs.Spots.{Spot, same_spot};
-ghost use Rattle.dwz_seen.specs.Lists.{NoneTwice};
 ghost use Rattle.dwz_writing.specs.Standing.{SameLength};
-ghost use Rattle.dwz_writing.specs.Writing.{Numbering, Shape, attrs_bytes, kind_bytes, node_bytes, spelled, tree_bytes, unit_bytes, unit_size, units_bytes};
+ghost use Rattle.dwz_writing.specs.Writing.{Numbering, Shape, attrs_bytes, kind_bytes, node_bytes, spelled, tree_bytes, unit_bytes};
+ghost use Rattle.dwz_writing.specs.Writing.{unit_size, units_bytes};
 
 /// No length depends on the numbers that are written, nor on where a unit begins: neither that of the attributes of an entry,
 /// of an entry's code and values, of a sibling list, of a unit's tree, of what its kind has in the header, nor its own.
 pub fn length_laws()
     ensures attrs { (attrs : List (Attr Spot)) → Each SoundAttr attrs → SameLength (λ n unit. attrs_bytes n unit attrs) }
-    ensures entry { (table : List Shape) (e : Node Spot) (children : Entries Spot) → SoundNode e → SameLength (λ n unit. node_bytes n unit table e children) }
-    ensures entries { (table : List Shape) (entries : Entries Spot) → SoundEntries entries → SameLength (λ n unit. spelled n unit table entries) }
+    ensures entry { (table : List Shape) (e : Node Spot) (children : Entries Spot) → SoundNode e
+        → SameLength (λ n unit. node_bytes n unit table e children) }
+    ensures entries { (table : List Shape) (entries : Entries Spot) → SoundEntries entries
+        → SameLength (λ n unit. spelled n unit table entries) }
     ensures tree { (u : DwUnit Spot) → SoundUnit u → SameLength (λ n unit. tree_bytes n unit u) }
     ensures kind { (kind : Kind Spot) → SameLength (λ n unit. kind_bytes n unit kind) }
     ensures unit { (u : DwUnit Spot) → SoundUnit u → (m n : Numbering Spot) (p q : ℕ) → unit_size m p u ≡ unit_size n q u }
@@ -37,10 +41,15 @@ pub fn length_laws()
 /// Where names stand: if none stands twice in all files, the numbers from the placement agree with where things stand in each file, and
 /// any numbers that do are those. Under such numbers no two names of one file have one place, and each place is one of the section.
 pub fn placing_laws()
-    ensures stands { (files : List (FileOut Spot)) → NoneTwice (files_keys files) → (f : FileOut Spot) → In f files → Each SoundUnit f.units → UnitsStand (numbering same_spot files) f.units 0 }
-    ensures one { (n : Numbering Spot) (files : List (FileOut Spot)) (s : Spot) → ((f : FileOut Spot) → In f files → Each SoundUnit f.units × UnitsStand n f.units 0) → In s (files_keys files) → n.place s ≡ (numbering same_spot files).place s }
-    ensures apart { (n : Numbering Spot) (units : List (DwUnit Spot)) (s t : Spot) → UnitsStand n units 0 → In s (units_keys units) → In t (units_keys units) → n.place s ≡ n.place t → s ≡ t }
-    ensures within { (n : Numbering Spot) (tables : List (List ℕ)) (units : List (DwUnit Spot)) (s : Spot) → UnitsStand n units 0 → In s (units_keys units) → n.place s < length (units_bytes n tables units) }
+    ensures stands { (files : List (FileOut Spot)) → NoneTwice (files_keys files) → (f : FileOut Spot) → In f files → Each SoundUnit f.units
+        → UnitsStand (numbering same_spot files) f.units 0 }
+    ensures one { (n : Numbering Spot) (files : List (FileOut Spot)) (s : Spot)
+        → ((f : FileOut Spot) → In f files → Each SoundUnit f.units × UnitsStand n f.units 0) → In s (files_keys files)
+        → n.place s ≡ (numbering same_spot files).place s }
+    ensures apart { (n : Numbering Spot) (units : List (DwUnit Spot)) (s t : Spot) → UnitsStand n units 0 → In s (units_keys units)
+        → In t (units_keys units) → n.place s ≡ n.place t → s ≡ t }
+    ensures within { (n : Numbering Spot) (tables : List (List ℕ)) (units : List (DwUnit Spot)) (s : Spot) → UnitsStand n units 0
+        → In s (units_keys units) → n.place s < length (units_bytes n tables units) }
 {}
 
 /// What the two sections of a file say of units that can be written. Where numbers fit, the sections spell units whose entries stand at
@@ -50,8 +59,10 @@ pub fn placing_laws()
 /// spelled mean those that were written, with places for names.
 pub fn bytes_laws()
     ensures roomy { (units : List (DwUnit Spot)) → IsRoomy units (mode_for units) }
-    ensures fits { (n : Numbering Spot) (common : List Spot) (units : List (DwUnit Spot)) (t : Tells Spot) → t.all ≡ all_entry_keys units → t.common ≡ common → AreWritable n common units → UnitsSay t units → Each (UnitFits n) units }
-    ensures spelled { (n : Numbering Spot) (common : List Spot) (units : List (DwUnit Spot)) (mode : Mode) → AreWritable n common units → Each (UnitFits n) units → IsRoomy units mode → Spells n (sections n units) mode units }
+    ensures fits { (n : Numbering Spot) (common : List Spot) (units : List (DwUnit Spot)) (t : Tells Spot) → t.all ≡ all_entry_keys units
+        → t.common ≡ common → AreWritable n common units → UnitsSay t units → Each (UnitFits n) units }
+    ensures spelled { (n : Numbering Spot) (common : List Spot) (units : List (DwUnit Spot)) (mode : Mode) → AreWritable n common units
+        → Each (UnitFits n) units → IsRoomy units mode → Spells n (sections n units) mode units }
 {}
 
 /// The forms of values. Units with what was read in a file are sound once these are chosen, and each value says what its form says: where
@@ -61,23 +72,33 @@ pub fn bytes_laws()
 /// unit names the line table by which its files are numbered; and where operands of expressions and of location lists name entries of the
 /// unit, or of the file, as their numbers are counted. Whatever is written has a fixed length. No name is changed.
 pub fn form_laws()
-    ensures file { (sources : Sources) (f : Forms Spot) (t : Tells Spot) (units : List (DwUnit Spot)) → f.same ≡ same_spot → f.is_common ≡ false → t.all ≡ all_entry_keys units → NoneTwice (units_keys units)
-        → Each (λ u. CarriedUnit (OfFile sources) (f.origin u.at) u) units → ClosedIn t units → ApartIn t units → SectionsStand false (OfFile sources) f t units → Each (BasesStand f) units → Each (OperandsStand t) units
+    ensures file { (sources : Sources) (f : Forms Spot) (t : Tells Spot) (units : List (DwUnit Spot)) → f.same ≡ same_spot
+        → f.is_common ≡ false → t.all ≡ all_entry_keys units → NoneTwice (units_keys units)
+        → Each (λ u. CarriedUnit (OfFile sources) (f.origin u.at) u) units → ClosedIn t units → ApartIn t units
+        → SectionsStand false (OfFile sources) f t units → Each (BasesStand f) units → Each (OperandsStand t) units
         → Each SoundUnit (fit_units f units) × UnitsSay t (fit_units f units) }
-    ensures common { (f : Forms Spot) (t : Tells Spot) (units : List (DwUnit Spot)) → f.same ≡ same_spot → f.is_common ≡ true → t.all ≡ all_entry_keys units → NoneTwice (units_keys units)
-        → Each (λ u. CarriedUnit OfAny (f.origin u.at) u) units → ClosedIn t units → ApartIn t units → SectionsStand true OfAny f t units → Each (BasesStand f) units → Each (OperandsStand t) units
+    ensures common { (f : Forms Spot) (t : Tells Spot) (units : List (DwUnit Spot)) → f.same ≡ same_spot → f.is_common ≡ true
+        → t.all ≡ all_entry_keys units → NoneTwice (units_keys units)
+        → Each (λ u. CarriedUnit OfAny (f.origin u.at) u) units → ClosedIn t units → ApartIn t units → SectionsStand true OfAny f t units
+        → Each (BasesStand f) units → Each (OperandsStand t) units
         → Each SoundUnit (fit_units f units) × UnitsSay t (fit_units f units) }
     ensures keys { (f : Forms Spot) (units : List (DwUnit Spot)) → units_keys (fit_units f units) ≡ units_keys units }
 {}
 
-/// What is carried. Units that are read are, where no attribute names a text of a common file, each with what its own root says; and units, entries and lists of entries stay so where places get names, or names others.
+/// What is carried. Units that are read are, where no attribute names a text of a common file, each with what its own root says; and units,
+/// entries and lists of entries stay so where places get names, or names others.
 pub fn carried_laws()
     ensures read { (abbrevs info : List ℕ) (mode : Mode) (raw : List RawUnit) (around : Around ℕ) (units : List (DwUnit ℕ))
-        → mode.forms ≡ own_forms → SpellsUnits abbrevs mode 0 raw 0 info → MeanUnits around raw units → AreBytes info → Each BuiltUnit units → Each (λ u. CarriedUnit (OfFile around.sources) (bases_in u) u) units }
-    ensures named { (sources : Sources) (origin : Bases) (f : ℕ → Spot) (u : DwUnit ℕ) → CarriedUnit (OfFile sources) origin u → CarriedUnit (OfFile sources) origin (unit_map f u) }
-    ensures unit { (sources : Sources) (origin : Bases) (f : Spot → Spot) (u : DwUnit Spot) → CarriedUnit (OfFile sources) origin u → CarriedUnit (OfFile sources) origin (unit_map f u) }
-    ensures entry { (sources : Sources) (origin : Bases) (f : Spot → Spot) (e : Node Spot) → CarriedNode (OfFile sources) origin e → CarriedNode (OfFile sources) origin (node_map f e) }
-    ensures entries { (sources : Sources) (origin : Bases) (f : Spot → Spot) (entries : Entries Spot) → CarriedEntries (OfFile sources) origin entries → CarriedEntries (OfFile sources) origin (entries_map f entries) }
+        → mode.forms ≡ own_forms → SpellsUnits abbrevs mode 0 raw 0 info → MeanUnits around raw units → AreBytes info → Each BuiltUnit units
+        → Each (λ u. CarriedUnit (OfFile around.sources) (bases_in u) u) units }
+    ensures named { (sources : Sources) (origin : Bases) (f : ℕ → Spot) (u : DwUnit ℕ) → CarriedUnit (OfFile sources) origin u
+        → CarriedUnit (OfFile sources) origin (unit_map f u) }
+    ensures unit { (sources : Sources) (origin : Bases) (f : Spot → Spot) (u : DwUnit Spot) → CarriedUnit (OfFile sources) origin u
+        → CarriedUnit (OfFile sources) origin (unit_map f u) }
+    ensures entry { (sources : Sources) (origin : Bases) (f : Spot → Spot) (e : Node Spot) → CarriedNode (OfFile sources) origin e
+        → CarriedNode (OfFile sources) origin (node_map f e) }
+    ensures entries { (sources : Sources) (origin : Bases) (f : Spot → Spot) (entries : Entries Spot)
+        → CarriedEntries (OfFile sources) origin entries → CarriedEntries (OfFile sources) origin (entries_map f entries) }
 {}
 
 /// Texts that move. What was read in a file whose slots and line tables let it stay does so in the unit in which it is written, once the

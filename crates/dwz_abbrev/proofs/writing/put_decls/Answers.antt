@@ -14,7 +14,8 @@ loop-decl-preserved c =
     let old = c.args.out.now.items in
     let so_far = c.loop-decl.invariant in
     let rest = table_bytes (views (drop (i + 1) decls)) in
-    let here : table_bytes (views (drop i decls)) ≡ declaration_bytes (decl_view d) ++ rest = table_more decls i d c.loop-decl-test.true ∙ ap (λ (x : Decl). declaration_bytes (decl_view x) ++ rest) (sym c.decl-item.is) in (
+    let here : table_bytes (views (drop i decls)) ≡ declaration_bytes (decl_view d) ++ rest = table_more decls i d c.loop-decl-test.true ∙ ap (λ (x : Decl). declaration_bytes (decl_view x) ++ rest)
+    (sym c.decl-item.is) in (
       begins_on old out c.put_decl.new.out.items so_far.0 c.put_decl.ensures.begins,
       one_more out c.put_decl.new.out.items old (declaration_bytes (decl_view d)) rest (table_bytes (views decls)) c.in_ok-put_decl.ensures.ok (ap (λ (w : List ℕ). out ++ w) (sym here) ∙ so_far.1),
     )

@@ -3,9 +3,9 @@ use Rattle.std.proofs.lemmas.List.{length-map}
 use Rattle.std.proofs.lemmas.Result.{err_from_is_err_and}
 use Rattle.dwz_model.specs.declared.fault.Fault.{Fault}
 use Rattle.dwz_model.specs.declared.fault.Refusal.{Refusal}
-use Rattle.dwz_model.specs.declared.sections.Sections.{Sections}
+use Rattle.dwz_model.specs.declared.sections.NewSections.{NewSections}
 use Rattle.dwz_docs.specs.Values.{AreBytes}
-use Rattle.dwz_seen.specs.Lists.{Each}
+use Rattle.dwz_docs.specs.Lists.{Each}
 use Rattle.dwz_back.specs.Files.{Run}
 use Rattle.dwz_out.specs.Out.{run_for, summary_lines, sup_name}
 use Rattle.dwz_out.specs.Refusals.{CommonRefusal}
@@ -22,7 +22,7 @@ as_many_contents : (graph : List (List ℕ)) (contents : List (Vec ℕ Global)) 
 as_many_contents graph contents read = ap (λ (g : List (List ℕ)). length g) read ∙ length-map contents (λ (v : Vec ℕ Global). v.items)
 
 -- the common file isn't refused where no fault of it was found
-alone : (r : Run) (common : Option Sections) (found : Option Fault) → IsNewCommon r common → found ≡ None → IsFound (FaultWith common) found → Nothing (CommonRefusal r)
+alone : (r : Run) (common : Option NewSections) (found : Option Fault) → IsNewCommon r common → found ≡ None → IsFound (FaultWith common) found → Nothing (CommonRefusal r)
 alone r common found new none is = no_refusal r common new (subst (IsFound (FaultWith common)) none is)
 
 pub returns-in-Some : goal.returns-in-Some

@@ -1,5 +1,5 @@
 use Rattle.std.proofs.Common.{[], Option, get_or, subst, ◌∙◌}
-use Rattle.dwz_model.specs.declared.sections.Sections.{Sections}
+use Rattle.dwz_model.specs.declared.sections.NewSections.{NewSections}
 use Rattle.dwz_out.proofs.FreeLemmas.{Nothing}
 use Rattle.dwz_after.specs.Common.{FaultWith}
 use Rattle.dwz_after.specs.NewFiles.{IsNewCommon}
@@ -7,12 +7,12 @@ use Rattle.dwz_after.proofs.CommonFaults.{made_so, small_file, small_with}
 use Rattle.dwz_after.proofs.common.common_made.Goals as goal
 
 pub sum_of-sum-requires : goal.sum_of-sum-requires
-sum_of-sum-requires c = small_with c.in-Some.sections (subst (λ (o : Option Sections). Nothing (FaultWith o)) c.in-Some.is c.requires)
+sum_of-sum-requires c = small_with c.in-Some.sections (subst (λ (o : Option NewSections). Nothing (FaultWith o)) c.in-Some.is c.requires)
 
 pub common_file-requires : goal.common_file-requires
 common_file-requires c =
     small_file c.machine_of-machine.result.0 c.machine_of-machine.result.1 c.in-Some.sections
-    (small_with c.in-Some.sections (subst (λ (o : Option Sections). Nothing (FaultWith o)) c.in-Some.is c.requires))
+    (small_with c.in-Some.sections (subst (λ (o : Option NewSections). Nothing (FaultWith o)) c.in-Some.is c.requires))
 
 pub returns : goal.returns
 returns c r first new =

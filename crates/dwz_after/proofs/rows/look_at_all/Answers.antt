@@ -1,17 +1,13 @@
-use Rattle.std.proofs.Common.{ℕ, suc, ◌<◌, List, [], ◌∷◌, Vec, Global, length, get_or, map, zero, refl, sym, subst, below_more, arith}
+use Rattle.std.proofs.Common.{ℕ, List, [], Vec, Global, get_or, map, refl, sym, subst, below_more, arith}
 use Rattle.std.proofs.lemmas.List.{length-map}
 use Rattle.std.proofs.lemmas.Option.{get_or_from_slice_get}
 use Rattle.dwz_docs.specs.Values.{AreBytes}
-use Rattle.dwz_seen.specs.Lists.{Each}
+use Rattle.dwz_seen.proofs.Members.{each_below}
 use Rattle.dwz_after.proofs.FileAnswers.{content_at}
 use Rattle.dwz_after.proofs.rows.look_at_all.Goals as goal
 
 items_of : Vec ℕ Global → List ℕ
 items_of c = c.items
-
-each_below : (xs : List (List ℕ)) → ((k : ℕ) → k < length xs → AreBytes (get_or xs k [])) → Each AreBytes xs
-each_below [] are = tt
-each_below (x ∷ xs) are = (are zero (omega arith), each_below xs (λ k less. are (suc k) (omega arith)))
 
 pub loop-content-preserved : goal.loop-content-preserved
 loop-content-preserved c =

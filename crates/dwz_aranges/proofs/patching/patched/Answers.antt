@@ -23,11 +23,14 @@ loop-place-preserved c =
     elim c.match-set_there.branch [
       | in-Some w ↦ (
           let is = w.in-Some.ensures in
-          rw (w.out-is, w.at-is) (one_less c.args.section.now numbers out c.loop-place.at c.loop-place.place-index c.loop-place.invariant c.loop-place-test.true (set_view w.in-Some.field-0-0) w.in-Some.behind w.put.new.out.items is.read w.put.ensures)
+          rw (w.out-is, w.at-is) (one_less c.args.section.now numbers out c.loop-place.at c.loop-place.place-index c.loop-place.invariant c.loop-place-test.true (set_view w.in-Some.field-0-0)
+          w.in-Some.behind w.put.new.out.items is.read w.put.ensures)
           )
-      | in_default w ↦ absurd (must_stand c.args.section.now numbers out c.loop-place.at c.loop-place.place-index c.loop-place.invariant c.loop-place-test.true (bad_ranges c.loop-place.at) w.in_default.ensures)
+      | in_default w ↦ absurd (must_stand c.args.section.now numbers out c.loop-place.at c.loop-place.place-index c.loop-place.invariant c.loop-place-test.true (bad_ranges c.loop-place.at)
+          w.in_default.ensures)
     ]
 
 pub returns : goal.returns
 returns c =
-    rw (← c.as_slice-place-items.ensures) (all_written c.args.section.now c.as_slice-place-items.result.now c.loop-place.out.items c.loop-place.at c.loop-place.place-index c.loop-place.invariant c.loop-place-test.false)
+    rw (← c.as_slice-place-items.ensures) (all_written c.args.section.now c.as_slice-place-items.result.now c.loop-place.out.items c.loop-place.at c.loop-place.place-index c.loop-place.invariant
+    c.loop-place-test.false)

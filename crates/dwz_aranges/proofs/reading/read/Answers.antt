@@ -8,12 +8,14 @@ use Rattle.dwz_aranges.proofs.reading.read.Goals as goal
 pub returns-in-None : goal.returns-in-None
 returns-in-None c =
     sym c.loop-at.invariant.same
-    ∙ breaks_off (set_views c.loop-at.sets.items) (input c.args.section.now c.loop-at.at) c.bad_at.result (left_of c.args.section.now c.loop-at.at c.loop-at-test.true) (rw c.bad_at.ensures c.in-None.ensures)
+    ∙ breaks_off (set_views c.loop-at.sets.items) (input c.args.section.now c.loop-at.at) c.bad_at.result (left_of c.args.section.now c.loop-at.at c.loop-at-test.true)
+    (rw c.bad_at.ensures c.in-None.ensures)
 
 pub loop-at-preserved : goal.loop-at-preserved
 loop-at-preserved c =
     let is = c.in-Some.ensures in
-    let step = goes_on (set_views c.loop-at.sets.items) (input c.args.section.now c.loop-at.at) (input c.args.section.now c.in-Some.behind) (set_view c.in-Some.set) (left_of c.args.section.now c.loop-at.at c.loop-at-test.true) is.read in
+    let step = goes_on (set_views c.loop-at.sets.items) (input c.args.section.now c.loop-at.at) (input c.args.section.now c.in-Some.behind) (set_view c.in-Some.set)
+    (left_of c.args.section.now c.loop-at.at c.loop-at-test.true) is.read in
     let more = ap set_views c.in_ok-push-in-Some.ensures.items ∙ views_more c.loop-at.sets.items c.in-Some.set in
     record { within = is.within; same = ap (λ xs. sets_into xs (input c.args.section.now c.in-Some.behind)) more ∙ sym step ∙ c.loop-at.invariant.same }
 

@@ -16,4 +16,5 @@ loop-i-preserved c = λ u name rows after ds k own m. (
 pub returns : goal.returns
 returns c = λ u name rows after ds k own m. (
     let x = c.args.source.now in
-    done (raw_of x) (scope_at x u) name c.args.here.now.number c.loop-i.i c.args.end (drop c.loop-i.at x.refs.now) after c.loop-i.out.items _ c.loop-i-test.false (c.loop-i.invariant u name rows after ds k own m))
+    done (raw_of x) (scope_at x u) name c.args.here.now.number c.loop-i.i c.args.end (drop c.loop-i.at x.refs.now) after c.loop-i.out.items _ c.loop-i-test.false
+    (c.loop-i.invariant u name rows after ds k own m))

@@ -5,10 +5,11 @@ use Rattle.dwz_bare.specs.Sources.{KnowsUnit, raw_of, rows_label, scope_at}
 use Rattle.dwz_bare.proofs.RowsLemmas.{RowsLeft}
 use Rattle.dwz_flat.specs.Rows.{AreRowsMeant}
 use Rattle.dwz_meanings.specs.Documents.{Node}
-use Rattle.dwz_resolve.specs.Resolved.{Each}
+use Rattle.dwz_docs.specs.Lists.{Each}
 use Rattle.dwz_unit.specs.Rows.{EntryRow}
 use Rattle.dwz_bare.proofs.entries.put_rows.Given as goal
 
 abbrev pub invariant-loop-i : goal.invariant-loop-i
-invariant-loop-i l = (u : RawUnit) (name : ℕ → Spot) (rows after : List EntryRow) (ds : List (Node ℕ)) → KnowsUnit l.source l.here l.line u name → Each (λ row. row.unit ≡ l.here.number) rows → AreRowsMeant (raw_of l.source) (scope_at l.source u) l.first l.end (drop l.next l.source.refs.now) rows after ds
+invariant-loop-i l = (u : RawUnit) (name : ℕ → Spot) (rows after : List EntryRow) (ds : List (Node ℕ)) → KnowsUnit l.source l.here l.line u name → Each (λ row. row.unit ≡ l.here.number) rows
+    → AreRowsMeant (raw_of l.source) (scope_at l.source u) l.first l.end (drop l.next l.source.refs.now) rows after ds
     → RowsLeft (raw_of l.source) (scope_at l.source u) name l.here.number l.i l.end (drop l.at l.source.refs.now) after l.out.items (l.fn.out.items ++ rows_label name l.first rows ds)

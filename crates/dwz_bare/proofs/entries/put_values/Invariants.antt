@@ -13,6 +13,8 @@ use Rattle.dwz_bare.proofs.entries.put_values.Given as goal
 abbrev pub invariant-loop-pair : goal.invariant-loop-pair
 invariant-loop-pair l = record {
   reads : (row : EntryRow) → slice_get (rows_of (raw_of l.source)) l.i ≡ Some row → Reads row.entry.at (drop l.pair-index l.pairs) l.cursor (drop l.pair-index row.entry.attrs);
-  left : (u : RawUnit) (name : ℕ → Spot) (row : EntryRow) (d : Node ℕ) → KnowsUnit l.source l.here l.line u name → row.unit ≡ l.here.number → IsEntryMeant (raw_of l.source) (scope_at l.source u) l.i (drop l.next l.source.refs.now) row d
-      → AreLeft (raw_of l.source) (scope_at l.source u) (drop l.pair-index row.entry.attrs) name d.attrs (drop l.next l.source.refs.now) (drop l.behind l.source.refs.now) l.out.items (l.fn.out.items ++ each_counted attr_label (map (attr_map name) d.attrs));
+  left : (u : RawUnit) (name : ℕ → Spot) (row : EntryRow) (d : Node ℕ) → KnowsUnit l.source l.here l.line u name → row.unit ≡ l.here.number
+      → IsEntryMeant (raw_of l.source) (scope_at l.source u) l.i (drop l.next l.source.refs.now) row d
+      → AreLeft (raw_of l.source) (scope_at l.source u) (drop l.pair-index row.entry.attrs) name d.attrs (drop l.next l.source.refs.now) (drop l.behind l.source.refs.now) l.out.items
+      (l.fn.out.items ++ each_counted attr_label (map (attr_map name) d.attrs));
 }

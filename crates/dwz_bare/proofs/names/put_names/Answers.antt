@@ -1,11 +1,12 @@
 use Rattle.std.proofs.Common.{◌+◌, ◌<◌, ◌++◌, ℕ, List, ap, drop, get_or, length, ◌∙◌}
 use Rattle.std.proofs.lemmas.List.{drop_all}
 use Rattle.dwz_docs.specs.Units.{entries_in}
+use Rattle.dwz_docs.proofs.ListFacts.{drop_pairs}
 use Rattle.dwz_label.specs.Labels.{counted}
 use Rattle.dwz_resolve.specs.Resolved.{around}
 use Rattle.dwz_unit.specs.Rows.{units_of}
 use Rattle.dwz_bare.proofs.NamesLemmas.{names_all, next_name, no_name, space_means, space_named}
-use Rattle.dwz_bare.proofs.ListFacts.{drop_at, each_rest}
+use Rattle.dwz_bare.proofs.ListFacts.{each_rest}
 use Rattle.dwz_bare.proofs.names.put_names.Goals as goal
 
 pub loop-space-init : goal.loop-space-init
@@ -28,8 +29,9 @@ loop-space-preserved c =
       left = λ u names at h. (
           let a = around c.args.sections.now raw in
           let n = c.args.here.now.number in
-          let x = next_name raw a n e (drop k xs) (drop (k + 1) xs) c.loop-space.out.items _ (drop_at xs k 0 lt) (c.loop-space.invariant.left u names at h) in
-          x.2 c.put_name.new.out.items (c.in_ok-put_name.ensures u x.1.row x.1.d x.1.text at x.1.found (space_means raw a n e x.0 u x.1 at.is_unit) x.1.is_space ∙ ap (λ (w : List ℕ). c.loop-space.out.items ++ counted w) (space_named raw a n e x.0 x.1)));
+          let x = next_name raw a n e (drop k xs) (drop (k + 1) xs) c.loop-space.out.items _ (drop_pairs xs k 0 lt) (c.loop-space.invariant.left u names at h) in
+          x.2 c.put_name.new.out.items (c.in_ok-put_name.ensures u x.1.row x.1.d x.1.text at x.1.found (space_means raw a n e x.0 u x.1 at.is_unit) x.1.is_space
+          ∙ ap (λ (w : List ℕ). c.loop-space.out.items ++ counted w) (space_named raw a n e x.0 x.1)));
     }
 
 pub returns : goal.returns

@@ -3,7 +3,8 @@ use Rattle.dwz_alike.specs.Spots.{SpaceName}
 use Rattle.dwz_docs.specs.Units.{RawUnit, entries_in}
 use Rattle.dwz_index.specs.Chains.{AreSpacesAt}
 use Rattle.dwz_label.specs.Labels.{counted, each_counted}
-use Rattle.dwz_resolve.specs.Resolved.{Each, IsHere, around}
+use Rattle.dwz_resolve.specs.Resolved.{IsHere, around}
+use Rattle.dwz_docs.specs.Lists.{Each}
 use Rattle.dwz_unit.specs.Rows.{units_of}
 use Rattle.dwz_bare.proofs.NamesLemmas.{NamesLeft}
 use Rattle.dwz_bare.proofs.names.put_names.Given as goal

@@ -9,7 +9,8 @@ pub returns-in-Constant : goal.returns-in-Constant
 returns-in-Constant c = λ s at v here line means. (
     let a = stored at c.args.end c.args.pair.now c.args.raw.now in
     let k = c.class_of-class.result in
-    c.put_constant.ensures s at c.args.end v c.args.operands.now.items (is_class a k code.Constant c.class_of-class.ensures c.in-Constant.is) line (as_is s a v k code.Constant c.class_of-class.ensures c.in-Constant.is means))
+    c.put_constant.ensures s at c.args.end v c.args.operands.now.items (is_class a k code.Constant c.class_of-class.ensures c.in-Constant.is) line
+    (as_is s a v k code.Constant c.class_of-class.ensures c.in-Constant.is means))
 
 pub returns-in-Offset : goal.returns-in-Offset
 returns-in-Offset c = λ s at v here line means. (
@@ -42,4 +43,5 @@ returns-in_default c = λ s at v here line means. (
     let a = stored at c.args.end c.args.pair.now c.args.raw.now in
     let k = c.class_of-class.result in
     let n = c.in_default in
-    c.put_alone.ensures s at c.args.end v c.args.operands.now.items (simple_is k n.not-Constant n.not-UnitEntry n.not-InfoEntry n.not-Offset n.not-Expression n.not-ListIndex) here.sources here.alone here.offsets (as_is s a v k k c.class_of-class.ensures refl means))
+    c.put_alone.ensures s at c.args.end v c.args.operands.now.items (simple_is k n.not-Constant n.not-UnitEntry n.not-InfoEntry n.not-Offset n.not-Expression n.not-ListIndex) here.sources here.alone
+    here.offsets (as_is s a v k k c.class_of-class.ensures refl means))

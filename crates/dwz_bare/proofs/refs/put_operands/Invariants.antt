@@ -12,5 +12,7 @@ use Rattle.dwz_bare.specs.Targets.{KnowsNames}
 use Rattle.dwz_bare.proofs.refs.put_operands.Given as goal
 
 abbrev pub invariant-loop-operand : goal.invariant-loop-operand
-invariant-loop-operand l = (u : RawUnit) (name : ℕ → Spot) → IsHere (units_of l.units) u l.here → KnowsNames (units_of l.units) name l.index → first_unnamed (is_named (scope_in l.sections (units_of l.units) u)) l.operands ≡ None
-    → l.out.items ++ flat_map target_label (map name (targets (scope_in l.sections (units_of l.units) u) (drop l.operand-index l.operands))) ≡ l.fn.out.items ++ flat_map target_label (map name (targets (scope_in l.sections (units_of l.units) u) l.operands))
+invariant-loop-operand l = (u : RawUnit) (name : ℕ → Spot) → IsHere (units_of l.units) u l.here → KnowsNames (units_of l.units) name l.index
+    → first_unnamed (is_named (scope_in l.sections (units_of l.units) u)) l.operands ≡ None
+    → l.out.items ++ flat_map target_label (map name (targets (scope_in l.sections (units_of l.units) u) (drop l.operand-index l.operands))) ≡ l.fn.out.items
+    ++ flat_map target_label (map name (targets (scope_in l.sections (units_of l.units) u) l.operands))

@@ -19,4 +19,5 @@ returns-in_ok-put_operands-in-Kept c = λ u name v at k names t. (
     let raw = units_of c.args.units.now in
     let s = scope_in c.args.sections.now raw u in
     let n = subst (λ (w : Named). NamesSo s v c.args.operands.now w) c.in-Kept.is names in
-    counted_operands s name v.refs c.args.operands.now c.args.out.now.items c.put_number.new.out.items c.put_operands.new.out.items n.1 c.in_ok-put_number-in-Kept.ensures (c.in_ok-put_operands-in-Kept.ensures u name at k n.2))
+    counted_operands s name v.refs c.args.operands.now c.args.out.now.items c.put_number.new.out.items c.put_operands.new.out.items n.1 c.in_ok-put_number-in-Kept.ensures
+    (c.in_ok-put_operands-in-Kept.ensures u name at k n.2))

@@ -4,8 +4,8 @@ use Rattle.dwz_docs.specs.Trees.{End, Entry}
 use Rattle.dwz_flat.specs.Rows.{AreRowsMeant, nodes}
 use Rattle.dwz_flat.proofs.PartLemmas.{rows_unit}
 use Rattle.dwz_flat.proofs.TreeLemmas.{tree_means}
-use Rattle.dwz_resolve.proofs.RowLemmas.{below-length}
 use Rattle.dwz_unit.specs.Rows.{rows_below, rows_of}
+use Rattle.dwz_unit.proofs.RowLemmas.{shown-length}
 use Rattle.dwz_bare.specs.Sources.{raw_of, rows_label, scope_at}
 use Rattle.dwz_bare.proofs.TopLemmas.{all_told, top_label}
 use Rattle.dwz_bare.proofs.top.put_top.Goals as goal
@@ -23,9 +23,10 @@ returns c = λ u name depth t h k language spaces at many targets. (
     let refs = drop c.args.next x.refs.now in
     let meant : AreRowsMeant raw s c.args.first c.args.end refs rows h.after ds = record {
       found = ap (λ (i : ℕ). drop i (rows_of raw)) (sym at) ∙ h.stand;
-      count = ap (λ (i : ℕ). c.args.first + i) (below-length (Entry h.e h.c End) n h.p) ∙ many;
+      count = ap (λ (i : ℕ). c.args.first + i) (shown-length (Entry h.e h.c End) n h.p) ∙ many;
       means = tree_means s (Entry h.e h.c End) (Entry h.d h.g End) n h.p h.means;
       targets = targets;
     } in
-    all_told c.args.language (name_list t) old c.put_language.new.out.items c.put_names.new.out.items c.put_rows.new.out.items said c.in_ok-put_language.ensures (c.in_ok-put_names.ensures u t.spaces k.here spaces) (c.in_ok-put_rows.ensures u name rows h.after ds k (rows_unit (Entry h.e h.c End) n h.p) meant)
+    all_told c.args.language (name_list t) old c.put_language.new.out.items c.put_names.new.out.items c.put_rows.new.out.items said c.in_ok-put_language.ensures
+    (c.in_ok-put_names.ensures u t.spaces k.here spaces) (c.in_ok-put_rows.ensures u name rows h.after ds k (rows_unit (Entry h.e h.c End) n h.p) meant)
     ∙ ap (λ (w : List ℕ). old ++ w) (top_label s name (rows_of raw) n depth c.args.first c.args.language t h language at))

@@ -16,5 +16,6 @@ returns c = λ u name at values attrs k line h. (
     let a = stored at c.args.end c.args.pair.now c.args.raw.now in
     let refs = drop c.args.next x.refs.now in
     let n = value (raw_of x) (scope_at x u) refs a values attrs c.if-pair-eq-SIBLING.false h in
-    told (raw_of x) (scope_at x u) a values name attrs refs (drop c.in_ok-behind.behind x.refs.now) c.args.out.now.items c.put_number.new.out.items c.put_value.new.out.items n c.in_ok-put_number.ensures
+    told (raw_of x) (scope_at x u) a values name attrs refs (drop c.in_ok-behind.behind x.refs.now) c.args.out.now.items c.put_number.new.out.items c.put_value.new.out.items n
+    c.in_ok-put_number.ensures
     (c.in_ok-behind.ensures u name at n.value k line n.means n.targets))

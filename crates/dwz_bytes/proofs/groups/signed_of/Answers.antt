@@ -33,7 +33,8 @@ returns-then-negative-2 c =
       | then-negative w ↦ high_reach c.args.bytes.now g _ c.if-negative.reach c.in_ok-groups.ensures c.if-negative-2.true w.reach-is
       | else-negative w ↦ absurd (omega arith)
     ] in (
-      rw (negsuc_is c.if-negative.reach c.if-reach.false) (leb_is signed_value fits_i64 (record { at = c.args.start; rest = c.args.bytes.now }) g.len (negsuc c.if-negative.reach) c.in_ok-groups.ensures.read c.in_ok-groups.ensures.within is (negsuc_fits c.if-negative.reach c.if-reach.false)),
+      rw (negsuc_is c.if-negative.reach c.if-reach.false) (leb_is signed_value fits_i64 (record { at = c.args.start; rest = c.args.bytes.now }) g.len (negsuc c.if-negative.reach)
+          c.in_ok-groups.ensures.read c.in_ok-groups.ensures.within is (negsuc_fits c.if-negative.reach c.if-reach.false)),
       c.in_ok-groups.ensures.within,
     )
 
@@ -45,6 +46,7 @@ returns-else-negative-2 c =
       | then-negative w ↦ absurd (omega arith)
       | else-negative w ↦ low_reach c.args.bytes.now g _ c.if-negative.reach c.in_ok-groups.ensures c.if-negative-2.false w.reach-is
     ] in (
-      rw (pos_is c.if-negative.reach c.if-reach.false) (leb_is signed_value fits_i64 (record { at = c.args.start; rest = c.args.bytes.now }) g.len (pos c.if-negative.reach) c.in_ok-groups.ensures.read c.in_ok-groups.ensures.within is (pos_fits c.if-negative.reach c.if-reach.false)),
+      rw (pos_is c.if-negative.reach c.if-reach.false) (leb_is signed_value fits_i64 (record { at = c.args.start; rest = c.args.bytes.now }) g.len (pos c.if-negative.reach) c.in_ok-groups.ensures.read
+          c.in_ok-groups.ensures.within is (pos_fits c.if-negative.reach c.if-reach.false)),
       c.in_ok-groups.ensures.within,
     )

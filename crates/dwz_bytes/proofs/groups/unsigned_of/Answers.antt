@@ -14,8 +14,13 @@ returns-in_err-groups c =
 
 pub returns-then-groups : goal.returns-then-groups
 unfolding uleb_at
-returns-then-groups c = leb_is_wide groups_value fits_u64 (record { at = c.args.start; rest = c.args.bytes.now }) _ c.in_ok-groups.ensures.read (le-ltb _ _ (omega (arith, c.in_ok-groups.ensures.value)))
+returns-then-groups c = leb_is_wide groups_value fits_u64 (record { at = c.args.start; rest = c.args.bytes.now }) _ c.in_ok-groups.ensures.read
+    (le-ltb _ _ (omega (arith, c.in_ok-groups.ensures.value)))
 
 pub returns : goal.returns
 unfolding uleb_at
-returns c = (leb_is groups_value fits_u64 (record { at = c.args.start; rest = c.args.bytes.now }) c.in_ok-groups.groups.len _ c.in_ok-groups.ensures.read c.in_ok-groups.ensures.within c.in_ok-groups.ensures.value (lt-ltb _ _ (omega arith)), c.in_ok-groups.ensures.within)
+returns c = (
+  leb_is groups_value fits_u64 (record { at = c.args.start; rest = c.args.bytes.now }) c.in_ok-groups.groups.len _ c.in_ok-groups.ensures.read c.in_ok-groups.ensures.within
+      c.in_ok-groups.ensures.value (lt-ltb _ _ (omega arith)),
+  c.in_ok-groups.ensures.within,
+)

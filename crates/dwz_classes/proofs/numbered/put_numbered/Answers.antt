@@ -1,8 +1,8 @@
 use Rattle.std.proofs.Common.{subst, sym}
-use Rattle.dwz_across.proofs.ListGets.{got_below}
+use Rattle.dwz_docs.proofs.ListFacts.{got_below, got_index_or}
 use Rattle.dwz_classes.specs.declared.unit.UnitRow.{UnitRow}
 use Rattle.dwz_classes.specs.Unit.{IsUnitRow}
-use Rattle.dwz_classes.proofs.TopLemmas.{found, got_or, kept_row, with_row}
+use Rattle.dwz_classes.proofs.TopLemmas.{found, kept_row, with_row}
 use Rattle.dwz_unit.specs.Rows.{units_of}
 use Rattle.dwz_classes.proofs.numbered.put_numbered.Goals as goal
 
@@ -21,4 +21,4 @@ put_top_of-requires-clause-there c =
     let e = c.entry_of-entry.result in
     let h = found r c.file_of-file.result c.args.n e c.requires.ready.run c.file_of-file.ensures c.entry_of-entry.ensures in
     let kept = kept_row r rows c.file_of-file.result c.args.n e c.requires.ready h in
-    with_row r c.file_of-file.result c.args.n e _ h (subst (λ (w : UnitRow). IsUnitRow (units_of h.f.units) h.m w) (sym (got_or rows e.unit kept.0 _ kept.1)) kept.2)
+    with_row r c.file_of-file.result c.args.n e _ h (subst (λ (w : UnitRow). IsUnitRow (units_of h.f.units) h.m w) (sym (got_index_or rows e.unit kept.0 _ kept.1)) kept.2)

@@ -10,14 +10,16 @@ pub halving-preserved-then-starts-n : goal.halving-preserved-then-starts-n
 halving-preserved-then-starts-n c =
     let run = c.args.run.now in
     let top = ap (λ (w : Starts). w.top) c.starts-starts.ensures in
-    upper run.graph.now run.files.now run.indexes.now c.requires.run.kept c.requires.run.indexed c.args.n c.halving.low c.halving.high (c.halving.low + (c.halving.high - c.halving.low) / 2) c.index_at.result.now
+    upper run.graph.now run.files.now run.indexes.now c.requires.run.kept c.requires.run.indexed c.args.n c.halving.low c.halving.high (c.halving.low + (c.halving.high - c.halving.low) / 2)
+    c.index_at.result.now
     c.halving.invariant (omega arith) (omega arith) c.index_at.ensures (omega arith)
 
 pub halving-preserved : goal.halving-preserved
 halving-preserved c =
     let run = c.args.run.now in
     let top = ap (λ (w : Starts). w.top) c.starts-starts.ensures in
-    lower run.graph.now run.files.now run.indexes.now c.requires.run.kept c.requires.run.indexed c.args.n c.halving.low c.halving.high (c.halving.low + (c.halving.high - c.halving.low) / 2) c.index_at.result.now
+    lower run.graph.now run.files.now run.indexes.now c.requires.run.kept c.requires.run.indexed c.args.n c.halving.low c.halving.high (c.halving.low + (c.halving.high - c.halving.low) / 2)
+    c.index_at.result.now
     c.halving.invariant (omega arith) (omega arith) c.index_at.ensures (omega arith)
 
 pub returns : goal.returns

@@ -11,4 +11,5 @@ returns-then-space-at c = λ out is. (
     absurd (omega arith))
 
 pub outward-preserved : goal.outward-preserved
-outward-preserved c = λ out is. one_more c.args.first c.args.spaces.now c.outward.at c.in-Some.space c.outward.entries.items c.push.new.self.items (c.args.entries.now.items ++ out) c.in-Some.ensures (c.outward.invariant out is) c.in_ok-push.ensures.items
+outward-preserved c = λ out is. one_more c.args.first c.args.spaces.now c.outward.at c.in-Some.space c.outward.entries.items c.push.new.self.items (c.args.entries.now.items ++ out) c.in-Some.ensures
+    (c.outward.invariant out is) c.in_ok-push.ensures.items

@@ -3,12 +3,11 @@ use Rattle.std.specs.Prelude.{slice_index}
 use Rattle.std.proofs.lemmas.List.{get_or_read}
 use Rattle.dwz_across.specs.Across.{name_at}
 use Rattle.dwz_across.proofs.FileEntries.{all_entries, gives_top}
-use Rattle.dwz_across.proofs.ListGets.{got_below, same_got}
 use Rattle.dwz_classes.proofs.TopLemmas.{ends_there, entry_there, knows_names, known, label_is, language_is, leads, line_of, line_there, outward, spaces_of, spaces_there, top_at, unit_is}
 use Rattle.dwz_classes.specs.Run.{labels_of}
 use Rattle.dwz_docs.specs.Trees.{End, Entry}
+use Rattle.dwz_docs.proofs.ListFacts.{got_below, item_got, same_got}
 use Rattle.dwz_flat.specs.Rows.{AreTargets, nodes, nodes_refs}
-use Rattle.dwz_graph.proofs.GraphLemmas.{found_at}
 use Rattle.dwz_label.specs.Shown.{nth_label}
 use Rattle.dwz_meanings.specs.LineTables.{FileTable}
 use Rattle.dwz_resolve.specs.Parts.{HasLine}
@@ -79,7 +78,8 @@ put_top-requires-clause-spaces c =
     let x = c.index_at-index.result.now in
     let w = known r c.args.file f x c.args.entry.now c.args.row.now c.requires.run c.file_at-read.ensures c.index_at-index.ensures c.requires.there in
     spaces_there r.graph.now c.args.file w.bytes f x w.is w.k c.args.entry.now w.entry c.args.row.now w.unit _
-    (c.as_slice-3.ensures.value ∙ c.in_ok-put_spaces.ensures (leads r.graph.now c.args.file w.bytes f x w.is w.k c.args.entry.now w.entry).entries (outward r.graph.now c.args.file w.bytes f x w.is w.k c.args.entry.now w.entry _ _ c.starts.ensures c.spaces.ensures))
+    (c.as_slice-3.ensures.value ∙ c.in_ok-put_spaces.ensures (leads r.graph.now c.args.file w.bytes f x w.is w.k c.args.entry.now w.entry).entries
+    (outward r.graph.now c.args.file w.bytes f x w.is w.k c.args.entry.now w.entry _ _ c.starts.ensures c.spaces.ensures))
 
 pub returns : goal.returns
 returns c = λ y k got entry. (
@@ -103,7 +103,8 @@ returns c = λ y k got entry. (
     let raw = units_of f.units in
     let lines = f.resolved.lines.items in
     let low = line_there r.graph.now file bytes f x is k e own row w.unit in
-    let line = line_of r.graph.now file bytes f x is row.here.number w.unit.u c.index-line.result.now (unit_is r.graph.now file bytes f x is k e own row w.unit) (found_at lines row.here.number c.index-line.result.now low c.index-line.ensures) in
+    let line = line_of r.graph.now file bytes f x is row.here.number w.unit.u c.index-line.result.now (unit_is r.graph.now file bytes f x is k e own row w.unit)
+    (item_got lines row.here.number c.index-line.result.now low c.index-line.ensures) in
     let tables = subst (λ (q : List FileTable). HasLine (around f.sections raw) w.unit.u q c.index-line.result.now) (sym c.as_slice-2.ensures.value) line in
     let low_entry = entry_there r.graph.now file bytes f x is k e own in
     let many = is.kept.read.parts.many in
@@ -113,4 +114,5 @@ returns c = λ y k got entry. (
     let told = c.in_ok-put_top.ensures w.unit.u name 2 t at.has (record { here = w.unit.here; names = knows_names r.graph.now file bytes f x is; line = tables })
     (language_is r.graph.now file bytes f x is k e own row w.unit c.entry-end.result c.entry-end.ensures.entry)
     (spaces_of r.graph.now file bytes f x is k e own row w.unit _ spaces) at.from at.to targets in
-    told ∙ ap (λ (q : List ℕ). c.args.out.now.items ++ q) (sym (label_is r.graph.now file bytes f x is k e own)) ∙ ap (λ (q : Index). c.args.out.now.items ++ nth_label (labels_of r.graph.now) (q.starts.top + k)) (sym same))
+    told ∙ ap (λ (q : List ℕ). c.args.out.now.items ++ q) (sym (label_is r.graph.now file bytes f x is k e own))
+    ∙ ap (λ (q : Index). c.args.out.now.items ++ nth_label (labels_of r.graph.now) (q.starts.top + k)) (sym same))

@@ -25,5 +25,6 @@ put_top_of-requires-clause-there c =
     let file = c.file_of-file.result in
     let e = c.entry_of-entry.result in
     let h = found r file c.args.top e c.run_of-run.ensures.run c.file_of-file.ensures c.entry_of-entry.ensures in
-    let u = own_unit r file c.args.top e h c.file_at.result.now c.index_at.result.now c.starts-first.result.unit c.file_at.ensures c.index_at.ensures (ap (λ (w : Starts). w.unit) c.starts-first.ensures) in
+    let u = own_unit r file c.args.top e h c.file_at.result.now c.index_at.result.now c.starts-first.result.unit c.file_at.ensures c.index_at.ensures
+    (ap (λ (w : Starts). w.unit) c.starts-first.ensures) in
     with_row r file c.args.top e c.unit_row-row.result h (u.2 c.unit_row-row.result c.unit_row-row.ensures)

@@ -1,7 +1,7 @@
 use Rattle.std.proofs.Common.{arith, length, subst, ℕ, ◌≡◌}
+use Rattle.dwz_docs.proofs.ListFacts.{item_got}
 use Rattle.dwz_classes.specs.Unit.{HaveRows}
 use Rattle.dwz_classes.proofs.RowLemmas.{file_more, none_yet}
-use Rattle.dwz_graph.proofs.GraphLemmas.{found_at}
 use Rattle.dwz_classes.proofs.unit.unit_rows.Goals as goal
 
 pub loop-file-init : goal.loop-file-init
@@ -11,7 +11,7 @@ pub loop-file-preserved : goal.loop-file-preserved
 loop-file-preserved c =
     let run = c.args.run.now in
     file_more run.graph.now run.files.now run.indexes.now c.loop-file.file-index c.file-item.result c.loop-file.rows.items c.put_unit_rows.new.rows.items c.requires.kept c.requires.indexed
-    (found_at run.files.now c.loop-file.file-index c.file-item.result (omega arith) c.file-item.is) c.loop-file.invariant c.in_ok-put_unit_rows.ensures
+    (item_got run.files.now c.loop-file.file-index c.file-item.result (omega arith) c.file-item.is) c.loop-file.invariant c.in_ok-put_unit_rows.ensures
 
 pub returns : goal.returns
 returns c =

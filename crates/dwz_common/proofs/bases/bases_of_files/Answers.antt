@@ -1,6 +1,6 @@
 use Rattle.std.proofs.Common.{◌∙◌, Global, List, Option, Vec, ℕ, map, ap, arith}
 use Rattle.std.proofs.lemmas.List.{take_all}
-use Rattle.dwz_across.proofs.ListGets.{item_got}
+use Rattle.dwz_docs.proofs.ListFacts.{item_got}
 use Rattle.dwz_places.specs.declared.known.FileRows.{FileRows}
 use Rattle.dwz_texts.proofs.TextSteps.{maps_push}
 use Rattle.dwz_common.specs.Stored.{file_bases}

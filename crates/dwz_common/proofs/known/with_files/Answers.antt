@@ -1,6 +1,7 @@
 use Rattle.std.proofs.Common.{arith}
+use Rattle.dwz_docs.proofs.CaseFacts.{none_left}
 use Rattle.dwz_common.specs.WithCommon.{files_with}
-use Rattle.dwz_common.proofs.WithSteps.{files_next, none_left, out_of_files, out_of_numbers, out_of_texts}
+use Rattle.dwz_common.proofs.WithSteps.{files_next, out_of_files, out_of_numbers, out_of_texts}
 use Rattle.dwz_common.proofs.known.with_files.Goals as goal
 
 pub returns-in_default : goal.returns-in_default

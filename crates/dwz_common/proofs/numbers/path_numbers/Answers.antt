@@ -1,8 +1,8 @@
 use Rattle.std.proofs.Common.{◌∙◌, List, ℕ, map, ap, arith}
 use Rattle.std.specs.Global.{Vec}
 use Rattle.std.proofs.lemmas.List.{take_all}
+use Rattle.dwz_docs.proofs.ListFacts.{item_got}
 use Rattle.dwz_graph.specs.declared.file.File.{File}
-use Rattle.dwz_across.proofs.ListGets.{item_got}
 use Rattle.dwz_texts.proofs.TextSteps.{maps_push}
 use Rattle.dwz_common.specs.Numbers.{numbers_in_file}
 use Rattle.dwz_common.proofs.numbers.path_numbers.Goals as goal

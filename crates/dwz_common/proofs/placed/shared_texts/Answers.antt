@@ -1,5 +1,5 @@
 use Rattle.std.proofs.Common.{◌≡◌, ◌∙◌, arith}
-use Rattle.dwz_across.proofs.ListGets.{item_got}
+use Rattle.dwz_docs.proofs.ListFacts.{item_got}
 use Rattle.dwz_common.specs.Placed.{file_places}
 use Rattle.dwz_common.proofs.PlacedSteps.{one_more, places_all}
 use Rattle.dwz_common.proofs.placed.shared_texts.Goals as goal

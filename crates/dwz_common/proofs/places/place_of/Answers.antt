@@ -3,9 +3,9 @@ use Rattle.std.specs.Global.{Vec}
 use Rattle.std.proofs.lemmas.Bool.{ltb-false}
 use Rattle.std.proofs.lemmas.List.{length-map}
 use Rattle.std.proofs.lemmas.Option.{slice_get_past}
+use Rattle.dwz_docs.proofs.ListFacts.{got_below, item_got}
 use Rattle.dwz_unit.specs.Rows.{units_of}
 use Rattle.dwz_resolve.proofs.RowLemmas.{row_there}
-use Rattle.dwz_across.proofs.ListGets.{got_below, item_got}
 use Rattle.dwz_places.proofs.KnownLemmas.{entry_none, file_found}
 use Rattle.dwz_common.specs.Stored.{file_bases}
 use Rattle.dwz_common.proofs.PlaceSteps.{bases_found, file_at, no_file, no_row, row_found, rows_none, units_found}

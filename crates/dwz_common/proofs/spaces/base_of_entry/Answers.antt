@@ -3,7 +3,8 @@ use Rattle.std.specs.Option.{option_and_then}
 use Rattle.dwz_unit.specs.Rows.{units_of}
 use Rattle.dwz_resolve.proofs.RowLemmas.{row_there}
 use Rattle.dwz_resolve.proofs.UnitThere.{unit_ends, unit_there}
-use Rattle.dwz_texts.proofs.RowUnits.{shown_unit, unit_within}
+use Rattle.dwz_index.proofs.RowUnits.{unit_within}
+use Rattle.dwz_texts.proofs.RowUnits.{shown_unit}
 use Rattle.dwz_common.specs.Stored.{slots_base}
 use Rattle.dwz_common.proofs.spaces.base_of_entry.Goals as goal
 

@@ -2,7 +2,8 @@ use Rattle.std.proofs.Common.{◌∙◌, ap, sym, arith}
 use Rattle.dwz_unit.specs.Rows.{units_of}
 use Rattle.dwz_resolve.specs.Resolved.{around}
 use Rattle.dwz_resolve.proofs.RowLemmas.{row_there}
-use Rattle.dwz_texts.proofs.RowUnits.{base_there, bases_many, shown_unit, unit_within}
+use Rattle.dwz_index.proofs.RowUnits.{unit_within}
+use Rattle.dwz_texts.proofs.RowUnits.{base_there, bases_many, shown_unit}
 use Rattle.dwz_common.specs.Stored.{slots_base_at}
 use Rattle.dwz_common.proofs.texts.base_of.Goals as goal
 

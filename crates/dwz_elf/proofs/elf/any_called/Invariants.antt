@@ -1,9 +1,10 @@
 use Rattle.std.proofs.Common.{◌≡◌, drop, List, map}
 use Rattle.std.specs.List.{list_any}
 use Rattle.dwz_docs.specs.declared.elf.Header.{Header}
-use Rattle.dwz_docs.specs.ElfNames.{section_of}
+use Rattle.dwz_docs.specs.ElfNames.{section_named}
 use Rattle.dwz_elf.specs.Names.{is_there_called}
 use Rattle.dwz_elf.proofs.elf.any_called.Given as goal
 
 abbrev pub invariant-loop-section : goal.invariant-loop-section
-invariant-loop-section l = (headers : List Header) → l.sections ≡ map (section_of l.table) headers → list_any (is_there_called l.table l.name) headers ≡ list_any (is_there_called l.table l.name) (drop l.section-index headers)
+invariant-loop-section l = (headers : List Header) → l.sections ≡ map (section_named l.table) headers
+    → list_any (is_there_called l.table l.name) headers ≡ list_any (is_there_called l.table l.name) (drop l.section-index headers)

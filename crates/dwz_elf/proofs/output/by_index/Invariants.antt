@@ -1,4 +1,4 @@
-use Rattle.std.proofs.Common.{◌≡◌, ◌≤◌, drop, length}
+use Rattle.std.proofs.Common.{◌≤◌, drop, length}
 use Rattle.dwz_elf.specs.Places.{AreByIndex}
 use Rattle.dwz_elf.proofs.output.by_index.Given as goal
 

@@ -1,4 +1,4 @@
-use Rattle.std.proofs.Common.{sym, subst, ◌≤◌, ◌<◌, ℕ, arith}
+use Rattle.std.proofs.Common.{subst, ◌≤◌, ◌<◌, ℕ}
 use Rattle.dwz_docs.specs.ElfLayout.{too_large}
 use Rattle.dwz_elf.specs.Rebuilds.{changes_of}
 use Rattle.dwz_elf.proofs.RebuildLemmas.{kept_too_long, placed_too_far, sup_too_long, the_bytes, the_length, the_places}
@@ -19,14 +19,18 @@ returns-then-sup_end c =
 
 pub returns-then-headers_at-new_count : goal.returns-then-headers_at-new_count
 returns-then-headers_at-new_count c =
-    let places = the_places c.args.elf.now (changes_of c.args.edits.now) c.args.input.now c.args.order.now c.args.keep c.in_ok-places.field-0 c.in-Some.places c.requires c.in_ok-places.ensures c.in-Some.is in
-    let len = the_length c.args.elf.now (changes_of c.args.edits.now) c.args.input.now c.sup_bytes.result.now c.args.order.now c.in-Some.places _ _ places c.sup_bytes.ensures c.up-headers_at.ensures c.new_count.ensures in
+    let places = the_places c.args.elf.now (changes_of c.args.edits.now) c.args.input.now c.args.order.now c.args.keep c.in_ok-places.field-0 c.in-Some.places c.requires c.in_ok-places.ensures
+    c.in-Some.is in
+    let len = the_length c.args.elf.now (changes_of c.args.edits.now) c.args.input.now c.sup_bytes.result.now c.args.order.now c.in-Some.places _ _ places c.sup_bytes.ensures c.up-headers_at.ensures
+    c.new_count.ensures in
     subst (λ (n : ℕ). too_large ≤ n) len c.if-headers_at-new_count.true
 
 pub returns : goal.returns
 returns c =
-    let places = the_places c.args.elf.now (changes_of c.args.edits.now) c.args.input.now c.args.order.now c.args.keep c.in_ok-places.field-0 c.in-Some.places c.requires c.in_ok-places.ensures c.in-Some.is in
-    let len = the_length c.args.elf.now (changes_of c.args.edits.now) c.args.input.now c.sup_bytes.result.now c.args.order.now c.in-Some.places _ _ places c.sup_bytes.ensures c.up-headers_at.ensures c.new_count.ensures in (
+    let places = the_places c.args.elf.now (changes_of c.args.edits.now) c.args.input.now c.args.order.now c.args.keep c.in_ok-places.field-0 c.in-Some.places c.requires c.in_ok-places.ensures
+    c.in-Some.is in
+    let len = the_length c.args.elf.now (changes_of c.args.edits.now) c.args.input.now c.sup_bytes.result.now c.args.order.now c.in-Some.places _ _ places c.sup_bytes.ensures c.up-headers_at.ensures
+    c.new_count.ensures in (
       subst (λ (n : ℕ). n < too_large) len c.if-headers_at-new_count.false,
       the_bytes c.args.elf.now (changes_of c.args.edits.now) c.args.input.now c.in_ok-out.out.items c.args.order.now c.in-Some.places places c.in_ok-out.ensures,
     )

@@ -16,5 +16,7 @@ loop-top-preserved c =
     let old = c.loop-top.invariant.0 in
     let new = c.from-sum.ensures ∙ c.weight_at.ensures in
     let low = c.from-sum.ensures in
-    let most = c.loop-top.invariant.1 in
-    (ap (λ k. k + c.from-sum.result) old ∙ ap (λ k. weight_of ws (take i c.args.tops.now) + k) new ∙ next ∙ ap (λ k. weight_of ws (take k c.args.tops.now)) one, omega (arith, low, most, c.weight_at.type_inv))
+    let most = c.loop-top.invariant.1 in (
+      ap (λ k. k + c.from-sum.result) old ∙ ap (λ k. weight_of ws (take i c.args.tops.now) + k) new ∙ next ∙ ap (λ k. weight_of ws (take k c.args.tops.now)) one,
+      omega (arith, low, most, c.weight_at.type_inv),
+    )

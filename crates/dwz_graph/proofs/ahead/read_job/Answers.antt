@@ -1,9 +1,9 @@
 use Rattle.std.proofs.Common.{ℕ, List, None, Vec, Global, ap, subst, ◌∙◌}
 use Rattle.std.specs.Option.{option_map}
 use Rattle.std.proofs.lemmas.Option.{slice_get-map}
+use Rattle.dwz_docs.proofs.ListFacts.{item_got}
 use Rattle.dwz_meanings.specs.Files.{Limits}
 use Rattle.dwz_graph.specs.Files.{IsRead}
-use Rattle.dwz_graph.proofs.GraphLemmas.{found_at}
 use Rattle.dwz_graph.proofs.ahead.read_job.Goals as goal
 
 abbrev content : Vec ℕ Global → List ℕ
@@ -17,6 +17,6 @@ returns c =
     let l : Limits = record { bytes = c.args.job.now.left; entries = 16777216; machine = None } in
     record {
       bytes = v.items;
-      content = slice_get-map content files n ∙ ap (option_map content) (found_at files n v c.requires c.index-files-number.is);
+      content = slice_get-map content files n ∙ ap (option_map content) (item_got files n v c.requires c.index-files-number.is);
       ahead = record { limits = l; read = subst (λ (b : List ℕ). IsRead l n b c.in_ok-file.file) c.as_slice.ensures.value c.in_ok-file.ensures };
     }

@@ -13,7 +13,8 @@ use Rattle.dwz_graph.proofs.FileLemmas.{IsGood, bytes_short, content_is, content
 use Rattle.dwz_graph.proofs.file.read_file.Goals as goal
 
 pub returns-then-is_too_long : goal.returns-then-is_too_long
-returns-then-is_too_long c = subst (λ (e : ReadErr). Fails e (file_meaning (limits_view c.args.left.now) c.args.bytes.now)) (sym c.fault.ensures) (too_long (limits_view c.args.left.now) c.args.bytes.now (sym c.is_too_long.ensures ∙ c.if-is_too_long.true))
+returns-then-is_too_long c = subst (λ (e : ReadErr). Fails e (file_meaning (limits_view c.args.left.now) c.args.bytes.now)) (sym c.fault.ensures)
+    (too_long (limits_view c.args.left.now) c.args.bytes.now (sym c.is_too_long.ensures ∙ c.if-is_too_long.true))
 
 pub returns-in_err-elf : goal.returns-in_err-elf
 returns-in_err-elf c =
@@ -35,7 +36,12 @@ returns-in_err-units c =
     let bytes : List ℕ = c.args.bytes.now in
     let elf = c.in_ok-elf.ensures.gives in
     let m = machine_is bytes c.in_ok-elf.elf c.machine.result elf.1 c.machine.ensures in
-    let good : IsGood l bytes = record { size = sym c.is_too_long.ensures ∙ c.if-is_too_long.false; elf = elf.0; machine = ap (λ (k : ℕ). is_other_machine l.machine k) (sym m) ∙ sym c.is_other_machine.ensures ∙ c.if-is_other_machine.false } in
+    let good : IsGood l bytes = record {
+      size = sym c.is_too_long.ensures ∙ c.if-is_too_long.false;
+      elf = elf.0;
+      machine = ap (λ (k : ℕ). is_other_machine l.machine k) (sym m)
+          ∙ sym c.is_other_machine.ensures ∙ c.if-is_other_machine.false;
+    } in
     let info = content_is bytes c.content-info.result.now c.in_ok-elf.elf 1 elf.1 c.content-info.ensures in
     let abbrevs = content_is bytes c.content-abbrevs.result.now c.in_ok-elf.elf 2 elf.1 c.content-abbrevs.ensures in
     rw (p.1, p.2) (units_fail c.in_err-units.field-0.0 l bytes c.content-info.result.now c.content-abbrevs.result.now good info abbrevs c.in_err-units.ensures.answers)
@@ -47,13 +53,19 @@ returns-in_err-resolved c =
     let bytes : List ℕ = c.args.bytes.now in
     let elf = c.in_ok-elf.ensures.gives in
     let m = machine_is bytes c.in_ok-elf.elf c.machine.result elf.1 c.machine.ensures in
-    let good : IsGood l bytes = record { size = sym c.is_too_long.ensures ∙ c.if-is_too_long.false; elf = elf.0; machine = ap (λ (k : ℕ). is_other_machine l.machine k) (sym m) ∙ sym c.is_other_machine.ensures ∙ c.if-is_other_machine.false } in
+    let good : IsGood l bytes = record {
+      size = sym c.is_too_long.ensures ∙ c.if-is_too_long.false;
+      elf = elf.0;
+      machine = ap (λ (k : ℕ). is_other_machine l.machine k) (sym m)
+          ∙ sym c.is_other_machine.ensures ∙ c.if-is_other_machine.false;
+    } in
     let info = content_is bytes c.content-info.result.now c.in_ok-elf.elf 1 elf.1 c.content-info.ensures in
     let abbrevs = content_is bytes c.content-abbrevs.result.now c.in_ok-elf.elf 2 elf.1 c.content-abbrevs.ensures in
     let same = c.sections_of-sections.ensures.sources elf.1 in
     let ranges = c.sections_of-sections.ensures.aranges elf.1 in
     let sources = sources_view c.sections_of-sections.result in
-    rw (p.1, p.2) (named_fail c.in_err-resolved.field-0.0 l bytes c.content-info.result.now c.content-abbrevs.result.now sources c.sections_of-sections.result.aranges.now (units_of c.in_ok-units.units) good info abbrevs same ranges c.in_ok-units.ensures.answers c.in_err-resolved.ensures.answers)
+    rw (p.1, p.2) (named_fail c.in_err-resolved.field-0.0 l bytes c.content-info.result.now c.content-abbrevs.result.now sources c.sections_of-sections.result.aranges.now
+    (units_of c.in_ok-units.units) good info abbrevs same ranges c.in_ok-units.ensures.answers c.in_err-resolved.ensures.answers)
 
 pub returns : goal.returns
 returns c =
@@ -61,14 +73,20 @@ returns c =
     let bytes : List ℕ = c.args.bytes.now in
     let elf = c.in_ok-elf.ensures.gives in
     let m = machine_is bytes c.in_ok-elf.elf c.machine.result elf.1 c.machine.ensures in
-    let good : IsGood l bytes = record { size = sym c.is_too_long.ensures ∙ c.if-is_too_long.false; elf = elf.0; machine = ap (λ (k : ℕ). is_other_machine l.machine k) (sym m) ∙ sym c.is_other_machine.ensures ∙ c.if-is_other_machine.false } in
+    let good : IsGood l bytes = record {
+      size = sym c.is_too_long.ensures ∙ c.if-is_too_long.false;
+      elf = elf.0;
+      machine = ap (λ (k : ℕ). is_other_machine l.machine k) (sym m)
+          ∙ sym c.is_other_machine.ensures ∙ c.if-is_other_machine.false;
+    } in
     let info = content_is bytes c.content-info.result.now c.in_ok-elf.elf 1 elf.1 c.content-info.ensures in
     let abbrevs = content_is bytes c.content-abbrevs.result.now c.in_ok-elf.elf 2 elf.1 c.content-abbrevs.ensures in
     let same = c.sections_of-sections.ensures.sources elf.1 in
     let ranges = c.sections_of-sections.ensures.aranges elf.1 in
     let sources = sources_view c.sections_of-sections.result in
     let raw = units_of c.in_ok-units.units in
-    let d = has_doc l bytes c.content-info.result.now c.content-abbrevs.result.now sources c.sections_of-sections.result.aranges.now (units_of c.in_ok-units.units) _ good info abbrevs same ranges c.in_ok-units.ensures.answers c.in_ok-resolved.ensures.answers in
+    let d = has_doc l bytes c.content-info.result.now c.content-abbrevs.result.now sources c.sections_of-sections.result.aranges.now (units_of c.in_ok-units.units) _ good info abbrevs same ranges
+    c.in_ok-units.ensures.answers c.in_ok-resolved.ensures.answers in
     record {
       doc = d.doc;
       means = d.means;
@@ -88,7 +106,8 @@ pub read-requires-2-clause-info : goal.read-requires-2-clause-info
 read-requires-2-clause-info c = content_short (limits_view c.args.left.now) c.args.bytes.now c.content-info.result.now _ c.content-info.ensures (sym c.is_too_long.ensures ∙ c.if-is_too_long.false)
 
 pub read-requires-2-clause-abbrevs : goal.read-requires-2-clause-abbrevs
-read-requires-2-clause-abbrevs c = content_short (limits_view c.args.left.now) c.args.bytes.now c.content-abbrevs.result.now _ c.content-abbrevs.ensures (sym c.is_too_long.ensures ∙ c.if-is_too_long.false)
+read-requires-2-clause-abbrevs c = content_short (limits_view c.args.left.now) c.args.bytes.now c.content-abbrevs.result.now _ c.content-abbrevs.ensures
+    (sym c.is_too_long.ensures ∙ c.if-is_too_long.false)
 
 pub sections_of-sections-requires : goal.sections_of-sections-requires
 sections_of-sections-requires c = bytes_short (limits_view c.args.left.now) c.args.bytes.now (sym c.is_too_long.ensures ∙ c.if-is_too_long.false)

@@ -28,8 +28,10 @@ loop-entry-smaller t c =
 
 pub loop-entry-preserved : goal.loop-entry-preserved
 loop-entry-preserved t c =
-    goes_on (units_of c.args.units.now) c.args.first c.args.end c.args.up c.args.top c.args.steps.now.items c.loop-entry.steps.items c.push.new.self.items c.put_below.new.steps.items c.loop-entry.entry c.loop-entry.index c.entry-next.result
+    goes_on (units_of c.args.units.now) c.args.first c.args.end c.args.up c.args.top c.args.steps.now.items c.loop-entry.steps.items c.push.new.self.items c.put_below.new.steps.items
+    c.loop-entry.entry c.loop-entry.index c.entry-next.result
     c.loop-entry.invariant c.loop-entry-test.true c.entry-next.ensures.entry c.in_ok-push.ensures.items c.in_ok-put_below.ensures
 
 pub returns : goal.returns
-returns t c = λ list is. ends (units_of c.args.units.now) c.args.first c.args.end c.args.up c.args.top c.args.steps.now.items c.loop-entry.steps.items c.loop-entry.entry c.loop-entry.index c.loop-entry.invariant c.loop-entry-test.false list is
+returns t c = λ list is. ends (units_of c.args.units.now) c.args.first c.args.end c.args.up c.args.top c.args.steps.now.items c.loop-entry.steps.items c.loop-entry.entry c.loop-entry.index
+    c.loop-entry.invariant c.loop-entry-test.false list is

@@ -11,15 +11,20 @@ loop-file-init c =
 
 pub read-requires : goal.read-requires
 read-requires c =
-    record { room = has_room c.args.graph.now c.files-file-items.result.now c.loop-file.file-index c.loop-file.starts c.loop-file.indexes.items c.file-item.result c.loop-file.invariant (omega arith) c.file-item.is }
+    record {
+      room = has_room c.args.graph.now c.files-file-items.result.now c.loop-file.file-index c.loop-file.starts c.loop-file.indexes.items c.file-item.result c.loop-file.invariant (omega arith)
+          c.file-item.is;
+    }
 
 pub behind-starts-requires-clause-room : goal.behind-starts-requires-clause-room
 behind-starts-requires-clause-room c =
-    behind_room c.args.graph.now c.files-file-items.result.now c.loop-file.file-index c.loop-file.starts c.loop-file.indexes.items c.file-item.result c.in_ok-index.index c.loop-file.invariant (omega arith) c.file-item.is c.in_ok-index.ensures.tops
+    behind_room c.args.graph.now c.files-file-items.result.now c.loop-file.file-index c.loop-file.starts c.loop-file.indexes.items c.file-item.result c.in_ok-index.index c.loop-file.invariant
+    (omega arith) c.file-item.is c.in_ok-index.ensures.tops
 
 pub loop-file-preserved : goal.loop-file-preserved
 loop-file-preserved c =
-    goes_on c.args.graph.now c.files-file-items.result.now c.loop-file.file-index c.loop-file.starts c.behind-starts.result c.loop-file.indexes.items c.push.new.self.items c.file-item.result c.in_ok-index.index c.loop-file.invariant (omega arith) c.file-item.is
+    goes_on c.args.graph.now c.files-file-items.result.now c.loop-file.file-index c.loop-file.starts c.behind-starts.result c.loop-file.indexes.items c.push.new.self.items c.file-item.result
+    c.in_ok-index.index c.loop-file.invariant (omega arith) c.file-item.is
     c.in_ok-index.ensures.names c.in_ok-index.ensures.tops c.in_ok-index.ensures.few c.behind-starts.ensures c.in_ok-push.ensures.items
 
 pub returns : goal.returns

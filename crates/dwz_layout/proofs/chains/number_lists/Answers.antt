@@ -27,9 +27,11 @@ loop-top-preserved c =
     let i = c.loop-top.top-index in
     let l : i < length tops = omega arith in
     subst (λ (ts : List ℕ). Seen c.args.of_tops.now ts c.insert_full.new.self.keys c.push.new.self.items) (sym (take_more tops i 0 l))
-    (seen_more c.args.of_tops.now (take i tops) c.loop-top.lists.keys c.insert_full.new.self.keys c.loop-top.pairs.items c.push.new.self.items (get_or tops i 0) c.in_ok-number.number (c.requires.inside i 0 l)
+    (seen_more c.args.of_tops.now (take i tops) c.loop-top.lists.keys c.insert_full.new.self.keys c.loop-top.pairs.items c.push.new.self.items (get_or tops i 0) c.in_ok-number.number
+    (c.requires.inside i 0 l)
     c.in_ok-number.ensures.keys c.in_ok-number.ensures.index c.in_ok-push.ensures.items c.loop-top.invariant)
 
 pub returns : goal.returns
 returns c =
-    subst (λ (n : ℕ). IsNumbered c.args.of_tops.now c.args.tops.now n c.loop-top.pairs.items) (sym c.len.ensures.len) (seen_all c.args.of_tops.now c.args.tops.now c.loop-top.lists.keys c.loop-top.top-index c.loop-top.pairs.items (omega arith) c.loop-top.invariant)
+    subst (λ (n : ℕ). IsNumbered c.args.of_tops.now c.args.tops.now n c.loop-top.pairs.items) (sym c.len.ensures.len)
+    (seen_all c.args.of_tops.now c.args.tops.now c.loop-top.lists.keys c.loop-top.top-index c.loop-top.pairs.items (omega arith) c.loop-top.invariant)

@@ -13,7 +13,8 @@ abbrev pub invariant-outers : goal.invariant-outers
 invariant-outers l =
     record {
       short : length l.left ≤ length l.outers;
-      left : (v : View) (row : Row) → ShowsRow v row l.outers → LeftOf v l.depth l.pinned l.left (order_lines v.names l.order.items) (order_lines v.names l.fn.order.items ++ part_lines v l.depth l.pinned row);
+      left : (v : View) (row : Row) → ShowsRow v row l.outers → LeftOf v l.depth l.pinned l.left (order_lines v.names l.order.items)
+          (order_lines v.names l.fn.order.items ++ part_lines v l.depth l.pinned row);
     }
 
 abbrev pub decreases-outers : goal.decreases-outers

@@ -17,6 +17,7 @@ returns c = λ v row s.
     let with_root : order_lines v.names c.push.new.self.items ≡ old ++ root = ap (order_lines v.names) c.in_ok-push.ensures.items ∙ order_one v.names c.args.order.now.items _ in
     let with_first : order_lines v.names c.put_part.new.order.items ≡ (old ++ root) ++ p = c.in_ok-put_part.ensures v row s ∙ ap (λ (w : List (Line Spot)). w ++ p) with_root in
     let with_others : order_lines v.names c.put_part-2.new.order.items ≡ ((old ++ root) ++ p) ++ q = c.in_ok-put_part-2.ensures v row s ∙ ap (λ (w : List (Line Spot)). w ++ q) with_first in
-    let with_all : order_lines v.names c.put_imports.new.order.items ≡ (((old ++ root) ++ p) ++ q) ++ last = c.in_ok-put_imports.ensures v.names ∙ ap (λ (w : List (Line Spot)). w ++ last) with_others in
+    let with_all : order_lines v.names c.put_imports.new.order.items ≡ (((old ++ root) ++ p) ++ q) ++ last = c.in_ok-put_imports.ensures v.names
+    ∙ ap (λ (w : List (Line Spot)). w ++ last) with_others in
     let grouped : (((old ++ root) ++ p) ++ q) ++ last ≡ old ++ (root ++ ((p ++ q) ++ last)) = simp append_assoc in
     with_all ∙ grouped ∙ ap (λ (w : List (Line Spot)). old ++ (root ++ (w ++ last))) (both_parts v row)

@@ -30,8 +30,10 @@ returns-clause-depth t c = λ ups u. depth_up c.args.rows.now c.args.inner c.in_
 
 pub returns-clause-lines : goal.returns-clause-lines
 returns-clause-lines t c = λ names ups u.
-    lines_up names c.args.rows.now c.args.inner c.in_ok-depth.depth c.args.chain ups (order_lines names c.args.order.now.items) (order_lines names c.put_spaces.new.order.items) (order_lines names c.push.new.self.items)
-    c.requires.within (omega arith) u c.in_ok-depth.ensures.depth (c.in_ok-depth.ensures.lines names) (ap (order_lines names) c.in_ok-push.ensures.items ∙ order_one names c.put_spaces.new.order.items _)
+    lines_up names c.args.rows.now c.args.inner c.in_ok-depth.depth c.args.chain ups (order_lines names c.args.order.now.items) (order_lines names c.put_spaces.new.order.items)
+    (order_lines names c.push.new.self.items)
+    c.requires.within (omega arith) u c.in_ok-depth.ensures.depth (c.in_ok-depth.ensures.lines names)
+    (ap (order_lines names) c.in_ok-push.ensures.items ∙ order_one names c.put_spaces.new.order.items _)
 
 pub returns-clause-deep : goal.returns-clause-deep
 returns-clause-deep t c =

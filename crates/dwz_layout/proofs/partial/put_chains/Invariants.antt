@@ -6,4 +6,5 @@ use Rattle.dwz_layout.proofs.partial.put_chains.Given as goal
 
 abbrev pub invariant-loop-chain : goal.invariant-loop-chain
 invariant-loop-chain l =
-    (names : Names Spot) (ups : ℕ → List ℕ) → AreUp l.rows l.of_tops ups l.chains → order_lines names l.order.items ≡ order_lines names l.fn.order.items ++ chains_lines names (λ t. down (ups t)) 0 (take l.chain l.chains)
+    (names : Names Spot) (ups : ℕ → List ℕ) → AreUp l.rows l.of_tops ups l.chains → order_lines names l.order.items ≡ order_lines names l.fn.order.items
+    ++ chains_lines names (λ t. down (ups t)) 0 (take l.chain l.chains)

@@ -3,10 +3,11 @@ use Rattle.dwz_docs.specs.Lists.{In}
 use Rattle.dwz_seen.proofs.Members.{in_filter_from}
 use Rattle.dwz_alike.specs.Spots.{Spot}
 use Rattle.dwz_plan.proofs.ListFacts.{all_from_in}
+use Rattle.dwz_plan.proofs.GainedRows.{filter_few}
 use Rattle.dwz_layout.specs.Chains.{AreUp, IsChain, chains_by, chains_lines, down, names_at, tops_lines}
 use Rattle.dwz_layout.specs.Lines.{Line, line}
 use Rattle.dwz_layout.specs.Order.{order_lines}
-use Rattle.dwz_layout.proofs.GroupLemmas.{all_in, chains_few, filter_few, headed}
+use Rattle.dwz_layout.proofs.GroupLemmas.{all_in, chains_few, headed}
 use Rattle.dwz_layout.proofs.LineLemmas.{order_one}
 use Rattle.dwz_layout.proofs.partial.put_partial.Goals as goal
 
@@ -62,6 +63,7 @@ returns c = λ names ups u.
     let others : List (Line Spot) = chains_lines names path 0 (chains_by l (filter p tops)) in
     let with_root : order_lines names c.push.new.self.items ≡ old ++ root = ap (order_lines names) c.in_ok-push.ensures.items ∙ order_one names c.args.order.now.items _ in
     let with_first : order_lines names c.put_tops.new.order.items ≡ (old ++ root) ++ first = c.in_ok-put_tops.ensures names ∙ (λ i. with_root i ++ tops_lines names 2 (unspaced i)) in
-    let with_all : order_lines names c.put_chains.new.order.items ≡ ((old ++ root) ++ first) ++ others = c.in_ok-put_chains.ensures names ups up ∙ (λ i. with_first i ++ chains_lines names path 0 (are i)) in
+    let with_all : order_lines names c.put_chains.new.order.items ≡ ((old ++ root) ++ first) ++ others = c.in_ok-put_chains.ensures names ups up
+    ∙ (λ i. with_first i ++ chains_lines names path 0 (are i)) in
     let grouped : ((old ++ root) ++ first) ++ others ≡ old ++ (root ++ (first ++ others)) = simp append_assoc in
     with_all ∙ grouped

@@ -19,7 +19,8 @@ loop-top-preserved c = λ names.
     let old : List (Line Spot) = order_lines names c.args.order.now.items in
     let so_far : List (Line Spot) = tops_lines names c.args.depth (take i tops) in
     let one : List (Line Spot) = tops_lines names c.args.depth (top ∷ []) in
-    let more : tops_lines names c.args.depth (take (i + 1) tops) ≡ so_far ++ one = ap (tops_lines names c.args.depth) (take_more tops i 0 (omega arith)) ∙ tops_append names c.args.depth (take i tops) (top ∷ []) in
+    let more : tops_lines names c.args.depth (take (i + 1) tops) ≡ so_far ++ one = ap (tops_lines names c.args.depth) (take_more tops i 0 (omega arith))
+    ∙ tops_append names c.args.depth (take i tops) (top ∷ []) in
     ap (order_lines names) c.in_ok-push.ensures.items
     ∙ order_one names c.loop-top.order.items _
     ∙ (λ j. c.loop-top.invariant names j ++ sym (tops_one names c.args.depth top) j)

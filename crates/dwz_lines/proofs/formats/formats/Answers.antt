@@ -15,7 +15,8 @@ returns-in_default-one_format c = (
 
 pub loop-number-preserved : goal.loop-number-preserved
 loop-number-preserved c =
-    let step = one_read (λ x. x) format_in (format_views c.loop-number.formats.items) c.in-Ok.count c.loop-number._number c.loop-number.cursor c.loop-number-test.true (format_view c.in-Some.format) c.one_format.new.cursor c.in-Some.ensures in
+    let step = one_read (λ x. x) format_in (format_views c.loop-number.formats.items) c.in-Ok.count c.loop-number._number c.loop-number.cursor c.loop-number-test.true (format_view c.in-Some.format)
+    c.one_format.new.cursor c.in-Some.ensures in
     let more = ap format_views c.in_ok-push.ensures.items ∙ views_more c.loop-number.formats.items c.in-Some.format in
     ap (λ (w : List Pair). times_into (λ x. x) format_in w (c.in-Ok.count - (c.loop-number._number + 1)) c.one_format.new.cursor) more ∙ sym step ∙ c.loop-number.invariant
 

@@ -10,18 +10,21 @@ use Rattle.dwz_lines.proofs.rows.one_row.Goals as goal
 pub returns-in_err-raw : goal.returns-in_err-raw
 unfolding row_in
 returns-in_err-raw c =
-    let none = no_value (strings_view c.args.strings) c.args.dirs c.args.formats.now c.loop-format.format-index _ c.loop-format-test.true (seen_view c.loop-format.seen) c.loop-format.cursor c.in_err-raw.ensures in
+    let none = no_value (strings_view c.args.strings) c.args.dirs c.args.formats.now c.loop-format.format-index _ c.loop-format-test.true (seen_view c.loop-format.seen) c.loop-format.cursor
+    c.in_err-raw.ensures in
     rw c.from_residual.ensures (ap (λ (o : Option (Seen × Input)). bind o then_row) (sym c.loop-format.invariant ∙ none))
 
 pub returns-in_err-seen : goal.returns-in_err-seen
 unfolding row_in
 returns-in_err-seen c =
-    let none = not_said (strings_view c.args.strings) c.args.dirs c.args.formats.now c.loop-format.format-index _ c.loop-format-test.true (seen_view c.loop-format.seen) c.loop-format.cursor (raw_view c.in_ok-raw.raw) c.value.new.cursor c.in_ok-raw.ensures (sym c.in_err-seen.ensures) in
+    let none = not_said (strings_view c.args.strings) c.args.dirs c.args.formats.now c.loop-format.format-index _ c.loop-format-test.true (seen_view c.loop-format.seen) c.loop-format.cursor
+    (raw_view c.in_ok-raw.raw) c.value.new.cursor c.in_ok-raw.ensures (sym c.in_err-seen.ensures) in
     rw c.from_residual-in_err-seen.ensures (ap (λ (o : Option (Seen × Input)). bind o then_row) (sym c.loop-format.invariant ∙ none))
 
 pub loop-format-preserved : goal.loop-format-preserved
 loop-format-preserved c =
-    let some = value_said (strings_view c.args.strings) c.args.dirs c.args.formats.now c.loop-format.format-index _ c.loop-format-test.true (seen_view c.loop-format.seen) c.loop-format.cursor (raw_view c.in_ok-raw.raw) c.value.new.cursor (seen_view c.in_ok-seen.seen) c.in_ok-raw.ensures (sym c.in_ok-seen.ensures) in
+    let some = value_said (strings_view c.args.strings) c.args.dirs c.args.formats.now c.loop-format.format-index _ c.loop-format-test.true (seen_view c.loop-format.seen) c.loop-format.cursor
+    (raw_view c.in_ok-raw.raw) c.value.new.cursor (seen_view c.in_ok-seen.seen) c.in_ok-raw.ensures (sym c.in_ok-seen.ensures) in
     sym some ∙ c.loop-format.invariant
 
 pub returns-in_err-path : goal.returns-in_err-path

@@ -19,7 +19,8 @@ returns-in_err-paths c =
     let some = ap (λ (n : ℕ). has_dir c.in-Ok.count n) many ∙ sym c.if-not-has_dir.ensures in
     let missed = rw (c.deref.ensures.value, c.deref-2.ensures.value) at c.in_err-paths.ensures in
     rw (p.1, p.2) (misses_same c.args.bad c.in_err-paths.field-0.0 _ _
-    (no_paths (strings_view c.args.strings) (dirs_view c.args.dirs.now) c.args.cursor.now c.formats.new.cursor c.uleb.new.self (format_views c.in_ok-formats.formats.items) c.in-Ok.count c.in_ok-formats.ensures c.in-Ok.ensures some)
+    (no_paths (strings_view c.args.strings) (dirs_view c.args.dirs.now) c.args.cursor.now c.formats.new.cursor c.uleb.new.self (format_views c.in_ok-formats.formats.items) c.in-Ok.count
+    c.in_ok-formats.ensures c.in-Ok.ensures some)
     missed)
 
 pub returns : goal.returns
@@ -29,5 +30,6 @@ returns c =
     let some = ap (λ (n : ℕ). has_dir c.in-Ok.count n) many ∙ sym c.if-not-has_dir.ensures in
     let strp = c.either-has_strp.ensures ∙ ap (λ b. c.args.dirs.now.strp || b) (c.names_strs.ensures ∙ ap (λ (w : List Format). names_strs (format_views w)) c.deref-3.ensures.value) in
     let joined = rw (c.deref.ensures.value, c.deref-2.ensures.value) at c.in_ok-paths.ensures in
-    files_there (strings_view c.args.strings) (dirs_view c.args.dirs.now) c.args.cursor.now c.formats.new.cursor c.uleb.new.self (format_views c.in_ok-formats.formats.items) c.in-Ok.count c.in_ok-formats.ensures c.in-Ok.ensures some
+    files_there (strings_view c.args.strings) (dirs_view c.args.dirs.now) c.args.cursor.now c.formats.new.cursor c.uleb.new.self (format_views c.in_ok-formats.formats.items) c.in-Ok.count
+    c.in_ok-formats.ensures c.in-Ok.ensures some
     c.in_ok-paths.paths c.file_paths.new.cursor c.either-has_strp.result joined strp

@@ -1,9 +1,9 @@
 use Rattle.std.proofs.Common.{◌≡◌, ◌+◌, ◌<◌, ℕ, Global, List, ◌∷◌, Vec, get_or, length, ap, ◌∙◌, arith}
 use Rattle.std.proofs.lemmas.List.{get_or_default}
-use Rattle.dwz_across.proofs.ListGets.{item_got}
+use Rattle.dwz_docs.proofs.ListFacts.{item_got}
+use Rattle.dwz_docs.proofs.CaseFacts.{none_left}
 use Rattle.dwz_places.specs.declared.known.TextAt.{TextAt}
 use Rattle.dwz_listed.proofs.RowSteps.{numbers_done, numbers_next, room_at, rows_done, rows_next, start_there, starts_many}
-use Rattle.dwz_listed.proofs.TextSteps.{none_left}
 use Rattle.dwz_listed.proofs.rows.rows_of_files.Goals as goal
 
 pub bounds-starts-number : goal.bounds-starts-number

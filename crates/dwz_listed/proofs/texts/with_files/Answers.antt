@@ -1,6 +1,7 @@
 use Rattle.std.proofs.Common.{arith}
+use Rattle.dwz_docs.proofs.CaseFacts.{none_left}
 use Rattle.dwz_listed.specs.Shown.{files_with}
-use Rattle.dwz_listed.proofs.TextSteps.{files_next, files_out, none_left, numbers_out, texts_out}
+use Rattle.dwz_listed.proofs.TextSteps.{files_next, files_out, numbers_out, texts_out}
 use Rattle.dwz_listed.proofs.texts.with_files.Goals as goal
 
 pub returns : goal.returns

@@ -1,4 +1,4 @@
-use Rattle.std.proofs.Common.{◌≡◌, ◌<◌, refl, sym, ◌∙◌, arith}
+use Rattle.std.proofs.Common.{◌<◌, refl, sym, ◌∙◌, arith}
 use Rattle.dwz_make.proofs.CommonThere.{none_counted}
 use Rattle.dwz_make.proofs.NothingShared.{nothing_shared}
 use Rattle.dwz_make.proofs.common.whole_lists.Goals as goal

@@ -1,6 +1,6 @@
 use Rattle.std.proofs.Common.{◌≡◌, ◌<◌, ◌^◌, ℕ, List, length, refl, Some, slice_get, sym, ap, subst, ◌∙◌, arith}
 use Rattle.dwz_docs.specs.ElfLayout.{too_large}
-use Rattle.dwz_across.proofs.ListGets.{item_got}
+use Rattle.dwz_docs.proofs.ListFacts.{item_got}
 use Rattle.dwz_back.specs.Files.{paths, texts}
 use Rattle.dwz_graph.specs.declared.file.File.{File}
 use Rattle.dwz_known.specs.Images.{starts_from}

@@ -1,5 +1,5 @@
 use Rattle.std.proofs.Common.{◌≡◌, List, refl, Some, slice_get, sym, ap, ◌∙◌, arith}
-use Rattle.dwz_across.proofs.ListGets.{item_got}
+use Rattle.dwz_docs.proofs.ListFacts.{item_got}
 use Rattle.dwz_places.specs.declared.order.UnitItems.{UnitItems}
 use Rattle.dwz_make.proofs.CommonLaid.{common_is, common_made, in_layout, in_orders}
 use Rattle.dwz_make.proofs.common_sections.sections_of.Goals as goal

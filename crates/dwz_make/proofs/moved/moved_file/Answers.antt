@@ -1,6 +1,6 @@
 use Rattle.std.proofs.Common.{◌≡◌, suc, ◌+◌, ◌<◌, List, length, Some, slice_get, sym, ap, ◌∙◌, arith}
 use Rattle.std.proofs.lemmas.Option.{slice_get-get_or}
-use Rattle.dwz_across.proofs.ListGets.{item_got}
+use Rattle.dwz_docs.proofs.ListFacts.{item_got}
 use Rattle.dwz_places.specs.declared.order.UnitItems.{UnitItems}
 use Rattle.dwz_make.proofs.FileMoved.{in_files, in_firsts, in_indexes, in_layout, in_orders, in_starts, is_moved}
 use Rattle.dwz_make.proofs.moved.moved_file.Goals as goal

@@ -1,6 +1,6 @@
 use Rattle.std.proofs.Common.{List, Option, sym, subst, refl}
 use Rattle.dwz_docs.specs.Values.{AreBytes}
-use Rattle.dwz_seen.specs.Lists.{Each}
+use Rattle.dwz_docs.specs.Lists.{Each}
 use Rattle.dwz_places.specs.declared.order.UnitItems.{UnitItems}
 use Rattle.dwz_uses.specs.declared.pruning.PrunedFile.{PrunedFile}
 use Rattle.dwz_make.specs.Common.{AreWhole}

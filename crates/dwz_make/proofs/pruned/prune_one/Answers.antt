@@ -1,16 +1,16 @@
-use Rattle.dwz_across.proofs.ListGets.{get_there}
+use Rattle.dwz_docs.proofs.ListFacts.{got_there}
 use Rattle.dwz_uses.specs.Used.{order_uses}
 use Rattle.dwz_make.proofs.PruneSteps.{keeps_some, looked_up, offsets_few, own_pruned, own_texts}
 use Rattle.dwz_make.proofs.pruned.prune_one.Goals as goal
 
 pub prune_by_units-requires-clause-few : goal.prune_by_units-requires-clause-few
 prune_by_units-requires-clause-few c =
-    let b = get_there c.args.graph.now c.args.number c.requires.there in
+    let b = got_there c.args.graph.now c.args.number c.requires.there in
     offsets_few c.args.graph.now c.args.number b.0 c.file-file.result.now (c.file-file.ensures b.0 b.1)
 
 pub prune_by_units-requires-clause-texts : goal.prune_by_units-requires-clause-texts
 prune_by_units-requires-clause-texts c =
-    let b = get_there c.args.graph.now c.args.number c.requires.there in
+    let b = got_there c.args.graph.now c.args.number c.requires.there in
     let first = c.in-Some-get.first.now in
     let units = c.as_slice.result.now in
     let of_file = looked_up c.args.graph.now c.args.known.now c.args.written.now c.args.number b.0 c.in-Some-Some.rank first
@@ -24,7 +24,7 @@ prune_by_units-requires-clause-texts c =
 
 pub returns : goal.returns
 returns c =
-    let b = get_there c.args.graph.now c.args.number c.requires.there in
+    let b = got_there c.args.graph.now c.args.number c.requires.there in
     let first = c.in-Some-get.first.now in
     let units = c.as_slice.result.now in
     let of_file = looked_up c.args.graph.now c.args.known.now c.args.written.now c.args.number b.0 c.in-Some-Some.rank first

@@ -1,12 +1,12 @@
 use Rattle.std.proofs.Common.{◌≡◌, true, ◌∙◌}
 use Rattle.std.specs.List.{list_any}
+use Rattle.dwz_docs.proofs.CaseFacts.{on_ok}
 use Rattle.dwz_alike.specs.Alike.{is_in, names_in_unit}
 use Rattle.dwz_index.specs.Names.{names_from}
 use Rattle.dwz_meanings.specs.Files.{around_of}
 use Rattle.dwz_moving.specs.Plan.{pinned_in}
 use Rattle.dwz_scan.specs.Known.{tops_of_refs}
 use Rattle.dwz_scan.specs.Marked.{Marks, MarksIf}
-use Rattle.dwz_scan.proofs.UnitSteps.{on_ok}
 use Rattle.dwz_unit.specs.Rows.{units_of}
 use Rattle.dwz_across.specs.Across.{file_units, name_at}
 use Rattle.dwz_across.proofs.FileEntries.{all_entries, names_entries}

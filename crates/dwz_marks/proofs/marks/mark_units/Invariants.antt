@@ -10,8 +10,10 @@ use Rattle.dwz_marks.proofs.marks.mark_units.Given as goal
 
 abbrev pub invariant-loop-n : goal.invariant-loop-n
 invariant-loop-n l = record {
-  any : (around : Around ℕ) (refs : List ℕ) (name : ℕ → Spot) (said : List (DwUnit ℕ)) → KnowsRefs around (units_of l.units) name refs l.starts l.into → (means : units_meaning around (units_of l.units) ≡ Ok said)
+  any : (around : Around ℕ) (refs : List ℕ) (name : ℕ → Spot) (said : List (DwUnit ℕ)) → KnowsRefs around (units_of l.units) name refs l.starts l.into
+      → (means : units_meaning around (units_of l.units) ≡ Ok said)
       → MarksIf (InUnits around (units_of l.units) said means name expression_names l.n) l.fn.named.by_any.items l.named.by_any.items;
-  uleb : (around : Around ℕ) (refs : List ℕ) (name : ℕ → Spot) (said : List (DwUnit ℕ)) → KnowsRefs around (units_of l.units) name refs l.starts l.into → (means : units_meaning around (units_of l.units) ≡ Ok said)
+  uleb : (around : Around ℕ) (refs : List ℕ) (name : ℕ → Spot) (said : List (DwUnit ℕ)) → KnowsRefs around (units_of l.units) name refs l.starts l.into
+      → (means : units_meaning around (units_of l.units) ≡ Ok said)
       → MarksIf (InUnits around (units_of l.units) said means name expression_pins l.n) l.fn.named.by_uleb.items l.named.by_uleb.items;
 }

@@ -19,7 +19,8 @@ pub bounds-indexes-number : goal.bounds-indexes-number
 bounds-indexes-number c = below c.args.graph.now c.files-file-items.result.now c.args.indexes.now c.loop-number.number c.files-file-items.ensures c.requires c.loop-number-test.true
 
 pub mark_file-requires : goal.mark_file-requires
-mark_file-requires c = few c.args.graph.now c.files-file-items.result.now c.args.indexes.now c.loop-number.number c.file-item.result c.index-indexes-number.result c.files-file-items.ensures c.requires c.loop-number-test.true c.file-item.is c.index-indexes-number.is
+mark_file-requires c = few c.args.graph.now c.files-file-items.result.now c.args.indexes.now c.loop-number.number c.file-item.result c.index-indexes-number.result c.files-file-items.ensures c.requires
+    c.loop-number-test.true c.file-item.is c.index-indexes-number.is
 
 pub loop-number-preserved : goal.loop-number-preserved
 loop-number-preserved c = (
@@ -28,9 +29,11 @@ loop-number-preserved c = (
     let indexes = c.args.indexes.now in
     let count = (starts_at (docs_of contents) indexes (length indexes)).top in
     record {
-      any = marked contents files indexes c.loop-number.number c.file-item.result c.index-indexes-number.result c.files-file-items.ensures c.requires c.loop-number-test.true c.file-item.is c.index-indexes-number.is
+      any = marked contents files indexes c.loop-number.number c.file-item.result c.index-indexes-number.result c.files-file-items.ensures c.requires c.loop-number-test.true c.file-item.is
+          c.index-indexes-number.is
           names_in_unit count c.loop-number.named.by_any.items c.mark_file.new.named.by_any.items c.loop-number.invariant.any c.in_ok-mark_file.ensures.any;
-      uleb = marked contents files indexes c.loop-number.number c.file-item.result c.index-indexes-number.result c.files-file-items.ensures c.requires c.loop-number-test.true c.file-item.is c.index-indexes-number.is
+      uleb = marked contents files indexes c.loop-number.number c.file-item.result c.index-indexes-number.result c.files-file-items.ensures c.requires c.loop-number-test.true c.file-item.is
+          c.index-indexes-number.is
           (λ n. pinned_in (is_in n)) count c.loop-number.named.by_uleb.items c.mark_file.new.named.by_uleb.items c.loop-number.invariant.uleb c.in_ok-mark_file.ensures.uleb;
     })
 

@@ -1,9 +1,9 @@
 use Rattle.std.proofs.Common.{◌+◌, ◌∙◌, false, sym, ap, arith}
 use Rattle.std.specs.Prelude.{replicate}
+use Rattle.dwz_docs.proofs.ListFacts.{item_got}
 use Rattle.dwz_index.specs.declared.index.Starts.{Starts}
 use Rattle.dwz_across.specs.Across.{starts_at}
 use Rattle.dwz_across.proofs.FileCounts.{next_starts_are}
-use Rattle.dwz_across.proofs.ListGets.{item_got}
 use Rattle.dwz_marks.proofs.MarkSteps.{put_more, starts_zero}
 use Rattle.dwz_marks.proofs.marks.unset.Goals as goal
 
@@ -16,4 +16,5 @@ loop-index-preserved c = λ docs is. (
     let k = c.loop-index.index-index in
     let x = c.index-item.result in
     let next = (next_starts_are docs xs is k x (item_got xs k x (omega arith) c.index-item.is)).0 in
-    put_more (starts_at docs xs k).top (starts_at docs xs (k + 1)).top x.tops c.loop-index.flags.items c.put_unset.new.flags.items c.tops.result.now (c.loop-index.invariant docs is) c.tops.ensures next c.in_ok-put_unset.ensures)
+    put_more (starts_at docs xs k).top (starts_at docs xs (k + 1)).top x.tops c.loop-index.flags.items c.put_unset.new.flags.items c.tops.result.now (c.loop-index.invariant docs is) c.tops.ensures
+    next c.in_ok-put_unset.ensures)

@@ -30,4 +30,5 @@ pub returns : goal.returns
 returns c =
     let here : c.as_slice.result.now ≡ sources_from 0 c.args.targets.now = c.as_slice.ensures.value ∙ c.in_ok-pairs.ensures in
     let made : c.in_ok-sources.sources ≡ sources_by c.args.targets.now = c.in_ok-sources.ensures ∙ (λ i. grouped (c.len.ensures i) (here i)) in
-    λ units shown begin. flags_by units c.args.targets.now c.args.seeds.now c.in_ok-marks.marks.items c.in_ok-sources.sources c.in_ok-flags.flags made c.in_ok-marks.ensures (c.in_ok-flags.ensures ∙ ap (map not) c.as_slice-2.ensures.value) shown begin
+    λ units shown begin. flags_by units c.args.targets.now c.args.seeds.now c.in_ok-marks.marks.items c.in_ok-sources.sources c.in_ok-flags.flags made c.in_ok-marks.ensures
+    (c.in_ok-flags.ensures ∙ ap (map not) c.as_slice-2.ensures.value) shown begin

@@ -18,7 +18,8 @@ loop-k-preserved c = λ raw number are. (
     let k = c.loop-k.k in
     let view = operand_view raw in
     let o : ListOperand = view (get_or rows k no_row) in
-    let same = ap (λ (w : List ℕ). get_or w k 0) (are ∙ sym (append-nil (map (λ p. number (operand_view raw p)) rows))) ∙ beside (λ p. number (operand_view raw p)) rows [] k no_row c.loop-k-test.true in
+    let same = ap (λ (w : List ℕ). get_or w k 0) (are ∙ sym (append-nil (map (λ p. number (operand_view raw p)) rows))) ∙ beside (λ p. number (operand_view raw p)) rows [] k no_row
+    c.loop-k-test.true in
     noted_more number o (map view rows) (map view (drop k rows)) (map view (drop (k + 1) rows)) None c.loop-k.first c.noted-first.result (left_at view rows k no_row c.loop-k-test.true)
     (c.noted-first.ensures ∙ ap (λ (n : ℕ). lesser c.loop-k.first (place_if (is_over o.operand.uleb o.operand.width n) o.operand.at)) same) (c.loop-k.invariant raw number are))
 
@@ -26,4 +27,5 @@ pub returns : goal.returns
 returns c = λ raw number are. (
     let rows = c.args.operands.now in
     let view = operand_view raw in
-    first_so number (map view rows) c.loop-k.first (noted_end number (map view rows) (map view (drop c.loop-k.k rows)) None c.loop-k.first (left_end view rows c.loop-k.k c.loop-k-test.false) (c.loop-k.invariant raw number are)))
+    first_so number (map view rows) c.loop-k.first (noted_end number (map view rows) (map view (drop c.loop-k.k rows)) None c.loop-k.first (left_end view rows c.loop-k.k c.loop-k-test.false)
+    (c.loop-k.invariant raw number are)))

@@ -1,6 +1,7 @@
 use Rattle.std.proofs.Common.{◌<◌, length, arith, refl}
+use Rattle.dwz_docs.proofs.ListFacts.{got_there}
 use Rattle.dwz_meanings.specs.Meanings.{alone}
-use Rattle.dwz_narrow.proofs.UnitLemmas.{got_there, place_of, units_all, units_end, units_more}
+use Rattle.dwz_narrow.proofs.UnitLemmas.{place_of, units_all, units_end, units_more}
 use Rattle.dwz_unit.specs.Rows.{units_of}
 use Rattle.dwz_narrow.proofs.spoken.first_spoken.Goals as goal
 
@@ -20,4 +21,5 @@ loop-n-preserved c = λ sources said after means targets places. (
 pub returns : goal.returns
 returns c = λ sources said after means targets places. (
     let raw = units_of c.args.units.now in
-    units_end (alone sources raw) after raw c.loop-n.n c.loop-n.first c.loop-n.left.now (let a = c.loop-n-test.false in let b = c.len-n-end.ensures in omega (arith, a, b)) (c.loop-n.invariant sources said after means targets places))
+    units_end (alone sources raw) after raw c.loop-n.n c.loop-n.first c.loop-n.left.now (let a = c.loop-n-test.false in let b = c.len-n-end.ensures in omega (arith, a, b))
+    (c.loop-n.invariant sources said after means targets places))

@@ -33,9 +33,11 @@ loop-pair-preserved c =
     let value = raw_view c.known_value-raw.result in
     let a : RawAttr = record { at = c.loop-pair.cursor.at; end = c.known_value-raw.new.cursor.at; pair = get_or pairs j no_pair; raw = value } in
     record {
-      reads = λ row found. (next_read row.entry.at pairs j no_pair c.loop-pair.cursor c.known_value-raw.new.cursor value row.entry.attrs c.loop-pair-test.true (c.loop-pair.invariant.reads row found) c.known_value-raw.ensures.value).rest;
+      reads = λ row found. (next_read row.entry.at pairs j no_pair c.loop-pair.cursor c.known_value-raw.new.cursor value row.entry.attrs c.loop-pair-test.true (c.loop-pair.invariant.reads row found)
+          c.known_value-raw.ensures.value).rest;
       left = λ s row d after more plain found means is are. (
-          let got = (next_read row.entry.at pairs j no_pair c.loop-pair.cursor c.known_value-raw.new.cursor value row.entry.attrs c.loop-pair-test.true (c.loop-pair.invariant.reads row found) c.known_value-raw.ensures.value).is in
+          let got = (next_read row.entry.at pairs j no_pair c.loop-pair.cursor c.known_value-raw.new.cursor value row.entry.attrs c.loop-pair-test.true (c.loop-pair.invariant.reads row found)
+          c.known_value-raw.ensures.value).is in
           let old = c.args.first.now in
           let values = row.entry.attrs in
           let h = c.loop-pair.invariant.left s row d after more plain found means is are in
@@ -45,7 +47,8 @@ loop-pair-preserved c =
                 (subst (λ (f : Option ℕ). ValuesLeft s after more old values (j + 1) f w.in_ok-left.left.now) (sym w.first-is)
                 (values_more s after more old values j a c.loop-pair.first c.loop-pair.left.now got h w.if-pair-ne-SIBLING.true w.note_value.new.first w.in_ok-left.left.now
                 (λ v others e t.
-                subst (λ (k : ℕ). NotesOperands after s.unit (operands_of_attr s (record { at = a.at; end = k; pair = a.pair; raw = a.raw })) c.loop-pair.first w.note_value.new.first others w.in_ok-left.left.now) c.at-end.ensures
+                subst (λ (k : ℕ). NotesOperands after s.unit (operands_of_attr s (record { at = a.at; end = k; pair = a.pair; raw = a.raw })) c.loop-pair.first w.note_value.new.first others
+                w.in_ok-left.left.now) c.at-end.ensures
                 (w.in_ok-left.ensures s a.at v after others plain (subst (λ (k : ℕ). meaning s (record { at = a.at; end = k; pair = a.pair; raw = a.raw }) ≡ Ok v) (sym c.at-end.ensures) e) is t))))
             | else-pair-ne-SIBLING w ↦
                 subst (λ (r : List ℕ). ValuesLeft s after more old values (j + 1) c.if-pair-ne-SIBLING.first r) (sym (λ i. (w.left-is i).now))
@@ -58,4 +61,5 @@ pub returns : goal.returns
 returns c = λ s row d after more plain found means is are. (
     let pairs = c.values-cursor.result.pairs.now in
     let count = reads_count row.entry.at pairs c.values-cursor.result.cursor row.entry.attrs (c.values-cursor.ensures.read row found) in
-    values_end s after more c.args.first.now row c.loop-pair.pair-index c.loop-pair.first c.loop-pair.left.now (omega (arith, count, c.loop-pair-test.false)) (c.loop-pair.invariant.left s row d after more plain found means is are))
+    values_end s after more c.args.first.now row c.loop-pair.pair-index c.loop-pair.first c.loop-pair.left.now (omega (arith, count, c.loop-pair-test.false))
+    (c.loop-pair.invariant.left s row d after more plain found means is are))

@@ -1,9 +1,10 @@
 use Rattle.std.proofs.Common.{◌++◌, ℕ, List, ap, arith, map, sym, ◌∙◌}
 use Rattle.dwz_docs.specs.Trees.{End, Entry}
+use Rattle.dwz_docs.proofs.CaseFacts.{if_ok}
 use Rattle.dwz_flat.specs.Rows.{nodes}
 use Rattle.dwz_meanings.specs.Meanings.{scope_of}
 use Rattle.dwz_narrow.specs.Walked.{NotesOperands, rows_operands}
-use Rattle.dwz_narrow.proofs.UnitLemmas.{if_ok, unit_noted, unit_notes}
+use Rattle.dwz_narrow.proofs.UnitLemmas.{unit_noted, unit_notes}
 use Rattle.dwz_out.specs.Refusals.{operands_of_unit}
 use Rattle.dwz_resolve.proofs.UnitThere.{unit_ends, unit_there}
 use Rattle.dwz_unit.specs.Rows.{units_of}

@@ -29,4 +29,5 @@ returns c = λ s at v after more plain e is are. (
     let os = c.deref.ensures.value ∙ read in
     let made = c.noted_all.ensures after s.unit more is (targets_are s plain a v e after c.args.targets.now more are same operands os) in
     let long = c.len.ensures ∙ sym c.deref.ensures.len in
-    of_expression s plain a v e after c.args.targets.now more are same operands os c.args.first.now c.noted_all.result c.behind-2.result.now made (c.behind-2.ensures ∙ ap (λ (n : ℕ). drop n c.args.targets.now) long))
+    of_expression s plain a v e after c.args.targets.now more are same operands os c.args.first.now c.noted_all.result c.behind-2.result.now made
+    (c.behind-2.ensures ∙ ap (λ (n : ℕ). drop n c.args.targets.now) long))

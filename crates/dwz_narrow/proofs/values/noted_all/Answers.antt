@@ -30,4 +30,5 @@ pub returns : goal.returns
 returns c = λ after at more is are. (
     let os = c.args.operands.now in
     let k = c.loop-k.k in
-    noted_end (number_by after) (all_of_unit at os) (all_of_unit at (drop k os)) c.args.first c.loop-k.so_far (units_all at (drop k os) ∙ left_end (of_unit at) os k c.loop-k-test.false) (c.loop-k.invariant after at more is are))
+    noted_end (number_by after) (all_of_unit at os) (all_of_unit at (drop k os)) c.args.first c.loop-k.so_far (units_all at (drop k os) ∙ left_end (of_unit at) os k c.loop-k-test.false)
+    (c.loop-k.invariant after at more is are))

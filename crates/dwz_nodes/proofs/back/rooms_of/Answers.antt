@@ -20,5 +20,6 @@ returns-clause-rooms c =
     let same_len = ap (λ (xs : List ℕ). length xs) same in
     let more = c.in_ok-spans.ensures.len in
     rooms-none ts c.in_ok-spans.spans.items (λ a l.
-    let start : sum (take a c.as_slice.result.now) ≡ count_below ts a = ap (λ (xs : List ℕ). sum (take a xs)) same ∙ sum_is ts ns (λ b m. c.in_ok-counts.ensures.each b (omega arith)) a (omega arith) in
+    let start : sum (take a c.as_slice.result.now) ≡ count_below ts a = ap (λ (xs : List ℕ). sum (take a xs)) same ∙ sum_is ts ns (λ b m. c.in_ok-counts.ensures.each b (omega arith)) a
+    (omega arith) in
     c.in_ok-spans.ensures.each a (omega arith) ∙ ap (λ n. span n n) start)

@@ -1,5 +1,6 @@
 use Rattle.std.proofs.Common.{◌≡◌, ◌++◌, List, ◌∷◌, length, sym, ap, subst, ◌∙◌, arith}
 use Rattle.dwz_docs.specs.Units.{CompileUnit, RawKind}
+use Rattle.dwz_docs.proofs.CaseFacts.{on_ok}
 use Rattle.dwz_index.specs.Spaces.{stored_space}
 use Rattle.dwz_index.proofs.UnitBuilding.{root_within, some_list, unit_list}
 use Rattle.dwz_layout.specs.declared.order.Outer.{Outer}
@@ -10,7 +11,7 @@ use Rattle.dwz_moving.specs.Plan.{pinned_first, row_staying}
 use Rattle.dwz_unit.specs.Rows.{units_of}
 use Rattle.dwz_order.specs.Kept.{IsKept, IsWhole, behind_kind, behind_unit}
 use Rattle.dwz_order.specs.Outline.{outers_in}
-use Rattle.dwz_order.proofs.UnitKinds.{end_within, is_compile, next_stays, not_compile, on_named, on_ok, on_shown, on_true, whole_kept}
+use Rattle.dwz_order.proofs.UnitKinds.{end_within, is_compile, next_stays, not_compile, on_named, on_shown, on_true, whole_kept}
 use Rattle.dwz_order.proofs.kept.put_unit.Goals as goal
 
 pub returns-then-unit-ne-COMPILE_UNIT-clause-items : goal.returns-then-unit-ne-COMPILE_UNIT-clause-items
@@ -20,7 +21,8 @@ returns-then-unit-ne-COMPILE_UNIT-clause-items c = λ u found. (
     let old = c.args.items.now.items in
     let new = c.put_whole.new.order.items in
     let other = not_compile raw c.args.n x u c.requires.shown found c.if-unit-ne-COMPILE_UNIT.true in
-    on_ok c.put_whole.result (IsWhole old new) (IsKept c.args.marks.now u.kind u.below c.args.next.now c.args.imports.now old new) (whole_kept c.args.marks.now u c.args.next.now c.args.imports.now old new other)
+    on_ok c.put_whole.result (IsWhole old new) (IsKept c.args.marks.now u.kind u.below c.args.next.now c.args.imports.now old new)
+    (whole_kept c.args.marks.now u c.args.next.now c.args.imports.now old new other)
     (on_named c.put_whole.result (λ n. order_lines n new ≡ order_lines n old ++ (line 1 n.root ∷ lines 2 n.whole)) c.put_whole.ensures))
 
 pub returns-then-unit-ne-COMPILE_UNIT-clause-next : goal.returns-then-unit-ne-COMPILE_UNIT-clause-next

@@ -29,7 +29,8 @@ put_list-requires t c =
       omega arith,
       (
         n.0,
-        room_inside raw c.args.first c.args.end c.args.marks.now c.args.outers.now.items l.outers.items c.args.next.now l.next l.pinned l.entry l.invariant c.entry-behind.result c.is_space.result c.loop-entry-test.true c.entry-behind.ensures.entry c.is_space.ensures
+        room_inside raw c.args.first c.args.end c.args.marks.now c.args.outers.now.items l.outers.items c.args.next.now l.next l.pinned l.entry l.invariant c.entry-behind.result c.is_space.result
+            c.loop-entry-test.true c.entry-behind.ensures.entry c.is_space.ensures
             c.open.new.next c.in_ok-at.ensures.next,
       ),
     )
@@ -39,7 +40,8 @@ close-found-requires-clause-there t c =
     let raw = units_of c.args.units.now in
     let l = c.loop-entry in
     let long =
-    put_long raw c.args.first c.args.end c.args.marks.now c.args.outers.now.items l.outers.items c.args.next.now l.next l.pinned l.entry l.invariant c.entry-behind.result c.is_space.result c.loop-entry-test.true c.entry-behind.ensures.entry c.is_space.ensures
+    put_long raw c.args.first c.args.end c.args.marks.now c.args.outers.now.items l.outers.items c.args.next.now l.next l.pinned l.entry l.invariant c.entry-behind.result c.is_space.result
+    c.loop-entry-test.true c.entry-behind.ensures.entry c.is_space.ensures
     c.open.new.outers.items c.put_list.new.outers.items c.open.new.next c.in_ok-at.ensures.outers c.in_ok-inner.ensures.outers in
     let low = long.0 in
     let place = c.in_ok-at.ensures.place in
@@ -63,8 +65,10 @@ pub loop-entry-preserved-in_ok-inner : goal.loop-entry-preserved-in_ok-inner
 loop-entry-preserved-in_ok-inner t c =
     let raw = units_of c.args.units.now in
     let l = c.loop-entry in
-    with_space raw c.args.first c.args.end c.args.marks.now c.args.outers.now.items l.outers.items c.args.next.now l.next l.pinned l.entry l.invariant c.entry-behind.result c.is_space.result c.loop-entry-test.true c.entry-behind.ensures.entry c.is_space.ensures
-    c.open.new.outers.items c.put_list.new.outers.items c.close-found.new.outers.items c.open.new.next c.put_list.new.next c.in_ok-inner.inner c.close-found.result c.either-pinned.result c.if-is_space.true
+    with_space raw c.args.first c.args.end c.args.marks.now c.args.outers.now.items l.outers.items c.args.next.now l.next l.pinned l.entry l.invariant c.entry-behind.result c.is_space.result
+    c.loop-entry-test.true c.entry-behind.ensures.entry c.is_space.ensures
+    c.open.new.outers.items c.put_list.new.outers.items c.close-found.new.outers.items c.open.new.next c.put_list.new.next c.in_ok-inner.inner c.close-found.result c.either-pinned.result
+    c.if-is_space.true
     (record {
       open_is = c.in_ok-at.ensures.outers;
       inside_is = c.in_ok-at.ensures.next;
@@ -80,24 +84,30 @@ pub loop-entry-preserved : goal.loop-entry-preserved
 loop-entry-preserved t c =
     let raw = units_of c.args.units.now in
     let l = c.loop-entry in
-    with_top raw c.args.first c.args.end c.args.marks.now c.args.outers.now.items l.outers.items c.args.next.now l.next l.pinned l.entry l.invariant c.entry-behind.result c.is_space.result c.loop-entry-test.true c.entry-behind.ensures.entry c.is_space.ensures
-    c.put_top.new.outers.items c.put_top.new.next c.in_ok-found.found c.either-pinned-else-is_space.result c.if-is_space.false c.in_ok-found.ensures.outers c.in_ok-found.ensures.next c.in_ok-found.ensures.pinned c.either-pinned-else-is_space.ensures
+    with_top raw c.args.first c.args.end c.args.marks.now c.args.outers.now.items l.outers.items c.args.next.now l.next l.pinned l.entry l.invariant c.entry-behind.result c.is_space.result
+    c.loop-entry-test.true c.entry-behind.ensures.entry c.is_space.ensures
+    c.put_top.new.outers.items c.put_top.new.next c.in_ok-found.found c.either-pinned-else-is_space.result c.if-is_space.false c.in_ok-found.ensures.outers c.in_ok-found.ensures.next
+    c.in_ok-found.ensures.pinned c.either-pinned-else-is_space.ensures
 
 pub returns-clause-outers : goal.returns-clause-outers
 returns-clause-outers t c = λ list is. (let l = c.loop-entry in
-    (nothing_left (units_of c.args.units.now) c.args.first c.args.end c.args.marks.now c.args.outers.now.items l.outers.items c.args.next.now l.next l.pinned l.entry l.invariant c.loop-entry-test.false list is).0)
+    (nothing_left (units_of c.args.units.now) c.args.first c.args.end c.args.marks.now c.args.outers.now.items l.outers.items c.args.next.now l.next l.pinned l.entry l.invariant
+    c.loop-entry-test.false list is).0)
 
 pub returns-clause-next : goal.returns-clause-next
 returns-clause-next t c = λ list is. (let l = c.loop-entry in
-    (nothing_left (units_of c.args.units.now) c.args.first c.args.end c.args.marks.now c.args.outers.now.items l.outers.items c.args.next.now l.next l.pinned l.entry l.invariant c.loop-entry-test.false list is).1)
+    (nothing_left (units_of c.args.units.now) c.args.first c.args.end c.args.marks.now c.args.outers.now.items l.outers.items c.args.next.now l.next l.pinned l.entry l.invariant
+    c.loop-entry-test.false list is).1)
 
 pub returns-clause-pinned : goal.returns-clause-pinned
 returns-clause-pinned t c = λ list is. (let l = c.loop-entry in
-    (nothing_left (units_of c.args.units.now) c.args.first c.args.end c.args.marks.now c.args.outers.now.items l.outers.items c.args.next.now l.next l.pinned l.entry l.invariant c.loop-entry-test.false list is).2)
+    (nothing_left (units_of c.args.units.now) c.args.first c.args.end c.args.marks.now c.args.outers.now.items l.outers.items c.args.next.now l.next l.pinned l.entry l.invariant
+    c.loop-entry-test.false list is).2)
 
 pub returns-clause-few : goal.returns-clause-few
 returns-clause-few t c =
     let raw = units_of c.args.units.now in
     let l = c.loop-entry in
     long_enough raw c.args.first c.args.end c.args.marks.now c.args.outers.now.items l.outers.items c.args.next.now c.requires.rows
-    (λ list is. (nothing_left raw c.args.first c.args.end c.args.marks.now c.args.outers.now.items l.outers.items c.args.next.now l.next l.pinned l.entry l.invariant c.loop-entry-test.false list is).0)
+    (λ list is. (nothing_left raw c.args.first c.args.end c.args.marks.now c.args.outers.now.items l.outers.items c.args.next.now l.next l.pinned l.entry l.invariant c.loop-entry-test.false list
+    is).0)

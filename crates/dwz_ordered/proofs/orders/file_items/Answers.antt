@@ -18,5 +18,6 @@ returns c =
       olds = k.more;
       order_is = c.new.ensures ∙ k.order;
       parts_put = parts_put s c.args.number c.args.numbers.now c.in_ok-order.order.items c.requires.numbers c.in_ok-order.ensures;
-      olds_kept = subst (λ (w : Starts). AreKept raw s.marks (imports_at s.plan.now) (record { file = c.args.number; start = c.args.start; unit = w.unit; first = 0 }) (record { top = w.top; space = w.space }) raw k.more) c.starts-starts.ensures k.kept;
+      olds_kept = subst (λ (w : Starts). AreKept raw s.marks (imports_at s.plan.now) (record { file = c.args.number; start = c.args.start; unit = w.unit; first = 0 })
+          (record { top = w.top; space = w.space }) raw k.more) c.starts-starts.ensures k.kept;
     }

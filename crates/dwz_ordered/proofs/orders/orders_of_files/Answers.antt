@@ -19,7 +19,8 @@ get-requires c =
 pub parts_items-requires-clause-there : goal.parts_items-requires-clause-there
 parts_items-requires-clause-there c =
     let n = length c.files-files.result.now in
-    numbers_low c.args.settled.now n c.get.result.now (c.get.ensures ∙ (numbers_of c.args.settled.now n n c.partials.result.now c.in_ok-parts.parts c.partials.ensures c.in_ok-parts.ensures (omega arith)).1)
+    numbers_low c.args.settled.now n c.get.result.now (c.get.ensures ∙ (numbers_of c.args.settled.now n n c.partials.result.now c.in_ok-parts.parts c.partials.ensures c.in_ok-parts.ensures
+    (omega arith)).1)
 
 pub loop-number-init : goal.loop-number-init
 loop-number-init c =
@@ -50,43 +51,52 @@ put_file-requires-clause-numbers c =
 
 pub put_file-requires-clause-small : goal.put_file-requires-clause-small
 put_file-requires-clause-small c =
-    (file_is_small c.args.graph.now c.files-files.result.now c.args.indexes.now c.files-files.ensures c.requires.indexes c.args.settled.now c.loop-number.number c.loop-number.start c.loop-number.orders.items c.loop-number.invariant
+    (file_is_small c.args.graph.now c.files-files.result.now c.args.indexes.now c.files-files.ensures c.requires.indexes c.args.settled.now c.loop-number.number c.loop-number.start
+    c.loop-number.orders.items c.loop-number.invariant
     c.index-files-number.result c.index-indexes-number.result c.loop-number-test.true c.index-files-number.is c.index-indexes-number.is).0
 
 pub put_file-requires-clause-few_units : goal.put_file-requires-clause-few_units
 put_file-requires-clause-few_units c =
-    (file_is_small c.args.graph.now c.files-files.result.now c.args.indexes.now c.files-files.ensures c.requires.indexes c.args.settled.now c.loop-number.number c.loop-number.start c.loop-number.orders.items c.loop-number.invariant
+    (file_is_small c.args.graph.now c.files-files.result.now c.args.indexes.now c.files-files.ensures c.requires.indexes c.args.settled.now c.loop-number.number c.loop-number.start
+    c.loop-number.orders.items c.loop-number.invariant
     c.index-files-number.result c.index-indexes-number.result c.loop-number-test.true c.index-files-number.is c.index-indexes-number.is).1
 
 pub put_file-requires-clause-imports : goal.put_file-requires-clause-imports
 put_file-requires-clause-imports c =
-    let inside = units_within c.args.graph.now c.files-files.result.now c.args.indexes.now c.files-files.ensures c.requires.indexes c.args.settled.now c.loop-number.number c.loop-number.start c.loop-number.orders.items c.loop-number.invariant
+    let inside = units_within c.args.graph.now c.files-files.result.now c.args.indexes.now c.files-files.ensures c.requires.indexes c.args.settled.now c.loop-number.number c.loop-number.start
+    c.loop-number.orders.items c.loop-number.invariant
     c.index-files-number.result c.index-indexes-number.result c.loop-number-test.true c.index-files-number.is c.index-indexes-number.is in
     let all = c.requires.imports in
     omega arith
 
 pub len-start-requires : goal.len-start-requires
 len-start-requires c =
-    let small = (file_is_small c.args.graph.now c.files-files.result.now c.args.indexes.now c.files-files.ensures c.requires.indexes c.args.settled.now c.loop-number.number c.loop-number.start c.loop-number.orders.items c.loop-number.invariant
+    let small = (file_is_small c.args.graph.now c.files-files.result.now c.args.indexes.now c.files-files.ensures c.requires.indexes c.args.settled.now c.loop-number.number c.loop-number.start
+    c.loop-number.orders.items c.loop-number.invariant
     c.index-files-number.result c.index-indexes-number.result c.loop-number-test.true c.index-files-number.is c.index-indexes-number.is).0.entries in
-    let steps = steps_many c.args.graph.now c.files-files.result.now c.args.indexes.now c.files-files.ensures c.requires.indexes c.args.settled.now c.loop-number.number c.loop-number.start c.loop-number.orders.items c.loop-number.invariant
+    let steps = steps_many c.args.graph.now c.files-files.result.now c.args.indexes.now c.files-files.ensures c.requires.indexes c.args.settled.now c.loop-number.number c.loop-number.start
+    c.loop-number.orders.items c.loop-number.invariant
     c.index-files-number.result c.index-indexes-number.result c.loop-number-test.true c.index-files-number.is c.index-indexes-number.is in
     omega arith
 
 pub overflow_add-start : goal.overflow_add-start
 overflow_add-start c =
-    let small = (file_is_small c.args.graph.now c.files-files.result.now c.args.indexes.now c.files-files.ensures c.requires.indexes c.args.settled.now c.loop-number.number c.loop-number.start c.loop-number.orders.items c.loop-number.invariant
+    let small = (file_is_small c.args.graph.now c.files-files.result.now c.args.indexes.now c.files-files.ensures c.requires.indexes c.args.settled.now c.loop-number.number c.loop-number.start
+    c.loop-number.orders.items c.loop-number.invariant
     c.index-files-number.result c.index-indexes-number.result c.loop-number-test.true c.index-files-number.is c.index-indexes-number.is).0.entries in
-    let steps = steps_many c.args.graph.now c.files-files.result.now c.args.indexes.now c.files-files.ensures c.requires.indexes c.args.settled.now c.loop-number.number c.loop-number.start c.loop-number.orders.items c.loop-number.invariant
+    let steps = steps_many c.args.graph.now c.files-files.result.now c.args.indexes.now c.files-files.ensures c.requires.indexes c.args.settled.now c.loop-number.number c.loop-number.start
+    c.loop-number.orders.items c.loop-number.invariant
     c.index-files-number.result c.index-indexes-number.result c.loop-number-test.true c.index-files-number.is c.index-indexes-number.is in
     let len = c.len-start.ensures in
     omega arith
 
 pub loop-number-preserved : goal.loop-number-preserved
 loop-number-preserved c =
-    one_more c.args.graph.now c.files-files.result.now c.args.indexes.now c.files-files.ensures c.requires.indexes c.args.settled.now c.loop-number.number c.loop-number.start c.loop-number.orders.items c.loop-number.invariant
+    one_more c.args.graph.now c.files-files.result.now c.args.indexes.now c.files-files.ensures c.requires.indexes c.args.settled.now c.loop-number.number c.loop-number.start
+    c.loop-number.orders.items c.loop-number.invariant
     c.index-files-number.result c.index-indexes-number.result c.loop-number-test.true c.index-files-number.is c.index-indexes-number.is
     c.put_file.new.orders.items (c.loop-number.start + c.len-start.result) (ap (λ (k : ℕ). c.loop-number.start + k) c.len-start.ensures) c.in_ok-put_file.ensures
 
 pub returns : goal.returns
-returns c = all_put c.args.graph.now c.files-files.result.now c.args.indexes.now c.files-files.ensures c.requires.indexes c.args.settled.now c.loop-number.number c.loop-number.start c.loop-number.orders.items (omega arith) c.loop-number.invariant
+returns c = all_put c.args.graph.now c.files-files.result.now c.args.indexes.now c.files-files.ensures c.requires.indexes c.args.settled.now c.loop-number.number c.loop-number.start
+    c.loop-number.orders.items (omega arith) c.loop-number.invariant

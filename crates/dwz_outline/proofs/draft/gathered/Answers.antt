@@ -1,8 +1,8 @@
 use Rattle.std.proofs.Common.{◌≤◌, length, arith}
 use Rattle.dwz_graph.specs.Files.{docs_of}
+use Rattle.dwz_graph.proofs.FileLemmas.{files_few}
 use Rattle.dwz_marks.proofs.FilesKnown.{below}
 use Rattle.dwz_outline.proofs.FileSteps.{all_gathered, begin, few_steps, file_more, room, tops_within}
-use Rattle.dwz_outline.proofs.FilesLow.{files_few}
 use Rattle.dwz_outline.proofs.draft.gathered.Goals as goal
 
 pub loop-number-init : goal.loop-number-init
@@ -13,21 +13,26 @@ bounds-indexes-number c = below c.args.graph.now c.files-file-items.result.now c
 
 pub put_file-requires-clause-few : goal.put_file-requires-clause-few
 put_file-requires-clause-few c =
-    few_steps c.args.graph.now c.files-file-items.result.now c.args.indexes.now c.loop-number.number c.file-item.result c.index-indexes-number.result c.files-file-items.ensures c.requires.indexes c.loop-number-test.true c.file-item.is c.index-indexes-number.is
+    few_steps c.args.graph.now c.files-file-items.result.now c.args.indexes.now c.loop-number.number c.file-item.result c.index-indexes-number.result c.files-file-items.ensures c.requires.indexes
+    c.loop-number-test.true c.file-item.is c.index-indexes-number.is
 
 pub put_file-requires-clause-room : goal.put_file-requires-clause-room
 put_file-requires-clause-room c =
-    room c.args.graph.now c.files-file-items.result.now c.args.indexes.now c.loop-number.number c.file-item.result c.index-indexes-number.result c.files-file-items.ensures c.requires.indexes c.loop-number-test.true c.file-item.is c.index-indexes-number.is
+    room c.args.graph.now c.files-file-items.result.now c.args.indexes.now c.loop-number.number c.file-item.result c.index-indexes-number.result c.files-file-items.ensures c.requires.indexes
+    c.loop-number-test.true c.file-item.is c.index-indexes-number.is
 
 pub put_file-requires-clause-tops : goal.put_file-requires-clause-tops
 put_file-requires-clause-tops c =
-    tops_within c.args.graph.now c.files-file-items.result.now c.args.indexes.now c.loop-number.number c.file-item.result c.index-indexes-number.result c.files-file-items.ensures c.requires.indexes c.loop-number-test.true c.file-item.is c.index-indexes-number.is
+    tops_within c.args.graph.now c.files-file-items.result.now c.args.indexes.now c.loop-number.number c.file-item.result c.index-indexes-number.result c.files-file-items.ensures c.requires.indexes
+    c.loop-number-test.true c.file-item.is c.index-indexes-number.is
 
 pub loop-number-preserved : goal.loop-number-preserved
 loop-number-preserved c = λ named. (
     let contents = c.args.graph.now in
-    file_more contents c.files-file-items.result.now c.args.indexes.now c.loop-number.number c.file-item.result c.index-indexes-number.result c.files-file-items.ensures c.requires.indexes c.loop-number-test.true c.file-item.is c.index-indexes-number.is
-    c.loop-number.draft c.put_file.new.draft (c.loop-number.invariant named) (λ bytes is d. c.in_ok-put_file.ensures contents bytes is named 0 c.index-indexes-number.result.starts.top (omega arith) d))
+    file_more contents c.files-file-items.result.now c.args.indexes.now c.loop-number.number c.file-item.result c.index-indexes-number.result c.files-file-items.ensures c.requires.indexes
+    c.loop-number-test.true c.file-item.is c.index-indexes-number.is
+    c.loop-number.draft c.put_file.new.draft (c.loop-number.invariant named)
+    (λ bytes is d. c.in_ok-put_file.ensures contents bytes is named 0 c.index-indexes-number.result.starts.top (omega arith) d))
 
 pub returns : goal.returns
 returns c = λ named. (

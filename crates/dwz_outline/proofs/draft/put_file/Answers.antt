@@ -1,4 +1,6 @@
 use Rattle.std.proofs.Common.{◌≡◌, ℕ, ◌+◌, List, length, get_or, Some, slice_get, sym, ap, subst, ◌∙◌, arith}
+use Rattle.std.proofs.lemmas.Option.{slice_get-get_or}
+use Rattle.dwz_docs.proofs.ListFacts.{same_got}
 use Rattle.dwz_alike.specs.Spots.{Top, tops_of, units_of}
 use Rattle.dwz_graph.specs.Files.{docs_of}
 use Rattle.dwz_index.specs.declared.index.Starts.{Starts}
@@ -9,11 +11,9 @@ use Rattle.dwz_scan.specs.Known.{tops_of_refs}
 use Rattle.dwz_unit.specs.Rows.{units_of as raw_units}
 use Rattle.dwz_across.specs.Across.{name_at}
 use Rattle.dwz_across.proofs.FileEntries.{all_entries, gives_top, names_entries}
-use Rattle.dwz_across.proofs.ListGets.{same_got}
 use Rattle.dwz_marks.proofs.FileSteps.{refs_low}
 use Rattle.dwz_outline.specs.Drafts.{IsDraft}
 use Rattle.dwz_outline.specs.Ranges.{HaveUnits}
-use Rattle.dwz_outline.proofs.ListParts.{got_here}
 use Rattle.dwz_outline.proofs.UnitOrder.{have_units}
 use Rattle.dwz_outline.proofs.draft.put_file.Goals as goal
 
@@ -29,12 +29,12 @@ loop-i-init c = record {
 
 pub put_top-requires-clause-entry : goal.put_top-requires-clause-entry
 put_top-requires-clause-entry c =
-    let got = got_here c.tops-tops.result.now c.loop-i.i none (omega arith) in
+    let got = slice_get-get_or c.tops-tops.result.now c.loop-i.i none (omega arith) in
     (c.requires.tops c.loop-i.i (get_or c.tops-tops.result.now c.loop-i.i none) (ap (λ (w : List TopEntry). slice_get w c.loop-i.i) (sym c.tops-tops.ensures) ∙ got)).0
 
 pub put_top-requires-clause-end : goal.put_top-requires-clause-end
 put_top-requires-clause-end c =
-    let got = got_here c.tops-tops.result.now c.loop-i.i none (omega arith) in
+    let got = slice_get-get_or c.tops-tops.result.now c.loop-i.i none (omega arith) in
     (c.requires.tops c.loop-i.i (get_or c.tops-tops.result.now c.loop-i.i none) (ap (λ (w : List TopEntry). slice_get w c.loop-i.i) (sym c.tops-tops.ensures) ∙ got)).1
 
 pub loop-i-preserved : goal.loop-i-preserved
@@ -46,7 +46,7 @@ loop-i-preserved c = (
     let i = c.loop-i.i in
     let top : TopEntry = get_or tops i none in
     let first = c.starts-first.result.top in
-    let got : slice_get tops i ≡ Some top = got_here tops i none (omega arith) in
+    let got : slice_get tops i ≡ Some top = slice_get-get_or tops i none (omega arith) in
     let first_is : first ≡ x.starts.top = ap (λ (s : Starts). s.top) c.starts-first.ensures in
     record {
       own = λ all j y h e q. (
@@ -66,9 +66,11 @@ loop-i-preserved c = (
           let number_is = g.top_is.number in
           let at : first + i ≡ t.number = omega arith in
           let into = c.as_slice-in-loop-i.ensures.value
-          ∙ c.in_ok-into.ensures raw names name is.index.names (all_entries contents number bytes f x is) (names_entries contents number bytes f x is) (refs_low contents number bytes f x is c.as_slice.result.now r)
+          ∙ c.in_ok-into.ensures raw names name is.index.names (all_entries contents number bytes f x is) (names_entries contents number bytes f x is)
+          (refs_low contents number bytes f x is c.as_slice.result.now r)
           ∙ ap (tops_of_refs name raw) r in
-          let units : HaveUnits all first tops = subst (λ (w : List TopEntry). HaveUnits all first w) (sym c.tops-tops.ensures) (subst (λ (m : ℕ). HaveUnits all m x.tops) (sym first_is) (have_units contents number bytes f x is)) in
+          let units : HaveUnits all first tops = subst (λ (w : List TopEntry). HaveUnits all first w) (sym c.tops-tops.ensures)
+          (subst (λ (m : ℕ). HaveUnits all m x.tops) (sym first_is) (have_units contents number bytes f x is)) in
           let own = subst (λ (u : ℕ). HasTops all u c.range_at-own.result) (sym g.top_is.unit) (c.range_at-own.ensures all top units got (λ k z p q. c.loop-i.invariant.own all k z units p q)) in
           let before : x.starts.top + i ≡ first + i = omega arith in
           let behind : count + i + 1 ≡ count + (i + 1) = omega arith in

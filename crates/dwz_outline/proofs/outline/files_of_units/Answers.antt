@@ -1,9 +1,9 @@
 use Rattle.std.proofs.Common.{◌∙◌, arith}
+use Rattle.dwz_docs.proofs.ListFacts.{item_got}
 use Rattle.dwz_graph.specs.Files.{docs_of}
+use Rattle.dwz_graph.proofs.FileLemmas.{files_few}
 use Rattle.dwz_across.proofs.FileCounts.{files_many}
-use Rattle.dwz_across.proofs.ListGets.{item_got}
 use Rattle.dwz_across.proofs.UnitFiles.{files_end, files_none, files_step}
-use Rattle.dwz_outline.proofs.FilesLow.{files_few}
 use Rattle.dwz_outline.proofs.outline.files_of_units.Goals as goal
 
 pub loop-number-init : goal.loop-number-init
@@ -12,7 +12,8 @@ loop-number-init c = c.new-numbers.ensures.items ∙ files_none
 pub loop-number-preserved : goal.loop-number-preserved
 loop-number-preserved c =
     let files = c.files-file-items.result.now in
-    files_step c.args.graph.now files c.files-file-items.ensures c.loop-number.number c.file-item.result (item_got files c.loop-number.number c.file-item.result (omega arith) c.file-item.is) c.loop-number.numbers.items c.put_number.new.numbers.items c.len.result c.loop-number.invariant c.len.ensures c.in_ok-put_number.ensures
+    files_step c.args.graph.now files c.files-file-items.ensures c.loop-number.number c.file-item.result (item_got files c.loop-number.number c.file-item.result (omega arith) c.file-item.is)
+    c.loop-number.numbers.items c.put_number.new.numbers.items c.len.result c.loop-number.invariant c.len.ensures c.in_ok-put_number.ensures
 
 pub returns : goal.returns
 returns c =

@@ -1,16 +1,16 @@
-use Rattle.std.proofs.Common.{◌≡◌, ℕ, ◌+◌, ◌<◌, ◌≤◌, All, Bool, List, length, refl, sym, ap, subst, ◌∙◌, arith}
+use Rattle.std.proofs.Common.{◌≡◌, ℕ, ◌<◌, All, Bool, List, length, refl, sym, ap, subst, ◌∙◌, arith}
 use Rattle.std.proofs.lemmas.List.{with_items_is}
 use Rattle.std.specs.Vec.{with_items}
-use Rattle.dwz_alike.specs.Spots.{tops_of, units_of}
+use Rattle.dwz_alike.specs.Spots.{units_of}
 use Rattle.dwz_graph.specs.Files.{docs_of}
+use Rattle.dwz_graph.proofs.FileLemmas.{files_few}
 use Rattle.dwz_groups.specs.declared.groups.Pair.{Pair}
 use Rattle.dwz_groups.specs.declared.tops.TopRow.{TopRow}
-use Rattle.dwz_groups.specs.declared.tops.Tops.{Tops}
 use Rattle.dwz_groups.specs.Groups.{grouped}
 use Rattle.dwz_move.specs.Bound.{AreSeeds}
 use Rattle.dwz_across.proofs.FileCounts.{files_many}
 use Rattle.dwz_outline.specs.Rows.{with_flags}
-use Rattle.dwz_outline.proofs.FilesLow.{files_few, files_low, tops_few}
+use Rattle.dwz_outline.proofs.FilesLow.{files_low, tops_few}
 use Rattle.dwz_outline.proofs.OutlineLemmas.{are_seeds, inside, long, outline_is, shown_targets}
 use Rattle.dwz_outline.proofs.PairLemmas.{keys_low}
 use Rattle.dwz_outline.proofs.outline.outline_files.Goals as goal
@@ -74,10 +74,15 @@ returns g c =
     let seeds = subst (λ (w : List Bool). AreSeeds (units_of docs) w) (sym c.as_slice-2.ensures.value) (are_seeds docs draft d) in
     let moves = c.in_ok-movable.ensures (units_of docs) (shown_targets docs draft d c.in_ok-targets.targets made) seeds in
     let flags = c.in_ok-movable.movable in
-    let rows : (with_items draft.rows c.set_movable.new.rows).items ≡ with_flags draft.rows.items flags = with_items_is draft.rows c.set_movable.new.rows (omega (arith, c.in_ok-draft.draft.rows.ok.0, ap (λ (w : List TopRow). length w) c.as_mut_slice.ensures.value, c.set_movable.auto.rows)) ∙ c.set_movable.ensures ∙ (λ i. with_flags (c.as_mut_slice.ensures.value i) (c.as_slice-3.ensures i)) in
+    let rows : (with_items draft.rows c.set_movable.new.rows).items ≡ with_flags draft.rows.items flags =
+    with_items_is draft.rows c.set_movable.new.rows (omega (arith, c.in_ok-draft.draft.rows.ok.0, ap (λ (w : List TopRow). length w) c.as_mut_slice.ensures.value, c.set_movable.auto.rows))
+    ∙ c.set_movable.ensures ∙ (λ i. with_flags (c.as_mut_slice.ensures.value i) (c.as_slice-3.ensures i)) in
     let many = files_many c.args.graph.now c.files-files.result.now c.files-files.ensures in
     let low = subst (λ (w : List ℕ). All (λ n. n < length c.files-files.result.now) w) (sym c.in_ok-files_of_units.ensures) (files_low docs (length c.files-files.result.now) (omega arith)) in
-    record { tops = outline_is docs draft d c.in_ok-targets.targets made flags moves c.in_ok-files_of_units.files_of_units.items (length c.files-files.result.now) c.in_ok-files_of_units.ensures low _ (c.new-listed.ensures ∙ rows) refl c.new-numbers.ensures refl }
+    record {
+      tops = outline_is docs draft d c.in_ok-targets.targets made flags moves c.in_ok-files_of_units.files_of_units.items (length c.files-files.result.now) c.in_ok-files_of_units.ensures low _
+          (c.new-listed.ensures ∙ rows) refl c.new-numbers.ensures refl;
+    }
 
 pub overflow_cast-tops : goal.overflow_cast-tops
 overflow_cast-tops g c = (let many = files_few c.args.graph.now c.files-files.result.now c.files-files.ensures in omega arith)

@@ -1,11 +1,11 @@
 use Rattle.std.proofs.Common.{◌≡◌, ◌≤◌, length, vec_len, arith}
+use Rattle.dwz_docs.proofs.CaseFacts.{if_ok}
 use Rattle.dwz_alike.specs.Spots.{tops_of, units_of}
 use Rattle.dwz_graph.specs.Files.{docs_of}
+use Rattle.dwz_graph.proofs.FileLemmas.{files_few}
 use Rattle.dwz_across.specs.Across.{starts_at}
 use Rattle.dwz_outline.specs.Drafts.{IsDraft}
-use Rattle.dwz_outline.proofs.DraftSteps.{if_ok}
 use Rattle.dwz_outline.proofs.FileSteps.{all_gathered}
-use Rattle.dwz_outline.proofs.FilesLow.{files_few}
 use Rattle.dwz_outline.proofs.parts.gathered_by.Goals as goal
 
 pub returns : goal.returns

@@ -1,10 +1,10 @@
 use Rattle.std.proofs.Common.{◌≡◌, ℕ, ◌+◌, ◌<◌, List, length, subst, arith}
 use Rattle.dwz_graph.specs.declared.file.File.{File}
 use Rattle.dwz_graph.specs.Files.{AreKept, docs_of}
+use Rattle.dwz_graph.proofs.FileLemmas.{files_few}
 use Rattle.dwz_marks.proofs.FilesKnown.{below}
 use Rattle.dwz_outline.specs.Drafts.{IsDraft}
 use Rattle.dwz_outline.proofs.FileSteps.{few_steps, file_draft, room, tops_within}
-use Rattle.dwz_outline.proofs.FilesLow.{files_few}
 use Rattle.dwz_outline.proofs.parts.part_at.Goals as goal
 
 file_there : (contents : List (List ℕ)) (files : List File) (k : ℕ) → AreKept contents files → k < length contents → k < length files

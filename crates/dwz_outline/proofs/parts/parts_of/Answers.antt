@@ -2,9 +2,9 @@ use Rattle.std.proofs.Common.{◌≡◌, ℕ, List, Option, None, length, ap, su
 use Rattle.std.specs.Prelude.{IfSome, slice_index_or}
 use Rattle.std.proofs.lemmas.List.{with_items_is}
 use Rattle.dwz_graph.specs.Files.{docs_of}
+use Rattle.dwz_graph.proofs.FileLemmas.{files_few}
 use Rattle.dwz_outline.specs.declared.draft.Draft.{Draft}
 use Rattle.dwz_outline.specs.Drafts.{AreParts, IsFileDraft}
-use Rattle.dwz_outline.proofs.FilesLow.{files_few}
 use Rattle.dwz_outline.proofs.PartSteps.{each_part}
 use Rattle.dwz_outline.proofs.parts.parts_of.Goals as goal
 

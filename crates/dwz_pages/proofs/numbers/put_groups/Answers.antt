@@ -5,7 +5,8 @@ use Rattle.dwz_pages.proofs.numbers.put_groups.Goals as goal
 
 pub loop-left-preserved : goal.loop-left-preserved
 loop-left-preserved c =
-    padded_step c.loop-left.out.items c.push.new.self.items c.loop-left.left c.group.result c.loop-left.rest (c.loop-left.rest / 128) (c.loop-left.left - 1) (c.args.out.now.items ++ padded c.args.width c.args.number)
+    padded_step c.loop-left.out.items c.push.new.self.items c.loop-left.left c.group.result c.loop-left.rest (c.loop-left.rest / 128) (c.loop-left.left - 1)
+    (c.args.out.now.items ++ padded c.args.width c.args.number)
     c.loop-left-test.true c.group.ensures refl refl c.in_ok-push.ensures.items c.loop-left.invariant
 
 pub returns : goal.returns

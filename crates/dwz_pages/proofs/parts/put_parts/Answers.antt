@@ -17,13 +17,15 @@ loop-operand-preserved c =
     let number = c.operand_number-number.ensures ∙ ap (λ (x : _). slice_index c.args.numbers.places.now x - base_place c.args.numbers.unit o.base) c.reference.ensures in
     let front = c.front.ensures ∙ ap (λ (x : _). take x c.loop-operand.left.now) c.saturating_sub.ensures in
     let back = c.back-left.ensures ∙ ap (λ (x : _). drop x c.loop-operand.left.now) c.saturating_sub-in-loop-operand.ensures in
-    parts_step c.args.known.now c.args.file (numbers_view c.args.numbers) c.args.operands.now c.loop-operand.operand-index c.loop-operand.next c.in_ok-next.next c.loop-operand.at c.in_ok-behind.behind o
+    parts_step c.args.known.now c.args.file (numbers_view c.args.numbers) c.args.operands.now c.loop-operand.operand-index c.loop-operand.next c.in_ok-next.next c.loop-operand.at c.in_ok-behind.behind
+    o
     c.loop-operand.left.now c.back-left.result.now c.loop-operand.out.items c.extend_from_slice.new.self.items c.put_number.new.out.items c.front.result.now
     (c.args.out.now.items ++ parts_left c.args.known.now c.args.file (numbers_view c.args.numbers) c.args.first c.args.start c.args.bytes.now c.args.operands.now) c.operand_number-number.result
     there c.in_ok-extend_from_slice.ensures.items front c.in_ok-put_number.ensures number c.in_ok-next.ensures c.in_ok-behind.ensures back c.loop-operand.invariant
 
 pub returns : goal.returns
 returns c =
-    parts_done c.args.known.now c.args.file (numbers_view c.args.numbers) c.args.operands.now c.loop-operand.operand-index c.loop-operand.next c.loop-operand.at c.loop-operand.left.now c.loop-operand.out.items c.extend_from_slice-2.new.self.items
+    parts_done c.args.known.now c.args.file (numbers_view c.args.numbers) c.args.operands.now c.loop-operand.operand-index c.loop-operand.next c.loop-operand.at c.loop-operand.left.now
+    c.loop-operand.out.items c.extend_from_slice-2.new.self.items
     (c.args.out.now.items ++ parts_left c.args.known.now c.args.file (numbers_view c.args.numbers) c.args.first c.args.start c.args.bytes.now c.args.operands.now)
     c.loop-operand-test.false c.in_ok-extend_from_slice-2.ensures.items c.loop-operand.invariant

@@ -31,10 +31,13 @@ known_value-raw-requires c =
 
 pub loop-pair-preserved : goal.loop-pair-preserved
 loop-pair-preserved c =
-    so_far_more (numbers_view c.args.numbers) c.args.known.now (here_view c.args.here) c.args.row c.in-Some.field-0.pairs.now c.args.out.now.items c.loop-pair.pair-index no_pair c.loop-pair.cursor c.known_value-raw.new.cursor c.loop-pair.next c.loop-pair.out.items
-    c.loop-pair.invariant c.loop-pair-test.true (raw_view c.known_value-raw.result) c.known_value-raw.ensures.value c.put_value.new.next c.put_value.new.out.items c.at-end.result c.at-end.ensures c.in_ok-put_value.ensures.next c.in_ok-put_value.ensures.bytes
+    so_far_more (numbers_view c.args.numbers) c.args.known.now (here_view c.args.here) c.args.row c.in-Some.field-0.pairs.now c.args.out.now.items c.loop-pair.pair-index no_pair c.loop-pair.cursor
+    c.known_value-raw.new.cursor c.loop-pair.next c.loop-pair.out.items
+    c.loop-pair.invariant c.loop-pair-test.true (raw_view c.known_value-raw.result) c.known_value-raw.ensures.value c.put_value.new.next c.put_value.new.out.items c.at-end.result c.at-end.ensures
+    c.in_ok-put_value.ensures.next c.in_ok-put_value.ensures.bytes
 
 pub returns : goal.returns
 returns c =
-    so_far_end (numbers_view c.args.numbers) c.args.known.now (here_view c.args.here) c.args.row c.in-Some.field-0.pairs.now c.args.out.now.items c.loop-pair.pair-index c.loop-pair.cursor c.loop-pair.next c.loop-pair.out.items c.loop-pair.invariant
+    so_far_end (numbers_view c.args.numbers) c.args.known.now (here_view c.args.here) c.args.row c.in-Some.field-0.pairs.now c.args.out.now.items c.loop-pair.pair-index c.loop-pair.cursor
+    c.loop-pair.next c.loop-pair.out.items c.loop-pair.invariant
     c.loop-pair-test.false

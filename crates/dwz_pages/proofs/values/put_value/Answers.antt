@@ -47,7 +47,8 @@ returns-in_ok-next-in-KeepsText-clause-bytes c =
     let old = c.args.out.now.items in
     let a = value_read c.args.end c.args.pair.now (raw_view c.args.raw.now) in
     let new = c.write_value-in-KeepsText.new.out.items in
-    put_mapped c.write_value-in-KeepsText.result (λ (is : _). put_by n k c.args.file here next a KeepsText c.in-KeepsText.ensures old new (put_read n a old new is)) c.write_value-in-KeepsText.ensures.ok
+    put_mapped c.write_value-in-KeepsText.result (λ (is : _). put_by n k c.args.file here next a KeepsText c.in-KeepsText.ensures old new (put_read n a old new is))
+    c.write_value-in-KeepsText.ensures.ok
 
 pub returns-in_ok-next-in-AsText-clause-bytes : goal.returns-in_ok-next-in-AsText-clause-bytes
 returns-in_ok-next-in-AsText-clause-bytes c =
@@ -72,7 +73,8 @@ returns-in_ok-next-in-AsFile-clause-bytes c =
     let a = value_read c.args.end c.args.pair.now (raw_view c.args.raw.now) in
     let new = c.put_uleb.new.out.items in
     put_mapped c.put_uleb.result
-    (λ (is : _). put_by n k c.args.file here next a AsFile c.in-AsFile.ensures old new (put_file n c.args.pair.now.name (file_at k c.args.file next.file) old new (is ∙ ap (λ (x : ℕ). old ++ uleb x) c.file-number.ensures))) c.put_uleb.ensures.ok
+    (λ (is : _). put_by n k c.args.file here next a AsFile c.in-AsFile.ensures old new
+    (put_file n c.args.pair.now.name (file_at k c.args.file next.file) old new (is ∙ ap (λ (x : ℕ). old ++ uleb x) c.file-number.ensures))) c.put_uleb.ensures.ok
 
 pub returns-in_ok-next-in-AsEntry-clause-bytes : goal.returns-in_ok-next-in-AsEntry-clause-bytes
 returns-in_ok-next-in-AsEntry-clause-bytes c =
@@ -99,7 +101,8 @@ returns-in_ok-next-in-AsExpression-clause-bytes c =
     let new = c.put_expr.new.out.items in
     put_mapped c.put_expr.result
     (λ (is : _). put_by n k c.args.file here next a AsExpression c.in-AsExpression.ensures old new
-    (put_expr n k c.args.file c.args.pair.now.name next.reference a c.content_of-bytes.result.now c.content_of-bytes.ensures c.read_operands.new.room.items c.deref.result.now c.deref.ensures.value c.in_ok-read_operands-in-AsExpression.ensures old new is))
+    (put_expr n k c.args.file c.args.pair.now.name next.reference a c.content_of-bytes.result.now c.content_of-bytes.ensures c.read_operands.new.room.items c.deref.result.now c.deref.ensures.value
+    c.in_ok-read_operands-in-AsExpression.ensures old new is))
     c.put_expr.ensures
 
 pub returns-in_ok-next-in-AsExpression-clause-next : goal.returns-in_ok-next-in-AsExpression-clause-next

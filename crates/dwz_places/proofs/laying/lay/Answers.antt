@@ -21,4 +21,5 @@ loop-entry-preserved c =
 
 pub returns : goal.returns
 returns c =
-    entries_done c.args.known.now (here_of c.args.known.now c.args.here c.args.unit.now.sort) c.loop-entry.walk (laying_of c.loop-entry.laying c.loop-entry.places) _ c.in_default.ensures c.loop-entry.invariant
+    entries_done c.args.known.now (here_of c.args.known.now c.args.here c.args.unit.now.sort) c.loop-entry.walk (laying_of c.loop-entry.laying c.loop-entry.places) _ c.in_default.ensures
+    c.loop-entry.invariant

@@ -8,7 +8,8 @@ loop-unit-init c = ap (with_units c.args.known.now c.args.first c.args.units.now
 
 pub loop-unit-preserved : goal.loop-unit-preserved
 loop-unit-preserved c =
-    units_more c.args.known.now c.args.units.now c.loop-unit.here c.in_ok-here.here c.loop-unit.unit-index c.unit-item.result (made c.loop-unit.file c.loop-unit.spots) (made c.unit.new.self c.unit.new.spots) _
+    units_more c.args.known.now c.args.units.now c.loop-unit.here c.in_ok-here.here c.loop-unit.unit-index c.unit-item.result (made c.loop-unit.file c.loop-unit.spots)
+    (made c.unit.new.self c.unit.new.spots) _
     c.loop-unit-test.true c.unit-item.is c.in_ok-here.ensures c.in_ok-unit.ensures c.loop-unit.invariant
 
 pub returns : goal.returns

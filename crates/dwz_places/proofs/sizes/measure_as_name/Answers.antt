@@ -30,7 +30,8 @@ returns-in-AsText-clause-size c = λ end. (
     let text = c.args.text in
     let a = value_read end c.args.pair.now (raw_view c.args.raw.now) in
     let way = way_of (holder_view c.args.holder) c.args.pair.now in
-    ok_sized c.measured.result 4 (name_by text a way ∷ []) c.measured.ensures.size (sized_same (text_attr 0x03 text) (name_by text a way) 4 (name_text text a way c.in-AsText.ensures) (text_sized no_numbers 0x03 text)))
+    ok_sized c.measured.result 4 (name_by text a way ∷ []) c.measured.ensures.size
+    (sized_same (text_attr 0x03 text) (name_by text a way) 4 (name_text text a way c.in-AsText.ensures) (text_sized no_numbers 0x03 text)))
 
 pub returns-in_default : goal.returns-in_default
 returns-in_default c =

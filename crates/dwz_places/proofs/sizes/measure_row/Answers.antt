@@ -41,17 +41,21 @@ measure_value-requires-clause-room c = c.loop-pair.invariant.plain
 
 pub loop-pair-preserved : goal.loop-pair-preserved
 loop-pair-preserved c =
-    measured_more c.args.known.now (here_view c.args.here) c.args.row c.in-Some.field-0.pairs.now c.loop-pair.pair-index no_pair c.loop-pair.cursor c.known_value-raw.new.cursor c.loop-pair.next c.loop-pair.room.pairs.items c.loop-pair.size
-    c.loop-pair.invariant c.loop-pair-test.true (raw_view c.known_value-raw.result) c.known_value-raw.ensures.value c.measure_value.new.next c.measure_value.new.room.pairs.items c.in_ok-one.one c.in_ok-size.size c.at-end.result
+    measured_more c.args.known.now (here_view c.args.here) c.args.row c.in-Some.field-0.pairs.now c.loop-pair.pair-index no_pair c.loop-pair.cursor c.known_value-raw.new.cursor c.loop-pair.next
+    c.loop-pair.room.pairs.items c.loop-pair.size
+    c.loop-pair.invariant c.loop-pair-test.true (raw_view c.known_value-raw.result) c.known_value-raw.ensures.value c.measure_value.new.next c.measure_value.new.room.pairs.items c.in_ok-one.one
+    c.in_ok-size.size c.at-end.result
     (c.in_ok-one.ensures.next, c.in_ok-one.ensures.pairs, c.in_ok-one.ensures.size) c.at-end.ensures c.in_ok-size.ensures c.in_ok-one.ensures.plain
 
 pub returns-clause-pairs : goal.returns-clause-pairs
 returns-clause-pairs c =
-    measured_names c.args.known.now (here_view c.args.here) c.args.row c.in-Some.field-0.pairs.now c.loop-pair.pair-index c.loop-pair.cursor c.loop-pair.next c.loop-pair.room.pairs.items c.loop-pair.size c.loop-pair.invariant c.loop-pair-test.false
+    measured_names c.args.known.now (here_view c.args.here) c.args.row c.in-Some.field-0.pairs.now c.loop-pair.pair-index c.loop-pair.cursor c.loop-pair.next c.loop-pair.room.pairs.items
+    c.loop-pair.size c.loop-pair.invariant c.loop-pair-test.false
 
 pub returns-clause-size : goal.returns-clause-size
 returns-clause-size c =
-    measured_size c.args.known.now (here_view c.args.here) c.args.row c.in-Some.field-0.pairs.now c.loop-pair.pair-index c.loop-pair.cursor c.loop-pair.next c.loop-pair.room.pairs.items c.loop-pair.size c.loop-pair.invariant c.loop-pair-test.false
+    measured_size c.args.known.now (here_view c.args.here) c.args.row c.in-Some.field-0.pairs.now c.loop-pair.pair-index c.loop-pair.cursor c.loop-pair.next c.loop-pair.room.pairs.items
+    c.loop-pair.size c.loop-pair.invariant c.loop-pair-test.false
 
 pub returns-clause-plain : goal.returns-clause-plain
 returns-clause-plain c = c.loop-pair.invariant.plain

@@ -23,7 +23,8 @@ pub returns-in-AsRead-clause-size : goal.returns-in-AsRead-clause-size
 returns-in-AsRead-clause-size c =
     let a = value_read c.args.end c.args.pair.now (raw_view c.args.raw.now) in
     ok_sized c.measured.result c.size_of_value.result _ c.measured.ensures.size
-    (out_sized c.args.known.now c.args.file (here_view c.args.here) c.args.next.now a AsRead c.in-AsRead.ensures c.size_of_value.result (read_sized no_numbers a c.size_of_value.result c.size_of_value.ensures))
+    (out_sized c.args.known.now c.args.file (here_view c.args.here) c.args.next.now a AsRead c.in-AsRead.ensures c.size_of_value.result
+    (read_sized no_numbers a c.size_of_value.result c.size_of_value.ensures))
 
 pub returns-in_ok-next-in-KeepsText-clause-size : goal.returns-in_ok-next-in-KeepsText-clause-size
 returns-in_ok-next-in-KeepsText-clause-size c =
@@ -61,7 +62,8 @@ pub returns-in_ok-size-in-AsExpression-clause-next : goal.returns-in_ok-size-in-
 returns-in_ok-size-in-AsExpression-clause-next c =
     let a = value_read c.args.end c.args.pair.now (raw_view c.args.raw.now) in
     on_ok c.measured-in-AsExpression.result
-    (expr_next c.args.known.now c.args.file (here_view c.args.here) c.args.next.now a c.in-AsExpression.ensures c.content_of-bytes.result.now c.content_of-bytes.ensures c.read_operands.new.room.items c.in_ok-read_operands-in-AsExpression.ensures
+    (expr_next c.args.known.now c.args.file (here_view c.args.here) c.args.next.now a c.in-AsExpression.ensures c.content_of-bytes.result.now c.content_of-bytes.ensures c.read_operands.new.room.items
+    c.in_ok-read_operands-in-AsExpression.ensures
     c.in_ok-next-in-AsExpression.field-0 c.len.result (c.len.ensures ∙ c.read_operands.new.room.ok.0) c.in_ok-next-in-AsExpression.ensures)
 
 pub returns-in_ok-next-in-AsFile-clause-size : goal.returns-in_ok-next-in-AsFile-clause-size

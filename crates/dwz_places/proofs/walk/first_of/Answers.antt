@@ -8,7 +8,8 @@ use Rattle.dwz_places.proofs.walk.first_of.Goals as goal
 
 pub returns-in-Root : goal.returns-in-Root
 returns-in-Root c =
-    rw c.in-Root.is (alone_is c.args.known.now (slot c.args.item.now.depth (root_of c.args.sort)) c.alone.result.slot c.alone.result.run (c.alone.ensures.slot ∙ ap (slot c.args.item.now.depth) c.root_origin.ensures) c.alone.ensures.run)
+    rw c.in-Root.is (alone_is c.args.known.now (slot c.args.item.now.depth (root_of c.args.sort)) c.alone.result.slot c.alone.result.run
+    (c.alone.ensures.slot ∙ ap (slot c.args.item.now.depth) c.root_origin.ensures) c.alone.ensures.run)
 
 pub returns-in-Space : goal.returns-in-Space
 returns-in-Space c =
@@ -18,8 +19,10 @@ returns-in-Space c =
 
 pub returns-in-InChain : goal.returns-in-InChain
 returns-in-InChain c =
-    rw c.in-InChain.is (alone_is c.args.known.now (slot c.args.item.now.depth (Chained c.in-InChain.chain c.in-InChain.space)) c.alone-in-InChain.result.slot c.alone-in-InChain.result.run c.alone-in-InChain.ensures.slot c.alone-in-InChain.ensures.run)
+    rw c.in-InChain.is (alone_is c.args.known.now (slot c.args.item.now.depth (Chained c.in-InChain.chain c.in-InChain.space)) c.alone-in-InChain.result.slot c.alone-in-InChain.result.run
+    c.alone-in-InChain.ensures.slot c.alone-in-InChain.ensures.run)
 
 pub returns-in-Import : goal.returns-in-Import
 returns-in-Import c =
-    rw c.in-Import.is (alone_is c.args.known.now (slot c.args.item.now.depth (Imported c.in-Import.part)) c.alone-in-Import.result.slot c.alone-in-Import.result.run c.alone-in-Import.ensures.slot c.alone-in-Import.ensures.run)
+    rw c.in-Import.is (alone_is c.args.known.now (slot c.args.item.now.depth (Imported c.in-Import.part)) c.alone-in-Import.result.slot c.alone-in-Import.result.run c.alone-in-Import.ensures.slot
+    c.alone-in-Import.ensures.run)

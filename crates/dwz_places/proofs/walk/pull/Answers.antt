@@ -12,4 +12,5 @@ returns-in_default-split_first c =
 pub returns : goal.returns
 returns c =
     let k = c.args.known.now in
-    pulled k c.args.sort (run_slots k c.args.entries) c.in-Some-split_first.item.now c.in-Some-split_first.items.now c.args.items.now c.first_of.result.slot (run_slots k c.first_of.result.run) c.in_default.ensures.0 c.in-Some-split_first.ensures.cases.0 c.first_of.ensures
+    pulled k c.args.sort (run_slots k c.args.entries) c.in-Some-split_first.item.now c.in-Some-split_first.items.now c.args.items.now c.first_of.result.slot (run_slots k c.first_of.result.run)
+    c.in_default.ensures.0 c.in-Some-split_first.ensures.cases.0 c.first_of.ensures

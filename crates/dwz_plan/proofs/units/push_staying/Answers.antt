@@ -28,5 +28,6 @@ loop-top-preserved c =
     let more : staying_pairs c.args.pinned 0 (take (i + 1) rows) (take (i + 1) c.args.homes.now) ≡ so_far ++ one =
     staying-more c.args.pinned 0 rows c.args.homes.now i none l c.requires.homes ∙ ap (λ j. so_far ++ staying_one c.args.pinned row (get_or c.args.homes.now i Stay) j) z in
     let pushed : c.push_if.new.pairs.items ≡ c.loop-top.pairs.items ++ one = c.in_ok-push_if.ensures
-    ∙ (ap (λ t. c.loop-top.pairs.items ++ cond t (record { key = row.unit; value = i } ∷ []) []) c.is_kept-wanted.ensures ∙ ap (λ h. c.loop-top.pairs.items ++ staying_one c.args.pinned row h i) (get_or_default c.args.homes.now i (Common 0) Stay (omega (arith, l, c.requires.homes)))) in
+    ∙ (ap (λ t. c.loop-top.pairs.items ++ cond t (record { key = row.unit; value = i } ∷ []) []) c.is_kept-wanted.ensures ∙ ap (λ h. c.loop-top.pairs.items ++ staying_one c.args.pinned row h i)
+    (get_or_default c.args.homes.now i (Common 0) Stay (omega (arith, l, c.requires.homes)))) in
     pushed ∙ (ap (λ (ps : List Pair). ps ++ one) c.loop-top.invariant ∙ (append_assoc old so_far one ∙ ap (λ (ps : List Pair). old ++ ps) (sym more)))

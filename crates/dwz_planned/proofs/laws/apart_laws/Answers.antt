@@ -1,5 +1,5 @@
 use Rattle.dwz_alike.specs.Spots.{file_numbers, units_of}
-use Rattle.dwz_plan.specs.declared.plan.Scope.TheVariants.{Each}
+use Rattle.dwz_plan.specs.declared.plan.Sharing.TheVariants.{Each}
 use Rattle.dwz_same.specs.Units.{common_units}
 use Rattle.dwz_known.specs.Owners.{move_of}
 use Rattle.dwz_planned.specs.Rules.{rule_by}

@@ -9,7 +9,8 @@ use Rattle.dwz_unit.specs.Rows.{units_of}
 use Rattle.dwz_prunable.proofs.files.is_prunable.Goals as goal
 
 pub returns-then-has_section : goal.returns-then-has_section
-returns-then-has_section c = λ l number is. bad_macro l number c.args.bytes.now c.args.file.now is (sym (c.has_section.ensures is.elf (no_fault l number c.args.bytes.now c.args.file.now is)) ∙ c.if-has_section.true)
+returns-then-has_section c = λ l number is. bad_macro l number c.args.bytes.now c.args.file.now is (sym (c.has_section.ensures is.elf (no_fault l number c.args.bytes.now c.args.file.now is))
+    ∙ c.if-has_section.true)
 
 pub slots-requires : goal.slots-requires
 slots-requires c = offsets_short c.requires.limits c.requires.number c.args.bytes.now c.args.file.now c.requires.read
@@ -22,7 +23,8 @@ returns-then-ne c = λ l number is.
     bad_lines l number c.args.bytes.now c.args.file.now is c.in_ok-uses_strp.field-0 c.in_ok-uses_strp.ensures (other_use c.in_ok-uses_strp.field-0 (sym c.ne.ensures ∙ c.if-ne.true))
 
 pub units_stay-requires-clause-slots : goal.units_stay-requires-clause-slots
-units_stay-requires-clause-slots c = slots_rise c.args.file.now.sections.offsets.now c.as_slice.result.now (sym c.in_ok-slots.ensures ∙ c.in-Some.is ∙ ap (λ (w : List ℕ). Some w) (sym c.as_slice.ensures))
+units_stay-requires-clause-slots c = slots_rise c.args.file.now.sections.offsets.now c.as_slice.result.now
+    (sym c.in_ok-slots.ensures ∙ c.in-Some.is ∙ ap (λ (w : List ℕ). Some w) (sym c.as_slice.ensures))
 
 pub returns : goal.returns
 returns c = λ l number is. (

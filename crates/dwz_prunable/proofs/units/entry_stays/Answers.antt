@@ -11,7 +11,8 @@ use Rattle.dwz_prunable.proofs.units.entry_stays.Goals as goal
 
 pub returns-then-not-any_asks : goal.returns-then-not-any_asks
 returns-then-not-any_asks c = λ row found.
-    sym (unasked c.args.slots.now c.args.known.now c.values-cursor.result.pairs.now c.values-cursor.result.cursor row (c.values-cursor.ensures.read row found) (sym c.any_asks.ensures ∙ c.if-not-any_asks.true))
+    sym (unasked c.args.slots.now c.args.known.now c.values-cursor.result.pairs.now c.values-cursor.result.cursor row (c.values-cursor.ensures.read row found)
+    (sym c.any_asks.ensures ∙ c.if-not-any_asks.true))
 
 pub loop-pair-init : goal.loop-pair-init
 loop-pair-init c = record {
@@ -32,7 +33,8 @@ returns-then-not-stays c = λ row found. (
     let j = c.loop-pair.pair-index in
     let value = raw_view c.known_value-raw.result in
     let a : RawAttr = record { at = c.loop-pair.cursor.at; end = c.known_value-raw.new.cursor.at; pair = get_or pairs j no_pair; raw = value } in
-    let is = (next_read row.entry.at pairs j no_pair c.loop-pair.cursor c.known_value-raw.new.cursor value row.entry.attrs c.loop-pair-test.true (c.loop-pair.invariant.reads row found) c.known_value-raw.ensures.value).is in
+    let is = (next_read row.entry.at pairs j no_pair c.loop-pair.cursor c.known_value-raw.new.cursor value row.entry.attrs c.loop-pair-test.true (c.loop-pair.invariant.reads row found)
+    c.known_value-raw.ensures.value).is in
     all_fails (passes c.args.slots.now c.args.known.now) row.entry.attrs j a is (sym c.stays.ensures ∙ c.if-not-stays.true) (c.loop-pair.invariant.left row found))
 
 pub loop-pair-preserved : goal.loop-pair-preserved
@@ -42,9 +44,11 @@ loop-pair-preserved c =
     let value = raw_view c.known_value-raw.result in
     let a : RawAttr = record { at = c.loop-pair.cursor.at; end = c.known_value-raw.new.cursor.at; pair = get_or pairs j no_pair; raw = value } in
     record {
-      reads = λ row found. (next_read row.entry.at pairs j no_pair c.loop-pair.cursor c.known_value-raw.new.cursor value row.entry.attrs c.loop-pair-test.true (c.loop-pair.invariant.reads row found) c.known_value-raw.ensures.value).rest;
+      reads = λ row found. (next_read row.entry.at pairs j no_pair c.loop-pair.cursor c.known_value-raw.new.cursor value row.entry.attrs c.loop-pair-test.true (c.loop-pair.invariant.reads row found)
+          c.known_value-raw.ensures.value).rest;
       left = λ row found. (
-          let is = (next_read row.entry.at pairs j no_pair c.loop-pair.cursor c.known_value-raw.new.cursor value row.entry.attrs c.loop-pair-test.true (c.loop-pair.invariant.reads row found) c.known_value-raw.ensures.value).is in
+          let is = (next_read row.entry.at pairs j no_pair c.loop-pair.cursor c.known_value-raw.new.cursor value row.entry.attrs c.loop-pair-test.true (c.loop-pair.invariant.reads row found)
+          c.known_value-raw.ensures.value).is in
           all_more (passes c.args.slots.now c.args.known.now) row.entry.attrs j a is (sym c.stays.ensures ∙ c.if-not-stays.false) (c.loop-pair.invariant.left row found));
     }
 

@@ -9,5 +9,6 @@ use Rattle.dwz_writing.specs.Pruned.{UnitStays}
 use Rattle.dwz_prunable.proofs.units.units_stay.Given as goal
 
 abbrev pub invariant-loop-n : goal.invariant-loop-n
-invariant-loop-n l = (around : Around ℕ) (said : List (DwUnit ℕ)) → (means : units_meaning around (units_of l.units) ≡ Ok said) → HaveLines around (units_of l.units) (length (units_of l.units)) l.tables l.lines
+invariant-loop-n l = (around : Around ℕ) (said : List (DwUnit ℕ)) → (means : units_meaning around (units_of l.units) ≡ Ok said)
+    → HaveLines around (units_of l.units) (length (units_of l.units)) l.tables l.lines
     → Left (UnitStays (texts_of around.sources) around.sources.line l.slots) around (units_of l.units) said means l.n

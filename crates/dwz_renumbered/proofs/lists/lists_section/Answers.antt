@@ -1,10 +1,10 @@
 use Rattle.std.proofs.Common.{ℕ, List, ap, ◌∙◌}
+use Rattle.dwz_docs.proofs.CaseFacts.{if_ok}
 use Rattle.dwz_sections.specs.Numbers.{with_numbers}
-use Rattle.dwz_sections.proofs.RangeSetLemmas.{if_more}
 use Rattle.dwz_renumbered.proofs.lists.lists_section.Goals as goal
 
 pub returns : goal.returns
-returns c = λ docs rule names planned file. if_more c.lists.result _ _
+returns c = λ docs rule names planned file. if_ok c.lists.result _ _
     (λ out is. record {
       numbers = c.in_ok-numbers.numbers.items;
       are = c.in_ok-numbers.ensures.numbers docs rule names planned file;

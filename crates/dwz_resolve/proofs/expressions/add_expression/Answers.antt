@@ -18,7 +18,8 @@ returns-in_err-add_operands-clause-goes c = λ u before here k. (
     let K = StateIn c.args.sections.now raw u c.args.here.now in
     let own = bytes_of (raw_view c.args.raw.now) in
     let i : Input = record { at = c.args.end - length own; rest = own } in
-    let reads = reads_row c.saturating_sub-at.result c.args.end c.bytes_of-bytes.result.now own c.clear.new.self.items c.read_into-read.new.operands.items c.deref.result.now c.read_into-read.result c.bytes_of-bytes.ensures c.saturating_sub-at.ensures c.clear.ensures.items c.deref.ensures.value c.read_into-read.ensures.found in
+    let reads = reads_row c.saturating_sub-at.result c.args.end c.bytes_of-bytes.result.now own c.clear.new.self.items c.read_into-read.new.operands.items c.deref.result.now c.read_into-read.result
+    c.bytes_of-bytes.ensures c.saturating_sub-at.ensures c.clear.ensures.items c.deref.ensures.value c.read_into-read.ensures.found in
     rw (p.1, p.2) (operands_fail raw K before s refl i c.deref.result.now c.in_err-add_operands.field-0.0 c.read_into-read.result c.args.state.now.refs.items c.add_operands.new.refs.items
     (has_memory c.read_into-read.result (sym c.is_no_memory.ensures ∙ c.if-is_no_memory.false)) reads (c.in_err-add_operands.ensures u here)))
 
@@ -29,7 +30,8 @@ returns-in-Ok-clause-goes c = λ u before here k. (
     let K = StateIn c.args.sections.now raw u c.args.here.now in
     let own = bytes_of (raw_view c.args.raw.now) in
     let i : Input = record { at = c.args.end - length own; rest = own } in
-    let reads = reads_row c.saturating_sub-at.result c.args.end c.bytes_of-bytes.result.now own c.clear.new.self.items c.read_into-read.new.operands.items c.deref.result.now c.read_into-read.result c.bytes_of-bytes.ensures c.saturating_sub-at.ensures c.clear.ensures.items c.deref.ensures.value c.read_into-read.ensures.found in
+    let reads = reads_row c.saturating_sub-at.result c.args.end c.bytes_of-bytes.result.now own c.clear.new.self.items c.read_into-read.new.operands.items c.deref.result.now c.read_into-read.result
+    c.bytes_of-bytes.ensures c.saturating_sub-at.ensures c.clear.ensures.items c.deref.ensures.value c.read_into-read.ensures.found in
     let new : State = record c.args.state.now { refs = c.add_operands.new.refs; operands = c.read_into-read.new.operands } in
     expression_read raw K before s refl i c.deref.result.now c.args.state.now new c.read_into-read.result c.in-Ok.field-0 c.in-Ok.is reads (c.in_ok-add_operands.ensures u here)
     (with_expression raw s c.args.here.now.number before c.args.state.now c.add_operands.new.refs c.read_into-read.new.operands k))
@@ -41,5 +43,7 @@ returns-in-Err-clause-goes c = λ u before here k. (
     let K = StateIn c.args.sections.now raw u c.args.here.now in
     let own = bytes_of (raw_view c.args.raw.now) in
     let i : Input = record { at = c.args.end - length own; rest = own } in
-    let reads = reads_row c.saturating_sub-at.result c.args.end c.bytes_of-bytes.result.now own c.clear.new.self.items c.read_into-read.new.operands.items c.deref.result.now c.read_into-read.result c.bytes_of-bytes.ensures c.saturating_sub-at.ensures c.clear.ensures.items c.deref.ensures.value c.read_into-read.ensures.found in
-    expression_fails raw K before s refl i c.deref.result.now c.read_into-read.result c.in-Err.error c.args.state.now.refs.items c.add_operands.new.refs.items c.in-Err.is reads (c.in_ok-add_operands.ensures u here))
+    let reads = reads_row c.saturating_sub-at.result c.args.end c.bytes_of-bytes.result.now own c.clear.new.self.items c.read_into-read.new.operands.items c.deref.result.now c.read_into-read.result
+    c.bytes_of-bytes.ensures c.saturating_sub-at.ensures c.clear.ensures.items c.deref.ensures.value c.read_into-read.ensures.found in
+    expression_fails raw K before s refl i c.deref.result.now c.read_into-read.result c.in-Err.error c.args.state.now.refs.items c.add_operands.new.refs.items c.in-Err.is reads
+    (c.in_ok-add_operands.ensures u here))

@@ -14,7 +14,8 @@ returns-in-Unit-clause-looks c = λ u here. (
     let s = scope_in c.args.sections.now raw u in
     let o = c.args.operand.now in
     looks_up raw s o c.args.here.now.first c.args.here.now.end (c.args.here.now.at + o.number) c.find.result
-    (here.own ∙ ap (λ (b : Base). entries_for s b) (sym c.in-Unit.is)) c.requires (ap (λ (n : ℕ). n + o.number) here.at ∙ ap (λ (b : Base). leads_to s b o.number) (sym c.in-Unit.is)) c.find.ensures.found c.find.ensures.none)
+    (here.own ∙ ap (λ (b : Base). entries_for s b) (sym c.in-Unit.is)) c.requires (ap (λ (n : ℕ). n + o.number) here.at ∙ ap (λ (b : Base). leads_to s b o.number) (sym c.in-Unit.is))
+    c.find.ensures.found c.find.ensures.none)
 
 pub returns-in-Info-clause-looks : goal.returns-in-Info-clause-looks
 returns-in-Info-clause-looks c = λ u here. (
@@ -23,7 +24,8 @@ returns-in-Info-clause-looks c = λ u here. (
     let o = c.args.operand.now in
     let all = c.entries.ensures in
     looks_up raw s o 0 c.entries.result o.number c.find-in-Info.result
-    (ap (λ (n : ℕ). slice_range (places raw) 0 n) all ∙ all_are raw ∙ ap (λ (b : Base). entries_for s b) (sym c.in-Info.is)) (omega arith) (ap (λ (b : Base). leads_to s b o.number) (sym c.in-Info.is)) c.find-in-Info.ensures.found c.find-in-Info.ensures.none)
+    (ap (λ (n : ℕ). slice_range (places raw) 0 n) all ∙ all_are raw ∙ ap (λ (b : Base). entries_for s b) (sym c.in-Info.is)) (omega arith) (ap (λ (b : Base). leads_to s b o.number) (sym c.in-Info.is))
+    c.find-in-Info.ensures.found c.find-in-Info.ensures.none)
 
 pub returns-in-Unit-clause-within : goal.returns-in-Unit-clause-within
 returns-in-Unit-clause-within c = below (units_of c.args.units.now) c.args.here.now.first c.args.here.now.end c.find.result _ c.requires c.find.ensures.found

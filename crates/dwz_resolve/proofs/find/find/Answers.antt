@@ -11,13 +11,15 @@ loop-low-init c = search_begins (places (units_of c.args.units.now)) c.args.firs
 pub loop-low-preserved-then-at-place-2 : goal.loop-low-preserved-then-at-place-2
 loop-low-preserved-then-at-place-2 c =
     let many = places_many (units_of c.args.units.now) in
-    search_up (places (units_of c.args.units.now)) c.args.first c.args.end c.args.place c.loop-low.low c.loop-low.high _ c.entry-at.result.at (places_rise c.args.units.now) (omega arith) (omega arith) (omega (arith, c.requires))
+    search_up (places (units_of c.args.units.now)) c.args.first c.args.end c.args.place c.loop-low.low c.loop-low.high _ c.entry-at.result.at (places_rise c.args.units.now) (omega arith) (omega arith)
+    (omega (arith, c.requires))
     (entry_place (units_of c.args.units.now) _ c.entry-at.result c.entry-at.ensures.entry) c.if-at-place-2.true c.loop-low.invariant
 
 pub loop-low-preserved : goal.loop-low-preserved
 loop-low-preserved c =
     let many = places_many (units_of c.args.units.now) in
-    search_down (places (units_of c.args.units.now)) c.args.first c.args.end c.args.place c.loop-low.low c.loop-low.high _ c.entry-at.result.at (places_rise c.args.units.now) (omega arith) (omega arith) (omega (arith, c.requires))
+    search_down (places (units_of c.args.units.now)) c.args.first c.args.end c.args.place c.loop-low.low c.loop-low.high _ c.entry-at.result.at (places_rise c.args.units.now) (omega arith)
+    (omega arith) (omega (arith, c.requires))
     (entry_place (units_of c.args.units.now) _ c.entry-at.result c.entry-at.ensures.entry) (let n = c.if-at-place.false in let m = c.if-at-place-2.false in grind arith) c.loop-low.invariant
 
 pub returns-then-at-place : goal.returns-then-at-place
@@ -28,4 +30,8 @@ returns-then-at-place c =
     record { found = (omega arith, omega arith, place ∙ c.if-at-place.true); none = λ e. absurd cc }
 
 pub returns : goal.returns
-returns c = record { found = tt; none = λ e i l m is. search_ends (places (units_of c.args.units.now)) c.args.first c.args.end c.args.place c.loop-low.low c.loop-low.high c.loop-low-test.false c.loop-low.invariant i l m is }
+returns c = record {
+  found = tt;
+  none = λ e i l m is. search_ends (places (units_of c.args.units.now)) c.args.first c.args.end c.args.place c.loop-low.low c.loop-low.high c.loop-low-test.false
+      c.loop-low.invariant i l m is;
+}

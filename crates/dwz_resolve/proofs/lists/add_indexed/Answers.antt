@@ -16,7 +16,8 @@ returns-in_err-add_list-clause-goes c = λ u before here k. (
     let x = c.in-Some-slot_at.slot in
     let sl = c.in-Some-slot_at.ensures in
     let e = c.in_err-add_list.field-0.0 in
-    rw (p.1, p.2) (by_slot {Y = Unit {0}} raw s n c.args.at c.args.index c.in-Some.base sl.0 x.place x.at c.args.here.now.lists before c.args.state.now c.add_list.new.state (Err e) c.in-Some.is sl.1 sl.3 sl.2
+    rw (p.1, p.2) (by_slot {Y = Unit {0}} raw s n c.args.at c.args.index c.in-Some.base sl.0 x.place x.at c.args.here.now.lists before c.args.state.now c.add_list.new.state (Err e) c.in-Some.is sl.1
+    sl.3 sl.2
     (slot_fails raw s n c.args.at x.place x.at before c.args.state.now c.add_list.new.state c.add_list.new.state e (c.in_err-add_list.ensures.goes u before here k))))
 
 pub returns-clause-goes : goal.returns-clause-goes

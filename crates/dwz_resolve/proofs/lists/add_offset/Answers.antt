@@ -9,4 +9,5 @@ pub returns-then-names_list-clause-goes : goal.returns-then-names_list-clause-go
 returns-then-names_list-clause-goes c = λ u before here k. (
     let raw = units_of c.args.units.now in
     let s = scope_in c.args.sections.now raw u in
-    adds_if raw s c.args.here.now.number c.args.at c.args.offset true (names_list c.args.name) before c.args.state.now c.add_list.new.state c.add_list.result (sym c.if-names_list.true ∙ c.names_list.ensures) (c.add_list.ensures.goes u before here k))
+    adds_if raw s c.args.here.now.number c.args.at c.args.offset true (names_list c.args.name) before c.args.state.now c.add_list.new.state c.add_list.result
+    (sym c.if-names_list.true ∙ c.names_list.ensures) (c.add_list.ensures.goes u before here k))

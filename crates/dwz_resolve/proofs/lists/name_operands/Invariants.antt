@@ -6,4 +6,5 @@ use Rattle.dwz_resolve.specs.Resolved.{IsHere, scope_in}
 use Rattle.dwz_resolve.proofs.lists.name_operands.Given as goal
 
 abbrev pub invariant-loop-operand : goal.invariant-loop-operand
-invariant-loop-operand l = (u : RawUnit) → IsHere (units_of l.units) u l.here → AreOperands (units_of l.units) l.file (scope_in l.sections (units_of l.units) u) (take l.operand-index l.operands) l.fn.out.items l.out.items
+invariant-loop-operand l = (u : RawUnit) → IsHere (units_of l.units) u l.here → AreOperands (units_of l.units) l.file (scope_in l.sections (units_of l.units) u) (take l.operand-index l.operands)
+    l.fn.out.items l.out.items

@@ -18,7 +18,8 @@ pub loop-pair-init : goal.loop-pair-init
 loop-pair-init c = record {
   file = refl;
   reads = c.values-cursor.ensures.read;
-  adds = λ u row before here found k. adds_none (units_of c.args.units.now) (StateIn c.args.sections.now (units_of c.args.units.now) u c.args.here.now) (attr_named (scope_in c.args.sections.now (units_of c.args.units.now) u)) row.entry.attrs before c.args.state.now c.args.state.now refl k;
+  adds = λ u row before here found k. adds_none (units_of c.args.units.now) (StateIn c.args.sections.now (units_of c.args.units.now) u c.args.here.now)
+      (attr_named (scope_in c.args.sections.now (units_of c.args.units.now) u)) row.entry.attrs before c.args.state.now c.args.state.now refl k;
   learns = λ row found. learns_none c.args.here.now.line c.args.state.now.files;
 }
 
@@ -38,14 +39,19 @@ loop-pair-preserved c =
     let a : RawAttr = record { at = c.loop-pair.cursor.at; end = c.known_value-raw.new.cursor.at; pair = get_or pairs j no_pair; raw = value } in
     record {
       file = c.in_ok-add_attr.ensures.file ∙ c.loop-pair.invariant.file;
-      reads = λ row found. (next_read row.entry.at pairs j no_pair c.loop-pair.cursor c.known_value-raw.new.cursor value row.entry.attrs c.loop-pair-test.true (c.loop-pair.invariant.reads row found) c.known_value-raw.ensures.value).rest;
+      reads = λ row found. (next_read row.entry.at pairs j no_pair c.loop-pair.cursor c.known_value-raw.new.cursor value row.entry.attrs c.loop-pair-test.true (c.loop-pair.invariant.reads row found)
+          c.known_value-raw.ensures.value).rest;
       adds = λ u row before here found k. (
-          let is = (next_read row.entry.at pairs j no_pair c.loop-pair.cursor c.known_value-raw.new.cursor value row.entry.attrs c.loop-pair-test.true (c.loop-pair.invariant.reads row found) c.known_value-raw.ensures.value).is in
-          adds_more raw (StateIn c.args.sections.now raw u c.args.here.now) (StateIn c.args.sections.now raw u c.args.here.now) (attr_named (scope_in c.args.sections.now raw u)) row.entry.attrs j a before c.args.state.now c.loop-pair.state c.add_attr.new.state is (c.loop-pair.invariant.adds u row before here found k)
+          let is = (next_read row.entry.at pairs j no_pair c.loop-pair.cursor c.known_value-raw.new.cursor value row.entry.attrs c.loop-pair-test.true (c.loop-pair.invariant.reads row found)
+          c.known_value-raw.ensures.value).is in
+          adds_more raw (StateIn c.args.sections.now raw u c.args.here.now) (StateIn c.args.sections.now raw u c.args.here.now) (attr_named (scope_in c.args.sections.now raw u)) row.entry.attrs j a
+          before c.args.state.now c.loop-pair.state c.add_attr.new.state is (c.loop-pair.invariant.adds u row before here found k)
           (λ lists q. rw (sym c.at-at.ensures, sym c.at-end.ensures) (c.in_ok-add_attr.ensures.goes u lists here q)));
       learns = λ row found. (
-          let is = (next_read row.entry.at pairs j no_pair c.loop-pair.cursor c.known_value-raw.new.cursor value row.entry.attrs c.loop-pair-test.true (c.loop-pair.invariant.reads row found) c.known_value-raw.ensures.value).is in
-          learns_next numbers_file row.entry.attrs j a c.args.here.now.line c.args.state.now.files c.loop-pair.state.files c.add_attr.new.state.files is (c.loop-pair.invariant.learns row found) c.in_ok-add_attr.ensures.learns);
+          let is = (next_read row.entry.at pairs j no_pair c.loop-pair.cursor c.known_value-raw.new.cursor value row.entry.attrs c.loop-pair-test.true (c.loop-pair.invariant.reads row found)
+          c.known_value-raw.ensures.value).is in
+          learns_next numbers_file row.entry.attrs j a c.args.here.now.line c.args.state.now.files c.loop-pair.state.files c.add_attr.new.state.files is (c.loop-pair.invariant.learns row found)
+          c.in_ok-add_attr.ensures.learns);
     }
 
 pub returns-in_err-add_attr-clause-goes : goal.returns-in_err-add_attr-clause-goes
@@ -56,8 +62,10 @@ returns-in_err-add_attr-clause-goes c = λ u row before here found k. (
     let j = c.loop-pair.pair-index in
     let value = raw_view c.known_value-raw.result in
     let a : RawAttr = record { at = c.loop-pair.cursor.at; end = c.known_value-raw.new.cursor.at; pair = get_or pairs j no_pair; raw = value } in
-    let is = (next_read row.entry.at pairs j no_pair c.loop-pair.cursor c.known_value-raw.new.cursor value row.entry.attrs c.loop-pair-test.true (c.loop-pair.invariant.reads row found) c.known_value-raw.ensures.value).is in
-    rw (p.1, p.2) (fails_at raw (StateIn c.args.sections.now raw u c.args.here.now) (attr_named (scope_in c.args.sections.now raw u)) row.entry.attrs j a before c.args.state.now c.loop-pair.state c.in_err-add_attr.field-0.0 is (c.loop-pair.invariant.adds u row before here found k)
+    let is = (next_read row.entry.at pairs j no_pair c.loop-pair.cursor c.known_value-raw.new.cursor value row.entry.attrs c.loop-pair-test.true (c.loop-pair.invariant.reads row found)
+    c.known_value-raw.ensures.value).is in
+    rw (p.1, p.2) (fails_at raw (StateIn c.args.sections.now raw u c.args.here.now) (attr_named (scope_in c.args.sections.now raw u)) row.entry.attrs j a before c.args.state.now c.loop-pair.state
+    c.in_err-add_attr.field-0.0 is (c.loop-pair.invariant.adds u row before here found k)
     (λ lists q. rw (sym c.at-at.ensures, sym c.at-end.ensures) (c.in_err-add_attr.ensures.goes u lists here q))))
 
 pub returns-clause-goes : goal.returns-clause-goes
@@ -65,10 +73,12 @@ returns-clause-goes c = λ u row before here found k. (
     let raw = units_of c.args.units.now in
     let pairs = c.values-cursor.result.pairs.now in
     let count = reads_count row.entry.at pairs c.values-cursor.result.cursor row.entry.attrs (c.values-cursor.ensures.read row found) in
-    adds_all raw (StateIn c.args.sections.now raw u c.args.here.now) (attr_named (scope_in c.args.sections.now raw u)) row.entry.attrs c.loop-pair.pair-index before c.args.state.now c.loop-pair.state (omega (arith, count, c.loop-pair-test.false)) (c.loop-pair.invariant.adds u row before here found k))
+    adds_all raw (StateIn c.args.sections.now raw u c.args.here.now) (attr_named (scope_in c.args.sections.now raw u)) row.entry.attrs c.loop-pair.pair-index before c.args.state.now c.loop-pair.state
+    (omega (arith, count, c.loop-pair-test.false)) (c.loop-pair.invariant.adds u row before here found k))
 
 pub returns-clause-learns : goal.returns-clause-learns
 returns-clause-learns c = λ row found. (
     let pairs = c.values-cursor.result.pairs.now in
     let count = reads_count row.entry.at pairs c.values-cursor.result.cursor row.entry.attrs (c.values-cursor.ensures.read row found) in
-    learns_all numbers_file row.entry.attrs c.loop-pair.pair-index c.args.here.now.line c.args.state.now.files c.loop-pair.state.files (omega (arith, count, c.loop-pair-test.false)) (c.loop-pair.invariant.learns row found))
+    learns_all numbers_file row.entry.attrs c.loop-pair.pair-index c.args.here.now.line c.args.state.now.files c.loop-pair.state.files (omega (arith, count, c.loop-pair-test.false))
+    (c.loop-pair.invariant.learns row found))

@@ -14,7 +14,9 @@ abbrev pub invariant-loop-pair : goal.invariant-loop-pair
 invariant-loop-pair l = record {
   file : l.state.file ≡ l.fn.state.file;
   reads : (row : EntryRow) → slice_get (rows_of (units_of l.units)) l.i ≡ Some row → Reads row.entry.at (drop l.pair-index l.pairs) l.cursor (drop l.pair-index row.entry.attrs);
-  adds : (u : RawUnit) (row : EntryRow) (before : List NamedList) → IsHere (units_of l.units) u l.here → slice_get (rows_of (units_of l.units)) l.i ≡ Some row → StateIn l.sections (units_of l.units) u l.here before l.fn.state
-      → Goes {Y = Unit {0}} (units_of l.units) (StateIn l.sections (units_of l.units) u l.here) before l.fn.state l.state (Ok tt) (collect (attr_named (scope_in l.sections (units_of l.units) u)) (take l.pair-index row.entry.attrs));
+  adds : (u : RawUnit) (row : EntryRow) (before : List NamedList) → IsHere (units_of l.units) u l.here → slice_get (rows_of (units_of l.units)) l.i ≡ Some row
+      → StateIn l.sections (units_of l.units) u l.here before l.fn.state
+      → Goes {Y = Unit {0}} (units_of l.units) (StateIn l.sections (units_of l.units) u l.here) before l.fn.state l.state (Ok tt)
+      (collect (attr_named (scope_in l.sections (units_of l.units) u)) (take l.pair-index row.entry.attrs));
   learns : (row : EntryRow) → slice_get (rows_of (units_of l.units)) l.i ≡ Some row → Learns (list_any numbers_file (take l.pair-index row.entry.attrs)) l.here.line l.fn.state.files l.state.files;
 }

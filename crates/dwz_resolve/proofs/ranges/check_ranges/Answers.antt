@@ -18,7 +18,8 @@ returns-in_default c =
     let is_unit = is_place_of (units_of c.args.units.now) in
     let whole = sets_at is_unit (input c.args.section.now 0) in
     subst (λ (e : ReadErr). Fails e whole) (sym c.bad_set.ensures)
-    (set_fails is_unit c.args.section.now c.loop-at.at (bad_ranges c.loop-at.at) whole c.loop-at-test.true (no_set is_unit (input c.args.section.now c.loop-at.at) c.in_default.ensures) c.loop-at.invariant)
+    (set_fails is_unit c.args.section.now c.loop-at.at (bad_ranges c.loop-at.at) whole c.loop-at-test.true (no_set is_unit (input c.args.section.now c.loop-at.at) c.in_default.ensures)
+    c.loop-at.invariant)
 
 pub returns-then-not-is_unit : goal.returns-then-not-is_unit
 returns-then-not-is_unit c =

@@ -11,7 +11,8 @@ pub returns-in_ok-push-in-Some : goal.returns-in_ok-push-in-Some
 returns-in_ok-push-in-Some c = λ own is. (
     let f = c.in-Some.ensures.found in
     let there = among_there (units_of c.args.units.now) c.args.first c.args.end c.in-Some.number c.args.place own is c.requires f.0 f.1 f.2 in
-    entry_added (units_of c.args.units.now) c.args.refs.now.items c.push.new.self.items own c.args.at c.args.place c.in-Some.number c.in_ok-push-in-Some.ensures.items there f.2 (omega (arith, f.1, c.requires)))
+    entry_added (units_of c.args.units.now) c.args.refs.now.items c.push.new.self.items own c.args.at c.args.place c.in-Some.number c.in_ok-push-in-Some.ensures.items there f.2
+    (omega (arith, f.1, c.requires)))
 
 pub returns-in-None : goal.returns-in-None
 unfolding has

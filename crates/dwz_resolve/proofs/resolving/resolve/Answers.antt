@@ -22,7 +22,8 @@ returns-in_err-add_units-clause-answers c =
     let raw = units_of c.args.units.now in
     let a = around c.args.sections.now raw in
     let n = c.new-state.ensures in
-    rw (p.1, p.2) (said_fail a raw c.args.sections.now.aranges.now c.in_err-add_units.field-0.0 (c.in_err-add_units.ensures.goes (none_behind raw a c.new-state.result n.rows n.operands n.slots n.seen (n.tables a.sources))))
+    rw (p.1, p.2) (said_fail a raw c.args.sections.now.aranges.now c.in_err-add_units.field-0.0
+    (c.in_err-add_units.ensures.goes (none_behind raw a c.new-state.result n.rows n.operands n.slots n.seen (n.tables a.sources))))
 
 pub returns-in_err-check_ranges-clause-answers : goal.returns-in_err-check_ranges-clause-answers
 returns-in_err-check_ranges-clause-answers c =
@@ -48,7 +49,8 @@ returns-in_err-operands-clause-answers c =
     let a = around c.args.sections.now raw in
     let n = c.new-state.ensures in
     let added = c.in_ok-add_units.ensures.goes (none_behind raw a c.new-state.result n.rows n.operands n.slots n.seen (n.tables a.sources)) in
-    rw (p.1, p.2) (lists_fail a raw c.args.sections.now.aranges.now (map (place_at raw) added.more) added.lists c.in_err-operands.field-0.0 added.is c.in_ok-check_ranges.ensures (c.in_err-operands.ensures.err raw c.add_units.new.state.file added.lists added.keeps.shows (starts_distinct c.args.units.now)))
+    rw (p.1, p.2) (lists_fail a raw c.args.sections.now.aranges.now (map (place_at raw) added.more) added.lists c.in_err-operands.field-0.0 added.is c.in_ok-check_ranges.ensures
+    (c.in_err-operands.ensures.err raw c.add_units.new.state.file added.lists added.keeps.shows (starts_distinct c.args.units.now)))
 
 pub returns-clause-within : goal.returns-clause-within
 returns-clause-within c =
@@ -110,4 +112,5 @@ returns-clause-of_file c =
     let a = around c.args.sections.now raw in
     let n = c.new-state.ensures in
     let added = c.in_ok-add_units.ensures.goes (none_behind raw a c.new-state.result n.rows n.operands n.slots n.seen (n.tables a.sources)) in
-    subst (λ (f : ℕ). AreOfFile raw f c.in_ok-operands.operands.items) (c.in_ok-add_units.ensures.file ∙ n.file) (c.in_ok-operands.ensures.ok raw c.add_units.new.state.file added.lists added.keeps.shows (starts_distinct c.args.units.now)).2
+    subst (λ (f : ℕ). AreOfFile raw f c.in_ok-operands.operands.items) (c.in_ok-add_units.ensures.file ∙ n.file)
+    (c.in_ok-operands.ensures.ok raw c.add_units.new.state.file added.lists added.keeps.shows (starts_distinct c.args.units.now)).2

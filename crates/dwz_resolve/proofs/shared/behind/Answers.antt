@@ -8,7 +8,8 @@ pub loop-low-init : goal.loop-low-init
 loop-low-init c = record {
   order = omega arith;
   within = omega arith;
-  parted = λ top rows. subst (λ (n : _). Parted (ends c.args.kept.now) c.args.place 0 n) (length-map c.args.kept.now (λ (o : ListOperand). o.at + o.width)) (parted_all (ends c.args.kept.now) c.args.place);
+  parted = λ top rows. subst (λ (n : _). Parted (ends c.args.kept.now) c.args.place 0 n) (length-map c.args.kept.now (λ (o : ListOperand). o.at + o.width))
+      (parted_all (ends c.args.kept.now) c.args.place);
 }
 
 pub loop-low-preserved-then-row-place : goal.loop-low-preserved-then-row-place

@@ -7,9 +7,11 @@ use Rattle.dwz_resolve.specs.ListRows.{own_rows, row_test, slot_test}
 use Rattle.dwz_resolve.proofs.shared.first_shared.Given as goal
 
 abbrev pub invariant-loop-row : goal.invariant-loop-row
-invariant-loop-row l = (xs : List ListOperand) (top : ℕ) → Rows 0 l.kept top → ((w : ListRow) → In w l.lists.rows.items → Rows (w.from + 1) (own_rows l.lists.operands.items w) w.end) → HasClash xs l.fn.clash
+invariant-loop-row l = (xs : List ListOperand) (top : ℕ) → Rows 0 l.kept top → ((w : ListRow) → In w l.lists.rows.items → Rows (w.from + 1) (own_rows l.lists.operands.items w) w.end)
+    → HasClash xs l.fn.clash
     → Tested xs l.kept l.fn.clash (map (row_test l.lists.operands.items) (take l.row-index l.row-items)) l.place
 
 abbrev pub invariant-loop-slot : goal.invariant-loop-slot
-invariant-loop-slot l = (xs : List ListOperand) (top : ℕ) → Rows 0 l.kept top → ((w : ListRow) → In w l.lists.rows.items → Rows (w.from + 1) (own_rows l.lists.operands.items w) w.end) → HasClash xs l.fn.clash
+invariant-loop-slot l = (xs : List ListOperand) (top : ℕ) → Rows 0 l.kept top → ((w : ListRow) → In w l.lists.rows.items → Rows (w.from + 1) (own_rows l.lists.operands.items w) w.end)
+    → HasClash xs l.fn.clash
     → Tested xs l.kept l.fn.clash (map (row_test l.lists.operands.items) l.lists.rows.items ++ map slot_test (take l.slot-index l.slot-items)) l.place

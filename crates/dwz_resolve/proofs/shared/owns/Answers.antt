@@ -16,7 +16,8 @@ loop-low-preserved-then-at-place-2 c =
     let test = c.loop-low-test.true in
     record {
       within = omega arith;
-      searched = λ top rows. search_up (places_of_rows c.args.own.now) 0 (length c.args.own.now) c.args.place c.loop-low.low c.loop-low.high _ _ (rows_rise c.args.own.now 0 top rows) (omega arith) (omega arith) (omega arith)
+      searched = λ top rows. search_up (places_of_rows c.args.own.now) 0 (length c.args.own.now) c.args.place c.loop-low.low c.loop-low.high _ _ (rows_rise c.args.own.now 0 top rows) (omega arith)
+          (omega arith) (omega arith)
           (map_get (λ (o : ListOperand). o.at) c.args.own.now _ _ (omega arith)) c.if-at-place-2.true (c.loop-low.invariant.searched top rows);
     }
 
@@ -27,7 +28,8 @@ loop-low-preserved c =
     let test = c.loop-low-test.true in
     record {
       within = omega arith;
-      searched = λ top rows. search_down (places_of_rows c.args.own.now) 0 (length c.args.own.now) c.args.place c.loop-low.low c.loop-low.high _ _ (rows_rise c.args.own.now 0 top rows) (omega arith) (omega arith) (omega arith)
+      searched = λ top rows. search_down (places_of_rows c.args.own.now) 0 (length c.args.own.now) c.args.place c.loop-low.low c.loop-low.high _ _ (rows_rise c.args.own.now 0 top rows) (omega arith)
+          (omega arith) (omega arith)
           (map_get (λ (o : ListOperand). o.at) c.args.own.now _ _ (omega arith)) (above _ _ c.if-at-place.false c.if-at-place-2.false) (c.loop-low.invariant.searched top rows);
     }
 
@@ -41,4 +43,5 @@ returns-then-at-place c = λ top rows. (
 pub returns : goal.returns
 returns c = λ top rows. (
     let many = length-map c.args.own.now (λ (o : ListOperand). o.at) in
-    sym (has_none (places_of_rows c.args.own.now) c.args.place (λ k l e. search_ends (places_of_rows c.args.own.now) 0 (length c.args.own.now) c.args.place c.loop-low.low c.loop-low.high c.loop-low-test.false (c.loop-low.invariant.searched top rows) k (omega arith) (omega arith) e)))
+    sym (has_none (places_of_rows c.args.own.now) c.args.place (λ k l e. search_ends (places_of_rows c.args.own.now) 0 (length c.args.own.now) c.args.place c.loop-low.low c.loop-low.high
+    c.loop-low-test.false (c.loop-low.invariant.searched top rows) k (omega arith) (omega arith) e)))

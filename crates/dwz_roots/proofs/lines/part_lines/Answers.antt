@@ -17,4 +17,5 @@ loop-part-preserved c = λ scope rule indexed alike choice tops shows. (
 
 pub returns : goal.returns
 returns c = λ scope rule indexed alike choice tops shows. (
-    all_lines (docs_of c.args.graph.now) rule c.args.plan.now shows c.partials-partials.result.now c.loop-part.part-index c.loop-part.lines.items c.partials-partials.ensures (omega arith) (c.loop-part.invariant scope rule indexed alike choice tops shows))
+    all_lines (docs_of c.args.graph.now) rule c.args.plan.now shows c.partials-partials.result.now c.loop-part.part-index c.loop-part.lines.items c.partials-partials.ensures (omega arith)
+    (c.loop-part.invariant scope rule indexed alike choice tops shows))

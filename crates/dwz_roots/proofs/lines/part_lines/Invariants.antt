@@ -1,5 +1,5 @@
 use Rattle.std.proofs.Common.{length}
-use Rattle.dwz_alike.specs.Alike.{IsAlike, Scope}
+use Rattle.dwz_alike.specs.Alike.{IsAlike, TopScope}
 use Rattle.dwz_alike.specs.Spots.{units_of}
 use Rattle.dwz_graph.specs.Files.{docs_of}
 use Rattle.dwz_indexes.specs.Indexed.{AreIndexes}
@@ -9,5 +9,5 @@ use Rattle.dwz_roots.proofs.LinesLemmas.{LinesUpTo}
 use Rattle.dwz_roots.proofs.lines.part_lines.Given as goal
 
 abbrev pub invariant-loop-part : goal.invariant-loop-part
-invariant-loop-part l = (scope : Scope) (rule : Rule) → AreIndexes (docs_of l.graph) l.indexes → IsAlike scope (units_of (docs_of l.graph)) rule.alike → IsChoice (units_of (docs_of l.graph)) rule
+invariant-loop-part l = (scope : TopScope) (rule : Rule) → AreIndexes (docs_of l.graph) l.indexes → IsAlike scope (units_of (docs_of l.graph)) rule.alike → IsChoice (units_of (docs_of l.graph)) rule
     → ShowsTops (units_of (docs_of l.graph)) l.tops → ShowsPlan rule (units_of (docs_of l.graph)) (length (docs_of l.graph)) l.plan → LinesUpTo rule (docs_of l.graph) l.part-index l.lines.items

@@ -1,6 +1,6 @@
 use Rattle.std.proofs.Common.{◌≡◌, ℕ, List, slice_get, ap, ◌∙◌}
+use Rattle.dwz_docs.proofs.ListFacts.{same_got}
 use Rattle.dwz_groups.specs.declared.tops.TopRow.{TopRow}
-use Rattle.dwz_across.proofs.ListGets.{same_got}
 use Rattle.dwz_places.proofs.KnownLemmas.{file_found}
 use Rattle.dwz_roots.proofs.PlaceLemmas.{get_none, row_there}
 use Rattle.dwz_roots.proofs.places.file_of.Goals as goal

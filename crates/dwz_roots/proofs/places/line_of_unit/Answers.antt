@@ -23,4 +23,5 @@ returns-in-Some c = λ u found. (
     let raw = units_of c.args.units.now in
     let t = unit_there raw c.args.n c.unit-root.result c.unit-root.ensures in
     let same = same_unit raw c.args.n t.u u t.is_unit found in
-    subst (λ (o : Option RawAttr). LineOf o c.line_in.result) (c.in-Some.ensures.first _ (root_found raw c.args.n c.unit-root.result t) ∙ ap (λ (k : RawUnit). first_raw 0x10 k.root.attrs) same) c.line_in.ensures)
+    subst (λ (o : Option RawAttr). LineOf o c.line_in.result) (c.in-Some.ensures.first _ (root_found raw c.args.n c.unit-root.result t) ∙ ap (λ (k : RawUnit). first_raw 0x10 k.root.attrs) same)
+    c.line_in.ensures)

@@ -20,4 +20,5 @@ loop-top-preserved c = λ contents ts line knows are have. (
     (λ t there got. c.top_numbers_file.ensures contents t line knows got (line_of_each units ts line have t there)) c.if-top_numbers_file.false (c.loop-top.invariant contents ts line knows are have))
 
 pub returns : goal.returns
-returns c = λ contents ts line knows are have. none_found (units_of (docs_of contents)) ts c.args.list.now are c.loop-top.top-index (omega (arith, c.loop-top-test.false)) (c.loop-top.invariant contents ts line knows are have)
+returns c = λ contents ts line knows are have. none_found (units_of (docs_of contents)) ts c.args.list.now are c.loop-top.top-index (omega (arith, c.loop-top-test.false))
+    (c.loop-top.invariant contents ts line knows are have)

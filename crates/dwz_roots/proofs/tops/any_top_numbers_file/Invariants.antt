@@ -7,4 +7,5 @@ use Rattle.dwz_roots.specs.Steps.{AreTops, HaveLine, KnowsTops}
 use Rattle.dwz_roots.proofs.tops.any_top_numbers_file.Given as goal
 
 abbrev pub invariant-loop-top : goal.invariant-loop-top
-invariant-loop-top l = (contents : List (List ℕ)) (ts : List Top) (line : ℕ) → KnowsTops contents l.files l.indexes l.tops → AreTops (units_of (docs_of contents)) ts l.list → HaveLine (units_of (docs_of contents)) ts (Some line) → list_any path_in (take l.top-index ts) ≡ false
+invariant-loop-top l = (contents : List (List ℕ)) (ts : List Top) (line : ℕ) → KnowsTops contents l.files l.indexes l.tops → AreTops (units_of (docs_of contents)) ts l.list
+    → HaveLine (units_of (docs_of contents)) ts (Some line) → list_any path_in (take l.top-index ts) ≡ false

@@ -1,6 +1,6 @@
 use Rattle.std.proofs.Common.{◌≡◌, Some, slice_get, refl, sym, ap, ◌∙◌, arith}
-use Rattle.dwz_across.proofs.ListGets.{got_below, same_got}
 use Rattle.dwz_docs.specs.Units.{entries_in}
+use Rattle.dwz_docs.proofs.ListFacts.{got_below, same_got}
 use Rattle.dwz_graph.specs.declared.file.File.{File}
 use Rattle.dwz_places.proofs.KnownLemmas.{file_found}
 use Rattle.dwz_resolve.proofs.RowLemmas.{row_is, rows-length}

@@ -25,7 +25,8 @@ moved-requires-clause-classes c = λ k d l.
 
 pub pass_all_in-requires-clause-pending : goal.pass_all_in-requires-clause-pending
 pass_all_in-requires-clause-pending c =
-    start-pending c.args.nodes.now c.requires.closed c.requires.level.0 c.args.classes.now c.args.next.now c.requires.level.1 c.requires.round c.args.largest.now c.in_ok-named.named.numbers.items c.in_ok-pending.pending.items c.in_ok-named.named.count c.in_ok-named.ensures c.in_ok-pending.ensures
+    start-pending c.args.nodes.now c.requires.closed c.requires.level.0 c.args.classes.now c.args.next.now c.requires.level.1 c.requires.round c.args.largest.now c.in_ok-named.named.numbers.items
+    c.in_ok-pending.pending.items c.in_ok-named.named.count c.in_ok-named.ensures c.in_ok-pending.ensures
 
 pub returns : goal.returns
 returns c =

@@ -32,5 +32,6 @@ loop-a-preserved c =
       firsts = firsts;
       len = ap (λ (l : List ℕ). length l) items ∙ let e = i.len in omega (arith, length-append c.loop-a.least.items (c.first_with.result ∷ []));
       each = λ b l. subst (λ (x : List ℕ). IsLeastBelow (length numbers) (λ d. slice_index numbers b ≡ slice_index numbers d) (slice_index x b)) (sym items)
-          (least-more numbers n c.first_with.result c.loop-a.least.items i.len i.each (first-least numbers n c.first_with.result new c.requires.few inside small firsts c.first_with.ensures.first) b l);
+          (least-more numbers n c.first_with.result c.loop-a.least.items i.len i.each (first-least numbers n c.first_with.result new c.requires.few inside small firsts c.first_with.ensures.first) b
+          l);
     }

@@ -11,4 +11,5 @@ pub loop-word-preserved : goal.loop-word-preserved
 loop-word-preserved c =
     let words : List ℕ = c.args.words.now in
     let i : ℕ = c.loop-word.word-index in
-    c.mix_word-hash.ensures ∙ (ap (λ (h : ℕ). fold mixed h (to_le_bytes w32 (slice_index words i))) c.loop-word.invariant ∙ (sym (words_hash-push (take i words) (slice_index words i)) ∙ ap words_hash (sym (take_more words i 0 c.loop-word-test.true))))
+    c.mix_word-hash.ensures ∙ (ap (λ (h : ℕ). fold mixed h (to_le_bytes w32 (slice_index words i))) c.loop-word.invariant
+    ∙ (sym (words_hash-push (take i words) (slice_index words i)) ∙ ap words_hash (sym (take_more words i 0 c.loop-word-test.true))))

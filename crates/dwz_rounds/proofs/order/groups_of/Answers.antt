@@ -9,4 +9,5 @@ use Rattle.dwz_rounds.proofs.order.groups_of.Goals as goal
 pub mark_groups-requires : goal.mark_groups-requires
 mark_groups-requires c =
     subst (λ (rows : List Keyed). AreTogether rows) (sym c.as_slice.ensures.value)
-    (together c.sort_unstable.new.self.items c.sort_unstable.ensures.sorted (All-permutation (λ (r : Keyed). r.hash ≡ words_hash r.key.now) c.args.rows.items c.sort_unstable.new.self.items c.sort_unstable.ensures.permutation c.requires))
+    (together c.sort_unstable.new.self.items c.sort_unstable.ensures.sorted
+    (All-permutation (λ (r : Keyed). r.hash ≡ words_hash r.key.now) c.args.rows.items c.sort_unstable.new.self.items c.sort_unstable.ensures.permutation c.requires))

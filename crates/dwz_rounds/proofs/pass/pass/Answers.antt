@@ -62,7 +62,8 @@ split-requires-clause-nodes c =
     (subst (λ (l : List ℕ). AreSame l c.in_ok-groups.groups.nodes.items) c.as_slice-5.ensures.value c.in_ok-groups.ensures.same))
 
 pub split-requires-clause-some : goal.split-requires-clause-some
-split-requires-clause-some c = some-range c.args.numbers.now c.args.ranges.now.items c.args.members.now.items c.args.pending.now.items (length c.args.nodes.now) c.requires.members (sym c.requires.pending.len) c.requires.pending.inside c.requires.some
+split-requires-clause-some c = some-range c.args.numbers.now c.args.ranges.now.items c.args.members.now.items c.args.pending.now.items (length c.args.nodes.now) c.requires.members
+    (sym c.requires.pending.len) c.requires.pending.inside c.requires.some
 
 pub returns-clause-pending : goal.returns-clause-pending
 returns-clause-pending c = λ done.

@@ -9,4 +9,5 @@ rows_at-requires c = subst (λ (k : List (List ℕ)). All (λ a. a < length k) c
 pub returns : goal.returns
 returns c = let e = c.in_ok-groups.ensures in
     subst (λ (k : List (List ℕ)). AreByKey k c.args.todo.now c.in_ok-groups.groups.nodes.items c.in_ok-groups.groups.news.items) c.in_ok-written.ensures
-    (by-key c.in_ok-written.written c.args.todo.now c.in_ok-rows.rows.items e.0 c.in_ok-groups.groups.nodes.items c.in_ok-groups.groups.news.items c.in_ok-rows.ensures.nodes c.in_ok-rows.ensures.keys e.1 e.2)
+    (by-key c.in_ok-written.written c.args.todo.now c.in_ok-rows.rows.items e.0 c.in_ok-groups.groups.nodes.items c.in_ok-groups.groups.news.items c.in_ok-rows.ensures.nodes c.in_ok-rows.ensures.keys
+    e.1 e.2)

@@ -23,8 +23,10 @@ loop-at-preserved c =
       put = λ keys todo few partly by.
           let s = i.put keys todo few partly by in
           let first : IsFirst keys node c.if-news-at.first = elim c.if-news-at.branch [
-            | then-news-at w ↦ subst (λ (x : ℕ). IsFirst keys node x) (sym w.first-is) (new-first keys todo nodes news old partly by n c.loop-at.first cur c.loop-at-test.true i.len s w.if-news-at.true)
-            | else-news-at w ↦ subst (λ (x : ℕ). IsFirst keys node x) (sym w.first-is) (old-first keys todo nodes news old partly by n c.loop-at.first cur c.loop-at-test.true i.len s w.if-news-at.false)
+            | then-news-at w ↦ subst (λ (x : ℕ). IsFirst keys node x) (sym w.first-is)
+                (new-first keys todo nodes news old partly by n c.loop-at.first cur c.loop-at-test.true i.len s w.if-news-at.true)
+            | else-news-at w ↦ subst (λ (x : ℕ). IsFirst keys node x) (sym w.first-is)
+                (old-first keys todo nodes news old partly by n c.loop-at.first cur c.loop-at-test.true i.len s w.if-news-at.false)
           ] in
           put-more keys todo nodes news old partly by n c.loop-at.first cur c.loop-at-test.true i.len s c.if-news-at.first first;
     }

@@ -20,6 +20,7 @@ returns c =
     let todo : List ℕ = c.args.todo.now in
     let nodes : List ℕ = c.as_slice.result.now in
     let news : List Bool = c.as_slice-2.result.now in
-    let by : AreByKey keys todo nodes news = subst (λ (q : List ℕ × List Bool). AreByKey keys todo q.0 q.1) (λ j. (sym c.as_slice.ensures.value j, sym c.as_slice-2.ensures.value j)) c.in_ok-groups.ensures in
+    let by : AreByKey keys todo nodes news = subst (λ (q : List ℕ × List Bool). AreByKey keys todo q.0 q.1) (λ j. (sym c.as_slice.ensures.value j, sym c.as_slice-2.ensures.value j))
+    c.in_ok-groups.ensures in
     let x = c.put_firsts.ensures.put keys todo c.requires.few c.requires.partly by in
     put-all keys todo nodes news c.args.classes.now c.requires.partly by c.put_firsts.new.classes x.0 c.put_firsts.ensures.len x.1

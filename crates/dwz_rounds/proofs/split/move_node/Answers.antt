@@ -23,6 +23,8 @@ returns-clause-members c =
     let mid : List Range = slice_set ranges class r in
     let first : AreMembers numbers mid members = live-only numbers ranges members c.requires.members class c.saturating_sub.result there in
     let items = c.in_ok-push.ensures.items in
-    let end : c.len.result ≡ length members + 1 = let e = c.len.ensures in let f = c.push.new.self.ok.0 in let g = ap (λ (l : List ℕ). length l) items in omega (arith, length-append members (c.args.node ∷ [])) in
-    subst (λ (l : List ℕ). AreMembers (slice_set numbers c.args.node c.args.number) (slice_set mid c.args.number (record { start = (range_at mid c.args.number).start; end = c.len.result; live = c.saturating_add.result })) l) (sym items)
+    let end : c.len.result ≡ length members + 1 = let e = c.len.ensures in let f = c.push.new.self.ok.0 in let g =
+    ap (λ (l : List ℕ). length l) items in omega (arith, length-append members (c.args.node ∷ [])) in
+    subst (λ (l : List ℕ). AreMembers (slice_set numbers c.args.node c.args.number)
+    (slice_set mid c.args.number (record { start = (range_at mid c.args.number).start; end = c.len.result; live = c.saturating_add.result })) l) (sym items)
     (moved numbers mid members first c.args.node c.args.number c.saturating_add.result c.len.result c.requires.node (let e = length-set ranges class r in let n = c.requires.number in omega arith) end)

@@ -27,8 +27,11 @@ move_in-requires-clause-number c =
     let node : ℕ = slice_index c.args.nodes.now at in
     let i = c.loop-at.invariant in
     let inside : node < length cur = let n = c.requires.nodes at 0 c.loop-at-test.true in let e = i.len in omega arith in
-    let choice : IsChoice at (slice_index_or c.args.news.now at false) (slice_index cur node) c.loop-at.number (length c.args.numbers.now) c.args.whole.now c.args.parts.now ranges (length c.as_slice.result.now) c.next_number.new.number c.next_number.new.ranges.items = c.in_ok-room.ensures c.if-not-room.false in
-    let r = choice-ranges at (slice_index_or c.args.news.now at false) (slice_index cur node) c.loop-at.number (length c.args.numbers.now) c.args.whole.now c.args.parts.now ranges (length c.as_slice.result.now) c.next_number.new.number c.next_number.new.ranges.items cur members choice i.members (ap (λ (l : List ℕ). length l) c.as_slice.ensures.value) (sym i.len) i.number (i.members.each node inside).number in
+    let choice : IsChoice at (slice_index_or c.args.news.now at false) (slice_index cur node) c.loop-at.number (length c.args.numbers.now) c.args.whole.now c.args.parts.now ranges
+    (length c.as_slice.result.now) c.next_number.new.number c.next_number.new.ranges.items = c.in_ok-room.ensures c.if-not-room.false in
+    let r = choice-ranges at (slice_index_or c.args.news.now at false) (slice_index cur node) c.loop-at.number (length c.args.numbers.now) c.args.whole.now c.args.parts.now ranges
+    (length c.as_slice.result.now) c.next_number.new.number c.next_number.new.ranges.items cur members choice i.members (ap (λ (l : List ℕ). length l) c.as_slice.ensures.value) (sym i.len)
+    i.number (i.members.each node inside).number in
     r.inside
 
 pub move_in-requires-clause-members : goal.move_in-requires-clause-members
@@ -40,8 +43,11 @@ move_in-requires-clause-members c =
     let node : ℕ = slice_index c.args.nodes.now at in
     let i = c.loop-at.invariant in
     let inside : node < length cur = let n = c.requires.nodes at 0 c.loop-at-test.true in let e = i.len in omega arith in
-    let choice : IsChoice at (slice_index_or c.args.news.now at false) (slice_index cur node) c.loop-at.number (length c.args.numbers.now) c.args.whole.now c.args.parts.now ranges (length c.as_slice.result.now) c.next_number.new.number c.next_number.new.ranges.items = c.in_ok-room.ensures c.if-not-room.false in
-    let r = choice-ranges at (slice_index_or c.args.news.now at false) (slice_index cur node) c.loop-at.number (length c.args.numbers.now) c.args.whole.now c.args.parts.now ranges (length c.as_slice.result.now) c.next_number.new.number c.next_number.new.ranges.items cur members choice i.members (ap (λ (l : List ℕ). length l) c.as_slice.ensures.value) (sym i.len) i.number (i.members.each node inside).number in
+    let choice : IsChoice at (slice_index_or c.args.news.now at false) (slice_index cur node) c.loop-at.number (length c.args.numbers.now) c.args.whole.now c.args.parts.now ranges
+    (length c.as_slice.result.now) c.next_number.new.number c.next_number.new.ranges.items = c.in_ok-room.ensures c.if-not-room.false in
+    let r = choice-ranges at (slice_index_or c.args.news.now at false) (slice_index cur node) c.loop-at.number (length c.args.numbers.now) c.args.whole.now c.args.parts.now ranges
+    (length c.as_slice.result.now) c.next_number.new.number c.next_number.new.ranges.items cur members choice i.members (ap (λ (l : List ℕ). length l) c.as_slice.ensures.value) (sym i.len)
+    i.number (i.members.each node inside).number in
     r.members_are
 
 pub loop-at-preserved : goal.loop-at-preserved
@@ -59,12 +65,16 @@ loop-at-preserved c =
     let count : ℕ = c.len-count.result in
     let i = c.loop-at.invariant in
     let inside : node < length cur = let n = c.requires.nodes at 0 c.loop-at-test.true in let e = i.len in omega arith in
-    let choice : IsChoice at (slice_index_or news at false) (slice_index cur node) c.loop-at.number (length old) c.args.whole.now c.args.parts.now ranges (length c.as_slice.result.now) next c.next_number.new.ranges.items = c.in_ok-room.ensures c.if-not-room.false in
-    let r = choice-ranges at (slice_index_or news at false) (slice_index cur node) c.loop-at.number (length old) c.args.whole.now c.args.parts.now ranges (length c.as_slice.result.now) next c.next_number.new.ranges.items cur members choice i.members (ap (λ (l : List ℕ). length l) c.as_slice.ensures.value) (sym i.len) i.number (i.members.each node inside).number in
+    let choice : IsChoice at (slice_index_or news at false) (slice_index cur node) c.loop-at.number (length old) c.args.whole.now c.args.parts.now ranges (length c.as_slice.result.now) next
+    c.next_number.new.ranges.items = c.in_ok-room.ensures c.if-not-room.false in
+    let r = choice-ranges at (slice_index_or news at false) (slice_index cur node) c.loop-at.number (length old) c.args.whole.now c.args.parts.now ranges (length c.as_slice.result.now) next
+    c.next_number.new.ranges.items cur members choice i.members (ap (λ (l : List ℕ). length l) c.as_slice.ensures.value) (sym i.len) i.number (i.members.each node inside).number in
     let many : count ≡ length c.args.ranges.now.items = c.len-count.ensures ∙ c.args.ranges.now.ok.0 in
     let few = i.members.few in
-    let wise : (key : ℕ → List ℕ) → (g : IsGrouped key old nodes news) → IsRight key nodes old c.args.whole.now c.args.parts.now count at cur pending c.loop-at.number (i.splitting key g) next = λ key g.
-    right key nodes old c.args.whole.now c.args.parts.now count at cur pending c.loop-at.number (i.splitting key g) news c.loop-at-test.true g (length old) ranges (length c.as_slice.result.now) next c.next_number.new.ranges.items choice
+    let wise : (key : ℕ → List ℕ) → (g : IsGrouped key old nodes news) → IsRight key nodes old c.args.whole.now c.args.parts.now count at cur pending c.loop-at.number (i.splitting key g) next =
+    λ key g.
+    right key nodes old c.args.whole.now c.args.parts.now count at cur pending c.loop-at.number (i.splitting key g) news c.loop-at-test.true g (length old) ranges (length c.as_slice.result.now) next
+    c.next_number.new.ranges.items choice
     (λ p l. (i.members.each (slice_index nodes p) (let n = c.requires.nodes p 0 (let t = c.loop-at-test.true in omega arith) in let e = i.len in omega arith)).number) i.enough
     (let n = (c.requires.members.each node (let m = c.requires.nodes at 0 c.loop-at-test.true in m)).number in omega arith) in
     elim c.if-number-count.branch [

@@ -22,6 +22,7 @@ loop-a-preserved c =
           let ne = w.if-class-a.false in
           let inside : class < length numbers = let l = h.0 in let e = i.len in omega arith in
           let is : w.index-number.result.now ≡ slice_index numbers class = w.index-number.ensures ∙ get_or_default numbers class w.index-number.result.now 0 inside in
-          subst (λ (q : ℕ × List ℕ). AreNumbered classes (n + 1) q.0 q.1) (λ j. (sym w.count-is j, sym (ap (λ v. v.items) w.numbers-is ∙ (w.in_ok-push-2.ensures.items ∙ ap (λ (x : ℕ). numbers ++ x ∷ []) is)) j))
+          subst (λ (q : ℕ × List ℕ). AreNumbered classes (n + 1) q.0 q.1)
+          (λ j. (sym w.count-is j, sym (ap (λ v. v.items) w.numbers-is ∙ (w.in_ok-push-2.ensures.items ∙ ap (λ (x : ℕ). numbers ++ x ∷ []) is)) j))
           (numbered-again classes n count numbers c.requires.led c.loop-a-test.true i ne)
     ]

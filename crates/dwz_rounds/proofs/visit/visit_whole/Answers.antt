@@ -12,5 +12,6 @@ returns-in_ok-visit_class-clause-from c = λ a h. ⊎_elim
 
 pub returns-in_ok-visit_class-clause-whole : goal.returns-in_ok-visit_class-clause-whole
 returns-in_ok-visit_class-clause-whole c =
-    whole-there c.args.numbers.now c.args.ranges.now c.args.members.now c.args.visit.now.items c.visit_class.new.visit.items c.put.new.list.items c.args.wholes.now.items c.args.class c.requires.members
+    whole-there c.args.numbers.now c.args.ranges.now c.args.members.now c.args.visit.now.items c.visit_class.new.visit.items c.put.new.list.items c.args.wholes.now.items c.args.class
+    c.requires.members
     c.in_ok-visit_class.ensures.of_class c.in_ok-put.ensures.put c.requires.whole

@@ -34,7 +34,8 @@ loop-at-preserved c =
       grown = let a = i.grown in let b = len.2 in omega arith;
       marked = e.marked;
       marked_wholes = e.wholes;
-      with_wholes = with-more c.args.numbers.now c.args.visit.now.items c.loop-at.visit.items c.visit_whole.new.visit.items c.loop-at.wholes.items c.visit_whole.new.wholes.items i.with_wholes e.from e.kept e.kept_wholes e.whole;
+      with_wholes = with-more c.args.numbers.now c.args.visit.now.items c.loop-at.visit.items c.visit_whole.new.visit.items c.loop-at.wholes.items c.visit_whole.new.wholes.items i.with_wholes e.from
+          e.kept e.kept_wholes e.whole;
     }
 
 pub clear_hits-requires-clause-visit : goal.clear_hits-requires-clause-visit

@@ -14,7 +14,8 @@ use Rattle.dwz_scan.proofs.BindSteps.{bind_all, bind_here, bind_more, bind_next,
 use Rattle.dwz_scan.proofs.bind.entry_binds.Goals as goal
 
 pub returns-then-entry-eq-IMPORTED_UNIT : goal.returns-then-entry-eq-IMPORTED_UNIT
-returns-then-entry-eq-IMPORTED_UNIT c = λ s numbers row d tops unit name has m into. by_tag s tops unit name (units_of c.args.units.now) c.args.i numbers row d m c.entry.result c.entry.ensures.entry c.if-entry-eq-IMPORTED_UNIT.true
+returns-then-entry-eq-IMPORTED_UNIT c = λ s numbers row d tops unit name has m into. by_tag s tops unit name (units_of c.args.units.now) c.args.i numbers row d m c.entry.result c.entry.ensures.entry
+    c.if-entry-eq-IMPORTED_UNIT.true
 
 pub loop-pair-init : goal.loop-pair-init
 loop-pair-init c = record {
@@ -39,10 +40,13 @@ loop-pair-preserved-then-pair-eq-SIBLING c =
     let a : RawAttr = record { at = c.loop-pair.cursor.at; end = c.known_value-raw.new.cursor.at; pair = get_or pairs j no_pair; raw = value } in
     record {
       few = (let few = c.loop-pair.invariant.few in omega arith);
-      reads = λ row found. (next_read row.entry.at pairs j no_pair c.loop-pair.cursor c.known_value-raw.new.cursor value row.entry.attrs c.loop-pair-test.true (c.loop-pair.invariant.reads row found) c.known_value-raw.ensures.value).rest;
+      reads = λ row found. (next_read row.entry.at pairs j no_pair c.loop-pair.cursor c.known_value-raw.new.cursor value row.entry.attrs c.loop-pair-test.true (c.loop-pair.invariant.reads row found)
+          c.known_value-raw.ensures.value).rest;
       left = λ s numbers row d tops unit name has m into. (
-          let is = (next_read row.entry.at pairs j no_pair c.loop-pair.cursor c.known_value-raw.new.cursor value row.entry.attrs c.loop-pair-test.true (c.loop-pair.invariant.reads row m.found) c.known_value-raw.ensures.value).is in
-          bind_sibling raw s tops unit name c.args.into.now row.entry.attrs j c.loop-pair.next a (any_attr (attr_binds tops unit) (node_map name d)) is c.if-pair-eq-SIBLING.true (c.loop-pair.invariant.left s numbers row d tops unit name has m into));
+          let is = (next_read row.entry.at pairs j no_pair c.loop-pair.cursor c.known_value-raw.new.cursor value row.entry.attrs c.loop-pair-test.true (c.loop-pair.invariant.reads row m.found)
+          c.known_value-raw.ensures.value).is in
+          bind_sibling raw s tops unit name c.args.into.now row.entry.attrs j c.loop-pair.next a (any_attr (attr_binds tops unit) (node_map name d)) is c.if-pair-eq-SIBLING.true
+          (c.loop-pair.invariant.left s numbers row d tops unit name has m into));
     }
 
 pub returns-then-branch : goal.returns-then-branch
@@ -53,9 +57,12 @@ returns-then-branch c = λ s numbers row d tops unit name has m into. (
     let value = raw_view c.known_value-raw.result in
     let a : RawAttr = record { at = c.loop-pair.cursor.at; end = c.known_value-raw.new.cursor.at; pair = get_or pairs j no_pair; raw = value } in
     let all = any_attr (attr_binds tops unit) (node_map name d) in
-    let is = (next_read row.entry.at pairs j no_pair c.loop-pair.cursor c.known_value-raw.new.cursor value row.entry.attrs c.loop-pair-test.true (c.loop-pair.invariant.reads row m.found) c.known_value-raw.ensures.value).is in
-    let n = bind_next raw s tops unit name c.args.into.now row.entry.attrs j c.loop-pair.next a all is c.if-pair-eq-SIBLING.false (c.loop-pair.invariant.left s numbers row d tops unit name has m into) in
-    let says : c.in_ok-value_binds.field-0 ≡ attr_binds tops unit (attr_map name (attr_with a n.v)) = c.in_ok-value_binds.ensures s a.at n.v tops unit name has (subst (λ (e : ℕ). meaning s (record { at = c.loop-pair.cursor.at; end = e; pair = get_or pairs j no_pair; raw = value }) ≡ Ok n.v) (sym c.at-end.ensures) n.means) n.first in
+    let is = (next_read row.entry.at pairs j no_pair c.loop-pair.cursor c.known_value-raw.new.cursor value row.entry.attrs c.loop-pair-test.true (c.loop-pair.invariant.reads row m.found)
+    c.known_value-raw.ensures.value).is in
+    let n = bind_next raw s tops unit name c.args.into.now row.entry.attrs j c.loop-pair.next a all is c.if-pair-eq-SIBLING.false
+    (c.loop-pair.invariant.left s numbers row d tops unit name has m into) in
+    let says : c.in_ok-value_binds.field-0 ≡ attr_binds tops unit (attr_map name (attr_with a n.v)) = c.in_ok-value_binds.ensures s a.at n.v tops unit name has
+    (subst (λ (e : ℕ). meaning s (record { at = c.loop-pair.cursor.at; end = e; pair = get_or pairs j no_pair; raw = value }) ≡ Ok n.v) (sym c.at-end.ensures) n.means) n.first in
     by_attrs s tops unit name raw c.args.i numbers row d m c.entry.result c.entry.ensures.entry true c.if-entry-eq-IMPORTED_UNIT.false
     (bind_here raw s tops unit name c.args.into.now row.entry.attrs j c.loop-pair.next a all n (sym c.if-branch.true ∙ says)))
 
@@ -68,12 +75,16 @@ loop-pair-preserved c =
     let a : RawAttr = record { at = c.loop-pair.cursor.at; end = c.known_value-raw.new.cursor.at; pair = get_or pairs j no_pair; raw = value } in
     record {
       few = (let few = c.loop-pair.invariant.few in let one = c.count_of-next.ensures.few in omega arith);
-      reads = λ row found. (next_read row.entry.at pairs j no_pair c.loop-pair.cursor c.known_value-raw.new.cursor value row.entry.attrs c.loop-pair-test.true (c.loop-pair.invariant.reads row found) c.known_value-raw.ensures.value).rest;
+      reads = λ row found. (next_read row.entry.at pairs j no_pair c.loop-pair.cursor c.known_value-raw.new.cursor value row.entry.attrs c.loop-pair-test.true (c.loop-pair.invariant.reads row found)
+          c.known_value-raw.ensures.value).rest;
       left = λ s numbers row d tops unit name has m into. (
           let all = any_attr (attr_binds tops unit) (node_map name d) in
-          let is = (next_read row.entry.at pairs j no_pair c.loop-pair.cursor c.known_value-raw.new.cursor value row.entry.attrs c.loop-pair-test.true (c.loop-pair.invariant.reads row m.found) c.known_value-raw.ensures.value).is in
-          let n = bind_next raw s tops unit name c.args.into.now row.entry.attrs j c.loop-pair.next a all is c.if-pair-eq-SIBLING.false (c.loop-pair.invariant.left s numbers row d tops unit name has m into) in
-          let says : c.in_ok-value_binds.field-0 ≡ attr_binds tops unit (attr_map name (attr_with a n.v)) = c.in_ok-value_binds.ensures s a.at n.v tops unit name has (subst (λ (e : ℕ). meaning s (record { at = c.loop-pair.cursor.at; end = e; pair = get_or pairs j no_pair; raw = value }) ≡ Ok n.v) (sym c.at-end.ensures) n.means) n.first in
+          let is = (next_read row.entry.at pairs j no_pair c.loop-pair.cursor c.known_value-raw.new.cursor value row.entry.attrs c.loop-pair-test.true (c.loop-pair.invariant.reads row m.found)
+          c.known_value-raw.ensures.value).is in
+          let n = bind_next raw s tops unit name c.args.into.now row.entry.attrs j c.loop-pair.next a all is c.if-pair-eq-SIBLING.false
+          (c.loop-pair.invariant.left s numbers row d tops unit name has m into) in
+          let says : c.in_ok-value_binds.field-0 ≡ attr_binds tops unit (attr_map name (attr_with a n.v)) = c.in_ok-value_binds.ensures s a.at n.v tops unit name has
+          (subst (λ (e : ℕ). meaning s (record { at = c.loop-pair.cursor.at; end = e; pair = get_or pairs j no_pair; raw = value }) ≡ Ok n.v) (sym c.at-end.ensures) n.means) n.first in
           let free : false ≡ attr_binds tops unit (attr_map name (attr_with a n.v)) = sym c.if-branch.false ∙ says in
           bind_more raw s tops unit name c.args.into.now row.entry.attrs j c.loop-pair.next (c.loop-pair.next + c.count_of-next.result) a all n free
           (ap (λ (k : ℕ). c.loop-pair.next + k) (c.count_of-next.ensures.count ∙ value_counts tops unit name s a n.v n.means free)));
@@ -84,4 +95,5 @@ returns c = λ s numbers row d tops unit name has m into. (
     let pairs = c.values-cursor.result.pairs.now in
     let count = reads_count row.entry.at pairs c.values-cursor.result.cursor row.entry.attrs (c.values-cursor.ensures.read row m.found) in
     by_attrs s tops unit name (units_of c.args.units.now) c.args.i numbers row d m c.entry.result c.entry.ensures.entry false c.if-entry-eq-IMPORTED_UNIT.false
-    (bind_none (units_of c.args.units.now) s tops unit name c.args.into.now row.entry.attrs c.loop-pair.pair-index c.loop-pair.next (any_attr (attr_binds tops unit) (node_map name d)) (omega (arith, count, c.loop-pair-test.false)) (c.loop-pair.invariant.left s numbers row d tops unit name has m into)))
+    (bind_none (units_of c.args.units.now) s tops unit name c.args.into.now row.entry.attrs c.loop-pair.pair-index c.loop-pair.next (any_attr (attr_binds tops unit) (node_map name d))
+    (omega (arith, count, c.loop-pair-test.false)) (c.loop-pair.invariant.left s numbers row d tops unit name has m into)))

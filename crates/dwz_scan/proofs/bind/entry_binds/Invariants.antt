@@ -14,6 +14,7 @@ abbrev pub invariant-loop-pair : goal.invariant-loop-pair
 invariant-loop-pair l = record {
   few : l.next ≤ l.pair-index;
   reads : (row : EntryRow) → slice_get (rows_of (units_of l.units)) l.i ≡ Some row → Reads row.entry.at (drop l.pair-index l.pairs) l.cursor (drop l.pair-index row.entry.attrs);
-  left : (s : Scope ℕ) (numbers : List ℕ) (row : EntryRow) (d : Node ℕ) (tops : List Top) (unit : ℕ) (name : ℕ → Spot) → HasTops tops unit l.own → IsEntryMeant (units_of l.units) s l.i numbers row d → AreInto name l.into (node_refs d)
+  left : (s : Scope ℕ) (numbers : List ℕ) (row : EntryRow) (d : Node ℕ) (tops : List Top) (unit : ℕ) (name : ℕ → Spot) → HasTops tops unit l.own → IsEntryMeant (units_of l.units) s l.i numbers row d
+      → AreInto name l.into (node_refs d)
       → BindLeft (units_of l.units) s tops unit name (drop l.pair-index row.entry.attrs) l.into l.next (any_attr (attr_binds tops unit) (node_map name d));
 }

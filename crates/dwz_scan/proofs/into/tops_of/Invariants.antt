@@ -7,5 +7,6 @@ use Rattle.dwz_scan.specs.Known.{NamesEntries, tops_of_refs}
 use Rattle.dwz_scan.proofs.into.tops_of.Given as goal
 
 abbrev pub invariant-loop-entry : goal.invariant-loop-entry
-invariant-loop-entry l = (raw : List RawUnit) (names : List Spot) (name : ℕ → Spot) → IsIndex names l.index → length l.index.steps ≡ entries_in raw → NamesEntries raw name names → AreEntries raw l.refs
+invariant-loop-entry l = (raw : List RawUnit) (names : List Spot) (name : ℕ → Spot) → IsIndex names l.index → length l.index.steps ≡ entries_in raw → NamesEntries raw name names
+    → AreEntries raw l.refs
     → l.into.items ≡ tops_of_refs name raw (take l.entry-index l.refs)

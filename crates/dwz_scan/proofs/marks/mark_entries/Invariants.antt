@@ -11,8 +11,10 @@ use Rattle.dwz_scan.proofs.marks.mark_entries.Given as goal
 
 abbrev pub invariant-loop-i : goal.invariant-loop-i
 invariant-loop-i l = record {
-  any : (s : Scope ℕ) (numbers : List ℕ) (rows after : List EntryRow) (ds : List (Node ℕ)) (name : ℕ → Spot) → AreRowsMeant (units_of l.units) s l.first l.end numbers rows after ds → EachInto name l.into l.starts l.first ds
+  any : (s : Scope ℕ) (numbers : List ℕ) (rows after : List EntryRow) (ds : List (Node ℕ)) (name : ℕ → Spot) → AreRowsMeant (units_of l.units) s l.first l.end numbers rows after ds
+      → EachInto name l.into l.starts l.first ds
       → RowsMarkLeft expression_names (units_of l.units) s name l.into l.starts l.i l.end l.fn.named.by_any.items l.named.by_any.items (rows_said expression_names name ds);
-  uleb : (s : Scope ℕ) (numbers : List ℕ) (rows after : List EntryRow) (ds : List (Node ℕ)) (name : ℕ → Spot) → AreRowsMeant (units_of l.units) s l.first l.end numbers rows after ds → EachInto name l.into l.starts l.first ds
+  uleb : (s : Scope ℕ) (numbers : List ℕ) (rows after : List EntryRow) (ds : List (Node ℕ)) (name : ℕ → Spot) → AreRowsMeant (units_of l.units) s l.first l.end numbers rows after ds
+      → EachInto name l.into l.starts l.first ds
       → RowsMarkLeft expression_pins (units_of l.units) s name l.into l.starts l.i l.end l.fn.named.by_uleb.items l.named.by_uleb.items (rows_said expression_pins name ds);
 }

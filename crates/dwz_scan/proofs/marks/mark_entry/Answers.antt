@@ -38,9 +38,11 @@ loop-pair-preserved c =
     let value = raw_view c.known_value-raw.result in
     let a : RawAttr = record { at = c.loop-pair.cursor.at; end = c.known_value-raw.new.cursor.at; pair = get_or front j no_pair; raw = value } in
     record {
-      reads = λ row found. (next_in_front row.entry.at front j c.loop-pair.cursor row.entry.attrs (c.loop-pair.invariant.reads row found) c.loop-pair-test.true c.known_value-raw.new.cursor value c.known_value-raw.ensures.value).rest;
+      reads = λ row found. (next_in_front row.entry.at front j c.loop-pair.cursor row.entry.attrs (c.loop-pair.invariant.reads row found) c.loop-pair-test.true c.known_value-raw.new.cursor value
+          c.known_value-raw.ensures.value).rest;
       any = λ s numbers row d name m into. (
-          let is = (next_in_front row.entry.at front j c.loop-pair.cursor row.entry.attrs (c.loop-pair.invariant.reads row m.found) c.loop-pair-test.true c.known_value-raw.new.cursor value c.known_value-raw.ensures.value).is in
+          let is = (next_in_front row.entry.at front j c.loop-pair.cursor row.entry.attrs (c.loop-pair.invariant.reads row m.found) c.loop-pair-test.true c.known_value-raw.new.cursor value
+          c.known_value-raw.ensures.value).is in
           let all : ℕ → Bool = λ n. any_attr (expression_names n) (node_map name d) in
           let old : List Bool = c.args.named.now.by_any.items in
           let now : List Bool = c.loop-pair.named.by_any.items in
@@ -52,14 +54,16 @@ loop-pair-preserved c =
                 mark_more expression_names raw s name row.entry.attrs j a c.loop-pair.rest.now rest old now new all is w.if-pair-ne-SIBLING.true
                 (λ v e t. subst (λ (b : List Bool). MarksIf (λ n. expression_names n (attr_map name (attr_with a v)) ≡ true) now b) (sym (λ i. (w.named-is i).by_any.items))
                 (w.in_ok-rest.ensures.any s a.at v name (subst (λ (k : ℕ). meaning s (record { at = a.at; end = k; pair = a.pair; raw = a.raw }) ≡ Ok v) (sym c.at-end.ensures) e) t))
-                (λ v e. (λ i. (w.rest-is i).now) ∙ w.in_ok-rest.ensures.rest s a.at v (subst (λ (k : ℕ). meaning s (record { at = a.at; end = k; pair = a.pair; raw = a.raw }) ≡ Ok v) (sym c.at-end.ensures) e)) h
+                (λ v e. (λ i. (w.rest-is i).now) ∙ w.in_ok-rest.ensures.rest s a.at v
+                (subst (λ (k : ℕ). meaning s (record { at = a.at; end = k; pair = a.pair; raw = a.raw }) ≡ Ok v) (sym c.at-end.ensures) e)) h
             | else-pair-ne-SIBLING w ↦
                 subst (λ (r : List (Option ℕ)). MarkLeft expression_names raw s name (drop (j + 1) row.entry.attrs) r old new all) (sym (λ i. (w.rest-is i).now))
                 (subst (λ (b : List Bool). MarkLeft expression_names raw s name (drop (j + 1) row.entry.attrs) c.loop-pair.rest.now old b all) (sym (λ i. (w.named-is i).by_any.items))
                 (mark_sibling expression_names raw s name row.entry.attrs j a c.loop-pair.rest.now old now all is w.if-pair-ne-SIBLING.false h))
           ]);
       uleb = λ s numbers row d name m into. (
-          let is = (next_in_front row.entry.at front j c.loop-pair.cursor row.entry.attrs (c.loop-pair.invariant.reads row m.found) c.loop-pair-test.true c.known_value-raw.new.cursor value c.known_value-raw.ensures.value).is in
+          let is = (next_in_front row.entry.at front j c.loop-pair.cursor row.entry.attrs (c.loop-pair.invariant.reads row m.found) c.loop-pair-test.true c.known_value-raw.new.cursor value
+          c.known_value-raw.ensures.value).is in
           let all : ℕ → Bool = λ n. any_attr (expression_pins n) (node_map name d) in
           let old : List Bool = c.args.named.now.by_uleb.items in
           let now : List Bool = c.loop-pair.named.by_uleb.items in
@@ -71,7 +75,8 @@ loop-pair-preserved c =
                 mark_more expression_pins raw s name row.entry.attrs j a c.loop-pair.rest.now rest old now new all is w.if-pair-ne-SIBLING.true
                 (λ v e t. subst (λ (b : List Bool). MarksIf (λ n. expression_pins n (attr_map name (attr_with a v)) ≡ true) now b) (sym (λ i. (w.named-is i).by_uleb.items))
                 (w.in_ok-rest.ensures.uleb s a.at v name (subst (λ (k : ℕ). meaning s (record { at = a.at; end = k; pair = a.pair; raw = a.raw }) ≡ Ok v) (sym c.at-end.ensures) e) t))
-                (λ v e. (λ i. (w.rest-is i).now) ∙ w.in_ok-rest.ensures.rest s a.at v (subst (λ (k : ℕ). meaning s (record { at = a.at; end = k; pair = a.pair; raw = a.raw }) ≡ Ok v) (sym c.at-end.ensures) e)) h
+                (λ v e. (λ i. (w.rest-is i).now) ∙ w.in_ok-rest.ensures.rest s a.at v
+                (subst (λ (k : ℕ). meaning s (record { at = a.at; end = k; pair = a.pair; raw = a.raw }) ≡ Ok v) (sym c.at-end.ensures) e)) h
             | else-pair-ne-SIBLING w ↦
                 subst (λ (r : List (Option ℕ)). MarkLeft expression_pins raw s name (drop (j + 1) row.entry.attrs) r old new all) (sym (λ i. (w.rest-is i).now))
                 (subst (λ (b : List Bool). MarkLeft expression_pins raw s name (drop (j + 1) row.entry.attrs) c.loop-pair.rest.now old b all) (sym (λ i. (w.named-is i).by_uleb.items))

@@ -15,7 +15,9 @@ abbrev pub invariant-loop-pair : goal.invariant-loop-pair
 invariant-loop-pair l = record {
   reads : (row : EntryRow) → slice_get (rows_of (units_of l.units)) l.i ≡ Some row → ReadsFront row.entry.at l.pair-items l.pair-index l.cursor row.entry.attrs;
   any : (s : Scope ℕ) (numbers : List ℕ) (row : EntryRow) (d : Node ℕ) (name : ℕ → Spot) → IsEntryMeant (units_of l.units) s l.i numbers row d → AreInto name l.into (node_refs d)
-      → MarkLeft expression_names (units_of l.units) s name (drop l.pair-index row.entry.attrs) l.rest l.fn.named.by_any.items l.named.by_any.items (λ n. any_attr (expression_names n) (node_map name d));
+      → MarkLeft expression_names (units_of l.units) s name (drop l.pair-index row.entry.attrs) l.rest l.fn.named.by_any.items l.named.by_any.items
+      (λ n. any_attr (expression_names n) (node_map name d));
   uleb : (s : Scope ℕ) (numbers : List ℕ) (row : EntryRow) (d : Node ℕ) (name : ℕ → Spot) → IsEntryMeant (units_of l.units) s l.i numbers row d → AreInto name l.into (node_refs d)
-      → MarkLeft expression_pins (units_of l.units) s name (drop l.pair-index row.entry.attrs) l.rest l.fn.named.by_uleb.items l.named.by_uleb.items (λ n. any_attr (expression_pins n) (node_map name d));
+      → MarkLeft expression_pins (units_of l.units) s name (drop l.pair-index row.entry.attrs) l.rest l.fn.named.by_uleb.items l.named.by_uleb.items
+      (λ n. any_attr (expression_pins n) (node_map name d));
 }

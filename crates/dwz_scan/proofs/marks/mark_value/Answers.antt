@@ -69,7 +69,8 @@ returns-clause-any c = λ s at v name e into. (
     let same : c.deref.result.now ≡ m.expression.operands = c.deref.ensures.value ∙ read.1 in
     let old = c.args.named.now.by_any.items in
     let new = c.mark_operands.new.marks.items in
-    marks_as (λ n. In (Some n) (asked_tops false m.expression.operands c.args.into.now)) (λ n. expression_names n (attr_map name (attr_with a v)) ≡ true) old new (λ n. names_asked s a v name m c.args.into.now n into)
+    marks_as (λ n. In (Some n) (asked_tops false m.expression.operands c.args.into.now)) (λ n. expression_names n (attr_map name (attr_with a v)) ≡ true) old new
+    (λ n. names_asked s a v name m c.args.into.now n into)
     (subst (λ (os : List Operand). Marks (asked_tops false os c.args.into.now) old new) same c.mark_operands.ensures))
 
 pub returns-clause-uleb : goal.returns-clause-uleb
@@ -81,7 +82,8 @@ returns-clause-uleb c = λ s at v name e into. (
     let same : c.deref-2.result.now ≡ m.expression.operands = c.deref-2.ensures.value ∙ read.1 in
     let old = c.args.named.now.by_uleb.items in
     let new = c.mark_operands-2.new.marks.items in
-    marks_as (λ n. In (Some n) (asked_tops true m.expression.operands c.args.into.now)) (λ n. expression_pins n (attr_map name (attr_with a v)) ≡ true) old new (λ n. pins_asked s a v name m c.args.into.now n into)
+    marks_as (λ n. In (Some n) (asked_tops true m.expression.operands c.args.into.now)) (λ n. expression_pins n (attr_map name (attr_with a v)) ≡ true) old new
+    (λ n. pins_asked s a v name m c.args.into.now n into)
     (subst (λ (os : List Operand). Marks (asked_tops true os c.args.into.now) old new) same c.mark_operands-2.ensures))
 
 pub returns-clause-rest : goal.returns-clause-rest
@@ -90,5 +92,6 @@ returns-clause-rest c = λ s at v e. (
     let yes : is_expression (class_of c.args.pair.now.form) ≡ true = ap is_expression (sym c.class_of-class.ensures) ∙ sym c.is_expression.ensures ∙ c.if-not-is_expression.false in
     let m = said_expression s a v yes e in
     let read = c.in_ok-read_expression.ensures s m.expression (reads [] 0 (λ p. UnitOf p) a v s m) in
-    let many : c.len.result ≡ length (value_refs v) = (let len = c.len.ensures in let same : length c.read_expression.new.operands.items ≡ length m.expression.operands = ap (λ (os : List Operand). length os) read.1 in let refs = refs_many s a v (λ p. UnitOf p) m in omega arith) in
+    let many : c.len.result ≡ length (value_refs v) = (let len = c.len.ensures in let same : length c.read_expression.new.operands.items ≡ length m.expression.operands =
+    ap (λ (os : List Operand). length os) read.1 in let refs = refs_many s a v (λ p. UnitOf p) m in omega arith) in
     c.behind-2.ensures ∙ ap (λ (n : ℕ). drop n c.args.into.now) many)

@@ -3,6 +3,7 @@ use Rattle.std.specs.Prelude.{slice_index}
 use Rattle.dwz_alike.specs.Alike.{any_attr}
 use Rattle.dwz_docs.specs.Trees.{End, Entry}
 use Rattle.dwz_docs.specs.Units.{RawUnit, entry_count}
+use Rattle.dwz_docs.proofs.CaseFacts.{on_ok}
 use Rattle.dwz_flat.specs.Rows.{AreRowsMeant, nodes}
 use Rattle.dwz_resolve.proofs.UnitThere.{same_unit, unit_ends, unit_there}
 use Rattle.dwz_scan.specs.Bound.{EachInto}
@@ -13,7 +14,7 @@ use Rattle.dwz_scan.specs.Known.{in_unit}
 use Rattle.dwz_scan.specs.Marked.{expression_names, expression_pins}
 use Rattle.dwz_scan.proofs.MarkLemmas.{marks_as}
 use Rattle.dwz_scan.proofs.RowMarks.{rows_said}
-use Rattle.dwz_scan.proofs.UnitSteps.{on_ok, there, unit_into, unit_meant, unit_said}
+use Rattle.dwz_scan.proofs.UnitSteps.{there, unit_into, unit_meant, unit_said}
 use Rattle.dwz_scan.proofs.scan.mark_unit.Goals as goal
 
 pub here_of-here-requires : goal.here_of-here-requires

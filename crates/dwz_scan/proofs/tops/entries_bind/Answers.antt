@@ -9,7 +9,8 @@ use Rattle.dwz_scan.proofs.TopSteps.{bind_all_rows, bind_next_row, bind_no_row}
 use Rattle.dwz_scan.proofs.tops.entries_bind.Goals as goal
 
 pub loop-i-init : goal.loop-i-init
-loop-i-init c = λ s numbers rows after ds tops unit name has m into. bind_all_rows (units_of c.args.units.now) s tops unit name c.args.into.now c.args.starts.now c.args.end c.args.first numbers rows after ds m into
+loop-i-init c = λ s numbers rows after ds tops unit name has m into. bind_all_rows (units_of c.args.units.now) s tops unit name c.args.into.now c.args.starts.now c.args.end c.args.first numbers rows
+    after ds m into
 
 pub loop-i-preserved : goal.loop-i-preserved
 loop-i-preserved c = λ s numbers rows after ds tops unit name has m into. (
@@ -28,4 +29,5 @@ returns-then-branch c = λ s numbers rows after ds tops unit name has m into. (
     n.here c.in_ok-entry_binds.field-0 says c.if-branch.true)
 
 pub returns : goal.returns
-returns c = λ s numbers rows after ds tops unit name has m into. bind_no_row (units_of c.args.units.now) s tops unit name c.args.into.now c.args.starts.now c.args.end c.loop-i.i (list_any (entry_binds tops unit) (map (node_map name) ds)) (omega (arith, c.loop-i-test.false)) (c.loop-i.invariant s numbers rows after ds tops unit name has m into)
+returns c = λ s numbers rows after ds tops unit name has m into. bind_no_row (units_of c.args.units.now) s tops unit name c.args.into.now c.args.starts.now c.args.end c.loop-i.i
+    (list_any (entry_binds tops unit) (map (node_map name) ds)) (omega (arith, c.loop-i-test.false)) (c.loop-i.invariant s numbers rows after ds tops unit name has m into)

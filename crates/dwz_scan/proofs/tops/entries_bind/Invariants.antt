@@ -11,5 +11,6 @@ use Rattle.dwz_scan.proofs.TopSteps.{RowsBindLeft}
 use Rattle.dwz_scan.proofs.tops.entries_bind.Given as goal
 
 abbrev pub invariant-loop-i : goal.invariant-loop-i
-invariant-loop-i l = (s : Scope ℕ) (numbers : List ℕ) (rows after : List EntryRow) (ds : List (Node ℕ)) (tops : List Top) (unit : ℕ) (name : ℕ → Spot) → HasTops tops unit l.own → AreRowsMeant (units_of l.units) s l.first l.end numbers rows after ds → EachInto name l.into l.starts l.first ds
+invariant-loop-i l = (s : Scope ℕ) (numbers : List ℕ) (rows after : List EntryRow) (ds : List (Node ℕ)) (tops : List Top) (unit : ℕ) (name : ℕ → Spot) → HasTops tops unit l.own
+    → AreRowsMeant (units_of l.units) s l.first l.end numbers rows after ds → EachInto name l.into l.starts l.first ds
     → RowsBindLeft (units_of l.units) s tops unit name l.into l.starts l.i l.end (list_any (entry_binds tops unit) (map (node_map name) ds))

@@ -21,7 +21,8 @@ loop-pair-init c = record {
       let raw = units_of c.args.units.now in
       let same = shown_row raw c.args.i row c.entry-entry.result m.found c.entry-entry.ensures.entry in
       let own : ℕ = if nat_lt (c.args.i + 1) row.end then 2 else 1 in
-      let is : c.own_weight-weight.result ≡ own = c.own_weight-weight.ensures ∙ (λ k. let n : ℕ = if nat_lt (c.from-2.ensures k + 1) (c.from.ensures k) then 2 else 1 in n) ∙ ap (λ (x : RawEntry). let n : ℕ = if nat_lt (c.args.i + 1) x.end then 2 else 1 in n) (sym same) in
+      let is : c.own_weight-weight.result ≡ own = c.own_weight-weight.ensures ∙ (λ k. let n : ℕ = if nat_lt (c.from-2.ensures k + 1) (c.from.ensures k) then 2 else 1 in n)
+      ∙ ap (λ (x : RawEntry). let n : ℕ = if nat_lt (c.args.i + 1) x.end then 2 else 1 in n) (sym same) in
       left_all raw s name numbers c.args.i row d c.own_weight-weight.result own m is (own_low (nat_lt (c.args.i + 1) row.end)));
 }
 
@@ -40,16 +41,20 @@ loop-pair-preserved c =
     let value = raw_view c.known_value-raw.result in
     let a : RawAttr = record { at = c.loop-pair.cursor.at; end = c.known_value-raw.new.cursor.at; pair = get_or pairs j no_pair; raw = value } in
     record {
-      reads = λ row found. (next_read row.entry.at pairs j no_pair c.loop-pair.cursor c.known_value-raw.new.cursor value row.entry.attrs c.loop-pair-test.true (c.loop-pair.invariant.reads row found) c.known_value-raw.ensures.value).rest;
+      reads = λ row found. (next_read row.entry.at pairs j no_pair c.loop-pair.cursor c.known_value-raw.new.cursor value row.entry.attrs c.loop-pair-test.true (c.loop-pair.invariant.reads row found)
+          c.known_value-raw.ensures.value).rest;
       left = λ s numbers row d name m. (
-          let is = (next_read row.entry.at pairs j no_pair c.loop-pair.cursor c.known_value-raw.new.cursor value row.entry.attrs c.loop-pair-test.true (c.loop-pair.invariant.reads row m.found) c.known_value-raw.ensures.value).is in
+          let is = (next_read row.entry.at pairs j no_pair c.loop-pair.cursor c.known_value-raw.new.cursor value row.entry.attrs c.loop-pair-test.true (c.loop-pair.invariant.reads row m.found)
+          c.known_value-raw.ensures.value).is in
           let all = node_weight (nat_lt (c.args.i + 1) row.end) (node_map name d) in
           let h = c.loop-pair.invariant.left s numbers row d name m in
           elim c.if-pair-ne-SIBLING.branch [
             | then-pair-ne-SIBLING w ↦
-                left_more raw s name row.entry.attrs j a c.loop-pair.weight w.weight_of_value.result c.if-pair-ne-SIBLING.weight all is w.if-pair-ne-SIBLING.true (λ v e. w.weight_of_value.ensures s a.at a.end v e) (w.weight-is ∙ w.added-weight.ensures) h
+                left_more raw s name row.entry.attrs j a c.loop-pair.weight w.weight_of_value.result c.if-pair-ne-SIBLING.weight all is w.if-pair-ne-SIBLING.true
+                (λ v e. w.weight_of_value.ensures s a.at a.end v e) (w.weight-is ∙ w.added-weight.ensures) h
             | else-pair-ne-SIBLING w ↦
-                subst (λ (n : ℕ). AreLeft raw s name (drop (j + 1) row.entry.attrs) n all) (sym w.weight-is) (left_sibling raw s name row.entry.attrs j a c.loop-pair.weight all is w.if-pair-ne-SIBLING.false h)
+                subst (λ (n : ℕ). AreLeft raw s name (drop (j + 1) row.entry.attrs) n all) (sym w.weight-is)
+                (left_sibling raw s name row.entry.attrs j a c.loop-pair.weight all is w.if-pair-ne-SIBLING.false h)
           ]);
     }
 
@@ -57,4 +62,5 @@ pub returns : goal.returns
 returns c = λ s numbers row d name m. (
     let pairs = c.values-cursor.result.pairs.now in
     let count = reads_count row.entry.at pairs c.values-cursor.result.cursor row.entry.attrs (c.values-cursor.ensures.read row m.found) in
-    left_none (units_of c.args.units.now) s name row.entry.attrs c.loop-pair.pair-index c.loop-pair.weight (node_weight (nat_lt (c.args.i + 1) row.end) (node_map name d)) (omega (arith, count, c.loop-pair-test.false)) (c.loop-pair.invariant.left s numbers row d name m))
+    left_none (units_of c.args.units.now) s name row.entry.attrs c.loop-pair.pair-index c.loop-pair.weight (node_weight (nat_lt (c.args.i + 1) row.end) (node_map name d))
+    (omega (arith, count, c.loop-pair-test.false)) (c.loop-pair.invariant.left s numbers row d name m))

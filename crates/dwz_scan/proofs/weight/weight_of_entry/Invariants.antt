@@ -13,5 +13,6 @@ use Rattle.dwz_scan.proofs.weight.weight_of_entry.Given as goal
 abbrev pub invariant-loop-pair : goal.invariant-loop-pair
 invariant-loop-pair l = record {
   reads : (row : EntryRow) → slice_get (rows_of (units_of l.units)) l.i ≡ Some row → Reads row.entry.at (drop l.pair-index l.pairs) l.cursor (drop l.pair-index row.entry.attrs);
-  left : (s : Scope ℕ) (numbers : List ℕ) (row : EntryRow) (d : Node ℕ) (name : ℕ → Spot) → IsEntryMeant (units_of l.units) s l.i numbers row d → AreLeft (units_of l.units) s name (drop l.pair-index row.entry.attrs) l.weight (node_weight (nat_lt (l.i + 1) row.end) (node_map name d));
+  left : (s : Scope ℕ) (numbers : List ℕ) (row : EntryRow) (d : Node ℕ) (name : ℕ → Spot) → IsEntryMeant (units_of l.units) s l.i numbers row d
+      → AreLeft (units_of l.units) s name (drop l.pair-index row.entry.attrs) l.weight (node_weight (nat_lt (l.i + 1) row.end) (node_map name d));
 }

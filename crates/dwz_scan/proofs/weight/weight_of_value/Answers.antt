@@ -15,12 +15,14 @@ overflow_cast-pair c = let low = form_fits c.args.pair.now.form (raw_view c.args
 
 pub returns-in-Some : goal.returns-in-Some
 returns-in-Some c = λ s at end v e. (
-    let set : Some c.in-Some.weight ≡ set_weight (class_of c.args.pair.now.form) (names_file c.args.pair.now.name) = sym c.in-Some.is ∙ c.set_weight.ensures ∙ (λ i. set_weight (c.class_of.ensures i) (c.names_file.ensures i)) in
+    let set : Some c.in-Some.weight ≡ set_weight (class_of c.args.pair.now.form) (names_file c.args.pair.now.name) = sym c.in-Some.is ∙ c.set_weight.ensures
+    ∙ (λ i. set_weight (c.class_of.ensures i) (c.names_file.ensures i)) in
     ap (λ (o : Option ℕ). weight_or o (length (value_bytes c.args.pair.now.form (raw_view c.args.raw.now)))) set
     ∙ value_weighs s (stored at end c.args.pair.now c.args.raw.now) v c.if-pair-eq-STRING.false c.requires e)
 
 pub returns-in-None : goal.returns-in-None
 returns-in-None c = λ s at end v e. (
-    let set : None ≡ set_weight (class_of c.args.pair.now.form) (names_file c.args.pair.now.name) = sym c.in-None.is ∙ c.set_weight.ensures ∙ (λ i. set_weight (c.class_of.ensures i) (c.names_file.ensures i)) in
+    let set : None ≡ set_weight (class_of c.args.pair.now.form) (names_file c.args.pair.now.name) = sym c.in-None.is ∙ c.set_weight.ensures
+    ∙ (λ i. set_weight (c.class_of.ensures i) (c.names_file.ensures i)) in
     c.size_of_value.ensures ∙ ap (λ (o : Option ℕ). weight_or o (length (value_bytes c.args.pair.now.form (raw_view c.args.raw.now)))) set
     ∙ value_weighs s (stored at end c.args.pair.now c.args.raw.now) v c.if-pair-eq-STRING.false c.requires e)

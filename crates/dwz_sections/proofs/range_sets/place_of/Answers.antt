@@ -1,6 +1,7 @@
 use Rattle.std.proofs.Common.{Ok, Err}
 use Rattle.std.proofs.lemmas.List.Sorted.{searched}
-use Rattle.dwz_sections.proofs.RangeSetLemmas.{found_beside, none_beside, rising}
+use Rattle.dwz_strs.proofs.MovedLemmas.{rising}
+use Rattle.dwz_sections.proofs.RangeSetLemmas.{found_beside, none_beside}
 use Rattle.dwz_sections.proofs.range_sets.place_of.Goals as goal
 
 pub returns-in-Ok : goal.returns-in-Ok

@@ -1,8 +1,8 @@
 use Rattle.std.proofs.Common.{◌<◌, ◌^◌, List, ap, arith, get_or, subst, sym, take, ◌∙◌, ℕ}
 use Rattle.std.proofs.lemmas.List.{length-drop}
 use Rattle.dwz_bytes.specs.Spelling.{le_value}
+use Rattle.dwz_docs.proofs.ListFacts.{whole_rest}
 use Rattle.dwz_writing.specs.Pruned.{AreNewSlots}
-use Rattle.dwz_strs.proofs.FirstLemmas.{whole_rest}
 use Rattle.dwz_sections.specs.Slots.{moved_or_same}
 use Rattle.dwz_sections.proofs.SlotLemmas.{Stand, end_of, none_done, slot_step, slots_done, stand}
 use Rattle.dwz_sections.proofs.slot_numbers.offsets.Goals as goal

@@ -1,14 +1,15 @@
 use Rattle.std.proofs.Common.{◌≡◌, ◌+◌, ◌<◌, ◌∷◌, [], ℕ, List, Some, length, get_or, slice_get, sym, ap, ◌∙◌, arith}
 use Rattle.std.proofs.lemmas.List.{length-append}
 use Rattle.std.proofs.lemmas.Option.{slice_get-get_or}
+use Rattle.dwz_docs.proofs.ListFacts.{got_there}
 use Rattle.dwz_index.specs.declared.index.SpaceEntry.{SpaceEntry}
+use Rattle.dwz_index.proofs.RowUnits.{unit_within}
 use Rattle.dwz_resolve.specs.Resolved.{around}
 use Rattle.dwz_resolve.proofs.RowLemmas.{entry_row}
 use Rattle.dwz_unit.specs.declared.rows.RawEntry.{RawEntry}
 use Rattle.dwz_unit.specs.Rows.{units_of}
-use Rattle.dwz_across.proofs.ListGets.{get_there}
 use Rattle.dwz_spaces.specs.Names.{look}
-use Rattle.dwz_spaces.proofs.FileTexts.{name_read, unit_shown, unit_within}
+use Rattle.dwz_spaces.proofs.FileTexts.{name_read, unit_shown}
 use Rattle.dwz_spaces.proofs.TextNumbers.{numbered_next}
 use Rattle.dwz_spaces.proofs.names.put_texts.Goals as goal
 
@@ -43,7 +44,7 @@ loop-space-preserved c =
     let r = entry_row raw x.entry c.entry-unit.result c.entry-unit.ensures.entry in
     let lt = unit_within raw x.entry r.0 r.1 in
     let unit = ap (λ (w : RawEntry). w.unit) r.2 in
-    let u = get_there raw c.entry-unit.result.unit (omega arith) in
+    let u = got_there raw c.entry-unit.result.unit (omega arith) in
     let put = c.in_ok-push.ensures.items in
     let new : c.len-new.result ≡ length texts = omega arith in
     record {
@@ -51,7 +52,9 @@ loop-space-preserved c =
       was = (u.0, c.here_for-here.ensures u.0 c.loop-space.invariant.was u.1);
       numbers = λ names reads h. (
           let named = reads j x got in
-          let here = c.here_for-here.ensures named.u c.loop-space.invariant.was (ap (slice_get raw) (sym (unit_shown raw x.entry named.row c.entry-unit.result named.found c.entry-unit.ensures.entry)) ∙ named.is_unit) in
+          let here = c.here_for-here.ensures named.u c.loop-space.invariant.was (ap (slice_get raw) (sym (unit_shown raw x.entry named.row c.entry-unit.result named.found c.entry-unit.ensures.entry))
+          ∙ named.is_unit) in
           let text = name_read c.args.sections.now raw x.entry (names (length old + j)) c.here_for-here.result named here c.name_of-text.result.now c.name_of-text.ensures in
-          numbered_next names texts c.push.new.self.items (look c.loop-space.seen) (look c.number_of.new.seen) c.name_of-text.result.now c.len-new.result (length old + j) c.in_ok-number.number (c.loop-space.invariant.numbers names reads h) new (sym c.loop-space.invariant.len) text c.in_ok-number.ensures put);
+          numbered_next names texts c.push.new.self.items (look c.loop-space.seen) (look c.number_of.new.seen) c.name_of-text.result.now c.len-new.result (length old + j) c.in_ok-number.number
+          (c.loop-space.invariant.numbers names reads h) new (sym c.loop-space.invariant.len) text c.in_ok-number.ensures put);
     }

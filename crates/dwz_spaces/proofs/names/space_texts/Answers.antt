@@ -100,4 +100,5 @@ returns-clause-few c = spaces_few c.args.graph.now c.files-file-items.result.now
 
 pub returns-clause-numbers : goal.returns-clause-numbers
 returns-clause-numbers c =
-    all_numbered (said_of (units_of (docs_of c.args.graph.now))) (all_spaces c.args.indexes.now) c.loop-number.texts.items (look c.loop-number.seen) (returns-clause-len c) c.loop-number.invariant.numbers
+    all_numbered (said_of (units_of (docs_of c.args.graph.now))) (all_spaces c.args.indexes.now) c.loop-number.texts.items (look c.loop-number.seen) (returns-clause-len c)
+    c.loop-number.invariant.numbers

@@ -26,4 +26,5 @@ returns c = λ contents k bytes spots is apart many. (
     let mid = c.in_ok-pin_units.ensures (around_of bytes raw) f.resolved.refs.items (numbered spots name) doc.units know (units_mean contents k bytes f x is) in
     let rows = c.as_slice-6.result.now in
     let lists = subst (λ (w : List (Option ℕ)). Marks (list_spaces w rows) c.pin_units.new.named.by_uleb.items c.pin_lists.new.flags.items) c.as_slice-5.ensures.value c.pin_lists.ensures in
-    file_pins contents k bytes f x is spots apart numbers long are rows c.as_slice-6.ensures.value c.args.named.now.by_uleb.items c.pin_units.new.named.by_uleb.items c.pin_lists.new.flags.items many mid lists)
+    file_pins contents k bytes f x is spots apart numbers long are rows c.as_slice-6.ensures.value c.args.named.now.by_uleb.items c.pin_units.new.named.by_uleb.items c.pin_lists.new.flags.items many
+    mid lists)

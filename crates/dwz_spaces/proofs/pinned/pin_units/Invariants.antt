@@ -9,5 +9,6 @@ use Rattle.dwz_marks.proofs.MarkSteps.{InUnits}
 use Rattle.dwz_spaces.proofs.pinned.pin_units.Given as goal
 
 abbrev pub invariant-loop-n : goal.invariant-loop-n
-invariant-loop-n l = (around : Around ℕ) (refs : List ℕ) (name : ℕ → Spot) (said : List (DwUnit ℕ)) → KnowsRefs around (units_of l.units) name refs l.starts l.into → (means : units_meaning around (units_of l.units) ≡ Ok said)
+invariant-loop-n l = (around : Around ℕ) (refs : List ℕ) (name : ℕ → Spot) (said : List (DwUnit ℕ)) → KnowsRefs around (units_of l.units) name refs l.starts l.into
+    → (means : units_meaning around (units_of l.units) ≡ Ok said)
     → MarksIf (InUnits around (units_of l.units) said means name expression_pins l.n) l.fn.named.by_uleb.items l.named.by_uleb.items

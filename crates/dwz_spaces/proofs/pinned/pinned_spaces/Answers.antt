@@ -12,8 +12,10 @@ bounds-indexes-number c = below c.args.graph.now c.files-file-items.result.now c
 
 pub pin_file-requires : goal.pin_file-requires
 pin_file-requires c = record {
-  few = few c.args.graph.now c.files-file-items.result.now c.args.indexes.now c.loop-number.number c.file-item.result c.index-indexes-number.result c.files-file-items.ensures c.requires c.loop-number-test.true c.file-item.is c.index-indexes-number.is;
-  room = room_of c.args.graph.now c.files-file-items.result.now c.args.indexes.now c.loop-number.number c.file-item.result c.index-indexes-number.result c.files-file-items.ensures c.requires c.loop-number-test.true c.file-item.is c.index-indexes-number.is;
+  few = few c.args.graph.now c.files-file-items.result.now c.args.indexes.now c.loop-number.number c.file-item.result c.index-indexes-number.result c.files-file-items.ensures c.requires
+      c.loop-number-test.true c.file-item.is c.index-indexes-number.is;
+  room = room_of c.args.graph.now c.files-file-items.result.now c.args.indexes.now c.loop-number.number c.file-item.result c.index-indexes-number.result c.files-file-items.ensures c.requires
+      c.loop-number-test.true c.file-item.is c.index-indexes-number.is;
 }
 
 pub loop-number-preserved : goal.loop-number-preserved
@@ -26,7 +28,8 @@ loop-number-preserved c = (
     let x = c.index-indexes-number.result in
     let got_f = got_file contents files indexes k f x c.files-file-items.ensures c.requires c.loop-number-test.true c.file-item.is c.index-indexes-number.is in
     let got_x = got_index_of contents files indexes k f x c.files-file-items.ensures c.requires c.loop-number-test.true c.file-item.is c.index-indexes-number.is in
-    pins_next contents files indexes c.files-file-items.ensures c.requires k f x got_f got_x c.loop-number.named.by_uleb.items c.pin_file.new.named.by_uleb.items c.loop-number.invariant c.in_ok-pin_file.ensures)
+    pins_next contents files indexes c.files-file-items.ensures c.requires k f x got_f got_x c.loop-number.named.by_uleb.items c.pin_file.new.named.by_uleb.items c.loop-number.invariant
+    c.in_ok-pin_file.ensures)
 
 pub returns : goal.returns
 returns c = (

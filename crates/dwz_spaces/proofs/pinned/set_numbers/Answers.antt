@@ -20,7 +20,11 @@ loop-k-preserved c =
     let got : slice_get spaces k ≡ Some x = slice_get-get_or spaces k no_entry within in
     elim c.if-space-len.branch [
       | then-space-len w ↦ (let low : x.entry < length items = omega (arith, w.if-space-len.true) in
-          rw w.numbers-is (record { len = length-set items x.entry (Some (first + k)) ∙ c.loop-k.invariant.len; set = λ none. set_more first spaces k items x got (c.loop-k.invariant.set none) (first + k) refl low }))
+          rw w.numbers-is (record {
+            len = length-set items x.entry (Some (first + k)) ∙ c.loop-k.invariant.len;
+            set = λ none. set_more first spaces k items x got (c.loop-k.invariant.set none)
+                (first + k) refl low;
+          }))
       | else-space-len w ↦ (let high : length items ≤ x.entry = omega (arith, w.if-space-len.false) in
           rw w.numbers-is (record { len = c.loop-k.invariant.len; set = λ none. set_none first spaces k items x got (c.loop-k.invariant.set none) high }))
     ]

@@ -24,4 +24,5 @@ returns c =
     let xs = c.args.indexes.now in
     all_known (docs_of c.args.graph.now) xs c.requires _ c.in_ok-texts.texts.items c.in_ok-lists.lists.items c.in_ok-rows.ensures
     (c.in_ok-of_tops.ensures ∙ ap (λ (w : List ℕ). map (spaces_at w) (all_tops xs)) c.as_slice-3.ensures.value) c.in_ok-texts.ensures.few c.in_ok-texts.ensures.numbers
-    (subst (λ (w : List ℕ). AreLists c.in_ok-rows.rows.items w c.in_ok-lists.lists.items) c.as_slice-2.ensures.value (subst (λ (w : List SpaceRow). AreLists w c.as_slice-2.result.now c.in_ok-lists.lists.items) c.as_slice.ensures.value c.in_ok-lists.ensures))
+    (subst (λ (w : List ℕ). AreLists c.in_ok-rows.rows.items w c.in_ok-lists.lists.items) c.as_slice-2.ensures.value
+    (subst (λ (w : List SpaceRow). AreLists w c.as_slice-2.result.now c.in_ok-lists.lists.items) c.as_slice.ensures.value c.in_ok-lists.ensures))

@@ -9,7 +9,8 @@ pub loop-n-preserved : goal.loop-n-preserved
 loop-n-preserved c =
     let Is : List ℕ → Type 0 = λ work. (m : ℕ) → (In m work → IsMarked c.args.marks.now m × (m < c.loop-n.n + 1)) × (IsMarked c.args.marks.now m × (m < c.loop-n.n + 1) → In m work) in
     elim c.if-mark.branch [
-      | then-mark+in_ok-push w ↦ subst Is (sym (ap (λ (v : Vec ℕ Global). v.items) w.work-is ∙ w.in_ok-push.ensures.items)) (found_more c.args.marks.now c.loop-n.n c.loop-n.work.items (omega arith) w.if-mark.true c.loop-n.invariant)
+      | then-mark+in_ok-push w ↦ subst Is (sym (ap (λ (v : Vec ℕ Global). v.items) w.work-is ∙ w.in_ok-push.ensures.items))
+          (found_more c.args.marks.now c.loop-n.n c.loop-n.work.items (omega arith) w.if-mark.true c.loop-n.invariant)
       | else-mark w ↦ subst Is (sym (ap (λ (v : Vec ℕ Global). v.items) w.work-is)) (found_skip c.args.marks.now c.loop-n.n c.loop-n.work.items w.if-mark.false c.loop-n.invariant)
     ]
 

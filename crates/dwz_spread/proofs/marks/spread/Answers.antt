@@ -28,11 +28,13 @@ work-preserved c =
     (subst (λ (bs : List Bool). Marks c.get.result.now bs c.pop.new.self.items c.mark.new.marks c.mark.new.work.items) e c.in_ok-mark.ensures) in
     let len = m.len in
     subst (λ (bs : List Bool). Spreading c.args.sources.now c.args.seeds.now bs c.mark.new.work.items) (sym (with_items_is c.work.marks c.mark.new.marks (omega arith)))
-    (spreading_step c.args.sources.now c.args.seeds.now c.work.marks.items c.work.work.items c.pop.new.self.items c.in-Some.n c.mark.new.marks c.mark.new.work.items c.in-Some.ensures.items c.work.invariant m)
+    (spreading_step c.args.sources.now c.args.seeds.now c.work.marks.items c.work.work.items c.pop.new.self.items c.in-Some.n c.mark.new.marks c.mark.new.work.items c.in-Some.ensures.items
+    c.work.invariant m)
 
 nil_of : (xs : List ℕ) → length xs ≡ 0 → xs ≡ []
 nil_of [] e = refl
 nil_of (x ∷ xs) e = absurd (omega arith)
 
 pub returns : goal.returns
-returns c = spreading_done c.args.sources.now c.args.seeds.now c.work.marks.items (subst (λ (xs : List ℕ). Spreading c.args.sources.now c.args.seeds.now c.work.marks.items xs) (nil_of c.work.work.items (let e = c.in_default.ensures.cases in omega arith)) c.work.invariant)
+returns c = spreading_done c.args.sources.now c.args.seeds.now c.work.marks.items
+    (subst (λ (xs : List ℕ). Spreading c.args.sources.now c.args.seeds.now c.work.marks.items xs) (nil_of c.work.work.items (let e = c.in_default.ensures.cases in omega arith)) c.work.invariant)

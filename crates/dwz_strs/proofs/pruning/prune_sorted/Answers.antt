@@ -9,38 +9,44 @@ loop-used-init c = rw (c.new-bytes.ensures.items, c.new-numbers.ensures.items) (
 
 pub slice_bounds-extend_from_slice-count : goal.slice_bounds-extend_from_slice-count
 slice_bounds-extend_from_slice-count c =
-    let b = bounds_at c.args.section.now c.deref-used-items.result.now c.args.uses.items c.loop-used.used-index c.loop-used.end c.loop-used.bytes.items c.loop-used.numbers.items c.deref-used-items.ensures.value
+    let b = bounds_at c.args.section.now c.deref-used-items.result.now c.args.uses.items c.loop-used.used-index c.loop-used.end c.loop-used.bytes.items c.loop-used.numbers.items
+    c.deref-used-items.ensures.value
     c.requires.rises c.requires.texts c.loop-used.invariant c.loop-used-test.true c.end_behind-next.result c.max.result c.end_behind-next.ensures c.max.ensures in
     omega (arith, b.0)
 
 pub slice_bounds-extend_from_slice-start : goal.slice_bounds-extend_from_slice-start
 slice_bounds-extend_from_slice-start c =
-    let b = bounds_at c.args.section.now c.deref-used-items.result.now c.args.uses.items c.loop-used.used-index c.loop-used.end c.loop-used.bytes.items c.loop-used.numbers.items c.deref-used-items.ensures.value
+    let b = bounds_at c.args.section.now c.deref-used-items.result.now c.args.uses.items c.loop-used.used-index c.loop-used.end c.loop-used.bytes.items c.loop-used.numbers.items
+    c.deref-used-items.ensures.value
     c.requires.rises c.requires.texts c.loop-used.invariant c.loop-used-test.true c.end_behind-next.result c.max.result c.end_behind-next.ensures c.max.ensures in
     omega (arith, b.0, b.1)
 
 pub slice_bounds-extend_from_slice-end : goal.slice_bounds-extend_from_slice-end
 slice_bounds-extend_from_slice-end c =
-    let b = bounds_at c.args.section.now c.deref-used-items.result.now c.args.uses.items c.loop-used.used-index c.loop-used.end c.loop-used.bytes.items c.loop-used.numbers.items c.deref-used-items.ensures.value
+    let b = bounds_at c.args.section.now c.deref-used-items.result.now c.args.uses.items c.loop-used.used-index c.loop-used.end c.loop-used.bytes.items c.loop-used.numbers.items
+    c.deref-used-items.ensures.value
     c.requires.rises c.requires.texts c.loop-used.invariant c.loop-used-test.true c.end_behind-next.result c.max.result c.end_behind-next.ensures c.max.ensures in
     b.1
 
 pub overflow_sub-next : goal.overflow_sub-next
 overflow_sub-next c =
-    let b = bounds_at c.args.section.now c.deref-used-items.result.now c.args.uses.items c.loop-used.used-index c.loop-used.end c.loop-used.bytes.items c.loop-used.numbers.items c.deref-used-items.ensures.value
+    let b = bounds_at c.args.section.now c.deref-used-items.result.now c.args.uses.items c.loop-used.used-index c.loop-used.end c.loop-used.bytes.items c.loop-used.numbers.items
+    c.deref-used-items.ensures.value
     c.requires.rises c.requires.texts c.loop-used.invariant c.loop-used-test.true c.end_behind-next.result c.max.result c.end_behind-next.ensures c.max.ensures in
     b.2
 
 pub overflow_sub-len : goal.overflow_sub-len
 overflow_sub-len c =
-    let n = counted_at c.args.section.now c.deref-used-items.result.now c.args.uses.items c.loop-used.used-index c.loop-used.end c.loop-used.bytes.items c.loop-used.numbers.items c.deref-used-items.ensures.value
+    let n = counted_at c.args.section.now c.deref-used-items.result.now c.args.uses.items c.loop-used.used-index c.loop-used.end c.loop-used.bytes.items c.loop-used.numbers.items
+    c.deref-used-items.ensures.value
     c.requires.rises c.requires.texts c.loop-used.invariant c.loop-used-test.true c.end_behind-next.result c.max.result c.end_behind-next.ensures c.max.ensures
     c.extend_from_slice.new.self.items c.in_ok-extend_from_slice.ensures.items in
     omega (arith, n.0, c.len.ensures, c.extend_from_slice.new.self.ok.0)
 
 pub overflow_cast-len : goal.overflow_cast-len
 overflow_cast-len c =
-    let n = counted_at c.args.section.now c.deref-used-items.result.now c.args.uses.items c.loop-used.used-index c.loop-used.end c.loop-used.bytes.items c.loop-used.numbers.items c.deref-used-items.ensures.value
+    let n = counted_at c.args.section.now c.deref-used-items.result.now c.args.uses.items c.loop-used.used-index c.loop-used.end c.loop-used.bytes.items c.loop-used.numbers.items
+    c.deref-used-items.ensures.value
     c.requires.rises c.requires.texts c.loop-used.invariant c.loop-used-test.true c.end_behind-next.result c.max.result c.end_behind-next.ensures c.max.ensures
     c.extend_from_slice.new.self.items c.in_ok-extend_from_slice.ensures.items in
     omega (arith, n.1, c.len.ensures, c.extend_from_slice.new.self.ok.0, c.type_inv.used-items c.loop-used.used-index)
@@ -58,7 +64,8 @@ new-requires c =
     let uses = c.deref-used-items.result.now in
     let rises : IsStrictlyIncreasing uses = subst IsStrictlyIncreasing (sym c.deref-used-items.ensures.value) c.requires.rises in
     subst (λ (us : List ℕ). RisesAlong us c.loop-used.numbers.items) c.deref-used-items.ensures.value
-    (rises_along c.args.section.now uses c.loop-used.used-index c.loop-used.end c.loop-used.bytes.items c.loop-used.numbers.items c.loop-used.invariant rises c.loop-used-test.false c.loop-used.auto.used-index-end)
+    (rises_along c.args.section.now uses c.loop-used.used-index c.loop-used.end c.loop-used.bytes.items c.loop-used.numbers.items c.loop-used.invariant rises c.loop-used-test.false
+    c.loop-used.auto.used-index-end)
 
 pub returns : goal.returns
 returns c =
@@ -66,4 +73,5 @@ returns c =
     let rises : IsStrictlyIncreasing uses = subst IsStrictlyIncreasing (sym c.deref-used-items.ensures.value) c.requires.rises in
     subst (λ (p : Pruning). IsPruned c.args.section.now c.args.uses.items p) (sym c.new.ensures)
     (subst (λ (us : List ℕ). IsPruned c.args.section.now us (pruning c.loop-used.bytes.items us c.loop-used.numbers.items)) c.deref-used-items.ensures.value
-    (all_pruned c.args.section.now uses c.loop-used.used-index c.loop-used.end c.loop-used.bytes.items c.loop-used.numbers.items c.loop-used.invariant rises c.loop-used-test.false c.loop-used.auto.used-index-end))
+    (all_pruned c.args.section.now uses c.loop-used.used-index c.loop-used.end c.loop-used.bytes.items c.loop-used.numbers.items c.loop-used.invariant rises c.loop-used-test.false
+    c.loop-used.auto.used-index-end))

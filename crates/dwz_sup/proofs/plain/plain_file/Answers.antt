@@ -46,8 +46,10 @@ returns c =
     let names : c.len.result ≡ length c.in_ok-names.names.items = c.len.ensures ∙ c.in_ok-names.names.ok.0 in
     let end : 64 + c.contents_len-names_at.result + c.len.result ≡ plain_end sections = omega (arith, contents, names, ap length c.in_ok-names.ensures) in
     let at : c.next_multiple_of-headers_at.result ≡ plain_headers_at sections = c.next_multiple_of-headers_at.ensures.value ∙ ap (λ (n : ℕ). next_multiple_of n 8) end in
-    let name : c.len-2.result - 9 - 1 ≡ 1 + length (section_names sections) = omega (arith, c.len-2.ensures, c.in_ok-names.names.ok.0, name_of_names sections c.in_ok-names.names.items c.in_ok-names.ensures) in
-    file_written c.args.machine c.args.flags sections c.next_multiple_of-headers_at.result (length c.args.sections.now + 2) _ (c.len-2.result - 9 - 1) (64 + c.contents_len-names_at.result) c.len-3.result
+    let name : c.len-2.result - 9 - 1 ≡ 1 + length (section_names sections) =
+    omega (arith, c.len-2.ensures, c.in_ok-names.names.ok.0, name_of_names sections c.in_ok-names.names.items c.in_ok-names.ensures) in
+    file_written c.args.machine c.args.flags sections c.next_multiple_of-headers_at.result (length c.args.sections.now + 2) _ (c.len-2.result - 9 - 1) (64 + c.contents_len-names_at.result)
+    c.len-3.result
     c.deref.result.now
     (record {
       headers_at = at;
@@ -59,4 +61,5 @@ returns c =
       size = c.len-3.ensures ∙ c.in_ok-names.names.ok.0 ∙ ap length c.in_ok-names.ensures;
     })
     c.in_ok-out.out.items c.put_front.new.out.items c.put_contents.new.out.items c.extend_from_slice.new.self.items c.put_zeros.new.out.items c.put_headers.new.out.items c.put_header.new.out.items
-    c.in_ok-out.ensures.items c.in_ok-put_front.ensures c.in_ok-put_contents.ensures c.in_ok-extend_from_slice.ensures.items c.in_ok-put_zeros.ensures c.in_ok-put_headers.ensures c.in_ok-put_header.ensures
+    c.in_ok-out.ensures.items c.in_ok-put_front.ensures c.in_ok-put_contents.ensures c.in_ok-extend_from_slice.ensures.items c.in_ok-put_zeros.ensures c.in_ok-put_headers.ensures
+    c.in_ok-put_header.ensures

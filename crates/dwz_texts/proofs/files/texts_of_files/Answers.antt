@@ -1,7 +1,7 @@
 use Rattle.std.proofs.Common.{◌∙◌, Global, List, Vec, map, ap, arith}
 use Rattle.std.proofs.lemmas.List.{take_all}
+use Rattle.dwz_docs.proofs.ListFacts.{item_got}
 use Rattle.dwz_graph.specs.declared.file.File.{File}
-use Rattle.dwz_across.proofs.ListGets.{item_got}
 use Rattle.dwz_places.specs.declared.known.TextAt.{TextAt}
 use Rattle.dwz_texts.specs.Files.{texts_in_file}
 use Rattle.dwz_texts.proofs.TextSteps.{maps_push}
@@ -15,7 +15,8 @@ loop-file-preserved c =
     let files = c.args.files.now in
     let k = c.loop-file.file-index in
     let f = c.file-item.result in
-    maps_push texts_in_file shown files k f c.loop-file.all.items c.push.new.self.items c.in_ok-texts.texts (item_got files k f c.loop-file-test.true c.file-item.is) c.loop-file.invariant c.in_ok-texts.ensures
+    maps_push texts_in_file shown files k f c.loop-file.all.items c.push.new.self.items c.in_ok-texts.texts (item_got files k f c.loop-file-test.true c.file-item.is) c.loop-file.invariant
+    c.in_ok-texts.ensures
     c.in_ok-push.ensures.items
 
 pub returns : goal.returns

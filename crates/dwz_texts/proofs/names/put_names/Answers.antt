@@ -5,9 +5,10 @@ use Rattle.dwz_unit.specs.Rows.{EntryRow, rows_of, units_of}
 use Rattle.dwz_resolve.specs.Resolved.{around}
 use Rattle.dwz_resolve.proofs.RowLemmas.{row_there}
 use Rattle.dwz_index.specs.declared.index.SpaceEntry.{SpaceEntry}
+use Rattle.dwz_index.proofs.RowUnits.{unit_within}
 use Rattle.dwz_texts.specs.Names.{name_by_row, named_text}
 use Rattle.dwz_texts.specs.Texts.{slots_base_at}
-use Rattle.dwz_texts.proofs.RowUnits.{base_there, bases_many, shown_unit, unit_within}
+use Rattle.dwz_texts.proofs.RowUnits.{base_there, bases_many, shown_unit}
 use Rattle.dwz_texts.proofs.TextSteps.{map_all, map_push}
 use Rattle.dwz_texts.proofs.names.put_names.Goals as goal
 

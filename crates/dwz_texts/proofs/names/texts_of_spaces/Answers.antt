@@ -1,9 +1,9 @@
 use Rattle.std.proofs.Common.{◌≡◌, ◌≤◌, ◌++◌, ◌∙◌, length, sym, arith}
+use Rattle.dwz_docs.proofs.ListFacts.{item_got}
 use Rattle.dwz_unit.specs.Rows.{units_of}
 use Rattle.dwz_resolve.specs.Resolved.{around}
 use Rattle.dwz_across.proofs.FileCounts.{are_many}
 use Rattle.dwz_across.proofs.FileWalk.{is_among}
-use Rattle.dwz_across.proofs.ListGets.{item_got}
 use Rattle.dwz_texts.specs.Names.{names_of_spaces}
 use Rattle.dwz_texts.proofs.NameSteps.{have_names, names_all, names_more}
 use Rattle.dwz_texts.proofs.SpaceEntries.{spaces_within}

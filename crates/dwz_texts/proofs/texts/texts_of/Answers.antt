@@ -2,8 +2,9 @@ use Rattle.std.proofs.Common.{◌≡◌, ◌++◌, ◌∙◌, ap, sym, arith}
 use Rattle.dwz_unit.specs.Rows.{rows_of, units_of}
 use Rattle.dwz_resolve.specs.Resolved.{around}
 use Rattle.dwz_resolve.proofs.RowLemmas.{row_there, rows-length}
+use Rattle.dwz_index.proofs.RowUnits.{unit_within}
 use Rattle.dwz_texts.specs.Texts.{own_texts, row_texts, slots_base_at}
-use Rattle.dwz_texts.proofs.RowUnits.{base_there, bases_many, shown_unit, unit_within}
+use Rattle.dwz_texts.proofs.RowUnits.{base_there, bases_many, shown_unit}
 use Rattle.dwz_texts.proofs.TextSteps.{flat_all, flat_more}
 use Rattle.dwz_texts.proofs.texts.texts_of.Goals as goal
 

@@ -1,7 +1,7 @@
 use Rattle.std.proofs.Common.{◌∙◌, ap, arith, get_or, ℕ}
 use Rattle.std.proofs.lemmas.List.{length-drop}
 use Rattle.dwz_bytes.specs.Spelling.{le_bytes}
-use Rattle.dwz_strs.proofs.FirstLemmas.{whole_rest}
+use Rattle.dwz_docs.proofs.ListFacts.{whole_rest}
 use Rattle.dwz_writing.specs.Pruned.{number_in_slot}
 use Rattle.dwz_sections.specs.Slots.{moved_or_same}
 use Rattle.dwz_sections.proofs.SlotLemmas.{end_of, stand}

@@ -1,7 +1,7 @@
 use Rattle.std.proofs.Common.{◌≡◌, ◌++◌, ◌∙◌, List, ap, arith, get_or, is_some, sym, ℕ}
 use Rattle.std.proofs.lemmas.List.{length-drop}
 use Rattle.dwz_docs.specs.Texts.{text_at}
-use Rattle.dwz_strs.proofs.FirstLemmas.{whole_rest}
+use Rattle.dwz_docs.proofs.ListFacts.{whole_rest}
 use Rattle.dwz_writing.specs.Pruned.{slot_uses}
 use Rattle.dwz_sections.proofs.SlotLemmas.{end_of, stand}
 use Rattle.dwz_uses.proofs.SlotSteps.{front_is, slot_named, slot_other, slots_end}
@@ -36,7 +36,8 @@ loop-place-preserved c =
     let all = c.args.uses.now.items ++ slot_uses strs offsets places in
     elim c.if-names_text.branch [
       | then-names_text+in_ok-push w ↦ rw w.uses-is
-          (slot_named strs offsets places i number c.loop-place.uses.items all c.loop-place-test.true is w.push.new.self.items (sym named ∙ w.if-names_text.true) w.in_ok-push.ensures.items c.loop-place.invariant)
+          (slot_named strs offsets places i number c.loop-place.uses.items all c.loop-place-test.true is w.push.new.self.items (sym named ∙ w.if-names_text.true) w.in_ok-push.ensures.items
+          c.loop-place.invariant)
       | else-names_text w ↦ rw w.uses-is (slot_other strs offsets places i number c.loop-place.uses.items all c.loop-place-test.true is (sym named ∙ w.if-names_text.false) c.loop-place.invariant)
     ]
 

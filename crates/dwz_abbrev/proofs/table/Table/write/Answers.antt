@@ -9,7 +9,7 @@ spelled : (table : List Declaration) → FitsTable table → SpellsTable (table_
 spelled table fits = table_written (by_code table) (by_code-fits table fits)
 
 pub returns-then-is_err-clause-spelled : goal.returns-then-is_err-clause-spelled
-returns-then-is_err-clause-spelled c = spelled c.args.self.now (subst FitsTable c.self.view_is c.self.invariant.0)
+returns-then-is_err-clause-spelled c = spelled c.args.self.now (subst FitsTable c.self.view_is c.self.invariant)
 
 pub returns-else-is_err-clause-spelled : goal.returns-else-is_err-clause-spelled
-returns-else-is_err-clause-spelled c = spelled c.args.self.now (subst FitsTable c.self.view_is c.self.invariant.0)
+returns-else-is_err-clause-spelled c = spelled c.args.self.now (subst FitsTable c.self.view_is c.self.invariant)

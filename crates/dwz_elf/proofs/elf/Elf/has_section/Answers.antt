@@ -5,7 +5,8 @@ use Rattle.dwz_elf.proofs.elf.Elf.has_section.Goals as goal
 
 pub returns-in_default : goal.returns-in_default
 returns-in_default c = λ is none.
-    absurd (some_table c.args.file.now _ _ _ (c.self.view_is ∙ is) none (let far = c.in_default.ensures.lookup.3 in let many = ap (λ (w : List Section). length w) c.deref.ensures.value in omega (arith, far, many)))
+    absurd (some_table c.args.file.now _ _ _ (c.self.view_is ∙ is) none
+    (let far = c.in_default.ensures.lookup.3 in let many = ap (λ (w : List Section). length w) c.deref.ensures.value in omega (arith, far, many)))
 
 pub returns : goal.returns
 returns c = λ is none. (

@@ -1,7 +1,8 @@
 use Rattle.std.proofs.Common.{ℕ, ◌<◌, List, length, map, slice_get, ap, subst, ◌∙◌, arith}
+use Rattle.dwz_docs.proofs.ListFacts.{item_got}
 use Rattle.dwz_meanings.specs.Files.{no_files_before}
 use Rattle.dwz_graph.specs.Files.{HasRead}
-use Rattle.dwz_graph.proofs.GraphLemmas.{as_many, file_there, found_at}
+use Rattle.dwz_graph.proofs.GraphLemmas.{as_many, file_there}
 use Rattle.dwz_graph.proofs.graph.Graph.file.Goals as goal
 
 pub index-requires : goal.index-requires
@@ -19,5 +20,6 @@ returns c = λ bytes is. (
     let same = ap (λ (w : List (List ℕ)). length w) c.self.view_is in
     let low = c.requires in
     let within : c.args.number < length files = omega arith in
-    let there = file_there no_files_before 0 contents files c.self.invariant.end c.args.number c.args.number bytes c.index.result.now (omega arith) c.self.invariant.are (ap (λ (w : List (List ℕ)). slice_get w c.args.number) c.self.view_is ∙ is) (found_at files c.args.number c.index.result.now within c.index.ensures) in
+    let there = file_there no_files_before 0 contents files c.self.invariant.end c.args.number c.args.number bytes c.index.result.now (omega arith) c.self.invariant.are
+    (ap (λ (w : List (List ℕ)). slice_get w c.args.number) c.self.view_is ∙ is) (item_got files c.args.number c.index.result.now within c.index.ensures) in
     subst (λ (w : List (List ℕ)). HasRead w c.args.number bytes c.index.result.now) c.self.view_is (record { limits = there.limits; read = there.read; there = there.there }))

@@ -9,12 +9,13 @@ use Rattle.dwz_model.specs.declared.fault.GraphErr.{GraphErr}
 use Rattle.dwz_meanings.specs.Files.{file_meaning, files_meaning, limits_after, no_files_before}
 use Rattle.dwz_docs.specs.ElfReading.{elf_of}
 use Rattle.dwz_docs.specs.Faults.{Fails}
+use Rattle.dwz_docs.proofs.ListFacts.{item_got}
 use Rattle.dwz_graph.specs.Ahead.{AreAhead, IsAhead}
 use Rattle.dwz_graph.specs.declared.file.File.{File}
 use Rattle.dwz_graph.specs.Files.{AreRead, FilesFail, IsRead, limits_view}
 use Rattle.dwz_unit.specs.Rows.{units_of}
 use Rattle.dwz_graph.proofs.AheadLemmas.{here, taken}
-use Rattle.dwz_graph.proofs.GraphLemmas.{are_more, files_fail, files_read, first_limits, found_at}
+use Rattle.dwz_graph.proofs.GraphLemmas.{are_more, files_fail, files_read, first_limits}
 use Rattle.dwz_graph.proofs.graph.Graph.read.Goals as goal
 
 abbrev Content : Type 0
@@ -26,7 +27,8 @@ content v = v.items
 one_more : (xs : List Content) (i : ℕ) (x : Content) → i < length xs → x ≡ get_or xs i x → map content (take (i + 1) xs) ≡ map content (take i xs) ++ content x ∷ []
 one_more xs i x l e =
     let one : i + 1 ≡ suc i = omega arith in
-    ap (λ (n : ℕ). map content (take n xs)) one ∙ ap (map content) (take-suc xs i x l) ∙ map-append content (take i xs) (get_or xs i x ∷ []) ∙ ap (λ (w : Content). map content (take i xs) ++ content w ∷ []) (sym e)
+    ap (λ (n : ℕ). map content (take n xs)) one ∙ ap (map content) (take-suc xs i x l) ∙ map-append content (take i xs) (get_or xs i x ∷ [])
+    ∙ ap (λ (w : Content). map content (take i xs) ++ content w ∷ []) (sym e)
 
 parted : (xs : List Content) (i : ℕ) (x : Content) → i < length xs → x ≡ get_or xs i x → map content xs ≡ map content (take i xs) ++ content x ∷ map content (drop (suc i) xs)
 parted xs i x l e =
@@ -69,7 +71,8 @@ returns-in-Err-clause-answers g c =
     let l = limits_view c.loop-number.left in
     let many : length (map content (take i files)) ≡ i = omega (arith, length-map (take i files) content, length-take i files) in
     subst (λ (e : GraphErr). FilesFail e (files_meaning no_files_before 0 (map content files))) (sym c.in_file.ensures)
-    (files_fail c.in-Err.error (map content files) (map content (take i files)) c.loop-number.kept.items l i x.items (map content (drop (suc i) files)) (parted files i x (omega arith) c.index-files-number.is) many c.loop-number.invariant.read
+    (files_fail c.in-Err.error (map content files) (map content (take i files)) c.loop-number.kept.items l i x.items (map content (drop (suc i) files))
+    (parted files i x (omega arith) c.index-files-number.is) many c.loop-number.invariant.read
     (subst (λ (b : List ℕ). Fails c.in-Err.error (file_meaning l b)) c.as_slice.ensures.value c.in-Err.ensures))
 
 pub returns-clause-answers : goal.returns-clause-answers
@@ -86,6 +89,6 @@ file_behind-requires g c =
     let x = c.index-files-number.result in
     let slots : List (Option File) = c.loop-number.ahead.items in
     let len = c.loop-number.invariant.len in
-    let is = slice_get-map content files i ∙ ap (option_map content) (found_at files i x (omega arith) c.index-files-number.is) in
+    let is = slice_get-map content files i ∙ ap (option_map content) (item_got files i x (omega arith) c.index-files-number.is) in
     subst (λ (b : List ℕ). IfSome c.take-done.result (IsAhead i b)) (sym c.as_slice.ensures.value)
     (here (map content files) slots i x.items c.take-done.result _ (omega arith) (c.take-done.ensures.value ∙ c.index_mut.ensures.value) is c.loop-number.invariant.ahead)

@@ -47,7 +47,8 @@ put_list-requires t c =
     )
 
 pub put_top-requires-clause-rows : goal.put_top-requires-clause-rows
-put_top-requires-clause-rows t c = (next_list (units_of c.args.units.now) c.loop-entry.entry c.args.end c.entry-next.result c.loop-entry.invariant.list c.loop-entry-test.true c.entry-next.ensures.entry).0
+put_top-requires-clause-rows t c = (next_list (units_of c.args.units.now) c.loop-entry.entry c.args.end c.entry-next.result c.loop-entry.invariant.list c.loop-entry-test.true
+    c.entry-next.ensures.entry).0
 
 pub put_top-requires-clause-there : goal.put_top-requires-clause-there
 put_top-requires-clause-there t c =
@@ -65,14 +66,19 @@ loop-entry-smaller t c =
 pub loop-entry-preserved : goal.loop-entry-preserved
 loop-entry-preserved t c = elim c.if-is_space.branch [
   | then-is_space+in_ok-space+in_ok-put_list w ↦
-      subst (λ (x : Index). Goes (units_of c.args.units.now) c.args.first c.args.end c.args.unit c.args.inner c.args.up c.args.self.now x c.entry-next.result.end (c.loop-entry.index + 1)) (sym w.self-is)
-      (with_one_space (units_of c.args.units.now) c.args.first c.args.end c.args.unit c.args.inner c.args.up c.args.self.now c.loop-entry.self w.put_space.new.self w.put_list.new.self c.loop-entry.entry c.loop-entry.index w.in_ok-space.space
-      c.entry-next.result c.is_space.result c.loop-entry.invariant c.loop-entry-test.true c.entry-next.ensures.entry c.is_space.ensures w.if-is_space.true w.in_ok-space.ensures.space w.in_ok-space.ensures.number w.in_ok-put_list.ensures)
+      subst (λ (x : Index). Goes (units_of c.args.units.now) c.args.first c.args.end c.args.unit c.args.inner c.args.up c.args.self.now x c.entry-next.result.end (c.loop-entry.index + 1))
+      (sym w.self-is)
+      (with_one_space (units_of c.args.units.now) c.args.first c.args.end c.args.unit c.args.inner c.args.up c.args.self.now c.loop-entry.self w.put_space.new.self w.put_list.new.self
+      c.loop-entry.entry c.loop-entry.index w.in_ok-space.space
+      c.entry-next.result c.is_space.result c.loop-entry.invariant c.loop-entry-test.true c.entry-next.ensures.entry c.is_space.ensures w.if-is_space.true w.in_ok-space.ensures.space
+      w.in_ok-space.ensures.number w.in_ok-put_list.ensures)
   | else-is_space+in_ok-put_top w ↦
-      subst (λ (x : Index). Goes (units_of c.args.units.now) c.args.first c.args.end c.args.unit c.args.inner c.args.up c.args.self.now x c.entry-next.result.end (c.loop-entry.index + 1)) (sym w.self-is)
+      subst (λ (x : Index). Goes (units_of c.args.units.now) c.args.first c.args.end c.args.unit c.args.inner c.args.up c.args.self.now x c.entry-next.result.end (c.loop-entry.index + 1))
+      (sym w.self-is)
       (with_one_top (units_of c.args.units.now) c.args.first c.args.end c.args.unit c.args.inner c.args.up c.args.self.now c.loop-entry.self w.put_top.new.self c.loop-entry.entry c.loop-entry.index
       c.entry-next.result c.is_space.result c.loop-entry.invariant c.loop-entry-test.true c.entry-next.ensures.entry c.is_space.ensures w.if-is_space.false w.in_ok-put_top.ensures)
 ]
 
 pub returns : goal.returns
-returns t c = λ list is. ends (units_of c.args.units.now) c.args.first c.args.end c.args.unit c.args.inner c.args.up c.args.self.now c.loop-entry.self c.loop-entry.entry c.loop-entry.index c.loop-entry.invariant c.loop-entry-test.false list is
+returns t c = λ list is. ends (units_of c.args.units.now) c.args.first c.args.end c.args.unit c.args.inner c.args.up c.args.self.now c.loop-entry.self c.loop-entry.entry c.loop-entry.index
+    c.loop-entry.invariant c.loop-entry-test.false list is

@@ -1,7 +1,7 @@
 use Rattle.std.proofs.Common.{ℕ, ap, arith}
 use Rattle.dwz_unit.specs.Rows.{units_of}
+use Rattle.dwz_unit.proofs.ShownLemmas.{units_few}
 use Rattle.dwz_index.specs.Index.{Index}
-use Rattle.dwz_index.proofs.UnitBuilding.{units_few}
 use Rattle.dwz_index.proofs.index.Index.behind.Goals as goal
 
 abbrev unit_start : Index → ℕ

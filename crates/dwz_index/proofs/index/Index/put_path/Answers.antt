@@ -18,5 +18,6 @@ loop-at-preserved c =
     let within : x.up < length c.args.self.now.steps = omega arith in
     record {
       within = within;
-      way = λ names s is found. way_on names c.args.self.now c.loop-at.at x c.loop-at.path.items c.push.new.self.items c.args.path.now.items s is there less c.in_ok-push.ensures.items (c.loop-at.invariant.way names s is found);
+      way = λ names s is found. way_on names c.args.self.now c.loop-at.at x c.loop-at.path.items c.push.new.self.items c.args.path.now.items s is there less c.in_ok-push.ensures.items
+          (c.loop-at.invariant.way names s is found);
     }

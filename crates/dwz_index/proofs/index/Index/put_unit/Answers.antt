@@ -45,7 +45,8 @@ returns-then-unit-ne-COMPILE_UNIT c = λ u found. (
     let w = c.self.inside in
     let list = unit_list raw c.args.number x c.entry-end.result u c.requires.shown c.entry-end.ensures.entry found in
     let s = step x.first 0 0 in
-    with_more c.args.self.now w.steps.items w.tops.items w.spaces.items w.starts c.self.view_is c.push.new.self.items c.put_below.new.steps.items s (steps_below 0 x.first 0 (x.first + 1) u.below) c.in_ok-push.ensures.items (c.in_ok-put_below.ensures u.below list)
+    with_more c.args.self.now w.steps.items w.tops.items w.spaces.items w.starts c.self.view_is c.push.new.self.items c.put_below.new.steps.items s (steps_below 0 x.first 0 (x.first + 1) u.below)
+    c.in_ok-push.ensures.items (c.in_ok-put_below.ensures u.below list)
     ∙ below_type raw c.args.number x u (c.args.self.now.starts.unit + c.args.number) (with_steps (s ∷ []) c.args.self.now) c.requires.shown found c.if-unit-ne-COMPILE_UNIT.true)
 
 pub returns : goal.returns

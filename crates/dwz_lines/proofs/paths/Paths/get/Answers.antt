@@ -23,4 +23,5 @@ returns-in-Some-clause-path c =
     let bytes = c.deref-in-Some.ensures.value in
     let found = c.in-Some.ensures.lookup in
     let text = c.text.ensures ∙ ap (λ (w : List ℕ). text_of w c.in-Some.span.now) bytes in
-    sym (ap (λ (w : List (List ℕ)). nth_path w c.args.index) (sym c.self.view_is) ∙ some_path c.self.inside.bytes.items c.self.inside.spans.items c.args.index c.in-Some.span.now (rw spans at found.0) (rw spans at found.1) ∙ ap (λ (w : List ℕ). Some w) (sym text))
+    sym (ap (λ (w : List (List ℕ)). nth_path w c.args.index) (sym c.self.view_is) ∙ some_path c.self.inside.bytes.items c.self.inside.spans.items c.args.index c.in-Some.span.now (rw spans at found.0)
+    (rw spans at found.1) ∙ ap (λ (w : List ℕ). Some w) (sym text))

@@ -26,7 +26,8 @@ invariant_of-self-2 c =
     let bytes = c.self.inside.bytes.items in
     let from : c.len-from.result ≡ length bytes = omega (arith, c.len-from.ensures, c.self.inside.bytes.ok.0) in
     let to : c.len-to.result ≡ length (bytes ++ path) = omega (arith, c.len-to.ensures, c.append.new.out.ok.0, ap length c.in_ok-append.ensures.ok) in
-    rw (c.in_ok-push.ensures.items, c.in_ok-append.ensures.ok) (within_more (bytes ++ path) c.self.inside.spans.items span (within_append bytes path c.self.inside.spans.items c.self.invariant) (omega (arith, from, to, length-append bytes path), omega (arith, from, to)))
+    rw (c.in_ok-push.ensures.items, c.in_ok-append.ensures.ok) (within_more (bytes ++ path) c.self.inside.spans.items span (within_append bytes path c.self.inside.spans.items c.self.invariant)
+    (omega (arith, from, to, length-append bytes path), omega (arith, from, to)))
 
 pub returns : goal.returns
 returns c =
@@ -35,4 +36,5 @@ returns c =
     let bytes = c.self.inside.bytes.items in
     let from : c.len-from.result ≡ length bytes = omega (arith, c.len-from.ensures, c.self.inside.bytes.ok.0) in
     let to : c.len-to.result ≡ length (bytes ++ path) = omega (arith, c.len-to.ensures, c.append.new.out.ok.0, ap length c.in_ok-append.ensures.ok) in
-    rw (c.in_ok-push.ensures.items, c.in_ok-append.ensures.ok) (all_texts bytes path c.self.inside.spans.items span c.self.invariant (omega (arith, from)) (omega (arith, to)) ∙ ap (λ (w : List (List ℕ)). w ++ path ∷ []) c.self.view_is)
+    rw (c.in_ok-push.ensures.items, c.in_ok-append.ensures.ok) (all_texts bytes path c.self.inside.spans.items span c.self.invariant (omega (arith, from)) (omega (arith, to))
+    ∙ ap (λ (w : List (List ℕ)). w ++ path ∷ []) c.self.view_is)

@@ -22,4 +22,5 @@ returns c =
     let d = c.depth_ahead-depth.result in
     ap entries_of (some_view w.ahead.slot s rest c.args.self.now c.in_ok-slot.was c.self.view_is)
     ∙ next_entry s rest a.slot (behind w.known.now w.sort a) d c.pull-self-inside.ensures c.depth_ahead-depth.ensures
-    ∙ ap (λ (n : ℕ). let e : Entry = record { origin = s.origin; depth = s.depth; children = nat_lt s.depth d; ends = n } in e ∷ entries_of (option_to_list a.slot ++ behind w.known.now w.sort a)) (sym c.saturating_sub.ensures)
+    ∙ ap (λ (n : ℕ). let e : Entry = record { origin = s.origin; depth = s.depth; children = nat_lt s.depth d; ends = n } in e ∷ entries_of (option_to_list a.slot ++ behind w.known.now w.sort a))
+    (sym c.saturating_sub.ensures)

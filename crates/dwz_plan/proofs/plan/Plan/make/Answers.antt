@@ -55,12 +55,24 @@ marks_of-requires-clause-homes c =
 pub marks_of-requires-clause-len : goal.marks_of-requires-clause-len
 marks_of-requires-clause-len c =
     let g : Given = given c.args.scope c.args.tops.now c.args.least.now in
-    omega (arith, ap (λ (hs : List Home). length hs) (c.as_slice-2.ensures.value ∙ c.in_ok-moves.ensures.homes), length-map g.rows (place g), length-rows_from c.args.tops.now.files_of_units 0 c.args.tops.now.rows c.args.least.now c.requires.least, c.requires.targets)
+    omega (
+      arith,
+      ap (λ (hs : List Home). length hs) (c.as_slice-2.ensures.value ∙ c.in_ok-moves.ensures.homes),
+      length-map g.rows (place g),
+      length-rows_from c.args.tops.now.files_of_units 0 c.args.tops.now.rows c.args.least.now c.requires.least,
+      c.requires.targets,
+    )
 
 pub marks_of-requires-clause-targets : goal.marks_of-requires-clause-targets
 marks_of-requires-clause-targets c =
     let g : Given = given c.args.scope c.args.tops.now c.args.least.now in
-    let n : length c.args.tops.now.rows ≡ length c.as_slice-2.result.now = omega (arith, ap (λ (hs : List Home). length hs) (c.as_slice-2.ensures.value ∙ c.in_ok-moves.ensures.homes), length-map g.rows (place g), length-rows_from c.args.tops.now.files_of_units 0 c.args.tops.now.rows c.args.least.now c.requires.least) in
+    let n : length c.args.tops.now.rows ≡ length c.as_slice-2.result.now =
+    omega (
+      arith,
+      ap (λ (hs : List Home). length hs) (c.as_slice-2.ensures.value ∙ c.in_ok-moves.ensures.homes),
+      length-map g.rows (place g),
+      length-rows_from c.args.tops.now.files_of_units 0 c.args.tops.now.rows c.args.least.now c.requires.least,
+    ) in
     subst (λ k. All (λ ts. All (λ t. t < k) ts) c.args.tops.now.targets) n c.requires.inside_targets
 
 marks_len : (n : ℕ) (marks : List Bool) (sources : List (List ℕ)) (ps : List Partial) (ws : List ℕ) → length ps ≡ n → IsSpread sources (map (part_seed ws) ps) marks → length marks ≡ n
@@ -71,7 +83,8 @@ homes_after-requires-clause-homes c =
     let g : Given = given c.args.scope c.args.tops.now c.args.least.now in
     let homes : c.as_slice-3.result.now ≡ map (place g) g.rows = c.as_slice-3.ensures.value ∙ c.in_ok-moves.ensures.homes in
     let parts : c.as_slice.result.now ≡ partials g = c.as_slice.ensures.value ∙ c.in_ok-moves.ensures.partials in
-    let count : length c.as_slice-4.result.now ≡ length (partials g) = ap (λ (bs : List Bool). length bs) c.as_slice-4.ensures.value ∙ marks_len (length (partials g)) c.in_ok-marks.marks.items _ c.as_slice.result.now (weights_of c.args.tops.now.rows) (ap (λ (ps : List Partial). length ps) parts) c.in_ok-marks.ensures in
+    let count : length c.as_slice-4.result.now ≡ length (partials g) = ap (λ (bs : List Bool). length bs) c.as_slice-4.ensures.value ∙ marks_len (length (partials g)) c.in_ok-marks.marks.items _
+    c.as_slice.result.now (weights_of c.args.tops.now.rows) (ap (λ (ps : List Partial). length ps) parts) c.in_ok-marks.ensures in
     subst (λ k. All (λ h. AreNumbers k (group_of h)) c.as_slice-3.result.now) (sym count)
     (subst (λ (hs : List Home). All (λ h. AreNumbers (length (partials g)) (group_of h)) hs) (sym homes) (places_low c.args.scope c.args.tops.now c.args.least.now [] c.requires.files))
 
@@ -94,7 +107,8 @@ stand_ins-requires-clause-few c =
     let g : Given = given c.args.scope c.args.tops.now c.args.least.now in
     let marks : List Bool = c.in_ok-marks.marks.items in
     let many = length-rows_from c.args.tops.now.files_of_units 0 c.args.tops.now.rows c.args.least.now c.requires.least in
-    let homes = homes_left g marks c.as_slice-4.result.now c.as_slice-3.result.now c.in_ok-homes.homes.items (c.as_slice-3.ensures.value ∙ c.in_ok-moves.ensures.homes) c.as_slice-4.ensures.value c.in_ok-homes.ensures in
+    let homes = homes_left g marks c.as_slice-4.result.now c.as_slice-3.result.now c.in_ok-homes.homes.items (c.as_slice-3.ensures.value ∙ c.in_ok-moves.ensures.homes) c.as_slice-4.ensures.value
+    c.in_ok-homes.ensures in
     let count = homes_count g marks c.as_slice-6.result.now (length c.args.tops.now.rows) (c.as_slice-6.ensures.value ∙ homes) many in
     omega (arith, count, c.requires.rows)
 
@@ -103,7 +117,8 @@ kept-requires-clause-homes c =
     let g : Given = given c.args.scope c.args.tops.now c.args.least.now in
     let marks : List Bool = c.in_ok-marks.marks.items in
     let many = length-rows_from c.args.tops.now.files_of_units 0 c.args.tops.now.rows c.args.least.now c.requires.least in
-    let homes = homes_left g marks c.as_slice-4.result.now c.as_slice-3.result.now c.in_ok-homes.homes.items (c.as_slice-3.ensures.value ∙ c.in_ok-moves.ensures.homes) c.as_slice-4.ensures.value c.in_ok-homes.ensures in
+    let homes = homes_left g marks c.as_slice-4.result.now c.as_slice-3.result.now c.in_ok-homes.homes.items (c.as_slice-3.ensures.value ∙ c.in_ok-moves.ensures.homes) c.as_slice-4.ensures.value
+    c.in_ok-homes.ensures in
     let count = homes_count g marks c.as_slice-9.result.now (length c.args.tops.now.rows) (c.as_slice-9.ensures.value ∙ homes) many in
     omega (arith, count, ap (λ (rs : List TopRow). length rs) c.as_slice-8.ensures)
 
@@ -114,16 +129,25 @@ pub imports-requires-clause-few : goal.imports-requires-clause-few
 imports-requires-clause-few c =
     let g : Given = given c.args.scope c.args.tops.now c.args.least.now in
     let marks : List Bool = c.in_ok-marks.marks.items in
-    let parts = parts_left g marks c.as_slice-5.result.now c.in_ok-moves.moves.partials.items c.in_ok-partials.partials.items c.in_ok-moves.ensures.partials c.as_slice-5.ensures.value c.in_ok-partials.ensures in
-    omega (arith, ap (λ (ps : List Partial). length ps) (c.as_slice-10.ensures.value ∙ parts), among_few marks (partials g), ap (λ (ps : List Partial). length ps) c.in_ok-moves.ensures.partials, c.in_ok-moves.ensures.few)
+    let parts = parts_left g marks c.as_slice-5.result.now c.in_ok-moves.moves.partials.items c.in_ok-partials.partials.items c.in_ok-moves.ensures.partials c.as_slice-5.ensures.value
+    c.in_ok-partials.ensures in
+    omega (
+      arith,
+      ap (λ (ps : List Partial). length ps) (c.as_slice-10.ensures.value ∙ parts),
+      among_few marks (partials g),
+      ap (λ (ps : List Partial). length ps) c.in_ok-moves.ensures.partials,
+      c.in_ok-moves.ensures.few,
+    )
 
 pub imports-requires-clause-users : goal.imports-requires-clause-users
 imports-requires-clause-users c =
     let g : Given = given c.args.scope c.args.tops.now c.args.least.now in
     let marks : List Bool = c.in_ok-marks.marks.items in
-    let parts = parts_left g marks c.as_slice-5.result.now c.in_ok-moves.moves.partials.items c.in_ok-partials.partials.items c.in_ok-moves.ensures.partials c.as_slice-5.ensures.value c.in_ok-partials.ensures in
+    let parts = parts_left g marks c.as_slice-5.result.now c.in_ok-moves.moves.partials.items c.in_ok-partials.partials.items c.in_ok-moves.ensures.partials c.as_slice-5.ensures.value
+    c.in_ok-partials.ensures in
     subst (λ n. All (λ part. All (λ u. u < n) part.users) c.as_slice-10.result.now) (sym c.len-units.ensures)
-    (subst (λ (ps : List Partial). All (λ part. All (λ u. u < length c.args.tops.now.files_of_units) part.users) ps) (sym (c.as_slice-10.ensures.value ∙ parts)) (users_left c.args.scope c.args.tops.now c.args.least.now marks))
+    (subst (λ (ps : List Partial). All (λ part. All (λ u. u < length c.args.tops.now.files_of_units) part.users) ps) (sym (c.as_slice-10.ensures.value ∙ parts))
+    (users_left c.args.scope c.args.tops.now c.args.least.now marks))
 
 pub returns : goal.returns
 unfolding gained
@@ -132,8 +156,10 @@ returns c =
     let g : Given = given scope c.args.tops.now c.args.least.now in
     let marks : List Bool = c.in_ok-marks.marks.items in
     let many = length-rows_from c.args.tops.now.files_of_units 0 c.args.tops.now.rows c.args.least.now c.requires.least in
-    let homes = homes_left g marks c.as_slice-4.result.now c.as_slice-3.result.now c.in_ok-homes.homes.items (c.as_slice-3.ensures.value ∙ c.in_ok-moves.ensures.homes) c.as_slice-4.ensures.value c.in_ok-homes.ensures in
-    let parts = parts_left g marks c.as_slice-5.result.now c.in_ok-moves.moves.partials.items c.in_ok-partials.partials.items c.in_ok-moves.ensures.partials c.as_slice-5.ensures.value c.in_ok-partials.ensures in
+    let homes = homes_left g marks c.as_slice-4.result.now c.as_slice-3.result.now c.in_ok-homes.homes.items (c.as_slice-3.ensures.value ∙ c.in_ok-moves.ensures.homes) c.as_slice-4.ensures.value
+    c.in_ok-homes.ensures in
+    let parts = parts_left g marks c.as_slice-5.result.now c.in_ok-moves.moves.partials.items c.in_ok-partials.partials.items c.in_ok-moves.ensures.partials c.as_slice-5.ensures.value
+    c.in_ok-partials.ensures in
     let six = c.as_slice-6.ensures.value ∙ homes in
     let seven = c.as_slice-7.ensures.value ∙ c.in_ok-moves.ensures.reps in
     let count = homes_count g marks c.as_slice-6.result.now (length g.rows) six refl in
@@ -142,12 +168,21 @@ returns c =
     let nine = c.as_slice-9.ensures.value ∙ homes in
     let kept_is : c.in_ok-kept.kept ≡ map (kept_after marks g) (units_of g) =
     c.in_ok-kept.ensures
-    ∙ ((λ i. grouped (c.len-units.ensures i) (staying_pairs true 0 (c.as_slice-8.ensures i) (nine i) ++ staying_pairs false 0 (c.as_slice-8.ensures i) (nine i))) ∙ kept_left scope c.args.tops.now c.args.least.now marks) in
+    ∙ ((λ i. grouped (c.len-units.ensures i) (staying_pairs true 0 (c.as_slice-8.ensures i) (nine i) ++ staying_pairs false 0 (c.as_slice-8.ensures i) (nine i)))
+    ∙ kept_left scope c.args.tops.now c.args.least.now marks) in
     let ten = c.as_slice-10.ensures.value ∙ parts in
     let imports_is : c.in_ok-imports.imports ≡ map (λ unit. imports_from unit 0 (among marks (partials g))) (units_of g) =
     c.in_ok-imports.ensures ∙ ((λ i. grouped (c.len-units.ensures i) (turned 0 (map (λ (part : Partial). part.users) (ten i)))) ∙ imports_left scope c.args.tops.now c.args.least.now marks) in
-    let plan : (record { partials = c.in_ok-partials.partials.items; homes = c.in_ok-homes.homes.items; stand_ins = c.in_ok-stand_ins.stand_ins.items; kept = c.in_ok-kept.kept; imports = c.in_ok-imports.imports }) ≡ gained marks g = (λ i. record { partials = parts i; homes = homes i; stand_ins = stands i; kept = kept_is i; imports = imports_is i }) in (
+    let plan : (record {
+      partials = c.in_ok-partials.partials.items;
+      homes = c.in_ok-homes.homes.items;
+      stand_ins = c.in_ok-stand_ins.stand_ins.items;
+      kept = c.in_ok-kept.kept;
+      imports =
+          c.in_ok-imports.imports;
+    }) ≡ gained marks g = (λ i. record { partials = parts i; homes = homes i; stand_ins = stands i; kept = kept_is i; imports = imports_is i }) in (
       marks,
-      spread_left g marks c.as_slice.result.now c.as_slice-2.result.now (c.as_slice.ensures.value ∙ c.in_ok-moves.ensures.partials) (c.as_slice-2.ensures.value ∙ c.in_ok-moves.ensures.homes) c.in_ok-marks.ensures,
+      spread_left g marks c.as_slice.result.now c.as_slice-2.result.now (c.as_slice.ensures.value ∙ c.in_ok-moves.ensures.partials) (c.as_slice-2.ensures.value ∙ c.in_ok-moves.ensures.homes)
+          c.in_ok-marks.ensures,
       plan,
     )

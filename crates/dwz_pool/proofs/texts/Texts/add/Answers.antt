@@ -1,23 +1,32 @@
-use Rattle.std.proofs.Common.{◌∙◌, ◌+◌, ◌-◌, ◌^◌, ◌<◌, ◌++◌, ◌∷◌, [], List, ℕ, ap, length, subst, sym}
-use Rattle.indexmap.proofs.CallerLemmas.{insert_entry-new}
-use Rattle.dwz_docs.specs.TextRows.{number_of, text_section}
-use Rattle.dwz_pool.proofs.StoredLemmas.{has_more, not_found, texts_more}
+use Rattle.std.proofs.Common.{◌≡◌, ◌∙◌, ◌-◌, ◌^◌, ◌<◌, ◌++◌, ◌∷◌, [], List, None, ℕ, ap, arith, length, subst, sym}
+use Rattle.std.proofs.lemmas.List.{length-map}
+use Rattle.dwz_docs.specs.TextRows.{number_of}
+use Rattle.dwz_pool.specs.Numbered.{AreNumbered, IsAdded}
+use Rattle.dwz_pool.specs.Stored.{bytes_at, texts_of}
+use Rattle.dwz_pool.proofs.NumberLemmas.{numbered_more}
+use Rattle.dwz_pool.proofs.PlaceLemmas.{has_more, texts_more}
 use Rattle.dwz_pool.proofs.texts.Texts.add.Goals as goal
 
 pub invariant_of-self-2 : goal.invariant_of-self-2
 invariant_of-self-2 c =
-    let started = c.self.inside.starts.entries in
-    let text = c.args.text in
-    let none = not_found text.items started (ap (λ (texts : List (List ℕ)). number_of texts text.items) c.self.view_is ∙ c.requires.new) in
-    let entries = c.in_ok-insert.ensures.entries ∙ insert_entry-new _ c.self.inside.starts text c.self.inside.end none in
-    has_more c.self.inside.end c.len.result started c.insert.new.self.entries text entries c.self.invariant (c.len.ensures ∙ text.ok.0)
-    (subst (λ (texts : List (List ℕ)). length texts < 2 ^ 32 - 1) (sym c.self.view_is) c.requires.few)
-    (subst (λ (texts : List (List ℕ)). length (text_section texts) + (length text.items + 1) < 2 ^ 64) (sym c.self.view_is) c.requires.short)
+    let rows = c.self.inside.rows in
+    let numbers = c.self.inside.numbers in
+    let text = c.args.text.now in
+    let is_new : number_of (texts_of rows) text ≡ None = ap (λ (texts : List (List ℕ)). number_of texts text) c.self.view_is ∙ c.requires.new in
+    let few : length (texts_of rows) < 2 ^ 32 - 1 = subst (λ (texts : List (List ℕ)). length texts < 2 ^ 32 - 1) (sym c.self.view_is) c.requires.few in
+    let more = texts_more rows c.reserve.new.self c.push.new.self text c.self.invariant.0 is_new few c.reserve.ensures.same c.push.ensures.section c.push.ensures.places in
+    let number : c.len-number.result ≡ length (texts_of rows) = omega (arith, length-map rows.places.items (bytes_at rows.section.items)) in
+    let counted = subst (λ (n : ℕ). IsAdded numbers c.add.new.self c.hash_of.result text n) number c.in_ok-add.ensures.ok in
+    let added = subst (λ (hash : ℕ). IsAdded numbers c.add.new.self hash text (length (texts_of rows))) c.hash_of.ensures counted in (
+      has_more rows c.reserve.new.self c.push.new.self text c.self.invariant.0 is_new few c.reserve.ensures.same c.push.ensures.section c.push.ensures.places,
+      subst (λ (texts : List (List ℕ)). AreNumbered texts c.add.new.self) (sym more) (numbered_more (texts_of rows) text numbers c.add.new.self c.self.invariant.1 is_new added),
+    )
 
 pub returns-clause-ok : goal.returns-clause-ok
 returns-clause-ok c =
-    let started = c.self.inside.starts.entries in
-    let text = c.args.text in
-    let none = not_found text.items started (ap (λ (texts : List (List ℕ)). number_of texts text.items) c.self.view_is ∙ c.requires.new) in
-    let entries = c.in_ok-insert.ensures.entries ∙ insert_entry-new _ c.self.inside.starts text c.self.inside.end none in
-    texts_more c.self.inside.end 0 started c.insert.new.self.entries text entries ∙ ap (λ (texts : List (List ℕ)). texts ++ text.items ∷ []) c.self.view_is
+    let rows = c.self.inside.rows in
+    let text = c.args.text.now in
+    let is_new : number_of (texts_of rows) text ≡ None = ap (λ (texts : List (List ℕ)). number_of texts text) c.self.view_is ∙ c.requires.new in
+    let few : length (texts_of rows) < 2 ^ 32 - 1 = subst (λ (texts : List (List ℕ)). length texts < 2 ^ 32 - 1) (sym c.self.view_is) c.requires.few in
+    texts_more rows c.reserve.new.self c.push.new.self text c.self.invariant.0 is_new few c.reserve.ensures.same c.push.ensures.section c.push.ensures.places
+    ∙ ap (λ (texts : List (List ℕ)). texts ++ text ∷ []) c.self.view_is

@@ -8,5 +8,5 @@ pub returns : goal.returns
 returns c =
     c.in_ok-write.ensures.ok
     ∙ ap (λ (w : List ℕ). w ++ table_bytes (by_code c.self.inside.table)) c.new-table.ensures.items
-    ∙ table_is c.self.inside.table c.self.invariant
+    ∙ table_is c.self.inside.table c.self.invariant.0
     ∙ ap table_for c.self.view_is

@@ -1,4 +1,4 @@
-use Rattle.std.proofs.Common.{◌≡◌, ◌∙◌, ap, sym}
+use Rattle.std.proofs.Common.{◌∙◌, ap, sym}
 use Rattle.std.proofs.lemmas.Result.{on_ok_weaker}
 use Rattle.dwz_writing.specs.Writing.{table_in}
 use Rattle.dwz_tables.proofs.TableLemmas.{placed_new, place_known, table_known, table_new}

@@ -1,9 +1,11 @@
 use Rattle.std.proofs.Common.{List, ℕ, subst, sym}
-use Rattle.dwz_tables.specs.Tables.{HasTables, Placed}
+use Rattle.dwz_tables.specs.Tables.{HasTables}
+use Rattle.dwz_tables.proofs.MapLemmas.{found_none}
 use Rattle.dwz_tables.proofs.TableLemmas.{no_tables}
 use Rattle.dwz_tables.proofs.tables.Tables.new.Goals as goal
 
 pub invariant_of-result : goal.invariant_of-result
 invariant_of-result c =
-    subst (λ (section : List ℕ). HasTables section c.new-2.result.entries) (sym c.new.ensures.items)
-    (subst (λ (placed : List Placed). HasTables _ placed) (sym c.new-2.ensures.empty) no_tables)
+    let offsets = c.new-3.result in
+    subst (λ (section : List ℕ). HasTables section c.new-2.result.items offsets) (sym c.new.ensures.items)
+    (subst (λ (lengths : List ℕ). HasTables _ lengths offsets) (sym c.new-2.ensures.items) (no_tables offsets (found_none offsets c.new-3.ensures.empty)))

@@ -1,0 +1,47 @@
+use Rattle.std.proofs.Common.{◌≡◌, ◌≤◌, ◌-◌, drop, length, List, None, Option, Some, rules, sym, subst, ap, ◌∙◌}
+use Rattle.std.specs.Prelude.{AllPairs, slice_get}
+use Rattle.std.specs.Option.{option_copied, option_map}
+use Rattle.std.proofs.lemmas.Option.{slice_get_past, slice_get_read}
+use Rattle.dwz_docs.specs.Abbrevs.{Declaration, find_decl}
+use Rattle.dwz_abbrev.specs.declared.decl.Decl.{Decl}
+use Rattle.dwz_abbrev.specs.Views.{decl_view}
+use Rattle.dwz_abbrev.specs.Written.{Differ}
+use Rattle.dwz_abbrev.specs.Places.{or_else, stored_decl_behind}
+use Rattle.dwz_abbrev.proofs.BehindLemmas.{at_no_place, at_place, at_stored}
+use Rattle.dwz_abbrev.proofs.PlaceLemmas.{not_it}
+use Rattle.dwz_abbrev.proofs.rows.Rows.decl_behind.Goals as goal
+use Rattle.dwz_abbrev.proofs.rows.Rows.decl_behind.Goals.{in-Some+else-decl-code, in_default}
+
+pub returns-then-place-skip : goal.returns-then-place-skip
+returns-then-place-skip c =
+    let rows = c.self.inside.decls.items in
+    let at : slice_get rows c.saturating_sub-place.result ≡ Some c.in-Some.decl.now = search (rules, slice_get_read) in
+    let different = subst (AllPairs Differ) (sym c.self.view_is) c.requires in
+    subst (λ (t : List Declaration). None ≡ find_decl (drop c.args.skip t) c.args.code) c.self.view_is
+    (at_no_place rows c.self.inside.places c.args.skip c.args.code c.self.invariant different c.saturating_sub-place.result c.in-Some.decl.now at c.if-decl-code.true c.if-place-skip.true)
+
+pub returns-else-place-skip : goal.returns-else-place-skip
+returns-else-place-skip c =
+    let rows = c.self.inside.decls.items in
+    let at : slice_get rows c.saturating_sub-place.result ≡ Some c.in-Some.decl.now = search (rules, slice_get_read) in
+    let different = subst (AllPairs Differ) (sym c.self.view_is) c.requires in
+    subst (λ (t : List Declaration). Some (decl_view c.in-Some.decl.now) ≡ find_decl (drop c.args.skip t) c.args.code) c.self.view_is
+    (at_place rows c.self.inside.places c.args.skip c.args.code c.self.invariant different c.saturating_sub-place.result c.in-Some.decl.now at c.if-decl-code.true c.if-place-skip.false)
+
+pub returns : goal.returns
+returns c =
+    let rows = c.self.inside.decls.items in
+    let different = subst (AllPairs Differ) (sym c.self.view_is) c.requires in
+    let not_first : or_else (slice_get rows (c.args.code - 1)) c.args.code None ≡ None =
+    elim c.match-get.branch [
+      | in-Some+else-decl-code w ↦
+          let at : slice_get rows (c.args.code - 1) ≡ Some w.in-Some.decl.now = search (rules, slice_get_read) in
+          not_it (slice_get rows (c.args.code - 1)) w.in-Some.decl.now c.args.code None at w.if-decl-code.false
+      | in_default w ↦
+          let past : length rows ≤ c.args.code - 1 = search rules in
+          ap (λ (o : Option Decl). or_else o c.args.code None) (slice_get_past rows (c.args.code - 1) past)
+    ] in
+    subst (λ (t : List Declaration). option_map decl_view (option_copied c.stored_behind.result) ≡ find_decl (drop c.args.skip t) c.args.code) c.self.view_is
+    (ap (option_map decl_view) c.stored_behind.ensures
+    ∙ ap (λ (ds : List Decl). option_map decl_view (stored_decl_behind ds c.self.inside.places c.args.skip c.args.code)) c.as_slice-decls.ensures.value
+    ∙ at_stored rows c.self.inside.places c.args.skip c.args.code c.self.invariant different not_first)

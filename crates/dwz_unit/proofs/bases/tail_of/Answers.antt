@@ -1,0 +1,16 @@
+use Rattle.std.proofs.Common.{◌≡◌, ℕ, List, Some, get_or, rules, ap, sym, ◌∙◌}
+use Rattle.std.specs.Prelude.{slice_get}
+use Rattle.std.specs.Ordering.{is_eq}
+use Rattle.std.proofs.lemmas.Option.{slice_get-get_or, slice_get_read}
+use Rattle.dwz_unit.proofs.NumberLemmas.{is_same}
+use Rattle.dwz_unit.proofs.bases.tail_of.Goals as goal
+
+pub returns-in-Ok : goal.returns-in-Ok
+returns-in-Ok c =
+    let places = c.as_slice.result.now in
+    let here : get_or places c.in-Ok.skip 0 ≡ c.args.offset = is_same (get_or places c.in-Ok.skip 0) c.args.offset (ap is_eq (c.in-Ok.ensures.ok 0)) in
+    record {
+      read = c.in_ok-read.read.now;
+      base = search (rules, slice_get_read);
+      start = ap (λ (w : List ℕ). slice_get w c.in-Ok.skip) (sym c.as_slice.ensures.value) ∙ slice_get-get_or places c.in-Ok.skip 0 c.in-Ok.ensures.bound ∙ ap (λ (n : ℕ). Some n) here;
+    }

@@ -1,0 +1,92 @@
+#!/usr/bin/env python3
+"""Tries what runs do to files on a disk that others write at the same time, or that stand in their way.
+
+    tools/disk_runs.py [--program PROGRAM] [--times N]
+
+N times two runs at once write to one OUT, each another file: afterwards OUT is as one of them writes it, nothing else is there, and each run ended with
+status 0, or with 4 where the other's temporary file was in its way. Then a file, and a link to a file, stand at the name of the temporary file: the run
+ends with status 4, and both are untouched. The last line is `wrong N`, and the status is 1 where N isn't 0. It belongs to no gate.
+"""
+
+import argparse
+import os
+import subprocess
+import sys
+import tempfile
+from collections import Counter
+
+from hard_inputs import many_shapes
+
+
+def content_of(path):
+    with open(path, "rb") as file:
+        return file.read()
+
+
+def put(path, content):
+    with open(path, "wb") as file:
+        file.write(content)
+
+
+def started(program, folder, name):
+    return subprocess.Popen([program, "-q", "-o", "out", name], cwd=folder, stdout=subprocess.DEVNULL, stderr=subprocess.DEVNULL)
+
+
+def written(program, folder, name):
+    """What a run by itself writes of a file."""
+    if started(program, folder, name).wait():
+        sys.exit("%s is refused" % name)
+    content = content_of(os.path.join(folder, "out"))
+    os.remove(os.path.join(folder, "out"))
+    return content
+
+
+def at_once(program, folder, expected, times):
+    """How often which statuses came, and how often what was there afterwards was wrong."""
+    seen, wrong = Counter(), 0
+    for _ in range(times):
+        runs = [started(program, folder, name) for name in expected]
+        statuses = tuple(sorted(run.wait() for run in runs))
+        seen[statuses] += 1
+        is_whole = content_of(os.path.join(folder, "out")) in expected.values()
+        wrong += not is_whole or statuses not in ((0, 0), (0, 4)) or sorted(os.listdir(folder)) != sorted([*expected, "out"])
+        os.remove(os.path.join(folder, "out"))
+    return seen, wrong
+
+
+def in_the_way(program, folder, place_it):
+    """Whether a run leaves alone what stands at the name of its temporary file."""
+    way = os.path.join(folder, "out.dwz-tmp")
+    other = os.path.join(folder, "other")
+    put(other, b"another file")
+    place_it(other, way)
+    status = started(program, folder, "one").wait()
+    is_well = status == 4 and content_of(other) == b"another file" and content_of(way) == b"another file"
+    is_well = is_well and not os.path.exists(os.path.join(folder, "out"))
+    os.remove(way)
+    os.remove(other)
+    return is_well
+
+
+def main():
+    parser = argparse.ArgumentParser(description=__doc__, formatter_class=argparse.RawDescriptionHelpFormatter)
+    parser.add_argument("--program", default=os.path.join(os.path.dirname(__file__), "../crates/dwz/out/dwz"))
+    parser.add_argument("--times", type=int, default=500)
+    options = parser.parse_args()
+    program = os.path.abspath(options.program)
+    with tempfile.TemporaryDirectory() as folder:
+        put(os.path.join(folder, "one"), many_shapes(200, False))
+        put(os.path.join(folder, "two"), many_shapes(30000, False))
+        expected = {name: written(program, folder, name) for name in ("one", "two")}
+        seen, wrong = at_once(program, folder, expected, options.times)
+        print("two runs at once: %s" % ", ".join("statuses %d and %d: %d times" % (*statuses, count) for statuses, count in sorted(seen.items())))
+        for what, place_it in (("a file", os.link), ("a link", os.symlink)):
+            is_well = in_the_way(program, folder, place_it)
+            print("%s at the name of the temporary file: %s" % (what, "untouched, status 4" if is_well else "WRONG"))
+            wrong += not is_well
+    print("wrong %d" % wrong)
+    return 1 if wrong else 0
+
+
+if __name__ == "__main__":
+    sys.exit(main())

@@ -1,0 +1,116 @@
+#!/usr/bin/env python3
+"""Measures the program on files that are made to be hard: an entry with 40,000 attributes, 4,000 units over the suffixes of one
+abbreviation table, and 40,000 abbreviations whose shapes have one hash, beside as many that haven't.
+
+    tools/hard_inputs.py [--program PROGRAM] [--times N]
+
+Each file is written elsewhere (`-o`) by one worker, N times; of each are told the least processor time and the most memory. It belongs to no gate.
+"""
+
+import argparse
+import os
+import struct
+import tempfile
+
+from bench_runs import best_of
+from many_units import elf
+
+NAME, BYTE_SIZE, ENCODING, FIRST_USER_NAME = 0x03, 0x0B, 0x3E, 0x2000
+STRING, DATA1, IMPLICIT_CONST = 0x08, 0x0B, 0x21
+COMPILE_UNIT, BASE_TYPE, VARIABLE = 0x11, 0x24, 0x34
+
+# How a shape is hashed (dwz_tables): from 0 on, for each word the exclusive or with it, times this, of which 64 bits stay.
+STEP, MASK = 0x9E3779B97F4A7C15, (1 << 64) - 1
+
+
+def uleb(number):
+    out = b""
+    while number > 127:
+        out, number = out + bytes([number & 127 | 128]), number >> 7
+    return out + bytes([number])
+
+
+def sleb(number):
+    out = b""
+    while not -64 <= number < 64:
+        out, number = out + bytes([number & 127 | 128]), number >> 7
+    return out + bytes([number & 127])
+
+
+def declaration(code, tag, children, pairs):
+    """A declaration; a pair is a name, a form and, for implicit_const, the constant."""
+    spelled = b"".join(uleb(name) + uleb(form) + (sleb(more[0]) if more else b"") for name, form, *more in pairs)
+    return uleb(code) + uleb(tag) + bytes([children]) + spelled + b"\0\0"
+
+
+def unit(table, body):
+    body = struct.pack("<HBBI", 5, 1, 8, table) + body
+    return struct.pack("<I", len(body)) + body
+
+
+# A unit's declaration, and that of a base type, which stands in each unit of a file, so that something moves.
+FRONT = declaration(1, COMPILE_UNIT, 1, [(NAME, STRING)]) + declaration(2, BASE_TYPE, 0, [(NAME, STRING), (BYTE_SIZE, DATA1), (ENCODING, DATA1)])
+INT = b"\x02a type with a name of some length\0\x04\x05"
+
+
+def two_units(table, body):
+    """A file of two units, of which the second has these entries besides."""
+    info = unit(0, b"\x01first\0" + INT + b"\0") + unit(0, b"\x01second\0" + INT + body + b"\0")
+    return elf(info, FRONT + table + b"\0")
+
+
+def many_attributes(count):
+    pairs = [(FIRST_USER_NAME + number, DATA1) for number in range(count)]
+    return two_units(declaration(3, VARIABLE, 0, pairs), b"\x03" + bytes(number & 255 for number in range(count)))
+
+
+def suffixes(count):
+    """Units of one entry each; each has its own suffix of one table."""
+    table, starts = b"", []
+    for number in range(count):
+        starts.append(len(table))
+        table += declaration(number + 1, COMPILE_UNIT, 0, [(NAME, STRING)])
+    return elf(b"".join(unit(start, uleb(number + 1) + b"u\0") for number, start in enumerate(starts)), table + b"\0")
+
+
+def constants(count, one_hash):
+    """For each name a constant, such that all shapes with these two have one hash, or that they have as many bytes and differ."""
+    found = []
+    for number in range(count):
+        state = 0
+        for word in (VARIABLE, 0, FIRST_USER_NAME + number, IMPLICIT_CONST):
+            state = (state ^ word) * STEP & MASK
+        word = state if one_hash else state ^ number * STEP & MASK
+        found.append(word - (1 << 64) if word >> 63 else word)
+    return found
+
+
+def many_shapes(count, one_hash):
+    table, body = b"", b""
+    for number, constant in enumerate(constants(count, one_hash)):
+        table += declaration(number + 3, VARIABLE, 0, [(FIRST_USER_NAME + number, IMPLICIT_CONST, constant)])
+        body += uleb(number + 3)
+    return two_units(table, body)
+
+
+def main():
+    parser = argparse.ArgumentParser(description=__doc__, formatter_class=argparse.RawDescriptionHelpFormatter)
+    parser.add_argument("--program", default=os.path.join(os.path.dirname(__file__), "../crates/dwz/out/dwz"))
+    parser.add_argument("--times", type=int, default=5)
+    options = parser.parse_args()
+    files = (
+        ("an entry with 40,000 attributes", many_attributes(40000)),
+        ("4,000 units over suffixes of one table", suffixes(4000)),
+        ("40,000 shapes of one hash", many_shapes(40000, True)),
+        ("40,000 shapes of different hashes", many_shapes(40000, False)),
+    )
+    for name, content in files:
+        with tempfile.NamedTemporaryFile() as file:
+            file.write(content)
+            file.flush()
+            run = best_of(options.times, [os.path.abspath(options.program), "-j", "1", "-o", "out", file.name])
+        print("%s, %d bytes: %s" % (name, len(content), "refused" if run is None else "%.3f s, %d MB" % (run.cpu, run.memory // 1024)))
+
+
+if __name__ == "__main__":
+    main()

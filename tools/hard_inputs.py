@@ -1,6 +1,7 @@
 #!/usr/bin/env python3
 """Measures the program on files that are made to be hard: an entry with 40,000 attributes, 4,000 units over the suffixes of one
-abbreviation table, and 40,000 abbreviations whose shapes have one hash, beside as many that haven't.
+abbreviation table (in ascending, descending and random order of offset), and 40,000 abbreviations whose shapes have one hash,
+beside as many that haven't.
 
     tools/hard_inputs.py [--program PROGRAM] [--times N]
 
@@ -9,6 +10,7 @@ Each file is written elsewhere (`-o`) by one worker, N times; of each are told t
 
 import argparse
 import os
+import random
 import struct
 import tempfile
 
@@ -64,13 +66,15 @@ def many_attributes(count):
     return two_units(declaration(3, VARIABLE, 0, pairs), b"\x03" + bytes(number & 255 for number in range(count)))
 
 
-def suffixes(count):
-    """Units of one entry each; each has its own suffix of one table."""
+def suffixes(count, arrange):
+    """Units of one entry each, in that order; each has its own suffix of one table."""
     table, starts = b"", []
     for number in range(count):
         starts.append(len(table))
         table += declaration(number + 1, COMPILE_UNIT, 0, [(NAME, STRING)])
-    return elf(b"".join(unit(start, uleb(number + 1) + b"u\0") for number, start in enumerate(starts)), table + b"\0")
+    units = [unit(start, uleb(number + 1) + b"u\0") for number, start in enumerate(starts)]
+    arrange(units)
+    return elf(b"".join(units), table + b"\0")
 
 
 def constants(count, one_hash):
@@ -100,7 +104,9 @@ def main():
     options = parser.parse_args()
     files = (
         ("an entry with 40,000 attributes", many_attributes(40000)),
-        ("4,000 units over suffixes of one table", suffixes(4000)),
+        ("4,000 units over suffixes of one table, ascending", suffixes(4000, lambda units: None)),
+        ("the same, descending", suffixes(4000, list.reverse)),
+        ("the same, shuffled", suffixes(4000, random.Random(1).shuffle)),
         ("40,000 shapes of one hash", many_shapes(40000, True)),
         ("40,000 shapes of different hashes", many_shapes(40000, False)),
     )

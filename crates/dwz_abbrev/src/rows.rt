@@ -38,7 +38,7 @@ impl Model for Rows {
 
 // A declaration, if it has the code.
 #[inline(always)]
-fn having(decl: Option<&Decl>, code: u64) -> Option<&Decl>
+fn decl_with_code(decl: Option<&Decl>, code: u64) -> Option<&Decl>
     ensures { option_copied result ≡ or_else (option_copied decl.entry) code None }
 {
     match decl {
@@ -49,16 +49,16 @@ fn having(decl: Option<&Decl>, code: u64) -> Option<&Decl>
 
 // The declaration with a code at the place that is stored for it.
 #[inline(never)]
-fn stored<'a>(decls: &'a [Decl], places: &BTreeMap<u64, usize>, code: u64) -> Option<&'a Decl>
+fn find_stored<'a>(decls: &'a [Decl], places: &BTreeMap<u64, usize>, code: u64) -> Option<&'a Decl>
     ensures { option_copied result ≡ stored_decl decls.now places.now code }
 {
     let place = *places.get(&code)?;
-    having(decls.get(place), code)
+    decl_with_code(decls.get(place), code)
 }
 
 // The same, of those behind the first so many.
 #[inline(never)]
-fn stored_behind<'a>(
+fn find_stored_behind<'a>(
     decls: &'a [Decl],
     places: &BTreeMap<u64, usize>,
     skip: usize,
@@ -70,7 +70,7 @@ fn stored_behind<'a>(
     if place < skip {
         return None;
     }
-    having(decls.get(place), code)
+    decl_with_code(decls.get(place), code)
 }
 
 // Stores the place of a declaration with a code, unless it follows from the code.
@@ -107,7 +107,7 @@ impl Rows {
                 return Some(decl);
             }
         }
-        stored(decls, &self.places, code)
+        find_stored(decls, &self.places, code)
     }
 
     // The declaration with a code, if one has it of those behind the first so many.
@@ -123,7 +123,7 @@ impl Rows {
                 return if place < skip { None } else { Some(decl) };
             }
         }
-        stored_behind(decls, &self.places, skip, code)
+        find_stored_behind(decls, &self.places, skip, code)
     }
 
     // Appends a declaration with a code of its own.

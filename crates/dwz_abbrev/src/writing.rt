@@ -70,7 +70,7 @@ fn put_decls(out: &mut Vec<u8>, decls: &[Decl]) -> Result<(), NoMemory>
 }
 
 // The declarations by their codes.
-fn sorted<'a>(alloc: Global, decls: &'a [Decl]) -> Result<BTreeMap<u64, &'a Decl>, NoMemory>
+fn sort_decls<'a>(alloc: Global, decls: &'a [Decl]) -> Result<BTreeMap<u64, &'a Decl>, NoMemory>
     requires { AllPairs Differ (views decls.now) }
     ensures { IfOk result (λ order. lent_views (values order) ≡ by_code (views decls.now)) }
 {
@@ -89,7 +89,7 @@ fn put_sorted(out: &mut Vec<u8>, decls: &[Decl]) -> Result<(), NoMemory>
     ensures begins { Begins out.old.items out.new.items }
 {
     let alloc = *out.allocator();
-    let order = sorted(alloc, decls)?;
+    let order = sort_decls(alloc, decls)?;
     for decl in order.values() {
         put_decl(out, decl)?;
     }

@@ -3,7 +3,7 @@ use Rattle.std.specs.Prelude.{◌≡◌, ℕ, ◌+◌, ◌^◌, ◌<◌, ◌≤�
 use Rattle.dwz_docs.specs.Units.{RawUnit, entries_in}
 use Rattle.dwz_meanings.specs.Documents.{DwUnit, unit_map}
 use Rattle.dwz_meanings.specs.Files.{around_of}
-use Rattle.dwz_meanings.specs.Meanings.{unit_meaning}
+use Rattle.dwz_meanings.specs.Meant.{unit_meaning}
 use Rattle.dwz_alike.specs.Spots.{Top, in_file, tops_of, units_of}
 use Rattle.dwz_graph.specs.declared.file.File.{File}
 use Rattle.dwz_graph.specs.Files.{AreKept, docs_of}

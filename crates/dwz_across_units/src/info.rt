@@ -51,7 +51,7 @@ fn pages<R: Threads + Sync>(
 }
 
 // Pages one behind the other. The buffer of the first has room for all.
-fn joined(alloc: Global, pages: Vec<Blob>) -> Result<Vec<u8>, NoMemory>
+fn join_pages(alloc: Global, pages: Vec<Blob>) -> Result<Vec<u8>, NoMemory>
     ensures { IfOk result (λ info. info.items ≡ flat_map (λ page. page) pages.items) }
 {
     let mut later = pages.into_iter();
@@ -89,5 +89,5 @@ pub fn info_by<R: Threads + Sync>(
     let outs = laid.units.as_slice();
     let stretches = stretches(alloc, first, units, outs, laid.end, least)?;
     let pages = pages(rt, alloc, known, spots, stretches.as_slice())?;
-    joined(alloc, pages)
+    join_pages(alloc, pages)
 }

@@ -13,7 +13,7 @@ ghost use Rattle.dwz_after.specs.Common.{FaultWith, IsCommonMade, IsLargeWith, r
 ghost use Rattle.dwz_after.specs.NewFiles.{IsFound, IsNewCommon};
 
 use crate::faults::{TOO_LARGE, first_large, too_large};
-use crate::rows::copied;
+use crate::rows::copy_name;
 use dwz_graph::Graph;
 use dwz_model::{Blob, Fault, NewSections, NoMemory};
 use dwz_sup::{checksum, common_file, debug_sup};
@@ -161,7 +161,7 @@ pub(crate) fn sup_of_file(
         → IfOk result (λ sup. sup ≡ sup_after (sup_name o) r file) }
 {
     match common {
-        Some(common) if imports => Ok(Some(copied(alloc, &common.sup)?)),
+        Some(common) if imports => Ok(Some(copy_name(alloc, &common.sup)?)),
         _ => Ok(None),
     }
 }

@@ -14,7 +14,7 @@ ghost use Rattle.dwz_after.specs.Making.{AnswersAll, AnswersFile, CanMake};
 use crate::common::{CommonFile, sup_of_file};
 use crate::faults::{ABBREV, ARANGES, INFO, LINE, LOCLISTS, STR, STR_OFFSETS, in_file};
 use crate::new_file::NewFile;
-use crate::rows::taken;
+use crate::rows::take_row;
 use dwz_elf::{Elf, Rebuild};
 use dwz_graph::Graph;
 use dwz_model::{Blob, GraphErr, NewSections, NoMemory, ReadErr};
@@ -47,7 +47,7 @@ fn add_sup(rebuild: &mut Rebuild<'_>, sup: Option<Blob>) -> Result<(), NoMemory>
 }
 
 // The file with these sections in place of its own, and with that `.debug_sup`.
-fn rebuilt(
+fn rebuild_file(
     alloc: Global,
     bytes: &[u8],
     elf: &Elf,
@@ -101,7 +101,7 @@ fn made_file(
         imports,
     } = new;
     let sup = sup_of_file(alloc, common, imports)?;
-    match rebuilt(alloc, bytes, elf, sections, sup) {
+    match rebuild_file(alloc, bytes, elf, sections, sup) {
         Ok(out) => Ok(Some(Blob::new(out))),
         Err(ReadErr::Refused(fault)) => Err(GraphErr::Refused(in_file(file, fault))),
         Err(ReadErr::NoMemory) => Err(GraphErr::NoMemory),
@@ -126,7 +126,7 @@ pub(crate) fn all_made(
     let mut files = Vec::new(alloc);
     for (file, content) in contents.iter().enumerate() {
         let number = file as u32;
-        let new = taken(&mut made, file);
+        let new = take_row(&mut made, file);
         let bytes = made_file(
             alloc,
             number,

@@ -8,7 +8,7 @@ ghost use Rattle.dwz_after.specs.Common.{IsCommonMade};
 ghost use Rattle.dwz_after.specs.Making.{AreBefore, AreBytesOf};
 
 use crate::common::CommonFile;
-use crate::rows::{content_of, copied, taken};
+use crate::rows::{content_of, copy_name, take_row};
 use dwz_model::{Blob, NoMemory};
 use dwz_outside::Put;
 use dwz_words::Options;
@@ -34,7 +34,7 @@ fn add_put(
         Some(new) => new,
         None => Blob::new(Vec::from_slice(alloc, old)?),
     };
-    let name = copied(alloc, place)?;
+    let name = copy_name(alloc, place)?;
     puts.push(Put { name, bytes })?;
     Ok(())
 }
@@ -52,7 +52,7 @@ fn add_common(
         && let Some(CommonFile { bytes, sup: _ }) = common
     {
         puts.push(Put {
-            name: copied(alloc, name)?,
+            name: copy_name(alloc, name)?,
             bytes,
         })?;
     }
@@ -73,7 +73,7 @@ pub(crate) fn puts(
     let mut puts = Vec::new(alloc);
     add_common(alloc, &mut puts, &options.common, common)?;
     for (file, name) in options.files.as_slice().iter().enumerate() {
-        let new = taken(&mut files, file);
+        let new = take_row(&mut files, file);
         let old = content_of(contents, file);
         add_put(alloc, &mut puts, &options.out, name, old, new)?;
     }

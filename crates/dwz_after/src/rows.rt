@@ -8,7 +8,7 @@ use dwz_model::{Blob, NoMemory};
 use std::alloc::Global;
 
 /// The row with a number, which is left empty; None where there is none.
-pub(crate) fn taken<T>(rows: &mut Vec<Option<T>>, row: usize) -> Option<T>
+pub(crate) fn take_row<T>(rows: &mut Vec<Option<T>>, row: usize) -> Option<T>
     ensures row { result ≡ get_or rows.old.items row None }
     ensures others { (k : ℕ) → k ≢ row → get_or rows.new.items k None ≡ get_or rows.old.items k None }
 {
@@ -44,7 +44,7 @@ pub(crate) fn look_at_all(contents: &[Vec<u8>])
 }
 
 /// The same name.
-pub(crate) fn copied(alloc: Global, name: &Blob) -> Result<Blob, NoMemory>
+pub(crate) fn copy_name(alloc: Global, name: &Blob) -> Result<Blob, NoMemory>
     ensures { IfOk result (λ copy. copy ≡ name.now) }
 {
     Ok(Blob::new(Vec::from_slice(alloc, name.as_slice())?))

@@ -9,7 +9,7 @@ ghost use Rattle.dwz_after.specs.Common.{IsCommonMade};
 ghost use Rattle.dwz_after.specs.Making.{AreBefore, AreBytesOf};
 
 use crate::common::CommonFile;
-use crate::rows::{content_of, copied};
+use crate::rows::{content_of, copy_name};
 use dwz_model::{Blob, NoMemory};
 use std::alloc::Global;
 
@@ -23,7 +23,7 @@ pub(crate) fn common_line(
 {
     match (name, common) {
         (Some(name), Some(common)) => {
-            Ok(Some((copied(alloc, name)?, common.bytes.len() as u64)))
+            Ok(Some((copy_name(alloc, name)?, common.bytes.len() as u64)))
         }
         _ => Ok(None),
     }
@@ -52,7 +52,7 @@ pub(crate) fn lines(
     let mut lines = Vec::new(alloc);
     for (file, name) in names.iter().enumerate() {
         let old = content_of(contents, file).len() as u64;
-        lines.push((copied(alloc, name)?, old, new_length(files, file)))?;
+        lines.push((copy_name(alloc, name)?, old, new_length(files, file)))?;
     }
     Ok(lines)
 }

@@ -14,7 +14,7 @@ use Rattle.dwz_moving.specs.Homes.{Common, Home, IsChoice, Rule}
 use Rattle.dwz_moving.specs.Moves.{line_attrs, line_in, names_path, plan, root_in_part}
 use Rattle.dwz_moving.specs.Plan.{PartialUnit}
 use Rattle.dwz_moving.specs.IsPlan.{Has, OfTop}
-use Rattle.dwz_moving.proofs.RowParts.{part_is as part_row_is}
+use Rattle.dwz_moving.proofs.PartRows.{part_is as part_row_is}
 use Rattle.dwz_same.specs.After.{ArePlaced, FilesSame, Place, Replaces, at_file, name_in}
 use Rattle.dwz_same.specs.Units.{all_units, changes, common_units, out_units, partial_units, units_at}
 use Rattle.dwz_same.proofs.FileLemmas.{files_same, replaced}

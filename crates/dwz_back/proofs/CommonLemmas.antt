@@ -21,7 +21,7 @@ use Rattle.dwz_moving.specs.Moves.{Move, image_in, plan, seen_top}
 use Rattle.dwz_moving.specs.Plan.{PartialUnit, stand_in}
 use Rattle.dwz_moving.proofs.HomeLemmas.{home_is}
 use Rattle.dwz_moving.proofs.PlanLemmas.{are_parts}
-use Rattle.dwz_moving.proofs.RowParts.{part_is}
+use Rattle.dwz_moving.proofs.PartRows.{part_is}
 use Rattle.dwz_moving.proofs.StandLemmas.{targets_move, targets_used}
 use Rattle.dwz_moving.proofs.UserLemmas.{Fair, home_same, leads, move_stand, moving}
 use Rattle.dwz_same.specs.After.{AreOld, ArePlaced, IsNamedBelow}

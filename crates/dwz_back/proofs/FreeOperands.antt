@@ -8,8 +8,12 @@ use Rattle.dwz_docs.proofs.CaseFacts.{or_left, or_right}
 use Rattle.dwz_meanings.specs.declared.exprs.Operand.{Operand}
 use Rattle.dwz_meanings.specs.Documents.{Attr, DwUnit, Entries, Expr, Loc, Node, Plain, Sec, Value, attr_map, first_named, only, value_map}
 use Rattle.dwz_meanings.specs.Exprs.{Expression, parts_from, parts_of}
-use Rattle.dwz_meanings.specs.Meanings.{Class, IsExpression, IsListBySlot, MeansAs, OfCommonEntry, OfConstant, OfExpression, OfInfoEntry, OfListIndex, OfOffset, OfTextBySlot, OfTextInLineStr}
-use Rattle.dwz_meanings.specs.Meanings.{OfTextInStr, OfUnitEntry, class_in, class_of, class_rows, names_file, names_list, offset_of, targets}
+use Rattle.dwz_meanings.specs.Meanings.{IsExpression, IsListBySlot, MeansAs}
+use Rattle.dwz_meanings.specs.Classes.{OfCommonEntry, OfConstant, OfExpression, OfInfoEntry, OfListIndex, OfOffset, OfTextBySlot, OfTextInLineStr}
+use Rattle.dwz_meanings.specs.Classes.{Class}
+use Rattle.dwz_meanings.specs.Meanings.{offset_of, targets}
+use Rattle.dwz_meanings.specs.Classes.{OfTextInStr, OfUnitEntry}
+use Rattle.dwz_meanings.specs.Classes.{class_in, class_of, class_rows, names_file, names_list}
 use Rattle.dwz_seen.specs.Lists.{Nth}
 use Rattle.dwz_seen.proofs.Members.{each_in, each_more, each_of}
 use Rattle.dwz_alike.specs.Alike.{IsAlike, Movable, TopScope, binding_forms, has_address, has_operand, holds_place, is_named, is_operand, leaves}
@@ -20,7 +24,7 @@ use Rattle.dwz_moving.specs.IsPlan.{Has, OfSpace, OfTop}
 use Rattle.dwz_moving.specs.Moves.{Move, first_unit, image_in, line_attrs, line_in, line_of, names_path, plan, root_in_part, root_of}
 use Rattle.dwz_meanings.proofs.DecideLemmas.{if_false}
 use Rattle.dwz_moving.specs.Plan.{PartialUnit}
-use Rattle.dwz_moving.proofs.RowParts.{part_is as part_row_is}
+use Rattle.dwz_moving.proofs.PartRows.{part_is as part_row_is}
 use Rattle.dwz_moving.proofs.StandLemmas.{fair}
 use Rattle.dwz_moving.proofs.UserLemmas.{moves_self}
 use Rattle.dwz_same.specs.Held.{IsHeld}

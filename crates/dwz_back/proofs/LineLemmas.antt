@@ -9,9 +9,14 @@ use Rattle.dwz_docs.specs.Trees.{End}
 use Rattle.dwz_docs.specs.Values.{SpellsShape, constant_of, shape_of}
 use Rattle.dwz_docs.proofs.WrittenLemmas.{fixed_less}
 use Rattle.dwz_meanings.specs.Documents.{Attr, File, Node, Plain, Sec, Value, attr_map, first_named, only, value_map}
-use Rattle.dwz_meanings.specs.Meanings.{Class, IfSo, IsFileBy, IsFileNumber, IsLocList, MeansAs, OfAddress, OfBlock, OfCommonEntry, OfCommonText, OfConstant, OfExpression, OfFlag, OfIndex}
-use Rattle.dwz_meanings.specs.Meanings.{OfInfoEntry, OfListIndex, OfOffset, OfSignature, OfText, OfTextBySlot, OfTextInLineStr, OfTextInStr, OfUnitEntry, Scope, Unread, class_of, constant_value}
-use Rattle.dwz_meanings.specs.Meanings.{names_file, names_list, number_of, offset_of, stmt_list}
+use Rattle.dwz_meanings.specs.Meanings.{IfSo, IsFileBy, IsFileNumber, IsLocList, MeansAs}
+use Rattle.dwz_meanings.specs.Classes.{OfAddress, OfBlock, OfCommonEntry, OfCommonText, OfConstant, OfExpression, OfFlag, OfIndex}
+use Rattle.dwz_meanings.specs.Classes.{Class}
+use Rattle.dwz_meanings.specs.Meanings.{Scope, constant_value}
+use Rattle.dwz_meanings.specs.Classes.{OfInfoEntry, OfListIndex, OfOffset, OfSignature, OfText, OfTextBySlot, OfTextInLineStr, OfTextInStr, OfUnitEntry, Unread}
+use Rattle.dwz_meanings.specs.Classes.{class_of}
+use Rattle.dwz_meanings.specs.Meanings.{number_of, offset_of, stmt_list}
+use Rattle.dwz_meanings.specs.Classes.{names_file, names_list}
 use Rattle.dwz_meanings.proofs.DecideLemmas.{if_false, if_true}
 use Rattle.dwz_seen.specs.Lists.{Nth}
 use Rattle.dwz_seen.proofs.Members.{any_false, any_from, each_in, nth_from}
@@ -23,7 +28,7 @@ use Rattle.dwz_moving.specs.Homes.{Common, Home, IsChoice, Local, Rule}
 use Rattle.dwz_moving.specs.IsPlan.{Has, OfSpace, OfTop, SpaceOf}
 use Rattle.dwz_moving.specs.Moves.{Move, first_unit, has_path, image_in, line_attr, line_attrs, line_in, line_of, names_path, plan, root_in_part, root_of}
 use Rattle.dwz_moving.specs.Plan.{PartialUnit}
-use Rattle.dwz_moving.proofs.RowParts.{part_is as part_row_is}
+use Rattle.dwz_moving.proofs.PartRows.{part_is as part_row_is}
 use Rattle.dwz_same.specs.After.{AreOld}
 use Rattle.dwz_same.specs.Held.{IsHeld}
 use Rattle.dwz_same.specs.Units.{partial_unit, tree}

@@ -9,7 +9,9 @@ use Rattle.dwz_docs.specs.Trees.{End, Entry}
 use Rattle.dwz_meanings.specs.declared.exprs.Operand.{Operand as AnOperand}
 use Rattle.dwz_meanings.specs.Documents.{Attr, DwUnit, Entries, Expr, Operand, Part, Plain, Same, attr_map, entries_map, unit_map}
 use Rattle.dwz_meanings.specs.Exprs.{parts_of}
-use Rattle.dwz_meanings.specs.Meanings.{Class, IfSo, OfExpression, OfListIndex, OfOffset, class_of, names_list}
+use Rattle.dwz_meanings.specs.Meanings.{IfSo}
+use Rattle.dwz_meanings.specs.Classes.{OfExpression, OfListIndex, OfOffset}
+use Rattle.dwz_meanings.specs.Classes.{Class, class_of, names_list}
 use Rattle.dwz_meanings.specs.Shared.{own_operands}
 use Rattle.dwz_alike.specs.Alike.{has_operand, is_operand, joined_parts}
 use Rattle.dwz_alike.proofs.Targets.{or_first, or_second}

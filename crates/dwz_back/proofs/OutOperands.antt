@@ -6,7 +6,7 @@ use Rattle.dwz_model.specs.declared.place.Base.TheVariants.{Unit as FromUnit, In
 use Rattle.dwz_docs.specs.Lists.{Each, In}
 use Rattle.dwz_docs.proofs.ListFacts.{in_cases, in_left, in_right}
 use Rattle.dwz_meanings.specs.Documents.{Attr, DwUnit, Node, attr_map}
-use Rattle.dwz_meanings.specs.Meanings.{Class}
+use Rattle.dwz_meanings.specs.Classes.{Class}
 use Rattle.dwz_seen.specs.Lists.{Nth}
 use Rattle.dwz_seen.specs.Seen.{Seen, see, seen}
 use Rattle.dwz_seen.proofs.Members.{any_true, each_append, each_in, each_more, each_of, each_split, in_filter_from, in_map_from, in_nth, nth_in}

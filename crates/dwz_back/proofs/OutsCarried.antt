@@ -12,7 +12,8 @@ use Rattle.dwz_moving.specs.IsPlan.{Has, OfSpace, OfTop}
 use Rattle.dwz_alike.specs.Alike.{IsAlike, TopScope}
 use Rattle.dwz_moving.specs.Homes.{IsChoice, Local, Rule}
 use Rattle.dwz_moving.specs.Moves.{Move, image_in, plan}
-use Rattle.dwz_moving.proofs.RowParts.{kept_is, part_is as part_row_is}
+use Rattle.dwz_moving.proofs.RowParts.{kept_is}
+use Rattle.dwz_moving.proofs.PartRows.{part_is as part_row_is}
 use Rattle.dwz_same.proofs.HeldLemmas.{row_found}
 use Rattle.dwz_back.proofs.HomeLemmas.{kept_from, part_is, parts_from, top_file}
 use Rattle.dwz_back.proofs.SpaceLemmas.{NameCarried, space_carried, top_names}

@@ -5,9 +5,14 @@ use Rattle.dwz_docs.specs.Texts.{NoZero}
 use Rattle.dwz_meanings.specs.Documents.{Attr, DwUnit, Sec, Value, only}
 use Rattle.dwz_meanings.specs.LineTables.{FileTable}
 use Rattle.dwz_meanings.specs.LinesWritten.{AreTexts}
-use Rattle.dwz_meanings.specs.Meanings.{Class, IfSo, IsFileBy, IsFileNumber, IsLocList, MeansAs, OfAddress, OfBlock, OfCommonEntry, OfCommonText, OfConstant, OfExpression, OfFlag, OfIndex}
-use Rattle.dwz_meanings.specs.Meanings.{OfInfoEntry, OfListIndex, OfOffset, OfSignature, OfText, OfTextBySlot, OfTextInLineStr, OfTextInStr, OfUnitEntry, Scope, Unread, class_of, constant_value}
-use Rattle.dwz_meanings.specs.Meanings.{names_file, names_list, number_of, offset_of, path_by, stmt_list}
+use Rattle.dwz_meanings.specs.Meanings.{IfSo, IsFileBy, IsFileNumber, IsLocList, MeansAs}
+use Rattle.dwz_meanings.specs.Classes.{OfAddress, OfBlock, OfCommonEntry, OfCommonText, OfConstant, OfExpression, OfFlag, OfIndex}
+use Rattle.dwz_meanings.specs.Classes.{Class}
+use Rattle.dwz_meanings.specs.Meanings.{Scope, constant_value}
+use Rattle.dwz_meanings.specs.Classes.{OfInfoEntry, OfListIndex, OfOffset, OfSignature, OfText, OfTextBySlot, OfTextInLineStr, OfTextInStr, OfUnitEntry, Unread}
+use Rattle.dwz_meanings.specs.Classes.{class_of}
+use Rattle.dwz_meanings.specs.Meanings.{number_of, offset_of, path_by, stmt_list}
+use Rattle.dwz_meanings.specs.Classes.{names_file, names_list}
 use Rattle.dwz_meanings.proofs.PathTexts.{nth_text, table_paths}
 use Rattle.dwz_docs.specs.Lists.{Each}
 use Rattle.dwz_writing.specs.Bases.{Bases}

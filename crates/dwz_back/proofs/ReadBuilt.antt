@@ -4,7 +4,9 @@ use Rattle.dwz_docs.specs.Entries.{RawAttr, RawEntry}
 use Rattle.dwz_docs.specs.Trees.{End, Entry, Forest}
 use Rattle.dwz_docs.specs.Units.{RawUnit}
 use Rattle.dwz_meanings.specs.Documents.{Attr, DwUnit, Entries, Value}
-use Rattle.dwz_meanings.specs.Meanings.{Around, Class, MeanAttrs, MeanEntries, MeanUnits, MeansAs, OfCommonText, Scope, Sources, Unread, class_of, scope_of, without_siblings}
+use Rattle.dwz_meanings.specs.Meanings.{Around, MeanAttrs, MeanEntries, MeanUnits, MeansAs, Scope, Sources, scope_of, without_siblings}
+use Rattle.dwz_meanings.specs.Classes.{OfCommonText, Unread}
+use Rattle.dwz_meanings.specs.Classes.{Class, class_of}
 use Rattle.dwz_docs.specs.Lists.{Each}
 use Rattle.dwz_writing.specs.Carried.{BuiltAttr, BuiltEntries, BuiltUnit, IsBuilt, IsBuiltAs}
 

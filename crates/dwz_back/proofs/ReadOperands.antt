@@ -10,8 +10,11 @@ use Rattle.dwz_docs.specs.Units.{RawUnit}
 use Rattle.dwz_meanings.specs.declared.exprs.Operand.{Operand}
 use Rattle.dwz_meanings.specs.Documents.{Attr, DwUnit, Entries, Part, Value}
 use Rattle.dwz_meanings.specs.Exprs.{AreNamed, Expression, parts_from, parts_of}
-use Rattle.dwz_meanings.specs.Meanings.{Class, IfSo, IsExpression, IsListBySlot, IsLocList, MeanAttrs, MeanEntries, MeanUnits, MeansAs, MeansAttr, MeansUnit, OfExpression, OfListIndex, OfOffset}
-use Rattle.dwz_meanings.specs.Meanings.{Scope, Sources, all_places, class_of, entries_for, expr_context, leads_to, loc_value, loclists_base, names_list, offset_of, places_of, scope_of, target_of}
+use Rattle.dwz_meanings.specs.Meanings.{IfSo, IsExpression, IsListBySlot, IsLocList, MeanAttrs, MeanEntries, MeanUnits, MeansAs, MeansAttr, MeansUnit}
+use Rattle.dwz_meanings.specs.Classes.{OfExpression, OfListIndex, OfOffset}
+use Rattle.dwz_meanings.specs.Classes.{Class}
+use Rattle.dwz_meanings.specs.Meanings.{Scope, Sources, all_places, entries_for, expr_context, leads_to, loc_value, loclists_base, offset_of, places_of, scope_of, target_of}
+use Rattle.dwz_meanings.specs.Classes.{class_of, names_list}
 use Rattle.dwz_meanings.specs.Meanings.{targets, without_siblings}
 use Rattle.dwz_meanings.specs.NamedLists.{AnyEntryNames, AnyNames, AnyUnitNames, NamesAs, NamesList, lists_of_units}
 use Rattle.dwz_meanings.specs.Shared.{NamedList, operands_of, own_operands}

@@ -16,9 +16,14 @@ use Rattle.dwz_model.specs.declared.place.Base.TheVariants.{Unit as FromUnit, In
 use Rattle.dwz_meanings.specs.declared.exprs.Operand.{Operand}
 use Rattle.dwz_meanings.specs.Exprs.{AreNamed}
 use Rattle.dwz_meanings.proofs.MeaningLemmas.{has_in}
-use Rattle.dwz_meanings.specs.Meanings.{Around, Class, IsLocList, MeanAttrs, MeanEntries, MeanUnits, MeansAs, MeansKind, MeansUnit, OfAddress, OfBlock, OfCommonEntry, OfCommonText, OfConstant}
-use Rattle.dwz_meanings.specs.Meanings.{OfExpression, OfFlag, OfIndex, OfInfoEntry, OfListIndex, OfOffset, OfSignature, OfText, OfTextBySlot, OfTextInLineStr, OfTextInStr, OfUnitEntry, Scope, Sources}
-use Rattle.dwz_meanings.specs.Meanings.{IfSo, IsFileBy, Unread, all_places, class_of, entries_for, expr_context, kept_width, names_file, names_list, number_of, offset_of, places_in, places_of}
+use Rattle.dwz_meanings.specs.Meanings.{Around, IsLocList, MeanAttrs, MeanEntries, MeanUnits, MeansAs, MeansKind, MeansUnit}
+use Rattle.dwz_meanings.specs.Classes.{OfAddress, OfBlock, OfCommonEntry, OfCommonText, OfConstant}
+use Rattle.dwz_meanings.specs.Classes.{Class}
+use Rattle.dwz_meanings.specs.Meanings.{Scope, Sources}
+use Rattle.dwz_meanings.specs.Classes.{OfExpression, OfFlag, OfIndex, OfInfoEntry, OfListIndex, OfOffset, OfSignature, OfText, OfTextBySlot, OfTextInLineStr, OfTextInStr, OfUnitEntry}
+use Rattle.dwz_meanings.specs.Meanings.{IfSo, IsFileBy, all_places, entries_for, expr_context, number_of, offset_of, places_in, places_of}
+use Rattle.dwz_meanings.specs.Classes.{Unread}
+use Rattle.dwz_meanings.specs.Classes.{class_of, kept_width, names_file, names_list}
 use Rattle.dwz_meanings.specs.Meanings.{scope_of, stmt_list, target_of, targets, without_siblings}
 use Rattle.dwz_docs.specs.Trees.{End, Entry, Forest, IfChildren, Position, SpellsForest, behind, first_below}
 use Rattle.dwz_docs.specs.Units.{CompileUnit, PartialUnit, RawKind, RawUnit, SpellsTree, SpellsUnit, SpellsUnits, TypeUnit, entry_count, header_size, is_read, kind_by, unit_type}

@@ -5,8 +5,12 @@ use Rattle.dwz_docs.specs.Lists.{Each, In}
 use Rattle.dwz_docs.specs.Trees.{End, Entry}
 use Rattle.dwz_docs.proofs.ListFacts.{in_cases}
 use Rattle.dwz_meanings.specs.Documents.{Attr, Entries, Node, File, Sec, Text, Value, first_named, language, only, value_map}
-use Rattle.dwz_meanings.specs.Meanings.{Class, IfSo, IsFileBy, IsLocList, MeansAs, OfAddress, OfBlock, OfCommonEntry, OfCommonText, OfConstant, OfExpression, OfFlag, OfIndex, OfInfoEntry, OfListIndex}
-use Rattle.dwz_meanings.specs.Meanings.{OfOffset, OfSignature, OfText, OfTextBySlot, OfTextInLineStr, OfTextInStr, OfUnitEntry, Scope, Unread, class_of, constant_value, names_file, names_list}
+use Rattle.dwz_meanings.specs.Meanings.{IfSo, IsFileBy, IsLocList, MeansAs}
+use Rattle.dwz_meanings.specs.Classes.{OfAddress, OfBlock, OfCommonEntry, OfCommonText, OfConstant, OfExpression, OfFlag, OfIndex, OfInfoEntry, OfListIndex}
+use Rattle.dwz_meanings.specs.Classes.{Class}
+use Rattle.dwz_meanings.specs.Meanings.{Scope, constant_value}
+use Rattle.dwz_meanings.specs.Classes.{OfOffset, OfSignature, OfText, OfTextBySlot, OfTextInLineStr, OfTextInStr, OfUnitEntry, Unread}
+use Rattle.dwz_meanings.specs.Classes.{class_of, names_file, names_list}
 use Rattle.dwz_meanings.specs.Meanings.{number_of, offset_of, stmt_list}
 use Rattle.dwz_seen.specs.Lists.{Nth}
 use Rattle.dwz_seen.specs.Spaces.{space_text, text_at, text_in}

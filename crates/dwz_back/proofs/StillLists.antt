@@ -4,7 +4,9 @@ use Rattle.dwz_docs.specs.Entries.{RawAttr}
 use Rattle.dwz_docs.specs.Trees.{End, Entry, Forest}
 use Rattle.dwz_docs.specs.Entries.{RawEntry}
 use Rattle.dwz_docs.specs.Units.{RawUnit}
-use Rattle.dwz_meanings.specs.Meanings.{Around, Class, Common, OfListIndex, OfOffset, Scope, Sources, class_of, without_siblings}
+use Rattle.dwz_meanings.specs.Meanings.{Around, Common, Scope, Sources, without_siblings}
+use Rattle.dwz_meanings.specs.Classes.{OfListIndex, OfOffset}
+use Rattle.dwz_meanings.specs.Classes.{Class, class_of}
 use Rattle.dwz_meanings.specs.NamedLists.{AnyEntryNames, AnyNames, AnyUnitNames, IsNamedAt, NamesAs, lists_of_units}
 use Rattle.dwz_meanings.specs.Shared.{NamedList, NoneShared}
 use Rattle.dwz_meanings.proofs.NamedLemmas.{units_name}

@@ -11,9 +11,13 @@ use Rattle.dwz_meanings.specs.Documents.{Attr, DwUnit, Entries, Expr, File, Kind
 use Rattle.dwz_meanings.specs.Exprs.{ExprContext, SpellsExpr, parts_of}
 use Rattle.dwz_meanings.specs.LocLists.{SpellsList}
 use Rattle.dwz_meanings.specs.Sequences.{StandsFrom}
-use Rattle.dwz_meanings.specs.Meanings.{Around, Class, Common, IfSo, IsExpression, IsFileBy, IsLocList, IsTextIn, MeanAttrs, MeanEntries, MeanUnits, MeansAs, MeansKind, MeansNode, OfAddress, OfBlock}
-use Rattle.dwz_meanings.specs.Meanings.{OfCommonEntry, OfCommonText, OfConstant, OfExpression, OfFlag, OfIndex, OfInfoEntry, OfListIndex, OfOffset, OfSignature, OfText, OfTextBySlot, OfTextInLineStr}
-use Rattle.dwz_meanings.specs.Meanings.{OfTextInStr, OfUnitEntry, Scope, Unread, bytes_of, class_of, constant_value, content_at, entries_for, expr_context, leads_to, names_file, names_list, number_of}
+use Rattle.dwz_meanings.specs.Meanings.{Around, Common, IfSo, IsExpression, IsFileBy, IsLocList, IsTextIn, MeanAttrs, MeanEntries, MeanUnits, MeansAs, MeansKind, MeansNode}
+use Rattle.dwz_meanings.specs.Classes.{OfAddress, OfBlock}
+use Rattle.dwz_meanings.specs.Classes.{Class}
+use Rattle.dwz_meanings.specs.Classes.{OfCommonEntry, OfCommonText, OfConstant, OfExpression, OfFlag, OfIndex, OfInfoEntry, OfListIndex, OfOffset, OfSignature, OfText, OfTextBySlot, OfTextInLineStr}
+use Rattle.dwz_meanings.specs.Meanings.{Scope, bytes_of, constant_value, content_at, entries_for, expr_context, leads_to, number_of}
+use Rattle.dwz_meanings.specs.Classes.{OfTextInStr, OfUnitEntry, Unread}
+use Rattle.dwz_meanings.specs.Classes.{class_of, names_file, names_list}
 use Rattle.dwz_meanings.specs.Meanings.{offset_of, scope_of, stmt_list, target_of, targets, without_siblings}
 use Rattle.dwz_meanings.specs.Shared.{operands_of}
 

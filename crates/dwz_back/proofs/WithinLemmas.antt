@@ -22,7 +22,8 @@ use Rattle.dwz_moving.specs.Plan.{PartialUnit, import_of, imports, kept_row}
 use Rattle.dwz_moving.proofs.HomeLemmas.{file_at, home_is}
 use Rattle.dwz_moving.proofs.KeptLemmas.{are_imports}
 use Rattle.dwz_moving.proofs.PlanLemmas.{are_parts, home_own}
-use Rattle.dwz_moving.proofs.RowParts.{kept_is, part_is}
+use Rattle.dwz_moving.proofs.RowParts.{kept_is}
+use Rattle.dwz_moving.proofs.PartRows.{part_is}
 use Rattle.dwz_moving.proofs.UserLemmas.{moving}
 use Rattle.dwz_same.specs.After.{AreOld, ArePlaced, IsNamedBelow}
 use Rattle.dwz_same.specs.Held.{IsHeld, NameNone}

@@ -17,7 +17,8 @@ use Rattle.dwz_flat.proofs.StepLemmas.{no_value}
 use Rattle.dwz_label.specs.Labels.{attr_label, each_counted, number}
 use Rattle.dwz_meanings.specs.Documents.{Attr, attr_map}
 use Rattle.dwz_meanings.specs.LineTables.{FileTable}
-use Rattle.dwz_meanings.specs.Meanings.{Around, Scope, attr_with, attrs_meaning, meaning, scope_of, with_attr, without_siblings}
+use Rattle.dwz_meanings.specs.Meanings.{Around, Scope, scope_of, without_siblings}
+use Rattle.dwz_meanings.specs.Meant.{attr_with, attrs_meaning, meaning, with_attr}
 use Rattle.dwz_resolve.specs.Named.{attrs_refs, entries_of, preorder}
 use Rattle.dwz_resolve.specs.Parts.{HasLine}
 use Rattle.dwz_unit.specs.Rows.{EntryRow, rows_below, rows_from, rows_in, rows_of}

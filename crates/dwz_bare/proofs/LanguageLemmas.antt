@@ -9,10 +9,17 @@ use Rattle.dwz_docs.specs.Texts.{slot, text_at}
 use Rattle.dwz_docs.proofs.PartLemmas.{bind_ok}
 use Rattle.dwz_meanings.specs.Documents.{Attr, Node, Plain, Sec, Text, Value, first_named, number_in, number_of_attr, only, ref}
 use Rattle.dwz_meanings.specs.Exprs.{expr_at}
-use Rattle.dwz_meanings.specs.Meanings.{Class, Common, OfAddress, OfBlock, OfCommonEntry, OfCommonText, OfConstant, OfExpression, OfFlag, OfIndex, OfInfoEntry, OfListIndex, OfOffset, OfSignature}
-use Rattle.dwz_meanings.specs.Meanings.{OfText, OfTextBySlot, OfTextInLineStr, OfTextInStr, OfUnitEntry, Scope, Unread, as_class, attr_with, bytes_of, common_entry, common_text, constant_value}
-use Rattle.dwz_meanings.specs.Meanings.{content_at, expr_context, expr_said, expr_value, file_by, first_raw, has, list_by, list_from, list_meaning, loclists_base, meaning, names_file, names_list}
-use Rattle.dwz_meanings.specs.Meanings.{node_meaning, number_of, offset_of, stmt_list, str_offsets_base, text_by, text_from, text_or}
+use Rattle.dwz_meanings.specs.Meanings.{Common}
+use Rattle.dwz_meanings.specs.Classes.{OfAddress, OfBlock, OfCommonEntry, OfCommonText, OfConstant, OfExpression, OfFlag, OfIndex, OfInfoEntry, OfListIndex, OfOffset, OfSignature}
+use Rattle.dwz_meanings.specs.Classes.{Class}
+use Rattle.dwz_meanings.specs.Meanings.{Scope, bytes_of, constant_value}
+use Rattle.dwz_meanings.specs.Classes.{OfText, OfTextBySlot, OfTextInLineStr, OfTextInStr, OfUnitEntry, Unread}
+use Rattle.dwz_meanings.specs.Meant.{as_class, attr_with, common_entry, common_text}
+use Rattle.dwz_meanings.specs.Meanings.{content_at, expr_context, expr_value, first_raw, has, loclists_base}
+use Rattle.dwz_meanings.specs.Classes.{names_file, names_list}
+use Rattle.dwz_meanings.specs.Meant.{expr_said, file_by, list_by, list_from, list_meaning, meaning}
+use Rattle.dwz_meanings.specs.Meanings.{number_of, offset_of, stmt_list, str_offsets_base}
+use Rattle.dwz_meanings.specs.Meant.{node_meaning, text_by, text_from, text_or}
 use Rattle.dwz_model.specs.declared.fault.Fault.{Fault}
 use Rattle.dwz_resolve.specs.Classes.{class_view}
 use Rattle.dwz_resolve.specs.declared.class.Class.{Class as ClassOfCode}

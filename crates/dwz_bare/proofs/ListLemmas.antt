@@ -17,7 +17,8 @@ use Rattle.dwz_meanings.specs.declared.exprs.Operand.{Operand}
 use Rattle.dwz_meanings.specs.Documents.{Loc, Value}
 use Rattle.dwz_meanings.specs.Exprs.{ExprContext, first_unnamed, parts_of}
 use Rattle.dwz_meanings.specs.LocLists.{LocList, list_at}
-use Rattle.dwz_meanings.specs.Meanings.{Scope, expr_context, list_meaning, list_read, loc_said, loc_value, targets}
+use Rattle.dwz_meanings.specs.Meanings.{Scope, expr_context, loc_value, targets}
+use Rattle.dwz_meanings.specs.Meant.{list_meaning, list_read, loc_said}
 use Rattle.dwz_meanings.specs.Sequences.{read_from}
 use Rattle.dwz_meanings.specs.Shared.{operands_of}
 use Rattle.dwz_model.specs.declared.fault.Fault.{Fault}

@@ -7,8 +7,9 @@ use Rattle.dwz_docs.specs.Units.{RawUnit}
 use Rattle.dwz_index.specs.Chains.{AreSpacesAt, IsSpaceAt}
 use Rattle.dwz_label.specs.Labels.{counted, each_counted, number}
 use Rattle.dwz_meanings.specs.Documents.{Attr, first_named}
-use Rattle.dwz_meanings.specs.Meanings.{Around, MeansNode, node_meaning, scope_of}
-use Rattle.dwz_meanings.proofs.MeaningLemmas.{node_agrees}
+use Rattle.dwz_meanings.specs.Meanings.{Around, MeansNode, scope_of}
+use Rattle.dwz_meanings.specs.Meant.{node_meaning}
+use Rattle.dwz_meanings.proofs.MeaningUnits.{node_agrees}
 
 -- ---- one space
 

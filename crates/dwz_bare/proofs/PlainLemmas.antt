@@ -7,9 +7,16 @@ use Rattle.dwz_docs.specs.Faults.{info_fault}
 use Rattle.dwz_docs.specs.Lists.{has}
 use Rattle.dwz_docs.specs.Texts.{slot, text_at}
 use Rattle.dwz_meanings.specs.Documents.{File, Plain, Ref, Sec, Text, Value, only, ref}
-use Rattle.dwz_meanings.specs.Meanings.{Class, Common, OfAddress, OfBlock, OfCommonEntry, OfCommonText, OfConstant, OfExpression, OfFlag, OfIndex, OfInfoEntry, OfListIndex, OfOffset, OfSignature}
-use Rattle.dwz_meanings.specs.Meanings.{OfText, OfTextBySlot, OfTextInLineStr, OfTextInStr, OfUnitEntry, Scope, Unread, as_class, class_of, common_entry, common_text, constant_value, file_by, is_zero}
-use Rattle.dwz_meanings.specs.Meanings.{list_meaning, meaning, names_file, names_list, number_of, offset_of, path_by, path_or, row_of_table, stmt_list, str_offsets_base, text_by, text_from, text_or}
+use Rattle.dwz_meanings.specs.Meanings.{Common}
+use Rattle.dwz_meanings.specs.Classes.{OfAddress, OfBlock, OfCommonEntry, OfCommonText, OfConstant, OfExpression, OfFlag, OfIndex, OfInfoEntry, OfListIndex, OfOffset, OfSignature}
+use Rattle.dwz_meanings.specs.Classes.{Class}
+use Rattle.dwz_meanings.specs.Meanings.{Scope, constant_value}
+use Rattle.dwz_meanings.specs.Classes.{OfText, OfTextBySlot, OfTextInLineStr, OfTextInStr, OfUnitEntry, Unread}
+use Rattle.dwz_meanings.specs.Classes.{class_of}
+use Rattle.dwz_meanings.specs.Meant.{as_class, common_entry, common_text, file_by, is_zero}
+use Rattle.dwz_meanings.specs.Meanings.{number_of, offset_of, path_by, stmt_list, str_offsets_base}
+use Rattle.dwz_meanings.specs.Classes.{names_file, names_list}
+use Rattle.dwz_meanings.specs.Meant.{list_meaning, meaning, path_or, row_of_table, text_by, text_from, text_or}
 use Rattle.dwz_meanings.specs.Meanings.{texts_of}
 use Rattle.dwz_model.specs.declared.fault.Fault.{Fault}
 use Rattle.dwz_model.specs.declared.fault.Reason.TheVariants.{BadFile, BadReference}

@@ -10,7 +10,8 @@ use Rattle.dwz_flat.specs.Tops.{HasTop}
 use Rattle.dwz_flat.proofs.TreeLemmas.{map_size, no_more, parts, same_size, tree_means}
 use Rattle.dwz_label.specs.Labels.{counted, each_counted, entries_label, label_of, language_label, node_label, place_label}
 use Rattle.dwz_meanings.specs.Documents.{Entries, Node, entries_map, node_map}
-use Rattle.dwz_meanings.specs.Meanings.{Scope, entries_meaning}
+use Rattle.dwz_meanings.specs.Meanings.{Scope}
+use Rattle.dwz_meanings.specs.Meant.{entries_meaning}
 use Rattle.dwz_unit.specs.Rows.{EntryRow, rows_below}
 use Rattle.dwz_unit.proofs.RowLemmas.{shown-length}
 

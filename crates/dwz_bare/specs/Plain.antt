@@ -8,7 +8,9 @@ use Rattle.dwz_meanings.specs.declared.exprs.Operand.{Operand}
 use Rattle.dwz_meanings.specs.Documents.{Value}
 use Rattle.dwz_meanings.specs.Exprs.{first_unnamed}
 use Rattle.dwz_meanings.specs.LineTables.{FileTable}
-use Rattle.dwz_meanings.specs.Meanings.{Class, OfConstant, OfExpression, OfInfoEntry, OfListIndex, OfOffset, OfUnitEntry, Scope}
+use Rattle.dwz_meanings.specs.Meanings.{Scope}
+use Rattle.dwz_meanings.specs.Classes.{OfConstant, OfExpression, OfInfoEntry, OfListIndex, OfOffset, OfUnitEntry}
+use Rattle.dwz_meanings.specs.Classes.{Class}
 use Rattle.dwz_meanings.specs.Meanings.{loclists_base, stmt_list, str_offsets_base, targets}
 use Rattle.dwz_resolve.specs.declared.here.Here.{Here}
 use Rattle.dwz_resolve.specs.declared.sections.Sections.{Sections}

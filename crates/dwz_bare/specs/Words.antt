@@ -1,7 +1,7 @@
 -- Inner: words of what is written. No public clause cites them.
 use Rattle.std.specs.Prelude.{ℕ, suc, List, [], ◌∷◌, ◌==◌, ◌&&◌, nat_lt, not, if◌then◌else◌}
 use Rattle.dwz_docs.specs.Lists.{has}
-use Rattle.dwz_meanings.specs.Meanings.{unsigned_names}
+use Rattle.dwz_meanings.specs.Classes.{unsigned_names}
 use Rattle.dwz_model.specs.declared.place.Pair.{Pair}
 
 -- a width is kept from some number on, unless the name says that there is no sign

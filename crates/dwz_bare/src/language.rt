@@ -5,7 +5,8 @@ ghost use Rattle.dwz_docs.specs.Units.{entries_in};
 ghost use Rattle.dwz_meanings.specs.Documents.{Node, Value, first_named, number_in, number_of_attr};
 ghost use Rattle.dwz_docs.specs.Entries.{RawAttr as RawAttrOfSpecs};
 ghost use Rattle.dwz_forms.specs.RawValues.{raw_view};
-ghost use Rattle.dwz_meanings.specs.Meanings.{Scope, as_class, node_meaning};
+ghost use Rattle.dwz_meanings.specs.Meanings.{Scope};
+ghost use Rattle.dwz_meanings.specs.Meant.{as_class, node_meaning};
 ghost use Rattle.dwz_resolve.specs.Classes.{class_view};
 ghost use Rattle.dwz_unit.specs.Rows.{EntryRow, rows_of, units_of};
 

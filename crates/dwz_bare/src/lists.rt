@@ -9,7 +9,8 @@ ghost use Rattle.dwz_lists.specs.Gathering.{in_lists};
 ghost use Rattle.dwz_meanings.specs.Documents.{Loc, Value};
 ghost use Rattle.dwz_meanings.specs.Exprs.{parts_of};
 ghost use Rattle.dwz_meanings.specs.LocLists.{LocList, list_at};
-ghost use Rattle.dwz_meanings.specs.Meanings.{Scope, list_from, list_meaning, loclists_base};
+ghost use Rattle.dwz_meanings.specs.Meanings.{Scope, loclists_base};
+ghost use Rattle.dwz_meanings.specs.Meant.{list_from, list_meaning};
 ghost use Rattle.dwz_meanings.specs.Meanings;
 ghost use Rattle.dwz_meanings.specs.Sequences.{read_from};
 

@@ -6,7 +6,7 @@ ghost use Rattle.dwz_docs.specs.Units.{RawUnit, entries_in};
 ghost use Rattle.dwz_index.specs.Chains.{AreSpacesAt};
 ghost use Rattle.dwz_label.specs.Labels.{counted, each_counted};
 ghost use Rattle.dwz_meanings.specs.Documents.{Node};
-ghost use Rattle.dwz_meanings.specs.Meanings.{node_meaning};
+ghost use Rattle.dwz_meanings.specs.Meant.{node_meaning};
 ghost use Rattle.dwz_resolve.specs.Resolved.{IsHere, around, scope_in};
 ghost use Rattle.dwz_docs.specs.Lists.{Each};
 ghost use Rattle.dwz_seen.specs.Spaces;

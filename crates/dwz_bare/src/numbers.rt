@@ -4,7 +4,9 @@ ghost use Rattle.std.specs.Prelude.{◌≡◌, ◌||◌, ◌==◌, not};
 ghost use Rattle.dwz_bare.specs.Words.{width_from};
 ghost use Rattle.dwz_forms.specs.RawValues.{raw_view};
 ghost use Rattle.dwz_meanings.specs.Meanings;
-ghost use Rattle.dwz_meanings.specs.Meanings.{has, kept_width, unsigned_names};
+ghost use Rattle.dwz_meanings.specs.Classes;
+ghost use Rattle.dwz_meanings.specs.Meanings.{has};
+ghost use Rattle.dwz_meanings.specs.Classes.{kept_width, unsigned_names};
 
 use dwz_forms::Raw;
 
@@ -85,7 +87,7 @@ pub(crate) fn is_set(form: u64, number: u128) -> bool
 /// Whether values of an attribute number files: `DW_AT_decl_file` and `DW_AT_call_file` (2.14).
 #[inline(always)]
 pub(crate) fn names_file(name: u16) -> bool
-    ensures { result ≡ Meanings.names_file name }
+    ensures { result ≡ Classes.names_file name }
 {
     name == 0x3a || name == 0x58
 }
@@ -94,7 +96,7 @@ pub(crate) fn names_file(name: u16) -> bool
 #[inline(always)]
 #[tactic(auto, unfolding(dwz_docs::specs::Lists::has))]
 pub(crate) fn names_list(name: u16) -> bool
-    ensures { result ≡ Meanings.names_list name }
+    ensures { result ≡ Classes.names_list name }
 {
     name == 0x02
         || name == 0x19

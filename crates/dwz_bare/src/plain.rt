@@ -5,8 +5,10 @@ ghost use Rattle.dwz_bare.specs.Plain.{KnowsLine, KnowsScope, TellsPlain, is_sim
 ghost use Rattle.dwz_docs.specs.Entries.{RawAttr};
 ghost use Rattle.dwz_meanings.specs.declared.exprs.Operand.{Operand as OperandOfSpecs};
 ghost use Rattle.dwz_meanings.specs.Documents.{Value};
-ghost use Rattle.dwz_meanings.specs.Meanings;
-ghost use Rattle.dwz_meanings.specs.Meanings.{OfConstant, OfInfoEntry, OfOffset, OfUnitEntry, Scope, as_class, meaning, str_offsets_base};
+ghost use Rattle.dwz_meanings.specs.Classes;
+ghost use Rattle.dwz_meanings.specs.Meanings.{Scope, str_offsets_base};
+ghost use Rattle.dwz_meanings.specs.Classes.{OfConstant, OfInfoEntry, OfOffset, OfUnitEntry};
+ghost use Rattle.dwz_meanings.specs.Meant.{as_class, meaning};
 ghost use Rattle.dwz_resolve.specs.Classes.{class_view};
 ghost use Rattle.dwz_resolve.specs.Resolved.{sources_view, stored};
 
@@ -53,7 +55,7 @@ fn put_constant(
     pair: &Pair,
     raw: &Raw,
 ) -> Result<Named, NoMemory>
-    ensures { (s : Scope ℕ) (at end : ℕ) (v : Value ℕ) (operands : List OperandOfSpecs) → Meanings.class_of pair.now.form ≡ OfConstant
+    ensures { (s : Scope ℕ) (at end : ℕ) (v : Value ℕ) (operands : List OperandOfSpecs) → Classes.class_of pair.now.form ≡ OfConstant
         → KnowsLine s (stored at end pair.now raw.now) tables.now line → as_class OfConstant s (stored at end pair.now raw.now) ≡ Ok v
         → IfOk result (λ named. TellsPlain s v operands out.old.items out.new.items named) }
 {

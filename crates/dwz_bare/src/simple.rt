@@ -4,7 +4,8 @@ ghost use Rattle.std.specs.Prelude.{◌≡◌, ℕ, ◌++◌, true, None, Ok, On
 ghost use Rattle.dwz_bare.specs.Plain.{is_simple};
 ghost use Rattle.dwz_label.specs.Labels.{plain_label};
 ghost use Rattle.dwz_meanings.specs.Documents.{Value};
-ghost use Rattle.dwz_meanings.specs.Meanings.{Scope, as_class, str_offsets_base};
+ghost use Rattle.dwz_meanings.specs.Meanings.{Scope, str_offsets_base};
+ghost use Rattle.dwz_meanings.specs.Meant.{as_class};
 ghost use Rattle.dwz_resolve.specs.Classes.{class_view};
 ghost use Rattle.dwz_resolve.specs.Resolved.{sources_view, stored};
 

@@ -8,7 +8,8 @@ ghost use Rattle.dwz_forms.specs.RawValues.{raw_view};
 ghost use Rattle.dwz_label.specs.Labels.{plain_label};
 ghost use Rattle.dwz_meanings.specs.Documents.{File, Text, Value};
 ghost use Rattle.dwz_meanings.specs.LineTables.{FileTable as Paths};
-ghost use Rattle.dwz_meanings.specs.Meanings.{Scope, file_by, path_by, stmt_list};
+ghost use Rattle.dwz_meanings.specs.Meanings.{Scope, path_by, stmt_list};
+ghost use Rattle.dwz_meanings.specs.Meant.{file_by};
 ghost use Rattle.dwz_resolve.specs.Parts.{numbers_file};
 
 use crate::numbers::number_of;

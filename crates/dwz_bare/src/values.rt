@@ -8,7 +8,7 @@ ghost use Rattle.dwz_docs.specs.Entries.{RawAttr};
 ghost use Rattle.dwz_docs.specs.Units.{RawUnit, entries_in};
 ghost use Rattle.dwz_flat.specs.Rows.{AreAttrsMeant, AreTargets};
 ghost use Rattle.dwz_meanings.specs.Documents.{Attr, Value};
-ghost use Rattle.dwz_meanings.specs.Meanings.{meaning};
+ghost use Rattle.dwz_meanings.specs.Meant.{meaning};
 ghost use Rattle.dwz_resolve.specs.Named.{value_refs};
 ghost use Rattle.dwz_resolve.specs.Resolved.{stored};
 

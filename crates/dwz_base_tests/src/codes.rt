@@ -1,58 +1,60 @@
 //! Look-ups in the five tables, with the names and codes of the standard.
 
-use crate::expect::same;
-use dwz_codes::{Shape, attribute_names, forms, list_kinds, operators, tag_names};
-use std::test::Fail;
+use crate::expect::same_for;
+use dwz_codes::{Row, Shape, attribute_names, forms, list_kinds, operators, tag_names};
 
-#[test]
-fn finds_rows_by_code(rt: HostRuntime) -> Result<(), Fail> {
-    let strp = forms().find(0x0e).ok_or("no form strp")?;
-    same(&rt, &strp.name, &"strp");
-    same(&rt, &strp.shape, &Shape::Fixed4);
-    same(
-        &rt,
-        &forms().find(0x2c).ok_or("no form addrx4")?.name,
-        &"addrx4",
-    );
-    same(
-        &rt,
-        &forms().find(0x01).ok_or("no form addr")?.shape,
-        &Shape::Address,
-    );
-    let call2 = operators().find(0x98).ok_or("no operator call2")?;
-    same(&rt, &call2.shape, &Shape::Refused);
-    same(
-        &rt,
-        &operators().find(0x8f).ok_or("no operator breg31")?.name,
-        &"breg31",
-    );
-    let last = operators().find(0xfd).ok_or("no GNU operator")?;
-    same(&rt, &last.name, &"GNU_variable_value");
-    same(
-        &rt,
-        &list_kinds().find(5).ok_or("no kind 5")?.name,
-        &"default_location",
-    );
-    same(
-        &rt,
-        &tag_names().find(0x3d).ok_or("no tag")?.name,
-        &"imported_unit",
-    );
-    same(
-        &rt,
-        &attribute_names().find(0x49).ok_or("no attribute")?.name,
-        &"type",
-    );
-    Ok(())
+#[derive(Clone, Copy)]
+enum Table {
+    Forms,
+    Operators,
+    ListKinds,
+    TagNames,
+    AttributeNames,
 }
 
+// The row of a code in a table.
+fn row_of(table: Table, code: u16) -> Option<Row> {
+    match table {
+        Table::Forms => forms().find(code),
+        Table::Operators => operators().find(code),
+        Table::ListKinds => list_kinds().find(code),
+        Table::TagNames => tag_names().find(code),
+        Table::AttributeNames => attribute_names().find(code),
+    }
+}
+
+// Names, and None where no row has the code.
+const NAMES: &[(Table, u16, Option<&str>)] = &[
+    (Table::Forms, 0x0e, Some("strp")),
+    (Table::Forms, 0x2c, Some("addrx4")),
+    (Table::Operators, 0x8f, Some("breg31")),
+    (Table::Operators, 0xfd, Some("GNU_variable_value")),
+    (Table::ListKinds, 5, Some("default_location")),
+    (Table::TagNames, 0x3d, Some("imported_unit")),
+    (Table::AttributeNames, 0x49, Some("type")),
+    (Table::Forms, 0x00, None),
+    (Table::Forms, 0x02, None),
+    (Table::Forms, 0x2d, None),
+    (Table::Operators, 0xff, None),
+    (Table::ListKinds, 10, None),
+    (Table::TagNames, 0x4109, None),
+    (Table::AttributeNames, 0x2137, None),
+];
+
+const SHAPES: &[(Table, u16, Shape)] = &[
+    (Table::Forms, 0x0e, Shape::Fixed4),
+    (Table::Forms, 0x01, Shape::Address),
+    (Table::Operators, 0x98, Shape::Refused),
+];
+
 #[test]
-fn finds_no_row_of_another_code(rt: HostRuntime) {
-    assert!(rt; forms().find(0x00).is_none());
-    assert!(rt; forms().find(0x02).is_none());
-    assert!(rt; forms().find(0x2d).is_none());
-    assert!(rt; operators().find(0xff).is_none());
-    assert!(rt; list_kinds().find(10).is_none());
-    assert!(rt; tag_names().find(0x4109).is_none());
-    assert!(rt; attribute_names().find(0x2137).is_none());
+fn finds_rows_by_code(rt: HostRuntime) {
+    for &(table, code, name) in NAMES {
+        let found = row_of(table, code).map(|row| row.name);
+        same_for(&rt, &(code, name), &found, &name);
+    }
+    for &(table, code, shape) in SHAPES {
+        let found = row_of(table, code).map(|row| row.shape);
+        same_for(&rt, &(code, shape), &found, &Some(shape));
+    }
 }

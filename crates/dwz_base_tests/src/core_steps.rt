@@ -1,3 +1,4 @@
+use crate::expect::same;
 use dwz_core::{Core, EMPTY, Event};
 use std::test::Fail;
 
@@ -6,7 +7,7 @@ fn answers_what_stood_before(rt: HostRuntime) -> Result<(), Fail> {
     let mut core = Core::new(rt.alloc(), 4)?;
     let worker = 0;
     let bucket = 2;
-    let proposed = [
+    let answers = [
         core.step(Event::Propose {
             worker,
             bucket,
@@ -22,12 +23,9 @@ fn answers_what_stood_before(rt: HostRuntime) -> Result<(), Fail> {
             bucket,
             node: 7,
         }),
-    ];
-    let drawn = [
         core.step(Event::Draw { worker }),
         core.step(Event::Draw { worker: 1 }),
     ];
-    assert!(rt; proposed == [EMPTY, 9, 5]);
-    assert!(rt; drawn == [0, 1]);
+    same(&rt, &answers, &[EMPTY, 9, 5, 0, 1]);
     Ok(())
 }

@@ -6,30 +6,22 @@ use std::test::Fail;
 #[test]
 fn lists_give_back_what_they_were_made_from(rt: HostRuntime) -> Result<(), Fail> {
     let alloc = rt.alloc();
-    let name = Blob::new([100, 119, 122].to_vec(alloc)?);
-    same(&rt, &name.as_slice(), &b"dwz".as_slice());
-    same(&rt, &name.len(), &3);
+    let name = Blob::new(Vec::from_slice(alloc, b"dwz")?);
+    same(&rt, &(name.as_slice(), name.len()), &(b"dwz".as_slice(), 3));
     let names = Names::new(vec![in alloc; name]?);
-    assert!(rt; !names.is_empty());
-    let mut names = names.into_vec();
-    let name = names.pop().ok_or("a name")?;
+    let is_empty = [names.is_empty(), Blob::new(Vec::new(alloc)).is_empty()];
+    same(&rt, &is_empty, &[false, true]);
+    let name = names.into_vec().pop().ok_or("a name")?;
     same(&rt, &name.into_vec().as_slice(), &b"dwz".as_slice());
-    assert!(rt; Blob::new(Vec::new(alloc)).is_empty());
     Ok(())
 }
 
 #[test]
 fn want_of_memory_is_no_refusal(rt: HostRuntime) {
-    same(&rt, &ReadErr::from(AllocError), &ReadErr::NoMemory);
-    same(&rt, &GraphErr::from(AllocError), &GraphErr::NoMemory);
-    same(
-        &rt,
-        &ReadErr::from(AllocFailed { value: 1u8 }),
-        &ReadErr::NoMemory,
-    );
-    same(
-        &rt,
-        &GraphErr::from(AllocFailed { value: 1u8 }),
-        &GraphErr::NoMemory,
-    );
+    let failed = AllocFailed { value: 1u8 };
+    let read = [ReadErr::from(AllocError), ReadErr::from(failed)];
+    same(&rt, &read, &[ReadErr::NoMemory; 2]);
+    let failed = AllocFailed { value: 1u8 };
+    let graph = [GraphErr::from(AllocError), GraphErr::from(failed)];
+    same(&rt, &graph, &[GraphErr::NoMemory; 2]);
 }

@@ -1,8 +1,10 @@
 ghost use Rattle.std.specs.Prelude.{◌≡◌, ℕ, ◌+◌, ◌-◌, ◌<◌, ◌≤◌, ◌^◌, IsTrue, length};
 ghost use Rattle.dwz_nodes.specs.Graph.{IsClosed};
 
+use crate::expect::{same, same_for};
+use crate::nodes::{Given, graph};
 use dwz_gate::{Gate, MeetGate, OpenGate};
-use dwz_model::NoMemory;
+use dwz_model::{NoMemory, Numbers};
 use dwz_nodes::Nodes;
 use dwz_rounds::{refine, refine_plain};
 use dwz_table::Pass;
@@ -22,17 +24,6 @@ pub(crate) fn is_closed(nodes: &Nodes) -> bool
         }
     }
     true
-}
-
-// The nodes with these labels and targets, of which there are fewer than 1,000.
-fn graph(alloc: Global, rows: &[(u32, &[u32])]) -> Result<Nodes, NoMemory> {
-    let mut nodes = Nodes::new(alloc);
-    for (label, targets) in rows {
-        if nodes.len() < 1000 {
-            nodes.push(*label, targets)?;
-        }
-    }
-    Ok(nodes)
 }
 
 // Whether the plain way and workers, of each of these numbers, give these answers.
@@ -57,57 +48,53 @@ fn gives<R: Threads + Sync>(
     Ok(true)
 }
 
-#[test]
-fn finds_the_least_alike_node(rt: HostRuntime) -> Result<(), Fail> {
-    let pairs: [(u32, &[u32]); 6] = [
-        (0, &[1]),
-        (1, &[0]),
-        (0, &[3]),
-        (1, &[2]),
-        (0, &[5]),
-        (1, &[4]),
-    ];
-    // The first two point at themselves, the third at one of these, and the fourth at nothing.
-    let alone: [(u32, &[u32]); 4] = [(7, &[0]), (7, &[1]), (7, &[1]), (7, &[])];
-    // A cycle of two and a cycle of three.
-    let cycles: [(u32, &[u32]); 5] = [(3, &[1]), (3, &[0]), (3, &[3]), (3, &[4]), (3, &[2])];
-    // Equal labels, and the same targets in another order or number.
-    let orders: [(u32, &[u32]); 5] = [
-        (1, &[]),
-        (2, &[]),
-        (9, &[0, 1]),
-        (9, &[1, 0]),
-        (9, &[0, 1, 1]),
-    ];
-    let none: [(u32, &[u32]); 0] = [];
-    assert!(rt;
-        gives(
-            &rt,
-            rt.alloc(),
-            &graph(rt.alloc(), &pairs)?,
-            &[0, 1, 0, 1, 0, 1]
-        )?
-    );
-    assert!(rt; gives(&rt, rt.alloc(), &graph(rt.alloc(), &alone)?, &[0, 0, 0, 3])?);
-    assert!(rt;
-        gives(
-            &rt,
-            rt.alloc(),
-            &graph(rt.alloc(), &cycles)?,
-            &[0, 0, 0, 0, 0]
-        )?
-    );
-    assert!(rt;
-        gives(
-            &rt,
-            rt.alloc(),
-            &graph(rt.alloc(), &orders)?,
-            &[0, 1, 2, 3, 4]
-        )?
-    );
-    assert!(rt; gives(&rt, rt.alloc(), &graph(rt.alloc(), &none)?, &[])?);
-    Ok(())
+// Nodes, and for each the least node that is alike to it.
+struct Case {
+    shows: &'static str,
+    nodes: &'static [Given],
+    leaders: &'static [u32],
 }
+
+const CASES: &[Case] = &[
+    Case {
+        shows: "pairs",
+        nodes: &[
+            (0, &[1]),
+            (1, &[0]),
+            (0, &[3]),
+            (1, &[2]),
+            (0, &[5]),
+            (1, &[4]),
+        ],
+        leaders: &[0, 1, 0, 1, 0, 1],
+    },
+    Case {
+        shows: "two that point at themselves, one at one of these, and one at nothing",
+        nodes: &[(7, &[0]), (7, &[1]), (7, &[1]), (7, &[])],
+        leaders: &[0, 0, 0, 3],
+    },
+    Case {
+        shows: "a cycle of two and a cycle of three",
+        nodes: &[(3, &[1]), (3, &[0]), (3, &[3]), (3, &[4]), (3, &[2])],
+        leaders: &[0, 0, 0, 0, 0],
+    },
+    Case {
+        shows: "equal labels, and the same targets in another order or number",
+        nodes: &[
+            (1, &[]),
+            (2, &[]),
+            (9, &[0, 1]),
+            (9, &[1, 0]),
+            (9, &[0, 1, 1]),
+        ],
+        leaders: &[0, 1, 2, 3, 4],
+    },
+    Case {
+        shows: "no nodes",
+        nodes: &[],
+        leaders: &[],
+    },
+];
 
 // Two chains of 40 nodes with one label, each over a last node with a label of its own.
 fn chains(alloc: Global, first: u32, second: u32) -> Result<Nodes, NoMemory> {
@@ -124,16 +111,31 @@ fn chains(alloc: Global, first: u32, second: u32) -> Result<Nodes, NoMemory> {
     Ok(nodes)
 }
 
-#[test]
-fn looks_down_long_chains(rt: HostRuntime) -> Result<(), Fail> {
-    let mut apart = Vec::new(rt.alloc());
-    let mut shared = Vec::new(rt.alloc());
+// Whether such chains, the first over the label 4, are found alike, or no two nodes of them are.
+fn chains_give<R: Threads + Sync>(
+    rt: &R,
+    alloc: Global,
+    second: u32,
+    are_alike: bool,
+) -> Result<bool, NoMemory> {
+    let mut expected = Vec::new(alloc);
     for a in 0..82u32 {
-        apart.push(a)?;
-        shared.push(if a > 40 { a - 41 } else { a })?;
+        expected.push(if are_alike && a > 40 { a - 41 } else { a })?;
     }
-    assert!(rt; gives(&rt, rt.alloc(), &chains(rt.alloc(), 4, 8)?, &apart)?);
-    assert!(rt; gives(&rt, rt.alloc(), &chains(rt.alloc(), 4, 4)?, &shared)?);
+    gives(rt, alloc, &chains(alloc, 4, second)?, &expected)
+}
+
+#[test]
+fn finds_the_least_alike_node(rt: HostRuntime) -> Result<(), Fail> {
+    for case in CASES {
+        let nodes = graph(rt.alloc(), case.nodes)?;
+        let answers = gives(&rt, rt.alloc(), &nodes, case.leaders)?;
+        same_for(&rt, &case.shows, &answers, &true);
+    }
+    for (second, are_alike) in [(8, false), (4, true)] {
+        let answers = chains_give(&rt, rt.alloc(), second, are_alike)?;
+        same_for(&rt, &("chains over 4 and", second), &answers, &true);
+    }
     Ok(())
 }
 
@@ -161,20 +163,8 @@ fn hubs(alloc: Global) -> Result<Nodes, NoMemory> {
     Ok(nodes)
 }
 
-#[test]
-fn tells_hubs_apart(rt: HostRuntime) -> Result<(), Fail> {
-    let nodes = hubs(rt.alloc())?;
-    let closed = is_closed(&nodes);
-    assert!(rt; closed);
-    let expected = refine_plain(rt.alloc(), &nodes)?;
-    let found = refine(&rt, rt.alloc(), &nodes, 2, &OpenGate)?;
-    assert!(rt; found.as_slice() == expected.as_slice());
-    assert!(rt; found.as_slice().ends_with(&[302, 303, 302]));
-    Ok(())
-}
-
 // A number below `limit` drawn from a state that moves on.
-fn drawn(state: &mut u64, limit: u32) -> u32
+fn draw_number(state: &mut u64, limit: u32) -> u32
     requires { 0 < limit }
     ensures { result < limit }
 {
@@ -187,16 +177,16 @@ fn drawn(state: &mut u64, limit: u32) -> u32
 // Up to 40 nodes with up to two labels and up to three targets each.
 fn drawn_graph(alloc: Global, state: &mut u64) -> Result<Nodes, NoMemory> {
     let mut nodes = Nodes::new(alloc);
-    let count = 1 + drawn(state, 40);
-    let labels = 1 + drawn(state, 2);
+    let count = 1 + draw_number(state, 40);
+    let labels = 1 + draw_number(state, 2);
     for _ in 0..count {
-        let label = drawn(state, labels);
+        let label = draw_number(state, labels);
         let targets = [
-            drawn(state, count),
-            drawn(state, count),
-            drawn(state, count),
+            draw_number(state, count),
+            draw_number(state, count),
+            draw_number(state, count),
         ];
-        let many = drawn(state, 4) as usize;
+        let many = draw_number(state, 4) as usize;
         if nodes.len() < 1000 {
             nodes.push(label, &targets[..many])?;
         }
@@ -204,29 +194,65 @@ fn drawn_graph(alloc: Global, state: &mut u64) -> Result<Nodes, NoMemory> {
     Ok(nodes)
 }
 
+// What the plain way and so many workers answer alike. None where they don't, or a target is no node.
+fn agreed<R: Threads + Sync>(
+    rt: &R,
+    alloc: Global,
+    nodes: &Nodes,
+    workers: u32,
+) -> Result<Option<Numbers>, NoMemory>
+    requires { (0 < workers) × (workers ≤ 64) }
+{
+    if !is_closed(nodes) {
+        return Ok(None);
+    }
+    let plain = refine_plain(alloc, nodes)?;
+    let found = refine(rt, alloc, nodes, workers, &OpenGate)?;
+    if found.as_slice() == plain.as_slice() {
+        Ok(Some(plain))
+    } else {
+        Ok(None)
+    }
+}
+
+// Whether workers agree on the next graph that is drawn, and two nodes of it are alike, or none are. None where they don't agree.
+fn next_shares<R: Threads + Sync>(
+    rt: &R,
+    alloc: Global,
+    state: &mut u64,
+    workers: u32,
+) -> Result<Option<bool>, NoMemory>
+    requires { (0 < workers) × (workers ≤ 64) }
+{
+    let nodes = drawn_graph(alloc, state)?;
+    match agreed(rt, alloc, &nodes, workers)? {
+        Some(classes) => Ok(Some(
+            classes
+                .as_slice()
+                .iter()
+                .zip(0u32..)
+                .any(|(class, a)| *class != a),
+        )),
+        None => Ok(None),
+    }
+}
+
 #[test]
 fn workers_agree_with_the_plain_way(rt: HostRuntime) -> Result<(), Fail> {
+    let nodes = hubs(rt.alloc())?;
+    let classes = agreed(&rt, rt.alloc(), &nodes, 2)?.ok_or("hubs")?;
+    assert!(rt; classes.as_slice().ends_with(&[302, 303, 302]));
     let mut state = 9;
     let mut shared = 0u32;
     for at in 0..300u32 {
-        let nodes = drawn_graph(rt.alloc(), &mut state)?;
-        let closed = is_closed(&nodes);
-        assert!(rt; closed, "graph {at}");
-        let expected = refine_plain(rt.alloc(), &nodes)?;
-        let found = refine(&rt, rt.alloc(), &nodes, 1 + at % 9, &OpenGate)?;
-        assert!(rt; found.as_slice() == expected.as_slice(), "graph {at}");
-        if expected
-            .as_slice()
-            .iter()
-            .zip(0u32..)
-            .any(|(class, a)| *class != a)
-        {
+        let shares = next_shares(&rt, rt.alloc(), &mut state, 1 + at % 9)?;
+        same_for(&rt, &("graph", at), &shares.is_some(), &true);
+        if shares == Some(true) {
             shared = shared.saturating_add(1);
         }
     }
     // Enough of them have nodes that are alike, and enough have none.
-    assert!(rt; shared > 50);
-    assert!(rt; shared < 280);
+    assert!(rt; 50 < shared && shared < 280, "{shared} have some");
     Ok(())
 }
 
@@ -251,14 +277,20 @@ impl Gate for BothWays {
     }
 }
 
-#[test]
-fn meets_two(rt: HostRuntime) -> Result<(), Fail> {
-    let mut nodes = Nodes::new(rt.alloc());
+// 1,024 nodes that are alike.
+fn equal_nodes(alloc: Global) -> Result<Nodes, NoMemory> {
+    let mut nodes = Nodes::new(alloc);
     for _ in 0..1024 {
         if nodes.len() < 2000 {
             nodes.push(5, &[])?;
         }
     }
+    Ok(nodes)
+}
+
+#[test]
+fn meets_two(rt: HostRuntime) -> Result<(), Fail> {
+    let nodes = equal_nodes(rt.alloc())?;
     let closed = is_closed(&nodes);
     assert!(rt; closed);
     let gate = BothWays {
@@ -267,10 +299,16 @@ fn meets_two(rt: HostRuntime) -> Result<(), Fail> {
         proposals: AtomicU64::new(0),
     };
     let found = refine(&rt, rt.alloc(), &nodes, 2, &gate)?;
-    assert!(rt; found.len() == 1024);
     assert!(rt; found.as_slice().iter().all(|class| *class == 0));
-    assert!(rt; gate.straight.met());
-    assert!(rt; gate.crossed.met());
-    assert!(rt; gate.proposals.load(Ordering::SeqCst) == 1024);
+    same(
+        &rt,
+        &(
+            found.len(),
+            gate.straight.has_met(),
+            gate.crossed.has_met(),
+            gate.proposals.load(Ordering::SeqCst),
+        ),
+        &(1024, true, true, 1024),
+    );
     Ok(())
 }

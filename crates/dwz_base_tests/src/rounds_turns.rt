@@ -115,21 +115,18 @@ fn goes_through<R: Threads + Sync>(
         .zip(0u32..)
         .filter(|(class, a)| **class == *a)
         .count();
-    Ok(found == classes && tally.meet.met() && has_turns(&tally, expected))
+    Ok(found == classes && tally.meet.has_met() && has_turns(&tally, expected))
 }
 
-// The proposals of each turn come from a model that was written independently.
-#[test]
-fn each_worker_comes_and_goes_once_a_turn(rt: HostRuntime) -> Result<(), Fail> {
-    let mut nodes = Nodes::new(rt.alloc());
+// 600 nodes with two of each label, each with one target.
+fn ring(alloc: Global) -> Result<Nodes, NoMemory> {
+    let mut nodes = Nodes::new(alloc);
     for a in 0..600u32 {
         if nodes.len() < 1000 {
             nodes.push(a % 300, &[(a * 7 + 1) % 600])?;
         }
     }
-    let expected = [600, 190, 18, 2, 600, 238, 68, 42, 18, 6];
-    assert!(rt; goes_through(&rt, rt.alloc(), &nodes, 4, &expected, 300)?);
-    Ok(())
+    Ok(nodes)
 }
 
 // Targets for which nodes of the label 9 have one hash, if the class of each target is its number.
@@ -180,10 +177,9 @@ const COLLIDING: [[u32; 16]; 32] = [
     [63, 248, 8, 30, 50, 15, 30, 41, 5, 20, 48, 8, 61, 3, 9, 5],
 ];
 
-// 256 nodes, each alone, and 32 whose keys have one hash. After three turns of a round the rest is settled by order.
-#[test]
-fn settles_equal_hashes_by_order(rt: HostRuntime) -> Result<(), Fail> {
-    let mut nodes = Nodes::new(rt.alloc());
+// 256 nodes, each alone, and 32 whose keys have one hash.
+fn colliding(alloc: Global) -> Result<Nodes, NoMemory> {
+    let mut nodes = Nodes::new(alloc);
     for a in 0..256u32 {
         if nodes.len() < 1000 {
             nodes.push(1000 + a, &[])?;
@@ -194,7 +190,19 @@ fn settles_equal_hashes_by_order(rt: HostRuntime) -> Result<(), Fail> {
             nodes.push(9, targets.as_slice())?;
         }
     }
-    let expected = [288, 51, 34, 1, 288, 51, 34, 288, 51, 34];
-    assert!(rt; goes_through(&rt, rt.alloc(), &nodes, 5, &expected, 288)?);
+    Ok(nodes)
+}
+
+// The proposals of each turn come from a model that was written independently.
+const OF_RING: [u64; 10] = [600, 190, 18, 2, 600, 238, 68, 42, 18, 6];
+
+// After three turns of a round the rest is settled by order.
+const OF_COLLIDING: [u64; 10] = [288, 51, 34, 1, 288, 51, 34, 288, 51, 34];
+
+#[test]
+fn each_worker_comes_and_goes_once_a_turn(rt: HostRuntime) -> Result<(), Fail> {
+    let (ring, colliding) = (ring(rt.alloc())?, colliding(rt.alloc())?);
+    assert!(rt; goes_through(&rt, rt.alloc(), &ring, 4, &OF_RING, 300)?);
+    assert!(rt; goes_through(&rt, rt.alloc(), &colliding, 5, &OF_COLLIDING, 288)?);
     Ok(())
 }

@@ -113,7 +113,7 @@ fn work_over<R: Threads + Sync>(rt: &R, table: &ClassTable, workers: &mut Vec<Wo
     work_all(rt, table, workers.as_mut_slice());
 }
 
-fn dealt(
+fn deal_workers(
     alloc: Global,
     table: &ClassTable,
     first: &mut Pass,
@@ -169,7 +169,7 @@ fn leaders_of<R: Threads + Sync + Abort>(
     ensures { IfOk result (λ l. length l ≡ 16) }
 {
     let (table, mut first) = ClassTable::new(alloc, BUCKETS)?;
-    let mut workers = dealt(alloc, &table, &mut first, count)?;
+    let mut workers = deal_workers(alloc, &table, &mut first, count)?;
     work_over(rt, &table, &mut workers);
     let drawn = are_all_drawn(workers.as_slice());
     assert!(rt; drawn, "by {count} workers");

@@ -29,7 +29,8 @@ use Rattle.dwz_label.specs.Labels.{label_of}
 use Rattle.dwz_label.specs.Shown.{nth_label}
 use Rattle.dwz_meanings.specs.Documents.{Doc}
 use Rattle.dwz_meanings.specs.Files.{around_of}
-use Rattle.dwz_meanings.specs.Meanings.{Around, Sources, alone, scope_of, unit_meaning}
+use Rattle.dwz_meanings.specs.Meanings.{Around, Sources, alone, scope_of}
+use Rattle.dwz_meanings.specs.Meant.{unit_meaning}
 use Rattle.dwz_resolve.specs.Parts.{HasLine}
 use Rattle.dwz_resolve.specs.Resolved.{around}
 use Rattle.dwz_docs.specs.Lists.{Each}

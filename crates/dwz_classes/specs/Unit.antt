@@ -5,7 +5,8 @@ use Rattle.dwz_docs.specs.Units.{RawUnit, entries_in}
 use Rattle.dwz_graph.specs.declared.file.File.{File}
 use Rattle.dwz_index.specs.Index.{Index}
 use Rattle.dwz_meanings.specs.Documents.{DwUnit, language}
-use Rattle.dwz_meanings.specs.Meanings.{Around, unit_meaning}
+use Rattle.dwz_meanings.specs.Meanings.{Around}
+use Rattle.dwz_meanings.specs.Meant.{unit_meaning}
 use Rattle.dwz_resolve.specs.Resolved.{IsHere}
 use Rattle.dwz_unit.specs.Rows.{units_of as raw_units}
 

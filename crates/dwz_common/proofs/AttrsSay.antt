@@ -6,7 +6,8 @@ use Rattle.dwz_bytes.specs.Reading.{◌>>=◌}
 use Rattle.dwz_docs.specs.Entries.{RawAttr}
 use Rattle.dwz_docs.proofs.PartLemmas.{bind_ok}
 use Rattle.dwz_meanings.specs.Documents.{Attr, Value, attr_map}
-use Rattle.dwz_meanings.specs.Meanings.{Scope, attr_with, attrs_meaning, meaning, with_attr, without_siblings}
+use Rattle.dwz_meanings.specs.Meanings.{Scope, without_siblings}
+use Rattle.dwz_meanings.specs.Meant.{attr_with, attrs_meaning, meaning, with_attr}
 use Rattle.dwz_docs.specs.Lists.{Each}
 use Rattle.dwz_alike.specs.Spots.{Spot}
 use Rattle.dwz_flat.proofs.StepLemmas.{skipped, taken}

@@ -4,7 +4,9 @@ use Rattle.std.proofs.Common.{◌≡◌, ℕ, ◌+◌, Bool, true, false, List, 
 use Rattle.dwz_docs.specs.Lists.{In}
 use Rattle.dwz_docs.proofs.ListFacts.{got_in, got_map, in_left, in_right}
 use Rattle.dwz_meanings.specs.Documents.{Attr, DwUnit, Node}
-use Rattle.dwz_meanings.specs.Meanings.{Class, OfTextBySlot, OfTextInLineStr, OfTextInStr, class_of, names_file, scope_of}
+use Rattle.dwz_meanings.specs.Meanings.{scope_of}
+use Rattle.dwz_meanings.specs.Classes.{OfTextBySlot, OfTextInLineStr, OfTextInStr}
+use Rattle.dwz_meanings.specs.Classes.{Class, class_of, names_file}
 use Rattle.dwz_meanings.specs.Files.{around_of}
 use Rattle.dwz_seen.specs.Spaces.{space_text}
 use Rattle.dwz_alike.specs.Spots.{Spot, name_by, name_of}

@@ -10,7 +10,10 @@ use Rattle.dwz_docs.specs.Lists.{In}
 use Rattle.dwz_docs.proofs.ListFacts.{get_first}
 use Rattle.dwz_meanings.specs.Documents.{Attr, Value, attr_map}
 use Rattle.dwz_meanings.specs.LineTables.{FileTable}
-use Rattle.dwz_meanings.specs.Meanings.{Class, OfConstant, Scope, attr_with, class_of, meaning, names_file, number_of}
+use Rattle.dwz_meanings.specs.Meanings.{Scope, number_of}
+use Rattle.dwz_meanings.specs.Classes.{OfConstant}
+use Rattle.dwz_meanings.specs.Classes.{Class, class_of, names_file}
+use Rattle.dwz_meanings.specs.Meant.{attr_with, meaning}
 use Rattle.dwz_alike.specs.Spots.{Spot}
 use Rattle.dwz_unit.specs.Rows.{EntryRow}
 use Rattle.dwz_index.proofs.TopLemmas.{get_later}

@@ -8,7 +8,9 @@ use Rattle.dwz_docs.specs.Entries.{RawAttr}
 use Rattle.dwz_docs.specs.Units.{RawUnit}
 use Rattle.dwz_docs.proofs.ListFacts.{get_first}
 use Rattle.dwz_meanings.specs.Documents.{Attr}
-use Rattle.dwz_meanings.specs.Meanings.{Class, OfTextBySlot, OfTextInLineStr, OfTextInStr, Sources, class_of, offset_of}
+use Rattle.dwz_meanings.specs.Meanings.{Sources, offset_of}
+use Rattle.dwz_meanings.specs.Classes.{OfTextBySlot, OfTextInLineStr, OfTextInStr}
+use Rattle.dwz_meanings.specs.Classes.{Class, class_of}
 use Rattle.dwz_unit.specs.Rows.{EntryRow}
 use Rattle.dwz_index.proofs.TopLemmas.{get_later}
 use Rattle.dwz_known.specs.declared.firsts.Before.{Before}

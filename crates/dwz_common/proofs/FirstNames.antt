@@ -5,7 +5,8 @@ use Rattle.dwz_bytes.specs.Reading.{◌>>=◌}
 use Rattle.dwz_docs.specs.Entries.{RawAttr}
 use Rattle.dwz_docs.proofs.PartLemmas.{bind_ok}
 use Rattle.dwz_meanings.specs.Documents.{Attr, Value, first_named}
-use Rattle.dwz_meanings.specs.Meanings.{Scope, attr_with, attrs_meaning, first_raw, meaning, with_attr, without_siblings}
+use Rattle.dwz_meanings.specs.Meanings.{Scope, first_raw, without_siblings}
+use Rattle.dwz_meanings.specs.Meant.{attr_with, attrs_meaning, meaning, with_attr}
 use Rattle.dwz_flat.proofs.StepLemmas.{skipped, taken}
 
 -- the value that is stored, and what it means

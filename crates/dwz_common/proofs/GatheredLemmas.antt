@@ -4,7 +4,8 @@ use Rattle.std.specs.List.{flat_map}
 use Rattle.std.proofs.lemmas.List.Concat.{flat_map-append}
 use Rattle.dwz_docs.specs.Trees.{End, Entry}
 use Rattle.dwz_meanings.specs.Documents.{Attr, DwUnit, Entries, File, Plain}
-use Rattle.dwz_meanings.specs.Meanings.{Class, OfTextBySlot, OfTextInLineStr, OfTextInStr, class_of}
+use Rattle.dwz_meanings.specs.Classes.{OfTextBySlot, OfTextInLineStr, OfTextInStr}
+use Rattle.dwz_meanings.specs.Classes.{Class, class_of}
 use Rattle.dwz_layout.specs.Lines.{Line, lines, unit_lines}
 use Rattle.dwz_writing.specs.Placing.{attr_path, attr_text, attrs_with, entries_with, path_as, text_as, units_with, with_text}
 use Rattle.dwz_common.specs.Gathered.{lines_said, path_by, path_said, text_by, text_said, units_said, with_all}

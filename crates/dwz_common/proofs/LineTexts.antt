@@ -1,7 +1,8 @@
 -- An offset of a line table is no text.
 use Rattle.std.proofs.Common.{◌≡◌, [], pos, refl, ap}
 use Rattle.dwz_meanings.specs.Documents.{Sec}
-use Rattle.dwz_meanings.specs.Meanings.{Class, OfOffset, class_in, class_of, class_rows}
+use Rattle.dwz_meanings.specs.Classes.{OfOffset}
+use Rattle.dwz_meanings.specs.Classes.{Class, class_in, class_of, class_rows}
 use Rattle.dwz_moving.specs.Moves.{line_attr}
 use Rattle.dwz_common.specs.Gathered.{text_by, text_said}
 

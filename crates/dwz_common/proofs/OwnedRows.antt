@@ -20,7 +20,7 @@ use Rattle.dwz_moving.specs.Homes.{Common, same_home}
 use Rattle.dwz_moving.specs.Moves.{first_unit, image_in}
 use Rattle.dwz_moving.specs.Plan.{PartialUnit, part_row}
 use Rattle.dwz_moving.proofs.PlanLemmas.{home_true}
-use Rattle.dwz_moving.proofs.RowParts.{part_is}
+use Rattle.dwz_moving.proofs.PartRows.{part_is}
 use Rattle.dwz_plan.specs.declared.plan.Partial.{Partial as PlannedPart}
 use Rattle.dwz_plan.specs.Shows.{shown_part}
 use Rattle.dwz_same.specs.Units.{changes, common_units, partial_unit, tree}

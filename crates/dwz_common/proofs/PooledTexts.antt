@@ -2,7 +2,8 @@
 use Rattle.std.proofs.Common.{◌≡◌, ℕ, Bool, true, false, List, [], ◌∷◌, cond, refl, sym, ap, subst, inl}
 use Rattle.dwz_docs.specs.Lists.{In}
 use Rattle.dwz_meanings.specs.Documents.{Attr}
-use Rattle.dwz_meanings.specs.Meanings.{Class, OfTextBySlot, OfTextInLineStr, OfTextInStr, class_of}
+use Rattle.dwz_meanings.specs.Classes.{OfTextBySlot, OfTextInLineStr, OfTextInStr}
+use Rattle.dwz_meanings.specs.Classes.{Class, class_of}
 use Rattle.dwz_seen.proofs.Members.{each_of}
 use Rattle.dwz_alike.specs.Spots.{Spot, name_of}
 use Rattle.dwz_writing.specs.Placing.{has_text}

@@ -6,7 +6,8 @@ use Rattle.std.proofs.lemmas.Option.{get_or_from_slice_get}
 use Rattle.dwz_docs.specs.Units.{RawUnit}
 use Rattle.dwz_docs.proofs.ListFacts.{got_map}
 use Rattle.dwz_meanings.specs.Documents.{Attr, Node, node_map}
-use Rattle.dwz_meanings.specs.Meanings.{Class, OfConstant, OfTextBySlot, OfTextInLineStr, OfTextInStr, class_of, names_file}
+use Rattle.dwz_meanings.specs.Classes.{OfConstant, OfTextBySlot, OfTextInLineStr, OfTextInStr}
+use Rattle.dwz_meanings.specs.Classes.{Class, class_of, names_file}
 use Rattle.dwz_resolve.specs.Resolved.{sources_view}
 use Rattle.dwz_seen.specs.Spaces.{space_text}
 use Rattle.dwz_alike.specs.Spots.{Spot, name_of}

@@ -2,7 +2,8 @@
 use Rattle.std.proofs.Common.{◌≡◌, ℕ, Bool, true, false, List, refl, sym, ap, ◌∙◌, cond, eq-eqb}
 use Rattle.dwz_bytes.specs.Spelling.{reach}
 use Rattle.dwz_meanings.specs.Documents.{Attr}
-use Rattle.dwz_meanings.specs.Meanings.{Class, OfTextBySlot, OfTextInLineStr, OfTextInStr, class_of, names_file}
+use Rattle.dwz_meanings.specs.Classes.{OfTextBySlot, OfTextInLineStr, OfTextInStr}
+use Rattle.dwz_meanings.specs.Classes.{Class, class_of, names_file}
 use Rattle.dwz_alike.specs.Spots.{Spot}
 use Rattle.dwz_writing.specs.Placing.{CommonUnit, Fit, Holder, NewUnit, OldUnit, as_line_text, as_slot, as_strp, as_strp_if, as_text, fit_as, has_text, slot_number, text_place}
 use Rattle.dwz_writing.specs.Writing.{text_in}

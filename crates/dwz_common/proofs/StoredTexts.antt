@@ -5,7 +5,9 @@ use Rattle.std.specs.Option.{option_and_then, option_map_or}
 use Rattle.dwz_docs.specs.Units.{RawUnit}
 use Rattle.dwz_meanings.specs.Documents.{Attr, Node, Text, attr_map, node_map, only}
 use Rattle.dwz_meanings.specs.Files.{around_of, no_files_before, sources_of}
-use Rattle.dwz_meanings.specs.Meanings.{Scope, Sources, attr_with, class_of, scope_of, str_offsets_base}
+use Rattle.dwz_meanings.specs.Meanings.{Scope, Sources, scope_of, str_offsets_base}
+use Rattle.dwz_meanings.specs.Classes.{class_of}
+use Rattle.dwz_meanings.specs.Meant.{attr_with}
 use Rattle.dwz_seen.proofs.Members.{each_of}
 use Rattle.dwz_seen.specs.Spaces.{space_text}
 use Rattle.dwz_seen.specs.Spaces as spaces

@@ -7,10 +7,18 @@ use Rattle.dwz_model.specs.declared.fault.Fault.{Fault}
 use Rattle.dwz_model.specs.declared.fault.Reason.TheVariants.{BadFile}
 use Rattle.dwz_meanings.specs.Documents.{File, Sec, Value, only}
 use Rattle.dwz_meanings.specs.LineTables.{FileTable}
-use Rattle.dwz_meanings.specs.Meanings.{Class, IfSo, IsLocList, MeansAs, OfAddress, OfBlock, OfCommonEntry, OfCommonText, OfConstant, OfExpression, OfFlag, OfIndex, OfInfoEntry, OfListIndex, OfOffset}
-use Rattle.dwz_meanings.specs.Meanings.{OfSignature, OfText, OfTextBySlot, OfTextInLineStr, OfTextInStr, OfUnitEntry, Scope, Unread, class_of, constant_value, file_by, is_zero, meaning}
-use Rattle.dwz_meanings.specs.Meanings.{names_file, names_list, number_of, offset_of, path_or, row_of_table, stmt_list}
+use Rattle.dwz_meanings.specs.Meanings.{IfSo, IsLocList, MeansAs}
+use Rattle.dwz_meanings.specs.Classes.{OfAddress, OfBlock, OfCommonEntry, OfCommonText, OfConstant, OfExpression, OfFlag, OfIndex, OfInfoEntry, OfListIndex, OfOffset}
+use Rattle.dwz_meanings.specs.Classes.{Class}
+use Rattle.dwz_meanings.specs.Meanings.{Scope, constant_value}
+use Rattle.dwz_meanings.specs.Classes.{OfSignature, OfText, OfTextBySlot, OfTextInLineStr, OfTextInStr, OfUnitEntry, Unread}
+use Rattle.dwz_meanings.specs.Classes.{class_of}
+use Rattle.dwz_meanings.specs.Meant.{file_by, is_zero, meaning}
+use Rattle.dwz_meanings.specs.Meanings.{number_of, offset_of, stmt_list}
+use Rattle.dwz_meanings.specs.Classes.{names_file, names_list}
+use Rattle.dwz_meanings.specs.Meant.{path_or, row_of_table}
 use Rattle.dwz_meanings.specs.Meanings as meanings
+use Rattle.dwz_meanings.specs.Meant as meant
 use Rattle.dwz_meanings.proofs.MeaningLemmas.{value_agrees}
 use Rattle.dwz_bytes.specs.Reading.{◌>>=◌}
 use Rattle.dwz_resolve.specs.Parts.{numbers_file}
@@ -30,7 +38,7 @@ module _ (s : Scope ℕ) (a : RawAttr) (v : Value ℕ) where
   of_offset true m = none_said _ m.value refl
   of_offset false m = none_said _ m refl
 
-  of_constant : (n : Bool) → names_file a.pair.name ≡ n → n ≡ false → meanings.as_class OfConstant s a ≡ Ok v → [] ≡ path_by v.plain
+  of_constant : (n : Bool) → names_file a.pair.name ≡ n → n ≡ false → meant.as_class OfConstant s a ≡ Ok v → [] ≡ path_by v.plain
   of_constant true e f means = absurd cc
   of_constant false e f means =
       let other : Ok (constant_value a) ≡ Ok v =
@@ -45,7 +53,7 @@ module _ (s : Scope ℕ) (a : RawAttr) (v : Value ℕ) where
   no_path OfAddress e f means m = none_said _ m refl
   no_path OfBlock e f means m = none_said _ m refl
   no_path OfConstant e f means m =
-      of_constant (names_file a.pair.name) refl f (ap (λ (c : Class). meanings.as_class c s a) (sym e) ∙ means)
+      of_constant (names_file a.pair.name) refl f (ap (λ (c : Class). meant.as_class c s a) (sym e) ∙ means)
   no_path OfFlag e f means m = none_said _ m refl
   no_path OfText e f means m = none_said _ m refl
   no_path OfTextInStr e f means m = none_said _ m.value refl
@@ -101,7 +109,7 @@ module _ (s : Scope ℕ) (a : RawAttr) (v : Value ℕ) where
       go true e =
           (let two = constant (class_of a.pair.form) (names_file a.pair.name) e in
           by_line line knows (numbers a two.1 two.0)
-          (file_means s a v two.1 (ap (λ (c : Class). meanings.as_class c s a) (sym two.0) ∙ means)))
+          (file_means s a v two.1 (ap (λ (c : Class). meant.as_class c s a) (sym two.0) ∙ means)))
       go false e = no_path (class_of a.pair.form) refl e means (((value_agrees s a).ok v).0 means)
 
 -- DW_AT_sibling numbers none

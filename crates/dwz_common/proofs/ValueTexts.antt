@@ -3,8 +3,11 @@ use Rattle.std.proofs.Common.{◌≡◌, ℕ, Bool, List, [], ◌∷◌, cond, O
 use Rattle.dwz_docs.specs.Entries.{RawAttr}
 use Rattle.dwz_docs.specs.Texts.{slot, text_at}
 use Rattle.dwz_meanings.specs.Documents.{Attr, Plain, Text, Value, attr_map, only}
-use Rattle.dwz_meanings.specs.Meanings.{Class, OfTextBySlot, OfTextInLineStr, OfTextInStr, Scope, as_class, attr_with, class_of, meaning, offset_of, str_offsets_base, text_from, text_or}
-use Rattle.dwz_meanings.specs.Meanings as meanings
+use Rattle.dwz_meanings.specs.Meanings.{Scope, offset_of, str_offsets_base}
+use Rattle.dwz_meanings.specs.Classes.{OfTextBySlot, OfTextInLineStr, OfTextInStr}
+use Rattle.dwz_meanings.specs.Classes.{Class, class_of}
+use Rattle.dwz_meanings.specs.Meant.{as_class, attr_with, meaning, text_from, text_or}
+use Rattle.dwz_meanings.specs.Meant as meant
 use Rattle.dwz_alike.specs.Spots.{Spot}
 use Rattle.dwz_seen.specs.Spaces as spaces
 use Rattle.dwz_writing.specs.Placing.{slot_number}
@@ -24,7 +27,7 @@ module _ (s : Scope ℕ) (a : RawAttr) (v : Value ℕ) where
   abbrev strs : List ℕ
   strs = s.around.sources.strs
 
-  offset_ok : (o : Option ℕ) → meanings.text_by s a o ≡ Ok v → text_or_none (text_at strs (or_zero o)) ≡ text_in v.plain
+  offset_ok : (o : Option ℕ) → meant.text_by s a o ≡ Ok v → text_or_none (text_at strs (or_zero o)) ≡ text_in v.plain
   offset_ok None e = absurd cc
   offset_ok (Some offset) e = text_ok (text_at strs offset) e
 

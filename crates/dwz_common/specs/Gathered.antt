@@ -2,7 +2,8 @@
 use Rattle.std.specs.Prelude.{ℕ, List, [], ◌∷◌, Some}
 use Rattle.std.specs.List.{flat_map}
 use Rattle.dwz_meanings.specs.Documents.{Attr, DwUnit, File, Plain}
-use Rattle.dwz_meanings.specs.Meanings.{Class, OfTextBySlot, OfTextInLineStr, OfTextInStr, class_of}
+use Rattle.dwz_meanings.specs.Classes.{OfTextBySlot, OfTextInLineStr, OfTextInStr}
+use Rattle.dwz_meanings.specs.Classes.{Class, class_of}
 use Rattle.dwz_layout.specs.Lines.{Line, unit_lines}
 use Rattle.dwz_writing.specs.Placing.{with_text}
 use Rattle.dwz_writing.specs.Writing.{text_in}

@@ -2,7 +2,7 @@
 -- So these keep their places where texts of a file get new numbers.
 use Rattle.std.specs.Prelude.{◌≡◌, ℕ, Bool, true, false, List, Some, slice_get}
 use Rattle.dwz_meanings.specs.Documents.{Node, node_map}
-use Rattle.dwz_meanings.specs.Meanings.{class_of}
+use Rattle.dwz_meanings.specs.Classes.{class_of}
 use Rattle.dwz_docs.specs.Lists.{Each}
 use Rattle.dwz_seen.specs.Spaces.{space_text}
 use Rattle.dwz_alike.specs.Spots.{name_of}

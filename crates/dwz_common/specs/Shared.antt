@@ -1,7 +1,7 @@
 -- Where texts are written once the common file has texts: in that file, or as they were read.
 use Rattle.std.specs.Prelude.{◌≡◌, Bool, List, ℕ, true, false, if◌then◌else◌, None}
 use Rattle.dwz_meanings.specs.Documents.{Attr}
-use Rattle.dwz_meanings.specs.Meanings.{class_of}
+use Rattle.dwz_meanings.specs.Classes.{class_of}
 use Rattle.dwz_alike.specs.Spots.{Spot}
 use Rattle.dwz_writing.specs.Placing.{CommonUnit, Fit, has_text, text_place}
 use Rattle.dwz_writing.specs.Writing.{text_in}

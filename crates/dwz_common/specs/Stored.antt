@@ -6,7 +6,9 @@ use Rattle.dwz_docs.specs.Entries.{RawAttr}
 use Rattle.dwz_docs.specs.Texts.{text_at}
 use Rattle.dwz_docs.specs.Units.{RawUnit}
 use Rattle.dwz_meanings.specs.Files.{sources_of}
-use Rattle.dwz_meanings.specs.Meanings.{Class, OfTextBySlot, OfTextInLineStr, OfTextInStr, Sources, base_in, class_of, first_raw, offset_of}
+use Rattle.dwz_meanings.specs.Meanings.{Sources, base_in, first_raw, offset_of}
+use Rattle.dwz_meanings.specs.Classes.{OfTextBySlot, OfTextInLineStr, OfTextInStr}
+use Rattle.dwz_meanings.specs.Classes.{Class, class_of}
 use Rattle.dwz_unit.specs.Rows.{EntryRow, units_of}
 use Rattle.dwz_writing.specs.Placing.{slot_number}
 use Rattle.dwz_places.specs.declared.known.FileRows.{FileRows}

@@ -9,6 +9,7 @@ ghost use Rattle.dwz_forms.specs.RawValues.{raw_view};
 ghost use Rattle.dwz_known.specs.Befores;
 ghost use Rattle.dwz_known.specs.Befores.{is_pair_file};
 ghost use Rattle.dwz_meanings.specs.Meanings;
+ghost use Rattle.dwz_meanings.specs.Classes;
 ghost use Rattle.dwz_places.specs.Attributes.{value_read};
 ghost use Rattle.dwz_resolve.specs.Classes.{class_view};
 ghost use Rattle.dwz_unit.specs.Rows.{EntryRow, rows_of, units_of};
@@ -34,7 +35,7 @@ const DW_AT_CALL_FILE: u16 = 0x58;
 
 // Whether values of an attribute number files.
 fn names_file(name: u16) -> bool
-    ensures { result ≡ Meanings.names_file name }
+    ensures { result ≡ Classes.names_file name }
 {
     name == DW_AT_DECL_FILE || name == DW_AT_CALL_FILE
 }

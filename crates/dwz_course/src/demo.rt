@@ -10,7 +10,7 @@ use dwz_words::Options;
 use std::alloc::Global;
 
 // A name that isn't of the words.
-fn named(alloc: Global, name: &[u8]) -> Result<Blob, NoMemory>
+fn new_name(alloc: Global, name: &[u8]) -> Result<Blob, NoMemory>
     ensures { IfOk result (λ blob. blob ≡ name.now) }
 {
     Ok(Blob::new(Vec::from_slice(alloc, name)?))
@@ -21,11 +21,11 @@ pub(crate) fn demo_options(alloc: Global, options: &Options) -> Result<Options, 
     ensures { IfOk result (λ o. o ≡ demo_options options.now) }
 {
     let mut files = Vec::new(alloc);
-    files.push(named(alloc, b"one")?)?;
-    files.push(named(alloc, b"two")?)?;
+    files.push(new_name(alloc, b"one")?)?;
+    files.push(new_name(alloc, b"two")?)?;
     Ok(Options {
         quiet: options.quiet,
-        common: Some(named(alloc, b"common")?),
+        common: Some(new_name(alloc, b"common")?),
         name: None,
         out: None,
         workers: options.workers,

@@ -52,12 +52,12 @@ where
     ensures demo { LeavesFiles (bytes_of words.now) (F.told files.old) (F.told files.new) }
     ensures reads { KeepsLastRead result (F.told files.old) (F.told files.new) }
 {
-    let end = ended(alloc, words, files, work, answer);
+    let end = run_words(alloc, words, files, work, answer);
     say(console, &end)
 }
 
 // What a run does, beside the console.
-fn ended<F: Files, W: Work, A>(
+fn run_words<F: Files, W: Work, A>(
     alloc: Global,
     words: &[Vec<u8>],
     files: &mut F,
@@ -79,7 +79,7 @@ where
     };
     match options.demo {
         None => with_files::<F, W, A>(alloc, &options, files, answer),
-        Some(n) => demonstrated(alloc, &options, n, work, answer),
+        Some(n) => run_demo(alloc, &options, n, work, answer),
     }
 }
 
@@ -110,7 +110,7 @@ where
         Err(GraphErr::Refused(refusal)) => return was_refused(alloc, options, &refusal),
         Err(GraphErr::NoMemory) => return Ended::OutOfMemory,
     };
-    let Ok(text) = said(alloc, options, &output) else {
+    let Ok(text) = done_text(alloc, options, &output) else {
         return Ended::OutOfMemory;
     };
     let Ok(all) = made_ready(alloc, output.puts.into_vec()) else {
@@ -123,7 +123,7 @@ where
 }
 
 // The run of lawful words that ask for a demonstration.
-fn demonstrated<W: Work, A>(alloc: Global, options: &Options, n: u32, work: &W, answer: &A) -> Ended
+fn run_demo<W: Work, A>(alloc: Global, options: &Options, n: u32, work: &W, answer: &A) -> Ended
 where
     A: Fn(Global, &Options, &[Vec<u8>]) -> Result<Output, GraphErr>,
     requires demo { options.now.demo ≡ Some n }
@@ -145,7 +145,7 @@ where
         Err(GraphErr::Refused(refusal)) => return was_refused(alloc, &asked, &refusal),
         Err(GraphErr::NoMemory) => return Ended::OutOfMemory,
     };
-    match said(alloc, options, &output) {
+    match done_text(alloc, options, &output) {
         Ok(text) => Ended::AllPut(text),
         Err(_) => Ended::OutOfMemory,
     }
@@ -185,7 +185,7 @@ fn name_of<'a>(options: &'a Options, file: u32) -> &'a [u8]
 }
 
 // What is said where all is done.
-fn said(alloc: Global, options: &Options, output: &Output) -> Result<Blob, NoMemory>
+fn done_text(alloc: Global, options: &Options, output: &Output) -> Result<Blob, NoMemory>
     requires { HasLengths output.now.summary }
     ensures { IfOk result (λ text. text ≡ done_text options.now output.now) }
 {

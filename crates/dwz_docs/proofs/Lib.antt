@@ -17,6 +17,8 @@ pub mod ElfFaultLemmas
 pub mod TreeLemmas
 pub mod TreeSteps
 pub mod EntryLemmas
+pub mod AttrReads
+pub mod FrontFaults
 pub mod UnitTreeLemmas
 pub mod HeaderLemmas
 pub mod UnitLemmas

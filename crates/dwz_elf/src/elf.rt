@@ -63,7 +63,7 @@ fn names_header(bytes: &[u8], file: &FileHeader) -> Header
 }
 
 // The sections with those headers.
-fn named(alloc: Global, table: &[u8], headers: &[Header]) -> Result<Vec<Section>, NoMemory>
+fn name_sections(alloc: Global, table: &[u8], headers: &[Header]) -> Result<Vec<Section>, NoMemory>
     ensures { IfOk result (λ sections. sections.items ≡ map (ElfNames.section_named table.now) headers.now) }
 {
     let end = names_end(table);
@@ -88,7 +88,7 @@ fn sections_of(alloc: Global, bytes: &[u8], file: &FileHeader) -> Result<Vec<Sec
         file.headers_at as usize,
         file.headers as usize,
     )?;
-    named(alloc, table, &headers)
+    name_sections(alloc, table, &headers)
 }
 
 // The first fault of the section headers, in a file of that length whose name table has that index.

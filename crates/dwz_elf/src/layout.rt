@@ -93,7 +93,11 @@ fn is_moving(keep: u128, header: &Header) -> bool
 }
 
 // The old offset and the index of each section that is written again.
-fn moving(alloc: Global, keep: u128, sections: &[Section]) -> Result<Vec<(u64, usize)>, NoMemory>
+fn moving_sections(
+    alloc: Global,
+    keep: u128,
+    sections: &[Section],
+) -> Result<Vec<(u64, usize)>, NoMemory>
     ensures { IfOk result (λ keys. keys.items ≡ ElfLayout.moving keep 0 sections.now) }
 {
     let mut keys = Vec::new(alloc);
@@ -110,7 +114,7 @@ pub(crate) fn order_of(alloc: Global, elf: &Elf, keep: u128) -> Result<Vec<(u64,
     requires { keep ≡ ElfLayout.keep_end elf.now }
     ensures { IfOk result (λ order. ElfLayout.IsOrder elf.now order.items) }
 {
-    let mut keys = moving(alloc, keep, elf.sections())?;
+    let mut keys = moving_sections(alloc, keep, elf.sections())?;
     keys.sort_unstable();
     Ok(keys)
 }

@@ -80,7 +80,7 @@ impl<'a> Rebuild<'a> {
             return Err(ReadErr::Refused(fault));
         }
         let order = layout::order_of(alloc, self.elf, keep)?;
-        match written(alloc, self.elf, &self.edits, input, keep, &order)? {
+        match write_in_order(alloc, self.elf, &self.edits, input, keep, &order)? {
             Some(out) => Ok(out),
             None => Err(ReadErr::Refused(Fault {
                 section: 0,
@@ -92,7 +92,7 @@ impl<'a> Rebuild<'a> {
 }
 
 // The file whose sections are in that order. None where it is too large.
-fn written(
+fn write_in_order(
     alloc: Global,
     elf: &Elf,
     edits: &Edits,

@@ -68,7 +68,7 @@ fn block<'a>(cursor: &mut Cursor<'a>, start: u64, bad: Fault) -> Result<&'a [u8]
 
 // A byte, and as many bytes as it says.
 #[inline(always)]
-fn sized<'a>(cursor: &mut Cursor<'a>, start: u64, bad: Fault) -> Result<&'a [u8], ReadErr>
+fn sized_block<'a>(cursor: &mut Cursor<'a>, start: u64, bad: Fault) -> Result<&'a [u8], ReadErr>
     ensures { AnswersAt (λ x. x.now) (shift start cursor.new) result (sized_at bad (shift start cursor.old)) }
 {
     let count = byte(cursor, start, bad)?;
@@ -222,7 +222,7 @@ fn fields(
         }
         Shape::UlebEntryConst => {
             let operand = operand_uleb(cursor, start, bad)?;
-            sized(cursor, start, bad)?;
+            sized_block(cursor, start, bad)?;
             operands.push(operand)?;
             Ok(())
         }
@@ -258,7 +258,7 @@ fn fields(
 
 // An expression behind its length, in an operator at that place, where so many expressions may be one inside another.
 #[cycle(inside)]
-fn nested(
+fn nested_expr(
     alone: u8,
     at: u64,
     section: u8,
@@ -306,7 +306,7 @@ pub(crate) fn all(
         let code = byte(&mut cursor, start, bad_at(section, at))?;
         let shape = shape_of(code);
         match shape {
-            Shape::NestedExpr => nested(
+            Shape::NestedExpr => nested_expr(
                 inside,
                 at,
                 section,

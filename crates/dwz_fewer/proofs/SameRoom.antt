@@ -3,7 +3,8 @@ use Rattle.std.proofs.Common.{ℕ, ◌-◌, List, [], ◌∷◌, subst}
 use Rattle.dwz_alike.specs.Alike.{joined_parts}
 use Rattle.dwz_docs.specs.Trees.{End, Entry}
 use Rattle.dwz_meanings.specs.Documents.{Attr, DwUnit, Entries, Expr, Loc, Operand, Part, Plain, Same}
-use Rattle.dwz_meanings.specs.Meanings.{Class, OfExpression, OfListIndex, OfOffset, class_of}
+use Rattle.dwz_meanings.specs.Classes.{OfExpression, OfListIndex, OfOffset}
+use Rattle.dwz_meanings.specs.Classes.{Class, class_of}
 use Rattle.dwz_docs.specs.Lists.{Each}
 use Rattle.dwz_writing.specs.Fitting.{EachAttr, FitsWidth, HasRoom, HasRoomAs, OperandsHaveRoom, PlainHasRoom, UnitHasRoom}
 use Rattle.dwz_writing.specs.Writing.{Numbering, base_place}

@@ -7,7 +7,9 @@ use Rattle.dwz_bytes.specs.Reading.{◌>>=◌}
 use Rattle.dwz_docs.specs.Entries.{RawAttr}
 use Rattle.dwz_docs.proofs.PartLemmas.{bind_ok}
 use Rattle.dwz_meanings.specs.Documents.{Attr, Node, attr_map, node_map}
-use Rattle.dwz_meanings.specs.Meanings.{Scope, attr_with, attrs_meaning, meaning, names_file, scope_of, with_attr, without_siblings}
+use Rattle.dwz_meanings.specs.Meanings.{Scope, scope_of, without_siblings}
+use Rattle.dwz_meanings.specs.Classes.{names_file}
+use Rattle.dwz_meanings.specs.Meant.{attr_with, attrs_meaning, meaning, with_attr}
 use Rattle.dwz_alike.specs.Spots.{Spot}
 use Rattle.dwz_flat.proofs.StepLemmas.{skipped, taken}
 use Rattle.dwz_flat.proofs.TreeLemmas.{node_attrs}

@@ -2,8 +2,9 @@
 use Rattle.std.proofs.Common.{◌≡◌, ℕ, ◌⊎◌, Bool, true, false, List, [], ◌∷◌, refl, sym, ap, ◌∙◌, cond, eqb, eqb-true, ne_eqb}
 use Rattle.std.proofs.Math.Logic.{inl, inr}
 use Rattle.dwz_model.specs.declared.place.Pair.{Pair}
-use Rattle.dwz_meanings.specs.Meanings.{Class, ClassRow, OfConstant, OfExpression, OfInfoEntry, OfTextBySlot, OfTextInLineStr, OfTextInStr, OfUnitEntry, Unread, class_in, class_of, class_rows}
-use Rattle.dwz_meanings.specs.Meanings.{names_file}
+use Rattle.dwz_meanings.specs.Classes.{OfConstant, OfExpression, OfInfoEntry, OfTextBySlot, OfTextInLineStr, OfTextInStr, OfUnitEntry, Unread}
+use Rattle.dwz_meanings.specs.Classes.{Class, ClassRow, class_in, class_of, class_rows}
+use Rattle.dwz_meanings.specs.Classes.{names_file}
 use Rattle.dwz_writing.specs.Placing.{CommonUnit, Holder, NewUnit, OldUnit}
 use Rattle.dwz_places.specs.declared.ways.Way.{Way}
 use Rattle.dwz_places.specs.declared.ways.Way.TheVariants.{AsEntry, AsExpression, AsFile, AsRead, AsText, Dropped, KeepsText}

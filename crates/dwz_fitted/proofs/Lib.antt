@@ -2,6 +2,7 @@ pub mod WeakerLemmas
 pub mod FormWays
 pub mod StoredLemmas
 pub mod ValueFits
+pub mod FormFits
 pub mod EntryFits
 pub mod RowFits
 pub mod NameFits

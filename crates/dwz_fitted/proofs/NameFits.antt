@@ -7,9 +7,16 @@ use Rattle.dwz_docs.specs.Entries.{RawAttr}
 use Rattle.dwz_docs.specs.Values.{Bytes, Number}
 use Rattle.dwz_docs.proofs.PartLemmas.{bind_ok}
 use Rattle.dwz_meanings.specs.Documents.{Attr, File, Node, Sec, Text, Value, first_named, only}
-use Rattle.dwz_meanings.specs.Meanings.{Class, IfSo, IsFileBy, IsLocList, MeansAs, OfAddress, OfBlock, OfCommonEntry, OfCommonText, OfConstant, OfExpression, OfFlag, OfIndex, OfInfoEntry, OfListIndex}
-use Rattle.dwz_meanings.specs.Meanings.{OfOffset, OfSignature, OfText, OfTextBySlot, OfTextInLineStr, OfTextInStr, OfUnitEntry, Scope, Unread, attr_with, attrs_meaning, bytes_of, class_of}
-use Rattle.dwz_meanings.specs.Meanings.{constant_value, meaning, names_file, names_list, number_of, offset_of, scope_of, stmt_list, with_attr, without_siblings}
+use Rattle.dwz_meanings.specs.Meanings.{IfSo, IsFileBy, IsLocList, MeansAs}
+use Rattle.dwz_meanings.specs.Classes.{OfAddress, OfBlock, OfCommonEntry, OfCommonText, OfConstant, OfExpression, OfFlag, OfIndex, OfInfoEntry, OfListIndex}
+use Rattle.dwz_meanings.specs.Classes.{Class}
+use Rattle.dwz_meanings.specs.Meanings.{Scope, bytes_of}
+use Rattle.dwz_meanings.specs.Classes.{OfOffset, OfSignature, OfText, OfTextBySlot, OfTextInLineStr, OfTextInStr, OfUnitEntry, Unread}
+use Rattle.dwz_meanings.specs.Classes.{class_of}
+use Rattle.dwz_meanings.specs.Meant.{attr_with, attrs_meaning}
+use Rattle.dwz_meanings.specs.Meanings.{constant_value, number_of, offset_of, scope_of, stmt_list, without_siblings}
+use Rattle.dwz_meanings.specs.Classes.{names_file, names_list}
+use Rattle.dwz_meanings.specs.Meant.{meaning, with_attr}
 use Rattle.dwz_meanings.proofs.MeaningLemmas.{value_agrees}
 use Rattle.dwz_alike.specs.Spots.{Spot, name_by as name_by_of, name_of}
 use Rattle.dwz_flat.proofs.StepLemmas.{skipped, taken}
@@ -34,7 +41,8 @@ use Rattle.dwz_pages.specs.Shown.{HeldAttr, Keys, attr_held, held_of}
 use Rattle.dwz_fitted.specs.Knows.{FileRead, IsRead, IsText, KnowsFile, NewNumbers, given_attr, name_attr}
 use Rattle.dwz_fitted.proofs.FormWays.{is_file, is_read, line_way, slot_way, way_of_class}
 use Rattle.dwz_fitted.proofs.StoredLemmas.{raw_bytes, raw_number}
-use Rattle.dwz_fitted.proofs.ValueFits.{as_value, read_held, text_given, text_in_form}
+use Rattle.dwz_fitted.proofs.ValueFits.{read_held, text_given}
+use Rattle.dwz_fitted.proofs.FormFits.{as_value, text_in_form}
 
 -- ---- a value that is a text
 

@@ -6,7 +6,8 @@ use Rattle.dwz_bytes.specs.Spelling.{SpellsSleb}
 use Rattle.dwz_docs.specs.Entries.{RawAttr}
 use Rattle.dwz_docs.specs.Values.{Bytes, Number, SpellsValue, constant_of, shape_of, written_rows}
 use Rattle.dwz_docs.proofs.WrittenLemmas.{same_shape}
-use Rattle.dwz_meanings.specs.Meanings.{Class, bytes_of, class_of, class_rows, number_of}
+use Rattle.dwz_meanings.specs.Meanings.{bytes_of, number_of}
+use Rattle.dwz_meanings.specs.Classes.{Class, class_of, class_rows}
 use Rattle.dwz_model.specs.declared.place.Pair.{Pair}
 use Rattle.dwz_writing.specs.Carried.{IsStored}
 use Rattle.dwz_writing.proofs.StoredClasses.{class_agrees, is_bytes, is_number, rows_agree, stores_bytes}

@@ -4,7 +4,8 @@ use Rattle.std.proofs.lemmas.List.{map-append}
 use Rattle.dwz_docs.specs.Trees.{End, Entry}
 use Rattle.dwz_docs.specs.Values.{Number}
 use Rattle.dwz_meanings.specs.Documents.{Attr, Compile as CompileKind, DwUnit, Entries, Kind, Node, OfType as TypeKind, Partial as PartialKind, Plain, ref}
-use Rattle.dwz_meanings.specs.Meanings.{Class, OfInfoEntry, OfOffset, class_in, class_of, class_rows}
+use Rattle.dwz_meanings.specs.Classes.{OfInfoEntry, OfOffset}
+use Rattle.dwz_meanings.specs.Classes.{Class, class_in, class_of, class_rows}
 use Rattle.dwz_alike.specs.Spots.{Spot, name_of}
 use Rattle.dwz_layout.specs.declared.order.Item.{Item}
 use Rattle.dwz_layout.specs.declared.order.What.{What}
@@ -36,7 +37,8 @@ use Rattle.dwz_fitted.specs.Knows.{FileRead, IsRead, IsText, KnowsFile, KnowsIn,
 use Rattle.dwz_fitted.specs.Knows.{ShowsTree, ShowsWhat, ShowsWhole, Writes, given_attr, given_line, given_node, name_attr}
 use Rattle.dwz_fitted.proofs.NameFits.{space_fits}
 use Rattle.dwz_fitted.proofs.RowFits.{row_fits, tree_fits}
-use Rattle.dwz_fitted.proofs.ValueFits.{entry_held, other_given, reference_form}
+use Rattle.dwz_fitted.proofs.ValueFits.{other_given, reference_form}
+use Rattle.dwz_fitted.proofs.FormFits.{entry_held}
 
 each_map : {X : Type 0} (xs : List X) (P Q : X → Type 0) → ((x : X) → P x → Q x) → Each P xs → Each Q xs
 each_map [] P Q go all = tt

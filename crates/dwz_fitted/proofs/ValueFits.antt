@@ -3,13 +3,20 @@ use Rattle.std.proofs.Common.{◌≡◌, ℕ, ◌+◌, Bool, true, false, List, 
 use Rattle.std.proofs.lemmas.List.{length-map}
 use Rattle.dwz_bytes.specs.Spelling.{reach}
 use Rattle.dwz_docs.specs.Entries.{RawAttr}
-use Rattle.dwz_docs.specs.Values.{Bytes, Number, Raw}
+use Rattle.dwz_docs.specs.Values.{Bytes, Number}
 use Rattle.dwz_meanings.specs.declared.exprs.Operand.{Operand}
-use Rattle.dwz_meanings.specs.Documents.{Attr, Expr, Part, Sec, Value, attr_map, only, ref}
+use Rattle.dwz_meanings.specs.Documents.{Attr, Sec, Value, attr_map, only, ref}
 use Rattle.dwz_meanings.specs.Exprs.{parts_of}
-use Rattle.dwz_meanings.specs.Meanings.{Class, IfSo, IsExpression, IsFileBy, IsLocList, MeansAs, OfAddress, OfBlock, OfCommonEntry, OfCommonText, OfConstant, OfExpression, OfFlag, OfIndex}
-use Rattle.dwz_meanings.specs.Meanings.{OfInfoEntry, OfListIndex, OfOffset, OfSignature, OfText, OfTextBySlot, OfTextInLineStr, OfTextInStr, OfUnitEntry, Scope, Unread, attr_with, bytes_of, class_in}
-use Rattle.dwz_meanings.specs.Meanings.{class_of, class_rows, constant_value, content_at, expr_context, meaning, names_file, names_list, number_of, offset_of, stmt_list, target_of, targets}
+use Rattle.dwz_meanings.specs.Meanings.{IfSo, IsExpression, IsFileBy, IsLocList, MeansAs}
+use Rattle.dwz_meanings.specs.Classes.{OfAddress, OfBlock, OfCommonEntry, OfCommonText, OfConstant, OfExpression, OfFlag, OfIndex}
+use Rattle.dwz_meanings.specs.Classes.{Class}
+use Rattle.dwz_meanings.specs.Meanings.{Scope, bytes_of}
+use Rattle.dwz_meanings.specs.Classes.{OfInfoEntry, OfListIndex, OfOffset, OfSignature, OfText, OfTextBySlot, OfTextInLineStr, OfTextInStr, OfUnitEntry, Unread}
+use Rattle.dwz_meanings.specs.Classes.{class_in}
+use Rattle.dwz_meanings.specs.Meant.{attr_with}
+use Rattle.dwz_meanings.specs.Meanings.{constant_value, content_at, expr_context, number_of, offset_of, stmt_list, target_of, targets}
+use Rattle.dwz_meanings.specs.Classes.{class_of, class_rows, names_file, names_list}
+use Rattle.dwz_meanings.specs.Meant.{meaning}
 use Rattle.dwz_meanings.proofs.MeaningLemmas.{value_agrees}
 use Rattle.dwz_model.specs.declared.place.Pair.{Pair}
 use Rattle.dwz_alike.specs.Spots.{Spot}
@@ -22,7 +29,6 @@ use Rattle.dwz_writing.proofs.StoredClasses.{expression_form, stores_bytes}
 use Rattle.dwz_places.specs.declared.known.Firsts.{Firsts}
 use Rattle.dwz_places.specs.declared.known.Known.{Known}
 use Rattle.dwz_places.specs.declared.known.TextAt.{TextAt}
-use Rattle.dwz_places.specs.declared.known.TextAt.TheVariants.{Own, Pooled, Shared}
 use Rattle.dwz_places.specs.declared.ways.Way.{Way}
 use Rattle.dwz_places.specs.declared.ways.Way.TheVariants.{AsEntry, AsExpression, AsFile, AsRead, AsText, KeepsText}
 use Rattle.dwz_places.specs.Attributes.{Here, after, after_by, expr_parts, form_to, operand_count, out_attr, out_by, parts_or, plain_pair}
@@ -30,43 +36,12 @@ use Rattle.dwz_places.specs.Attributes.{read_attr, references_from}
 use Rattle.dwz_places.specs.Known.{file_at, owner_of, reference_at, text_at}
 use Rattle.dwz_places.specs.Ways.{if_file, way_of}
 use Rattle.dwz_places.proofs.PartLemmas.{count_from}
-use Rattle.dwz_pages.specs.Shown.{Held, HeldAttr, Key, Keys, Parts, Value as ValueHeld, attr_held, held_as, held_of}
+use Rattle.dwz_pages.specs.Shown.{HeldAttr, Key, Keys, Parts, Value as ValueHeld, attr_held, held_as, held_of}
 use Rattle.dwz_fitted.specs.Knows.{EachFrom, FileRead, IsNamed, IsReached, IsText, NewNumbers, chosen_of, given_attr, is_placed, numbers_by, renumbered_if, text_chosen}
 use Rattle.dwz_fitted.proofs.FormWays.{is_file, is_read, line_way, number_way, slot_way, way_is, way_of_class}
 use Rattle.dwz_fitted.proofs.StoredLemmas.{raw_bytes, raw_number, same_pair}
 use Rattle.dwz_fitted.proofs.WeakerLemmas.{read_any}
-
-abbrev pub as_value : Raw → Held Spot
-as_value r = ValueHeld r
-
--- ---- what is held under each form that is chosen
-
-pub text_in_form : (t : TextAt) (b : Attr Spot) → record { pair = plain_pair b.name (text_chosen t).form; held = ValueHeld (Number (text_chosen t).raw) } ≡ held_of (with_form b (text_chosen t))
-unfolding class_rows class_in
-text_in_form (Own offset) b = refl
-text_in_form (Shared offset) b = refl
-text_in_form (Pooled offset) b = refl
-
-file_held : (n : ℕ) (b : Attr Spot) → record { pair = plain_pair b.name 0x0f; held = ValueHeld (Number (pos n)) } ≡ held_of (with_form b (record { form = 0x0f; raw = pos n }))
-unfolding class_rows class_in
-file_held n b = refl
-
-pub entry_held : (r : Reach) (b : Attr Spot) (x : Spot) → b.value.refs ≡ x ∷ [] → record { pair = plain_pair b.name (ref_form r); held = Key x } ≡ held_of (with_form b (record {
-  form = ref_form r;
-  raw = b.raw;
-}))
-unfolding class_rows class_in
-entry_held InUnit b x e = ap (λ (rs : List Spot). held_of (with_form (record { name = b.name; form = b.form; raw = b.raw; value = record { plain = b.value.plain; refs = rs } })
-    (record { form = ref_form InUnit; raw = b.raw }))) (sym e)
-entry_held InFile b x e = ap (λ (rs : List Spot). held_of (with_form (record { name = b.name; form = b.form; raw = b.raw; value = record { plain = b.value.plain; refs = rs } })
-    (record { form = ref_form InFile; raw = b.raw }))) (sym e)
-entry_held InCommon b x e = ap (λ (rs : List Spot). held_of (with_form (record { name = b.name; form = b.form; raw = b.raw; value = record { plain = b.value.plain; refs = rs } })
-    (record { form = ref_form InCommon; raw = b.raw }))) (sym e)
-
-expr_held_is : (b : Attr Spot) (parts : List Part) → b.form ≡ 0x18 → b.value.plain ≡ Expr parts → record { pair = plain_pair b.name 0x18; held = Parts parts b.value.refs } ≡ held_of b
-unfolding class_rows class_in
-expr_held_is b parts form plain =
-    (λ i. held_of (record { name = b.name; form = sym form i; raw = b.raw; value = record { plain = sym plain i; refs = b.value.refs } }))
+use Rattle.dwz_fitted.proofs.FormFits.{as_value, entry_held, expr_held_is, file_held, text_in_form}
 
 -- ---- new numbers of texts
 

@@ -10,8 +10,13 @@ use Rattle.dwz_layout.specs.declared.order.What.TheVariants.{Import, InChain, Ro
 use Rattle.dwz_layout.specs.Lines.{Line, line}
 use Rattle.dwz_layout.specs.Order.{Names}
 use Rattle.dwz_meanings.specs.Documents.{Attr, Entries, Node, Plain, Text, entries_map, node_map, only, ref}
-use Rattle.dwz_meanings.specs.Meanings.{Around, Class, OfConstant, OfTextBySlot, OfTextInLineStr, OfTextInStr, class_of, entries_meaning}
-use Rattle.dwz_meanings.specs.Meanings.{names_file, node_meaning, scope_of, without_siblings}
+use Rattle.dwz_meanings.specs.Meanings.{Around}
+use Rattle.dwz_meanings.specs.Classes.{OfConstant, OfTextBySlot, OfTextInLineStr, OfTextInStr}
+use Rattle.dwz_meanings.specs.Classes.{Class, class_of}
+use Rattle.dwz_meanings.specs.Meant.{entries_meaning}
+use Rattle.dwz_meanings.specs.Meanings.{scope_of, without_siblings}
+use Rattle.dwz_meanings.specs.Classes.{names_file}
+use Rattle.dwz_meanings.specs.Meant.{node_meaning}
 use Rattle.dwz_alike.specs.Deciding.{same_bool}
 use Rattle.dwz_alike.specs.Spots.{SpaceName, Spot, name_of}
 use Rattle.dwz_flat.specs.Rows.{node_refs}

@@ -14,7 +14,8 @@ use Rattle.dwz_alike.proofs.RowLemmas.{row_is, row_unit}
 use Rattle.dwz_flat.specs.Tops.{HasTop, HasTopOfFile}
 use Rattle.dwz_flat.proofs.TopThere.{has_language, has_top, left_behind}
 use Rattle.dwz_meanings.specs.Documents.{Attr, Compile, DwUnit, Entries, Kind, OfType, Partial, attr_map, entries_map, first_named, kind_map, language, number_of_attr, unit_map}
-use Rattle.dwz_meanings.specs.Meanings.{Around, entries_meaning, kind_meaning, node_meaning, scope_of, unit_meaning, unit_with, units_meaning, with_units}
+use Rattle.dwz_meanings.specs.Meanings.{Around, scope_of}
+use Rattle.dwz_meanings.specs.Meant.{entries_meaning, kind_meaning, node_meaning, unit_meaning, unit_with, units_meaning, with_units}
 use Rattle.dwz_unit.specs.Rows.{EntryRow, rows_below, rows_from, rows_in, rows_of}
 use Rattle.dwz_unit.proofs.ShownLemmas.{rows_in-length}
 

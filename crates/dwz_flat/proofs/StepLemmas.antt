@@ -9,7 +9,8 @@ use Rattle.dwz_docs.proofs.ListFacts.{drop_first}
 use Rattle.dwz_flat.specs.Rows.{AreAttrsMeant, AreRowsMeant, AreTargets, IsEntryMeant, NextAttr, NextRow, RowsMean, node_refs, nodes_refs}
 use Rattle.dwz_flat.proofs.TreeLemmas.{node_attrs}
 use Rattle.dwz_meanings.specs.Documents.{Attr, Node}
-use Rattle.dwz_meanings.specs.Meanings.{Scope, attr_with, attrs_meaning, meaning, with_attr, without_siblings}
+use Rattle.dwz_meanings.specs.Meanings.{Scope, without_siblings}
+use Rattle.dwz_meanings.specs.Meant.{attr_with, attrs_meaning, meaning, with_attr}
 use Rattle.dwz_resolve.specs.Named.{attrs_refs, value_refs}
 use Rattle.dwz_unit.specs.Rows.{EntryRow, rows_of}
 

@@ -14,7 +14,8 @@ use Rattle.dwz_alike.proofs.RowLemmas.{RowIs, row_is}
 use Rattle.dwz_flat.specs.Tops.{AreSpaceRows, HasTop}
 use Rattle.dwz_flat.proofs.TreeLemmas.{Parts, no_more, parts}
 use Rattle.dwz_meanings.specs.Documents.{Attr, Entries, Node, attr_map, entries_map, first_named, node_map}
-use Rattle.dwz_meanings.specs.Meanings.{Scope, entries_meaning, node_meaning, with_next}
+use Rattle.dwz_meanings.specs.Meanings.{Scope}
+use Rattle.dwz_meanings.specs.Meant.{entries_meaning, node_meaning, with_next}
 use Rattle.dwz_unit.specs.Rows.{EntryRow, rows_below}
 use Rattle.dwz_unit.proofs.RowLemmas.{shown-length}
 

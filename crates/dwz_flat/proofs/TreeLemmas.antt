@@ -9,7 +9,8 @@ use Rattle.dwz_docs.proofs.PartLemmas.{bind_ok}
 use Rattle.dwz_alike.specs.Spots.{Spot}
 use Rattle.dwz_flat.specs.Rows.{RowsMean, node_refs, nodes, nodes_refs}
 use Rattle.dwz_meanings.specs.Documents.{Attr, Entries, Node, entries_map, node_map}
-use Rattle.dwz_meanings.specs.Meanings.{Scope, attrs_meaning, entries_meaning, node_meaning, node_with, with_next, without_siblings}
+use Rattle.dwz_meanings.specs.Meanings.{Scope, without_siblings}
+use Rattle.dwz_meanings.specs.Meant.{attrs_meaning, entries_meaning, node_meaning, node_with, with_next}
 use Rattle.dwz_resolve.specs.Named.{attrs_refs, entries_refs}
 use Rattle.dwz_unit.specs.Rows.{EntryRow, rows_below}
 

@@ -5,7 +5,8 @@ use Rattle.dwz_docs.specs.Entries.{RawAttr}
 use Rattle.dwz_docs.specs.Trees.{End, Entry}
 use Rattle.dwz_docs.specs.Units.{RawUnit, entries_in}
 use Rattle.dwz_meanings.specs.Documents.{Attr, Entries, Node, Value}
-use Rattle.dwz_meanings.specs.Meanings.{Scope, attr_with, attrs_meaning, meaning, node_meaning, without_siblings}
+use Rattle.dwz_meanings.specs.Meanings.{Scope, without_siblings}
+use Rattle.dwz_meanings.specs.Meant.{attr_with, attrs_meaning, meaning, node_meaning}
 use Rattle.dwz_resolve.specs.Named.{attrs_refs, value_refs}
 use Rattle.dwz_resolve.specs.Resolved.{place_at, places}
 use Rattle.dwz_alike.specs.Spots.{Spot}

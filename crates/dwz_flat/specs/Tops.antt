@@ -4,7 +4,8 @@ use Rattle.dwz_docs.specs.Entries.{RawEntry}
 use Rattle.dwz_docs.specs.Trees.{End, Entry, Forest, Position}
 use Rattle.dwz_docs.specs.Units.{RawUnit}
 use Rattle.dwz_meanings.specs.Documents.{DwUnit, Entries, Node, entries_map, language, node_map}
-use Rattle.dwz_meanings.specs.Meanings.{Around, Scope, entries_meaning, node_meaning, scope_of, unit_meaning}
+use Rattle.dwz_meanings.specs.Meanings.{Around, Scope, scope_of}
+use Rattle.dwz_meanings.specs.Meant.{entries_meaning, node_meaning, unit_meaning}
 use Rattle.dwz_seen.specs.Spaces.{space_text}
 use Rattle.dwz_alike.specs.Spots.{SpaceName, Spot, Top, name_of}
 use Rattle.dwz_unit.specs.Rows.{EntryRow, rows_below, rows_of}

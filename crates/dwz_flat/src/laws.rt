@@ -11,7 +11,8 @@ ghost use Rattle.dwz_flat.specs.Rows.{AreAttrsMeant, AreNamed, AreRowsMeant, Are
 ghost use Rattle.dwz_flat.specs.Rows.{nodes_refs, row_names};
 ghost use Rattle.dwz_flat.specs.Tops.{HasTop, HasTopOfFile};
 ghost use Rattle.dwz_meanings.specs.Documents.{Attr, DwUnit, Entries, Node, entries_map, node_map};
-ghost use Rattle.dwz_meanings.specs.Meanings.{Around, Scope, entries_meaning, scope_of, units_meaning};
+ghost use Rattle.dwz_meanings.specs.Meanings.{Around, Scope, scope_of};
+ghost use Rattle.dwz_meanings.specs.Meant.{entries_meaning, units_meaning};
 ghost use Rattle.dwz_resolve.specs.Named.{entries_refs};
 ghost use Rattle.dwz_resolve.specs.Parts.{AreParted};
 ghost use Rattle.dwz_resolve.specs.Resolved.{AreEntries, place_at};

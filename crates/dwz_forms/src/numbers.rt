@@ -8,7 +8,7 @@ use dwz_model::NoMemory;
 
 // A number without a sign.
 #[inline(always)]
-pub(crate) fn unsigned(number: i128) -> u64
+pub(crate) fn to_unsigned(number: i128) -> u64
     requires { IsUnsigned number }
     ensures { result ≡ reach number }
 {
@@ -17,7 +17,7 @@ pub(crate) fn unsigned(number: i128) -> u64
 
 // A number with a sign.
 #[inline(always)]
-pub(crate) fn signed(number: i128) -> i64
+pub(crate) fn to_signed(number: i128) -> i64
     requires { fits_i64 number ≡ true }
     ensures { result ≡ number }
 {

@@ -98,7 +98,7 @@ fn text<'a>(cursor: &mut Cursor<'a>) -> Result<&'a [u8], ByteErr>
 // The value at the cursor by its shape.
 #[inline(always)]
 #[tactic(auto, unfolding(dwz_docs::specs::Values::shaped_at))]
-fn shaped<'a>(cursor: &mut Cursor<'a>, shape: Shape, pair: &Pair) -> Result<Raw<'a>, Fault>
+fn value_by_shape<'a>(cursor: &mut Cursor<'a>, shape: Shape, pair: &Pair) -> Result<Raw<'a>, Fault>
     ensures { Leaves raw_view cursor.new result (Values.shaped_at shape pair.now cursor.old) }
 {
     let place = cursor.at() as u64;
@@ -149,7 +149,7 @@ pub fn read_value<'a>(cursor: &mut Cursor<'a>, pair: &Pair) -> Result<Raw<'a>, F
 {
     let bytes = cursor.bytes();
     let mut ahead = Cursor::new(bytes, cursor.at());
-    let raw = shaped(&mut ahead, shape_of(pair.form), pair)?;
+    let raw = value_by_shape(&mut ahead, shape_of(pair.form), pair)?;
     *cursor = ahead;
     Ok(raw)
 }

@@ -8,7 +8,7 @@ ghost use Rattle.dwz_forms.specs.Numbers.{FitsNumber};
 ghost use Rattle.dwz_forms.specs.RawValues.{raw_view};
 ghost use Rattle.dwz_forms.specs.Sizes.{number_len, run_len};
 
-use crate::numbers::{put_fixed, signed, sleb_len, uleb_len, unsigned};
+use crate::numbers::{put_fixed, sleb_len, to_signed, to_unsigned, uleb_len};
 use crate::raw::Raw;
 use crate::shapes::written_shape;
 use dwz_bytes::{put_sleb, put_uleb};
@@ -27,8 +27,8 @@ fn number_size(shape: Shape, number: i128) -> u64
         Shape::Fixed4 => 4,
         Shape::Fixed8 => 8,
         Shape::Address => 8,
-        Shape::Uleb => uleb_len(unsigned(number)),
-        Shape::Sleb => sleb_len(signed(number)),
+        Shape::Uleb => uleb_len(to_unsigned(number)),
+        Shape::Sleb => sleb_len(to_signed(number)),
         _ => 0,
     }
 }
@@ -69,14 +69,14 @@ fn put_number(out: &mut Vec<u8>, shape: Shape, number: i128) -> Result<(), NoMem
     ensures err { OnErr result (out.new.items ≡ out.old.items) }
 {
     match shape {
-        Shape::Fixed1 => put_fixed(out, 1, unsigned(number)),
-        Shape::Fixed2 => put_fixed(out, 2, unsigned(number)),
-        Shape::Fixed3 => put_fixed(out, 3, unsigned(number)),
-        Shape::Fixed4 => put_fixed(out, 4, unsigned(number)),
-        Shape::Fixed8 => put_fixed(out, 8, unsigned(number)),
-        Shape::Address => put_fixed(out, 8, unsigned(number)),
-        Shape::Uleb => put_uleb(out, unsigned(number)),
-        Shape::Sleb => put_sleb(out, signed(number)),
+        Shape::Fixed1 => put_fixed(out, 1, to_unsigned(number)),
+        Shape::Fixed2 => put_fixed(out, 2, to_unsigned(number)),
+        Shape::Fixed3 => put_fixed(out, 3, to_unsigned(number)),
+        Shape::Fixed4 => put_fixed(out, 4, to_unsigned(number)),
+        Shape::Fixed8 => put_fixed(out, 8, to_unsigned(number)),
+        Shape::Address => put_fixed(out, 8, to_unsigned(number)),
+        Shape::Uleb => put_uleb(out, to_unsigned(number)),
+        Shape::Sleb => put_sleb(out, to_signed(number)),
         _ => Ok(()),
     }
 }

@@ -100,7 +100,7 @@ fn edges_of(alloc: Global, groups: &[Option<u32>], targets: &Groups) -> Result<V
 
 /// For each group whether it gains. Of a group is given whether it does by itself; of a top its group, if it has one, and the tops that
 /// it refers into.
-pub fn gaining(
+pub fn gaining_groups(
     alloc: Global,
     seeds: &[bool],
     groups: &[Option<u32>],

@@ -14,7 +14,8 @@ use Rattle.dwz_docs.specs.Entries.{given, unless_so}
 use Rattle.dwz_docs.specs.Faults.{Fails}
 use Rattle.dwz_meanings.specs.Files.{IsForMachine, IsNotTooLong, Limits, around_of, debug_abbrev, debug_aranges, debug_info, doc_with, lists_said, sets_said, units_said, ends_at, file_meaning}
 use Rattle.dwz_meanings.specs.Files.{is_other_machine, is_too_long, longest_file, machine_at, machine_of, section_of, sources_of, no_files_before}
-use Rattle.dwz_meanings.specs.Meanings.{Sources, alone, units_meaning}
+use Rattle.dwz_meanings.specs.Meanings.{Sources, alone}
+use Rattle.dwz_meanings.specs.Meant.{units_meaning}
 use Rattle.dwz_meanings.specs.NamedLists.{lists_of_units}
 use Rattle.dwz_meanings.specs.Ranges.{RangeSet}
 use Rattle.dwz_meanings.specs.Shared.{AreRows, ListOperand}

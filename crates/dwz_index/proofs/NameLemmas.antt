@@ -10,9 +10,10 @@ use Rattle.dwz_docs.specs.Units.{RawUnit, entries_in}
 use Rattle.dwz_docs.proofs.ListFacts.{in_cases, in_left, in_right}
 use Rattle.dwz_meanings.specs.Documents.{Doc, DwUnit, Entries}
 use Rattle.dwz_meanings.specs.Files.{Limits, around_of, debug_abbrev, debug_info, file_meaning, sources_of}
-use Rattle.dwz_meanings.specs.Meanings.{MeanEntries, MeanUnits, Sources, all_places, alone, places_in, scope_of, units_meaning}
+use Rattle.dwz_meanings.specs.Meanings.{MeanEntries, MeanUnits, Sources, all_places, alone, places_in, scope_of}
+use Rattle.dwz_meanings.specs.Meant.{units_meaning}
 use Rattle.dwz_meanings.proofs.FileLemmas.{file_agrees}
-use Rattle.dwz_meanings.proofs.MeaningLemmas.{units_agree}
+use Rattle.dwz_meanings.proofs.MeaningUnits.{units_agree}
 use Rattle.dwz_resolve.specs.Resolved.{place_at, places}
 use Rattle.dwz_resolve.proofs.PlaceLemmas.{Ascend, places_are, places_many, unit_and_entries, units_and_entries_ascend}
 use Rattle.dwz_resolve.proofs.UnitStarts.{places_whole}

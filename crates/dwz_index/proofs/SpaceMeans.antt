@@ -3,11 +3,17 @@ use Rattle.std.proofs.Common.{◌≡◌, ℕ, ℤ, Bool, true, false, List, [], 
 use Rattle.std.specs.Option.{is_some}
 use Rattle.dwz_docs.specs.Entries.{RawAttr, RawEntry}
 use Rattle.dwz_meanings.specs.Documents.{Attr, Node, Value, first_named}
-use Rattle.dwz_meanings.specs.Meanings.{Class, IfSo, IsFileBy, IsLocList, MeanAttrs, MeansAs, MeansNode, OfAddress, OfBlock, OfCommonEntry, OfCommonText, OfConstant, OfExpression, OfFlag, OfIndex}
-use Rattle.dwz_meanings.specs.Meanings.{OfInfoEntry, OfListIndex, OfOffset, OfSignature, OfText, OfTextBySlot, OfTextInLineStr, OfTextInStr, OfUnitEntry, Scope, Unread, class_of, constant_value}
-use Rattle.dwz_meanings.specs.Meanings.{first_raw, names_file, names_list, node_meaning, number_of, offset_of, stmt_list, without_siblings}
+use Rattle.dwz_meanings.specs.Meanings.{IfSo, IsFileBy, IsLocList, MeanAttrs, MeansAs, MeansNode}
+use Rattle.dwz_meanings.specs.Classes.{OfAddress, OfBlock, OfCommonEntry, OfCommonText, OfConstant, OfExpression, OfFlag, OfIndex}
+use Rattle.dwz_meanings.specs.Classes.{Class}
+use Rattle.dwz_meanings.specs.Meanings.{Scope, constant_value}
+use Rattle.dwz_meanings.specs.Classes.{OfInfoEntry, OfListIndex, OfOffset, OfSignature, OfText, OfTextBySlot, OfTextInLineStr, OfTextInStr, OfUnitEntry, Unread}
+use Rattle.dwz_meanings.specs.Classes.{class_of}
+use Rattle.dwz_meanings.specs.Meanings.{first_raw, number_of, offset_of, stmt_list, without_siblings}
+use Rattle.dwz_meanings.specs.Classes.{names_file, names_list}
+use Rattle.dwz_meanings.specs.Meant.{node_meaning}
 use Rattle.dwz_meanings.specs.Documents.{Sec, Text, only}
-use Rattle.dwz_meanings.proofs.MeaningLemmas.{node_agrees}
+use Rattle.dwz_meanings.proofs.MeaningUnits.{node_agrees}
 use Rattle.dwz_seen.specs.Spaces.{space_text, text_at, text_in}
 use Rattle.dwz_index.specs.Spaces.{has_text, is_text, stored_space}
 use Rattle.dwz_index.specs.Steps.{is_space}

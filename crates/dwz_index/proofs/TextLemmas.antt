@@ -4,7 +4,9 @@ use Rattle.dwz_docs.specs.Entries.{RawAttr}
 use Rattle.dwz_docs.specs.Texts.{slot, text_at}
 use Rattle.dwz_docs.proofs.TextLemmas.{here_slot, here_text}
 use Rattle.dwz_meanings.specs.Documents.{Value}
-use Rattle.dwz_meanings.specs.Meanings.{Class, IsTextIn, MeansAs, MeansValue, OfTextBySlot, OfTextInLineStr, OfTextInStr, Scope, Sources, class_of, offset_of}
+use Rattle.dwz_meanings.specs.Meanings.{IsTextIn, MeansAs, MeansValue, Scope, Sources, offset_of}
+use Rattle.dwz_meanings.specs.Classes.{OfTextBySlot, OfTextInLineStr, OfTextInStr}
+use Rattle.dwz_meanings.specs.Classes.{Class, class_of}
 use Rattle.dwz_seen.specs.Spaces.{text_in}
 use Rattle.dwz_resolve.specs.declared.sections.Sections.{Sections}
 use Rattle.dwz_index.specs.Spaces.{IsOwn}

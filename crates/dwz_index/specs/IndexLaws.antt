@@ -3,7 +3,7 @@ use Rattle.std.specs.Prelude.{◌≡◌, ℕ, ◌+◌, ◌<◌, List, [], Ok, So
 use Rattle.dwz_docs.specs.Units.{RawUnit, entries_in}
 use Rattle.dwz_meanings.specs.Documents.{Doc, DwUnit, unit_map}
 use Rattle.dwz_meanings.specs.Files.{Limits, around_of, file_meaning}
-use Rattle.dwz_meanings.specs.Meanings.{units_meaning}
+use Rattle.dwz_meanings.specs.Meant.{units_meaning}
 use Rattle.dwz_alike.specs.Spots.{Spot, Top, Within, in_file, spot_in, spots_from, tops_among, tops_from}
 use Rattle.dwz_resolve.specs.Resolved.{place_at}
 use Rattle.dwz_index.specs.declared.index.SpaceEntry.{SpaceEntry}

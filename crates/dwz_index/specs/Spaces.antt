@@ -1,7 +1,9 @@
 -- Which entries are spaces, as they are stored.
 use Rattle.std.specs.Prelude.{◌≡◌, ℕ, Bool, true, false, Option, Some, None, ◌==◌}
 use Rattle.dwz_docs.specs.Entries.{RawAttr, RawEntry}
-use Rattle.dwz_meanings.specs.Meanings.{Class, OfCommonText, OfText, OfTextBySlot, OfTextInLineStr, OfTextInStr, Scope, class_of, first_raw}
+use Rattle.dwz_meanings.specs.Meanings.{Scope, first_raw}
+use Rattle.dwz_meanings.specs.Classes.{OfCommonText, OfText, OfTextBySlot, OfTextInLineStr, OfTextInStr}
+use Rattle.dwz_meanings.specs.Classes.{Class, class_of}
 use Rattle.dwz_meanings.specs.Meanings.{str_offsets_base}
 use Rattle.dwz_resolve.specs.declared.sections.Sections.{Sections}
 use Rattle.dwz_resolve.specs.Resolved.{sources_view}

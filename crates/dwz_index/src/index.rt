@@ -3,7 +3,8 @@
 ghost use Rattle.std.specs.Prelude.{◌≡◌, ℕ, ◌<◌, ◌^◌, ◌++◌, List, Some, Ok, length, slice_get, IfOk, OnOk};
 ghost use Rattle.dwz_docs.specs.Units.{entries_in};
 ghost use Rattle.dwz_meanings.specs.Documents.{DwUnit};
-ghost use Rattle.dwz_meanings.specs.Meanings.{Around, units_meaning};
+ghost use Rattle.dwz_meanings.specs.Meanings.{Around};
+ghost use Rattle.dwz_meanings.specs.Meant.{units_meaning};
 ghost use Rattle.dwz_alike.specs.Spots.{Spot};
 ghost use Rattle.dwz_index.specs.Building.{HasRoom, IsFew};
 ghost use Rattle.dwz_index.specs.Index.{HasTops, IsIndex, next_starts};

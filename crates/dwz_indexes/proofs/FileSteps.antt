@@ -6,7 +6,8 @@ use Rattle.dwz_bytes.specs.Reading.{◌>>=◌}
 use Rattle.dwz_docs.specs.Units.{RawUnit, entries_in}
 use Rattle.dwz_meanings.specs.Documents.{Doc, DwUnit}
 use Rattle.dwz_meanings.specs.Files.{Limits, around_of, file_meaning, files_meaning, limits_after, longest_files, no_files_before, with_doc}
-use Rattle.dwz_meanings.specs.Meanings.{Around, units_meaning}
+use Rattle.dwz_meanings.specs.Meanings.{Around}
+use Rattle.dwz_meanings.specs.Meant.{units_meaning}
 use Rattle.dwz_graph.specs.declared.file.File.{File}
 use Rattle.dwz_graph.specs.Files.{AreKept, AreRead, docs_of, or_none}
 use Rattle.dwz_graph.proofs.GraphLemmas.{step}

@@ -9,6 +9,7 @@ pub mod OwnerKeys
 pub mod OwnerSteps
 pub mod NumberingLemmas
 pub mod MakeLemmas
+pub mod MakeCounts
 pub mod WholeLemmas
 pub mod ReferenceLemmas
 pub mod OwnerLemmas

@@ -6,8 +6,9 @@ use Rattle.dwz_docs.specs.Trees.{End}
 use Rattle.dwz_docs.specs.Units.{RawUnit}
 use Rattle.dwz_docs.proofs.ListFacts.{get_first, got_in, got_map, in_map}
 use Rattle.dwz_meanings.specs.Documents.{Doc, DwUnit, unit_map}
-use Rattle.dwz_meanings.specs.Meanings.{Around, units_meaning}
-use Rattle.dwz_meanings.proofs.MeaningLemmas.{units_agree}
+use Rattle.dwz_meanings.specs.Meanings.{Around}
+use Rattle.dwz_meanings.specs.Meant.{units_meaning}
+use Rattle.dwz_meanings.proofs.MeaningUnits.{units_agree}
 use Rattle.dwz_seen.specs.Lists.{Nth}
 use Rattle.dwz_seen.specs.Seen.{IsPartial}
 use Rattle.dwz_seen.specs.Shown.{keys, unit_keys}
@@ -24,7 +25,7 @@ use Rattle.dwz_moving.specs.IsPlan.{BelongsTo, IsPart}
 use Rattle.dwz_moving.specs.Moves.{Move, image_in}
 use Rattle.dwz_moving.specs.Plan.{image, part_row, partials, stand_in}
 use Rattle.dwz_moving.proofs.PlanLemmas.{are_parts}
-use Rattle.dwz_moving.proofs.RowParts.{part_is}
+use Rattle.dwz_moving.proofs.PartRows.{part_is}
 use Rattle.dwz_moving.proofs.UserLemmas.{move_stand}
 use Rattle.dwz_plan.specs.declared.plan.Home.{Home as Place}
 use Rattle.dwz_plan.specs.declared.plan.Home.TheVariants.{Common as InCommon, Local as InFile, Stay as InUnit}

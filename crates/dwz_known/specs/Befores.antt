@@ -1,7 +1,8 @@
 -- How many texts and numbers of files come before those of an entry.
 use Rattle.std.specs.Prelude.{ℕ, ◌+◌, ◌&&◌, ◌==◌, not, Bool, true, false, List, [], ◌∷◌, count_by}
 use Rattle.dwz_docs.specs.Entries.{RawAttr}
-use Rattle.dwz_meanings.specs.Meanings.{Class, OfConstant, OfTextBySlot, OfTextInLineStr, OfTextInStr, class_of, names_file}
+use Rattle.dwz_meanings.specs.Classes.{OfConstant, OfTextBySlot, OfTextInLineStr, OfTextInStr}
+use Rattle.dwz_meanings.specs.Classes.{Class, class_of, names_file}
 use Rattle.dwz_model.specs.declared.place.Pair.{Pair}
 use Rattle.dwz_unit.specs.Rows.{EntryRow}
 use Rattle.dwz_known.specs.declared.firsts.Before.{Before}

@@ -1,7 +1,7 @@
 //! Where what entries name begins, among the texts of their file and among its numbers of files.
 
 ghost use Rattle.std.specs.Prelude.{◌≡◌, ℕ, ◌+◌, ◌<◌, ◌^◌, count_by, length, IfOk};
-ghost use Rattle.dwz_meanings.specs.Meanings;
+ghost use Rattle.dwz_meanings.specs.Classes;
 ghost use Rattle.dwz_resolve.specs.Classes.{class_view};
 ghost use Rattle.dwz_unit.specs.Rows.{rows_of, units_of};
 ghost use Rattle.dwz_known.specs.Befores as Specs;
@@ -26,7 +26,7 @@ const DW_AT_SIBLING: u16 = 0x01;
 
 // `DW_AT_decl_file` and `DW_AT_call_file`.
 fn names_file(name: u16) -> bool
-    ensures { result ≡ Meanings.names_file name }
+    ensures { result ≡ Classes.names_file name }
 {
     name == 0x3a || name == 0x58
 }

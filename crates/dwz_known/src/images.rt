@@ -14,7 +14,7 @@ use std::alloc::Global;
 
 // The number that is as far behind `to` as `number` behind `from`.
 #[inline(always)]
-fn moved(number: u32, from: u32, to: u32) -> u32
+fn moved_number(number: u32, from: u32, to: u32) -> u32
     ensures { from ≤ number → to + (number - from) < 2 ^ 32 → result ≡ to + (number - from) }
 {
     to.wrapping_add(number.wrapping_sub(from))
@@ -34,7 +34,7 @@ fn in_top(plan: &Plan, tops: &[u32], top: u32, number: u32) -> u32
     if stand >= tops.len() {
         return number;
     }
-    moved(number, tops[top as usize], tops[stand])
+    moved_number(number, tops[top as usize], tops[stand])
 }
 
 /// The number among all entries of the one that stands for an entry after: of a top that moves the one at the same path under the top

@@ -56,7 +56,7 @@ fn numbers(alloc: Global, count: usize) -> Result<Vec<u32>, NoMemory>
 }
 
 // Those that may move, each under the hash of its label.
-fn hashed(alloc: Global, labels: &Labels, movable: &[bool]) -> Result<Vec<Keyed<u64>>, NoMemory>
+fn hash_rows(alloc: Global, labels: &Labels, movable: &[bool]) -> Result<Vec<Keyed<u64>>, NoMemory>
     requires many { length movable.now ≡ length labels.now }
     requires few { length labels.now < 2 ^ 32 }
     ensures { IfOk result (λ rows. AreHashed labels.now movable.now (length labels.now) rows.items) }
@@ -107,7 +107,7 @@ pub fn firsts(alloc: Global, labels: &Labels, movable: &[bool]) -> Result<Vec<u3
     ensures { IfOk result (λ firsts. AreFirstEquals labels.now movable.now firsts.items) }
 {
     let own = numbers(alloc, labels.len())?;
-    let rows = hashed(alloc, labels, movable)?;
+    let rows = hash_rows(alloc, labels, movable)?;
     let heads = with_least(rows, own);
     let others = unlike(alloc, labels, heads.as_slice())?;
     Ok(with_least(others, heads))

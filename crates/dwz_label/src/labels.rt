@@ -71,7 +71,7 @@ impl Labels {
     }
 
     // Those of a writer from one number to before another.
-    pub(crate) fn written<W: LabelWriter>(
+    pub(crate) fn from_writer<W: LabelWriter>(
         alloc: Global,
         writer: &W,
         room: &mut W::Room,

@@ -40,7 +40,7 @@ fn stretch<W: LabelWriter>(
 {
     let first = count.min(number.saturating_mul(len));
     let end = count.min(first.saturating_add(len));
-    Labels::written(alloc, writer, room, first, end)
+    Labels::from_writer(alloc, writer, room, first, end)
 }
 
 // The labels of the stretches of one worker, in order.
@@ -128,7 +128,7 @@ fn with_turn(labels: Labels, parts: &[Vec<Labels>], turn: usize) -> Result<Label
 }
 
 // The labels of all stretches, in order: the first ones of each worker, the second ones, and so on.
-fn joined(alloc: Global, parts: &[Vec<Labels>], count: usize) -> Result<Labels, NoMemory>
+fn join_stretches(alloc: Global, parts: &[Vec<Labels>], count: usize) -> Result<Labels, NoMemory>
     requires { (k : ℕ) (d : _) → k < length parts.now → length (slice_index_or parts.now k d).items ≡ 16 }
     ensures { (label : ℕ → _) (total len : ℕ) → AreStretches label total len parts.now
         → IfOk result (λ all. all ≡ front label total len (16 * length parts.now)) }
@@ -154,9 +154,9 @@ pub fn labels_by<R: Threads + Sync, W: LabelWriter + Sync>(
     ensures { IfOk result (λ labels. labels ≡ map (W.label writer.now) (range_with_len 0 count)) }
 {
     if workers == 1 || count < MANY {
-        return Labels::written(alloc, writer, &mut writer.room(), 0, count);
+        return Labels::from_writer(alloc, writer, &mut writer.room(), 0, count);
     }
     let len = stretch_len(count, workers as usize);
     let parts = all_stretches(rt, alloc, writer, count, len, workers as usize)?;
-    joined(alloc, parts.as_slice(), count)
+    join_stretches(alloc, parts.as_slice(), count)
 }

@@ -9,7 +9,7 @@ use Rattle.dwz_docs.proofs.ListFacts.{drop_here, get_first, got_below, got_map, 
 use Rattle.dwz_meanings.specs.Documents.{Doc, Node}
 use Rattle.dwz_meanings.specs.Files.{around_of}
 use Rattle.dwz_meanings.specs.Meanings.{scope_of}
-use Rattle.dwz_meanings.proofs.MeaningLemmas.{node_agrees}
+use Rattle.dwz_meanings.proofs.MeaningUnits.{node_agrees}
 use Rattle.dwz_alike.specs.Spots.{Spot}
 use Rattle.dwz_moving.specs.Plan.{image}
 use Rattle.dwz_same.specs.After.{at_file}

@@ -17,7 +17,7 @@ use Rattle.dwz_moving.specs.Moves.{image_in}
 use Rattle.dwz_moving.specs.Plan.{PartialUnit, image, part_row, partials, stand_in}
 use Rattle.dwz_moving.proofs.HomeLemmas.{file_of_top, home_is}
 use Rattle.dwz_moving.proofs.PlanLemmas.{are_parts}
-use Rattle.dwz_moving.proofs.RowParts.{part_is}
+use Rattle.dwz_moving.proofs.PartRows.{part_is}
 use Rattle.dwz_moving.proofs.StandLemmas.{fair}
 use Rattle.dwz_moving.proofs.UserLemmas.{Fair, move_stand, moves_same, moves_self, moving, rep_is, stands_same, used}
 use Rattle.dwz_plan.specs.declared.plan.Home.{Home as Place}

@@ -5,8 +5,8 @@ use Rattle.dwz_docs.specs.Units.{RawUnit}
 use Rattle.dwz_docs.proofs.ListFacts.{got_in, got_map}
 use Rattle.dwz_meanings.specs.Documents.{Doc, DwUnit, unit_map}
 use Rattle.dwz_meanings.specs.Files.{around_of}
-use Rattle.dwz_meanings.specs.Meanings.{units_meaning}
-use Rattle.dwz_meanings.proofs.MeaningLemmas.{units_agree}
+use Rattle.dwz_meanings.specs.Meant.{units_meaning}
+use Rattle.dwz_meanings.proofs.MeaningUnits.{units_agree}
 use Rattle.dwz_seen.specs.Lists.{Nth}
 use Rattle.dwz_docs.specs.Lists.{Each}
 use Rattle.dwz_seen.specs.Seen.{IsPartial}

@@ -7,8 +7,9 @@ use Rattle.dwz_docs.specs.Trees.{End, Entry, Forest, Position, behind, first_bel
 use Rattle.dwz_docs.specs.Units.{RawUnit, entry_count}
 use Rattle.dwz_docs.proofs.ListFacts.{drop_first}
 use Rattle.dwz_meanings.specs.Documents.{Compile, DwUnit, Entries, Kind, Node, OfType, Partial, entries_map, kind_map, node_map, unit_map}
-use Rattle.dwz_meanings.specs.Meanings.{Around, MeanUnits, Scope, entries_meaning, node_meaning, scope_of}
-use Rattle.dwz_meanings.proofs.MeaningLemmas.{entries_agree}
+use Rattle.dwz_meanings.specs.Meanings.{Around, MeanUnits, Scope, scope_of}
+use Rattle.dwz_meanings.specs.Meant.{entries_meaning, node_meaning}
+use Rattle.dwz_meanings.proofs.MeaningUnits.{entries_agree}
 use Rattle.dwz_seen.specs.Spaces.{space_text}
 use Rattle.dwz_seen.proofs.SpaceLemmas.{text_map}
 use Rattle.dwz_alike.specs.Spots.{Spot, in_file}

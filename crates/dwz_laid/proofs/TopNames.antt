@@ -9,7 +9,8 @@ use Rattle.dwz_docs.specs.Trees.{End, Entry, Forest, Position, behind, first_bel
 use Rattle.dwz_docs.specs.Units.{RawUnit}
 use Rattle.dwz_docs.proofs.ListFacts.{drop_first}
 use Rattle.dwz_meanings.specs.Documents.{Entries, Node, entries_map, node_map}
-use Rattle.dwz_meanings.specs.Meanings.{entries_meaning, scope_of}
+use Rattle.dwz_meanings.specs.Meanings.{scope_of}
+use Rattle.dwz_meanings.specs.Meant.{entries_meaning}
 use Rattle.dwz_docs.specs.Lists.{Each}
 use Rattle.dwz_seen.proofs.Members.{each_append}
 use Rattle.dwz_alike.specs.Spots.{Labelled, LabelledTop, Spot, Top, Within}

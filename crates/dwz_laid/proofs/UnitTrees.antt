@@ -7,7 +7,7 @@ use Rattle.dwz_docs.proofs.ListFacts.{in_map}
 use Rattle.dwz_meanings.specs.Documents.{Compile, DwUnit, Kind, OfType, entries_map, kind_map, node_map, unit_map}
 use Rattle.dwz_meanings.specs.Files.{around_of}
 use Rattle.dwz_meanings.specs.Meanings.{Around, MeansKind, MeansUnit, places_of, scope_of}
-use Rattle.dwz_meanings.proofs.MeaningLemmas.{entries_agree, node_agrees}
+use Rattle.dwz_meanings.proofs.MeaningUnits.{entries_agree, node_agrees}
 use Rattle.dwz_seen.specs.Lists.{Nth}
 use Rattle.dwz_seen.specs.Seen.{IsPartial}
 use Rattle.dwz_seen.specs.Shown.{keys as places_below}

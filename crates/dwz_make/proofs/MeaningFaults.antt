@@ -11,11 +11,12 @@ use Rattle.dwz_meanings.specs.Exprs.{ExprContext, Expression, FaultInside, Field
 use Rattle.dwz_meanings.specs.Exprs.{IsExprFault, IsFaultWithin, IsFieldsFault, IsLaidFault, IsOpFault, bad_expr, bad_operand, unsupported}
 use Rattle.dwz_meanings.specs.LineTables.{bad_line_table}
 use Rattle.dwz_meanings.specs.LocLists.{IsKindFault, IsListEntryFault, IsListFault, bad_list}
-use Rattle.dwz_meanings.specs.Meanings.{Around, Class, Scope, class_of, expr_context, scope_of, stmt_list, without_siblings}
-use Rattle.dwz_meanings.specs.Meanings.{HasEntryFault, HasFaultAs, HasFileFaultBy, HasKindFault, HasListFault, HasNodeFault, HasSlotFault}
-use Rattle.dwz_meanings.specs.Meanings.{HasUnitFault, HaveFault, HaveUnitFault}
-use Rattle.dwz_meanings.specs.Meanings.{OfCommonEntry, OfCommonText, OfConstant, OfExpression, OfInfoEntry, OfListIndex, OfOffset}
-use Rattle.dwz_meanings.specs.Meanings.{OfTextBySlot, OfTextInLineStr, OfTextInStr, OfUnitEntry, Unread}
+use Rattle.dwz_meanings.specs.Meanings.{Around, Scope, expr_context, scope_of, stmt_list, without_siblings}
+use Rattle.dwz_meanings.specs.Classes.{Class, class_of}
+use Rattle.dwz_meanings.specs.MeaningFaults.{HasEntryFault, HasFaultAs, HasFileFaultBy, HasKindFault, HasListFault, HasNodeFault, HasSlotFault}
+use Rattle.dwz_meanings.specs.MeaningFaults.{HasUnitFault, HaveFault, HaveUnitFault}
+use Rattle.dwz_meanings.specs.Classes.{OfCommonEntry, OfCommonText, OfConstant, OfExpression, OfInfoEntry, OfListIndex, OfOffset}
+use Rattle.dwz_meanings.specs.Classes.{OfTextBySlot, OfTextInLineStr, OfTextInStr, OfUnitEntry, Unread}
 use Rattle.dwz_meanings.specs.Sequences.{FaultAt, Spelling}
 use Rattle.dwz_make.proofs.UnitFaults.{OfSection, same_place}
 

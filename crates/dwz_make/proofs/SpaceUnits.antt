@@ -8,9 +8,10 @@ use Rattle.dwz_docs.specs.Units.{RawUnit, entry_count}
 use Rattle.dwz_docs.proofs.ListFacts.{drop_first, get_first, got_map, got_there, same_got}
 use Rattle.dwz_meanings.specs.Documents.{Compile, Doc, DwUnit, Kind, Node, OfType, Partial, entries_map, kind_map, unit_map}
 use Rattle.dwz_meanings.specs.Files.{around_of}
-use Rattle.dwz_meanings.specs.Meanings.{Around, MeanUnits, entries_meaning, scope_of}
+use Rattle.dwz_meanings.specs.Meanings.{Around, MeanUnits, scope_of}
+use Rattle.dwz_meanings.specs.Meant.{entries_meaning}
 use Rattle.dwz_meanings.proofs.FileLemmas.{file_agrees}
-use Rattle.dwz_meanings.proofs.MeaningLemmas.{entries_agree}
+use Rattle.dwz_meanings.proofs.MeaningUnits.{entries_agree}
 use Rattle.dwz_alike.specs.Spots.{FileUnit, Spot, in_file, named_files}
 use Rattle.dwz_flat.proofs.TopThere.{left_behind}
 use Rattle.dwz_flat.proofs.TreeLemmas.{same_size}

@@ -7,7 +7,8 @@ use Rattle.dwz_docs.proofs.ListFacts.{got_below, item_got, same_got}
 use Rattle.dwz_docs.proofs.CaseFacts.{if_ok}
 use Rattle.dwz_meanings.specs.Documents.{Doc, DwUnit}
 use Rattle.dwz_meanings.specs.Files.{sources_of}
-use Rattle.dwz_meanings.specs.Meanings.{Sources, alone, units_meaning}
+use Rattle.dwz_meanings.specs.Meanings.{Sources, alone}
+use Rattle.dwz_meanings.specs.Meant.{units_meaning}
 use Rattle.dwz_meanings.specs.Shared.{ListOperand}
 use Rattle.dwz_alike.specs.Spots.{Spot}
 use Rattle.dwz_moving.specs.Homes.{Rule}

@@ -8,7 +8,7 @@ use Rattle.dwz_docs.proofs.ListFacts.{got_below, got_map, got_there, same_got}
 use Rattle.dwz_meanings.specs.Documents.{Compile, Kind, OfType, Partial, kind_map, unit_map}
 use Rattle.dwz_meanings.specs.Files.{around_of}
 use Rattle.dwz_meanings.specs.Meanings.{MeansKind, MeansUnit, Scope, scope_of}
-use Rattle.dwz_meanings.proofs.MeaningLemmas.{unit_agrees}
+use Rattle.dwz_meanings.proofs.MeaningUnits.{unit_agrees}
 use Rattle.dwz_alike.specs.Spots.{FileUnit, RootOf, Spot, UnitOf, in_file}
 use Rattle.dwz_seen.specs.Lists.{Nth}
 use Rattle.dwz_moving.specs.Plan.{image}

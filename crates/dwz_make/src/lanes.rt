@@ -75,7 +75,7 @@ fn lanes<R: Threads + Sync>(
 }
 
 // What lanes have of so many files, in order of the files: the lanes take turns.
-fn dealt(
+fn take_turns(
     alloc: Global,
     mut lanes: VecDeque<Lane>,
     count: usize,
@@ -116,5 +116,5 @@ pub(crate) fn new_files<R: Threads + Sync>(
         return every(alloc, work, 0, 1);
     }
     let lanes = lanes(rt, alloc, work, step)?;
-    dealt(alloc, lanes, count)
+    take_turns(alloc, lanes, count)
 }

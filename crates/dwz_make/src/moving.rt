@@ -17,7 +17,7 @@ fn moved_text(text: TextAt, pruned: &[Option<PrunedFile>], file: usize) -> TextA
         return text;
     };
     match text {
-        TextAt::Own(offset) => TextAt::Own(stays.strs.moved(offset).unwrap_or(offset)),
+        TextAt::Own(offset) => TextAt::Own(stays.strs.new_place(offset).unwrap_or(offset)),
         TextAt::Shared(offset) => TextAt::Shared(offset),
         TextAt::Pooled(offset) => TextAt::Pooled(offset),
     }

@@ -23,7 +23,7 @@ const INFO: u8 = 1;
 const LOCLISTS: u8 = 7;
 
 // The first place in `.debug_info`.
-fn spoken(
+fn first_in_info(
     alloc: Global,
     work: &Work,
     moved: &Moved,
@@ -41,7 +41,7 @@ fn spoken(
 }
 
 // The first place in `.debug_loclists`.
-fn listed(
+fn first_in_lists(
     alloc: Global,
     work: &Work,
     moved: &Moved,
@@ -88,10 +88,10 @@ pub(crate) fn narrow_fault(
     ensures { (f : Facts) → IsMoved f work.now moved.now → HaveUnitPlaces f moved.now units_at.now
         → IfOk result (IsFound (NarrowFault (run f) moved.now.number)) }
 {
-    if let Some(at) = spoken(alloc, work, moved, units_at)? {
+    if let Some(at) = first_in_info(alloc, work, moved, units_at)? {
         return Ok(Some(narrow_at(INFO, at)));
     }
-    if let Some(at) = listed(alloc, work, moved, units_at)? {
+    if let Some(at) = first_in_lists(alloc, work, moved, units_at)? {
         return Ok(Some(narrow_at(LOCLISTS, at)));
     }
     Ok(None)

@@ -24,7 +24,7 @@ pub struct OrderedFiles {
 
 impl OrderedFiles {
     /// The same, borrowed.
-    pub fn written(&self) -> Written<'_>
+    pub fn as_written(&self) -> Written<'_>
         ensures ranks { result.ranks.now ≡ self.now.ranks.items }
         ensures orders { result.orders.now ≡ self.now.orders.items }
         ensures firsts { result.firsts.now ≡ self.now.firsts.items }
@@ -43,7 +43,7 @@ fn orders_of(alloc: Global, graph: &Graph, run: &SettledRun) -> Result<Vec<FileI
     requires run { IsSettledRun graph.now run.now }
     ensures { IfOk result (λ orders. IsInOrder graph.now run.now orders.items) }
 {
-    let settled = run.settled.settled();
+    let settled = run.settled.as_settled();
     orders_of_files(alloc, graph, &run.indexes, &settled)
 }
 

@@ -88,7 +88,7 @@ pub fn prepare_files<'u, 'a, R: Threads + Sync, G: Gate>(
     let importing = run.settled.importing.as_slice();
     let orders = ordered.orders.as_slice();
     let whole = whole_lists(alloc, graph, files, importing, orders, known)?;
-    let pruned = prune_files(alloc, graph, &whole.known, &ordered.written(), prunes)?;
+    let pruned = prune_files(alloc, graph, &whole.known, &ordered.as_written(), prunes)?;
     let known = with_moved_texts(alloc, whole.known, &pruned)?;
     let files = PreparedFiles {
         files,

@@ -42,6 +42,6 @@ pub(crate) fn settle_run<R: Threads + Sync, G: Gate>(
     let settled = settle_files(alloc, graph, &indexes, scope, planned)?;
     // What these say is known of what is settled.
     let _files = graph.files();
-    let _lent = settled.settled();
+    let _lent = settled.as_settled();
     Ok(SettledRun { indexes, settled })
 }

@@ -13,7 +13,8 @@ use Rattle.dwz_index.specs.Names.{top_in}
 use Rattle.dwz_index.proofs.NameLemmas.{means_units, stand_once}
 use Rattle.dwz_meanings.specs.Documents.{Doc, unit_map}
 use Rattle.dwz_meanings.specs.Files.{around_of, sources_of}
-use Rattle.dwz_meanings.specs.Meanings.{MeanUnits, units_meaning}
+use Rattle.dwz_meanings.specs.Meanings.{MeanUnits}
+use Rattle.dwz_meanings.specs.Meant.{units_meaning}
 use Rattle.dwz_meanings.specs.Shared.{OneOf}
 use Rattle.dwz_meanings.proofs.FileLemmas.{file_agrees}
 use Rattle.dwz_moving.specs.Plan.{pinned_in, pins}

@@ -10,9 +10,14 @@ use Rattle.dwz_docs.specs.Texts.{slot, slot_place}
 use Rattle.dwz_docs.proofs.ListFacts.{in_cases, in_left, in_right}
 use Rattle.dwz_meanings.specs.Documents.{Attr, DwUnit, Entries, Plain, Sec, Value, only}
 use Rattle.dwz_meanings.specs.LocLists.{LocList, SpellsList}
-use Rattle.dwz_meanings.specs.Meanings.{Around, Class, IfSo, IsFileBy, IsListBySlot, IsLocList, MeanAttrs, MeanEntries, MeanUnits, MeansAs, MeansAttr, OfAddress, OfBlock, OfCommonEntry, OfCommonText}
-use Rattle.dwz_meanings.specs.Meanings.{OfConstant, OfExpression, OfFlag, OfIndex, OfInfoEntry, OfListIndex, OfOffset, OfSignature, OfText, OfTextBySlot, OfTextInLineStr, OfTextInStr, OfUnitEntry}
-use Rattle.dwz_meanings.specs.Meanings.{Scope, Unread, class_of, constant_value, expr_context, list_read, loc_value, loclists_base, names_file, names_list, number_of, offset_of, scope_of, stmt_list}
+use Rattle.dwz_meanings.specs.Meanings.{Around, IfSo, IsFileBy, IsListBySlot, IsLocList, MeanAttrs, MeanEntries, MeanUnits, MeansAs, MeansAttr}
+use Rattle.dwz_meanings.specs.Classes.{OfAddress, OfBlock, OfCommonEntry, OfCommonText}
+use Rattle.dwz_meanings.specs.Classes.{Class}
+use Rattle.dwz_meanings.specs.Classes.{OfConstant, OfExpression, OfFlag, OfIndex, OfInfoEntry, OfListIndex, OfOffset, OfSignature, OfText, OfTextBySlot, OfTextInLineStr, OfTextInStr, OfUnitEntry}
+use Rattle.dwz_meanings.specs.Meanings.{Scope, constant_value, expr_context, loc_value, loclists_base, number_of, offset_of, scope_of, stmt_list}
+use Rattle.dwz_meanings.specs.Classes.{Unread}
+use Rattle.dwz_meanings.specs.Classes.{class_of, names_file, names_list}
+use Rattle.dwz_meanings.specs.Meant.{list_read}
 use Rattle.dwz_meanings.specs.Meanings.{without_siblings}
 use Rattle.dwz_meanings.specs.NamedLists.{AnyEntryNames, AnyNames, AnyUnitNames, NamesAs, NamesList, by_base, by_offset, list_of_attr, lists_as, lists_of_units, named_by}
 use Rattle.dwz_meanings.specs.Sequences.{StandsFrom}

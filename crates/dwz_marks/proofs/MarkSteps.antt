@@ -12,8 +12,9 @@ use Rattle.dwz_alike.specs.Spots.{FileUnit, Spot, tops_of}
 use Rattle.dwz_alike.proofs.Targets.{or_first, or_second}
 use Rattle.dwz_docs.specs.Units.{RawUnit}
 use Rattle.dwz_meanings.specs.Documents.{Attr, Doc, DwUnit, unit_map}
-use Rattle.dwz_meanings.specs.Meanings.{Around, MeanUnits, unit_meaning, units_meaning}
-use Rattle.dwz_meanings.proofs.MeaningLemmas.{units_agree}
+use Rattle.dwz_meanings.specs.Meanings.{Around, MeanUnits}
+use Rattle.dwz_meanings.specs.Meant.{unit_meaning, units_meaning}
+use Rattle.dwz_meanings.proofs.MeaningUnits.{units_agree}
 use Rattle.dwz_meanings.proofs.UnitMeans.{unit_meant}
 use Rattle.dwz_across.specs.Across.{IsPart, starts_at, starts_from}
 use Rattle.dwz_index.specs.Index.{Index}

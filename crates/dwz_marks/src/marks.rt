@@ -9,7 +9,8 @@ ghost use Rattle.dwz_graph.specs.Files.{docs_of};
 ghost use Rattle.dwz_index.specs.Index.{Index};
 ghost use Rattle.dwz_indexes.specs.Indexed.{AreIndexes};
 ghost use Rattle.dwz_meanings.specs.Documents.{Doc, DwUnit, unit_map};
-ghost use Rattle.dwz_meanings.specs.Meanings.{Around, units_meaning};
+ghost use Rattle.dwz_meanings.specs.Meanings.{Around};
+ghost use Rattle.dwz_meanings.specs.Meant.{units_meaning};
 ghost use Rattle.dwz_moving.specs.Plan.{pinned_in};
 ghost use Rattle.dwz_scan.specs.Known.{KnowsRefs, in_unit};
 ghost use Rattle.dwz_scan.specs.Marked.{MarksIf, expression_names, expression_pins};
@@ -36,7 +37,7 @@ pub(crate) fn put_unset(flags: &mut Vec<bool>, count: usize) -> Result<(), NoMem
 }
 
 // A flag for each top of all files, which isn't set.
-fn unset(alloc: Global, indexes: &[Index]) -> Result<Vec<bool>, NoMemory>
+fn unset_flags(alloc: Global, indexes: &[Index]) -> Result<Vec<bool>, NoMemory>
     ensures { (docs : List (Doc ℕ)) → AreIndexes docs indexes.now
         → IfOk result (λ flags. flags.items ≡ replicate (starts_at docs indexes.now (length indexes.now)).top false) }
 {
@@ -106,8 +107,8 @@ pub fn named_tops(alloc: Global, graph: &Graph, indexes: &[Index]) -> Result<Nam
     ensures { IfOk result (AreNamed (units_of (docs_of graph.now))) }
 {
     let mut named = Named {
-        by_any: unset(alloc, indexes)?,
-        by_uleb: unset(alloc, indexes)?,
+        by_any: unset_flags(alloc, indexes)?,
+        by_uleb: unset_flags(alloc, indexes)?,
     };
     let mut operands = Vec::new(alloc);
     for (number, file) in graph.files().iter().enumerate() {

@@ -1,7 +1,7 @@
 -- Functions that agree with relations: a value is answered exactly where one relation holds, and a fault exactly where another does.
 use Rattle.std.proofs.Common.{◌≡◌, ◌↔◌, ◌⊎◌, Result, Ok, Err, refl, sym, ap, ◌∙◌, inl, inr}
 use Rattle.dwz_bytes.specs.Reading.{◌>>=◌}
-use Rattle.dwz_meanings.specs.Meanings.{ExactlyOne}
+use Rattle.dwz_meanings.specs.MeaningFaults.{ExactlyOne}
 use Rattle.dwz_docs.proofs.PartLemmas.{bind_err, bind_ok, same_error}
 
 pub record Agrees {X E : Type 0} (r : Result X E) (Means : X → Type 0) (IsFault : E → Type 0) : Type 0 where

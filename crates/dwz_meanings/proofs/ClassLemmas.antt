@@ -8,7 +8,8 @@ use Rattle.dwz_codes.specs.declared.shape.Shape.{Shape}
 use Rattle.dwz_codes.specs.declared.shape.Shape.TheVariants.{Nothing, Fixed1, Fixed2, Fixed3, Fixed4, Fixed8, Fixed16, Uleb, Sleb, ZeroEnded, Block1, Block2, Block4, BlockUleb, Address}
 use Rattle.dwz_codes.specs.Forms.{form_rows}
 use Rattle.dwz_codes.specs.Rows.{RowView, row_of}
-use Rattle.dwz_meanings.specs.Meanings.{Class, ClassRow, Unread, class_in, class_of, class_rows}
+use Rattle.dwz_meanings.specs.Classes.{Unread}
+use Rattle.dwz_meanings.specs.Classes.{Class, ClassRow, class_in, class_of, class_rows}
 use Rattle.dwz_docs.specs.Values.{IsUnread, shape_in, shape_of, written_rows}
 use Rattle.dwz_docs.proofs.AbbrevLemmas.{and_true}
 

@@ -8,7 +8,9 @@ use Rattle.dwz_docs.proofs.ListFacts.{in_cases}
 use Rattle.dwz_meanings.specs.declared.exprs.Operand.{Operand}
 use Rattle.dwz_meanings.specs.Exprs.{ExprContext, joined, operands_in}
 use Rattle.dwz_meanings.specs.LocLists.{SpellsList}
-use Rattle.dwz_meanings.specs.Meanings.{Around, Class, OfListIndex, OfOffset, Scope, class_of, expr_context, scope_of, without_siblings}
+use Rattle.dwz_meanings.specs.Meanings.{Around, Scope, expr_context, scope_of, without_siblings}
+use Rattle.dwz_meanings.specs.Classes.{OfListIndex, OfOffset}
+use Rattle.dwz_meanings.specs.Classes.{Class, class_of}
 use Rattle.dwz_meanings.specs.NamedLists.{AnyEntryNames, AnyNames, AnyUnitNames, NamesAs, lists_of_units}
 use Rattle.dwz_meanings.specs.PatchedLists.{EndWithin}
 use Rattle.dwz_meanings.specs.Sequences.{StandsFrom}

@@ -16,7 +16,9 @@ use Rattle.dwz_meanings.specs.Exprs.{expr_within, fields_at, first_unnamed, has_
 use Rattle.dwz_docs.specs.Faults.{info_fault}
 use Rattle.dwz_meanings.specs.LineTables.{file_table_at, nth_path, rows_said, tables_at, values_at}
 use Rattle.dwz_meanings.specs.LocLists.{list_at, list_entry_at}
-use Rattle.dwz_meanings.specs.Meanings.{Scope, class_in, class_rows, first_raw, has, meaning}
+use Rattle.dwz_meanings.specs.Meanings.{Scope, first_raw, has}
+use Rattle.dwz_meanings.specs.Classes.{class_in, class_rows}
+use Rattle.dwz_meanings.specs.Meant.{meaning}
 use Rattle.dwz_meanings.specs.Sequences.{all_at, all_from, row_at, row_from, times_at}
 use Rattle.dwz_meanings.specs.Shared.{operands_of}
 use Rattle.dwz_docs.specs.Texts.{text_in}

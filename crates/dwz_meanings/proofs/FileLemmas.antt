@@ -19,14 +19,15 @@ use Rattle.dwz_docs.specs.Entries.{Mode, given, unless_so}
 use Rattle.dwz_meanings.specs.Files.{First, HaveGoodRanges, IsFileFault, IsForMachine, IsNotTooLong, IsOtherMachine, IsRefusal, IsTooLong, Limits, ReadAll, Reads, around_of, debug_abbrev}
 use Rattle.dwz_meanings.specs.Files.{debug_aranges, debug_info, doc_with, ends_at, file_meaning, files_meaning, in_file, is_other_machine, is_place_of, is_too_long, limits_after, lists_said}
 use Rattle.dwz_meanings.specs.Files.{longest_file, machine_at, machine_of, sets_said, units_said}
-use Rattle.dwz_meanings.specs.Meanings.{HaveUnitFault, MeanUnits}
+use Rattle.dwz_meanings.specs.Meanings.{MeanUnits}
+use Rattle.dwz_meanings.specs.MeaningFaults.{HaveUnitFault}
 use Rattle.dwz_meanings.specs.NamedLists.{lists_of_units}
 use Rattle.dwz_meanings.specs.Ranges.{IsSetsFault, RangeSet, SpellsSets}
 use Rattle.dwz_meanings.specs.Shared.{IsSharedFault, NoneShared}
 use Rattle.dwz_docs.specs.Units.{IsUnitsFault, RawUnit, SpellsUnits, units_at}
 use Rattle.dwz_meanings.proofs.AgreeLemmas.{Agrees, Made, Next, OrNext, agrees_err, agrees_ok, and_with, in_words, then_made}
 use Rattle.dwz_docs.proofs.ElfFaultLemmas.{elf_is_sound}
-use Rattle.dwz_meanings.proofs.MeaningLemmas.{units_agree}
+use Rattle.dwz_meanings.proofs.MeaningUnits.{units_agree}
 use Rattle.dwz_meanings.proofs.RangeLemmas.{sets_agree}
 use Rattle.dwz_meanings.proofs.SharedLemmas.{shared_agrees}
 use Rattle.dwz_docs.proofs.UnitListLemmas.{units_again, units_fault, units_fault_again, units_found}

@@ -15,7 +15,9 @@ use Rattle.dwz_docs.specs.ElfReading.{elf_fault, field_fault, first_in, first_ot
 use Rattle.dwz_docs.specs.Entries.{attrs_at, front_at}
 use Rattle.dwz_meanings.specs.Files.{Limits, file_meaning, files_meaning, longest_file, longest_files, most_entries, no_files_before, section_of, unit_places}
 use Rattle.dwz_docs.specs.Lists.{items_at, items_from}
-use Rattle.dwz_meanings.specs.Meanings.{all_places, attrs_meaning, class_in, class_rows, entries_meaning, first_raw, has, meaning, places_in, units_meaning, without_siblings}
+use Rattle.dwz_meanings.specs.Meanings.{all_places, first_raw, has, places_in, without_siblings}
+use Rattle.dwz_meanings.specs.Classes.{class_in, class_rows}
+use Rattle.dwz_meanings.specs.Meant.{attrs_meaning, entries_meaning, meaning, units_meaning}
 use Rattle.dwz_meanings.specs.NamedLists.{list_of_attr, lists_of_attrs, lists_of_entries, lists_of_units}
 use Rattle.dwz_meanings.specs.Sequences.{all_at, all_from}
 use Rattle.dwz_meanings.specs.Shared.{least_place, none_shared, operands_in_lists}

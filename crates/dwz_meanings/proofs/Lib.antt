@@ -1,5 +1,7 @@
 pub mod AgreeLemmas
 pub mod SequenceLemmas
+pub mod SequenceEnds
+pub mod SequenceReads
 pub mod FieldLemmas
 pub mod ExprLemmas
 pub mod LocListLemmas
@@ -9,6 +11,7 @@ pub mod RangeLemmas
 pub mod SharedLemmas
 pub mod PassLemmas
 pub mod MeaningLemmas
+pub mod MeaningUnits
 pub mod ClassLemmas
 pub mod NamedLemmas
 pub mod WidthLemmas

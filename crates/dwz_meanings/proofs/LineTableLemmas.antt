@@ -20,7 +20,8 @@ use Rattle.dwz_docs.specs.Values.{Bytes, Number, Raw, SpellsValue, shape_of, val
 use Rattle.dwz_meanings.proofs.AgreeLemmas.{Agrees, Made, Next, agrees_ok, and_with, then_made}
 use Rattle.dwz_meanings.proofs.FieldLemmas.{bytes_agree}
 use Rattle.dwz_docs.proofs.ReadLemmas.{Reads, fixed_reads, uleb_reads}
-use Rattle.dwz_meanings.proofs.SequenceLemmas.{ReadsSome, both_some, input_of, none_some, times_read}
+use Rattle.dwz_meanings.proofs.SequenceLemmas.{input_of}
+use Rattle.dwz_meanings.proofs.SequenceReads.{ReadsSome, both_some, none_some, times_read}
 use Rattle.dwz_docs.proofs.TextLemmas.{here_text, text_here}
 use Rattle.dwz_docs.proofs.ValueLemmas.{shape_laws}
 

@@ -13,7 +13,7 @@ use Rattle.dwz_docs.specs.Units.{field}
 use Rattle.dwz_docs.specs.Values.{Bytes, Number, Raw, SpellsValue}
 use Rattle.dwz_model.specs.declared.place.Pair.{Pair}
 use Rattle.dwz_meanings.specs.LineTables.{FileTable, IsFileTable, PathRow, SayRows, SpellsFormat, SpellsFormats, SpellsTable, SpellsValues, Table, Tables, TextSections}
-use Rattle.dwz_meanings.specs.LineTables.{full_path, format_of, header_length, is_header, line_length, of_header, opcode_base, second, table_with, tables_bytes}
+use Rattle.dwz_meanings.specs.LineTables.{full_path, format_of, header_length, is_header, line_length, of_header, opcode_base, table_with, tables_bytes}
 use Rattle.dwz_meanings.specs.LineTables.{tables_with, are_formats, begins_with_slash}
 use Rattle.dwz_meanings.specs.LinesWritten.{AreTexts, behind_length, file_formats, header_written, one_directory, rows_bytes, standard, tables_written, with_row_0}
 use Rattle.dwz_meanings.specs.Sequences.{SpellsAll}

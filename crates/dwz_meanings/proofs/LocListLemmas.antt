@@ -15,7 +15,8 @@ use Rattle.dwz_docs.specs.Values.{shape_of}
 use Rattle.dwz_meanings.proofs.AgreeLemmas.{Agrees, Made, agrees_err, agrees_ok, in_words, then_made}
 use Rattle.dwz_meanings.proofs.ExprLemmas.{within_reads}
 use Rattle.dwz_meanings.proofs.FieldLemmas.{fields_read}
-use Rattle.dwz_meanings.proofs.SequenceLemmas.{IsTaken, OrEnd, ReadsAs, input_of, row_begins, row_read}
+use Rattle.dwz_meanings.proofs.SequenceLemmas.{IsTaken, ReadsAs, input_of}
+use Rattle.dwz_meanings.proofs.SequenceEnds.{OrEnd, row_begins, row_read}
 
 -- ---- at a place of a section
 

@@ -7,23 +7,31 @@ use Rattle.dwz_model.specs.declared.fault.Fault.{Fault}
 use Rattle.dwz_model.specs.declared.fault.Reason.TheVariants.{BadFile, BadList, BadString, BadReference}
 use Rattle.dwz_bytes.specs.Reading.{◌>>=◌}
 use Rattle.dwz_bytes.proofs.GroupLemmas.{chosen}
-use Rattle.dwz_meanings.specs.Documents.{Addr, Attr, Block, Compile, DwUnit, Entries, File, Index, Kind, Node, OfType, Partial, Sec, Sig, Text, Value, only, ref}
-use Rattle.dwz_docs.specs.Entries.{RawAttr, RawEntry}
+use Rattle.dwz_meanings.specs.Documents.{Addr, Attr, Block, File, Index, Sec, Sig, Text, Value, only, ref}
+use Rattle.dwz_docs.specs.Entries.{RawAttr}
 use Rattle.dwz_docs.specs.Faults.{info_fault}
 use Rattle.dwz_meanings.specs.Exprs.{IsExprFault}
 use Rattle.dwz_meanings.specs.LineTables.{FileTable}
-use Rattle.dwz_meanings.specs.Meanings.{Around, Class, Common, HasEntryFault, HasFault, HasFaultAs, HasFileFaultBy, HasKindFault, HasListFault, HasNodeFault, HasSlotFault, HasUnitFault, HaveFault}
-use Rattle.dwz_meanings.specs.Meanings.{HaveUnitFault, IfSo, In, IsBadReference, IsBadString, IsCommonEntry, IsCommonText, IsEntryAmong, IsExpression, IsFileBy, IsListBySlot, IsLocList}
-use Rattle.dwz_meanings.specs.Meanings.{IsNoCommonEntry, IsNoCommonText, IsNoSlot, IsNoText, IsTextBySlot, IsTextIn, MeanAttrs, MeanEntries, MeanUnits, MeansAs, MeansKind, MeansNode, MeansUnit}
-use Rattle.dwz_meanings.specs.Meanings.{MeansValue, Scope, as_class, attr_with, attrs_meaning, bytes_of, class_of, common_entry, common_text, constant_value, content_at, entries_meaning, entry_among}
-use Rattle.dwz_meanings.specs.Meanings.{expr_context, expr_meaning, expr_value, file_by, flag_value, has, is_zero, kind_meaning, list_by, list_from, list_meaning, list_read, loc_said, loc_value}
-use Rattle.dwz_meanings.specs.Meanings.{loclists_base, meaning, names_file, names_list, node_meaning, number_of, offset_of, path_by, path_or, row_of_table, scope_of, stmt_list, str_offsets_base}
-use Rattle.dwz_meanings.specs.Meanings.{text_by, text_from, text_or, texts_of, type_offset_at, unit_meaning, units_meaning, unread, without_siblings}
-use Rattle.dwz_meanings.specs.Meanings.{OfAddress, OfBlock, OfConstant, OfFlag, OfText, OfTextInStr, OfTextInLineStr, OfTextBySlot, OfUnitEntry, OfInfoEntry, OfSignature, OfOffset, OfExpression}
-use Rattle.dwz_meanings.specs.Meanings.{OfListIndex, OfIndex, OfCommonEntry, OfCommonText, Unread}
+use Rattle.dwz_meanings.specs.Meanings.{Common}
+use Rattle.dwz_meanings.specs.Classes.{Class}
+use Rattle.dwz_meanings.specs.MeaningFaults.{HasFault, HasFaultAs, HasFileFaultBy, HasListFault, HasSlotFault, HaveFault}
+use Rattle.dwz_meanings.specs.Meanings.{IfSo, In, IsCommonEntry, IsCommonText, IsEntryAmong, IsExpression, IsFileBy, IsListBySlot, IsLocList}
+use Rattle.dwz_meanings.specs.MeaningFaults.{IsBadReference, IsBadString}
+use Rattle.dwz_meanings.specs.Meanings.{IsTextBySlot, IsTextIn, MeanAttrs, MeansAs}
+use Rattle.dwz_meanings.specs.MeaningFaults.{IsNoCommonEntry, IsNoCommonText, IsNoSlot, IsNoText}
+use Rattle.dwz_meanings.specs.Meanings.{MeansValue, Scope, bytes_of, constant_value, content_at}
+use Rattle.dwz_meanings.specs.Classes.{class_of}
+use Rattle.dwz_meanings.specs.Meant.{as_class, attr_with, attrs_meaning, common_entry, common_text, entry_among}
+use Rattle.dwz_meanings.specs.Meanings.{expr_context, expr_value, flag_value, has, loc_value}
+use Rattle.dwz_meanings.specs.Meant.{expr_meaning, file_by, is_zero, list_by, list_from, list_meaning, list_read, loc_said}
+use Rattle.dwz_meanings.specs.Meanings.{loclists_base, number_of, offset_of, path_by, stmt_list, str_offsets_base}
+use Rattle.dwz_meanings.specs.Classes.{names_file, names_list}
+use Rattle.dwz_meanings.specs.Meant.{meaning, path_or, row_of_table}
+use Rattle.dwz_meanings.specs.Meanings.{texts_of}
+use Rattle.dwz_meanings.specs.Meant.{text_by, text_from, text_or, unread}
+use Rattle.dwz_meanings.specs.Classes.{OfAddress, OfBlock, OfConstant, OfFlag, OfText, OfTextInStr, OfTextInLineStr, OfTextBySlot, OfUnitEntry, OfInfoEntry, OfSignature, OfOffset, OfExpression}
+use Rattle.dwz_meanings.specs.Classes.{OfListIndex, OfIndex, OfCommonEntry, OfCommonText, Unread}
 use Rattle.dwz_docs.specs.Texts.{IsSlot, slot, slot_place, text_at}
-use Rattle.dwz_docs.specs.Trees.{End, Entry, Forest}
-use Rattle.dwz_docs.specs.Units.{CompileUnit, PartialUnit, RawKind, RawUnit, TypeUnit}
 use Rattle.dwz_meanings.proofs.AgreeLemmas.{Agrees, Made, Next, agrees_err, agrees_ok, and_then, and_with, in_words, then_made}
 use Rattle.dwz_meanings.proofs.ExprLemmas.{expr_agrees}
 use Rattle.dwz_meanings.proofs.LineTableLemmas.{file_table_agrees}
@@ -122,7 +130,7 @@ module _ {P : Type 0} where
     by (Some base) some = slot_agrees s a base some
 
 -- what names an entry that is looked for
-among_agrees : {X : Type 0} (places : List ℕ) (at p : ℕ) (x : X) → Agrees (cond (has p places) (Ok x) (Err (info_fault at BadReference))) (λ y. In p places × (y ≡ x)) (IsBadReference at places p)
+pub among_agrees : {X : Type 0} (places : List ℕ) (at p : ℕ) (x : X) → Agrees (cond (has p places) (Ok x) (Err (info_fault at BadReference))) (λ y. In p places × (y ≡ x)) (IsBadReference at places p)
 among_agrees {X} places at p x = by (has p places) refl where
   by : (b : Bool) → has p places ≡ b → Agrees (cond b (Ok x) (Err (info_fault at BadReference))) (λ y. In p places × (y ≡ x)) (IsBadReference at places p)
   by true is_in = in_words (agrees_ok x)
@@ -337,99 +345,4 @@ attrs_agree {P} s (a ∷ attrs) =
             let m = h.0 in
             let head : b ≡ attr_with a b.value = λ i. record { name = m.name i; form = m.form i; raw = m.raw i; value = b.value } in
             (b.value, m.value, (bs, h.1, ap (λ (c : Attr P). c ∷ bs) head)),
-      )
-
--- ---- entries
-
--- an entry's node from its attributes
-abbrev with_attrs : {P : Type 0} → Scope P → RawEntry → List (Attr P) → Node P
-with_attrs s e attrs = record { at = s.around.place e.at; tag = e.tag; attrs = attrs }
-
-pub node_agrees : {P : Type 0} (s : Scope P) (e : RawEntry) → Agrees (node_meaning s e) (MeansNode s e) (HasNodeFault s e)
-node_agrees {P} s e = in_words (then_made (attrs_agree s (without_siblings e.attrs)) (with_attrs s e)) means (λ f. (λ h. h, λ h. h)) where
-  means : (d : Node P) → Made (MeanAttrs s (without_siblings e.attrs)) (with_attrs s e) d ↔ MeansNode s e d
-  means d = (
-    λ h.
-        let same = h.2 in
-        record {
-          place = ap (λ (n : Node P). n.at) same;
-          tag = ap (λ (n : Node P). n.tag) same;
-          attrs = subst (MeanAttrs s (without_siblings e.attrs)) (sym (ap (λ (n : Node P). n.attrs) same)) h.1;
-        },
-    λ m. (d.attrs, m.attrs, λ i. record { at = m.place i; tag = m.tag i; attrs = d.attrs }),
-  )
-
-pub entries_agree : {P : Type 0} (s : Scope P) (f : Forest RawEntry) → Agrees (entries_meaning s f) (MeanEntries s f) (HasEntryFault s f)
-unfolding entries_meaning
-entries_agree {P} s End = in_words (agrees_ok End) means (λ f. (λ none. none, λ none. none)) where
-  means : (g : Entries P) → (g ≡ End) ↔ MeanEntries s End g
-  means End = (λ same. tt, λ is. refl)
-  means (Entry d below next) = (λ same. absurd cc, λ none. absurd none)
-entries_agree {P} s (Entry e children next) =
-    in_words (and_then (node_agrees s e) (λ d. entries_meaning s children >>= λ below. entries_meaning s next >>= λ n. Ok (Entry d below n))
-    (λ d. and_then (entries_agree s children) (λ below. entries_meaning s next >>= λ n. Ok (Entry d below n))
-    (λ below. then_made (entries_agree s next) (λ n. Entry d below n))))
-    means (λ f. (λ h. h, λ h. h)) where
-      means : (g : Entries P) → Next (MeansNode s e) (λ d. Next (MeanEntries s children) (λ below. Made (MeanEntries s next) (λ n. Entry d below n))) g ↔ MeanEntries s (Entry e children next) g
-      means End = (λ h. absurd (let none = h.2.2.2 in cc), λ none. absurd none)
-      means (Entry d below n) = (
-        λ h.
-            let same = h.2.2.2 in
-            let node : d ≡ h.0 = cc in
-            let inside : below ≡ h.2.0 = cc in
-            let behind : n ≡ h.2.2.0 = cc in
-            (subst (MeansNode s e) (sym node) h.1, subst (MeanEntries s children) (sym inside) h.2.1, subst (MeanEntries s next) (sym behind) h.2.2.1),
-        λ h. (d, h.0, (below, h.1, (n, h.2, refl))),
-      )
-
--- ---- units
-
-kind_agrees : {P : Type 0} (s : Scope P) (k : RawKind) → Agrees (kind_meaning s k) (MeansKind s k) (HasKindFault s k)
-kind_agrees s CompileUnit = agrees_ok Compile
-kind_agrees s PartialUnit = agrees_ok Partial
-kind_agrees s (TypeUnit signature type_offset) = among_agrees s.own (type_offset_at s.unit) (s.unit + type_offset) (OfType signature (s.around.place (s.unit + type_offset)))
-
-abbrev unit_from : {P : Type 0} → Around P → RawUnit → Kind P → Node P → Entries P → DwUnit P
-unit_from around u kind root below = record { at = around.place u.at; kind = kind; root = root; below = below }
-
-pub unit_agrees : {P : Type 0} (around : Around P) (u : RawUnit) → Agrees (unit_meaning around u) (MeansUnit around u) (HasUnitFault around u)
-unit_agrees {P} around u =
-    let s = scope_of around u in
-    in_words (and_then (kind_agrees s u.kind) (λ kind. node_meaning s u.root >>= λ root. entries_meaning s u.below >>= λ below. Ok (unit_from around u kind root below))
-    (λ kind. and_then (node_agrees s u.root) (λ root. entries_meaning s u.below >>= λ below. Ok (unit_from around u kind root below))
-    (λ root. then_made (entries_agree s u.below) (unit_from around u kind root))))
-    means (λ f. (λ h. h, λ h. h)) where
-      means : (v : DwUnit P)
-          → Next (MeansKind (scope_of around u) u.kind) (λ kind. Next (MeansNode (scope_of around u) u.root) (λ root. Made (MeanEntries (scope_of around u) u.below) (unit_from around u kind root))) v
-          ↔ MeansUnit around u v
-      means v = (
-        λ h.
-            let same = h.2.2.2 in
-            record {
-              place = ap (λ (w : DwUnit P). w.at) same;
-              kind = subst (MeansKind (scope_of around u) u.kind) (sym (ap (λ (w : DwUnit P). w.kind) same)) h.1;
-              root = subst (MeansNode (scope_of around u) u.root) (sym (ap (λ (w : DwUnit P). w.root) same)) h.2.1;
-              below = subst (MeanEntries (scope_of around u) u.below) (sym (ap (λ (w : DwUnit P). w.below) same)) h.2.2.1;
-            },
-        λ m. (v.kind, m.kind, (v.root, m.root, (v.below, m.below, λ i. record { at = m.place i; kind = v.kind; root = v.root; below = v.below }))),
-      )
-
-pub units_agree : {P : Type 0} (around : Around P) (units : List RawUnit) → Agrees (units_meaning around units) (MeanUnits around units) (HaveUnitFault around units)
-unfolding units_meaning
-units_agree {P} around [] = in_words (agrees_ok []) means (λ f. (λ none. none, λ none. none)) where
-  means : (vs : List (DwUnit P)) → (vs ≡ []) ↔ MeanUnits around [] vs
-  means [] = (λ same. tt, λ is. refl)
-  means (v ∷ vs) = (λ same. absurd cc, λ none. absurd none)
-units_agree {P} around (u ∷ units) =
-    in_words (and_then (unit_agrees around u) (λ v. units_meaning around units >>= λ vs. Ok (v ∷ vs)) (λ v. then_made (units_agree around units) (λ vs. v ∷ vs)))
-    means (λ f. (λ h. h, λ h. h)) where
-      means : (vs : List (DwUnit P)) → Next (MeansUnit around u) (λ v. Made (MeanUnits around units) (λ w. v ∷ w)) vs ↔ MeanUnits around (u ∷ units) vs
-      means [] = (λ h. absurd (let none = h.2.2 in cc), λ none. absurd none)
-      means (v ∷ vs) = (
-        λ h.
-            let same = h.2.2 in
-            let head : v ≡ h.0 = cc in
-            let tail : vs ≡ h.2.0 = cc in
-            (subst (MeansUnit around u) (sym head) h.1, subst (MeanUnits around units) (sym tail) h.2.1),
-        λ h. (v, h.0, (vs, h.1, refl)),
       )

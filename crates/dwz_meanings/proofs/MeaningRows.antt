@@ -11,7 +11,9 @@ use Rattle.dwz_meanings.specs.Documents.{Addr, Attr, Block, Compile, DwUnit, Fil
 use Rattle.dwz_docs.specs.Entries.{RawAttr, attrs_at, front_at, given}
 use Rattle.dwz_docs.specs.Faults.{info_fault}
 use Rattle.dwz_docs.specs.Lists.{items_at, items_from}
-use Rattle.dwz_meanings.specs.Meanings.{Scope, Sources, all_places, alone, attrs_meaning, class_in, class_rows, entries_meaning, first_raw, has, kind_meaning, meaning, places_in, units_meaning}
+use Rattle.dwz_meanings.specs.Meanings.{Scope, Sources, all_places, alone, first_raw, has, places_in}
+use Rattle.dwz_meanings.specs.Classes.{class_in, class_rows}
+use Rattle.dwz_meanings.specs.Meant.{attrs_meaning, entries_meaning, kind_meaning, meaning, units_meaning}
 use Rattle.dwz_meanings.specs.Meanings.{without_siblings}
 use Rattle.dwz_docs.specs.Texts.{text_in}
 use Rattle.dwz_docs.specs.Trees.{End, Entry, forest_at, siblings_at}

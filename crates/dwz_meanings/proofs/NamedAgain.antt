@@ -8,7 +8,9 @@ use Rattle.dwz_docs.proofs.ListFacts.{in_map as map_in}
 use Rattle.dwz_meanings.specs.declared.exprs.Operand.{Operand}
 use Rattle.dwz_meanings.specs.Documents.{Loc}
 use Rattle.dwz_meanings.specs.LocLists.{SpellsList}
-use Rattle.dwz_meanings.specs.Meanings.{Class, IfSo, IsListBySlot, IsLocList, MeansAs, MeansValue, OfListIndex, OfOffset, Scope, class_of, expr_context, names_list, offset_of, targets}
+use Rattle.dwz_meanings.specs.Meanings.{IfSo, IsListBySlot, IsLocList, MeansAs, MeansValue, Scope, expr_context, offset_of, targets}
+use Rattle.dwz_meanings.specs.Classes.{OfListIndex, OfOffset}
+use Rattle.dwz_meanings.specs.Classes.{Class, class_of, names_list}
 use Rattle.dwz_meanings.specs.NamedLists.{IsNamedAt, IsNamedBySlot, NamesAs, NamesList}
 use Rattle.dwz_meanings.specs.PatchedLists.{CanHave, IsPatched, NamesAlike, list_value, list_with, named_with, with_number}
 use Rattle.dwz_meanings.specs.Sequences.{StandsFrom}

@@ -8,8 +8,10 @@ use Rattle.dwz_docs.specs.Entries.{RawAttr, RawEntry}
 use Rattle.dwz_meanings.specs.Exprs.{ExprContext, Found}
 use Rattle.dwz_docs.specs.Lists.{In}
 use Rattle.dwz_meanings.specs.LocLists.{EndsList, LocList, SpellsList, SpellsListEntry, list_at}
-use Rattle.dwz_meanings.specs.Meanings.{Around, Class, Scope, class_of, expr_context, list_read, loclists_base, names_list, offset_of, scope_of, without_siblings}
-use Rattle.dwz_meanings.specs.Meanings.{OfOffset, OfListIndex}
+use Rattle.dwz_meanings.specs.Meanings.{Around, Scope, expr_context, loclists_base, offset_of, scope_of, without_siblings}
+use Rattle.dwz_meanings.specs.Classes.{Class, class_of, names_list}
+use Rattle.dwz_meanings.specs.Meant.{list_read}
+use Rattle.dwz_meanings.specs.Classes.{OfOffset, OfListIndex}
 use Rattle.dwz_meanings.specs.NamedLists.{AnyEntryNames, AnyNames, AnyUnitNames, IsNamedAt, IsNamedBySlot, NamesAs, NamesList, by_base, by_offset, list_of_attr, lists_as, lists_of_attrs}
 use Rattle.dwz_meanings.specs.NamedLists.{lists_of_entries, lists_of_unit, lists_of_units, named_at, named_by}
 use Rattle.dwz_meanings.specs.Sequences.{SpellsRow, value_only}

@@ -5,8 +5,9 @@ use Rattle.dwz_docs.specs.Units.{RawUnit}
 use Rattle.dwz_docs.specs.Trees.{End, Entry}
 use Rattle.dwz_docs.proofs.PartLemmas.{bind_ok}
 use Rattle.dwz_meanings.specs.Documents.{Doc, DwUnit}
-use Rattle.dwz_meanings.specs.Meanings.{Around, MeanUnits, entries_meaning, kind_meaning, node_meaning, scope_of, unit_meaning, unit_with, with_next}
-use Rattle.dwz_meanings.proofs.MeaningLemmas.{unit_agrees}
+use Rattle.dwz_meanings.specs.Meanings.{Around, MeanUnits, scope_of}
+use Rattle.dwz_meanings.specs.Meant.{entries_meaning, kind_meaning, node_meaning, unit_meaning, unit_with, with_next}
+use Rattle.dwz_meanings.proofs.MeaningUnits.{unit_agrees}
 use Rattle.dwz_meanings.specs.Files.{Limits, files_meaning}
 
 pub unit_meant : (around : Around ℕ) (us : List RawUnit) (vs : List (DwUnit ℕ)) → MeanUnits around us vs → (n : ℕ) (u : RawUnit) → slice_get us n ≡ Some u

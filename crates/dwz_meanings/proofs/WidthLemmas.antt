@@ -8,7 +8,9 @@ use Rattle.dwz_meanings.specs.Exprs.{AnAddress, Counted, Entry4, EntryOrGeneric,
 use Rattle.dwz_meanings.specs.Exprs.{SpellsExpr, SpellsField, SpellsFields, SpellsOp, SpellsWithin, Unsigned, an_operand, an_operand_or_generic, expressions_in, joined, most_inside, operands_in}
 use Rattle.dwz_docs.specs.Lists.{In}
 use Rattle.dwz_meanings.specs.LocLists.{EndsList, LocList, SpellsList, SpellsListEntry}
-use Rattle.dwz_meanings.specs.Meanings.{Around, Class, OfListIndex, OfOffset, Scope, class_of, expr_context, scope_of, without_siblings}
+use Rattle.dwz_meanings.specs.Meanings.{Around, Scope, expr_context, scope_of, without_siblings}
+use Rattle.dwz_meanings.specs.Classes.{OfListIndex, OfOffset}
+use Rattle.dwz_meanings.specs.Classes.{Class, class_of}
 use Rattle.dwz_meanings.specs.NamedLists.{AnyEntryNames, AnyNames, AnyUnitNames, IsNamedAt, NamesAs, lists_of_units}
 use Rattle.dwz_meanings.specs.Sequences.{Spelling, SpellsAll, SpellsRow}
 use Rattle.dwz_meanings.specs.Shared.{ListOperand, NamedList, of_unit, operands_in_lists, operands_of, own_operands}

@@ -13,7 +13,9 @@ use Rattle.dwz_docs.specs.ElfHeaders.{file_header}
 use Rattle.dwz_docs.specs.ElfNames.{sections_in}
 use Rattle.dwz_docs.specs.ElfReading.{bytes_in, elf_fault, section_range}
 use Rattle.dwz_docs.specs.Entries.{given, unless_so}
-use Rattle.dwz_meanings.specs.Meanings.{Around, HaveUnitFault, MeanUnits, Sources, alone, has, units_meaning}
+use Rattle.dwz_meanings.specs.Meanings.{Around, MeanUnits, Sources, alone, has}
+use Rattle.dwz_meanings.specs.Meant.{units_meaning}
+use Rattle.dwz_meanings.specs.MeaningFaults.{HaveUnitFault}
 use Rattle.dwz_meanings.specs.NamedLists.{lists_of_units}
 use Rattle.dwz_meanings.specs.Ranges.{IsSetsFault, RangeSet, SpellsSets, sets_at}
 use Rattle.dwz_meanings.specs.Shared.{IsSharedFault, NoneShared, none_shared}

@@ -6,6 +6,9 @@ pub mod LineTables
 pub mod Ranges
 pub mod Shared
 pub mod Meanings
+pub mod Classes
+pub mod Meant
+pub mod MeaningFaults
 pub mod NamedLists
 pub mod Files
 pub mod Patching

@@ -3,8 +3,12 @@ use Rattle.std.specs.Prelude.{◌≡◌, ◌⊎◌, ℕ, ◌+◌, ◌<◌, true,
 use Rattle.dwz_model.specs.declared.fault.Fault.{Fault}
 use Rattle.dwz_docs.specs.Entries.{RawAttr, RawEntry}
 use Rattle.dwz_meanings.specs.LocLists.{LocList, SpellsList}
-use Rattle.dwz_meanings.specs.Meanings.{Around, Class, OfListIndex, OfOffset, Scope, class_of, expr_context, list_read, loclists_base}
-use Rattle.dwz_meanings.specs.Meanings.{names_list, offset_of, scope_of, without_siblings}
+use Rattle.dwz_meanings.specs.Meanings.{Around, Scope, expr_context, loclists_base}
+use Rattle.dwz_meanings.specs.Classes.{OfListIndex, OfOffset}
+use Rattle.dwz_meanings.specs.Classes.{Class, class_of}
+use Rattle.dwz_meanings.specs.Meant.{list_read}
+use Rattle.dwz_meanings.specs.Meanings.{offset_of, scope_of, without_siblings}
+use Rattle.dwz_meanings.specs.Classes.{names_list}
 use Rattle.dwz_meanings.specs.Sequences.{StandsFrom}
 use Rattle.dwz_meanings.specs.Shared.{NamedList}
 use Rattle.dwz_docs.specs.Texts.{IsSlot, slot, slot_place}

@@ -4,7 +4,7 @@ ghost use Rattle.std.specs.Prelude.{◌≡◌, ◌↔◌, ℕ, List, Ok, Err};
 ghost use Rattle.dwz_bytes.specs.Input.{Input};
 ghost use Rattle.dwz_model.specs.declared.fault.Fault.{Fault};
 ghost use Rattle.dwz_meanings.specs.Exprs.{ExprContext, Expression, IsExprFault, SpellsExpr, expr_at};
-ghost use Rattle.dwz_meanings.specs.Meanings.{ExactlyOne};
+ghost use Rattle.dwz_meanings.specs.MeaningFaults.{ExactlyOne};
 
 use dwz_model::Base;
 

@@ -4,7 +4,7 @@ ghost use Rattle.std.specs.Prelude.{◌≡◌, ◌↔◌, ℕ, List, ◌≤◌, 
 ghost use Rattle.dwz_model.specs.declared.fault.Fault.{Fault};
 ghost use Rattle.dwz_meanings.specs.Exprs.{ExprContext};
 ghost use Rattle.dwz_meanings.specs.LocLists.{IsListFault, LocList, SpellsList, list_at};
-ghost use Rattle.dwz_meanings.specs.Meanings.{ExactlyOne};
+ghost use Rattle.dwz_meanings.specs.MeaningFaults.{ExactlyOne};
 ghost use Rattle.dwz_meanings.specs.Sequences.{StandsFrom, read_from};
 
 /// Location lists, at a place of the section: what is read stands there, what stands there is read, and a fault is answered

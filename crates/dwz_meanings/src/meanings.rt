@@ -4,8 +4,11 @@ ghost use Rattle.std.specs.Prelude.{◌≡◌, ◌↔◌, ℕ, List, Ok, Err};
 ghost use Rattle.dwz_model.specs.declared.fault.Fault.{Fault};
 ghost use Rattle.dwz_meanings.specs.Documents.{DwUnit, Value};
 ghost use Rattle.dwz_docs.specs.Entries.{RawAttr};
-ghost use Rattle.dwz_meanings.specs.Meanings.{Around, ExactlyOne, HasFault, HaveUnitFault, MeanUnits, MeansValue, Scope, Unread, class_of};
-ghost use Rattle.dwz_meanings.specs.Meanings.{meaning, units_meaning};
+ghost use Rattle.dwz_meanings.specs.Meanings.{Around, MeanUnits, MeansValue, Scope};
+ghost use Rattle.dwz_meanings.specs.Classes.{Unread};
+ghost use Rattle.dwz_meanings.specs.Classes.{class_of};
+ghost use Rattle.dwz_meanings.specs.MeaningFaults.{ExactlyOne, HasFault, HaveUnitFault};
+ghost use Rattle.dwz_meanings.specs.Meant.{meaning, units_meaning};
 ghost use Rattle.dwz_docs.specs.Units.{RawUnit};
 ghost use Rattle.dwz_docs.specs.Values.{IsUnread, shape_of, written_rows};
 

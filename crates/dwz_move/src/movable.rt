@@ -38,7 +38,7 @@ fn sources_of(alloc: Global, targets: &Groups) -> Result<Vec<Pair>, NoMemory>
 }
 
 // The other way round.
-fn turned(alloc: Global, marks: &[bool]) -> Result<Flags, NoMemory>
+fn negate(alloc: Global, marks: &[bool]) -> Result<Flags, NoMemory>
     ensures { IfOk result (λ flags. flags ≡ map not marks.now) }
 {
     let mut flags = Vec::new(alloc);
@@ -60,6 +60,6 @@ pub fn movable_by(alloc: Global, targets: &Groups, seeds: &[bool]) -> Result<Fla
     let pairs = sources_of(alloc, targets)?;
     let sources = group(alloc, targets.len(), pairs.as_slice())?;
     let marks = spread(alloc, &sources, seeds)?;
-    let flags = turned(alloc, marks.as_slice())?;
+    let flags = negate(alloc, marks.as_slice())?;
     Ok(flags)
 }

@@ -6,5 +6,6 @@ pub mod GainLemmas
 pub mod PlanLemmas
 pub mod KeptLemmas
 pub mod RowParts
+pub mod PartRows
 pub mod LawLemmas
 mod MovingRows

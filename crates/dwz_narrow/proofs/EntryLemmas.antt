@@ -9,7 +9,8 @@ use Rattle.dwz_docs.proofs.ListFacts.{drop_first, drop_here}
 use Rattle.dwz_flat.specs.Rows.{RowsMean, node_refs, nodes_refs}
 use Rattle.dwz_flat.proofs.TreeLemmas.{node_attrs}
 use Rattle.dwz_meanings.specs.Documents.{Attr, Node, Value}
-use Rattle.dwz_meanings.specs.Meanings.{Scope, attr_with, attrs_meaning, meaning, node_meaning, with_attr, without_siblings}
+use Rattle.dwz_meanings.specs.Meanings.{Scope, without_siblings}
+use Rattle.dwz_meanings.specs.Meant.{attr_with, attrs_meaning, meaning, node_meaning, with_attr}
 use Rattle.dwz_narrow.specs.First.{first_over, lesser}
 use Rattle.dwz_narrow.specs.Narrow.{number_by}
 use Rattle.dwz_narrow.specs.Walked.{NotesOperands, row_operands, rows_operands}

@@ -12,7 +12,8 @@ use Rattle.dwz_flat.specs.Rows.{RowsMean, nodes, nodes_refs}
 use Rattle.dwz_flat.proofs.TreeLemmas.{tree_means, tree_refs}
 use Rattle.dwz_meanings.specs.declared.exprs.Operand.{Operand}
 use Rattle.dwz_meanings.specs.Documents.{DwUnit}
-use Rattle.dwz_meanings.specs.Meanings.{Around, Scope, scope_of, unit_meaning, units_meaning, with_units, without_siblings}
+use Rattle.dwz_meanings.specs.Meanings.{Around, Scope, scope_of, without_siblings}
+use Rattle.dwz_meanings.specs.Meant.{unit_meaning, units_meaning, with_units}
 use Rattle.dwz_meanings.proofs.UnitMeans.{root_is}
 use Rattle.dwz_narrow.specs.First.{first_over, lesser}
 use Rattle.dwz_narrow.specs.Narrow.{FirstPlace, number_by}

@@ -6,7 +6,10 @@ use Rattle.dwz_docs.specs.Entries.{RawAttr}
 use Rattle.dwz_meanings.specs.declared.exprs.Operand.{Operand}
 use Rattle.dwz_meanings.specs.Documents.{Value}
 use Rattle.dwz_meanings.specs.Exprs.{expr_at}
-use Rattle.dwz_meanings.specs.Meanings.{Class, IsExpression, OfExpression, Scope, bytes_of, class_of, content_at, expr_context, leads_to, meaning, target_of}
+use Rattle.dwz_meanings.specs.Meanings.{IsExpression, Scope, bytes_of, content_at, expr_context, leads_to, target_of}
+use Rattle.dwz_meanings.specs.Classes.{OfExpression}
+use Rattle.dwz_meanings.specs.Classes.{Class, class_of}
+use Rattle.dwz_meanings.specs.Meant.{meaning}
 use Rattle.dwz_meanings.proofs.ExprLemmas.{expr_agrees}
 use Rattle.dwz_model.specs.declared.place.Base.{Base}
 use Rattle.dwz_model.specs.declared.place.Base.TheVariants.{Unit as FromUnit, Info as FromInfo}

@@ -6,7 +6,7 @@ ghost use Rattle.dwz_meanings.specs.Shared;
 ghost use Rattle.dwz_narrow.specs.Narrow.{FirstPlace};
 ghost use Rattle.dwz_resolve.specs.ListRows.{operand_view};
 
-use crate::over::noted;
+use crate::over::note;
 use dwz_resolve::ListOperand;
 
 /// The place of the first operand of location lists, in bytes from the first of `.debug_loclists`, whose new number needs more bytes
@@ -18,7 +18,7 @@ pub fn first_listed(operands: &[ListOperand], numbers: &[u64]) -> Option<u64>
 {
     let mut first = None;
     for (k, operand) in operands.iter().enumerate() {
-        first = noted(
+        first = note(
             first,
             operand.at as u64,
             operand.uleb,

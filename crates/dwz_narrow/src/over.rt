@@ -49,7 +49,7 @@ fn lesser(first: Option<u64>, at: u64) -> Option<u64>
 
 /// The first place, with that of an operand among the places if its number needs more than `width` bytes.
 #[inline(always)]
-pub(crate) fn noted(first: Option<u64>, at: u64, uleb: bool, width: u8, number: u64) -> Option<u64>
+pub(crate) fn note(first: Option<u64>, at: u64, uleb: bool, width: u8, number: u64) -> Option<u64>
     ensures { result ≡ First.lesser first (First.place_if (First.is_over uleb width number) at) }
 {
     if is_over(uleb, width, number) {

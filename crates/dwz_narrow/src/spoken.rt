@@ -4,7 +4,8 @@ ghost use Rattle.std.specs.Prelude.{◌≡◌, ℕ, ◌+◌, ◌<◌, ◌≤◌,
 ghost use Rattle.dwz_docs.specs.Units.{RawUnit, entries_in};
 ghost use Rattle.dwz_flat.specs.Rows.{RowsMean, node_refs, nodes_refs};
 ghost use Rattle.dwz_meanings.specs.Documents.{DwUnit, Node};
-ghost use Rattle.dwz_meanings.specs.Meanings.{Around, Scope, Sources, alone, node_meaning, scope_of, unit_meaning, units_meaning};
+ghost use Rattle.dwz_meanings.specs.Meanings.{Around, Scope, Sources, alone, scope_of};
+ghost use Rattle.dwz_meanings.specs.Meant.{node_meaning, unit_meaning, units_meaning};
 ghost use Rattle.dwz_narrow.specs.Narrow.{FirstPlace, number_by};
 ghost use Rattle.dwz_narrow.specs.Walked.{KeepsPlaces, NotesOperands, row_operands, rows_operands};
 ghost use Rattle.dwz_out.specs.Refusals.{operands_of_unit, operands_of_units};

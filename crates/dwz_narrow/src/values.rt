@@ -6,7 +6,8 @@ ghost use Rattle.dwz_forms.specs.RawValues.{raw_view};
 ghost use Rattle.dwz_meanings.specs.Documents.{Value};
 ghost use Rattle.dwz_meanings.specs.Exprs.{Expression, expr_at};
 ghost use Rattle.dwz_meanings.specs.Meanings;
-ghost use Rattle.dwz_meanings.specs.Meanings.{Scope, expr_context, meaning};
+ghost use Rattle.dwz_meanings.specs.Meanings.{Scope, expr_context};
+ghost use Rattle.dwz_meanings.specs.Meant.{meaning};
 ghost use Rattle.dwz_narrow.specs.First.{first_over, lesser};
 ghost use Rattle.dwz_narrow.specs.Narrow.{number_by};
 ghost use Rattle.dwz_narrow.specs.Walked.{KeepsPlaces, NotesOperands};
@@ -19,7 +20,7 @@ ghost use Rattle.dwz_scan.specs.Values;
 ghost use Rattle.dwz_writing.specs.Meant.{led_to};
 ghost use Rattle.dwz_writing.specs.Writing.{base_place};
 
-use crate::over::noted;
+use crate::over::note;
 use dwz_expr::{Operand, read_into};
 use dwz_forms::Raw;
 use dwz_model::{Base, NoMemory, Pair, ReadErr};
@@ -119,7 +120,7 @@ fn noted_all(first: Option<u64>, operands: &[Operand], targets: &[u64], unit: u6
     let mut so_far = first;
     for (k, operand) in operands.iter().enumerate() {
         let number = number_of(operand.base, target_at(targets, k), unit);
-        so_far = noted(so_far, operand.at, operand.uleb, operand.width, number);
+        so_far = note(so_far, operand.at, operand.uleb, operand.width, number);
     }
     so_far
 }

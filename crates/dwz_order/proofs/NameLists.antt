@@ -4,7 +4,7 @@ use Rattle.std.proofs.lemmas.Bool.{eq-eqb, eqb-true}
 use Rattle.std.proofs.lemmas.List.{length-append}
 use Rattle.dwz_alike.specs.Spots.{SpaceName, Top, name_list}
 use Rattle.dwz_moving.specs.Plan.{in_root, none_of, same_names}
-use Rattle.dwz_moving.proofs.RowParts.{names_same, names_true}
+use Rattle.dwz_moving.proofs.PartRows.{names_same, names_true}
 use Rattle.dwz_layout.specs.declared.partial.SpaceRow.{SpaceRow}
 use Rattle.dwz_layout.specs.Chains.{Up, down}
 use Rattle.dwz_order.specs.Lists.{AreLists, SameList, list_above, outer_at}

@@ -6,7 +6,9 @@ use Rattle.dwz_docs.specs.Trees.{End, Entry, Forest}
 use Rattle.dwz_docs.specs.Units.{RawUnit}
 use Rattle.dwz_meanings.specs.Exprs.{ExprContext}
 use Rattle.dwz_meanings.specs.LocLists.{SpellsList}
-use Rattle.dwz_meanings.specs.Meanings.{Around, Class, OfListIndex, OfOffset, Scope, class_of, expr_context, offset_of, scope_of, without_siblings}
+use Rattle.dwz_meanings.specs.Meanings.{Around, Scope, expr_context, offset_of, scope_of, without_siblings}
+use Rattle.dwz_meanings.specs.Classes.{OfListIndex, OfOffset}
+use Rattle.dwz_meanings.specs.Classes.{Class, class_of}
 use Rattle.dwz_meanings.specs.NamedLists.{AnyEntryNames, AnyNames, AnyUnitNames, IsNamedAt, NamesAs, lists_of_units}
 use Rattle.dwz_meanings.specs.Sequences.{StandsFrom}
 use Rattle.dwz_meanings.specs.Shared.{NamedList}

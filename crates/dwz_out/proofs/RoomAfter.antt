@@ -5,7 +5,7 @@ use Rattle.dwz_docs.specs.Pruning.{new_number}
 use Rattle.dwz_docs.proofs.ListFacts.{in_cases}
 use Rattle.dwz_meanings.specs.Documents.{Attr, Doc, DwUnit, attr_map, unit_map}
 use Rattle.dwz_meanings.specs.Files.{sources_of}
-use Rattle.dwz_meanings.specs.Meanings.{Class}
+use Rattle.dwz_meanings.specs.Classes.{Class}
 use Rattle.dwz_meanings.specs.Shared.{ListOperand}
 use Rattle.dwz_seen.specs.Lists.{Nth}
 use Rattle.dwz_seen.proofs.Members.{each_append, each_in, each_more, each_of, each_split, nth_in}

@@ -3,8 +3,9 @@ use Rattle.std.proofs.Common.{◌≡◌, ℕ, ◌-◌, Bool, true, false, List, 
 use Rattle.dwz_bytes.specs.Spelling.{reach}
 use Rattle.dwz_docs.specs.Trees.{End, Entry}
 use Rattle.dwz_meanings.specs.Documents.{Attr, DwUnit, Entries, Expr, Loc, Operand, Part, Plain, Same, attr_map, entries_map, unit_map}
-use Rattle.dwz_meanings.specs.Meanings.{Class, OfCommonEntry, OfConstant, OfExpression, OfInfoEntry, OfListIndex, OfOffset, OfTextBySlot, OfTextInLineStr, OfTextInStr, OfUnitEntry, class_in, class_of}
-use Rattle.dwz_meanings.specs.Meanings.{class_rows, names_file}
+use Rattle.dwz_meanings.specs.Classes.{OfCommonEntry, OfConstant, OfExpression, OfInfoEntry, OfListIndex, OfOffset, OfTextBySlot, OfTextInLineStr, OfTextInStr, OfUnitEntry}
+use Rattle.dwz_meanings.specs.Classes.{Class, class_in, class_of}
+use Rattle.dwz_meanings.specs.Classes.{class_rows, names_file}
 use Rattle.dwz_docs.specs.Lists.{Each}
 use Rattle.dwz_seen.specs.Shown.{units_keys}
 use Rattle.dwz_alike.specs.Alike.{joined_parts}

@@ -11,8 +11,11 @@ use Rattle.dwz_docs.proofs.ListFacts.{in_left, in_right}
 use Rattle.dwz_meanings.specs.declared.exprs.Operand.{Operand}
 use Rattle.dwz_meanings.specs.Documents.{Attr, DwUnit, Entries, Part, Value}
 use Rattle.dwz_meanings.specs.Exprs.{Expression, parts_from, parts_of}
-use Rattle.dwz_meanings.specs.Meanings.{Around, Class, IsExpression, IsListBySlot, IsLocList, MeanAttrs, MeanEntries, MeanUnits, MeansAs, MeansAttr, MeansUnit, OfExpression, OfListIndex, OfOffset}
-use Rattle.dwz_meanings.specs.Meanings.{Scope, Sources, alone, class_of, content_at, bytes_of, expr_context, leads_to, names_list, offset_of, scope_of, target_of, targets, without_siblings}
+use Rattle.dwz_meanings.specs.Meanings.{Around, IsExpression, IsListBySlot, IsLocList, MeanAttrs, MeanEntries, MeanUnits, MeansAs, MeansAttr, MeansUnit}
+use Rattle.dwz_meanings.specs.Classes.{OfExpression, OfListIndex, OfOffset}
+use Rattle.dwz_meanings.specs.Classes.{Class}
+use Rattle.dwz_meanings.specs.Meanings.{Scope, Sources, alone, content_at, bytes_of, expr_context, leads_to, offset_of, scope_of, target_of, targets, without_siblings}
+use Rattle.dwz_meanings.specs.Classes.{class_of, names_list}
 use Rattle.dwz_meanings.specs.NamedLists.{AnyEntryNames, AnyNames, AnyUnitNames, NamesAs, NamesList, lists_of_units}
 use Rattle.dwz_meanings.specs.Shared.{ListOperand, NamedList, of_unit, operands_in_lists, operands_of, own_operands}
 use Rattle.dwz_meanings.proofs.ExprLemmas.{expr_agrees}

@@ -14,7 +14,9 @@ use Rattle.dwz_docs.specs.Units.{RawUnit}
 use Rattle.dwz_meanings.specs.declared.exprs.Operand.{Operand}
 use Rattle.dwz_meanings.specs.Exprs.{Expression, expr_at}
 use Rattle.dwz_meanings.specs.Files.{around_of}
-use Rattle.dwz_meanings.specs.Meanings.{Around, Class, OfExpression, Scope, bytes_of, class_of, content_at, expr_context, scope_of}
+use Rattle.dwz_meanings.specs.Meanings.{Around, Scope, bytes_of, content_at, expr_context, scope_of}
+use Rattle.dwz_meanings.specs.Classes.{OfExpression}
+use Rattle.dwz_meanings.specs.Classes.{Class, class_of}
 use Rattle.dwz_meanings.specs.Meanings.{without_siblings}
 use Rattle.dwz_meanings.specs.Shared.{ListOperand, of_unit}
 use Rattle.dwz_rebuilt.specs.Changed.{changes_by}

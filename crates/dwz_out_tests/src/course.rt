@@ -5,6 +5,8 @@ ghost use Rattle.std.proofs.Common.{sym, ◌∙◌};
 ghost use Rattle.dwz_course.specs.Answers.{IsAnswer};
 ghost use Rattle.dwz_course.specs.Trial.{new_file, trial_made, trial_outcome, trial_puts, trial_summary};
 
+use crate::expect::same_for;
+use crate::words::words_of;
 use dwz_course::{Output, Puts, Status, Work, run_course};
 use dwz_model::{Blob, GraphErr, NoMemory, Reason, Refusal};
 use dwz_outside::{MemConsole, MemFiles, Put};
@@ -68,7 +70,7 @@ fn ends<R>(
     run_course(alloc, words, files, console, work, &answers)
 }
 
-fn named(alloc: Global, name: &[u8]) -> Result<Blob, NoMemory>
+fn blob_of(alloc: Global, name: &[u8]) -> Result<Blob, NoMemory>
     ensures { IfOk result (λ b. b ≡ name.now) }
 {
     Ok(Blob::new(Vec::from_slice(alloc, name)?))
@@ -78,8 +80,8 @@ fn new_file(alloc: Global, name: &[u8]) -> Result<Put, NoMemory>
     ensures { IfOk result (λ p. p ≡ new_file name.now) }
 {
     Ok(Put {
-        name: named(alloc, name)?,
-        bytes: named(alloc, b"new")?,
+        name: blob_of(alloc, name)?,
+        bytes: blob_of(alloc, b"new")?,
     })
 }
 
@@ -98,20 +100,12 @@ fn trial_summary(alloc: Global) -> Result<Summary, NoMemory>
     ensures { IfOk result (λ s. s ≡ trial_summary) }
 {
     let mut lines = Vec::new(alloc);
-    lines.push((named(alloc, b"one")?, 5, Some(3)))?;
-    lines.push((named(alloc, b"two")?, 5, None))?;
+    lines.push((blob_of(alloc, b"one")?, 5, Some(3)))?;
+    lines.push((blob_of(alloc, b"two")?, 5, None))?;
     Ok(Summary {
-        common: Some((named(alloc, b"common")?, 7)),
+        common: Some((blob_of(alloc, b"common")?, 7)),
         files: SummaryLines::new(lines),
     })
-}
-
-fn words(alloc: Global, texts: &[&[u8]]) -> Result<Vec<Vec<u8>>, NoMemory> {
-    let mut words = Vec::new(alloc);
-    for text in texts {
-        words.push(Vec::from_slice(alloc, text)?)?;
-    }
-    Ok(words)
 }
 
 /// Three files, with room for nine puts.
@@ -143,127 +137,146 @@ fn are_new(files: &MemFiles, new: usize) -> bool {
     all
 }
 
-#[test]
-fn each_failing_call_ends_the_run_as_it_should(rt: HostRuntime) -> Result<(), Fail> {
-    let alloc = rt.alloc();
-    let work = Trial { _runtime: &rt };
-    let all = words(
-        alloc,
-        &[b"-m".as_slice(), b"common", b"one", b"two", b"three"],
-    )?;
-    // whether a get fails, which call fails, the status, the text, and how many files are new
-    let table: [(bool, u32, Status, &[u8], usize); 7] = [
-        (true, 0, Status::ReadFault, b"dwz: cannot read one\n", 0),
-        (true, 1, Status::ReadFault, b"dwz: cannot read two\n", 0),
-        (true, 2, Status::ReadFault, b"dwz: cannot read three\n", 0),
-        (
-            false,
-            0,
-            Status::WriteFault,
-            b"dwz: cannot write common\n",
-            0,
-        ),
-        (false, 1, Status::WriteFault, b"dwz: cannot write one\n", 1),
-        (false, 2, Status::WriteFault, b"dwz: cannot write two\n", 2),
-        (
-            false,
-            3,
-            Status::WriteFault,
-            b"dwz: cannot write three\n",
-            3,
-        ),
-    ];
-    for (get, call, status, text, new) in table {
-        let mut files = three(alloc)?;
-        let mut console = screen(alloc)?;
-        files.fail(get, call)?;
-        assert_eq!(rt; ends(alloc, &all, &mut files, &mut console, &work), status);
-        assert_eq!(rt; console.text(), text);
-        assert!(rt; are_new(&files, new));
-        // once more, with no call failing
-        assert_eq!(rt;
-            ends(alloc, &all, &mut files, &mut console, &work),
-            Status::Done
-        );
-        assert!(rt; are_new(&files, 4));
+// What is told to fail.
+#[derive(Clone, Copy)]
+enum Told {
+    Nothing,
+    Get(u32),
+    Put(u32),
+    Console,
+}
+
+// A run: its words, what fails in it, how it ends, the text, and how many files are new. Where a get or a put was told to fail, the same
+// run once more, with no call failing, makes all four new.
+type Row = (&'static str, Told, Status, &'static str, usize);
+
+const ALL: &str = "-m common one two three";
+
+const USAGE: &str =
+    "usage: dwz [-q] [--dwarf-5] [-m COMMON [-M NAME]] [-o OUT] [-j N] FILE... | --demo N\n";
+
+const ROWS: &[Row] = &[
+    // each failing call ends the run as it should
+    (
+        ALL,
+        Told::Get(0),
+        Status::ReadFault,
+        "dwz: cannot read one\n",
+        0,
+    ),
+    (
+        ALL,
+        Told::Get(1),
+        Status::ReadFault,
+        "dwz: cannot read two\n",
+        0,
+    ),
+    (
+        ALL,
+        Told::Get(2),
+        Status::ReadFault,
+        "dwz: cannot read three\n",
+        0,
+    ),
+    (
+        ALL,
+        Told::Put(0),
+        Status::WriteFault,
+        "dwz: cannot write common\n",
+        0,
+    ),
+    (
+        ALL,
+        Told::Put(1),
+        Status::WriteFault,
+        "dwz: cannot write one\n",
+        1,
+    ),
+    (
+        ALL,
+        Told::Put(2),
+        Status::WriteFault,
+        "dwz: cannot write two\n",
+        2,
+    ),
+    (
+        ALL,
+        Told::Put(3),
+        Status::WriteFault,
+        "dwz: cannot write three\n",
+        3,
+    ),
+    // a console that fails changes `Done` alone
+    (ALL, Told::Console, Status::ConsoleFault, "", 4),
+    ("one four", Told::Console, Status::ReadFault, "", 0),
+    (
+        "one four",
+        Told::Nothing,
+        Status::ReadFault,
+        "dwz: cannot read four\n",
+        0,
+    ),
+    ("-q one", Told::Console, Status::Done, "", 4),
+    // runs say what they did
+    (
+        "-m common one",
+        Told::Nothing,
+        Status::Done,
+        "common: 7 bytes\none: 5 -> 3 bytes\ntwo: nothing moves\n",
+        4,
+    ),
+    (
+        "-j 1 one",
+        Told::Nothing,
+        Status::Refused,
+        "dwz: one: .debug_info+0x2b: unsupported form 0x2001\n",
+        0,
+    ),
+    ("-x", Told::Nothing, Status::Usage, USAGE, 0),
+    (
+        "--demo 50",
+        Told::Nothing,
+        Status::Done,
+        "demo 50: 100 units, 10 -> 15 bytes, 2 partial units\n",
+        0,
+    ),
+];
+
+fn set_failing(files: &mut MemFiles, console: &mut MemConsole, told: Told) -> Result<(), NoMemory> {
+    match told {
+        Told::Nothing => Ok(()),
+        Told::Get(call) => files.fail(true, call),
+        Told::Put(call) => files.fail(false, call),
+        Told::Console => console.fail(0),
     }
-    Ok(())
+}
+
+// Whether a run goes as its row says, and so does the same run once more.
+fn goes<R>(alloc: Global, work: &Trial<'_, R>, row: &Row) -> Result<[bool; 4], NoMemory> {
+    let (line, told, status, text, new) = *row;
+    let words = words_of(alloc, line)?;
+    let mut files = three(alloc)?;
+    let mut console = screen(alloc)?;
+    set_failing(&mut files, &mut console, told)?;
+    let ended = ends(alloc, &words, &mut files, &mut console, work) == status;
+    let said = console.text() == text.as_bytes();
+    let put = are_new(&files, new);
+    let again = match told {
+        Told::Get(_) | Told::Put(_) => {
+            ends(alloc, &words, &mut files, &mut console, work) == Status::Done
+                && are_new(&files, 4)
+        }
+        _ => true,
+    };
+    Ok([ended, said, put, again])
 }
 
 #[test]
-fn a_console_that_fails_changes_done_alone(rt: HostRuntime) -> Result<(), Fail> {
-    let alloc = rt.alloc();
+fn runs_end_and_say_what_they_did(rt: HostRuntime) -> Result<(), Fail> {
     let work = Trial { _runtime: &rt };
-    // the words, whether the console fails, the status, and whether something is written
-    let table: [(&[&[u8]], bool, Status, bool); 4] = [
-        (
-            &[b"-m".as_slice(), b"common", b"one", b"two", b"three"],
-            true,
-            Status::ConsoleFault,
-            false,
-        ),
-        (
-            &[b"one".as_slice(), b"four"],
-            true,
-            Status::ReadFault,
-            false,
-        ),
-        (
-            &[b"one".as_slice(), b"four"],
-            false,
-            Status::ReadFault,
-            true,
-        ),
-        (&[b"-q".as_slice(), b"one"], true, Status::Done, false),
-    ];
-    for (texts, fails, status, written) in table {
-        let mut files = three(alloc)?;
-        let mut console = screen(alloc)?;
-        if fails {
-            console.fail(0)?;
-        }
-        let all = words(alloc, texts)?;
-        assert_eq!(rt; ends(alloc, &all, &mut files, &mut console, &work), status);
-        assert_eq!(rt; !console.text().is_empty(), written);
-    }
-    Ok(())
-}
-
-#[test]
-fn runs_say_what_they_did(rt: HostRuntime) -> Result<(), Fail> {
-    let alloc = rt.alloc();
-    let work = Trial { _runtime: &rt };
-    let table: [(&[&[u8]], Status, &[u8]); 4] = [
-        (
-            &[b"-m".as_slice(), b"common", b"one"],
-            Status::Done,
-            b"common: 7 bytes\none: 5 -> 3 bytes\ntwo: nothing moves\n",
-        ),
-        (
-            &[b"-j".as_slice(), b"1", b"one"],
-            Status::Refused,
-            b"dwz: one: .debug_info+0x2b: unsupported form 0x2001\n",
-        ),
-        (
-            &[b"-x".as_slice()],
-            Status::Usage,
-            b"usage: dwz [-q] [--dwarf-5] [-m COMMON [-M NAME]] [-o OUT] [-j N] FILE... | --demo N\n",
-        ),
-        (
-            &[b"--demo".as_slice(), b"50"],
-            Status::Done,
-            b"demo 50: 100 units, 10 -> 15 bytes, 2 partial units\n",
-        ),
-    ];
-    for (texts, status, text) in table {
-        let mut files = three(alloc)?;
-        let mut console = screen(alloc)?;
-        let all = words(alloc, texts)?;
-        assert_eq!(rt; ends(alloc, &all, &mut files, &mut console, &work), status);
-        assert_eq!(rt; console.text(), text);
-        if status != Status::Done {
-            assert!(rt; are_new(&files, 0));
-        }
+    for row in ROWS {
+        let answers = goes(rt.alloc(), &work, row)?;
+        same_for(&rt, &(row.0, row.3), &answers, &[true; 4]);
     }
     Ok(())
 }

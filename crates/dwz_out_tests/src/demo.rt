@@ -23,18 +23,19 @@ const MADE: [(u32, usize, &str, &str); 2] = [
 
 #[test]
 fn makes_the_files_of_the_model(rt: HostRuntime) -> Result<(), Fail> {
-    let alloc = rt.alloc();
     for &(n, len, first, second) in &MADE {
-        let files = make_files(alloc, n)?;
+        let files = make_files(rt.alloc(), n)?;
         assert!(rt; files.len() == 2);
         for (file, digest) in files.iter().zip([first, second]) {
-            same(&rt, &file.len(), &len);
             assert!(rt; file.len() < 1 << 16);
             let sum = checksum(file, b"", b"");
             same(
                 &rt,
-                &sum.as_slice(),
-                &hex::decode(alloc, digest)?.as_slice(),
+                &(
+                    file.len(),
+                    hex::encode(rt.alloc(), sum.as_slice())?.as_str(),
+                ),
+                &(len, digest),
             );
         }
     }

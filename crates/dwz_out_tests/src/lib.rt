@@ -15,6 +15,8 @@ mod outside;
 #[cfg(test)]
 mod report;
 #[cfg(test)]
+mod small_file;
+#[cfg(test)]
 mod sup;
 #[cfg(test)]
 mod words;

@@ -12,8 +12,8 @@ const ABC: [u8; 32] = [
 
 #[test]
 fn sums_and_names(rt: HostRuntime) -> Result<(), Fail> {
-    same(&rt, &checksum(b"a", b"b", b"c"), &ABC);
-    same(&rt, &checksum(b"", b"abc", b""), &ABC);
+    let sums = [checksum(b"a", b"b", b"c"), checksum(b"", b"abc", b"")];
+    same(&rt, &sums, &[ABC; 2]);
     let mut bytes = debug_sup(rt.alloc(), false, b"x.debug", &ABC)?.into_vec();
     assert!(rt; bytes.len() == 44);
     bytes.truncate(14);

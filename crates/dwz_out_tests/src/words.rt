@@ -1,4 +1,4 @@
-use crate::expect::{same, same_for};
+use crate::expect::same_for;
 use dwz_model::Blob;
 use dwz_words::{Options, WordsErr, parse};
 use std::alloc::{AllocError, Global};
@@ -106,7 +106,8 @@ a b a => usage
 -m= a => usage
 -m c -M  a => usage";
 
-fn words_of(alloc: Global, line: &str) -> Result<Vec<Vec<u8>>, AllocError> {
+/// The words between the blanks.
+pub(crate) fn words_of(alloc: Global, line: &str) -> Result<Vec<Vec<u8>>, AllocError> {
     let mut words = Vec::new(alloc);
     if !line.is_empty() {
         for word in line.split(' ') {
@@ -164,35 +165,45 @@ fn answer(alloc: Global, words: &[Vec<u8>]) -> Result<String, AllocError> {
     }
 }
 
-/// The answers of words that no line has: with zero bytes, with a byte that is no text, and many FILEs.
-fn other_answers(alloc: Global) -> Result<Vec<String>, AllocError> {
-    let zero = vec![in alloc; vec![in alloc; 97u8, 0]?]?;
-    let zero_out = vec![in alloc; vec![in alloc; 45u8, 111, 0]?, vec![in alloc; 97u8]?]?;
-    let no_text = vec![in alloc; vec![in alloc; 97u8, 255]?]?;
-    let mut answers = Vec::new(alloc);
-    answers.push(answer(alloc, zero.as_slice())?)?;
-    answers.push(answer(alloc, zero_out.as_slice())?)?;
-    answers.push(answer(alloc, no_text.as_slice())?)?;
-    answers.push(answer(alloc, files(alloc, 257)?.as_slice())?)?;
-    Ok(answers)
+/// Words that no line has: with zero bytes, and with a byte that is no text.
+const REFUSED: &[&[&[u8]]] = &[&[b"a\0"], &[b"-o\0", b"a"], &[b"a\xff"]];
+
+fn answer_to(alloc: Global, words: &[&[u8]]) -> Result<String, AllocError> {
+    let mut all = Vec::new(alloc);
+    for word in words {
+        all.push(Vec::from_slice(alloc, word)?)?;
+    }
+    answer(alloc, &all)
+}
+
+fn answer_to_line(alloc: Global, line: &str) -> Result<String, AllocError> {
+    answer(alloc, words_of(alloc, line)?.as_slice())
+}
+
+/// How many FILEs there are in an answer to so many; none where it is another one.
+fn files_of(alloc: Global, count: u32) -> Result<usize, AllocError> {
+    match parse(alloc, files(alloc, count)?.as_slice()) {
+        Ok(options) => Ok(options.files.len()),
+        Err(WordsErr::Usage) => Ok(0),
+        Err(WordsErr::NoMemory) => Err(AllocError),
+    }
 }
 
 #[test]
 fn words_have_their_answers(rt: HostRuntime) -> Result<(), Fail> {
-    let alloc = rt.alloc();
     for line in ANSWERS.lines() {
         if !line.starts_with('#') {
             let (words, want) = line.split_once(" => ").ok_or("a line")?;
-            let got = answer(alloc, words_of(alloc, words)?.as_slice())?;
+            let got = answer_to_line(rt.alloc(), words)?;
             same_for(&rt, &words, &got.as_str(), &want);
         }
     }
-    for got in other_answers(alloc)? {
-        same(&rt, &got.as_str(), &"usage");
+    for words in REFUSED {
+        let got = answer_to(rt.alloc(), words)?;
+        same_for(&rt, words, &got.as_str(), &"usage");
     }
-    let most = parse(alloc, files(alloc, 256)?.as_slice())
-        .ok()
-        .ok_or("256 files")?;
-    same(&rt, &most.files.len(), &256);
+    for (count, want) in [(256, 256), (257, 0)] {
+        same_for(&rt, &count, &files_of(rt.alloc(), count)?, &want);
+    }
     Ok(())
 }

@@ -20,8 +20,11 @@ use Rattle.dwz_flat.proofs.PartLemmas.{rows_unit}
 use Rattle.dwz_flat.proofs.TreeLemmas.{tree_means}
 use Rattle.dwz_index.specs.Names.{top_in}
 use Rattle.dwz_meanings.specs.Documents.{Attr, DwUnit, Entries, Node, Value, attr_map, entries_map, node_map}
-use Rattle.dwz_meanings.specs.Meanings.{Around, MeanAttrs, MeansAttr, Scope, class_of, meaning, scope_of, without_siblings}
-use Rattle.dwz_meanings.proofs.MeaningLemmas.{node_agrees, value_agrees}
+use Rattle.dwz_meanings.specs.Meanings.{Around, MeanAttrs, MeansAttr, Scope, scope_of, without_siblings}
+use Rattle.dwz_meanings.specs.Classes.{class_of}
+use Rattle.dwz_meanings.specs.Meant.{meaning}
+use Rattle.dwz_meanings.proofs.MeaningLemmas.{value_agrees}
+use Rattle.dwz_meanings.proofs.MeaningUnits.{node_agrees}
 use Rattle.dwz_resolve.specs.Named.{attrs_refs, refs_beside, value_refs}
 use Rattle.dwz_resolve.specs.Resolved.{place_at}
 use Rattle.dwz_resolve.proofs.RowLemmas.{rows-length}

@@ -218,7 +218,7 @@ pub(crate) fn put_file(
 }
 
 /// What is gathered of the tops of all files.
-pub(crate) fn gathered(
+pub(crate) fn gather(
     alloc: Global,
     graph: &Graph,
     indexes: &[Index],

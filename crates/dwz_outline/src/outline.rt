@@ -8,7 +8,7 @@ ghost use Rattle.dwz_indexes.specs.Indexed.{AreIndexes};
 ghost use Rattle.dwz_outline.specs.Outlines.{IsOutline};
 ghost use Rattle.dwz_outline.specs.Rows.{with_flags};
 
-use crate::parts::gathered_by;
+use crate::parts::gather_by;
 use dwz_graph::Graph;
 use dwz_groups::{TopRow, TopRows, Tops, group};
 use dwz_index::Index;
@@ -72,7 +72,7 @@ pub fn outline_files<R: Threads + Sync>(
 {
     let files = graph.files();
     let named = named_tops(alloc, graph, indexes)?;
-    let draft = gathered_by(rt, alloc, graph, indexes, &named, workers)?;
+    let draft = gather_by(rt, alloc, graph, indexes, &named, workers)?;
     let targets = group(alloc, draft.rows.len(), draft.pairs.as_slice())?;
     let movable = movable_by(alloc, &targets, draft.binds.as_slice())?;
     let mut rows = draft.rows;

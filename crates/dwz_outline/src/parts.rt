@@ -10,7 +10,7 @@ ghost use Rattle.dwz_marks.specs.Named.{AreNamed};
 ghost use Rattle.dwz_meanings.specs.Documents.{Doc};
 ghost use Rattle.dwz_outline.specs.Drafts.{AreParts, IsDraft, IsFileDraft};
 
-use crate::draft::{Draft, gathered, nothing, put_file};
+use crate::draft::{Draft, gather, nothing, put_file};
 use dwz_graph::Graph;
 use dwz_index::Index;
 use dwz_model::NoMemory;
@@ -142,7 +142,7 @@ fn put_part(draft: &mut Draft, mut part: Draft) -> Result<(), NoMemory>
 }
 
 // The parts of all files together; one that isn't there is for want of memory.
-fn joined(alloc: Global, parts: Vec<Option<Draft>>) -> Result<Draft, NoMemory>
+fn join_parts(alloc: Global, parts: Vec<Option<Draft>>) -> Result<Draft, NoMemory>
     ensures { (docs : List (Doc ℕ)) (indexes : List Index) → AreParts docs indexes 0 parts.items
         → IfOk result (IsDraft docs 0 (starts_at docs indexes (vec_len parts)).top) }
 {
@@ -157,7 +157,7 @@ fn joined(alloc: Global, parts: Vec<Option<Draft>>) -> Result<Draft, NoMemory>
 }
 
 /// What is gathered of the tops of all files, by at most so many workers. How many there are makes no difference.
-pub(crate) fn gathered_by<R: Threads + Sync>(
+pub(crate) fn gather_by<R: Threads + Sync>(
     rt: &R,
     alloc: Global,
     graph: &Graph,
@@ -172,8 +172,8 @@ pub(crate) fn gathered_by<R: Threads + Sync>(
         → IfOk result (IsDraft (docs_of graph.now) 0 (length (tops_of (units_of (docs_of graph.now))))) }
 {
     if workers == 1 || graph.files().len() < 2 {
-        return gathered(alloc, graph, indexes, named);
+        return gather(alloc, graph, indexes, named);
     }
     let parts = parts_of(rt, alloc, graph, indexes, named, workers)?;
-    joined(alloc, parts)
+    join_parts(alloc, parts)
 }

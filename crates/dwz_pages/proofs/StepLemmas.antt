@@ -6,7 +6,8 @@ use Rattle.dwz_docs.specs.Trees.{End, Entry}
 use Rattle.dwz_docs.specs.Values.{Bytes, Number, Raw}
 use Rattle.dwz_meanings.specs.Documents.{Attr, DwUnit, Entries, Expr, Node, Part, Plain, Same}
 use Rattle.dwz_meanings.specs.Documents as document
-use Rattle.dwz_meanings.specs.Meanings.{Class, OfCommonEntry, OfExpression, OfInfoEntry, OfUnitEntry, class_of}
+use Rattle.dwz_meanings.specs.Classes.{OfCommonEntry, OfExpression, OfInfoEntry, OfUnitEntry}
+use Rattle.dwz_meanings.specs.Classes.{Class, class_of}
 use Rattle.dwz_meanings.specs.Patching.{filled, number_bytes}
 use Rattle.dwz_layout.specs.Lines.{Enter, Leave, Line, Step, depth_of as line_depth, if_steps, steps, steps_of, unit_steps, any as line_any}
 use Rattle.dwz_docs.specs.Lists.{Each}

@@ -2,7 +2,8 @@
 use Rattle.std.specs.Prelude.{◌≡◌, ◌⊎◌, ℕ, pos, suc, ◌+◌, ◌-◌, ◌<◌, List, [], ◌∷◌, length, map}
 use Rattle.dwz_docs.specs.Values.{Bytes, Number, Raw}
 use Rattle.dwz_meanings.specs.Documents.{Attr, Compile, DwUnit, Expr, Kind, OfType, Part, Partial, Plain}
-use Rattle.dwz_meanings.specs.Meanings.{Class, OfCommonEntry, OfExpression, OfInfoEntry, OfUnitEntry, class_of}
+use Rattle.dwz_meanings.specs.Classes.{OfCommonEntry, OfExpression, OfInfoEntry, OfUnitEntry}
+use Rattle.dwz_meanings.specs.Classes.{Class, class_of}
 use Rattle.dwz_model.specs.declared.place.Pair.{Pair}
 use Rattle.dwz_layout.specs.Lines.{Line, unit_lines}
 use Rattle.dwz_docs.specs.Lists.{Each}

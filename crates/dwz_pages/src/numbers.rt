@@ -34,7 +34,7 @@ pub(crate) fn at_or_zero(numbers: &[u64], i: u32) -> u64
 
 /// The number of a place, as a form counts it.
 #[inline(always)]
-pub(crate) fn counted(numbers: Numbers, form: u64, place: u64) -> u64
+pub(crate) fn number_by_form(numbers: Numbers, form: u64, place: u64) -> u64
     ensures { result ≡ Attributes.counted (numbers_view numbers.entry) form place }
 {
     if form == REF4 {

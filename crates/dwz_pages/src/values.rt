@@ -16,7 +16,7 @@ ghost use Rattle.dwz_places.specs.Ways;
 ghost use Rattle.dwz_places.specs.Ways.{holder_view};
 ghost use Rattle.dwz_pages.specs.Views.{numbers_view};
 
-use crate::numbers::{Numbers, at_or_zero, counted, put_four};
+use crate::numbers::{Numbers, at_or_zero, number_by_form, put_four};
 use crate::parts::put_parts;
 use dwz_bytes::put_uleb;
 use dwz_forms::{Raw, write_value};
@@ -46,7 +46,7 @@ fn put_entry(
     let form = form_to(known, here, known.owner(target));
     put_four(
         out,
-        counted(numbers, form, at_or_zero(numbers.places, target)),
+        number_by_form(numbers, form, at_or_zero(numbers.places, target)),
     )
 }
 
@@ -236,7 +236,10 @@ fn put_root(
         ++ values_bytes (stored_all (numbers_view numbers.entry) (Attributes.import_attr known.now here unit ∷ []))) }
 {
     let form = form_to(known, here, unit);
-    put_four(out, counted(numbers, form, at_or_zero(numbers.roots, unit)))
+    put_four(
+        out,
+        number_by_form(numbers, form, at_or_zero(numbers.roots, unit)),
+    )
 }
 
 /// Appends the values of what is written.

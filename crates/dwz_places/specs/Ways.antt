@@ -1,7 +1,7 @@
 -- What is written of a value, by its form and by what holds the unit (DWARF 5, 7.5.6).
 use Rattle.std.specs.Prelude.{ℕ, Bool, true, false, List, [], ◌∷◌, ◌==◌, if◌then◌else◌}
 use Rattle.dwz_model.specs.declared.place.Pair.{Pair}
-use Rattle.dwz_meanings.specs.Meanings.{names_file}
+use Rattle.dwz_meanings.specs.Classes.{names_file}
 use Rattle.dwz_writing.specs.Placing.{CommonUnit, Holder, NewUnit, OldUnit}
 use Rattle.dwz_places.specs.declared.ways.Holder.{Holder as HolderOfCode}
 use Rattle.dwz_places.specs.declared.ways.Holder.TheVariants as code

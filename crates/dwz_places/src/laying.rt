@@ -24,7 +24,7 @@ pub(crate) struct Laying {
 
 // A code as it is kept.
 #[inline(always)]
-fn kept(code: u64) -> Result<u32, NoMemory>
+fn kept_code(code: u64) -> Result<u32, NoMemory>
     ensures { IfOk result (λ kept. kept ≡ code) }
 {
     if code > u32::MAX as u64 {
@@ -66,7 +66,7 @@ impl Laying {
         let code = self
             .shapes
             .code_for(alloc, tag, entry.children, &mut room.pairs)?;
-        self.codes.push(kept(code)?)?;
+        self.codes.push(kept_code(code)?)?;
         note(known, entry.origin, self.at, places);
         let coded = more(uleb_len(code), values)?;
         self.at = more(more(self.at, coded)?, entry.ends)?;

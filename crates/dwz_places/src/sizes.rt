@@ -73,7 +73,7 @@ pub(crate) fn uleb_len(number: u64) -> u64
 // The same of what some value stores, and the room gets the name and the form.
 #[inline(always)]
 #[tactic(auto, using(crate::proofs::PlainLemmas::plain_more))]
-fn measured(room: &mut Room, pair: Pair, size: u64) -> Result<u64, NoMemory>
+fn measure_stored(room: &mut Room, pair: Pair, size: u64) -> Result<u64, NoMemory>
     requires plain { IsPlainPair pair }
     requires room { All IsPlainPair room.old.pairs.items }
     ensures pairs { OnOk result (room.new.pairs.items ≡ room.old.pairs.items ++ pair ∷ []) }
@@ -131,25 +131,25 @@ fn measure_value(
 {
     match way_of(here.holder, pair) {
         Way::Dropped => Ok(0),
-        Way::AsRead => measured(room, *pair, size_of_value(pair.form as u16, raw)),
+        Way::AsRead => measure_stored(room, *pair, size_of_value(pair.form as u16, raw)),
         Way::KeepsText => {
             next.text = more(next.text, 1)?;
-            measured(room, *pair, size_of_value(pair.form as u16, raw))
+            measure_stored(room, *pair, size_of_value(pair.form as u16, raw))
         }
         Way::AsText => {
             let text = known.text(file, next.text);
             next.text = more(next.text, 1)?;
-            measured(room, text_pair(pair.name, text), OFFSET)
+            measure_stored(room, text_pair(pair.name, text), OFFSET)
         }
         Way::AsFile => {
             let number = known.file(file, next.file);
             next.file = more(next.file, 1)?;
-            measured(room, file_pair(pair.name), uleb_len(number as u64))
+            measure_stored(room, file_pair(pair.name), uleb_len(number as u64))
         }
         Way::AsEntry => {
             let target = known.reference(file, next.reference);
             next.reference = more(next.reference, 1)?;
-            measured(
+            measure_stored(
                 room,
                 entry_pair(known, here.unit, pair.name, target),
                 OFFSET,
@@ -160,7 +160,7 @@ fn measure_value(
             read_operands(&mut room.operands, bytes, end)?;
             next.reference = more(next.reference, room.operands.len() as u64)?;
             let size = expr_len(bytes)?;
-            measured(room, expr_pair(pair.name), size)
+            measure_stored(room, expr_pair(pair.name), size)
         }
     }
 }
@@ -208,8 +208,8 @@ fn measure_as_name(
     ensures plain { OnOk result (All IsPlainPair room.new.pairs.items) }
 {
     match way_of(holder, pair) {
-        Way::AsText => measured(room, text_pair(NAME, text), OFFSET),
-        _ => measured(room, *pair, size_of_value(pair.form as u16, raw)),
+        Way::AsText => measure_stored(room, text_pair(NAME, text), OFFSET),
+        _ => measure_stored(room, *pair, size_of_value(pair.form as u16, raw)),
     }
 }
 
@@ -248,7 +248,7 @@ fn measure_line(room: &mut Room, line: Option<u32>) -> Result<u64, NoMemory>
 {
     match line {
         None => Ok(0),
-        Some(_) => measured(room, line_pair(), OFFSET),
+        Some(_) => measure_stored(room, line_pair(), OFFSET),
     }
 }
 
@@ -271,7 +271,7 @@ pub(crate) fn measure(
         Origin::Chained { space, .. } => measure_name(room, known, here.holder, known.space(space)),
         Origin::Imported(part) => {
             let pair = import_pair(known, here.unit, known.part(part));
-            measured(room, pair, OFFSET)
+            measure_stored(room, pair, OFFSET)
         }
     }
 }

@@ -1,7 +1,7 @@
 //! What is written of a value, by its name and form, and by what holds the unit.
 
 ghost use Rattle.std.specs.Prelude.{◌≡◌};
-ghost use Rattle.dwz_meanings.specs.Meanings;
+ghost use Rattle.dwz_meanings.specs.Classes;
 ghost use Rattle.dwz_places.specs.Attributes;
 ghost use Rattle.dwz_places.specs.Attributes.{here_view};
 ghost use Rattle.dwz_places.specs.Ways;
@@ -85,7 +85,7 @@ fn way_in(holder: Holder, form: u64) -> Way
 // Whether the numbers of an attribute are those of files (2.14).
 #[inline(always)]
 fn names_file(name: u16) -> bool
-    ensures { result ≡ Meanings.names_file name }
+    ensures { result ≡ Classes.names_file name }
 {
     name == DECL_FILE || name == CALL_FILE
 }

@@ -4,7 +4,7 @@ ghost use Rattle.dwz_gain.specs.Gaining.{AreNumbers, weights_of};
 ghost use Rattle.dwz_plan.specs.Gained.{AreMarks, among, before, group_of, part_seed, place_after};
 
 use crate::plan::{Home, Partial};
-use dwz_gain::{gaining, gains_by_itself};
+use dwz_gain::{gaining_groups, gains_by_itself};
 use dwz_groups::{TopRow, Tops};
 use dwz_model::NoMemory;
 use std::alloc::Global;
@@ -158,6 +158,6 @@ pub(crate) fn marks_of(
 {
     let groups = groups_of(alloc, homes)?;
     let seeds = seeds(alloc, partials, tops.rows.as_slice())?;
-    let marks = gaining(alloc, seeds.as_slice(), groups.as_slice(), &tops.targets)?;
+    let marks = gaining_groups(alloc, seeds.as_slice(), groups.as_slice(), &tops.targets)?;
     Ok(marks)
 }

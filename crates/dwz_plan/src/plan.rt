@@ -6,9 +6,9 @@ ghost use Rattle.dwz_plan.specs.Rows.{given};
 
 use crate::gained::{homes_after, marks_of, partials_after};
 use crate::homes::{homes, stand_ins};
-use crate::parted::parted;
+use crate::parted::part_movers;
 use crate::reps::reps;
-use crate::units::{imports, kept};
+use crate::units::{imports, kept_of_units};
 use crate::users::users;
 use dwz_groups::{Groups, Tops};
 use dwz_model::{NoMemory, Numbers};
@@ -55,7 +55,7 @@ struct Moves {
     reps: Vec<u32>,
 }
 
-fn moved(alloc: Global, tops: &Tops, least: &[u32], scope: Sharing) -> Result<Moves, NoMemory>
+fn find_moves(alloc: Global, tops: &Tops, least: &[u32], scope: Sharing) -> Result<Moves, NoMemory>
     requires rows { length tops.now.rows < 2 ^ 32 }
     requires units { length tops.now.files_of_units < 2 ^ 32 }
     requires least { length least.now ≡ length tops.now.rows }
@@ -75,7 +75,7 @@ fn moved(alloc: Global, tops: &Tops, least: &[u32], scope: Sharing) -> Result<Mo
         reps.as_slice(),
         files_of_units.len(),
     )?;
-    let parted = parted(alloc, &users, files_of_units, tops.files)?;
+    let parted = part_movers(alloc, &users, files_of_units, tops.files)?;
     let homes = homes(alloc, reps.as_slice(), parted.of_movers.as_slice())?;
     Ok(Moves {
         partials: parted.partials,
@@ -127,7 +127,7 @@ impl Plan {
         requires inside_targets { All (λ ts. All (λ t. t < length tops.now.rows) ts) tops.now.targets }
         ensures { IfOk result (λ plan. IsPlanOf (given scope tops.now least.now) plan) }
     {
-        let moves = moved(alloc, tops, least, scope)?;
+        let moves = find_moves(alloc, tops, least, scope)?;
         let units = tops.files_of_units.len();
         let marks = marks_of(
             alloc,
@@ -138,7 +138,7 @@ impl Plan {
         let homes = homes_after(alloc, moves.homes.as_slice(), marks.as_slice())?;
         let partials = partials_after(alloc, moves.partials, marks.as_slice())?;
         let stand_ins = stand_ins(alloc, homes.as_slice(), moves.reps.as_slice())?;
-        let kept = kept(alloc, tops.rows.as_slice(), homes.as_slice(), units)?;
+        let kept = kept_of_units(alloc, tops.rows.as_slice(), homes.as_slice(), units)?;
         let imports = imports(alloc, partials.as_slice(), units)?;
         Ok(Plan {
             partials,
@@ -174,7 +174,7 @@ impl Plan {
     }
 
     /// The tops of a unit that stay: first the pinned ones and then the others, both in order.
-    pub fn kept(&self, unit: u32) -> &[u32]
+    pub fn kept_tops(&self, unit: u32) -> &[u32]
         requires { unit < length self.now.kept }
         ensures { result.now ≡ slice_index_or self.now.kept unit [] }
     {

@@ -51,7 +51,7 @@ fn push_staying(
 }
 
 /// For each unit the tops that stay in it, pinned ones first.
-pub(crate) fn kept(
+pub(crate) fn kept_of_units(
     alloc: Global,
     rows: &[TopRow],
     homes: &[Home],

@@ -32,7 +32,7 @@ pub(crate) fn push_turned(pairs: &mut Vec<Pair>, keys: &[u32], value: u32) -> Re
 }
 
 // Each number of a list as a key, with the number of the list.
-fn turned(alloc: Global, lists: &Groups) -> Result<Vec<Pair>, NoMemory>
+fn turn_lists(alloc: Global, lists: &Groups) -> Result<Vec<Pair>, NoMemory>
     requires { length lists.now < 2 ^ 32 }
     ensures { IfOk result (λ pairs. pairs.items ≡ turned 0 lists.now) }
 {
@@ -57,7 +57,7 @@ pub(crate) fn users(
 {
     let pairs = unit_pairs(alloc, rows, reps)?;
     let by_unit = group(alloc, units, pairs.as_slice())?;
-    let pairs = turned(alloc, &by_unit)?;
+    let pairs = turn_lists(alloc, &by_unit)?;
     let by_rep = group(alloc, rows.len(), pairs.as_slice())?;
     by_rep.without_repeats(alloc)
 }

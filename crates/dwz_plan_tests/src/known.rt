@@ -1,6 +1,6 @@
 //! Numbers of units that were worked out by hand.
 
-use crate::expect::same;
+use crate::expect::same_for;
 use dwz_known::UnitNumbers;
 use dwz_model::Numbers;
 use dwz_plan::Partial;
@@ -16,26 +16,29 @@ fn partial(alloc: Global, file: u32) -> Partial {
     }
 }
 
-// Of two files with two and three units, a common one with one partial unit, and a partial unit of the second.
+fn shown(numbers: &UnitNumbers) -> (u32, &[u32], &[u32]) {
+    (
+        numbers.commons,
+        numbers.parts.as_slice(),
+        numbers.olds.as_slice(),
+    )
+}
+
+// Which of two files with two and three units are written, and the numbers of a common partial unit and one of the second file, and of the
+// units. A file that isn't written has no numbers.
+const WRITTEN: &[([bool; 2], &[u32], &[u32])] = &[
+    ([true, true], &[0, 3], &[1, 2, 4, 5, 6]),
+    ([false, true], &[0, 1], &[0, 0, 2, 3, 4]),
+];
+
 #[test]
 fn units_are_numbered_file_by_file(rt: HostRuntime) -> Result<(), Fail> {
     let alloc = rt.alloc();
-    let partials = [partial(alloc, 2), partial(alloc, 1)];
-    let numbers = UnitNumbers::make(alloc, &partials, &[2, 3], &[true, true])?;
-    same(&rt, &numbers.commons, &1);
-    same(&rt, &numbers.parts.as_slice(), &[0, 3].as_slice());
-    same(&rt, &numbers.olds.as_slice(), &[1, 2, 4, 5, 6].as_slice());
-    Ok(())
-}
-
-// The same where the first file isn't written.
-#[test]
-fn a_file_that_is_not_written_has_no_numbers(rt: HostRuntime) -> Result<(), Fail> {
-    let alloc = rt.alloc();
-    let partials = [partial(alloc, 2), partial(alloc, 1)];
-    let numbers = UnitNumbers::make(alloc, &partials, &[2, 3], &[false, true])?;
-    same(&rt, &numbers.parts.as_slice(), &[0, 1].as_slice());
-    same(&rt, &numbers.olds.as_slice(), &[0, 0, 2, 3, 4].as_slice());
+    for (written, parts, olds) in WRITTEN {
+        let partials = [partial(alloc, 2), partial(alloc, 1)];
+        let numbers = UnitNumbers::make(alloc, &partials, &[2, 3], written)?;
+        same_for(&rt, written, &shown(&numbers), &(1, *parts, *olds));
+    }
     Ok(())
 }
 
@@ -43,8 +46,6 @@ fn a_file_that_is_not_written_has_no_numbers(rt: HostRuntime) -> Result<(), Fail
 #[test]
 fn nothing_has_no_numbers(rt: HostRuntime) -> Result<(), Fail> {
     let numbers = UnitNumbers::make(rt.alloc(), &[], &[], &[])?;
-    same(&rt, &numbers.commons, &0);
-    same(&rt, &numbers.parts.len(), &0);
-    same(&rt, &numbers.olds.len(), &0);
+    same_for(&rt, &"nothing", &shown(&numbers), &(0, &[], &[]));
     Ok(())
 }

@@ -1,5 +1,6 @@
 //! Small files: how what they have is numbered over all of them, and which of their tops operands name, as worked out by hand.
 
+use crate::elf_files::decode_all;
 use crate::expect::same;
 use dwz_graph::Graph;
 use dwz_index::{SpaceEntry, Starts, TopEntry};
@@ -35,10 +36,8 @@ const CONVERTED: &str =
 #[test]
 fn tops_are_named_by_operands(rt: HostRuntime) -> Result<(), Fail> {
     let alloc = rt.alloc();
-    let mut files = Vec::new(alloc);
-    files.push(hex::decode(alloc, LISTED)?)?;
-    files.push(hex::decode(alloc, CONVERTED)?)?;
-    same(&rt, &files.len(), &2);
+    let files = decode_all(alloc, &[LISTED, CONVERTED])?;
+    assert!(rt; files.len() == 2);
     let graph = Graph::read(&rt, alloc, &files, 1)?;
     let indexes = indexes(alloc, &graph)?;
     let named = named_tops(alloc, &graph, &indexes)?;
@@ -93,9 +92,7 @@ const SPACES: [SpaceEntry; 2] = [
 #[test]
 fn files_are_numbered_in_order(rt: HostRuntime) -> Result<(), Fail> {
     let alloc = rt.alloc();
-    let mut files = Vec::new(alloc);
-    files.push(hex::decode(alloc, SPACED)?)?;
-    files.push(hex::decode(alloc, NESTED)?)?;
+    let files = decode_all(alloc, &[SPACED, NESTED])?;
     assert!(rt; files.len() == 2);
     let graph = Graph::read(&rt, alloc, &files, 1)?;
     let indexes = indexes(alloc, &graph)?;

@@ -119,7 +119,7 @@ fn compare_units(rt: &impl Abort, plan: &Plan, case: &Case)
     requires imports { length plan.now.imports ≡ length case.now.kept.now }
 {
     for (unit, (kept, imports)) in case.kept.iter().enumerate() {
-        same_for(rt, &case.name, &plan.kept(unit as u32), kept);
+        same_for(rt, &case.name, &plan.kept_tops(unit as u32), kept);
         same_for(rt, &case.name, &plan.imports(unit as u32), imports);
     }
 }

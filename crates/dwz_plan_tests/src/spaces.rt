@@ -1,5 +1,6 @@
 //! Small files: their spaces, and which of them operands pin, as worked out by hand.
 
+use crate::elf_files::decode_all;
 use crate::expect::same;
 use dwz_graph::Graph;
 use dwz_indexes::indexes;
@@ -48,10 +49,8 @@ const OF_TOPS: [TopSpaces; 5] = [
 #[test]
 fn spaces_are_numbered_over_all_files(rt: HostRuntime) -> Result<(), Fail> {
     let alloc = rt.alloc();
-    let mut files = Vec::new(alloc);
-    files.push(hex::decode(alloc, SPACED)?)?;
-    files.push(hex::decode(alloc, NESTED)?)?;
-    same(&rt, &files.len(), &2);
+    let files = decode_all(alloc, &[SPACED, NESTED])?;
+    assert!(rt; files.len() == 2);
     let graph = Graph::read(&rt, alloc, &files, 1)?;
     let indexes = indexes(alloc, &graph)?;
     let texts = space_texts(alloc, &graph, &indexes)?;
@@ -90,10 +89,8 @@ const LISTED: &str =
 #[test]
 fn ulebs_pin(rt: HostRuntime) -> Result<(), Fail> {
     let alloc = rt.alloc();
-    let mut files = Vec::new(alloc);
-    files.push(hex::decode(alloc, CONVERTED)?)?;
-    files.push(hex::decode(alloc, LISTED)?)?;
-    same(&rt, &files.len(), &2);
+    let files = decode_all(alloc, &[CONVERTED, LISTED])?;
+    assert!(rt; files.len() == 2);
     let graph = Graph::read(&rt, alloc, &files, 1)?;
     let indexes = indexes(alloc, &graph)?;
     let flags = pinned_spaces(alloc, &graph, &indexes)?;

@@ -34,12 +34,13 @@ use Rattle.dwz_meanings.specs.Documents.{Doc}
 use Rattle.dwz_meanings.specs.Files.{Limits, debug_abbrev, debug_info, ends_at, file_meaning, files_meaning, is_other_machine, is_too_long, limits_after, longest_file, machine_at, machine_of}
 use Rattle.dwz_meanings.specs.Files.{no_files_before, section_of, sources_of, units_said, with_doc}
 use Rattle.dwz_meanings.specs.LineTables.{FileTable, IsFileTable, TextSections, is_header, line_length}
-use Rattle.dwz_meanings.specs.Meanings.{Sources, texts_of, units_meaning}
+use Rattle.dwz_meanings.specs.Meanings.{Sources, texts_of}
+use Rattle.dwz_meanings.specs.Meant.{units_meaning}
 use Rattle.dwz_meanings.specs.Files.{around_of}
 use Rattle.dwz_meanings.proofs.AgreeLemmas.{same_meaning}
 use Rattle.dwz_meanings.proofs.FileLemmas.{file_agrees}
 use Rattle.dwz_meanings.proofs.LineTableLemmas.{file_table_agrees}
-use Rattle.dwz_meanings.proofs.MeaningLemmas.{units_agree}
+use Rattle.dwz_meanings.proofs.MeaningUnits.{units_agree}
 use Rattle.dwz_meanings.proofs.UnitMeans.{no_files}
 use Rattle.dwz_model.specs.declared.fault.Reason.TheVariants.{FileSize, Machine}
 use Rattle.dwz_out.specs.Out.{ArePrunable}

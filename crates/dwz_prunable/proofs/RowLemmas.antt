@@ -15,7 +15,8 @@ use Rattle.dwz_docs.proofs.ListFacts.{drop_here}
 use Rattle.dwz_flat.specs.Rows.{RowsMean, nodes}
 use Rattle.dwz_flat.proofs.TreeLemmas.{node_attrs}
 use Rattle.dwz_meanings.specs.Documents.{Attr, Entries, Node}
-use Rattle.dwz_meanings.specs.Meanings.{Scope, attr_with, attrs_meaning, meaning, node_meaning, offset_of, str_offsets_base, texts_of, with_attr, without_siblings}
+use Rattle.dwz_meanings.specs.Meanings.{Scope, offset_of, str_offsets_base, texts_of, without_siblings}
+use Rattle.dwz_meanings.specs.Meant.{attr_with, attrs_meaning, meaning, node_meaning, with_attr}
 use Rattle.dwz_model.specs.declared.place.Pair.{Pair}
 use Rattle.dwz_prunable.specs.declared.values.Known.{Known}
 use Rattle.dwz_prunable.specs.Stays.{asks, row_stays, stays}

@@ -13,10 +13,11 @@ use Rattle.dwz_flat.specs.Rows.{RowsMean, nodes}
 use Rattle.dwz_flat.proofs.TreeLemmas.{tree_means}
 use Rattle.dwz_meanings.specs.Documents.{DwUnit, Node}
 use Rattle.dwz_meanings.specs.LineTables.{FileTable, IsFileTable}
-use Rattle.dwz_meanings.specs.Meanings.{Around, MeanUnits, Scope, base_in, first_raw, scope_of, stmt_list, str_offsets_base, texts_of, unit_meaning, units_meaning}
+use Rattle.dwz_meanings.specs.Meanings.{Around, MeanUnits, Scope, base_in, first_raw, scope_of, stmt_list, str_offsets_base, texts_of}
+use Rattle.dwz_meanings.specs.Meant.{unit_meaning, units_meaning}
 use Rattle.dwz_meanings.proofs.AgreeLemmas.{same_meaning}
 use Rattle.dwz_meanings.proofs.LineTableLemmas.{file_table_agrees}
-use Rattle.dwz_meanings.proofs.MeaningLemmas.{units_agree}
+use Rattle.dwz_meanings.proofs.MeaningUnits.{units_agree}
 use Rattle.dwz_meanings.proofs.UnitMeans.{root_is, unit_meant}
 use Rattle.dwz_prunable.specs.declared.values.Known.{Known}
 use Rattle.dwz_prunable.specs.Stays.{line_strp, row_stays}

@@ -5,7 +5,9 @@ use Rattle.std.specs.Prelude.{◌&&◌}
 use Rattle.dwz_docs.specs.Entries.{RawAttr}
 use Rattle.dwz_docs.specs.Lists.{In}
 use Rattle.dwz_docs.specs.Texts.{slot_place}
-use Rattle.dwz_meanings.specs.Meanings.{Class, OfConstant, OfTextBySlot, Scope, class_of, names_file, offset_of, stmt_list, str_offsets_base, texts_of}
+use Rattle.dwz_meanings.specs.Meanings.{Scope, offset_of, stmt_list, str_offsets_base, texts_of}
+use Rattle.dwz_meanings.specs.Classes.{OfConstant, OfTextBySlot}
+use Rattle.dwz_meanings.specs.Classes.{Class, class_of, names_file}
 use Rattle.dwz_meanings.proofs.MeaningLemmas.{has_in}
 use Rattle.dwz_prunable.specs.declared.values.Known.{Known}
 use Rattle.dwz_prunable.specs.Stays.{asks, asks_as, is_slot, stays, stays_as}

@@ -5,7 +5,9 @@ use Rattle.std.specs.Option.{option_map_or}
 use Rattle.dwz_docs.specs.Lists.{has}
 use Rattle.dwz_docs.specs.Texts.{slot_place}
 use Rattle.dwz_meanings.specs.LineTables.{FileTable}
-use Rattle.dwz_meanings.specs.Meanings.{Class, OfConstant, OfTextBySlot, class_of, names_file, offset_of}
+use Rattle.dwz_meanings.specs.Meanings.{offset_of}
+use Rattle.dwz_meanings.specs.Classes.{OfConstant, OfTextBySlot}
+use Rattle.dwz_meanings.specs.Classes.{Class, class_of, names_file}
 use Rattle.dwz_model.specs.declared.place.Pair.{Pair}
 use Rattle.dwz_prunable.specs.declared.values.Known.{Known}
 use Rattle.dwz_unit.specs.Rows.{EntryRow}

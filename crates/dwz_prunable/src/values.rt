@@ -5,7 +5,7 @@ ghost use Rattle.std.specs.List.Sorted.{IsStrictlyIncreasing};
 ghost use Rattle.dwz_bytes.specs.Spelling.{reach};
 ghost use Rattle.dwz_docs.specs.Texts.{slot_place};
 ghost use Rattle.dwz_forms.specs.RawValues.{raw_view};
-ghost use Rattle.dwz_meanings.specs.Meanings;
+ghost use Rattle.dwz_meanings.specs.Classes;
 ghost use Rattle.dwz_meanings.specs.Meanings.{number_of};
 ghost use Rattle.dwz_prunable.specs.Stays;
 ghost use Rattle.dwz_resolve.specs.Classes.{class_view};
@@ -36,7 +36,7 @@ const CALL_FILE: u16 = 0x58;
 
 #[inline(always)]
 fn names_file(name: u16) -> bool
-    ensures { result ≡ Meanings.names_file name }
+    ensures { result ≡ Classes.names_file name }
 {
     name == DECL_FILE || name == CALL_FILE
 }

@@ -3,157 +3,248 @@
 ghost use Rattle.std.specs.Prelude.{◌<◌, All, IfOk};
 ghost use Rattle.dwz_docs.specs.Abbrevs.{IsCounted, IsPlainPair};
 
-use crate::expect::{same, same_for};
-use dwz_abbrev::Table;
+use crate::expect::{same, same_for, same_read};
+use dwz_abbrev::{Decl, Table};
 use dwz_model::{Fault, NoMemory, Pair, Pairs, ReadErr, Reason};
 use std::alloc::Global;
+use std::process::Abort;
 use std::test::Fail;
 
 // A compile unit with a name, and a base type of one byte whose encoding is DW_ATE_signed.
-const TWO: [u8; 18] = [
+const TWO: &[u8] = &[
     1, 0x11, 1, 0x03, 0x08, 0, 0, 2, 0x24, 0, 0x0b, 0x0b, 0x3e, 0x21, 5, 0, 0, 0,
 ];
 
-// The fault of reading a table, or None.
-fn fault_of(alloc: Global, section: &[u8], at: u32) -> Option<Fault> {
-    match Table::read(alloc, section, at) {
-        Err(ReadErr::Refused(fault)) => Some(fault),
-        _ => None,
-    }
-}
-
-fn bad(at: u64) -> Option<Fault> {
-    Some(Fault {
-        section: 2,
-        at,
-        reason: Reason::BadAbbrev,
-    })
-}
-
-#[test]
-fn reads_a_table(rt: HostRuntime) -> Result<(), Fail> {
-    let table = Table::read(rt.alloc(), &TWO, 0).map_err(|_| "refused")?;
-    let unit = table.decl(1).ok_or("no code 1")?;
-    same(&rt, &(unit.code, unit.tag, unit.children), &(1, 0x11, true));
-    let name = Pair {
-        name: 0x03,
-        form: 0x08,
-        constant: 0,
-    };
-    same(&rt, &unit.pairs.as_slice(), &[name].as_slice());
-    let base = table.decl(2).ok_or("no code 2")?;
-    same(
-        &rt,
-        &(base.code, base.tag, base.children),
-        &(2, 0x24, false),
-    );
-    assert!(rt; base.pairs.len() == 2);
-    same(&rt, &base.pairs.as_slice()[1].constant, &5);
-    assert!(rt; table.decl(0).is_none());
-    assert!(rt; table.decl(3).is_none());
-    Ok(())
-}
-
-#[test]
-fn finds_sparse_codes(rt: HostRuntime) -> Result<(), Fail> {
-    let bytes = [
-        0x85, 0x01, 0x34, 0, 0, 0, 2, 0x24, 0, 0, 0, 7, 0x16, 0, 0, 0, 1, 0x0f, 0, 0, 0, 0,
-    ];
-    let table = Table::read(rt.alloc(), &bytes, 0).map_err(|_| "refused")?;
-    let tags: [(u64, u16); 4] = [(133, 0x34), (2, 0x24), (7, 0x16), (1, 0x0f)];
-    for &(code, tag) in &tags {
-        same(&rt, &table.decl(code).ok_or("no such code")?.tag, &tag);
-    }
-    for code in [0, 3, 4, 5, 132, 134] {
-        assert!(rt; table.decl(code).is_none(), "at {code}");
-    }
-    Ok(())
-}
-
 // Behind a byte, a table of three declarations with the codes 5, 2 and 133, at 1, 8 and 15.
-const THREE: [u8; 22] = [
+const THREE: &[u8] = &[
     9, 5, 0x11, 1, 0x03, 0x08, 0, 0, 2, 0x24, 0, 0x0b, 0x0b, 0, 0, 0x85, 0x01, 0x34, 0, 0, 0, 0,
 ];
 
-#[test]
-fn reads_where_declarations_begin(rt: HostRuntime) -> Result<(), Fail> {
-    let read = Table::read_with_starts(rt.alloc(), &THREE, 1).map_err(|_| "refused")?;
-    same(&rt, &read.starts.as_slice(), &[1, 8, 15].as_slice());
-    let end = Table::read_with_starts(rt.alloc(), &THREE, 21).map_err(|_| "refused")?;
-    assert!(rt; end.table.is_empty());
-    assert!(rt; end.starts.is_empty());
-    Ok(())
+const SPARSE: &[u8] = &[
+    0x85, 0x01, 0x34, 0, 0, 0, 2, 0x24, 0, 0, 0, 7, 0x16, 0, 0, 0, 1, 0x0f, 0, 0, 0, 0,
+];
+
+// The code of a declaration, its tag, whether its entries have children, and its pairs.
+type Shown<'a> = (u64, u16, bool, &'a [Pair]);
+
+fn shown(decl: &Decl) -> Shown<'_> {
+    (decl.code, decl.tag, decl.children, decl.pairs.as_slice())
 }
 
-#[test]
-fn passes_over_declarations(rt: HostRuntime) -> Result<(), Fail> {
-    let table = Table::read(rt.alloc(), &THREE, 1).map_err(|_| "refused")?;
-    let tags: [(u64, u16, usize); 3] = [(5, 0x11, 0), (2, 0x24, 1), (133, 0x34, 2)];
-    for &(code, tag, place) in &tags {
+const NAME: Pair = Pair {
+    name: 0x03,
+    form: 0x08,
+    constant: 0,
+};
+
+const SIZE: Pair = Pair {
+    name: 0x0b,
+    form: 0x0b,
+    constant: 0,
+};
+
+const SIGNED: Pair = Pair {
+    name: 0x3e,
+    form: 0x21,
+    constant: 5,
+};
+
+// A table at a place of a section, its declarations in order, and codes that none of them has.
+struct Found {
+    shows: &'static str,
+    section: &'static [u8],
+    at: u32,
+    decls: &'static [Shown<'static>],
+    none: &'static [u64],
+}
+
+const FOUND: &[Found] = &[
+    Found {
+        shows: "two declarations",
+        section: TWO,
+        at: 0,
+        decls: &[(1, 0x11, true, &[NAME]), (2, 0x24, false, &[SIZE, SIGNED])],
+        none: &[0, 3],
+    },
+    Found {
+        shows: "sparse codes",
+        section: SPARSE,
+        at: 0,
+        decls: &[
+            (133, 0x34, false, &[]),
+            (2, 0x24, false, &[]),
+            (7, 0x16, false, &[]),
+            (1, 0x0f, false, &[]),
+        ],
+        none: &[0, 3, 4, 5, 132, 134],
+    },
+    Found {
+        shows: "behind a byte",
+        section: THREE,
+        at: 1,
+        decls: &[
+            (5, 0x11, true, &[NAME]),
+            (2, 0x24, false, &[SIZE]),
+            (133, 0x34, false, &[]),
+        ],
+        none: &[0, 1, 3, 4, 132],
+    },
+];
+
+// Each declaration is found by its code, and no other; of those behind the first so many only if it is one of them.
+fn compare(rt: &impl Abort, table: &Table, row: &Found) {
+    for (place, decl) in row.decls.iter().enumerate() {
+        same_for(rt, &row.shows, &table.decl(decl.0).map(shown), &Some(*decl));
         for skip in 0..5 {
-            let found = table.decl_behind(skip, code).map(|decl| decl.tag);
-            same_for(
-                &rt,
-                &(code, skip),
-                &found,
-                &if skip <= place { Some(tag) } else { None },
-            );
+            let found = table.decl_behind(skip, decl.0).map(shown);
+            let expected = if skip <= place { Some(*decl) } else { None };
+            same_for(rt, &(row.shows, skip), &found, &expected);
         }
     }
-    for code in [0, 1, 3, 4, 132] {
-        assert!(rt; table.decl_behind(0, code).is_none(), "at {code}");
+    for code in row.none {
+        let none = table.decl(*code).is_none() && table.decl_behind(0, *code).is_none();
+        assert!(rt; none, "{} at {code}", row.shows);
+    }
+}
+
+#[test]
+fn finds_declarations(rt: HostRuntime) -> Result<(), Fail> {
+    for row in FOUND {
+        let table = Table::read(rt.alloc(), row.section, row.at)?;
+        compare(&rt, &table, row);
     }
     Ok(())
 }
 
-#[test]
-fn refuses_at_the_declaration(rt: HostRuntime) {
-    let twice = [1, 0x34, 0, 0, 0, 2, 0x24, 0, 0, 0, 1, 0x16, 0, 0, 0, 0];
-    same(&rt, &fault_of(rt.alloc(), &twice, 0), &bad(10));
-    let children = [9, 9, 1, 0x34, 2, 0, 0, 0];
-    same(&rt, &fault_of(rt.alloc(), &children, 2), &bad(2));
-    same(&rt, &fault_of(rt.alloc(), &TWO[..17], 0), &bad(17));
-    same(&rt, &fault_of(rt.alloc(), &TWO[..15], 0), &bad(7));
+// A table at a place of a section, and where its declarations begin, or the fault.
+struct Begun {
+    shows: &'static str,
+    section: &'static [u8],
+    at: u32,
+    starts: Result<&'static [usize], u64>,
+}
+
+const BEGUN: &[Begun] = &[
+    Begun {
+        shows: "three declarations",
+        section: THREE,
+        at: 1,
+        starts: Ok(&[1, 8, 15]),
+    },
+    Begun {
+        shows: "an empty table",
+        section: THREE,
+        at: 21,
+        starts: Ok(&[]),
+    },
+    Begun {
+        shows: "the end of a table",
+        section: TWO,
+        at: 17,
+        starts: Ok(&[]),
+    },
+    Begun {
+        shows: "a code twice",
+        section: &[1, 0x34, 0, 0, 0, 2, 0x24, 0, 0, 0, 1, 0x16, 0, 0, 0, 0],
+        at: 0,
+        starts: Err(10),
+    },
+    Begun {
+        shows: "no flag for children",
+        section: &[9, 9, 1, 0x34, 2, 0, 0, 0],
+        at: 2,
+        starts: Err(2),
+    },
+    Begun {
+        shows: "no end of the table",
+        section: &[
+            1, 0x11, 1, 0x03, 0x08, 0, 0, 2, 0x24, 0, 0x0b, 0x0b, 0x3e, 0x21, 5, 0, 0,
+        ],
+        at: 0,
+        starts: Err(17),
+    },
+    Begun {
+        shows: "no end of a declaration",
+        section: &[
+            1, 0x11, 1, 0x03, 0x08, 0, 0, 2, 0x24, 0, 0x0b, 0x0b, 0x3e, 0x21, 5,
+        ],
+        at: 0,
+        starts: Err(7),
+    },
+    Begun {
+        shows: "the end of the section",
+        section: TWO,
+        at: 18,
+        starts: Err(18),
+    },
+    Begun {
+        shows: "past the end of the section",
+        section: TWO,
+        at: 40,
+        starts: Err(40),
+    },
+];
+
+// Where the declarations begin, and there are as many of them.
+fn starts_of(rt: &impl Abort, alloc: Global, row: &Begun) -> Result<Vec<usize>, ReadErr> {
+    let read = Table::read_with_starts(alloc, row.section, row.at)?;
+    assert!(rt; read.table.len() == read.starts.len(), "{}", row.shows);
+    Ok(read.starts)
+}
+
+fn fault_of(alloc: Global, row: &Begun) -> Option<ReadErr> {
+    Table::read(alloc, row.section, row.at).err()
 }
 
 #[test]
-fn refuses_an_offset_past_the_end(rt: HostRuntime) {
-    same(&rt, &fault_of(rt.alloc(), &TWO, 18), &bad(18));
-    same(&rt, &fault_of(rt.alloc(), &TWO, 40), &bad(40));
-    same(&rt, &fault_of(rt.alloc(), &TWO, 17), &None);
+fn reads_where_declarations_begin(rt: HostRuntime) {
+    for row in BEGUN {
+        let expected = match row.starts {
+            Ok(starts) => Ok(starts),
+            Err(at) => Err(ReadErr::Refused(Fault {
+                section: 2,
+                at,
+                reason: Reason::BadAbbrev,
+            })),
+        };
+        same_read(&rt, &row.shows, &starts_of(&rt, rt.alloc(), row), &expected);
+        same_for(&rt, &row.shows, &fault_of(rt.alloc(), row), &expected.err());
+    }
 }
 
-// A name and a form.
-fn pairs(alloc: Global, name: u16, form: u64) -> Result<Pairs, NoMemory>
-    requires some_name { 0 < name }
-    requires some_form { 0 < form }
+// A list of one pair.
+fn one_pair(alloc: Global, pair: Pair) -> Result<Pairs, NoMemory>
+    requires { IsPlainPair pair }
     ensures { IfOk result (All IsPlainPair) }
 {
     let mut pairs = Vec::new(alloc);
-    pairs.push(Pair {
-        name,
-        form,
-        constant: 0,
-    })?;
+    pairs.push(pair)?;
     Ok(Pairs::new(pairs))
 }
 
-// A table of three declarations, two of which differ in whether there are children.
+// Three declarations, two of which differ in whether there are children: tags, whether there are, and pairs.
+const MADE: [(u16, bool, Pair); 3] = [(0x11, true, NAME), (0x24, false, SIZE), (0x11, false, NAME)];
+
+// The table of these declarations.
 fn three(alloc: Global) -> Result<Table, NoMemory>
     ensures { IfOk result IsCounted }
 {
     let mut table = Table::new(alloc);
-    table.append(0x11, true, pairs(alloc, 0x03, 0x08)?)?;
-    table.append(0x24, false, pairs(alloc, 0x0b, 0x0b)?)?;
-    table.append(0x11, false, pairs(alloc, 0x03, 0x08)?)?;
+    for (tag, children, pair) in MADE {
+        table.append(tag, children, one_pair(alloc, pair)?)?;
+    }
     Ok(table)
+}
+
+// A table's bytes behind those that were there.
+fn written(table: &Table, mut out: Vec<u8>) -> Result<Vec<u8>, NoMemory> {
+    table.write(&mut out)?;
+    Ok(out)
 }
 
 #[test]
 fn writes_what_it_made(rt: HostRuntime) -> Result<(), Fail> {
-    let table = three(rt.alloc())?;
-    let mut out = [7].to_vec(rt.alloc())?;
-    table.write(&mut out)?;
+    let out = written(&three(rt.alloc())?, [7].to_vec(rt.alloc())?)?;
     let bytes = [
         7, 1, 0x11, 1, 0x03, 0x08, 0, 0, 2, 0x24, 0, 0x0b, 0x0b, 0, 0, 3, 0x11, 0, 0x03, 0x08, 0,
         0, 0,
@@ -167,9 +258,7 @@ fn writes_what_it_read_by_ascending_code(rt: HostRuntime) -> Result<(), Fail> {
     let bytes = [
         0x85, 0x81, 0x00, 0x34, 0, 0, 0, 2, 0x34, 0, 0x3e, 0x21, 0x7f, 0, 0, 1, 0x34, 0, 0, 0, 0,
     ];
-    let table = Table::read(rt.alloc(), &bytes, 0).map_err(|_| "refused")?;
-    let mut out = Vec::new(rt.alloc());
-    table.write(&mut out)?;
+    let out = written(&Table::read(rt.alloc(), &bytes, 0)?, Vec::new(rt.alloc()))?;
     let sorted = [
         1, 0x34, 0, 0, 0, 2, 0x34, 0, 0x3e, 0x21, 0x7f, 0, 0, 0x85, 0x01, 0x34, 0, 0, 0, 0,
     ];

@@ -1,8 +1,9 @@
 //! Sections of small sets, counted by hand.
 
-use crate::expect::{same, same_for};
-use dwz_aranges::{Set, patched, read};
+use crate::expect::{same, same_read};
+use dwz_aranges::{Set, patch_sets, read};
 use dwz_model::{Fault, Numbers, ReadErr, Reason};
+use std::alloc::Global;
 use std::test::Fail;
 
 // Two sets, of units at 0 and at 0x2b; the second has 4 bytes of ranges.
@@ -11,46 +12,107 @@ const TWO: [u8; 28] = [
     12, 0, 0, 0, 2, 0, 0x2b, 0, 0, 0, 8, 0, 9, 9, 9, 9,
 ];
 
-#[test]
-fn reads_sets(rt: HostRuntime) -> Result<(), Fail> {
-    let sets = read(rt.alloc(), &TWO)?;
-    let want = [Set { at: 0, unit: 0 }, Set { at: 12, unit: 0x2b }];
-    same(&rt, &sets.as_slice(), &want.as_slice());
-    assert!(rt; read(rt.alloc(), b"")?.is_empty());
-    Ok(())
+// How many bytes of these there are, one of them, and its value; and the sets, or the one at fault.
+struct Row {
+    shows: &'static str,
+    len: usize,
+    place: usize,
+    byte: u8,
+    sets: Result<&'static [Set], u64>,
+}
+
+const ROWS: &[Row] = &[
+    Row {
+        shows: "two sets",
+        len: 28,
+        place: 0,
+        byte: 8,
+        sets: Ok(&[Set { at: 0, unit: 0 }, Set { at: 12, unit: 0x2b }]),
+    },
+    Row {
+        shows: "no set",
+        len: 0,
+        place: 0,
+        byte: 8,
+        sets: Ok(&[]),
+    },
+    Row {
+        shows: "another version",
+        len: 28,
+        place: 4,
+        byte: 3,
+        sets: Err(0),
+    },
+    Row {
+        shows: "a length below that of a header",
+        len: 28,
+        place: 0,
+        byte: 7,
+        sets: Err(0),
+    },
+    Row {
+        shows: "another version of the second",
+        len: 28,
+        place: 16,
+        byte: 1,
+        sets: Err(12),
+    },
+    Row {
+        shows: "a length far past the section",
+        len: 28,
+        place: 15,
+        byte: 255,
+        sets: Err(12),
+    },
+    Row {
+        shows: "a set that ends past the section",
+        len: 28,
+        place: 12,
+        byte: 13,
+        sets: Err(12),
+    },
+    Row {
+        shows: "one byte of a set",
+        len: 13,
+        place: 0,
+        byte: 8,
+        sets: Err(12),
+    },
+    Row {
+        shows: "a set without its last byte",
+        len: 27,
+        place: 0,
+        byte: 8,
+        sets: Err(12),
+    },
+];
+
+fn sets_of(alloc: Global, section: &[u8]) -> Result<Vec<Set>, ReadErr> {
+    Ok(read(alloc, section)?.as_slice().to_vec(alloc)?)
 }
 
 #[test]
-fn refuses_bad_sets(rt: HostRuntime) {
-    // the byte that is changed, what to, how many bytes there are, and the set at fault
-    let cases: [(usize, u8, usize, u64); 7] = [
-        (4, 3, 28, 0),
-        (0, 7, 28, 0),
-        (16, 1, 28, 12),
-        (15, 255, 28, 12),
-        (12, 13, 28, 12),
-        (0, 8, 13, 12),
-        (0, 8, 27, 12),
-    ];
-    for &(place, byte, len, at) in &cases {
+fn reads_sets(rt: HostRuntime) {
+    for row in ROWS {
         let mut section = TWO;
-        section[place] = byte;
-        let fault = Fault {
-            section: 8,
-            at,
-            reason: Reason::BadAranges,
+        section[row.place % 28] = row.byte;
+        let found = sets_of(rt.alloc(), &section[..row.len.min(28)]);
+        let expected = match row.sets {
+            Ok(sets) => Ok(sets),
+            Err(at) => Err(ReadErr::Refused(Fault {
+                section: 8,
+                at,
+                reason: Reason::BadAranges,
+            })),
         };
-        match read(rt.alloc(), &section[..len]) {
-            Ok(_) => assert!(rt; false, "byte {place}"),
-            Err(error) => same_for(&rt, &place, &error, &ReadErr::Refused(fault)),
-        }
+        same_read(&rt, &row.shows, &found, &expected);
     }
 }
 
 #[test]
 fn patches_units(rt: HostRuntime) -> Result<(), Fail> {
     let numbers = [0x0403_0201, 0x31].to_vec(rt.alloc())?;
-    let out = patched(rt.alloc(), &TWO, &Numbers::new(numbers))?;
+    let out = patch_sets(rt.alloc(), &TWO, &Numbers::new(numbers))?;
     let want = [
         8, 0, 0, 0, 2, 0, 1, 2, 3, 4, 8, 0, //
         12, 0, 0, 0, 2, 0, 0x31, 0, 0, 0, 8, 0, 9, 9, 9, 9,

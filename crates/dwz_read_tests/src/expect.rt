@@ -1,5 +1,6 @@
 //! How tests compare: a comparison that stands here is proved once, and each test only calls it.
 
+use dwz_model::ReadErr;
 use std::fmt::Debug;
 use std::process::Abort;
 
@@ -16,4 +17,17 @@ pub(crate) fn same_for<R: Abort, W: Debug, T: PartialEq + Debug>(
     expected: &T,
 ) {
     assert_eq!(rt; found, expected, "for {row:?}");
+}
+
+/// The same of what is read, or is refused.
+pub(crate) fn same_read<R: Abort, W: Debug, T: PartialEq + Debug>(
+    rt: &R,
+    row: &W,
+    found: &Result<Vec<T>, ReadErr>,
+    expected: &Result<&[T], ReadErr>,
+) {
+    match found {
+        Ok(list) => same_for(rt, row, &Ok(list.as_slice()), expected),
+        Err(error) => same_for(rt, row, &Err(*error), expected),
+    }
 }

@@ -17,7 +17,7 @@ mod forms;
 #[cfg(test)]
 mod graph;
 #[cfg(test)]
-mod graph_workers;
+mod graph_rows;
 #[cfg(test)]
 mod lines;
 #[cfg(test)]
@@ -32,3 +32,7 @@ mod scan;
 mod strs;
 #[cfg(test)]
 mod unit;
+#[cfg(test)]
+mod unit_reads;
+#[cfg(test)]
+mod unit_tables;

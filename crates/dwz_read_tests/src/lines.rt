@@ -3,6 +3,7 @@
 use crate::expect::{same, same_for};
 use dwz_lines::{FileTable, uses_strp, write_header};
 use dwz_model::{Blob, Fault, Names, ReadErr, Reason};
+use std::alloc::{AllocError, Global};
 use std::test::Fail;
 
 const STRS: &[u8] = b"x\0inc\0";
@@ -23,88 +24,111 @@ const BY_STRP: [u8; 41] = [
     2, 1, 8, 2, 15, 1, 99, 0, 1, 170, 187,
 ];
 
-// Whether there is a path, and it is that one.
-fn is(path: Option<&[u8]>, want: &[u8]) -> bool {
-    match path {
-        Some(path) => path == want,
-        None => false,
-    }
+// A table, its paths by the numbers of their files, and whether one of them is in `.debug_str`.
+struct Read {
+    table: &'static [u8],
+    paths: &'static [(u64, Option<&'static [u8]>)],
+    strp: bool,
 }
+
+const READ: &[Read] = &[
+    Read {
+        table: &TABLE,
+        paths: &[
+            (0, Some(b"/d/a.c")),
+            (1, Some(b"/d/inc/b.h")),
+            (2, Some(b"/abs.h")),
+            (3, Some(b"/d/b.h")),
+            (4, None),
+            (u64::MAX, None),
+        ],
+        strp: false,
+    },
+    Read {
+        table: &BY_STRP,
+        paths: &[(0, Some(b"x/inc/c"))],
+        strp: true,
+    },
+];
 
 #[test]
 fn reads_paths(rt: HostRuntime) -> Result<(), Fail> {
-    let table = FileTable::read(rt.alloc(), &TABLE, LINE_STRS, STRS, 0)?;
-    assert!(rt; is(table.path(0), b"/d/a.c"));
-    assert!(rt; is(table.path(1), b"/d/inc/b.h"));
-    assert!(rt; is(table.path(2), b"/abs.h"));
-    assert!(rt; is(table.path(3), b"/d/b.h"));
-    assert!(rt; table.path(4).is_none());
-    assert!(rt; table.path(u64::MAX).is_none());
-    assert!(rt; !table.has_strp());
-    let table = FileTable::read(rt.alloc(), &BY_STRP, LINE_STRS, STRS, 0)?;
-    assert!(rt; is(table.path(0), b"x/inc/c"));
-    assert!(rt; table.has_strp());
+    for row in READ {
+        let table = FileTable::read(rt.alloc(), row.table, LINE_STRS, STRS, 0)?;
+        for (number, path) in row.paths {
+            same_for(&rt, number, &table.path(*number), path);
+        }
+        same_for(&rt, &"strp", &table.has_strp(), &row.strp);
+    }
     Ok(())
+}
+
+// The byte that is changed, and what to: the length, the version, the sizes, the header's length, opcode_base, how many directories there
+// are, a form, an index, an offset.
+const CHANGED: &[(usize, u8)] = &[
+    (3, 255),
+    (0, 62),
+    (4, 4),
+    (6, 4),
+    (7, 1),
+    (8, 50),
+    (17, 0),
+    (22, 0),
+    (21, 15),
+    (32, 11),
+    (33, 1),
+    (55, 2),
+    (51, 15),
+];
+
+// Places where no table begins.
+const ELSEWHERE: &[u64] = &[1, 64, 65, 66, u64::MAX];
+
+// Why there is no table, if there is none.
+fn fault_of(alloc: Global, line: &[u8], at: u64) -> Option<ReadErr> {
+    FileTable::read(alloc, line, LINE_STRS, STRS, at).err()
 }
 
 #[test]
 fn refuses_tables(rt: HostRuntime) {
-    // the byte that is changed, and what to: the length, the version, the sizes, the header's length, opcode_base, how many
-    // directories there are, a form, an index, an offset
-    let cases: [(usize, u8); 13] = [
-        (3, 255),
-        (0, 62),
-        (4, 4),
-        (6, 4),
-        (7, 1),
-        (8, 50),
-        (17, 0),
-        (22, 0),
-        (21, 15),
-        (32, 11),
-        (33, 1),
-        (55, 2),
-        (51, 15),
-    ];
-    for &(place, byte) in &cases {
+    let fault = ReadErr::Refused(Fault {
+        section: 6,
+        at: 0,
+        reason: Reason::BadLineTable,
+    });
+    for (place, byte) in CHANGED {
         let mut line = TABLE;
-        line[place % 65] = byte;
-        let fault = Fault {
-            section: 6,
-            at: 0,
-            reason: Reason::BadLineTable,
-        };
-        match FileTable::read(rt.alloc(), &line, LINE_STRS, STRS, 0) {
-            Ok(_) => assert!(rt; false, "byte {place}"),
-            Err(error) => same_for(&rt, &place, &error, &ReadErr::Refused(fault)),
-        }
+        line[place % 65] = *byte;
+        same_for(&rt, place, &fault_of(rt.alloc(), &line, 0), &Some(fault));
     }
-    for at in [1, 64, 65, 66, u64::MAX] {
-        assert!(rt; FileTable::read(rt.alloc(), &TABLE, LINE_STRS, STRS, at).is_err());
+    for at in ELSEWHERE {
+        assert!(rt; fault_of(rt.alloc(), &TABLE, *at).is_some(), "at {at}");
     }
+}
+
+// What stands in a section behind each other, and whether one of its tables has a path in `.debug_str`; None if they aren't all read.
+const SECTIONS: &[(&[&[u8]], Option<bool>)] = &[
+    (&[&TABLE], Some(false)),
+    (&[&TABLE, &BY_STRP], Some(true)),
+    (&[&TABLE, &BY_STRP, &[0]], None),
+    (&[], Some(false)),
+];
+
+fn join_pieces(alloc: Global, pieces: &[&[u8]]) -> Result<Vec<u8>, AllocError> {
+    let mut all = Vec::new(alloc);
+    for piece in pieces {
+        all.extend_from_slice(piece)?;
+    }
+    Ok(all)
 }
 
 #[test]
 fn looks_through_sections(rt: HostRuntime) -> Result<(), Fail> {
-    let mut line = TABLE.to_vec(rt.alloc())?;
-    same(
-        &rt,
-        &uses_strp(rt.alloc(), &line, LINE_STRS, STRS)?,
-        &Some(false),
-    );
-    line.extend_from_slice(&BY_STRP)?;
-    same(
-        &rt,
-        &uses_strp(rt.alloc(), &line, LINE_STRS, STRS)?,
-        &Some(true),
-    );
-    line.push(0)?;
-    same(&rt, &uses_strp(rt.alloc(), &line, LINE_STRS, STRS)?, &None);
-    same(
-        &rt,
-        &uses_strp(rt.alloc(), b"", LINE_STRS, STRS)?,
-        &Some(false),
-    );
+    for (pieces, answer) in SECTIONS {
+        let line = join_pieces(rt.alloc(), pieces)?;
+        let found = uses_strp(rt.alloc(), &line, LINE_STRS, STRS)?;
+        same_for(&rt, &line.len(), &found, answer);
+    }
     Ok(())
 }
 

@@ -1,70 +1,25 @@
 //! Small files that are prunable or not, each for one reason.
 
-use crate::expect::same;
+use crate::elf_files::{Elf, MACRO_NAME, NAME_PLACES};
+use crate::expect::same_for;
 use dwz_graph::Graph;
 use dwz_prunable::prunable_files;
 use std::alloc::{AllocError, Global};
 use std::test::Fail;
 use std::thread::Threads;
 
-// The names of the sections of a file in order, and of the one that holds them.
-const NAMES: &[u8] =
-    b"\0.debug_info\0.debug_abbrev\0.debug_str\0.debug_str_offsets\0.debug_line\0.debug_macro\0.shstrtab\0";
-
-const NAME_PLACES: [u32; 7] = [1, 13, 27, 38, 57, 69, 82];
-
-fn put_header(
-    out: &mut Vec<u8>,
-    name: u32,
-    kind: u32,
-    at: u64,
-    len: usize,
-) -> Result<(), AllocError> {
-    out.extend_from_slice(&name.to_le_bytes())?;
-    out.extend_from_slice(&kind.to_le_bytes())?;
-    out.extend_from_slice(&[0; 16])?;
-    out.extend_from_slice(&at.to_le_bytes())?;
-    out.extend_from_slice(&len.to_le_bytes())?;
-    out.extend_from_slice(&[0; 8])?;
-    out.extend_from_slice(&1u64.to_le_bytes())?;
-    out.extend_from_slice(&[0; 8])
-}
-
-fn put_file_header(out: &mut Vec<u8>, headers: u64) -> Result<(), AllocError> {
-    out.extend_from_slice(&[0x7f, 0x45, 0x4c, 0x46, 2, 1, 1, 0, 0, 0, 0, 0, 0, 0, 0, 0])?;
-    out.extend_from_slice(&[3, 0, 62, 0, 1, 0, 0, 0])?;
-    out.extend_from_slice(&[0; 16])?;
-    out.extend_from_slice(&headers.to_le_bytes())?;
-    out.extend_from_slice(&[0, 0, 0, 0, 64, 0, 0, 0, 0, 0, 64, 0, 8, 0, 7, 0])
-}
-
-// Adds a section's bytes to those of all, and its header.
-fn put_section(
-    body: &mut Vec<u8>,
-    headers: &mut Vec<u8>,
-    name: u32,
-    kind: u32,
-    content: &[u8],
-) -> Result<(), AllocError> {
-    let at = 64u64.wrapping_add(body.len() as u64);
-    put_header(headers, name, kind, at, content.len())?;
-    body.extend_from_slice(content)
-}
+// The codes of the sections of a file in order, counted from 0: `.debug_info`, `.debug_abbrev`, `.debug_str`, `.debug_str_offsets` and
+// `.debug_line`.
+const CODES: [usize; 5] = [0, 1, 2, 4, 5];
 
 // An ELF64 file with these sections in that order. `.debug_macro` comes last, and has the type that is given.
-fn file(alloc: Global, sections: [&[u8]; 5], macros: u32) -> Result<Vec<u8>, AllocError> {
-    let mut body = Vec::new(alloc);
-    let mut headers = Vec::from_slice(alloc, &[0; 64])?;
-    for (content, name) in sections.iter().zip(NAME_PLACES.iter()) {
-        put_section(&mut body, &mut headers, *name, 1, content)?;
+fn file(alloc: Global, sections: &[&[u8]; 5], macros: u32) -> Result<Vec<u8>, AllocError> {
+    let mut elf = Elf::new(alloc)?;
+    for (content, code) in sections.iter().zip(CODES) {
+        elf.put(NAME_PLACES[code % 8], 1, content)?;
     }
-    put_section(&mut body, &mut headers, NAME_PLACES[5], macros, &[0])?;
-    put_section(&mut body, &mut headers, NAME_PLACES[6], 3, NAMES)?;
-    let mut out = Vec::new(alloc);
-    put_file_header(&mut out, 64u64.wrapping_add(body.len() as u64))?;
-    out.extend_from_slice(&body)?;
-    out.extend_from_slice(&headers)?;
-    Ok(out)
+    elf.put(MACRO_NAME, macros, &[0])?;
+    elf.finish(alloc, 62)
 }
 
 // What is said of a file, if it is read.
@@ -110,25 +65,23 @@ const STRP_LINES: &[u8] =
 // The type of a section that has no content in the file.
 const NO_BITS: u32 = 8;
 
+// Sections, the type of `.debug_macro`, and whether the file is prunable.
+const FILES: &[([&[u8]; 5], u32, Option<bool>)] = &[
+    ([UNIT, TYPES, b"", b"", b""], NO_BITS, Some(true)),
+    ([UNIT, TYPES, b"", b"", b""], 1, Some(false)),
+    ([SLOTTED, SLOT, TEXTS, OFFSETS, b""], NO_BITS, Some(true)),
+    ([IN_HEADER, SLOT, TEXTS, OFFSETS, b""], NO_BITS, Some(false)),
+    ([UNIT, TYPES, TEXTS, b"\0", b""], NO_BITS, Some(false)),
+    ([UNIT, TYPES, TEXTS, b"", LINES], NO_BITS, Some(true)),
+    ([UNIT, TYPES, TEXTS, b"", STRP_LINES], NO_BITS, Some(false)),
+    ([UNIT, TYPES, TEXTS, b"", b"\0"], NO_BITS, Some(false)),
+];
+
 #[test]
 fn files_are_told_apart(rt: HostRuntime) -> Result<(), Fail> {
-    let alloc = rt.alloc();
-    let table: [([&[u8]; 5], u32, Option<bool>); 8] = [
-        ([UNIT, TYPES, b"", b"", b""], NO_BITS, Some(true)),
-        ([UNIT, TYPES, b"", b"", b""], 1, Some(false)),
-        ([SLOTTED, SLOT, TEXTS, OFFSETS, b""], NO_BITS, Some(true)),
-        ([IN_HEADER, SLOT, TEXTS, OFFSETS, b""], NO_BITS, Some(false)),
-        ([UNIT, TYPES, TEXTS, b"\0", b""], NO_BITS, Some(false)),
-        ([UNIT, TYPES, TEXTS, b"", LINES], NO_BITS, Some(true)),
-        ([UNIT, TYPES, TEXTS, b"", STRP_LINES], NO_BITS, Some(false)),
-        ([UNIT, TYPES, TEXTS, b"", b"\0"], NO_BITS, Some(false)),
-    ];
-    for &(sections, macros, flag) in &table {
-        same(
-            &rt,
-            &prunable(&rt, alloc, file(alloc, sections, macros)?)?,
-            &flag,
-        );
+    for (number, (sections, macros, flag)) in FILES.iter().enumerate() {
+        let content = file(rt.alloc(), sections, *macros)?;
+        same_for(&rt, &number, &prunable(&rt, rt.alloc(), content)?, flag);
     }
     Ok(())
 }

@@ -2,7 +2,7 @@
 
 ghost use Rattle.std.specs.Prelude.{◌<◌, ◌^◌, length};
 
-use crate::expect::same;
+use crate::expect::same_for;
 use dwz_scan::{TopRange, top_binds, top_weight};
 use dwz_unit::Units;
 use std::alloc::Global;
@@ -28,7 +28,7 @@ fn few(bytes: &[u8]) -> &[u8]
 }
 
 // What the top that is one entry weighs, and whether it binds; None where there is no such entry.
-fn asked(alloc: Global, entry: u32) -> Result<Option<(u32, bool)>, Fail> {
+fn weigh_entry(alloc: Global, entry: u32) -> Result<Option<(u32, bool)>, Fail> {
     let units = Units::read(alloc, few(&UNIT), few(&TABLE), 100)?;
     if entry >= units.entries() {
         return Ok(None);
@@ -39,12 +39,18 @@ fn asked(alloc: Global, entry: u32) -> Result<Option<(u32, bool)>, Fail> {
     Ok(Some((top_weight(&units, entry, entry + 1), binds)))
 }
 
+// An entry, its weight and whether it binds.
+const TOPS: &[(u32, Option<(u32, bool)>)] = &[
+    (1, Some((7, false))),
+    (2, Some((11, true))),
+    (3, Some((3, false))),
+    (4, None),
+];
+
 #[test]
 fn tops_weigh_and_bind(rt: HostRuntime) -> Result<(), Fail> {
-    let alloc = rt.alloc();
-    same(&rt, &asked(alloc, 1)?, &Some((7, false)));
-    same(&rt, &asked(alloc, 2)?, &Some((11, true)));
-    same(&rt, &asked(alloc, 3)?, &Some((3, false)));
-    same(&rt, &asked(alloc, 4)?, &None);
+    for (entry, top) in TOPS {
+        same_for(&rt, entry, &weigh_entry(rt.alloc(), *entry)?, top);
+    }
     Ok(())
 }

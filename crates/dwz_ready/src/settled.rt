@@ -45,7 +45,7 @@ pub struct SettledFiles {
 
 impl SettledFiles {
     /// What is settled, borrowed.
-    pub fn settled(&self) -> Settled<'_>
+    pub fn as_settled(&self) -> Settled<'_>
         ensures { Lends self.now result }
     {
         let marks = Marks {

@@ -9,7 +9,7 @@ use Rattle.dwz_docs.proofs.ListFacts.{get_first, got_map, got_there, same_got}
 use Rattle.dwz_meanings.specs.Documents.{Doc, unit_map}
 use Rattle.dwz_meanings.specs.Files.{around_of, sources_of}
 use Rattle.dwz_meanings.proofs.FileLemmas.{file_agrees}
-use Rattle.dwz_meanings.proofs.MeaningLemmas.{unit_agrees}
+use Rattle.dwz_meanings.proofs.MeaningUnits.{unit_agrees}
 use Rattle.dwz_alike.specs.Spots.{FileUnit, Spot, Top, UnitOf, Within, in_file, tops_of}
 use Rattle.dwz_moving.specs.Homes.{Rule, moves, rep}
 use Rattle.dwz_moving.specs.Plan.{image, stand_in}

@@ -13,7 +13,8 @@ use Rattle.dwz_resolve.specs.Said.{behind_sets, behind_units, kept, said}
 use Rattle.dwz_docs.specs.Faults.{Fails}
 use Rattle.dwz_docs.specs.Units.{RawUnit}
 use Rattle.dwz_meanings.specs.Documents.{DwUnit}
-use Rattle.dwz_meanings.specs.Meanings.{Around, units_meaning}
+use Rattle.dwz_meanings.specs.Meanings.{Around}
+use Rattle.dwz_meanings.specs.Meant.{units_meaning}
 use Rattle.dwz_meanings.specs.NamedLists.{lists_of_units}
 use Rattle.dwz_meanings.specs.Shared.{NamedList, none_shared}
 use Rattle.dwz_resolve.specs.Named.{Found, found, map_ok, units_named, units_refs}

@@ -12,7 +12,9 @@ use Rattle.dwz_model.specs.declared.fault.Reason.TheVariants.{BadFile}
 use Rattle.dwz_docs.specs.Units.{RawUnit}
 use Rattle.dwz_meanings.specs.Documents.{File, only}
 use Rattle.dwz_meanings.specs.LineTables.{FileTable}
-use Rattle.dwz_meanings.specs.Meanings.{Scope, constant_value, file_by, is_zero, names_file, number_of, path_by, path_or, row_of_table, stmt_list}
+use Rattle.dwz_meanings.specs.Meanings.{Scope, constant_value, number_of, path_by, stmt_list}
+use Rattle.dwz_meanings.specs.Classes.{names_file}
+use Rattle.dwz_meanings.specs.Meant.{file_by, is_zero, path_or, row_of_table}
 use Rattle.dwz_meanings.specs.Shared.{NamedList}
 use Rattle.dwz_resolve.specs.declared.files.Files.{Files}
 use Rattle.dwz_resolve.specs.declared.state.State.{State}

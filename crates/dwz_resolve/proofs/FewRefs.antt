@@ -20,9 +20,14 @@ use Rattle.dwz_docs.proofs.CaseFacts.{and_left}
 use Rattle.dwz_meanings.specs.Documents.{Kind, Sec, Value, only}
 use Rattle.dwz_meanings.specs.declared.exprs.Operand.{Operand}
 use Rattle.dwz_meanings.specs.Exprs.{most_inside}
-use Rattle.dwz_meanings.specs.Meanings.{Around, Class, ClassRow, IfSo, IsExpression, IsFileBy, IsFileNumber, IsLocList, MeansAs, OfAddress, OfBlock, OfCommonEntry, OfCommonText, OfConstant}
-use Rattle.dwz_meanings.specs.Meanings.{OfExpression, OfFlag, OfIndex, OfInfoEntry, OfListIndex, OfOffset, OfSignature, OfText, OfTextBySlot, OfTextInLineStr, OfTextInStr, OfUnitEntry, Scope, Unread}
-use Rattle.dwz_meanings.specs.Meanings.{bytes_of, class_in, class_of, class_rows, constant_value, content_at, expr_context, kind_meaning, meaning, names_file, names_list, number_of, offset_of}
+use Rattle.dwz_meanings.specs.Meanings.{Around, IfSo, IsExpression, IsFileBy, IsFileNumber, IsLocList, MeansAs}
+use Rattle.dwz_meanings.specs.Classes.{OfAddress, OfBlock, OfCommonEntry, OfCommonText, OfConstant}
+use Rattle.dwz_meanings.specs.Classes.{Class, ClassRow}
+use Rattle.dwz_meanings.specs.Meanings.{Scope}
+use Rattle.dwz_meanings.specs.Classes.{OfExpression, OfFlag, OfIndex, OfInfoEntry, OfListIndex, OfOffset, OfSignature, OfText, OfTextBySlot, OfTextInLineStr, OfTextInStr, OfUnitEntry, Unread}
+use Rattle.dwz_meanings.specs.Meanings.{bytes_of, constant_value, content_at, expr_context, number_of, offset_of}
+use Rattle.dwz_meanings.specs.Classes.{class_in, class_of, class_rows, names_file, names_list}
+use Rattle.dwz_meanings.specs.Meant.{kind_meaning, meaning}
 use Rattle.dwz_meanings.specs.Meanings.{scope_of, stmt_list, target_of}
 use Rattle.dwz_meanings.specs.NamedLists.{list_of_attr}
 use Rattle.dwz_meanings.specs.Shared.{NamedList}

@@ -14,6 +14,7 @@ pub mod UnitStarts
 pub mod SetSteps
 pub mod StandLemmas
 pub mod ApartLemmas
+pub mod PassLemmas
 pub mod SharedLaw
 pub mod OperandSteps
 pub mod FileSteps

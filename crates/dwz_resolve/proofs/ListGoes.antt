@@ -15,7 +15,9 @@ use Rattle.dwz_docs.specs.Units.{RawUnit}
 use Rattle.dwz_docs.proofs.TextLemmas.{short_section}
 use Rattle.dwz_meanings.specs.Documents.{Sec, only}
 use Rattle.dwz_meanings.specs.LocLists.{LocList}
-use Rattle.dwz_meanings.specs.Meanings.{Scope, list_by, list_from, list_meaning, list_read, loc_said, loclists_base, names_list, offset_of}
+use Rattle.dwz_meanings.specs.Meanings.{Scope, loclists_base, offset_of}
+use Rattle.dwz_meanings.specs.Classes.{names_list}
+use Rattle.dwz_meanings.specs.Meant.{list_by, list_from, list_meaning, list_read, loc_said}
 use Rattle.dwz_meanings.specs.NamedLists.{by_base, by_offset, named_at, named_by}
 use Rattle.dwz_meanings.specs.Shared.{NamedList}
 use Rattle.dwz_resolve.specs.declared.state.State.{State}

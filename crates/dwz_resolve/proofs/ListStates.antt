@@ -10,7 +10,8 @@ use Rattle.dwz_docs.specs.Units.{RawUnit}
 use Rattle.dwz_docs.proofs.ListFacts.{in_cases, in_left, in_right}
 use Rattle.dwz_meanings.specs.declared.exprs.Operand.{Operand}
 use Rattle.dwz_meanings.specs.LocLists.{LocList}
-use Rattle.dwz_meanings.specs.Meanings.{Scope, expr_context, list_read}
+use Rattle.dwz_meanings.specs.Meanings.{Scope, expr_context}
+use Rattle.dwz_meanings.specs.Meant.{list_read}
 use Rattle.dwz_meanings.specs.Shared.{ListOperand as OperandOfList, NamedList, OneOf, of_unit, operands_of, own_operands}
 use Rattle.dwz_meanings.proofs.LocListLemmas.{list_reads, stands_agree}
 use Rattle.dwz_resolve.specs.declared.lists.ListRow.{ListRow}

@@ -13,7 +13,8 @@ use Rattle.dwz_docs.specs.Lists.{In}
 use Rattle.dwz_docs.specs.Units.{RawUnit, entries_in}
 use Rattle.dwz_meanings.specs.declared.exprs.Operand.{Operand}
 use Rattle.dwz_meanings.specs.Exprs.{bad_operand, first_unnamed}
-use Rattle.dwz_meanings.specs.Meanings.{Scope, expr_context, leads_to, list_read, target_of}
+use Rattle.dwz_meanings.specs.Meanings.{Scope, expr_context, leads_to, target_of}
+use Rattle.dwz_meanings.specs.Meant.{list_read}
 use Rattle.dwz_meanings.specs.LocLists.{LocList, list_at}
 use Rattle.dwz_meanings.specs.Sequences.{read_from}
 use Rattle.dwz_meanings.specs.Shared.{of_unit, operands_of}

@@ -6,8 +6,10 @@ use Rattle.dwz_model.specs.declared.fault.Fault.{Fault}
 use Rattle.dwz_bytes.specs.Reading.{◌>>=◌}
 use Rattle.dwz_meanings.specs.Documents.{Attr, DwUnit, Entries, Kind, Node, Value}
 use Rattle.dwz_docs.specs.Entries.{RawAttr, RawEntry}
-use Rattle.dwz_meanings.specs.Meanings.{Around, Scope, attrs_meaning, entries_meaning, kind_meaning, meaning, node_meaning, node_with, scope_of, unit_meaning, unit_with, units_meaning, with_attr}
-use Rattle.dwz_meanings.specs.Meanings.{with_next, with_units, without_siblings}
+use Rattle.dwz_meanings.specs.Meanings.{Around, Scope, scope_of}
+use Rattle.dwz_meanings.specs.Meant.{attrs_meaning, entries_meaning, kind_meaning, meaning, node_meaning, node_with, unit_meaning, unit_with, units_meaning, with_attr}
+use Rattle.dwz_meanings.specs.Meanings.{without_siblings}
+use Rattle.dwz_meanings.specs.Meant.{with_next, with_units}
 use Rattle.dwz_meanings.specs.NamedLists.{list_of_attr, lists_of_attrs, lists_of_entries, lists_of_unit, lists_of_units}
 use Rattle.dwz_meanings.specs.Shared.{NamedList}
 use Rattle.dwz_docs.specs.Trees.{End, Entry, Forest}

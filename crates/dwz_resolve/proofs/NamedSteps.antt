@@ -7,7 +7,8 @@ use Rattle.dwz_model.specs.declared.fault.ReadErr.{ReadErr}
 use Rattle.dwz_model.specs.declared.fault.ReadErr.TheVariants.{NoMemory, Refused}
 use Rattle.dwz_meanings.specs.Documents.{Value, ref}
 use Rattle.dwz_docs.specs.Faults.{Fails}
-use Rattle.dwz_meanings.specs.Meanings.{entry_among, has}
+use Rattle.dwz_meanings.specs.Meanings.{has}
+use Rattle.dwz_meanings.specs.Meant.{entry_among}
 use Rattle.dwz_meanings.specs.Shared.{NamedList}
 use Rattle.dwz_docs.specs.Units.{RawUnit, entries_in}
 use Rattle.dwz_docs.proofs.ListFacts.{drop_here}

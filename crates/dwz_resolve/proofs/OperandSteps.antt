@@ -12,7 +12,8 @@ use Rattle.dwz_model.specs.declared.fault.ReadErr.TheVariants.{NoMemory, Refused
 use Rattle.dwz_docs.specs.Units.{RawUnit, entries_in}
 use Rattle.dwz_meanings.specs.declared.exprs.Operand.{Operand}
 use Rattle.dwz_meanings.specs.Exprs.{Expression, any_operands, bad_operand, expr_at, first_unnamed}
-use Rattle.dwz_meanings.specs.Meanings.{Scope, entries_for, expr_context, expr_said, target_of, targets}
+use Rattle.dwz_meanings.specs.Meanings.{Scope, entries_for, expr_context, target_of, targets}
+use Rattle.dwz_meanings.specs.Meant.{expr_said}
 use Rattle.dwz_resolve.specs.Operands.{AreNumbers, IsUnnamed, LooksUp, NamesAll, expr_named, is_named, lacks_memory}
 use Rattle.dwz_resolve.specs.Resolved.{Goes, place_at, places}
 use Rattle.dwz_bytes.specs.Input.{Input}

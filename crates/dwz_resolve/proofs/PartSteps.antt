@@ -11,7 +11,8 @@ use Rattle.dwz_docs.specs.Trees.{Entry, End, Forest, Position, behind, first_bel
 use Rattle.dwz_docs.specs.Entries.{RawEntry, root_position}
 use Rattle.dwz_docs.specs.Units.{RawUnit, entries_in, entry_count}
 use Rattle.dwz_meanings.specs.Documents.{Node}
-use Rattle.dwz_meanings.specs.Meanings.{Around, node_meaning, scope_of}
+use Rattle.dwz_meanings.specs.Meanings.{Around, scope_of}
+use Rattle.dwz_meanings.specs.Meant.{node_meaning}
 use Rattle.dwz_meanings.specs.Shared.{NamedList}
 use Rattle.dwz_resolve.specs.Named.{Found, attrs_refs, entry_named, found, map_ok}
 use Rattle.dwz_resolve.specs.Parts.{AreParted, IsParted, KnowLines}

@@ -18,7 +18,8 @@ use Rattle.dwz_resolve.specs.declared.lists.Lists.{Lists}
 use Rattle.dwz_resolve.specs.declared.operands.ListOperand.{ListOperand as Row}
 use Rattle.dwz_resolve.specs.Apart.{AreWide, Before, Clash, FindsApart, Foreign, HasClash, IsCause, Rise, Rows, Same, Test, Tested, places_of_rows}
 use Rattle.dwz_resolve.specs.ListRows.{AreOfFile, AreDistinct, IsRowOf, Shows, operand_view, own_rows, row_test, slot_test, start_of, tests_of}
-use Rattle.dwz_resolve.proofs.ApartLemmas.{each_behind, each_wide, in_take, one_row, same_sym, same_trans}
+use Rattle.dwz_resolve.proofs.ApartLemmas.{each_behind, each_wide, in_take, one_row}
+use Rattle.dwz_resolve.proofs.PassLemmas.{same_sym, same_trans}
 
 -- ---- members
 

@@ -11,7 +11,8 @@ use Rattle.dwz_docs.specs.Faults.{info_fault}
 use Rattle.dwz_docs.specs.Texts.{slot, text_at}
 use Rattle.dwz_docs.specs.Units.{RawUnit}
 use Rattle.dwz_meanings.specs.Documents.{Value}
-use Rattle.dwz_meanings.specs.Meanings.{Scope, offset_of, text_by, text_from, text_or}
+use Rattle.dwz_meanings.specs.Meanings.{Scope, offset_of}
+use Rattle.dwz_meanings.specs.Meant.{text_by, text_from, text_or}
 use Rattle.dwz_meanings.specs.Shared.{NamedList}
 use Rattle.dwz_resolve.specs.declared.state.State.{State}
 use Rattle.dwz_resolve.specs.Named.{Found, found_in, map_ok, nothing_found}

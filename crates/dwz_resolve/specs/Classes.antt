@@ -1,7 +1,8 @@
 -- The class of a form, as the code names it.
-use Rattle.dwz_meanings.specs.Meanings.{Class, OfAddress, OfBlock, OfCommonEntry, OfCommonText, OfConstant, OfExpression, OfFlag, OfIndex}
-use Rattle.dwz_meanings.specs.Meanings.{OfInfoEntry, OfListIndex, OfOffset, OfSignature, OfText, OfTextBySlot, OfTextInLineStr, OfTextInStr}
-use Rattle.dwz_meanings.specs.Meanings.{OfUnitEntry, Unread}
+use Rattle.dwz_meanings.specs.Classes.{OfAddress, OfBlock, OfCommonEntry, OfCommonText, OfConstant, OfExpression, OfFlag, OfIndex}
+use Rattle.dwz_meanings.specs.Classes.{Class}
+use Rattle.dwz_meanings.specs.Classes.{OfInfoEntry, OfListIndex, OfOffset, OfSignature, OfText, OfTextBySlot, OfTextInLineStr, OfTextInStr}
+use Rattle.dwz_meanings.specs.Classes.{OfUnitEntry, Unread}
 use Rattle.dwz_resolve.specs.declared.class.Class.{Class as ClassOfCode}
 use Rattle.dwz_resolve.specs.declared.class.Class.TheVariants as code
 

@@ -7,7 +7,9 @@ use Rattle.dwz_model.specs.declared.fault.Reason.TheVariants.{BadFile}
 use Rattle.dwz_bytes.specs.Reading.{◌>>=◌}
 use Rattle.dwz_docs.specs.Faults.{Fails, info_fault}
 use Rattle.dwz_meanings.specs.LineTables.{FileTable, file_table_at}
-use Rattle.dwz_meanings.specs.Meanings.{Sources, is_zero, names_file, path_by, texts_of}
+use Rattle.dwz_meanings.specs.Meanings.{Sources, path_by, texts_of}
+use Rattle.dwz_meanings.specs.Classes.{names_file}
+use Rattle.dwz_meanings.specs.Meant.{is_zero}
 use Rattle.dwz_resolve.specs.TablePlaces.{number_in}
 use Rattle.dwz_resolve.specs.declared.files.Files.{Files}
 

@@ -12,7 +12,9 @@ use Rattle.dwz_docs.specs.Units.{RawUnit}
 use Rattle.dwz_meanings.specs.declared.exprs.Operand.{Operand}
 use Rattle.dwz_meanings.specs.Exprs.{first_unnamed}
 use Rattle.dwz_meanings.specs.LocLists.{LocList}
-use Rattle.dwz_meanings.specs.Meanings.{Scope, list_read, names_list}
+use Rattle.dwz_meanings.specs.Meanings.{Scope}
+use Rattle.dwz_meanings.specs.Classes.{names_list}
+use Rattle.dwz_meanings.specs.Meant.{list_read}
 use Rattle.dwz_meanings.specs.Shared.{NamedList, of_unit}
 use Rattle.dwz_resolve.specs.declared.lists.ListSlot.{ListSlot}
 use Rattle.dwz_resolve.specs.declared.state.State.{State}

@@ -4,7 +4,8 @@ use Rattle.std.specs.List.{flat_map}
 use Rattle.dwz_model.specs.declared.fault.Fault.{Fault}
 use Rattle.dwz_meanings.specs.Documents.{Attr, DwUnit, Entries, Loc, Plain, Value}
 use Rattle.dwz_docs.specs.Entries.{RawAttr, RawEntry}
-use Rattle.dwz_meanings.specs.Meanings.{Around, Scope, kind_meaning, meaning, scope_of}
+use Rattle.dwz_meanings.specs.Meanings.{Around, Scope, scope_of}
+use Rattle.dwz_meanings.specs.Meant.{kind_meaning, meaning}
 use Rattle.dwz_meanings.specs.NamedLists.{list_of_attr}
 use Rattle.dwz_meanings.specs.Shared.{NamedList}
 use Rattle.dwz_docs.specs.Trees.{End, Entry, Forest}

@@ -6,7 +6,8 @@ use Rattle.dwz_model.specs.declared.fault.ReadErr.TheVariants.{NoMemory, Refused
 use Rattle.dwz_docs.specs.Units.{RawUnit, entries_in}
 use Rattle.dwz_meanings.specs.declared.exprs.Operand.{Operand}
 use Rattle.dwz_meanings.specs.Exprs.{bad_operand, expr_at, first_unnamed}
-use Rattle.dwz_meanings.specs.Meanings.{Scope, entries_for, expr_context, expr_said, has, target_of}
+use Rattle.dwz_meanings.specs.Meanings.{Scope, entries_for, expr_context, has, target_of}
+use Rattle.dwz_meanings.specs.Meant.{expr_said}
 use Rattle.dwz_bytes.specs.Input.{Input}
 use Rattle.dwz_bytes.specs.Reading.{◌>>=◌}
 use Rattle.dwz_resolve.specs.Named.{Found, found_in, map_ok}

@@ -6,7 +6,10 @@ use Rattle.dwz_docs.specs.Lists.{In}
 use Rattle.dwz_docs.specs.Units.{RawUnit, entries_in}
 use Rattle.dwz_meanings.specs.Documents.{Node}
 use Rattle.dwz_meanings.specs.LineTables.{FileTable}
-use Rattle.dwz_meanings.specs.Meanings.{Around, Class, OfConstant, class_of, names_file, node_meaning, scope_of, stmt_list}
+use Rattle.dwz_meanings.specs.Meanings.{Around, scope_of, stmt_list}
+use Rattle.dwz_meanings.specs.Classes.{OfConstant}
+use Rattle.dwz_meanings.specs.Classes.{Class, class_of, names_file}
+use Rattle.dwz_meanings.specs.Meant.{node_meaning}
 use Rattle.dwz_resolve.specs.FileRows.{HasTable, number_at}
 use Rattle.dwz_resolve.specs.Named.{attrs_refs, entries_of}
 use Rattle.dwz_resolve.specs.Resolved.{around, place_at}

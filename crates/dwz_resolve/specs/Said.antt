@@ -6,7 +6,8 @@ use Rattle.dwz_bytes.specs.Reading.{◌>>=◌}
 use Rattle.dwz_docs.specs.Units.{RawUnit}
 use Rattle.dwz_meanings.specs.Documents.{DwUnit}
 use Rattle.dwz_meanings.specs.Files.{is_place_of}
-use Rattle.dwz_meanings.specs.Meanings.{Around, units_meaning}
+use Rattle.dwz_meanings.specs.Meanings.{Around}
+use Rattle.dwz_meanings.specs.Meant.{units_meaning}
 use Rattle.dwz_meanings.specs.NamedLists.{lists_of_units}
 use Rattle.dwz_meanings.specs.Ranges.{RangeSet, sets_at}
 use Rattle.dwz_meanings.specs.Shared.{none_shared}

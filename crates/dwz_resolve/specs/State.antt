@@ -2,7 +2,8 @@
 use Rattle.std.specs.Prelude.{◌≡◌, ℕ, ◌<◌, ◌≤◌, List, Option, Some, Ok, nat_eq}
 use Rattle.std.specs.HashMap.{get}
 use Rattle.dwz_docs.specs.Units.{RawUnit}
-use Rattle.dwz_meanings.specs.Meanings.{Around, Scope, list_read}
+use Rattle.dwz_meanings.specs.Meanings.{Around, Scope}
+use Rattle.dwz_meanings.specs.Meant.{list_read}
 use Rattle.dwz_meanings.specs.Shared.{NamedList, OneOf}
 use Rattle.dwz_resolve.specs.declared.state.State.{State}
 use Rattle.dwz_resolve.specs.FileRows.{KnowTables}

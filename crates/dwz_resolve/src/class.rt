@@ -1,7 +1,7 @@
 //! The classes of forms (DWARF 5, 7.5.6).
 
 ghost use Rattle.std.specs.Prelude.{◌≡◌};
-ghost use Rattle.dwz_meanings.specs.Meanings;
+ghost use Rattle.dwz_meanings.specs.Classes;
 ghost use Rattle.dwz_resolve.specs.Classes.{class_view};
 
 /// What the number or the bytes of a form stand for.
@@ -29,9 +29,9 @@ pub enum Class {
 
 /// The class of a form.
 #[inline(always)]
-#[tactic(auto, unfolding(dwz_meanings::specs::Meanings::class_in, dwz_meanings::specs::Meanings::class_rows))]
+#[tactic(auto, unfolding(dwz_meanings::specs::Classes::class_in, dwz_meanings::specs::Classes::class_rows))]
 pub fn class_of(form: u64) -> Class
-    ensures { class_view result ≡ Meanings.class_of form }
+    ensures { class_view result ≡ Classes.class_of form }
 {
     match form {
         0x01 => Class::Address,

@@ -5,6 +5,7 @@ ghost use Rattle.std.specs.Option.{is_some};
 ghost use Rattle.dwz_forms.specs.RawValues.{raw_view};
 ghost use Rattle.dwz_meanings.specs.LineTables.{FileTable as Paths};
 ghost use Rattle.dwz_meanings.specs.Meanings;
+ghost use Rattle.dwz_meanings.specs.Classes;
 ghost use Rattle.dwz_meanings.specs.Meanings.{path_by};
 ghost use Rattle.dwz_model.specs.declared.fault.ReadErr.TheVariants.{Refused};
 ghost use Rattle.dwz_model.specs.declared.fault.Reason.TheVariants.{BadFile};
@@ -157,7 +158,7 @@ impl Files {
 // Whether values of an attribute number files: `DW_AT_decl_file` and `DW_AT_call_file`.
 #[inline(always)]
 fn names_file(name: u16) -> bool
-    ensures { result ≡ Meanings.names_file name }
+    ensures { result ≡ Classes.names_file name }
 {
     name == 0x3a || name == 0x58
 }
@@ -172,7 +173,7 @@ pub(crate) fn check_constant(
     raw: &Raw,
     files: &mut Files,
 ) -> Result<(), ReadErr>
-    ensures learns { IfLearns (Meanings.names_file name) here.now.line files.old files.new result }
+    ensures learns { IfLearns (Classes.names_file name) here.now.line files.old files.new result }
     ensures says { KnowTables (sources_view sections.now) files.old
         → SaysConstant (sources_view sections.now) here.now.line name at (Meanings.number_of (raw_view raw.now)) files.new result }
 {

@@ -4,7 +4,7 @@ ghost use Rattle.std.specs.Prelude.{◌≡◌, ◌≤◌, ◌<◌, ◌^◌, List
 ghost use Rattle.std.specs.HashMap.{get};
 ghost use Rattle.dwz_docs.specs.Units.{RawUnit, entries_in};
 ghost use Rattle.dwz_docs.specs.Faults.{info_fault};
-ghost use Rattle.dwz_meanings.specs.Meanings;
+ghost use Rattle.dwz_meanings.specs.Classes;
 ghost use Rattle.dwz_meanings.specs.Shared.{NamedList};
 ghost use Rattle.dwz_model.specs.declared.fault.ReadErr.TheVariants.{Refused};
 ghost use Rattle.dwz_model.specs.declared.fault.Reason.TheVariants.{BadList};
@@ -52,7 +52,7 @@ pub(crate) struct Lists {
 const LISTS: u8 = 7;
 
 // An operand of a list that an attribute of a unit names, and its entry.
-fn kept(units: &Units, file: u32, unit: u32, operand: &Operand, entry: u32) -> ListOperand
+fn list_operand(units: &Units, file: u32, unit: u32, operand: &Operand, entry: u32) -> ListOperand
     requires { entry < entries_in (units_of units.now) }
     ensures same { operand.now.at < 2 ^ 32 → result.at ≡ operand.now.at }
     ensures width { result.width ≡ operand.now.width }
@@ -93,7 +93,7 @@ fn name_operands(
 {
     for operand in operands {
         match entry_of(units, sections, here, operand) {
-            Some(entry) => out.push(kept(units, file, here.number, operand, entry))?,
+            Some(entry) => out.push(list_operand(units, file, here.number, operand, entry))?,
             None => return Err(bad_operand(LISTS, operand.at)),
         }
     }
@@ -217,7 +217,7 @@ fn add_list(
 #[inline(always)]
 #[tactic(auto, unfolding(dwz_docs::specs::Lists::has))]
 fn names_list(name: u16) -> bool
-    ensures { result ≡ Meanings.names_list name }
+    ensures { result ≡ Classes.names_list name }
 {
     name == 0x02
         || name == 0x19

@@ -5,7 +5,7 @@ ghost use Rattle.std.specs.List.{list_any};
 ghost use Rattle.dwz_docs.specs.Faults.{info_fault};
 ghost use Rattle.dwz_docs.specs.Units.{RawUnit, entries_in};
 ghost use Rattle.dwz_meanings.specs.Meanings;
-ghost use Rattle.dwz_meanings.specs.Meanings.{as_class};
+ghost use Rattle.dwz_meanings.specs.Meant.{as_class};
 ghost use Rattle.dwz_meanings.specs.NamedLists.{lists_as};
 ghost use Rattle.dwz_model.specs.declared.fault.ReadErr.TheVariants.{Refused};
 ghost use Rattle.dwz_model.specs.declared.fault.Reason.TheVariants.{UnsupportedForm};
@@ -33,7 +33,7 @@ use dwz_model::{Fault, Pair, ReadErr, Reason};
 use dwz_unit::{Units, Values, known_value};
 
 // No such form is read.
-fn unread(at: u64, form: u64) -> ReadErr
+fn unread_form(at: u64, form: u64) -> ReadErr
     ensures { result ≡ Refused (info_fault at (UnsupportedForm form)) }
 {
     ReadErr::Refused(Fault {
@@ -100,7 +100,7 @@ fn add_as(
         Class::Index => Ok(()),
         Class::CommonEntry => Err(bad_reference(at)),
         Class::CommonText => Err(bad_string(at)),
-        Class::Unread => Err(unread(at, pair.form)),
+        Class::Unread => Err(unread_form(at, pair.form)),
     }
 }
 

@@ -3,7 +3,7 @@
 ghost use Rattle.std.specs.Prelude.{◌≡◌, ℕ, ◌≤◌, List, slice_range};
 ghost use Rattle.dwz_docs.specs.Faults.{info_fault};
 ghost use Rattle.dwz_docs.specs.Units.{entries_in};
-ghost use Rattle.dwz_meanings.specs.Meanings.{entry_among};
+ghost use Rattle.dwz_meanings.specs.Meant.{entry_among};
 ghost use Rattle.dwz_model.specs.declared.fault.Reason.TheVariants.{BadReference};
 ghost use Rattle.dwz_model.specs.declared.fault.ReadErr.TheVariants.{Refused};
 ghost use Rattle.dwz_resolve.specs.Resolved.{NamesEntry, places};

@@ -18,7 +18,7 @@ use crate::operands::ListOperand;
 use crate::parts::Parts;
 use crate::ranges::check_ranges;
 use crate::sections::Sections;
-use crate::shared::unshared;
+use crate::shared::unshared_operands;
 use crate::state::State;
 use dwz_lines::FileTable;
 use dwz_model::ReadErr;
@@ -70,7 +70,7 @@ pub fn resolve(
     let mut parts = Parts::new(alloc)?;
     add_units(units, sections, &mut state, &mut parts)?;
     check_ranges(units, sections.aranges)?;
-    let operands = unshared(alloc, &state.lists)?;
+    let operands = unshared_operands(alloc, &state.lists)?;
     let files = state.files;
     Ok(Resolved {
         refs: state.refs,

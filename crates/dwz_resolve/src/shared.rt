@@ -210,7 +210,7 @@ fn in_order(alloc: Global, operands: &[ListOperand]) -> Result<Vec<ListOperand>,
 
 /// The operands of location lists in order of place, each once. Refused at the first that shares a byte with another, with a list
 /// whose own it isn't, or with a slot.
-pub(crate) fn unshared(alloc: Global, lists: &Lists) -> Result<Vec<ListOperand>, ReadErr>
+pub(crate) fn unshared_operands(alloc: Global, lists: &Lists) -> Result<Vec<ListOperand>, ReadErr>
     requires { AreWithin lists.now }
     ensures ok { (raw : List RawUnit) (file : ℕ) (named : List NamedList) → Shows raw file named lists.now → AreDistinct raw
         → IfOk result (λ rows. AreUnshared raw file named rows.items) }

@@ -7,11 +7,17 @@ use Rattle.dwz_docs.specs.Entries.{RawAttr}
 use Rattle.dwz_alike.specs.Alike.{any_attr}
 use Rattle.dwz_alike.specs.Spots.{Spot}
 use Rattle.dwz_meanings.specs.Documents.{Attr, Node, Value, attr_map, node_map, only}
-use Rattle.dwz_meanings.specs.Meanings.{Class, IfSo, IsFileBy, IsFileNumber, IsLocList, MeanAttrs, MeansAs, OfAddress, OfBlock, OfCommonEntry, OfCommonText, OfConstant, OfExpression, OfFlag, OfIndex}
-use Rattle.dwz_meanings.specs.Meanings.{OfInfoEntry, OfListIndex, OfOffset, OfSignature, OfText, OfTextBySlot, OfTextInLineStr, OfTextInStr, OfUnitEntry, Scope, Unread, class_of, constant_value}
-use Rattle.dwz_meanings.specs.Meanings.{names_file, names_list, node_meaning, number_of, offset_of, stmt_list, without_siblings}
+use Rattle.dwz_meanings.specs.Meanings.{IfSo, IsFileBy, IsFileNumber, IsLocList, MeanAttrs, MeansAs}
+use Rattle.dwz_meanings.specs.Classes.{OfAddress, OfBlock, OfCommonEntry, OfCommonText, OfConstant, OfExpression, OfFlag, OfIndex}
+use Rattle.dwz_meanings.specs.Classes.{Class}
+use Rattle.dwz_meanings.specs.Meanings.{Scope, constant_value}
+use Rattle.dwz_meanings.specs.Classes.{OfInfoEntry, OfListIndex, OfOffset, OfSignature, OfText, OfTextBySlot, OfTextInLineStr, OfTextInStr, OfUnitEntry, Unread}
+use Rattle.dwz_meanings.specs.Classes.{class_of}
+use Rattle.dwz_meanings.specs.Meanings.{number_of, offset_of, stmt_list, without_siblings}
+use Rattle.dwz_meanings.specs.Classes.{names_file, names_list}
+use Rattle.dwz_meanings.specs.Meant.{node_meaning}
 use Rattle.dwz_meanings.specs.Documents.{Sec}
-use Rattle.dwz_meanings.proofs.MeaningLemmas.{node_agrees}
+use Rattle.dwz_meanings.proofs.MeaningUnits.{node_agrees}
 use Rattle.dwz_moving.specs.Moves.{has_path}
 use Rattle.dwz_known.specs.Befores.{is_constant, is_pair_file}
 use Rattle.dwz_flat.specs.Rows.{RowsMean}

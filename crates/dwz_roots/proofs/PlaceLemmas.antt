@@ -12,7 +12,7 @@ use Rattle.dwz_docs.proofs.ListFacts.{got_below, got_in, got_map, same_got}
 use Rattle.dwz_meanings.specs.Documents.{Attr, Doc, attr_map, first_named, unit_map}
 use Rattle.dwz_meanings.specs.Files.{around_of}
 use Rattle.dwz_meanings.specs.Meanings.{Around, first_raw, scope_of, stmt_list}
-use Rattle.dwz_meanings.proofs.MeaningLemmas.{unit_agrees}
+use Rattle.dwz_meanings.proofs.MeaningUnits.{unit_agrees}
 use Rattle.dwz_alike.specs.Alike.{any_attr}
 use Rattle.dwz_alike.specs.Spots.{FileUnit, Spot, Top, in_file, tops_of, units_of}
 use Rattle.dwz_alike.proofs.TopOrder.{unit_file}

@@ -5,7 +5,7 @@ ghost use Rattle.std.specs.List.{list_any};
 ghost use Rattle.dwz_docs.specs.Units.{entries_in};
 ghost use Rattle.dwz_known.specs.Befores as Known;
 ghost use Rattle.dwz_known.specs.Befores.{is_pair_file};
-ghost use Rattle.dwz_meanings.specs.Meanings;
+ghost use Rattle.dwz_meanings.specs.Classes;
 ghost use Rattle.dwz_resolve.specs.Classes.{class_view};
 ghost use Rattle.dwz_roots.specs.Roots.{numbers_file};
 ghost use Rattle.dwz_unit.specs.Rows.{EntryRow, rows_of, units_of};
@@ -17,7 +17,7 @@ use dwz_unit::{Units, Values};
 // `DW_AT_decl_file` and `DW_AT_call_file`.
 #[inline(always)]
 fn names_file(name: u16) -> bool
-    ensures { result ≡ Meanings.names_file name }
+    ensures { result ≡ Classes.names_file name }
 {
     name == 0x3a || name == 0x58
 }

@@ -7,10 +7,11 @@ use mathlib.Core.Logic.{dite}
 use native.Mathlib.Decide.{ℕ_discrete, dec_le}
 use Rattle.dwz_nodes.specs.Graph.{Node, targets_at, IsClosed}
 use Rattle.dwz_nodes.specs.Looks.{LookEqual, IsLeastBelow}
-use Rattle.dwz_rounds.specs.Keys.{key, IsLevel, IsRound}
+use Rattle.dwz_keys.specs.Keys.{key}
+use Rattle.dwz_keys.specs.Among.{Among}
+use Rattle.dwz_rounds.specs.Rounds.{IsLevel, IsRound}
 use Rattle.dwz_rounds.specs.Pending.{IsPending}
 use Rattle.dwz_rounds.specs.Start.{IsLed, AreNumbered, AreMoved}
-use Rattle.dwz_rounds.specs.Turns.{Among}
 use Rattle.dwz_rounds.proofs.Levels.{look-less, class-look, look-class, look-key, round-level}
 
 module _ (g : List Node) (closed : IsClosed g) (k : ℕ) (classes next : List ℕ) (level : IsLevel g k classes) (round : IsRound g classes next) where

@@ -1,34 +1,16 @@
 -- Rows that are ordered by their keys are nodes that are grouped by their keys.
-use Rattle.std.proofs.Common.{◌≡◌, ℕ, ◌+◌, ◌<◌, All, Bool, Contains, IsPermutation, List, [], ◌∷◌, ◌++◌, length, get_or, sym, ap, subst, ◌∙◌, arith}
+use Rattle.std.proofs.Common.{◌≡◌, ℕ, ◌<◌, All, Bool, IsPermutation, List, length, get_or, sym, ap, subst, ◌∙◌, arith}
 use Rattle.std.specs.Prelude.{slice_index}
-use Rattle.std.proofs.Math.ListN.{get_or-append, get_or-map as map-get_or}
-use Rattle.std.proofs.Math.Seq.{get_or-append_seam}
-use mathlib.Core.Logic.{dite}
-use native.Mathlib.Decide.{ℕ_discrete}
+use Rattle.std.proofs.Math.ListN.{get_or-map as map-get_or}
 use Rattle.std.proofs.lemmas.List.{get_or_default, length-map}
 use Rattle.std.proofs.lemmas.List.Sorted.{All-permutation, Contains-permutation, IsPermutation-map, IsPermutation-sym}
-use Rattle.dwz_rounds.specs.Keys.{key_at, AreKeysOf}
-use Rattle.dwz_rounds.specs.declared.order.Keyed.{Keyed}
-use Rattle.dwz_rounds.specs.Order.{nodes_of, keys_of, AreGroups}
+use Rattle.dwz_keys.specs.Keys.{key_at, AreKeysOf}
+use Rattle.dwz_keys.specs.declared.order.Keyed.{Keyed}
+use Rattle.dwz_keys.specs.Order.{nodes_of, keys_of, AreGroups}
+use Rattle.dwz_keys.proofs.Among.{among-from, among-to}
+use Rattle.dwz_keys.proofs.Ordering.{no_row, row-key}
 use Rattle.dwz_rounds.specs.Pending.{AreSame}
 use Rattle.dwz_rounds.specs.Split.{IsGrouped}
-use Rattle.dwz_rounds.specs.Turns.{Among}
-use Rattle.dwz_rounds.proofs.Ordering.{no_row, row-key}
-
-pub among-from : (xs : List ℕ) (a : ℕ) → Contains xs a → Among xs a
-among-from xs a c = let l = c.1 in (c.0, l, sym (get_or_default xs c.0 a 0 l) ∙ c.2)
-
-pub among-to : (xs : List ℕ) (a : ℕ) → Among xs a → Contains xs a
-among-to xs a c = let l = c.1 in (c.0, l, get_or_default xs c.0 a 0 l ∙ c.2)
-
--- the key of one more node
-pub keys-more : (key : ℕ → List ℕ) (visit : List ℕ) (keys after : List (List ℕ)) (n : ℕ) → length keys ≡ n → after ≡ keys ++ key (slice_index visit n) ∷ []
-    → ((i : ℕ) → i < n → key_at keys i ≡ key (slice_index visit i)) → (i : ℕ) → i < n + 1 → key_at after i ≡ key (slice_index visit i)
-keys-more key visit keys after n len is each i l =
-    let new : List ℕ = key (slice_index visit n) in
-    ap (λ (k : List (List ℕ)). key_at k i) is ∙ dite (ℕ_discrete i n)
-    (λ e. ap (λ (k : ℕ). key_at (keys ++ new ∷ []) k) (e ∙ sym len) ∙ (get_or-append_seam keys new [] [] ∙ ap (λ (k : ℕ). key (slice_index visit k)) (sym e)))
-    (λ ne. get_or-append keys (new ∷ []) [] i (omega arith) ∙ each i (omega arith))
 
 module _ (key : ℕ → List ℕ) (numbers visit : List ℕ) (number_of : (a b : ℕ) → key a ≡ key b → slice_index numbers a ≡ slice_index numbers b)
     (keys : List (List ℕ)) (rows ordered : List Keyed) (nodes : List ℕ) (news : List Bool)

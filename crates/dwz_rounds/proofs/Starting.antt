@@ -9,10 +9,10 @@ use mathlib.Core.Logic.{dite}
 use native.Mathlib.Decide.{ℕ_discrete, dec_le}
 use Rattle.dwz_nodes.specs.Back.{AreBack, sources_at}
 use Rattle.dwz_nodes.specs.Graph.{Node, node, targets_at}
+use Rattle.dwz_keys.specs.Among.{Among}
 use Rattle.dwz_rounds.specs.declared.members.Range.{Range}
 use Rattle.dwz_rounds.specs.Members.{range_at, IsMember, AreMembers}
 use Rattle.dwz_rounds.specs.Start.{IsLed, AreNumbered, IsClassGraph, AreMoved}
-use Rattle.dwz_rounds.specs.Turns.{Among}
 use Rattle.dwz_rounds.proofs.Settling.{among-push_old, among-push_new, among-push_cases}
 
 pub numbered-none : (classes : List ℕ) → AreNumbered classes 0 0 []

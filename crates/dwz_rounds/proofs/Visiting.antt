@@ -3,11 +3,11 @@ use Rattle.std.proofs.Common.{◌≡◌, ℕ, ◌+◌, ◌<◌, ◌≤◌, ◌�
 use Rattle.std.specs.Prelude.{slice_index}
 use mathlib.Core.Logic.{dite}
 use native.Mathlib.Decide.{ℕ_discrete}
+use Rattle.dwz_keys.specs.Among.{Among}
 use Rattle.dwz_rounds.specs.Marked.{ArePut}
 use Rattle.dwz_rounds.specs.Members.{range_at, AreMembers}
 use Rattle.dwz_rounds.specs.declared.members.Range.{Range}
 use Rattle.dwz_rounds.specs.Pending.{AreOfClass, AreWithWholes}
-use Rattle.dwz_rounds.specs.Turns.{Among}
 use Rattle.dwz_rounds.proofs.Marking.{among-one, one-among}
 
 pub class-none : (numbers members : List ℕ) (class from : ℕ) (old : List ℕ) → AreOfClass numbers members class from from old old

@@ -4,14 +4,14 @@ ghost use Rattle.std.specs.Prelude.{slice_index, slice_set};
 ghost use Rattle.dwz_nodes.specs.Graph.{IsClosed};
 ghost use Rattle.dwz_nodes.specs.Looks.{IsLeastBelow, IsRefined};
 ghost use Rattle.dwz_nodes.specs.Uses.{AreUses};
-ghost use Rattle.dwz_rounds.specs.Keys.{IsLevel, IsRound};
+ghost use Rattle.dwz_rounds.specs.Rounds.{IsLevel, IsRound};
 ghost use Rattle.dwz_rounds.specs.Members.{AreMembers};
 ghost use Rattle.dwz_rounds.specs.Pending.{IsPending};
 ghost use Rattle.dwz_rounds.specs.Room.{IsRoom};
 
 use crate::members::Range;
 use crate::pass::{new_room, pass};
-use crate::start::{count_moved, largest_parts, members_of, moved, number_classes};
+use crate::start::{count_moved, largest_parts, members_of, moved_nodes, number_classes};
 use dwz_model::NoMemory;
 use dwz_nodes::{Nodes, Uses};
 use std::alloc::Global;
@@ -144,7 +144,7 @@ pub(crate) fn finish(
     let rows = members_of(alloc, numbers.as_slice(), named.count)?;
     let mut ranges = rows.ranges;
     let mut members = rows.members;
-    let mut pending = moved(alloc, classes, next, largest)?;
+    let mut pending = moved_nodes(alloc, classes, next, largest)?;
     let Some(uses) = nodes.uses(alloc)? else {
         return Ok(None);
     };

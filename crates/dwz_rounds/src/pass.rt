@@ -3,27 +3,25 @@ ghost use Rattle.std.specs.Prelude.{◌≡◌, ℕ, ◌+◌, ◌-◌, ◌*◌, �
 ghost use Rattle.std.specs.List.Sorted.{IsNonDecreasingBy};
 ghost use Rattle.dwz_nodes.specs.Graph.{IsClosed};
 ghost use Rattle.dwz_nodes.specs.Uses.{AreUses, uses_at};
+ghost use Rattle.dwz_keys.specs.Mentions.{part_key, sources_of, AreMentions};
 ghost use Rattle.dwz_rounds.specs.Marked.{AreMarked};
 ghost use Rattle.dwz_rounds.specs.Members.{AreMembers};
-ghost use Rattle.dwz_rounds.specs.Mentions.{part_key, sources_of, AreMentions};
 ghost use Rattle.dwz_rounds.specs.Pending.{AreSame, AreWithWholes, IsPending};
 ghost use Rattle.dwz_rounds.specs.Room.{HasMarks, IsRoom};
 ghost use Rattle.dwz_rounds.specs.Split.{IsGrouped};
 
-use crate::keys::{Keys, fill_parts};
 use crate::marked::clear;
 use crate::members::Range;
-use crate::mentions::{Mention, list_mentions};
-use crate::order::{Groups, groups_of, rows_of};
 use crate::split::{NO_PART, Part, find_parts, split};
 use crate::visit::{visit_sources, visit_wholes};
+use dwz_keys::{Groups, Keys, Mention, fill_parts, groups_of, list_mentions, rows_of};
 use dwz_model::NoMemory;
 use dwz_nodes::{Nodes, Uses};
 use std::alloc::Global;
 
 // The nodes of the list, those together that have one number and the same numbers at the same places. What `keys` held is
 // lost.
-fn grouped(
+fn group_nodes(
     alloc: Global,
     numbers: &[u32],
     mentions: &[Mention],
@@ -153,7 +151,7 @@ pub(crate) fn pass(
         pending.as_slice(),
         room,
     )?;
-    let groups = grouped(
+    let groups = group_nodes(
         alloc,
         numbers,
         room.mentions.as_slice(),

@@ -144,7 +144,7 @@ pub(crate) fn count_moved(classes: &[u32], next: &[u32], largest: &[u32]) -> usi
 }
 
 /// The nodes that aren't in the largest part of their class.
-pub(crate) fn moved(
+pub(crate) fn moved_nodes(
     alloc: Global,
     classes: &[u32],
     next: &[u32],

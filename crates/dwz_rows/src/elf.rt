@@ -114,7 +114,7 @@ pub(crate) fn file_of(alloc: Global, content: Content) -> Result<Vec<u8>, Fail> 
         }
         Content::Importing(sections, sup) => {
             let sup = bytes(alloc, sup)?;
-            written(alloc, sections, usize::MAX, Some(&sup))
+            write_file(alloc, sections, usize::MAX, Some(&sup))
         }
     }
 }
@@ -126,7 +126,7 @@ pub(crate) fn plain(alloc: Global, sections: &[Section]) -> Result<Vec<u8>, Fail
 
 /// The same, but for the units, of which the first so many bytes are there.
 pub(crate) fn plain_cut(alloc: Global, sections: &[Section], most: usize) -> Result<Vec<u8>, Fail> {
-    written(alloc, sections, most, None)
+    write_file(alloc, sections, most, None)
 }
 
 // What is written of the sections so far.
@@ -149,7 +149,7 @@ struct Header {
 }
 
 // The file of these sections and one with their names, and of what names a common file, if it is given.
-fn written(
+fn write_file(
     alloc: Global,
     sections: &[Section],
     most: usize,

@@ -12,7 +12,7 @@ use Rattle.dwz_alike.specs.Spots.{ASpace, ATop, Import, InChain, Nothing, Row, S
 use Rattle.dwz_moving.specs.IsPlan.{numbers, row}
 use Rattle.dwz_moving.specs.Plan.{PartialUnit, beside, chain_down, chains, import_of, imports, in_root, leading, part_row, same_names, top_row}
 use Rattle.dwz_moving.proofs.KeptLemmas.{are_imports}
-use Rattle.dwz_moving.proofs.RowParts.{leading_in, names_same, names_true, root_names}
+use Rattle.dwz_moving.proofs.PartRows.{leading_in, names_same, names_true, root_names}
 use Rattle.dwz_same.proofs.ApartTrees.{row_keys}
 use Rattle.dwz_seen.proofs.OnceLemmas.{none_append, none_map, rising_none}
 

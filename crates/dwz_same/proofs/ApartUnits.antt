@@ -18,7 +18,8 @@ use Rattle.dwz_same.specs.Held.{Kinded}
 use Rattle.dwz_same.specs.Units.{all_units, changes, common_units, file_units, kept_unit, kept_units, out_units, partial_root, partial_unit, partial_units, tree}
 use Rattle.dwz_same.proofs.HeldLemmas.{row_found}
 use Rattle.dwz_moving.proofs.PlanLemmas.{are_parts, home_true, one_place}
-use Rattle.dwz_moving.proofs.RowParts.{kept_is, part_is}
+use Rattle.dwz_moving.proofs.RowParts.{kept_is}
+use Rattle.dwz_moving.proofs.PartRows.{part_is}
 use Rattle.dwz_moving.proofs.UserLemmas.{move_stand, stay_fixed}
 use Rattle.dwz_same.specs.After.{AreOld, IsNamedBelow}
 use Rattle.dwz_same.proofs.ApartKept.{pinned_none, row_none, staying_none}

@@ -7,7 +7,8 @@ use Rattle.dwz_seen.specs.Lists.{Rising}
 use Rattle.dwz_seen.specs.Seen.{Closed, SameAlong, Seen, all_seen}
 use Rattle.dwz_seen.specs.Shown.{OnePlace, UnitsShown, units_keys}
 use Rattle.dwz_seen.proofs.Members.{each_of, in_map_from, nth_in}
-use Rattle.dwz_seen.proofs.ShownLemmas.{entries_named, entries_placed, entry_key, types_named, types_placed, units_named, units_placed}
+use Rattle.dwz_seen.proofs.ShownLemmas.{entries_placed, entry_key, types_placed}
+use Rattle.dwz_seen.proofs.ShownUnits.{entries_named, types_named, units_named, units_placed}
 use Rattle.dwz_alike.specs.Alike.{IsAlike, TopScope}
 use Rattle.dwz_alike.specs.Spots.{FileUnit, Spot, file_numbers, in_file, named, named_files, tops_among, units_of}
 use Rattle.dwz_moving.specs.Homes.{IsChoice, Rule, moves}

@@ -16,7 +16,7 @@ use Rattle.dwz_moving.specs.IsPlan.{Has, IsPart, OfSpace, OfTop}
 use Rattle.dwz_moving.specs.Moves.{Move, line_attrs, line_in, line_of, names_path, part_at, plan, root_in_part, root_of, row_in_part}
 use Rattle.dwz_moving.specs.Plan.{PartialUnit, image_by, part_row, partials, stand_in}
 use Rattle.dwz_moving.proofs.PlanLemmas.{are_parts, has_rep}
-use Rattle.dwz_moving.proofs.RowParts.{entry_text, part_is}
+use Rattle.dwz_moving.proofs.PartRows.{entry_text, part_is}
 use Rattle.dwz_moving.proofs.StandLemmas.{fair, stand_seen}
 use Rattle.dwz_moving.proofs.UserLemmas.{moves_self, rep_is, stands_same, used, used_by}
 use Rattle.dwz_same.specs.After.{AreOld}

@@ -11,7 +11,7 @@ use Rattle.dwz_alike.proofs.RowLemmas.{unit_row}
 use Rattle.dwz_alike.proofs.Tops.{unit_of}
 use Rattle.dwz_moving.specs.IsPlan.{OfTop}
 use Rattle.dwz_moving.specs.Plan.{PartialUnit, Pinned, beside, chain_down, chains, in_root, kept_row, leading, part_row, pinned_of, row_part, row_pinned, row_staying, same_names, top_row}
-use Rattle.dwz_moving.proofs.RowParts.{entry_text}
+use Rattle.dwz_moving.proofs.PartRows.{entry_text}
 use Rattle.dwz_same.proofs.OldRows.{kind_in, row_kinded, tops_somewhere}
 use Rattle.dwz_same.specs.Held.{Kinded}
 

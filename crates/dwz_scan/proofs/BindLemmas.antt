@@ -15,9 +15,16 @@ use Rattle.dwz_docs.proofs.AbbrevLemmas.{and_true}
 use Rattle.dwz_meanings.specs.declared.exprs.Operand.{Operand}
 use Rattle.dwz_meanings.specs.Documents.{Plain, Value, attr_map, only, ref}
 use Rattle.dwz_meanings.specs.Exprs.{Expression, expr_at}
-use Rattle.dwz_meanings.specs.Meanings.{Class, ClassRow, IfSo, IsExpression, IsFileBy, MeansAs, OfAddress, OfBlock, OfCommonEntry, OfCommonText, OfConstant, OfExpression, OfFlag, OfIndex, OfInfoEntry}
-use Rattle.dwz_meanings.specs.Meanings.{OfListIndex, OfOffset, OfSignature, OfText, OfTextBySlot, OfTextInLineStr, OfTextInStr, OfUnitEntry, Scope, Unread, class_in, class_of, attr_with, bytes_of}
-use Rattle.dwz_meanings.specs.Meanings.{class_rows, constant_value, content_at, expr_context, expr_value, meaning, names_file, number_of, stmt_list, target_of}
+use Rattle.dwz_meanings.specs.Meanings.{IfSo, IsExpression, IsFileBy, MeansAs}
+use Rattle.dwz_meanings.specs.Classes.{OfAddress, OfBlock, OfCommonEntry, OfCommonText, OfConstant, OfExpression, OfFlag, OfIndex, OfInfoEntry}
+use Rattle.dwz_meanings.specs.Classes.{Class, ClassRow}
+use Rattle.dwz_meanings.specs.Meanings.{Scope, bytes_of}
+use Rattle.dwz_meanings.specs.Classes.{OfListIndex, OfOffset, OfSignature, OfText, OfTextBySlot, OfTextInLineStr, OfTextInStr, OfUnitEntry, Unread}
+use Rattle.dwz_meanings.specs.Classes.{class_in, class_of}
+use Rattle.dwz_meanings.specs.Meant.{attr_with}
+use Rattle.dwz_meanings.specs.Meanings.{constant_value, content_at, expr_context, expr_value, number_of, stmt_list, target_of}
+use Rattle.dwz_meanings.specs.Classes.{class_rows, names_file}
+use Rattle.dwz_meanings.specs.Meant.{meaning}
 use Rattle.dwz_meanings.proofs.ExprLemmas.{expr_agrees}
 use Rattle.dwz_meanings.proofs.MeaningLemmas.{value_agrees}
 use Rattle.dwz_resolve.specs.Named.{refs_beside, value_refs}

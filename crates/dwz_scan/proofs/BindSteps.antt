@@ -13,7 +13,8 @@ use Rattle.dwz_flat.specs.Rows.{AreAttrsMeant, IsEntryMeant, node_refs}
 use Rattle.dwz_flat.proofs.TreeLemmas.{node_attrs}
 use Rattle.dwz_flat.proofs.StepLemmas.{entry, no_value, sibling, value}
 use Rattle.dwz_meanings.specs.Documents.{Attr, Node, Value, attr_map, node_map}
-use Rattle.dwz_meanings.specs.Meanings.{Scope, attr_with, meaning}
+use Rattle.dwz_meanings.specs.Meanings.{Scope}
+use Rattle.dwz_meanings.specs.Meant.{attr_with, meaning}
 use Rattle.dwz_resolve.specs.Named.{attrs_refs, value_refs}
 use Rattle.dwz_unit.specs.declared.rows.RawEntry.{RawEntry as RawEntryOfCode}
 use Rattle.dwz_unit.specs.Rows.{EntryRow, shown_entries}

@@ -12,7 +12,8 @@ use Rattle.dwz_docs.proofs.ListFacts.{drop_here}
 use Rattle.dwz_flat.specs.Rows.{AreAttrsMeant, IsEntryMeant, node_refs}
 use Rattle.dwz_flat.proofs.StepLemmas.{entry, sibling, value}
 use Rattle.dwz_meanings.specs.Documents.{Attr, Node, Value, attr_map, node_map}
-use Rattle.dwz_meanings.specs.Meanings.{Scope, attr_with, meaning}
+use Rattle.dwz_meanings.specs.Meanings.{Scope}
+use Rattle.dwz_meanings.specs.Meant.{attr_with, meaning}
 use Rattle.dwz_resolve.specs.Named.{attrs_refs, value_refs}
 use Rattle.dwz_spread.specs.Spreading.{IsMarked}
 use Rattle.dwz_unit.specs.Rows.{EntryRow}

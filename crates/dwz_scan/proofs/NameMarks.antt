@@ -11,9 +11,16 @@ use Rattle.dwz_docs.specs.Lists.{In}
 use Rattle.dwz_meanings.specs.declared.exprs.Operand.{Operand}
 use Rattle.dwz_meanings.specs.Documents.{Plain, Sec, Value, attr_map, only, ref}
 use Rattle.dwz_meanings.specs.Exprs.{parts_from}
-use Rattle.dwz_meanings.specs.Meanings.{Class, IfSo, IsExpression, IsFileBy, IsLocList, MeansAs, OfAddress, OfBlock, OfCommonEntry, OfCommonText, OfConstant, OfExpression, OfFlag, OfIndex}
-use Rattle.dwz_meanings.specs.Meanings.{OfInfoEntry, OfListIndex, OfOffset, OfSignature, OfText, OfTextBySlot, OfTextInLineStr, OfTextInStr, OfUnitEntry, Scope, Unread, attr_with, class_of}
-use Rattle.dwz_meanings.specs.Meanings.{constant_value, meaning, names_file, names_list, number_of, offset_of, stmt_list, target_of, targets}
+use Rattle.dwz_meanings.specs.Meanings.{IfSo, IsExpression, IsFileBy, IsLocList, MeansAs}
+use Rattle.dwz_meanings.specs.Classes.{OfAddress, OfBlock, OfCommonEntry, OfCommonText, OfConstant, OfExpression, OfFlag, OfIndex}
+use Rattle.dwz_meanings.specs.Classes.{Class}
+use Rattle.dwz_meanings.specs.Meanings.{Scope}
+use Rattle.dwz_meanings.specs.Classes.{OfInfoEntry, OfListIndex, OfOffset, OfSignature, OfText, OfTextBySlot, OfTextInLineStr, OfTextInStr, OfUnitEntry, Unread}
+use Rattle.dwz_meanings.specs.Classes.{class_of}
+use Rattle.dwz_meanings.specs.Meant.{attr_with}
+use Rattle.dwz_meanings.specs.Meanings.{constant_value, number_of, offset_of, stmt_list, target_of, targets}
+use Rattle.dwz_meanings.specs.Classes.{names_file, names_list}
+use Rattle.dwz_meanings.specs.Meant.{meaning}
 use Rattle.dwz_meanings.proofs.MeaningLemmas.{value_agrees}
 use Rattle.dwz_moving.specs.Plan.{pins, uleb_targets}
 use Rattle.dwz_resolve.specs.Named.{value_refs}

@@ -13,7 +13,9 @@ use Rattle.dwz_docs.specs.Values.{Raw, value_at}
 use Rattle.dwz_flat.specs.Rows.{AreAttrsMeant}
 use Rattle.dwz_flat.proofs.StepLemmas.{no_value, sibling, value}
 use Rattle.dwz_meanings.specs.Documents.{Attr, Value, attr_map}
-use Rattle.dwz_meanings.specs.Meanings.{Scope, attr_with, class_of, meaning}
+use Rattle.dwz_meanings.specs.Meanings.{Scope}
+use Rattle.dwz_meanings.specs.Classes.{class_of}
+use Rattle.dwz_meanings.specs.Meant.{attr_with, meaning}
 use Rattle.dwz_model.specs.declared.place.Pair.{Pair}
 use Rattle.dwz_resolve.specs.Named.{value_refs}
 use Rattle.dwz_resolve.proofs.ValueSteps.{next_read, no_pair}

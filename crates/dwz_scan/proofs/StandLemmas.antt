@@ -21,7 +21,8 @@ use Rattle.dwz_index.proofs.NameLemmas.{each_named, means_units, read_whole}
 use Rattle.dwz_index.proofs.TopLemmas.{found}
 use Rattle.dwz_meanings.specs.Documents.{Doc, DwUnit, Node}
 use Rattle.dwz_meanings.specs.Files.{Limits, around_of, file_meaning}
-use Rattle.dwz_meanings.specs.Meanings.{Scope, attrs_meaning, node_meaning, node_with, scope_of, without_siblings}
+use Rattle.dwz_meanings.specs.Meanings.{Scope, scope_of, without_siblings}
+use Rattle.dwz_meanings.specs.Meant.{attrs_meaning, node_meaning, node_with}
 use Rattle.dwz_resolve.specs.Resolved.{place_at}
 use Rattle.dwz_resolve.proofs.RowLemmas.{rows-length}
 use Rattle.dwz_same.proofs.OldNames.{tops_labelled}

@@ -8,7 +8,8 @@ use Rattle.dwz_alike.specs.Spots.{Spot, Top}
 use Rattle.dwz_flat.specs.Rows.{nodes}
 use Rattle.dwz_flat.proofs.TreeLemmas.{map_size, no_more, nodes_many, parts, same_size}
 use Rattle.dwz_meanings.specs.Documents.{Entries, Node, entries_map, node_map}
-use Rattle.dwz_meanings.specs.Meanings.{Scope, entries_meaning}
+use Rattle.dwz_meanings.specs.Meanings.{Scope}
+use Rattle.dwz_meanings.specs.Meant.{entries_meaning}
 use Rattle.dwz_moving.specs.Gain.{entries_weight, top_weight}
 use Rattle.dwz_unit.specs.Rows.{EntryRow, rows_below}
 use Rattle.dwz_unit.proofs.RowLemmas.{shown-length}

@@ -11,7 +11,8 @@ use Rattle.dwz_flat.specs.Rows.{AreRowsMeant, RowsMean, nodes}
 use Rattle.dwz_flat.proofs.PartLemmas.{part_meant, rows_unit}
 use Rattle.dwz_flat.proofs.TreeLemmas.{tree_means}
 use Rattle.dwz_meanings.specs.Documents.{DwUnit, Node, unit_map}
-use Rattle.dwz_meanings.specs.Meanings.{Around, scope_of, unit_meaning}
+use Rattle.dwz_meanings.specs.Meanings.{Around, scope_of}
+use Rattle.dwz_meanings.specs.Meant.{unit_meaning}
 use Rattle.dwz_meanings.proofs.UnitMeans.{root_is}
 use Rattle.dwz_unit.specs.declared.rows.RawUnit.{RawUnit as UnitOfCode}
 use Rattle.dwz_unit.specs.Rows.{EntryRow, rows_from, rows_in, rows_of, shown_from, shown_units, unit_shown}

@@ -13,9 +13,15 @@ use Rattle.dwz_docs.specs.Values.{Bytes, HasSpelling, Number, Raw, SpellsShape, 
 use Rattle.dwz_meanings.specs.declared.exprs.Operand.{Operand}
 use Rattle.dwz_meanings.specs.Documents.{Addr, Block, Expr, File, Flag, Index, Loc, Num, Plain, Ref, Sec, Sig, Text, Value, only, ref}
 use Rattle.dwz_meanings.specs.Exprs.{Expression, ExprContext, SpellsExpr, parts_from, parts_of}
-use Rattle.dwz_meanings.specs.Meanings.{Class, MeansAs, MeansValue, IfSo, OfAddress, OfBlock, OfCommonEntry, OfCommonText, OfConstant, OfExpression, OfFlag, OfIndex, OfInfoEntry, OfListIndex}
-use Rattle.dwz_meanings.specs.Meanings.{OfOffset, OfSignature, OfText, OfTextBySlot, OfTextInLineStr, OfTextInStr, OfUnitEntry, Scope, Unread, bytes_of, class_in, class_of, class_rows, expr_context}
-use Rattle.dwz_meanings.specs.Meanings.{meaning, constant_value, content_at, kept_width, names_file, names_list, number_of, offset_of, stmt_list, IsExpression, IsFileBy, IsLocList}
+use Rattle.dwz_meanings.specs.Meanings.{MeansAs, MeansValue, IfSo}
+use Rattle.dwz_meanings.specs.Classes.{OfAddress, OfBlock, OfCommonEntry, OfCommonText, OfConstant, OfExpression, OfFlag, OfIndex, OfInfoEntry, OfListIndex}
+use Rattle.dwz_meanings.specs.Classes.{Class}
+use Rattle.dwz_meanings.specs.Meanings.{Scope, bytes_of, expr_context}
+use Rattle.dwz_meanings.specs.Classes.{OfOffset, OfSignature, OfText, OfTextBySlot, OfTextInLineStr, OfTextInStr, OfUnitEntry, Unread}
+use Rattle.dwz_meanings.specs.Classes.{class_in, class_of, class_rows}
+use Rattle.dwz_meanings.specs.Meanings.{constant_value, content_at, number_of, offset_of, stmt_list, IsExpression, IsFileBy, IsLocList}
+use Rattle.dwz_meanings.specs.Classes.{kept_width, names_file, names_list}
+use Rattle.dwz_meanings.specs.Meant.{meaning}
 use Rattle.dwz_meanings.specs.Patching.{filled, number_bytes}
 use Rattle.dwz_meanings.proofs.ClassLemmas.{row_checked}
 use Rattle.dwz_meanings.proofs.CutLemmas.{le_len, number_len}

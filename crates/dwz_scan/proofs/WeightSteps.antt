@@ -9,7 +9,8 @@ use Rattle.dwz_docs.proofs.ListFacts.{drop_here}
 use Rattle.dwz_flat.specs.Rows.{AreAttrsMeant, AreRowsMeant, IsEntryMeant, node_refs}
 use Rattle.dwz_flat.proofs.StepLemmas.{entry, no_row, no_value, row, sibling, value}
 use Rattle.dwz_meanings.specs.Documents.{Attr, Node, Value, attr_map, node_map}
-use Rattle.dwz_meanings.specs.Meanings.{Scope, meaning, number_of}
+use Rattle.dwz_meanings.specs.Meanings.{Scope, number_of}
+use Rattle.dwz_meanings.specs.Meant.{meaning}
 use Rattle.dwz_moving.specs.Gain.{attrs_weight, value_weight}
 use Rattle.dwz_resolve.specs.Named.{value_refs}
 use Rattle.dwz_unit.specs.Rows.{EntryRow}

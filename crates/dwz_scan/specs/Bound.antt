@@ -7,7 +7,8 @@ use Rattle.dwz_flat.specs.Rows.{node_refs}
 use Rattle.dwz_groups.specs.declared.groups.Pair.{Pair}
 use Rattle.dwz_index.specs.Names.{top_in}
 use Rattle.dwz_meanings.specs.Documents.{Node}
-use Rattle.dwz_meanings.specs.Meanings.{Class, OfExpression}
+use Rattle.dwz_meanings.specs.Classes.{OfExpression}
+use Rattle.dwz_meanings.specs.Classes.{Class}
 use Rattle.dwz_scan.specs.Values.{is_entry}
 use Rattle.dwz_scan.specs.declared.bind.TopRange.{TopRange}
 

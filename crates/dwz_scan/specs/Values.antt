@@ -1,6 +1,7 @@
 -- Which values are entries.
 use Rattle.std.specs.Prelude.{Bool, true, false}
-use Rattle.dwz_meanings.specs.Meanings.{Class, OfCommonEntry, OfInfoEntry, OfUnitEntry}
+use Rattle.dwz_meanings.specs.Classes.{OfCommonEntry, OfInfoEntry, OfUnitEntry}
+use Rattle.dwz_meanings.specs.Classes.{Class}
 
 -- a value of the class is an entry
 abbrev pub is_entry : Class → Bool

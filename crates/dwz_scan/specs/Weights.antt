@@ -2,8 +2,9 @@
 use Rattle.std.specs.Prelude.{ℕ, ◌+◌, Bool, true, false, List, ◌∷◌, Option, Some, None, min, nat_lt, if◌then◌else◌}
 use Rattle.dwz_alike.specs.Spots.{Spot}
 use Rattle.dwz_meanings.specs.Documents.{Node, node_map}
-use Rattle.dwz_meanings.specs.Meanings.{Class, OfCommonEntry, OfCommonText, OfConstant, OfInfoEntry, OfText, OfTextBySlot, OfTextInLineStr}
-use Rattle.dwz_meanings.specs.Meanings.{OfTextInStr, OfUnitEntry}
+use Rattle.dwz_meanings.specs.Classes.{OfCommonEntry, OfCommonText, OfConstant, OfInfoEntry, OfText, OfTextBySlot, OfTextInLineStr}
+use Rattle.dwz_meanings.specs.Classes.{Class}
+use Rattle.dwz_meanings.specs.Classes.{OfTextInStr, OfUnitEntry}
 use Rattle.dwz_moving.specs.Gain.{attrs_weight}
 use Rattle.dwz_unit.specs.Rows.{EntryRow}
 

@@ -8,8 +8,9 @@ ghost use Rattle.dwz_docs.specs.Lists.{has};
 ghost use Rattle.dwz_docs.specs.Units.{entries_in};
 ghost use Rattle.dwz_flat.specs.Rows.{IsEntryMeant, node_refs};
 ghost use Rattle.dwz_meanings.specs.Documents.{Node, Value, attr_map, node_map};
-ghost use Rattle.dwz_meanings.specs.Meanings;
-ghost use Rattle.dwz_meanings.specs.Meanings.{Scope, attr_with, meaning};
+ghost use Rattle.dwz_meanings.specs.Classes;
+ghost use Rattle.dwz_meanings.specs.Meanings.{Scope};
+ghost use Rattle.dwz_meanings.specs.Meant.{attr_with, meaning};
 ghost use Rattle.dwz_resolve.specs.Classes.{class_view};
 ghost use Rattle.dwz_resolve.specs.Named.{value_refs};
 ghost use Rattle.dwz_resolve.specs.Resolved.{stored};
@@ -153,7 +154,7 @@ pub(crate) fn entry_binds(
 #[inline(always)]
 fn count_of(form: u64) -> usize
     ensures few { result ≤ 1 }
-    ensures count { result ≡ Bound.count_of (Meanings.class_of form) }
+    ensures count { result ≡ Bound.count_of (Classes.class_of form) }
 {
     if is_entry(class_of(form)) { 1 } else { 0 }
 }

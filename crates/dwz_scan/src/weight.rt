@@ -7,8 +7,9 @@ ghost use Rattle.dwz_docs.specs.Values.{HasSpelling};
 ghost use Rattle.dwz_flat.specs.Rows.{AreRowsMeant, IsEntryMeant};
 ghost use Rattle.dwz_forms.specs.RawValues.{raw_view};
 ghost use Rattle.dwz_meanings.specs.Documents.{Node, Value, node_map};
-ghost use Rattle.dwz_meanings.specs.Meanings;
-ghost use Rattle.dwz_meanings.specs.Meanings.{Scope, meaning, number_of};
+ghost use Rattle.dwz_meanings.specs.Classes;
+ghost use Rattle.dwz_meanings.specs.Meanings.{Scope, number_of};
+ghost use Rattle.dwz_meanings.specs.Meant.{meaning};
 ghost use Rattle.dwz_moving.specs.Gain.{value_weight};
 ghost use Rattle.dwz_resolve.specs.Resolved.{stored};
 ghost use Rattle.dwz_resolve.specs.Classes.{class_view};
@@ -35,7 +36,7 @@ const HEAVY: u64 = 64;
 
 // One weight and another, counted up to 64.
 #[inline(always)]
-pub(crate) fn added(weight: u64, more: u64) -> u64
+pub(crate) fn add_weights(weight: u64, more: u64) -> u64
     ensures { result ≡ capped (weight + more) }
 {
     weight.saturating_add(more).min(HEAVY)
@@ -43,7 +44,7 @@ pub(crate) fn added(weight: u64, more: u64) -> u64
 
 #[inline(always)]
 fn names_file(name: u16) -> bool
-    ensures { result ≡ Meanings.names_file name }
+    ensures { result ≡ Classes.names_file name }
 {
     name == DECL_FILE || name == CALL_FILE
 }
@@ -110,7 +111,7 @@ pub(crate) fn weight_of_entry(units: &Units, i: u32) -> u64
     for pair in pairs {
         let raw = known_value(&mut cursor, pair);
         if pair.name != SIBLING {
-            weight = added(weight, weight_of_value(pair, &raw));
+            weight = add_weights(weight, weight_of_value(pair, &raw));
         }
     }
     weight
@@ -128,7 +129,7 @@ pub(crate) fn weight_of_entries(units: &Units, first: u32, end: u32) -> u64
         if weight == HEAVY {
             return weight;
         }
-        weight = added(weight, weight_of_entry(units, i));
+        weight = add_weights(weight, weight_of_entry(units, i));
     }
     weight
 }

@@ -7,7 +7,7 @@ ghost use Rattle.dwz_meanings.specs.Ranges.{sets_at};
 ghost use Rattle.dwz_aranges.specs.Views.{any_unit, set_views};
 ghost use Rattle.dwz_sections.specs.Ranges.{AreMoved, beside};
 
-use dwz_aranges::{Set, Sets, patched, read};
+use dwz_aranges::{Set, Sets, patch_sets, read};
 use dwz_model::{NoMemory, Numbers, ReadErr};
 use std::alloc::{AllocError, Global};
 
@@ -68,5 +68,5 @@ pub fn ranges(
 {
     let sets = sets_in(alloc, section)?;
     let numbers = places_of(alloc, sets.as_slice(), starts, places)?;
-    patched(alloc, section, &Numbers::new(numbers))
+    patch_sets(alloc, section, &Numbers::new(numbers))
 }

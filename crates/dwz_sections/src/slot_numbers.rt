@@ -24,10 +24,10 @@ fn front_number(rest: &[u8]) -> u32
 
 // The new number of a slot that has an old one.
 #[inline(always)]
-fn moved(pruned: &Pruned, number: u32) -> u32
+fn new_number(pruned: &Pruned, number: u32) -> u32
     ensures { result ≡ moved_or_same pruned.now number }
 {
-    pruned.moved(number).unwrap_or(number)
+    pruned.new_place(number).unwrap_or(number)
 }
 
 /// `.debug_str_offsets`, whose slots are at these places, for texts that were pruned: a slot whose number is one of the uses has the new
@@ -44,7 +44,7 @@ pub fn offsets(
     let mut out = section.to_vec(alloc)?;
     for place in places.as_slice() {
         let at = *place as usize;
-        let number = moved(pruned, front_number(&section[at..]));
+        let number = new_number(pruned, front_number(&section[at..]));
         put_bytes(&mut out, at, SLOT, number as u64);
     }
     Ok(out)

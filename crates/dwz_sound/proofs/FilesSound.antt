@@ -29,7 +29,7 @@ use Rattle.dwz_meanings.specs.Documents.{Attr, Doc, DwUnit, Entries, Node}
 use Rattle.dwz_meanings.specs.Files.{sources_of}
 use Rattle.dwz_meanings.specs.Meanings.{Sources}
 use Rattle.dwz_meanings.specs.Shared.{NoneShared, operands_in_lists}
-use Rattle.dwz_moving.proofs.RowParts.{part_is as part_row_is}
+use Rattle.dwz_moving.proofs.PartRows.{part_is as part_row_is}
 use Rattle.dwz_moving.specs.Homes.{Common, IsChoice, Rule}
 use Rattle.dwz_moving.specs.IsPlan.{Has, OfTop}
 use Rattle.dwz_same.proofs.FileLemmas.{files_same, replaced}

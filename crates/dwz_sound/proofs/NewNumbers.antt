@@ -6,7 +6,8 @@ use Rattle.dwz_docs.specs.Pruning.{is_kept, new_number}
 use Rattle.dwz_docs.proofs.PruneLemmas.{length_kept}
 use Rattle.dwz_docs.specs.Trees.{End, Entry}
 use Rattle.dwz_meanings.specs.Documents.{Attr, DwUnit, Entries}
-use Rattle.dwz_meanings.specs.Meanings.{Class, OfTextInStr, Unread}
+use Rattle.dwz_meanings.specs.Classes.{OfTextInStr, Unread}
+use Rattle.dwz_meanings.specs.Classes.{Class}
 use Rattle.dwz_docs.specs.Lists.{Each}
 use Rattle.dwz_writing.specs.Placing.{with_form}
 use Rattle.dwz_writing.specs.Pruned.{renumbered, renumbered_attr, renumbered_unit, renumbered_units}

@@ -4,8 +4,9 @@ use Rattle.dwz_docs.specs.Units.{RawUnit, entries_in}
 use Rattle.dwz_docs.proofs.ListFacts.{got_below, got_map}
 use Rattle.dwz_meanings.specs.Documents.{Attr, Doc, Node, first_named, node_map}
 use Rattle.dwz_meanings.specs.Files.{around_of}
-use Rattle.dwz_meanings.specs.Meanings.{Scope, Sources, alone, node_meaning}
-use Rattle.dwz_meanings.proofs.MeaningLemmas.{node_agrees}
+use Rattle.dwz_meanings.specs.Meanings.{Scope, Sources, alone}
+use Rattle.dwz_meanings.specs.Meant.{node_meaning}
+use Rattle.dwz_meanings.proofs.MeaningUnits.{node_agrees}
 use Rattle.dwz_seen.specs.Spaces.{space_text}
 use Rattle.dwz_seen.proofs.SpaceLemmas.{text_map}
 use Rattle.dwz_alike.specs.Spots.{Spot, name_by, units_of}

@@ -8,7 +8,8 @@ ghost use Rattle.dwz_alike.specs.Spots.{Spot, same_spot, units_of};
 ghost use Rattle.dwz_graph.specs.Files.{docs_of};
 ghost use Rattle.dwz_indexes.specs.Indexed.{AreIndexes};
 ghost use Rattle.dwz_meanings.specs.Documents.{DwUnit, unit_map};
-ghost use Rattle.dwz_meanings.specs.Meanings.{Around, units_meaning};
+ghost use Rattle.dwz_meanings.specs.Meanings.{Around};
+ghost use Rattle.dwz_meanings.specs.Meant.{units_meaning};
 ghost use Rattle.dwz_moving.specs.Plan.{pinned_in};
 ghost use Rattle.dwz_order.specs.Lists.{all_spaces};
 ghost use Rattle.dwz_scan.specs.Known.{KnowsRefs, in_unit};
@@ -163,7 +164,7 @@ fn put_unset(flags: &mut Vec<bool>, count: usize) -> Result<(), NoMemory>
 }
 
 // A flag for each space of all files, which isn't set.
-fn unset(alloc: Global, indexes: &[Index]) -> Result<Vec<bool>, NoMemory>
+fn unset_flags(alloc: Global, indexes: &[Index]) -> Result<Vec<bool>, NoMemory>
     ensures { IfOk result (λ flags. flags.items ≡ replicate (length (all_spaces indexes.now)) false) }
 {
     let mut flags = Vec::new(alloc);
@@ -179,7 +180,7 @@ pub fn pinned_spaces(alloc: Global, graph: &Graph, indexes: &[Index]) -> Result<
     requires { AreIndexes (docs_of graph.now) indexes.now }
     ensures { IfOk result (λ flags. ArePinned (units_of (docs_of graph.now)) flags.items) }
 {
-    let flags = unset(alloc, indexes)?;
+    let flags = unset_flags(alloc, indexes)?;
     if flags.is_empty() {
         return Ok(flags);
     }

@@ -9,7 +9,7 @@ use dwz_model::NoMemory;
 use std::alloc::Global;
 
 // The numbers of what is marked.
-fn marked(alloc: Global, marks: &[bool]) -> Result<Vec<u32>, NoMemory>
+fn marked_numbers(alloc: Global, marks: &[bool]) -> Result<Vec<u32>, NoMemory>
     requires { length marks.now < 2 ^ 32 }
     ensures { IfOk result (λ work. (n : ℕ) → In n work.items ↔ IsMarked marks.now n) }
 {
@@ -44,7 +44,7 @@ pub fn spread(alloc: Global, sources: &Groups, seeds: &[bool]) -> Result<Vec<boo
     ensures { IfOk result (λ marks. IsSpread sources.now seeds.now marks.items) }
 {
     let mut marks = Vec::from_slice(alloc, seeds)?;
-    let mut work = marked(alloc, seeds)?;
+    let mut work = marked_numbers(alloc, seeds)?;
     'work: while let Some(n) = work.pop() {
         mark(marks.as_mut_slice(), &mut work, sources.get(n as usize))?;
     }

@@ -13,7 +13,7 @@ use dwz_model::NoMemory;
 use std::alloc::Global;
 
 // The uses in ascending order, each once.
-fn sorted(alloc: Global, uses: &[u32]) -> Result<Vec<u32>, NoMemory>
+fn sort_uses(alloc: Global, uses: &[u32]) -> Result<Vec<u32>, NoMemory>
     ensures rises { IfOk result (λ s. IsStrictlyIncreasing s.items) }
     ensures keeps { IfOk result (λ s. (used : ℕ) → Contains uses.now used → Contains s.items used) }
     ensures adds_none { IfOk result (λ s. (used : ℕ) → Contains s.items used → Contains uses.now used) }
@@ -72,6 +72,6 @@ pub fn prune(alloc: Global, section: &[u8], uses: &[u32]) -> Result<Pruned, NoMe
     requires { All (λ used. IsSome (text_at section.now used)) uses.now }
     ensures { IfOk result (IsPruned section.now uses.now) }
 {
-    let sorted = sorted(alloc, uses)?;
+    let sorted = sort_uses(alloc, uses)?;
     prune_sorted(alloc, section, sorted)
 }

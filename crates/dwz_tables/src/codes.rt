@@ -15,7 +15,7 @@ const STEP: u64 = 0x9e37_79b9_7f4a_7c15;
 
 // A hash with one word more.
 #[inline(always)]
-fn mixed(hash: u64, word: u64) -> u64
+fn mix(hash: u64, word: u64) -> u64
     ensures { result ≡ Keys.mixed hash word }
 {
     (hash ^ word).wrapping_mul(STEP)
@@ -32,7 +32,7 @@ fn put_pair(key: &mut Vec<u64>, hash: u64, pair: &Pair) -> Result<u64, NoMemory>
     key.push(name)?;
     key.push(form)?;
     key.push(constant)?;
-    Ok(mixed(mixed(mixed(hash, name), form), constant))
+    Ok(mix(mix(mix(hash, name), form), constant))
 }
 
 // Makes the key of a shape.
@@ -46,7 +46,7 @@ fn put_key(key: &mut Vec<u64>, tag: u16, children: bool, pairs: &[Pair]) -> Resu
     key.push(0)?;
     key.push(first)?;
     key.push(second)?;
-    let mut hash = mixed(mixed(0, first), second);
+    let mut hash = mix(mix(0, first), second);
     for pair in pairs {
         hash = put_pair(key, hash, pair)?;
     }

@@ -37,7 +37,7 @@ fn name_of(code: u8) -> &'static [u8] {
 }
 
 /// The bytes that these pieces spell.
-pub(crate) fn decoded(alloc: Global, pieces: &[&str]) -> Result<Vec<u8>, Fail> {
+pub(crate) fn decode(alloc: Global, pieces: &[&str]) -> Result<Vec<u8>, Fail> {
     let mut bytes = Vec::new(alloc);
     for piece in pieces {
         bytes.extend_from_slice(&hex::decode(alloc, *piece)?)?;
@@ -54,14 +54,14 @@ pub(crate) fn plain(alloc: Global, sections: &[Section]) -> Result<Vec<u8>, Fail
 pub(crate) fn file_of(alloc: Global, kind: Kind, sections: &[Section]) -> Result<Vec<u8>, Fail> {
     let mut contents = Vec::new(alloc);
     for section in sections {
-        contents.push((section.code, decoded(alloc, section.pieces)?))?;
+        contents.push((section.code, decode(alloc, section.pieces)?))?;
     }
     let file = match kind {
-        Kind::Alone => written(alloc, &contents, false, None)?,
-        Kind::Common => written(alloc, &contents, true, None)?,
+        Kind::Alone => write_file(alloc, &contents, false, None)?,
+        Kind::Common => write_file(alloc, &contents, true, None)?,
         Kind::Importing(sup) => {
-            let sup = decoded(alloc, sup)?;
-            written(alloc, &contents, false, Some(&sup))?
+            let sup = decode(alloc, sup)?;
+            write_file(alloc, &contents, false, Some(&sup))?
         }
     };
     Ok(file)
@@ -69,7 +69,7 @@ pub(crate) fn file_of(alloc: Global, kind: Kind, sections: &[Section]) -> Result
 
 /// The file by itself of sections with these codes and bytes.
 pub(crate) fn plain_of(alloc: Global, sections: &[(u8, Vec<u8>)]) -> Result<Vec<u8>, AllocError> {
-    written(alloc, sections, false, None)
+    write_file(alloc, sections, false, None)
 }
 
 // What the header of a section says.
@@ -91,7 +91,7 @@ const BYTES: u32 = 1;
 const NAMES: u32 = 3;
 
 // The file with these sections, whose texts a linker may merge or not, and with what names a common file, if it is given.
-fn written(
+fn write_file(
     alloc: Global,
     sections: &[(u8, Vec<u8>)],
     merges: bool,

@@ -1,7 +1,7 @@
 //! Files that are cut off or nested too deep, and the first fault of each.
 
 use crate::elf::plain_of;
-use crate::outside::{ends, holding, holds, screen};
+use crate::outside::{ends, files_with, holds, screen};
 use dwz_run::Status;
 use std::alloc::{AllocError, Global};
 use std::process::Abort;
@@ -50,7 +50,7 @@ fn stays<R: Threads + Sync + Abort>(
     status: Status,
     text: &[u8],
 ) -> Result<bool, Fail> {
-    let mut files = holding(alloc, file)?;
+    let mut files = files_with(alloc, file)?;
     let mut console = screen(alloc)?;
     let words: [&[u8]; 1] = [b"a"];
     let other = ends(rt, alloc, &words, &mut files, &mut console)?;

@@ -4,7 +4,7 @@ use crate::case::{After, Case};
 use crate::elf::plain;
 use crate::forms::FORMS;
 use crate::moving::MOVING;
-use crate::outside::{ends, holding, holds, screen};
+use crate::outside::{ends, files_with, holds, screen};
 use crate::program::PROGRAM;
 use crate::staying::STAYING;
 use dwz_outside::MemFiles;
@@ -50,7 +50,7 @@ fn run_all<R: Threads + Sync + Abort>(
 ) -> Result<(), Fail> {
     for case in cases {
         let old = plain(alloc, case.old)?;
-        let mut files = holding(alloc, &old)?;
+        let mut files = files_with(alloc, &old)?;
         let mut console = screen(alloc)?;
         let elsewhere: [&[u8]; 5] = [b"-j", workers, b"-o", b"out", b"a"];
         let in_place: [&[u8]; 3] = [b"-j", workers, b"a"];

@@ -8,7 +8,7 @@ use std::test::Fail;
 use std::thread::Threads;
 
 /// Files that hold this as `a`, with ample room.
-pub(crate) fn holding(alloc: Global, file: &[u8]) -> Result<MemFiles, Fail> {
+pub(crate) fn files_with(alloc: Global, file: &[u8]) -> Result<MemFiles, Fail> {
     let mut files = MemFiles::new(alloc)?;
     files.add(b"a", file)?;
     files.reserve(8, 1_000_000)?;

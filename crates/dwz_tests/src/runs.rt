@@ -1,8 +1,8 @@
 //! Runs over several files, with other words, and where calls of the outside fail.
 
-use crate::elf::{Section, decoded, plain};
+use crate::elf::{Section, decode, plain};
 use crate::loaded::{LOADED, NEW_LOADED};
-use crate::outside::{ends, holding, holds, screen};
+use crate::outside::{ends, files_with, holds, screen};
 use dwz_outside::MemFiles;
 use dwz_run::Status;
 use std::alloc::Global;
@@ -103,13 +103,13 @@ fn each_file_is_by_itself(rt: HostRuntime) -> Result<(), Fail> {
 #[test]
 fn loaded_bytes_stay_where_they_are(rt: HostRuntime) -> Result<(), Fail> {
     let alloc = rt.alloc();
-    let mut files = holding(alloc, &decoded(alloc, LOADED)?)?;
+    let mut files = files_with(alloc, &decode(alloc, LOADED)?)?;
     let mut console = screen(alloc)?;
     let words: [&[u8]; 1] = [b"a"];
     let status = ends(&rt, alloc, &words, &mut files, &mut console)?;
     assert_eq!(rt; status, Status::Done);
     assert_eq!(rt; console.text(), b"a: 552 -> 560 bytes\n".as_slice());
-    assert!(rt; holds(&files, b"a", &decoded(alloc, NEW_LOADED)?));
+    assert!(rt; holds(&files, b"a", &decode(alloc, NEW_LOADED)?));
     Ok(())
 }
 
@@ -117,11 +117,11 @@ fn loaded_bytes_stay_where_they_are(rt: HostRuntime) -> Result<(), Fail> {
 fn a_section_inside_loaded_bytes_is_refused(rt: HostRuntime) -> Result<(), Fail> {
     let alloc = rt.alloc();
     // `.text` has one byte more: its size stands in the second section header.
-    let mut old = decoded(alloc, LOADED)?;
+    let mut old = decode(alloc, LOADED)?;
     assert_eq!(rt; old.len(), 552);
     assert_eq!(rt; old[328], 16);
     old[328] = 17;
-    let mut files = holding(alloc, &old)?;
+    let mut files = files_with(alloc, &old)?;
     let mut console = screen(alloc)?;
     let words: [&[u8]; 1] = [b"a"];
     let status = ends(&rt, alloc, &words, &mut files, &mut console)?;

@@ -3,7 +3,8 @@ use Rattle.std.proofs.Common.{◌≡◌, ℕ, Bool, true, false, List, [], Optio
 use Rattle.std.proofs.lemmas.Bool.{false≢true}
 use Rattle.dwz_bytes.specs.Spelling.{reach}
 use Rattle.dwz_meanings.specs.Documents.{Attr, Compile, Kind, OfType, Partial}
-use Rattle.dwz_meanings.specs.Meanings.{Class, OfTextBySlot, OfTextInStr, class_of, names_file}
+use Rattle.dwz_meanings.specs.Classes.{OfTextBySlot, OfTextInStr}
+use Rattle.dwz_meanings.specs.Classes.{Class, class_of, names_file}
 use Rattle.dwz_model.specs.declared.place.Pair.{Pair}
 use Rattle.dwz_seen.specs.Seen.{IsPartial}
 use Rattle.dwz_alike.specs.Spots.{Spot}

@@ -9,7 +9,8 @@ use Rattle.dwz_docs.specs.Units.{RawUnit}
 use Rattle.dwz_docs.proofs.ListFacts.{got_below, got_map, got_there, same_got}
 use Rattle.dwz_meanings.specs.Documents.{Attr, DwUnit, Node, Text, node_map, only}
 use Rattle.dwz_meanings.specs.Files.{around_of, sources_of}
-use Rattle.dwz_meanings.specs.Meanings.{Around, alone, class_of, scope_of}
+use Rattle.dwz_meanings.specs.Meanings.{Around, alone, scope_of}
+use Rattle.dwz_meanings.specs.Classes.{class_of}
 use Rattle.dwz_seen.specs.Seen.{IsPartial}
 use Rattle.dwz_seen.specs.Spaces.{space_text}
 use Rattle.dwz_alike.specs.Spots.{Spot, name_by, name_of}

@@ -2,8 +2,11 @@
 use Rattle.std.proofs.Common.{◌≡◌, ℕ, Bool, true, false, List, [], ◌∷◌, Option, Some, None, Ok, ◌==◌, cond, refl, sym, ap, ◌∙◌, eqb-true}
 use Rattle.dwz_docs.specs.Entries.{RawAttr, RawEntry}
 use Rattle.dwz_meanings.specs.Documents.{Attr, Node, Value, first_named}
-use Rattle.dwz_meanings.specs.Meanings.{Class, MeanAttrs, MeansAs, Scope, Unread, class_of, first_raw, node_meaning, number_of, without_siblings}
-use Rattle.dwz_meanings.proofs.MeaningLemmas.{node_agrees}
+use Rattle.dwz_meanings.specs.Meanings.{MeanAttrs, MeansAs, Scope, first_raw, number_of, without_siblings}
+use Rattle.dwz_meanings.specs.Classes.{Unread}
+use Rattle.dwz_meanings.specs.Classes.{Class, class_of}
+use Rattle.dwz_meanings.specs.Meant.{node_meaning}
+use Rattle.dwz_meanings.proofs.MeaningUnits.{node_agrees}
 use Rattle.dwz_seen.specs.Spaces.{space_text, text_at}
 use Rattle.dwz_fitted.proofs.FormWays.{is_read}
 

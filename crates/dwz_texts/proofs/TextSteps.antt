@@ -10,7 +10,9 @@ use Rattle.dwz_codes.specs.Forms.{form_rows}
 use Rattle.dwz_docs.specs.Entries.{RawAttr}
 use Rattle.dwz_docs.specs.Values.{HasSpelling, Raw, SpellsShape, constant_of, shape_of, written_rows}
 use Rattle.dwz_docs.proofs.WrittenLemmas.{le_value-less}
-use Rattle.dwz_meanings.specs.Meanings.{OfTextInStr, class_of, number_of}
+use Rattle.dwz_meanings.specs.Meanings.{number_of}
+use Rattle.dwz_meanings.specs.Classes.{OfTextInStr}
+use Rattle.dwz_meanings.specs.Classes.{class_of}
 use Rattle.dwz_resolve.proofs.RowLemmas.{take_here}
 use Rattle.dwz_writing.proofs.StoredClasses.{strp_form}
 use Rattle.dwz_places.specs.declared.known.TextAt.{TextAt}

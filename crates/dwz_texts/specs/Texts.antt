@@ -4,7 +4,9 @@ use Rattle.std.specs.List.{filter, flat_map}
 use Rattle.std.specs.Option.{option_and_then}
 use Rattle.dwz_docs.specs.Entries.{RawAttr}
 use Rattle.dwz_docs.specs.Units.{RawUnit}
-use Rattle.dwz_meanings.specs.Meanings.{Around, Class, OfTextBySlot, OfTextInStr, class_of, offset_of, scope_of}
+use Rattle.dwz_meanings.specs.Meanings.{Around, offset_of, scope_of}
+use Rattle.dwz_meanings.specs.Classes.{OfTextBySlot, OfTextInStr}
+use Rattle.dwz_meanings.specs.Classes.{Class, class_of}
 use Rattle.dwz_unit.specs.Rows.{EntryRow, rows_of}
 use Rattle.dwz_writing.specs.Bases.{bases_of}
 use Rattle.dwz_writing.specs.Placing.{slot_number}

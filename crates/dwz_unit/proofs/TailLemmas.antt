@@ -1,5 +1,5 @@
 -- Where tables are added, the ends of the others stay; an end that begins at an offset is the table there.
-use Rattle.std.proofs.Common.{◌≡◌, ℕ, ◌<◌, List, [], ◌∷◌, ◌++◌, drop, length, map, Option, Some, None, Ok, refl, sym, ap, subst, ◌∙◌, arith}
+use Rattle.std.proofs.Common.{◌≡◌, ℕ, ◌<◌, List, [], ◌∷◌, ◌++◌, drop, length, map, Option, Some, None, Result, Ok, Err, refl, sym, ap, subst, append_assoc, ◌∙◌, arith}
 use Rattle.std.proofs.lemmas.List.{append-nil, get_or_append_left, get_or_at, length-append, length-map, length_push, map-append, map_push}
 use Rattle.std.proofs.lemmas.List.Elements.{All-head, All-push, All-tail, All-weaker}
 use Rattle.std.specs.Prelude.{All, IfSome, slice_index_or}
@@ -10,7 +10,9 @@ use Rattle.dwz_docs.specs.Abbrevs.{Declaration, table_at}
 use Rattle.dwz_docs.proofs.ListFacts.{get_last, got_map}
 use Rattle.dwz_unit.specs.declared.tail.Tail.{Tail}
 use Rattle.dwz_unit.specs.Tables.{Grows, HasTable, Stored}
-use Rattle.dwz_unit.specs.Tails.{AreTables, BeginsAt, HasTail, KnowsStarts, read_from, stored, tail_in}
+use Rattle.dwz_docs.specs.Faults.{Fails}
+use Rattle.dwz_model.specs.declared.fault.ReadErr.{ReadErr}
+use Rattle.dwz_unit.specs.Tails.{AnswersTail, AreTables, BeginsAt, FindsTail, HasTail, KnowsStarts, read_from, stored, tail_in}
 use Rattle.dwz_unit.proofs.NumberLemmas.{numbers_kept}
 
 -- ---- ends of tables
@@ -104,3 +106,23 @@ tables_kept old new tails all numbers are grows is = record {
   within = subst (All (IsWithin new)) (sym is) (within_grown old new tails grows are.within);
   numbered = numbers_kept (stored old tails) (stored new all) numbers numbers are.numbered (stored_grown old new tails all [] grows are.within (is ∙ sym (append-nil tails))) refl;
 }
+
+-- ---- tables that are read ahead
+
+pub grows_none : (s : Stored) → Grows s s
+grows_none s = record { section = refl; others = []; tables = sym (append-nil s.tables) }
+
+pub grows_both : (a b c : Stored) → Grows a b → Grows b c → Grows a c
+grows_both a b c first second = record {
+  section = second.section ∙ first.section;
+  others = first.others ++ second.others;
+  tables = second.tables ∙ ap (λ (w : List (List Declaration)). w ++ second.others) first.tables ∙ append_assoc a.tables first.others second.others;
+}
+
+answers_before : (a b c : Stored) (offset : ℕ) (r : Result Tail ReadErr) → Grows a b → AnswersTail b c offset r → AnswersTail a c offset r
+answers_before a b c offset (Ok t) grows has = has
+answers_before a b c offset (Err e) grows fails = subst (λ (w : List ℕ). Fails e (table_at w offset)) grows.section fails
+
+-- what is found among more tables is found
+pub found_before : (a b c : Stored) (offset : ℕ) (r : Result Tail ReadErr) → Grows a b → FindsTail b c offset r → FindsTail a c offset r
+found_before a b c offset r grows finds = record { grows = grows_both a b c grows finds.grows; answers = answers_before a b c offset r grows finds.answers }

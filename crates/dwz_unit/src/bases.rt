@@ -56,8 +56,8 @@ impl<'a> Bases<'a> {
         }
     }
 
-    // The table at an offset, as the end of the last table that begins no later, if it is that.
-    fn known(&self, offset: u32) -> Option<Tail>
+    /// The table at an offset, as the end of the last table that begins no later, if it is that.
+    pub fn known_tail(&self, offset: u32) -> Option<Tail>
         ensures { IfSome result (HasTail self.now offset) }
     {
         let (_, base) = self.numbers.range(..=offset).next_back()?;
@@ -68,7 +68,7 @@ impl<'a> Bases<'a> {
     pub fn tail_at(&mut self, alloc: Global, offset: u32) -> Result<Tail, ReadErr>
         ensures { FindsTail self.old self.new offset result }
     {
-        if let Some(tail) = self.known(offset) {
+        if let Some(tail) = self.known_tail(offset) {
             return Ok(tail);
         }
         let base = self.reads.len();

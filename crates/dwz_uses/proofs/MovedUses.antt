@@ -12,8 +12,13 @@ use Rattle.dwz_docs.specs.Pruning.{new_number}
 use Rattle.dwz_docs.proofs.PartLemmas.{bind_ok}
 use Rattle.dwz_docs.proofs.ListFacts.{in_left, in_right}
 use Rattle.dwz_meanings.specs.Documents.{Attr, Node, Value, attr_map, node_map}
-use Rattle.dwz_meanings.specs.Meanings.{Class, OfConstant, OfExpression, OfInfoEntry, OfTextBySlot, OfTextInLineStr, OfTextInStr, OfUnitEntry, Scope, Unread, as_class, attr_with, attrs_meaning}
-use Rattle.dwz_meanings.specs.Meanings.{class_of, meaning, names_file, node_with, scope_of, with_attr, without_siblings}
+use Rattle.dwz_meanings.specs.Meanings.{Scope}
+use Rattle.dwz_meanings.specs.Classes.{OfConstant, OfExpression, OfInfoEntry, OfTextBySlot, OfTextInLineStr, OfTextInStr, OfUnitEntry, Unread}
+use Rattle.dwz_meanings.specs.Classes.{Class}
+use Rattle.dwz_meanings.specs.Meant.{as_class, attr_with, attrs_meaning}
+use Rattle.dwz_meanings.specs.Meanings.{scope_of, without_siblings}
+use Rattle.dwz_meanings.specs.Classes.{class_of, names_file}
+use Rattle.dwz_meanings.specs.Meant.{meaning, node_with, with_attr}
 use Rattle.dwz_alike.specs.Spots.{Spot}
 use Rattle.dwz_flat.proofs.StepLemmas.{skipped, taken}
 use Rattle.dwz_strs.specs.Pruned.{IsPruned, Pruning, moved_in}

@@ -6,7 +6,8 @@ use Rattle.dwz_docs.specs.Texts.{text_at}
 use Rattle.dwz_docs.specs.Trees.{End, Entry}
 use Rattle.dwz_docs.proofs.TextLemmas.{here_text}
 use Rattle.dwz_meanings.specs.Documents.{Attr, DwUnit, Entries}
-use Rattle.dwz_meanings.specs.Meanings.{Class, OfTextInStr, class_of}
+use Rattle.dwz_meanings.specs.Classes.{OfTextInStr}
+use Rattle.dwz_meanings.specs.Classes.{Class, class_of}
 use Rattle.dwz_docs.specs.Lists.{Each}
 use Rattle.dwz_alike.specs.Spots.{Spot}
 use Rattle.dwz_writing.specs.Meant.{AttrSays, EntriesSay, Own, SaysAs, Tells, TextSays, UnitsSay, own_of}

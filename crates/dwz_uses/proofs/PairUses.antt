@@ -10,7 +10,7 @@ use Rattle.dwz_codes.specs.Forms.{form_rows}
 use Rattle.dwz_docs.specs.Entries.{RawAttr, attrs_at, in_entry, with_value}
 use Rattle.dwz_docs.specs.Values.{Bytes, Number, Raw, value_at}
 use Rattle.dwz_docs.proofs.PartLemmas.{bind_ok, same_value}
-use Rattle.dwz_meanings.specs.Meanings.{names_file}
+use Rattle.dwz_meanings.specs.Classes.{names_file}
 use Rattle.dwz_model.specs.declared.place.Pair.{Pair}
 use Rattle.dwz_unit.specs.Rows.{EntryRow}
 use Rattle.dwz_writing.specs.Placing.{CommonUnit, Holder, NewUnit, OldUnit}

@@ -7,8 +7,9 @@ use Rattle.dwz_bytes.specs.Spelling.{reach}
 use Rattle.dwz_docs.specs.Trees.{End, Entry}
 use Rattle.dwz_docs.specs.Values.{Bytes, Number}
 use Rattle.dwz_meanings.specs.Documents.{Attr, DwUnit, Entries}
-use Rattle.dwz_meanings.specs.Meanings as meanings
-use Rattle.dwz_meanings.specs.Meanings.{Class, OfTextInStr, class_of, class_rows}
+use Rattle.dwz_meanings.specs.Classes as classes
+use Rattle.dwz_meanings.specs.Classes.{OfTextInStr}
+use Rattle.dwz_meanings.specs.Classes.{Class, class_of, class_rows}
 use Rattle.dwz_alike.specs.Spots.{Spot}
 use Rattle.dwz_layout.specs.Lines.{lines, unit_lines}
 use Rattle.dwz_writing.specs.Pruned.{attr_uses, attrs_uses, units_uses}
@@ -52,7 +53,7 @@ slots_are keys k here (s ∷ slots) = (λ i. outs_are keys (attrs_of k here s.or
 -- ---- what is shown
 
 pub strp_class : class_of 0x0e ≡ OfTextInStr
-unfolding class_rows meanings.class_in
+unfolding class_rows classes.class_in
 strp_class = refl
 
 other_none : (form : ℕ) → eqb form 0x0e ≡ false → (h : Held Spot) → value_uses form h ≡ []

@@ -12,7 +12,7 @@ fn moved_text(text: TextAt, pruned: &Pruned) -> TextAt
     ensures { result ≡ MovedTexts.moved_text pruned.now text }
 {
     match text {
-        TextAt::Own(offset) => TextAt::Own(pruned.moved(offset).unwrap_or(offset)),
+        TextAt::Own(offset) => TextAt::Own(pruned.new_place(offset).unwrap_or(offset)),
         TextAt::Shared(offset) => TextAt::Shared(offset),
         TextAt::Pooled(offset) => TextAt::Pooled(offset),
     }

@@ -81,10 +81,10 @@ fn put_four(out: &mut Vec<u8>, at: usize, number: u32)
 
 // The new number of a slot that has an old one.
 #[inline(always)]
-fn moved(pruned: &Pruned, number: u32) -> u32
+fn new_number(pruned: &Pruned, number: u32) -> u32
     ensures { result ≡ moved_or_same pruned.now number }
 {
-    pruned.moved(number).unwrap_or(number)
+    pruned.new_place(number).unwrap_or(number)
 }
 
 // `.debug_str_offsets`, where the numbers of slots that are uses have moved.
@@ -102,7 +102,7 @@ fn new_slots(
     for place in places {
         let at = *place as usize;
         let number = front_number(&offsets[at..]);
-        put_four(&mut out, at, moved(pruned, number));
+        put_four(&mut out, at, new_number(pruned, number));
     }
     Ok(out)
 }

@@ -4,5 +4,6 @@ pub mod PlainLemmas
 pub mod PlainRows
 pub mod PlainValues
 pub mod PlainWalk
+pub mod PlainArguments
 pub mod RangeLemmas
 pub mod RowLemmas

@@ -21,7 +21,8 @@ use Rattle.dwz_words.specs.Lawful.{is_set, number_at, number_of, options_of}
 use Rattle.dwz_words.specs.Plain.{ArePlain, Argument, are_once, common, demo, dwarf, file, is_file, is_option, is_plain, is_plain_number, name, options_said, out, quiet, value_at, value_of, workers}
 use Rattle.dwz_words.proofs.PlainLemmas.{plain_matches}
 use Rattle.dwz_words.proofs.PlainRows.{files_at-all_after, row_at-all_after, row_of, values_in}
-use Rattle.dwz_words.proofs.PlainWalk.{all_after, digit_range, digits_all, rule_for, rules}
+use Rattle.dwz_words.proofs.PlainWalk.{all_after, rule_for, rules}
+use Rattle.dwz_words.proofs.PlainArguments.{digit_range, digits_all}
 use Rattle.dwz_words.proofs.RowLemmas.{leaves, new_row, row_at, row_at-defaulted, row_at-defaults}
 
 -- ---- numbers

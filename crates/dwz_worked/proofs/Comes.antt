@@ -21,7 +21,8 @@ use Rattle.dwz_docs.specs.Pruning.{bytes_kept, is_kept, range_end}
 use Rattle.dwz_meanings.specs.Documents.{Doc}
 use Rattle.dwz_meanings.specs.Files.{file_meaning, files_meaning, longest_file, longest_files, most_entries, no_files_before, section_of, unit_places}
 use Rattle.dwz_meanings.specs.LocLists.{list_at, list_entry_at}
-use Rattle.dwz_meanings.specs.Meanings.{all_places, attrs_meaning, entries_meaning, first_raw, meaning, places_in, units_meaning, without_siblings}
+use Rattle.dwz_meanings.specs.Meanings.{all_places, first_raw, places_in, without_siblings}
+use Rattle.dwz_meanings.specs.Meant.{attrs_meaning, entries_meaning, meaning, units_meaning}
 use Rattle.dwz_meanings.specs.NamedLists.{list_of_attr, lists_of_attrs, lists_of_entries, lists_of_units}
 use Rattle.dwz_meanings.specs.Exprs.{most_inside, parts_from}
 use Rattle.dwz_meanings.specs.PatchedLists.{with_operands}

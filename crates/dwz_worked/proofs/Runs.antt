@@ -11,7 +11,7 @@ use Rattle.dwz_codes.specs.Operators.{operator_rows}
 use Rattle.dwz_meanings.specs.Exprs.{expr_within, expressions_in, fields_at, first_unnamed, has_address, joined as exprs_joined, op_at, operands_in}
 use Rattle.dwz_meanings.specs.Sequences.{all_at, all_from}
 use Rattle.dwz_meanings.specs.LinesWritten.{file_formats, one_directory, rows_bytes, standard}
-use Rattle.dwz_meanings.specs.Meanings.{class_in, class_rows}
+use Rattle.dwz_meanings.specs.Classes.{class_in, class_rows}
 use Rattle.dwz_seen.specs.Shown.{keys, unit_keys, units_keys}
 use Rattle.dwz_seen.specs.Spaces.{space_text, tops_under}
 use Rattle.dwz_alike.specs.Alike.{TopScope, any_entry, is_addressed, joined_parts, unit_in}

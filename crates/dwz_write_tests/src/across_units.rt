@@ -1,10 +1,11 @@
-use crate::expect::same;
+use crate::expect::same_for;
 use dwz_across_units::info_by;
 use dwz_layout::{Item, What};
 use dwz_model::{DwzList, NoMemory};
 use dwz_pages::info_of;
 use dwz_places::{Known, Layout, Sort, UnitItems};
 use std::alloc::Global;
+use std::process::Abort;
 use std::test::Fail;
 
 // So many units have 460 kB, each 23 bytes.
@@ -69,6 +70,14 @@ const BY_HAND: [(usize, [u8; 23]); 3] = [
     ),
 ];
 
+fn compare_by_hand(rt: &impl Abort, bytes: &[u8]) {
+    for (unit, by_hand) in &BY_HAND {
+        let at = unit * 23;
+        assert!(rt; at + 23 <= bytes.len());
+        same_for(rt, unit, &&bytes[at..at + 23], &by_hand.as_slice());
+    }
+}
+
 #[test]
 fn several_workers_write_what_one_writes(rt: HostRuntime) -> Result<(), Fail> {
     let known = last_to_first(rt.alloc())?;
@@ -79,11 +88,7 @@ fn several_workers_write_what_one_writes(rt: HostRuntime) -> Result<(), Fail> {
     let laid = layout.file(0);
     let one = info_of(rt.alloc(), &known, layout.spots(), 0, units, laid)?;
     assert!(rt; one.len() == 460_000);
-    for (unit, bytes) in &BY_HAND {
-        let at = unit * 23;
-        assert!(rt; at + 23 <= one.len());
-        same(&rt, &&one[at..at + 23], &bytes.as_slice());
-    }
+    compare_by_hand(&rt, &one);
     for workers in [0, 1, 2, 3, 4, 64] {
         let info = info_by(
             &rt,

@@ -1,11 +1,13 @@
 //! Texts that repeat, with the places that they have behind each other, counted by hand.
 
-use crate::expect::same;
+use crate::expect::same_for;
 use dwz_common::{Pool, place_text};
+use dwz_model::NoMemory;
 use dwz_places::TextAt;
+use std::alloc::Global;
 use std::test::Fail;
 
-fn shown(text: TextAt) -> (u8, u32) {
+fn kind_and_offset(text: TextAt) -> (u8, u32) {
     match text {
         TextAt::Own(offset) => (0, offset),
         TextAt::Shared(offset) => (1, offset),
@@ -13,59 +15,79 @@ fn shown(text: TextAt) -> (u8, u32) {
     }
 }
 
+// These texts in order of their uses.
+fn pool_of(alloc: Global, uses: &[&[u8]]) -> Result<Pool, NoMemory> {
+    let mut pool = Pool::new(alloc);
+    for text in uses {
+        pool.put(text)?;
+    }
+    Ok(pool)
+}
+
+const USES: &[&[u8]] = &[b"int", b"main.c", b"int", b"char"];
+
+// A text, its number and where it starts.
+const FOUND: &[(&[u8], Option<u32>, Option<u64>)] = &[
+    (b"char", Some(2), Some(11)),
+    (b"main.c", Some(1), Some(4)),
+    (b"in", None, None),
+];
+
+// Whether it is the common file that names a text, or one that shares, the text, and where it is then if its own offset is 7.
+const PLACED: &[(bool, bool, &[u8], (u8, u32))] = &[
+    (true, false, b"char", (2, 11)),
+    (false, true, b"char", (1, 11)),
+    (false, true, b"long", (0, 7)),
+    (false, false, b"char", (0, 7)),
+];
+
 #[test]
 fn places_by_first_use(rt: HostRuntime) -> Result<(), Fail> {
-    let mut pool = Pool::new(rt.alloc());
-    pool.put(b"int")?;
-    pool.put(b"main.c")?;
-    pool.put(b"int")?;
-    pool.put(b"char")?;
-    same(&rt, &pool.find(b"char"), &Some(2));
-    same(&rt, &pool.find(b"in"), &None);
-    same(&rt, &pool.start_of(b"main.c"), &Some(4));
-    same(&rt, &pool.start_of(b"char"), &Some(11));
-    let own = TextAt::Own(7);
-    let common = place_text(&pool, true, false, b"char", own)?;
-    same(&rt, &shown(common), &(2, 11));
-    let shared = place_text(&pool, false, true, b"char", own)?;
-    same(&rt, &shown(shared), &(1, 11));
-    let other = place_text(&pool, false, true, b"long", own)?;
-    same(&rt, &shown(other), &(0, 7));
-    let alone = place_text(&pool, false, false, b"char", own)?;
-    same(&rt, &shown(alone), &(0, 7));
+    let pool = pool_of(rt.alloc(), USES)?;
+    for (text, number, start) in FOUND {
+        let found = (pool.find(text), pool.start_of(text));
+        same_for(&rt, text, &found, &(*number, *start));
+    }
+    for &(is_common, shares, text, place) in PLACED {
+        let placed = place_text(&pool, is_common, shares, text, TextAt::Own(7))?;
+        same_for(&rt, &(is_common, shares), &kind_and_offset(placed), &place);
+    }
     Ok(())
 }
 
 // A line table of one path, `/usr/include/stdint.h`, counted by hand: the length of the unit and version 5; the sizes of addresses and
 // segment selectors, and the length of the header; the fields of the program that isn't there, with the lengths of twelve opcodes; one
 // directory, with an empty path; the formats of files, and that there are two. Each is the path, and directory 0.
-const FRONT: [u8; 41] = [
-    0x53, 0x00, 0x00, 0x00, 0x05, 0x00, 0x08, 0x00, 0x4b, 0x00, 0x00, 0x00, 0x01, 0x01, 0x01, 0xfb,
-    0x0e, 0x0d, 0x00, 0x01, 0x01, 0x01, 0x01, 0x00, 0x00, 0x00, 0x01, 0x00, 0x00, 0x01, 0x01, 0x01,
-    0x08, 0x01, 0x00, 0x02, 0x01, 0x08, 0x02, 0x0f, 0x02,
+const LINES: &[u8] =
+    b"\x53\0\0\0\x05\0\x08\0\x4b\0\0\0\x01\x01\x01\xfb\x0e\x0d\0\x01\x01\x01\x01\0\0\0\x01\0\0\
+\x01\x01\x01\x08\x01\0\x02\x01\x08\x02\x0f\x02\
+/usr/include/stdint.h\0\0/usr/include/stdint.h\0\0";
+
+const PATH: &[&[u8]] = &[b"/usr/include/stdint.h"];
+
+// Texts in order of their uses, and their section.
+const SECTIONS: &[(&[&[u8]], &[u8])] = &[
+    (&[], b""),
+    (&[b"int", b"", b"main.c", b"int"], b"int\0\0main.c\0"),
 ];
 
 #[test]
 fn writes_the_sections(rt: HostRuntime) -> Result<(), Fail> {
-    let mut texts = Pool::new(rt.alloc());
-    assert!(rt; texts.section(rt.alloc())?.is_empty());
-    assert!(rt; texts.line_table(rt.alloc())?.is_empty());
-    texts.put(b"int")?;
-    texts.put(b"")?;
-    texts.put(b"main.c")?;
-    texts.put(b"int")?;
-    let section = texts.section(rt.alloc())?;
-    same(&rt, &section.as_slice(), &b"int\0\0main.c\0".as_slice());
-    let path = b"/usr/include/stdint.h";
-    let mut paths = Pool::new(rt.alloc());
-    paths.put(path)?;
-    let line = paths.line_table(rt.alloc())?;
-    let mut told = FRONT.to_vec(rt.alloc())?;
-    told.extend_from_slice(path)?;
-    told.extend_from_slice(&[0, 0])?;
-    told.extend_from_slice(path)?;
-    told.extend_from_slice(&[0, 0])?;
-    assert!(rt; line.len() == 87);
-    same(&rt, &line.as_slice(), &told.as_slice());
+    for (uses, bytes) in SECTIONS {
+        let section = pool_of(rt.alloc(), uses)?.section(rt.alloc())?;
+        same_for(&rt, uses, &section.as_slice(), bytes);
+    }
+    Ok(())
+}
+
+// Paths, and their line table.
+const LINE_TABLES: &[(&[&[u8]], &[u8])] = &[(&[], b""), (PATH, LINES)];
+
+#[test]
+fn writes_line_tables(rt: HostRuntime) -> Result<(), Fail> {
+    for (paths, bytes) in LINE_TABLES {
+        let line = pool_of(rt.alloc(), paths)?.line_table(rt.alloc())?;
+        same_for(&rt, paths, &line.as_slice(), bytes);
+    }
     Ok(())
 }

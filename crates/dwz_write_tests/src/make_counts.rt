@@ -23,42 +23,58 @@ const NAMES: &[u8] =
 
 const NAME_PLACES: [u32; 9] = [1, 13, 27, 38, 54, 73, 85, 101, 116];
 
-fn put_section_header(
-    out: &mut Vec<u8>,
-    name: u32,
-    kind: u32,
-    at: u64,
-    len: usize,
-) -> Result<(), AllocError> {
-    out.extend_from_slice(&name.to_le_bytes())?;
-    out.extend_from_slice(&kind.to_le_bytes())?;
-    out.extend_from_slice(&[0; 16])?;
-    out.extend_from_slice(&at.to_le_bytes())?;
-    out.extend_from_slice(&len.to_le_bytes())?;
-    out.extend_from_slice(&[0; 8])?;
-    out.extend_from_slice(&1u64.to_le_bytes())?;
-    out.extend_from_slice(&[0; 8])
+// The header of a shared object for x86-64, whose section headers have no place and no number yet.
+const FRONT: [u8; 64] = [
+    0x7f, 0x45, 0x4c, 0x46, 2, 1, 1, 0, 0, 0, 0, 0, 0, 0, 0, 0, //
+    3, 0, 62, 0, 1, 0, 0, 0, 0, 0, 0, 0, 0, 0, 0, 0, //
+    0, 0, 0, 0, 0, 0, 0, 0, 0, 0, 0, 0, 0, 0, 0, 0, //
+    0, 0, 0, 0, 64, 0, 0, 0, 0, 0, 64, 0, 0, 0, 0, 0,
+];
+
+// A file that is made section by section: the sections' bytes, and their headers.
+#[derive(Drop)]
+struct Elf {
+    body: Vec<u8>,
+    headers: Vec<u8>,
 }
 
-fn put_file_header(out: &mut Vec<u8>, headers: u64) -> Result<(), AllocError> {
-    out.extend_from_slice(&[0x7f, 0x45, 0x4c, 0x46, 2, 1, 1, 0, 0, 0, 0, 0, 0, 0, 0, 0])?;
-    out.extend_from_slice(&[3, 0, 62, 0, 1, 0, 0, 0])?;
-    out.extend_from_slice(&[0; 16])?;
-    out.extend_from_slice(&headers.to_le_bytes())?;
-    out.extend_from_slice(&[0, 0, 0, 0, 64, 0, 0, 0, 0, 0, 64, 0, 10, 0, 9, 0])
-}
+impl Elf {
+    fn new(alloc: Global) -> Result<Elf, AllocError> {
+        Ok(Elf {
+            body: Vec::new(alloc),
+            headers: Vec::from_slice(alloc, &[0; 64])?,
+        })
+    }
 
-// Adds a section's bytes to those of all, and its header.
-fn put_section(
-    body: &mut Vec<u8>,
-    headers: &mut Vec<u8>,
-    name: u32,
-    kind: u32,
-    content: &[u8],
-) -> Result<(), AllocError> {
-    let at = 64u64.wrapping_add(body.len() as u64);
-    put_section_header(headers, name, kind, at, content.len())?;
-    body.extend_from_slice(content)
+    // Adds a section whose name begins there, with its type and its bytes.
+    fn put(&mut self, name: u32, kind: u32, content: &[u8]) -> Result<(), AllocError> {
+        let at = 64u64.wrapping_add(self.body.len() as u64);
+        let mut header = [0; 64];
+        header[..4].copy_from_slice(&name.to_le_bytes());
+        header[4..8].copy_from_slice(&kind.to_le_bytes());
+        header[24..32].copy_from_slice(&at.to_le_bytes());
+        header[32..40].copy_from_slice(&content.len().to_le_bytes());
+        header[48] = 1;
+        self.headers.extend_from_slice(&header)?;
+        self.body.extend_from_slice(content)
+    }
+
+    // The file, with the section of names last.
+    fn finish(mut self, alloc: Global) -> Result<Vec<u8>, AllocError> {
+        self.put(NAME_PLACES[8], 3, NAMES)?;
+        let missing = (8 - self.body.len() % 8) % 8;
+        self.body.extend_from_slice(&[0; 8][..missing])?;
+        let at = 64u64.wrapping_add(self.body.len() as u64);
+        let count = self.headers.len() / 64;
+        let mut front = FRONT;
+        front[40..48].copy_from_slice(&at.to_le_bytes());
+        front[60..62].copy_from_slice(&count.to_le_bytes()[..2]);
+        front[62..].copy_from_slice(&count.wrapping_sub(1).to_le_bytes()[..2]);
+        let mut out = Vec::from_slice(alloc, &front)?;
+        out.extend_from_slice(&self.body)?;
+        out.extend_from_slice(&self.headers)?;
+        Ok(out)
+    }
 }
 
 // Some sections of a file, by their bytes in hexadecimal; the others are empty.
@@ -70,8 +86,7 @@ struct Content<'a> {
 
 // An ELF64 file with these sections.
 fn file(alloc: Global, content: &Content) -> Result<Vec<u8>, Fail> {
-    let mut body = Vec::new(alloc);
-    let mut headers = Vec::from_slice(alloc, &[0; 64])?;
+    let mut elf = Elf::new(alloc)?;
     let sections = [
         content.info,
         content.abbrev,
@@ -83,19 +98,9 @@ fn file(alloc: Global, content: &Content) -> Result<Vec<u8>, Fail> {
         "",
     ];
     for (name, section) in NAME_PLACES.iter().zip(sections) {
-        let bytes = hex::decode(alloc, section)?;
-        put_section(&mut body, &mut headers, *name, 1, &bytes)?;
+        elf.put(*name, 1, &hex::decode(alloc, section)?)?;
     }
-    put_section(&mut body, &mut headers, NAME_PLACES[8], 3, NAMES)?;
-    let missing = (8 - body.len() % 8) % 8;
-    for _ in 0..missing {
-        body.push(0)?;
-    }
-    let mut out = Vec::new(alloc);
-    put_file_header(&mut out, 64u64.wrapping_add(body.len() as u64))?;
-    out.extend_from_slice(&body)?;
-    out.extend_from_slice(&headers)?;
-    Ok(out)
+    Ok(elf.finish(alloc)?)
 }
 
 fn files_of(alloc: Global, contents: &[Content]) -> Result<Vec<Vec<u8>>, Fail> {
@@ -177,8 +182,16 @@ fn numbers_of<R: Threads + Sync>(
     let indexes = indexes(alloc, graph)?;
     let planned = plan_files(rt, alloc, graph, &indexes, scope, 1, &OpenGate)?;
     let settled = settle_files(alloc, graph, &indexes, scope, planned)?;
-    let lent = settled.settled();
+    let lent = settled.as_settled();
     number_units(alloc, graph, lent.plan, lent.files)
+}
+
+fn shown(numbers: &UnitNumbers) -> (u32, &[u32], &[u32]) {
+    (
+        numbers.commons,
+        numbers.parts.as_slice(),
+        numbers.olds.as_slice(),
+    )
 }
 
 #[test]
@@ -189,9 +202,11 @@ fn numbers_as_by_hand(rt: HostRuntime) -> Result<(), Fail> {
         assert!(rt; files.len() < 100);
         let graph = Graph::read(&rt, alloc, &files, 1)?;
         let numbers = numbers_of(&rt, alloc, &graph, case.scope)?;
-        same(&rt, &numbers.commons, &case.commons);
-        same(&rt, &numbers.parts.as_slice(), &case.parts);
-        same(&rt, &numbers.olds.as_slice(), &case.olds);
+        same(
+            &rt,
+            &shown(&numbers),
+            &(case.commons, case.parts, case.olds),
+        );
     }
     Ok(())
 }

@@ -1,78 +1,120 @@
 //! Texts that repeat, and their numbers and starts, counted by hand.
 
-use crate::expect::same;
+use crate::expect::same_for;
 use dwz_pool::Texts;
+use std::process::Abort;
 use std::test::Fail;
 
-#[test]
-fn numbers_by_first_use(rt: HostRuntime) -> Result<(), Fail> {
-    let mut texts = Texts::new(rt.alloc());
-    assert!(rt; texts.len() == 0);
-    same(&rt, &texts.number(b"int")?, &0);
-    same(&rt, &texts.number(b"")?, &1);
-    same(&rt, &texts.number(b"long int")?, &2);
-    same(&rt, &texts.number(b"int")?, &0);
-    same(&rt, &texts.number(b"")?, &1);
-    same(&rt, &texts.number(b"in")?, &3);
-    assert!(rt; texts.len() == 4);
-    same(&rt, &texts.size(), &17);
-    let rows: [(&[u8], u32, u64); 4] = [
-        (b"int", 0, 0),
-        (b"", 1, 4),
-        (b"long int", 2, 5),
-        (b"in", 3, 14),
-    ];
-    for &(text, number, start) in &rows {
-        same(&rt, &texts.find(text), &Some(number));
-        same(&rt, &texts.start_of(text), &Some(start));
-        same(&rt, &texts.text(number), &Some(text));
-    }
-    same(&rt, &texts.text(4), &None);
-    same(&rt, &texts.text(u32::MAX), &None);
-    same(&rt, &texts.find(b"long"), &None);
-    same(&rt, &texts.start_of(b"t"), &None);
-    Ok(())
+// Texts in the order of their uses, and what is there then.
+struct Case {
+    shows: &'static str,
+    // Each with the number that it has already, if it has one, and the number that it is given.
+    uses: &'static [(&'static [u8], Option<u32>, u32)],
+    // Each once, with its number and where it starts.
+    texts: &'static [(&'static [u8], u32, u64)],
+    len: u32,
+    size: u64,
+    none: &'static [&'static [u8]],
 }
 
-#[test]
-fn tells_a_text_from_its_beginning(rt: HostRuntime) -> Result<(), Fail> {
-    let mut texts = Texts::new(rt.alloc());
-    same(&rt, &texts.number(b"std::vector<int>")?, &0);
-    same(&rt, &texts.find(b"std::vector<int>::push_back"), &None);
-    same(&rt, &texts.number(b"std::vector<int>::push_back")?, &1);
-    same(&rt, &texts.find(b""), &None);
-    same(&rt, &texts.number(b"")?, &2);
-    same(&rt, &texts.find(b"std::vector<int>"), &Some(0));
-    same(
-        &rt,
-        &texts.start_of(b"std::vector<int>::push_back"),
-        &Some(17),
-    );
-    same(&rt, &texts.start_of(b""), &Some(45));
-    same(&rt, &texts.size(), &46);
-    Ok(())
-}
+const VECTOR: &[u8] = b"std::vector<int>";
+
+const PUSH_BACK: &[u8] = b"std::vector<int>::push_back";
 
 // The first eight bytes of these texts are such that the library's hash of each is 0.
-#[test]
-fn tells_texts_with_one_hash(rt: HostRuntime) -> Result<(), Fail> {
-    let one = b"\xe3\x08\xa3\x85\x88\x6a\x3f\x24 ... one";
-    let two = b"\xe3\x08\xa3\x85\x88\x6a\x3f\x24 ... two";
-    let three = b"\xe3\x08\xa3\x85\x88\x6a\x3f\x24 . three";
-    let mut texts = Texts::new(rt.alloc());
-    same(&rt, &texts.number(one)?, &0);
-    same(&rt, &texts.find(two), &None);
-    same(&rt, &texts.number(two)?, &1);
-    same(&rt, &texts.find(three), &None);
-    same(&rt, &texts.number(three)?, &2);
-    same(&rt, &texts.number(one)?, &0);
-    same(&rt, &texts.number(two)?, &1);
-    let rows: [(&[u8], u32, u64); 3] = [(one, 0, 0), (two, 1, 17), (three, 2, 34)];
-    for &(text, number, start) in &rows {
-        same(&rt, &texts.find(text), &Some(number));
-        same(&rt, &texts.start_of(text), &Some(start));
-        same(&rt, &texts.text(number), &Some(text));
+const ONE: &[u8] = b"\xe3\x08\xa3\x85\x88\x6a\x3f\x24 ... one";
+
+const TWO: &[u8] = b"\xe3\x08\xa3\x85\x88\x6a\x3f\x24 ... two";
+
+const THREE: &[u8] = b"\xe3\x08\xa3\x85\x88\x6a\x3f\x24 . three";
+
+const CASES: &[Case] = &[
+    Case {
+        shows: "nothing",
+        uses: &[],
+        texts: &[],
+        len: 0,
+        size: 0,
+        none: &[b""],
+    },
+    Case {
+        shows: "numbers by first use",
+        uses: &[
+            (b"int", None, 0),
+            (b"", None, 1),
+            (b"long int", None, 2),
+            (b"int", Some(0), 0),
+            (b"", Some(1), 1),
+            (b"in", None, 3),
+        ],
+        texts: &[
+            (b"int", 0, 0),
+            (b"", 1, 4),
+            (b"long int", 2, 5),
+            (b"in", 3, 14),
+        ],
+        len: 4,
+        size: 17,
+        none: &[b"long", b"t"],
+    },
+    Case {
+        shows: "a text, and its beginning",
+        uses: &[(VECTOR, None, 0), (PUSH_BACK, None, 1), (b"", None, 2)],
+        texts: &[(VECTOR, 0, 0), (PUSH_BACK, 1, 17), (b"", 2, 45)],
+        len: 3,
+        size: 46,
+        none: &[b"std::vector<int>:"],
+    },
+    Case {
+        shows: "texts with one hash",
+        uses: &[
+            (ONE, None, 0),
+            (TWO, None, 1),
+            (THREE, None, 2),
+            (ONE, Some(0), 0),
+            (TWO, Some(1), 1),
+        ],
+        texts: &[(ONE, 0, 0), (TWO, 1, 17), (THREE, 2, 34)],
+        len: 3,
+        size: 51,
+        none: &[b""],
+    },
+];
+
+fn compare(rt: &impl Abort, texts: &Texts, case: &Case) {
+    same_for(
+        rt,
+        &case.shows,
+        &(texts.len(), texts.size()),
+        &(case.len, case.size),
+    );
+    for (text, number, start) in case.texts {
+        same_for(
+            rt,
+            &case.shows,
+            &(texts.find(text), texts.start_of(text), texts.text(*number)),
+            &(Some(*number), Some(*start), Some(*text)),
+        );
     }
-    same(&rt, &texts.size(), &51);
+    for text in case.none {
+        let found = (texts.find(text), texts.start_of(text));
+        same_for(rt, &case.shows, &found, &(None, None));
+    }
+    for number in [case.len, u32::MAX] {
+        same_for(rt, &case.shows, &texts.text(number), &None);
+    }
+}
+
+#[test]
+fn numbers_texts(rt: HostRuntime) -> Result<(), Fail> {
+    for case in CASES {
+        let mut texts = Texts::new(rt.alloc());
+        for (text, known, number) in case.uses {
+            assert!(rt; texts.len() < 100 && texts.size() < 1000 && text.len() < 100);
+            same_for(&rt, &case.shows, &texts.find(text), known);
+            same_for(&rt, &case.shows, &texts.number(text)?, number);
+        }
+        compare(&rt, &texts, case);
+    }
     Ok(())
 }

@@ -77,11 +77,19 @@ const SPACED: &str =
 000000002000000000000000000000000000000001000000000000000000000000000000490000000300000000000000000000000000000000000000\
 e4000000000000005300000000000000000000000000000001000000000000000000000000000000";
 
+// So many of these files.
+fn spaced(alloc: Global, count: usize) -> Result<Vec<Vec<u8>>, Fail> {
+    let mut files = Vec::new(alloc);
+    for _ in 0..count {
+        files.push(hex::decode(alloc, SPACED)?)?;
+    }
+    Ok(files)
+}
+
 #[test]
 fn names_of_spaces_stand_by_offsets_and_by_slots(rt: HostRuntime) -> Result<(), Fail> {
     let alloc = rt.alloc();
-    let mut files = Vec::new(alloc);
-    files.push(hex::decode(alloc, SPACED)?)?;
+    let files = spaced(alloc, 1)?;
     assert!(rt; files.len() == 1);
     let graph = Graph::read(&rt, alloc, &files, 1)?;
     let indexes = indexes(alloc, &graph)?;
@@ -94,9 +102,7 @@ fn names_of_spaces_stand_by_offsets_and_by_slots(rt: HostRuntime) -> Result<(), 
 #[test]
 fn texts_of_each_file(rt: HostRuntime) -> Result<(), Fail> {
     let alloc = rt.alloc();
-    let mut files = Vec::new(alloc);
-    files.push(hex::decode(alloc, SPACED)?)?;
-    files.push(hex::decode(alloc, SPACED)?)?;
+    let files = spaced(alloc, 2)?;
     assert!(rt; files.len() == 2);
     let graph = Graph::read(&rt, alloc, &files, 1)?;
     let texts = texts_of_files(alloc, graph.files())?;

@@ -9,9 +9,14 @@ use Rattle.dwz_codes.specs.Forms.{form_rows}
 use Rattle.dwz_docs.specs.Abbrevs.{SpellsPair}
 use Rattle.dwz_meanings.specs.Documents.{Attr, Expr, Plain, Sec, Text, Value, only, ref, value_map}
 use Rattle.dwz_docs.specs.Entries.{RawAttr}
-use Rattle.dwz_meanings.specs.Meanings.{Class, IsExpression, IsFileBy, MeansAs, OfAddress, OfBlock, OfCommonEntry, OfCommonText, OfConstant, OfExpression, OfFlag, OfIndex, OfInfoEntry, OfListIndex}
-use Rattle.dwz_meanings.specs.Meanings.{OfOffset, OfSignature, OfText, OfTextBySlot, OfTextInLineStr, OfTextInStr, OfUnitEntry, Scope, Unread, bytes_of, class_in, class_of, class_rows, content_at}
-use Rattle.dwz_meanings.specs.Meanings.{expr_context, names_file, names_list, number_of, path_by, stmt_list, target_of, targets, texts_of}
+use Rattle.dwz_meanings.specs.Meanings.{IsExpression, IsFileBy, MeansAs}
+use Rattle.dwz_meanings.specs.Classes.{OfAddress, OfBlock, OfCommonEntry, OfCommonText, OfConstant, OfExpression, OfFlag, OfIndex, OfInfoEntry, OfListIndex}
+use Rattle.dwz_meanings.specs.Classes.{Class}
+use Rattle.dwz_meanings.specs.Meanings.{Scope, bytes_of, content_at}
+use Rattle.dwz_meanings.specs.Classes.{OfOffset, OfSignature, OfText, OfTextBySlot, OfTextInLineStr, OfTextInStr, OfUnitEntry, Unread}
+use Rattle.dwz_meanings.specs.Classes.{class_in, class_of, class_rows}
+use Rattle.dwz_meanings.specs.Meanings.{expr_context, number_of, path_by, stmt_list, target_of, targets, texts_of}
+use Rattle.dwz_meanings.specs.Classes.{names_file, names_list}
 use Rattle.dwz_meanings.specs.declared.exprs.Operand.{Operand}
 use Rattle.dwz_meanings.specs.Exprs.{ExprContext, Expression, SpellsExpr, parts_of}
 use Rattle.dwz_meanings.proofs.DecideLemmas.{if_false, if_true}

@@ -3,7 +3,8 @@ use Rattle.std.proofs.Common.{◌≡◌, ◌⊎◌, ℕ, ◌<◌, ◌^◌, Bool,
 use Rattle.std.proofs.Math.Logic.{inl, inr}
 use Rattle.dwz_meanings.specs.Documents.{Attr, Compile, DwUnit, Entries, Kind, OfType, Partial, Plain, first_named}
 use Rattle.dwz_docs.specs.Lists.{Each, In}
-use Rattle.dwz_meanings.specs.Meanings.{Class, OfListIndex, OfOffset, class_of, names_list}
+use Rattle.dwz_meanings.specs.Classes.{OfListIndex, OfOffset}
+use Rattle.dwz_meanings.specs.Classes.{Class, class_of, names_list}
 use Rattle.dwz_docs.specs.Trees.{End, Entry}
 use Rattle.dwz_docs.proofs.ListFacts.{in_left, in_right}
 use Rattle.dwz_writing.specs.Bases.{Bases, bases_in, offset_in}
@@ -29,8 +30,10 @@ use Rattle.dwz_writing.proofs.WriteLengths.{FixedUnit}
 use Rattle.dwz_seen.proofs.Members.{each_in}
 use Rattle.dwz_writing.proofs.ChosenNames.{EntriesName, NamesAll, NodeNames, SeenNames, each_fixed, entries_name, fit_all_keys, fit_entry_keys, fit_units_keys, has_in, node_names, offset_fit}
 use Rattle.dwz_writing.proofs.ChosenNames.{unit_apart}
-use Rattle.dwz_writing.proofs.ChosenValues.{AttrAt, FileAt, Good, SectionsAt, SourcesAt, TextFor, chosen, chosen_sound, common_says_it, file_good, form_is, info_says_it, refs_are, slot_good}
-use Rattle.dwz_writing.proofs.ChosenValues.{text_good, unit_says_it}
+use Rattle.dwz_writing.proofs.ChosenValues.{chosen, chosen_sound, common_says_it, form_is, info_says_it, refs_are}
+use Rattle.dwz_writing.proofs.ChosenTexts.{AttrAt, FileAt, Good, SectionsAt, SourcesAt, TextFor, file_good, slot_good}
+use Rattle.dwz_writing.proofs.ChosenValues.{unit_says_it}
+use Rattle.dwz_writing.proofs.ChosenTexts.{text_good}
 
 pub none_has : {K : Type 0} (same : K → K → Bool) (is : IsSame same) (k : K) (ks : List K) → In k ks → has_key same k ks ≡ false → ⊥
 unfolding has_key

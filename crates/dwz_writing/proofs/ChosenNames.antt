@@ -3,7 +3,8 @@ use Rattle.std.proofs.Common.{◌≡◌, ◌⊎◌, ℕ, Bool, true, false, List
 use Rattle.std.proofs.Math.Logic.{inl, inr}
 use Rattle.dwz_meanings.specs.Documents.{Attr, DwUnit, Entries, Node}
 use Rattle.dwz_docs.specs.Lists.{Each, In}
-use Rattle.dwz_meanings.specs.Meanings.{Class, OfCommonEntry, OfConstant, OfInfoEntry, OfTextBySlot, OfTextInLineStr, OfTextInStr, OfUnitEntry, class_in, class_of, class_rows, names_file}
+use Rattle.dwz_meanings.specs.Classes.{OfCommonEntry, OfConstant, OfInfoEntry, OfTextBySlot, OfTextInLineStr, OfTextInStr, OfUnitEntry}
+use Rattle.dwz_meanings.specs.Classes.{Class, class_in, class_of, class_rows, names_file}
 use Rattle.dwz_bytes.specs.Spelling.{reach}
 use Rattle.dwz_docs.specs.Trees.{End, Entry}
 use Rattle.dwz_docs.proofs.ListFacts.{in_cases, in_left, in_map, in_right}

@@ -10,7 +10,9 @@ use Rattle.dwz_model.specs.declared.place.Base.TheVariants.{Unit as FromUnit, In
 use Rattle.dwz_meanings.specs.declared.exprs.Operand.{Operand}
 use Rattle.dwz_meanings.specs.Documents.{Attr, Loc, Part, Plain, value_map}
 use Rattle.dwz_meanings.specs.Exprs.{AreNamed, Expression, parts_from, parts_of}
-use Rattle.dwz_meanings.specs.Meanings.{Class, MeansValue, OfListIndex, OfOffset, Scope, class_of, entries_for, expr_context, leads_to, number_of, targets}
+use Rattle.dwz_meanings.specs.Meanings.{MeansValue, Scope, entries_for, expr_context, leads_to, number_of, targets}
+use Rattle.dwz_meanings.specs.Classes.{OfListIndex, OfOffset}
+use Rattle.dwz_meanings.specs.Classes.{Class, class_of}
 use Rattle.dwz_meanings.specs.NamedLists.{NamesAs, NamesList}
 use Rattle.dwz_meanings.specs.Patching.{AllFit, FitsIn}
 use Rattle.dwz_meanings.specs.PatchedLists.{CanHave, IsPatched, NamesAlike, list_value, named_with, with_number}

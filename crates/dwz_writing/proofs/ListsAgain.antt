@@ -8,7 +8,10 @@ use Rattle.dwz_docs.proofs.ListFacts.{in_cases, in_left, in_map, in_right}
 use Rattle.dwz_model.specs.declared.fault.Fault.{Fault}
 use Rattle.dwz_meanings.specs.Documents.{Attr, DwUnit, Entries}
 use Rattle.dwz_meanings.specs.LocLists.{LocList}
-use Rattle.dwz_meanings.specs.Meanings.{Around, Class, OfListIndex, OfOffset, Scope, class_of, list_read, loclists_base, names_list, number_of, offset_of, scope_of, without_siblings}
+use Rattle.dwz_meanings.specs.Meanings.{Around, Scope, loclists_base, number_of, offset_of, scope_of, without_siblings}
+use Rattle.dwz_meanings.specs.Classes.{OfListIndex, OfOffset}
+use Rattle.dwz_meanings.specs.Classes.{Class, class_of, names_list}
+use Rattle.dwz_meanings.specs.Meant.{list_read}
 use Rattle.dwz_meanings.specs.NamedLists.{AnyEntryNames, AnyNames, AnyUnitNames, NamesAs, NamesList, by_base, by_offset, list_of_attr, lists_as, lists_of_units, named_at, named_by}
 use Rattle.dwz_meanings.specs.PatchedLists.{named_with}
 use Rattle.dwz_meanings.specs.Shared.{IsShared, ListOperand, NamedList, NoneShared, of_unit, operands_in_lists, own_operands}

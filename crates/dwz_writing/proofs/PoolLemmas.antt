@@ -7,7 +7,8 @@ use Rattle.dwz_meanings.specs.Documents.{Attr, DwUnit, Entries, File, Plain}
 use Rattle.dwz_meanings.specs.LineTables.{nth_path}
 use Rattle.dwz_meanings.specs.LinesWritten.{AreTexts, with_row_0}
 use Rattle.dwz_docs.specs.Lists.{Each, In}
-use Rattle.dwz_meanings.specs.Meanings.{Class, OfTextBySlot, OfTextInLineStr, OfTextInStr, class_of}
+use Rattle.dwz_meanings.specs.Classes.{OfTextBySlot, OfTextInLineStr, OfTextInStr}
+use Rattle.dwz_meanings.specs.Classes.{Class, class_of}
 use Rattle.dwz_docs.specs.Texts.{IsTextAt, NoZero}
 use Rattle.dwz_docs.specs.Trees.{End, Entry}
 use Rattle.dwz_docs.specs.Values.{AreBytes}

@@ -7,7 +7,7 @@ use Rattle.dwz_docs.specs.Texts.{text_in}
 use Rattle.dwz_docs.specs.Trees.{End, Entry}
 use Rattle.dwz_docs.specs.Values.{value_bytes}
 use Rattle.dwz_meanings.specs.Documents.{Attr, Compile, DwUnit, Text, only}
-use Rattle.dwz_meanings.specs.Meanings.{class_in, class_rows}
+use Rattle.dwz_meanings.specs.Classes.{class_in, class_rows}
 use Rattle.dwz_seen.specs.Shown.{keys, unit_keys, units_keys}
 use Rattle.dwz_alike.specs.Spots.{same_numbers}
 use Rattle.dwz_writing.specs.Bases.{no_bases}

@@ -16,7 +16,9 @@ use Rattle.dwz_meanings.specs.Documents.{Attr, DwUnit, Entries, Part, Same}
 use Rattle.dwz_meanings.specs.Documents as document
 use Rattle.dwz_meanings.specs.Exprs.{parts_of}
 use Rattle.dwz_alike.specs.Alike.{joined_parts}
-use Rattle.dwz_meanings.specs.Meanings.{Class, IfSo, OfConstant, OfExpression, OfListIndex, OfOffset, OfTextBySlot, OfTextInStr, class_of, names_file, names_list}
+use Rattle.dwz_meanings.specs.Meanings.{IfSo}
+use Rattle.dwz_meanings.specs.Classes.{OfConstant, OfExpression, OfListIndex, OfOffset, OfTextBySlot, OfTextInStr}
+use Rattle.dwz_meanings.specs.Classes.{Class, class_of, names_file, names_list}
 use Rattle.dwz_seen.proofs.Members.{in_filter}
 use Rattle.dwz_writing.specs.Fitting.{EachAttr}
 use Rattle.dwz_writing.specs.Meant.{AttrSays, EntriesSay, ExprSays, FileSays, KindSays, ListSays, NodeSays, OperandIn, OperandsIn, Own, SaysAs, SlotSays, Tells, UnitSays, UnitsSay, WasRead, own_of}
@@ -25,7 +27,8 @@ use Rattle.dwz_writing.specs.Pruned.{AreNewSlots, AttrStays, HasNoStrp, StaysAs,
 use Rattle.dwz_writing.specs.Pruned.{renumbered_unit, renumbered_units, slot_after, known_slots, slot_uses, units_uses, with_texts}
 use Rattle.dwz_writing.specs.Sound.{SoundAttr, SoundEntries, SoundUnit}
 use Rattle.dwz_writing.specs.Placing.{with_form}
-use Rattle.dwz_writing.proofs.ChosenValues.{Good, place_less, str_class, strp_good}
+use Rattle.dwz_writing.proofs.ChosenValues.{str_class}
+use Rattle.dwz_writing.proofs.ChosenTexts.{Good, place_less, strp_good}
 use Rattle.dwz_writing.proofs.NoStrp.{table_stays}
 use Rattle.dwz_writing.proofs.Renumbered.{own_renumbered}
 use Rattle.dwz_writing.proofs.StoredClasses.{strp_form}

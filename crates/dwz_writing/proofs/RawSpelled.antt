@@ -8,7 +8,8 @@ use Rattle.dwz_codes.specs.Forms.{form_rows}
 use Rattle.dwz_codes.specs.Rows.{RowView}
 use Rattle.dwz_meanings.specs.Documents.{Attr, Entries, Node}
 use Rattle.dwz_docs.specs.Entries.{Mode, SpellsAttrs, SpellsCode, SpellsEntry, SpellsFront, UnitContext}
-use Rattle.dwz_meanings.specs.Meanings.{Class, OfCommonEntry, OfExpression, OfInfoEntry, OfUnitEntry, class_of}
+use Rattle.dwz_meanings.specs.Classes.{OfCommonEntry, OfExpression, OfInfoEntry, OfUnitEntry}
+use Rattle.dwz_meanings.specs.Classes.{Class, class_of}
 use Rattle.dwz_docs.specs.Trees.{End, Entry, IfChildren, Position, SpellsForest, behind, first_below, size}
 use Rattle.dwz_docs.specs.Values.{Bytes, Number, Raw, SpellsShape, SpellsValue, shape_of, value_bytes, written_rows}
 use Rattle.dwz_docs.proofs.WrittenLemmas.{value_written}

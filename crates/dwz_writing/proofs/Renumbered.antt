@@ -3,7 +3,7 @@ use Rattle.std.proofs.Common.{◌≡◌, ℕ, pos, Bool, true, false, List, [], 
 use Rattle.dwz_bytes.specs.Spelling.{reach}
 use Rattle.dwz_docs.specs.Trees.{End, Entry}
 use Rattle.dwz_meanings.specs.Documents.{Attr, DwUnit, Entries, first_named}
-use Rattle.dwz_meanings.specs.Meanings.{class_in, class_rows}
+use Rattle.dwz_meanings.specs.Classes.{class_in, class_rows}
 use Rattle.dwz_docs.specs.Lists.{Each}
 use Rattle.dwz_seen.specs.Shown.{keys, unit_keys, units_keys}
 use Rattle.dwz_writing.specs.Bases.{Bases, bases_in, offset_in}

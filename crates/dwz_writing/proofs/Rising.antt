@@ -10,7 +10,9 @@ use Rattle.dwz_meanings.specs.Exprs.{parts_of}
 use Rattle.dwz_model.specs.declared.place.Base.{Base}
 use Rattle.dwz_model.specs.declared.place.Base.TheVariants.{Unit as FromUnit, Info as FromInfo}
 use Rattle.dwz_docs.specs.Lists.{Each, In}
-use Rattle.dwz_meanings.specs.Meanings.{Class, IfSo, OfCommonEntry, OfExpression, OfInfoEntry, OfListIndex, OfOffset, OfUnitEntry, class_of, names_list}
+use Rattle.dwz_meanings.specs.Meanings.{IfSo}
+use Rattle.dwz_meanings.specs.Classes.{OfCommonEntry, OfExpression, OfInfoEntry, OfListIndex, OfOffset, OfUnitEntry}
+use Rattle.dwz_meanings.specs.Classes.{Class, class_of, names_list}
 use Rattle.dwz_docs.specs.Trees.{End, Entry}
 use Rattle.dwz_docs.proofs.ListFacts.{in_cases, in_left, in_right}
 use Rattle.dwz_writing.specs.Fitting.{AttrFits, EachAttr, EntriesFit, ExprFits, FitsAs, FitsInfo, FitsUnit, FitsWidth, HasRoom, HasRoomAs, KindFits, ListFits, OperandsFit, OperandsHaveRoom}

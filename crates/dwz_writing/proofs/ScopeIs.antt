@@ -3,11 +3,12 @@ use Rattle.std.proofs.Common.{◌≡◌, ℕ, List, map, Some, Ok}
 use Rattle.dwz_docs.specs.Lists.{In}
 use Rattle.dwz_docs.specs.Texts.{IsTextAt}
 use Rattle.dwz_docs.specs.Units.{RawUnit}
-use Rattle.dwz_meanings.specs.Meanings.{Around, Common, Scope, loclists_base, scope_of, stmt_list, str_offsets_base, unit_meaning}
+use Rattle.dwz_meanings.specs.Meanings.{Around, Common, Scope, loclists_base, scope_of, stmt_list, str_offsets_base}
+use Rattle.dwz_meanings.specs.Meant.{unit_meaning}
 use Rattle.dwz_writing.specs.Meant.{AreRenumbered, Own, Tells}
 use Rattle.dwz_meanings.specs.Shared.{NoneShared}
 use Rattle.dwz_meanings.specs.Documents.{DwUnit}
-use Rattle.dwz_meanings.proofs.MeaningLemmas.{unit_agrees}
+use Rattle.dwz_meanings.proofs.MeaningUnits.{unit_agrees}
 use Rattle.dwz_writing.specs.Writing.{Numbering}
 use Rattle.dwz_writing.specs.Bases.{bases_in, bases_of}
 use Rattle.dwz_writing.proofs.ReadAgain.{bases_read}

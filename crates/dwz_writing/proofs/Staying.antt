@@ -3,7 +3,9 @@ use Rattle.std.proofs.Common.{◌≡◌, ℕ, ℤ, Bool, true, false, List, [], 
 use Rattle.dwz_bytes.specs.Spelling.{reach}
 use Rattle.dwz_docs.specs.Trees.{End, Entry}
 use Rattle.dwz_meanings.specs.Documents.{Attr, Compile, DwUnit, Entries, Kind, Node, OfType, Partial}
-use Rattle.dwz_meanings.specs.Meanings.{Class, OfCommonEntry, OfConstant, OfInfoEntry, OfTextBySlot, OfTextInLineStr, OfTextInStr, OfUnitEntry, Sources, class_in, class_of, class_rows, names_file}
+use Rattle.dwz_meanings.specs.Meanings.{Sources}
+use Rattle.dwz_meanings.specs.Classes.{OfCommonEntry, OfConstant, OfInfoEntry, OfTextBySlot, OfTextInLineStr, OfTextInStr, OfUnitEntry}
+use Rattle.dwz_meanings.specs.Classes.{Class, class_in, class_of, class_rows, names_file}
 use Rattle.dwz_meanings.specs.Meanings.{number_of, texts_of}
 use Rattle.dwz_meanings.specs.LineTables.{TextSections}
 use Rattle.dwz_docs.specs.Lists.{Each}

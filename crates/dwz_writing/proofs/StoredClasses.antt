@@ -4,7 +4,9 @@ use Rattle.std.proofs.Math.Logic.{inl, inr}
 use Rattle.dwz_codes.specs.declared.shape.Shape.{Shape}
 use Rattle.dwz_codes.specs.declared.shape.Shape.TheVariants.{Nothing, Fixed1, Fixed2, Fixed3, Fixed4, Fixed8, Fixed16, Uleb, Sleb, ZeroEnded, Block1, Block2, Block4, BlockUleb, Address}
 use Rattle.dwz_codes.specs.Forms.{form_rows}
-use Rattle.dwz_meanings.specs.Meanings.{Class, ClassRow, OfBlock, OfExpression, OfListIndex, OfOffset, OfText, OfTextInStr, Unread, bytes_of, class_in, class_of, class_rows, number_of}
+use Rattle.dwz_meanings.specs.Meanings.{bytes_of, number_of}
+use Rattle.dwz_meanings.specs.Classes.{OfBlock, OfExpression, OfListIndex, OfOffset, OfText, OfTextInStr, Unread}
+use Rattle.dwz_meanings.specs.Classes.{Class, ClassRow, class_in, class_of, class_rows}
 use Rattle.dwz_docs.specs.Values.{Bytes, Number, Raw, SpellsShape, shape_of, written_rows}
 
 -- ---- which classes store bytes, and which a number

@@ -5,7 +5,9 @@ use Rattle.std.proofs.lemmas.List.{map-append}
 use Rattle.dwz_meanings.specs.Documents.{Attr, Compile, DwUnit, Entries, Kind, Node, OfType, Partial, first_named, kind_map}
 use Rattle.dwz_docs.specs.Entries.{RawAttr}
 use Rattle.dwz_docs.specs.Lists.{Each, In}
-use Rattle.dwz_meanings.specs.Meanings.{Around, Class, MeanAttrs, MeanEntries, MeanUnits, MeansAttr, MeansKind, MeansNode, MeansUnit, OfOffset, Scope, all_places, base_in, class_of, first_raw}
+use Rattle.dwz_meanings.specs.Meanings.{Around, MeanAttrs, MeanEntries, MeanUnits, MeansAttr, MeansKind, MeansNode, MeansUnit, Scope, all_places, base_in, first_raw}
+use Rattle.dwz_meanings.specs.Classes.{OfOffset}
+use Rattle.dwz_meanings.specs.Classes.{Class, class_of}
 use Rattle.dwz_meanings.specs.Meanings.{number_of, places_in, places_of, scope_of, without_siblings}
 use Rattle.dwz_bytes.specs.Spelling.{reach}
 use Rattle.dwz_writing.specs.Bases.{offset_in}

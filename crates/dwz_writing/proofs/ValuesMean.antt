@@ -4,9 +4,13 @@ use Rattle.dwz_bytes.specs.Spelling.{reach}
 use Rattle.dwz_meanings.specs.Documents.{Addr, Attr, Block, Flag, Index, Num, Plain, Sec, Sig, Text, Value, only, ref, value_map}
 use Rattle.dwz_docs.specs.Entries.{RawAttr}
 use Rattle.dwz_docs.specs.Lists.{Each, In}
-use Rattle.dwz_meanings.specs.Meanings.{Class, IfSo, IsCommonText, IsEntryAmong, IsFileBy, IsLocList, IsTextBySlot, IsTextIn, MeansAs, OfAddress, OfBlock, OfCommonEntry, OfCommonText, OfConstant}
-use Rattle.dwz_meanings.specs.Meanings.{OfExpression, OfFlag, OfIndex, OfInfoEntry, OfListIndex, OfOffset, OfSignature, OfText, OfTextBySlot, OfTextInLineStr, OfTextInStr, OfUnitEntry, Scope, Unread}
-use Rattle.dwz_meanings.specs.Meanings.{bytes_of, class_of, kept_width, names_file, names_list, number_of, stmt_list}
+use Rattle.dwz_meanings.specs.Meanings.{IfSo, IsCommonText, IsEntryAmong, IsFileBy, IsLocList, IsTextBySlot, IsTextIn, MeansAs}
+use Rattle.dwz_meanings.specs.Classes.{OfAddress, OfBlock, OfCommonEntry, OfCommonText, OfConstant}
+use Rattle.dwz_meanings.specs.Classes.{Class}
+use Rattle.dwz_meanings.specs.Meanings.{Scope}
+use Rattle.dwz_meanings.specs.Classes.{OfExpression, OfFlag, OfIndex, OfInfoEntry, OfListIndex, OfOffset, OfSignature, OfText, OfTextBySlot, OfTextInLineStr, OfTextInStr, OfUnitEntry, Unread}
+use Rattle.dwz_meanings.specs.Meanings.{bytes_of, number_of, stmt_list}
+use Rattle.dwz_meanings.specs.Classes.{class_of, kept_width, names_file, names_list}
 use Rattle.dwz_meanings.specs.LineTables.{IsFileTable}
 use Rattle.dwz_meanings.proofs.DecideLemmas.{if_false, if_true}
 use Rattle.dwz_docs.specs.Texts.{IsSlot, IsTextAt}

@@ -7,7 +7,8 @@ use Rattle.dwz_codes.specs.declared.shape.Shape.{Shape}
 use Rattle.dwz_codes.specs.declared.shape.Shape.TheVariants.{Fixed16, ZeroEnded, Block1, Block2, Block4, BlockUleb}
 use Rattle.dwz_codes.specs.Forms.{form_rows}
 use Rattle.dwz_meanings.specs.Documents.{Attr, Compile, DwUnit, Entries, Expr, Kind, Node, OfType, Operand, Part, Partial, Plain, Same}
-use Rattle.dwz_meanings.specs.Meanings.{Class, OfCommonEntry, OfExpression, OfInfoEntry, OfUnitEntry, class_of}
+use Rattle.dwz_meanings.specs.Classes.{OfCommonEntry, OfExpression, OfInfoEntry, OfUnitEntry}
+use Rattle.dwz_meanings.specs.Classes.{Class, class_of}
 use Rattle.dwz_docs.specs.Trees.{End, Entry}
 use Rattle.dwz_docs.specs.Values.{Bytes, Number, run_bytes, shape_of, value_bytes, written_rows}
 use Rattle.dwz_docs.specs.ElfLayout.{too_large}

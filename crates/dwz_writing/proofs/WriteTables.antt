@@ -13,7 +13,8 @@ use Rattle.dwz_docs.specs.Abbrevs.{Declaration, EndsPairs, EndsTable, IsDeclared
 use Rattle.dwz_docs.specs.Abbrevs.{pairs_bytes, table_bytes}
 use Rattle.dwz_meanings.specs.Documents.{Attr, DwUnit, Entries, Node}
 use Rattle.dwz_docs.specs.Lists.{Each, SpellsItems}
-use Rattle.dwz_meanings.specs.Meanings.{ClassRow, Unread, class_in, class_of, class_rows}
+use Rattle.dwz_meanings.specs.Classes.{Unread}
+use Rattle.dwz_meanings.specs.Classes.{ClassRow, class_in, class_of, class_rows}
 use Rattle.dwz_docs.specs.Parts.{StandsAt}
 use Rattle.dwz_docs.specs.Trees.{End, Entry, size}
 use Rattle.dwz_writing.specs.Sound.{SoundAttr, SoundEntries, SoundNode, SoundUnit}

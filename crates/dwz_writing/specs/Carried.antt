@@ -7,8 +7,12 @@ use Rattle.dwz_meanings.specs.LinesWritten.{AreTexts}
 use Rattle.dwz_docs.specs.ElfLayout.{too_large}
 use Rattle.dwz_docs.specs.Entries.{RawAttr}
 use Rattle.dwz_docs.specs.Lists.{Each, In}
-use Rattle.dwz_meanings.specs.Meanings.{Class, IfSo, OfCommonText, OfConstant, OfExpression, OfListIndex, OfOffset, OfTextBySlot}
-use Rattle.dwz_meanings.specs.Meanings.{OfTextInLineStr, OfTextInStr, Scope, Sources, Unread, class_of, names_file, names_list}
+use Rattle.dwz_meanings.specs.Meanings.{IfSo}
+use Rattle.dwz_meanings.specs.Classes.{OfCommonText, OfConstant, OfExpression, OfListIndex, OfOffset, OfTextBySlot}
+use Rattle.dwz_meanings.specs.Classes.{Class}
+use Rattle.dwz_meanings.specs.Meanings.{Scope, Sources}
+use Rattle.dwz_meanings.specs.Classes.{OfTextInLineStr, OfTextInStr, Unread}
+use Rattle.dwz_meanings.specs.Classes.{class_of, names_file, names_list}
 use Rattle.dwz_docs.specs.Trees.{End, Entry}
 use Rattle.dwz_docs.specs.Values.{AreBytes, SpellsValue}
 use Rattle.dwz_seen.specs.Seen.{Named, Seen, all_seen}

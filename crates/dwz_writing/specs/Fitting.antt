@@ -4,7 +4,8 @@ use Rattle.dwz_meanings.specs.Documents.{Attr, Compile, DwUnit, Entries, Expr, K
 use Rattle.dwz_meanings.specs.Documents as document
 use Rattle.dwz_docs.specs.Entries.{Mode}
 use Rattle.dwz_docs.specs.Lists.{Each, In}
-use Rattle.dwz_meanings.specs.Meanings.{Class, OfCommonEntry, OfExpression, OfInfoEntry, OfListIndex, OfOffset, OfUnitEntry, class_of}
+use Rattle.dwz_meanings.specs.Classes.{OfCommonEntry, OfExpression, OfInfoEntry, OfListIndex, OfOffset, OfUnitEntry}
+use Rattle.dwz_meanings.specs.Classes.{Class, class_of}
 use Rattle.dwz_meanings.specs.Patching.{FitsIn}
 use Rattle.dwz_docs.specs.Trees.{End, Entry, size}
 use Rattle.dwz_docs.specs.Values.{written_rows}

@@ -4,9 +4,13 @@ use Rattle.dwz_meanings.specs.Documents.{Attr, Compile, DwUnit, Entries, Expr, F
 use Rattle.dwz_meanings.specs.Documents.{Text, attr_map, kind_map, only, value_map}
 use Rattle.dwz_docs.specs.Entries.{Mode, RawAttr}
 use Rattle.dwz_docs.specs.Lists.{Each, In}
-use Rattle.dwz_meanings.specs.Meanings.{Around, Class, Common, IfSo, MeanUnits, MeansAttr, OfCommonEntry, OfCommonText, OfConstant}
-use Rattle.dwz_meanings.specs.Meanings.{OfExpression, OfInfoEntry, OfListIndex, OfOffset, OfTextBySlot, OfTextInLineStr, OfTextInStr}
-use Rattle.dwz_meanings.specs.Meanings.{OfUnitEntry, Scope, all_places, class_of, loclists_base, names_file, names_list, number_of, path_by}
+use Rattle.dwz_meanings.specs.Meanings.{Around, Common, IfSo, MeanUnits, MeansAttr}
+use Rattle.dwz_meanings.specs.Classes.{OfCommonEntry, OfCommonText, OfConstant}
+use Rattle.dwz_meanings.specs.Classes.{Class}
+use Rattle.dwz_meanings.specs.Classes.{OfExpression, OfInfoEntry, OfListIndex, OfOffset, OfTextBySlot, OfTextInLineStr, OfTextInStr}
+use Rattle.dwz_meanings.specs.Meanings.{Scope, all_places, loclists_base, number_of, path_by}
+use Rattle.dwz_meanings.specs.Classes.{OfUnitEntry}
+use Rattle.dwz_meanings.specs.Classes.{class_of, names_file, names_list}
 use Rattle.dwz_model.specs.declared.place.Base.{Base}
 use Rattle.dwz_model.specs.declared.place.Base.TheVariants.{Unit as FromUnit, Info as FromInfo}
 use Rattle.dwz_meanings.specs.Documents as document

@@ -5,8 +5,10 @@ use Rattle.dwz_docs.specs.ElfLayout.{too_large}
 use Rattle.dwz_docs.specs.Texts.{slot}
 use Rattle.dwz_meanings.specs.Documents.{Attr, DwUnit, Entries, File, Kind, Node, Partial, Plain}
 use Rattle.dwz_meanings.specs.LinesWritten.{header_written}
-use Rattle.dwz_meanings.specs.Meanings.{Class, OfCommonEntry, OfConstant, OfInfoEntry, OfTextBySlot, OfTextInLineStr, OfTextInStr}
-use Rattle.dwz_meanings.specs.Meanings.{OfUnitEntry, class_of, names_file}
+use Rattle.dwz_meanings.specs.Classes.{OfCommonEntry, OfConstant, OfInfoEntry, OfTextBySlot, OfTextInLineStr, OfTextInStr}
+use Rattle.dwz_meanings.specs.Classes.{Class}
+use Rattle.dwz_meanings.specs.Classes.{OfUnitEntry}
+use Rattle.dwz_meanings.specs.Classes.{class_of, names_file}
 use Rattle.dwz_docs.specs.Trees.{End, Entry}
 use Rattle.dwz_seen.specs.Shown.{unit_keys, units_keys}
 use Rattle.dwz_alike.specs.Spots.{same_numbers}

@@ -11,7 +11,9 @@ use Rattle.dwz_docs.specs.Texts.{slot_place, text_at}
 use Rattle.dwz_docs.specs.Trees.{End, Entry}
 use Rattle.dwz_meanings.specs.Documents.{Attr, DwUnit, Entries, Node}
 use Rattle.dwz_meanings.specs.LineTables.{FileTable, IsFileTable, TextSections}
-use Rattle.dwz_meanings.specs.Meanings.{Class, OfConstant, OfTextBySlot, Sources, class_of, names_file, offset_of, texts_of}
+use Rattle.dwz_meanings.specs.Meanings.{Sources, offset_of, texts_of}
+use Rattle.dwz_meanings.specs.Classes.{OfConstant, OfTextBySlot}
+use Rattle.dwz_meanings.specs.Classes.{Class, class_of, names_file}
 use Rattle.dwz_writing.specs.Bases.{Bases, bases_in, bases_of}
 use Rattle.dwz_writing.specs.Carried.{From}
 use Rattle.dwz_writing.specs.Fitting.{EachAttr}

@@ -2,7 +2,8 @@
 use Rattle.std.specs.Prelude.{◌≡◌, ◌≢◌, ℕ, ◌<◌, ◌≤◌, ◌^◌, true, List, length}
 use Rattle.dwz_bytes.specs.Spelling.{fits_i64}
 use Rattle.dwz_meanings.specs.Documents.{Attr, Compile, DwUnit, Entries, Kind, Node, OfType, Partial, ref}
-use Rattle.dwz_meanings.specs.Meanings.{Class, OfCommonEntry, OfExpression, OfInfoEntry, OfUnitEntry, Unread, class_of}
+use Rattle.dwz_meanings.specs.Classes.{OfCommonEntry, OfExpression, OfInfoEntry, OfUnitEntry, Unread}
+use Rattle.dwz_meanings.specs.Classes.{Class, class_of}
 use Rattle.dwz_docs.specs.Trees.{End, Entry}
 use Rattle.dwz_docs.specs.Values.{AreBytes, Raw, SpellsValue, written_rows}
 use Rattle.dwz_docs.specs.Lists.{Each}

@@ -8,7 +8,8 @@ use Rattle.dwz_bytes.specs.Spelling.{le_bytes, uleb}
 use Rattle.dwz_docs.specs.Abbrevs.{Declaration, children_byte, table_bytes}
 use Rattle.dwz_meanings.specs.Documents.{Attr, Block, Compile, DwUnit, Entries, Expr, Kind, Node, OfType, Operand, Part, Partial, Plain}
 use Rattle.dwz_meanings.specs.Documents.{Same, Text}
-use Rattle.dwz_meanings.specs.Meanings.{Class, OfBlock, OfCommonEntry, OfExpression, OfInfoEntry, OfText, OfUnitEntry, class_of}
+use Rattle.dwz_meanings.specs.Classes.{OfBlock, OfCommonEntry, OfExpression, OfInfoEntry, OfText, OfUnitEntry}
+use Rattle.dwz_meanings.specs.Classes.{Class, class_of}
 use Rattle.dwz_meanings.specs.Patching.{number_bytes}
 use Rattle.dwz_docs.specs.Trees.{End, Entry}
 use Rattle.dwz_docs.specs.Values.{Bytes, Number, Raw, value_bytes}

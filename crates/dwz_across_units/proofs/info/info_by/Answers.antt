@@ -11,4 +11,4 @@ returns g c =
     let all = all_joined known places roots c.in_ok-pages.pages.items c.as_slice.result.now c.in_ok-stretches.stretches.items
     c.args.first c.args.units.now c.as_slice-outs.result.now c.args.laid.now.units.items
     c.in_ok-pages.ensures c.as_slice.ensures.value (c.in_ok-stretches.ensures known places roots) c.as_slice-outs.ensures.value in
-    IfOk-then c.joined.result _ _ c.joined.ensures (λ info is. is ∙ all)
+    IfOk-then c.join_pages.result _ _ c.join_pages.ensures (λ info is. is ∙ all)

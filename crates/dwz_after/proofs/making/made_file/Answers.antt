@@ -26,7 +26,7 @@ returns-in-Err-Refused c o r common can =
     let fault = c.in-Err-Refused.fault in
     let so = subst (λ (new : Option NewFile). CanMake r c.args.file bytes new) c.in-Some.is can in
     let says = c.in_ok-sup.ensures o r c.args.file common so.is_new.imports in
-    let refused : c.rebuilt.result ≡ Err (Refused fault) = c.in-Err-Refused.is ∙ ap Err c.in-Err-Refused.field-0-is in
+    let refused : c.rebuild_file.result ≡ Err (Refused fault) = c.in-Err-Refused.is ∙ ap Err c.in-Err-Refused.field-0-is in
     let why = subst (Finishes (λ out. out.items) (view_of bytes (changes_by n.sections sup)) bytes) refused
-    (c.rebuilt.ensures (can_give (sup_name o) r c.args.file bytes n sup so says)) in
+    (c.rebuild_file.ensures (can_give (sup_name o) r c.args.file bytes n sup so says)) in
     (fault, file_refused (sup_name o) r c.args.file bytes n sup so says fault why, c.in_file.ensures)

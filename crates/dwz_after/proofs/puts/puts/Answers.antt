@@ -15,13 +15,13 @@ loop-file-init c = (
 
 pub loop-file-preserved : goal.loop-file-preserved
 loop-file-preserved c = (
-  λ k above. (let other : k ≢ c.loop-file.file = omega arith in c.taken-new.ensures.others k other ∙ c.loop-file.invariant.0 k (omega arith)),
+  λ k above. (let other : k ≢ c.loop-file.file = omega arith in c.take_row-new.ensures.others k other ∙ c.loop-file.invariant.0 k (omega arith)),
   λ r before common bytes.
       (let names = c.as_slice-name-items.ensures in
       let less : c.loop-file.file < length c.args.options.now.files = subst (λ (ns : List (List ℕ)). c.loop-file.file < length ns) names c.loop-file-test.true in
-      let row = c.taken-new.ensures.row ∙ (c.loop-file.invariant.0 c.loop-file.file (omega arith) ∙ bytes c.loop-file.file) in
+      let row = c.take_row-new.ensures.row ∙ (c.loop-file.invariant.0 c.loop-file.file (omega arith) ∙ bytes c.loop-file.file) in
       puts_step c.args.options.now r c.loop-file.puts.items c.add_put.new.puts.items _ c.args.options.now.files c.loop-file.file c.name-item.result
-      c.content_of-old.result.now c.taken-new.result less
+      c.content_of-old.result.now c.take_row-new.result less
       (c.name-item.is ∙ ap (λ (ns : List (List ℕ)). get_or ns c.loop-file.file c.name-item.result) names)
       (c.content_of-old.ensures ∙ before c.loop-file.file) row c.in_ok-add_put.ensures (c.loop-file.invariant.1 r before common bytes)),
 )

@@ -6,7 +6,7 @@ pub loop-file-preserved : goal.loop-file-preserved
 loop-file-preserved c o r before bytes =
     lines_step o r c.loop-file.lines.items c.push.new.self.items _ c.args.names.now c.loop-file.file c.index-names-file.result c.content_of.result.now
     _ _ c.loop-file-test.true c.index-names-file.is (c.content_of.ensures ∙ before c.loop-file.file) (bytes c.loop-file.file)
-    (cc (c.in_ok-copied.ensures, c.new_length.ensures)) c.in_ok-push.ensures.items
+    (cc (c.in_ok-copy_name.ensures, c.new_length.ensures)) c.in_ok-push.ensures.items
     (c.loop-file.invariant o r before bytes)
 
 pub returns : goal.returns

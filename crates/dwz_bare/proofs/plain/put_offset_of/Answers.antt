@@ -1,5 +1,6 @@
 use Rattle.std.proofs.Common.{ℕ, ap, sym, ◌∙◌}
-use Rattle.dwz_meanings.specs.Meanings.{Sources, list_meaning}
+use Rattle.dwz_meanings.specs.Meanings.{Sources}
+use Rattle.dwz_meanings.specs.Meant.{list_meaning}
 use Rattle.dwz_resolve.specs.Resolved.{stored}
 use Rattle.dwz_bare.proofs.PlainLemmas.{list_means}
 use Rattle.dwz_bare.proofs.plain.put_offset_of.Goals as goal

@@ -1,5 +1,6 @@
 use Rattle.std.proofs.Common.{ℕ, Option, ap, sym, refl, ◌∙◌}
-use Rattle.dwz_meanings.specs.Meanings.{Sources, list_from}
+use Rattle.dwz_meanings.specs.Meanings.{Sources}
+use Rattle.dwz_meanings.specs.Meant.{list_from}
 use Rattle.dwz_resolve.specs.declared.class.Class.TheVariants as code
 use Rattle.dwz_resolve.specs.Resolved.{stored}
 use Rattle.dwz_bare.proofs.PlainLemmas.{as_is, is_class, simple_is}

@@ -1,7 +1,8 @@
 use Rattle.std.proofs.Common.{◌≡◌, Ok, arith, subst}
 use Rattle.dwz_docs.specs.Units.{RawUnit}
-use Rattle.dwz_meanings.specs.Meanings.{scope_of, unit_meaning}
-use Rattle.dwz_meanings.proofs.MeaningLemmas.{node_agrees, unit_agrees}
+use Rattle.dwz_meanings.specs.Meanings.{scope_of}
+use Rattle.dwz_meanings.specs.Meant.{unit_meaning}
+use Rattle.dwz_meanings.proofs.MeaningUnits.{node_agrees, unit_agrees}
 use Rattle.dwz_resolve.proofs.UnitThere.{root_found, same_unit, unit_ends, unit_there}
 use Rattle.dwz_unit.specs.Rows.{units_of}
 use Rattle.dwz_classes.proofs.unit.unit_row.Goals as goal

@@ -23,7 +23,7 @@ returns-in-Ok-put_all-clause-ends g c words lawful = (
       (of_bytes c.in-Ok.contents.items _ c.deref.ensures.value c.look_at_all.ensures) (c.requires.answers _ _ _ _ c.in-Ok-answer.ensures).0,
   with_puts _ _ _ _ c.requires.files (all_put _ _ _ c.in-Ok-made_ready.all.items _ c.got_all.ensures.leaves c.in-Ok-put_all.ensures.done
       (c.in-Ok-made_ready.ensures ∙ ap (λ (puts : List Put). map ready_of puts) c.into_vec.ensures)),
-  c.in-Ok-said.ensures,
+  c.in-Ok-done_text.ensures,
 )
 
 pub returns-clause-ends : goal.returns-clause-ends

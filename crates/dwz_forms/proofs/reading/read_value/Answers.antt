@@ -12,7 +12,7 @@ returns-clause-writable c =
     let pair = c.args.pair.now in
     let bytes = c.bytes-bytes.result.now in
     let raw = raw_view c.in_ok-raw.raw in
-    let next = c.shaped.new.cursor in
+    let next = c.value_by_shape.new.cursor in
     let here : shaped_at c.shape_of.result pair (input bytes c.at.result) ≡ Ok (raw, next) =
     subst (λ (i : Input). shaped_at c.shape_of.result pair i ≡ Ok (raw, next)) c.new-ahead.ensures c.in_ok-raw.ensures in
     let read : value_at form_rows pair (input bytes c.at.result) ≡ Ok (raw, next) = subst (λ (s : Shape). shaped_at s pair (input bytes c.at.result) ≡ Ok (raw, next)) c.shape_of.ensures here in

@@ -15,4 +15,4 @@ returns g c =
     let many : length parts ≡ c.args.workers = ap (λ (ps : List (Vec (List (List ℕ)))). length ps) shown ∙ c.in_ok-parts.ensures.many in
     let enough : count ≤ 16 * length parts * len = subst (λ (n : ℕ). count ≤ 16 * n * len) (sym many) c.stretch_len-len.ensures in
     let are = subst (λ (ps : List (Vec (List (List ℕ)))). AreStretches label count len ps) (sym shown) c.in_ok-parts.ensures.each in
-    IfOk-weaker c.joined.result _ _ (λ labels is. is ∙ front_whole label count len (16 * length parts) enough) (c.joined.ensures label count len are)
+    IfOk-weaker c.join_stretches.result _ _ (λ labels is. is ∙ front_whole label count len (16 * length parts) enough) (c.join_stretches.ensures label count len are)

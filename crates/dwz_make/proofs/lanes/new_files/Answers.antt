@@ -9,8 +9,8 @@ use Rattle.dwz_make.proofs.lanes.new_files.Goals as goal
 pub returns-then-step-lt2 : goal.returns-then-step-lt2
 returns-then-step-lt2 g c f is = all_new (run f) c.every.result (c.every.ensures f is)
 
-pub dealt-requires-clause-lanes : goal.dealt-requires-clause-lanes
-dealt-requires-clause-lanes g c =
+pub take_turns-requires-clause-lanes : goal.take_turns-requires-clause-lanes
+take_turns-requires-clause-lanes g c =
     let f = c.requires.work.0 in
     let is = c.requires.work.1 in
     let ranks = c.args.work.now.prepared.now.ordered.ranks in
@@ -26,7 +26,7 @@ returns g c f is =
     let ranks = c.args.work.now.prepared.now.ordered.ranks in
     let long = ranks_long f c.args.work.now is ranks.items refl in
     let count : c.len-count.result ≡ length (run f).files = omega (arith, long, c.len-count.ensures, ranks.ok.0) in
-    c.dealt.ensures (run f)
+    c.take_turns.ensures (run f)
     (subst (λ (step : ℕ). AreLanes (run f) step 0 (map into_iter_items c.in_ok-lanes.lanes.items)) (sym c.in_ok-lanes.ensures.len)
     (c.in_ok-lanes.ensures.each f is))
     count

@@ -53,8 +53,8 @@ prune_files-requires-clause-many g c =
     let whole : AreWhole f j.ordered.order.lent o.orders.items c.in_ok-whole.whole =
     whole_so contents files prunes a o k j c.as_slice-importing.result.now c.as_slice-importing.ensures.value c.as_slice-orders.result.now
     c.as_slice-orders.ensures.value c.in_ok-whole.whole c.in_ok-whole.ensures in
-    let w = c.written.ensures in
-    ranks_long contents files prunes a o k j c.in_ok-whole.whole whole c.written.result w.ranks w.orders w.firsts
+    let w = c.as_written.ensures in
+    ranks_long contents files prunes a o k j c.in_ok-whole.whole whole c.as_written.result w.ranks w.orders w.firsts
 
 pub prune_files-requires-clause-texts : goal.prune_files-requires-clause-texts
 prune_files-requires-clause-texts g c =
@@ -76,8 +76,8 @@ prune_files-requires-clause-texts g c =
     let whole : AreWhole f j.ordered.order.lent o.orders.items c.in_ok-whole.whole =
     whole_so contents files prunes a o k j c.as_slice-importing.result.now c.as_slice-importing.ensures.value c.as_slice-orders.result.now
     c.as_slice-orders.ensures.value c.in_ok-whole.whole c.in_ok-whole.ensures in
-    let w = c.written.ensures in
-    texts_named contents files prunes a o k j c.in_ok-whole.whole whole c.written.result w.ranks w.orders w.firsts
+    let w = c.as_written.ensures in
+    texts_named contents files prunes a o k j c.in_ok-whole.whole whole c.as_written.result w.ranks w.orders w.firsts
 
 pub returns-clause-ready : goal.returns-clause-ready
 returns-clause-ready g c =
@@ -101,10 +101,10 @@ returns-clause-ready g c =
     let whole : AreWhole f j.ordered.order.lent o.orders.items v =
     whole_so contents files prunes a o k j c.as_slice-importing.result.now c.as_slice-importing.ensures.value c.as_slice-orders.result.now
     c.as_slice-orders.ensures.value v c.in_ok-whole.ensures in
-    let w = c.written.ensures in
+    let w = c.as_written.ensures in
     let pruned = c.in_ok-pruned.pruned.items in
     let are = subst (λ (orders : List (List UnitItems)). ArePruned f v.known orders pruned) w.orders
     (c.in_ok-pruned.ensures f
-    (files_written_are contents files prunes a o k j v whole c.written.result w.ranks w.orders w.firsts)) in
+    (files_written_are contents files prunes a o k j v whole c.as_written.result w.ranks w.orders w.firsts)) in
     let moved = subst (λ (ps : List (Option PrunedFile)). AreMoved ps v.known m) c.deref.ensures.value c.in_ok-known-2.ensures in
     is_ready contents files prunes a o k j v whole pruned m are moved _ refl refl refl refl refl refl

@@ -17,5 +17,5 @@ returns-clause-settled g c =
     c.deref-2.ensures.value
     c.in_ok-settled.ensures.scope c.in_ok-settled.ensures.planned c.in_ok-indexes.ensures planned c.in_ok-settled.ensures.settled
     c.in_ok-settled.ensures.importing c.in_ok-settled.ensures.fits
-    c.settled-lent.result
-    c.settled-lent.ensures
+    c.as_settled-lent.result
+    c.as_settled-lent.ensures

@@ -11,8 +11,8 @@ loop-number-init c = (
     let docs = docs_of c.args.graph.now in
     let indexes = c.args.indexes.now in
     record {
-      any = files_begin docs indexes names_in_unit c.in_ok-unset.field-0.items (c.in_ok-unset.ensures docs c.requires);
-      uleb = files_begin docs indexes (λ n. pinned_in (is_in n)) c.in_ok-unset-2.field-0.items (c.in_ok-unset-2.ensures docs c.requires);
+      any = files_begin docs indexes names_in_unit c.in_ok-unset_flags.field-0.items (c.in_ok-unset_flags.ensures docs c.requires);
+      uleb = files_begin docs indexes (λ n. pinned_in (is_in n)) c.in_ok-unset_flags-2.field-0.items (c.in_ok-unset_flags-2.ensures docs c.requires);
     })
 
 pub bounds-indexes-number : goal.bounds-indexes-number

@@ -1,7 +1,8 @@
-use Rattle.dwz_meanings.specs.Meanings.{units_meaning}
+use Rattle.dwz_meanings.specs.Meant.{units_meaning}
 use Rattle.dwz_meanings.proofs.AgreeLemmas.{just_one}
 use Rattle.dwz_meanings.proofs.ClassLemmas.{classes}
-use Rattle.dwz_meanings.proofs.MeaningLemmas.{units_agree, value_agrees}
+use Rattle.dwz_meanings.proofs.MeaningLemmas.{value_agrees}
+use Rattle.dwz_meanings.proofs.MeaningUnits.{units_agree}
 use Rattle.dwz_meanings.proofs.meanings.meaning_laws.Goals as goal
 
 pub returns-clause-found : goal.returns-clause-found

@@ -20,8 +20,8 @@ loop-k-preserved c = λ raw number are. (
     let o : ListOperand = view (get_or rows k no_row) in
     let same = ap (λ (w : List ℕ). get_or w k 0) (are ∙ sym (append-nil (map (λ p. number (operand_view raw p)) rows))) ∙ beside (λ p. number (operand_view raw p)) rows [] k no_row
     c.loop-k-test.true in
-    noted_more number o (map view rows) (map view (drop k rows)) (map view (drop (k + 1) rows)) None c.loop-k.first c.noted-first.result (left_at view rows k no_row c.loop-k-test.true)
-    (c.noted-first.ensures ∙ ap (λ (n : ℕ). lesser c.loop-k.first (place_if (is_over o.operand.uleb o.operand.width n) o.operand.at)) same) (c.loop-k.invariant raw number are))
+    noted_more number o (map view rows) (map view (drop k rows)) (map view (drop (k + 1) rows)) None c.loop-k.first c.note-first.result (left_at view rows k no_row c.loop-k-test.true)
+    (c.note-first.ensures ∙ ap (λ (n : ℕ). lesser c.loop-k.first (place_if (is_over o.operand.uleb o.operand.width n) o.operand.at)) same) (c.loop-k.invariant raw number are))
 
 pub returns : goal.returns
 returns c = λ raw number are. (

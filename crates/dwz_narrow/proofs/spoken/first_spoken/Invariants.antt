@@ -1,6 +1,7 @@
 use Rattle.std.proofs.Common.{◌≡◌, ℕ, map, List, Ok}
 use Rattle.dwz_meanings.specs.Documents.{DwUnit}
-use Rattle.dwz_meanings.specs.Meanings.{Sources, alone, units_meaning}
+use Rattle.dwz_meanings.specs.Meanings.{Sources, alone}
+use Rattle.dwz_meanings.specs.Meant.{units_meaning}
 use Rattle.dwz_narrow.proofs.UnitLemmas.{UnitsLeft}
 use Rattle.dwz_resolve.specs.Named.{units_refs}
 use Rattle.dwz_unit.specs.Rows.{units_of}

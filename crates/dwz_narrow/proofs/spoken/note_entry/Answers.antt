@@ -2,7 +2,7 @@ use Rattle.std.proofs.Common.{◌≡◌, ◌+◌, ℕ, Option, List, arith, get_
 use Rattle.std.specs.Prelude.{IsOk}
 use Rattle.dwz_docs.specs.Entries.{RawAttr}
 use Rattle.dwz_forms.specs.RawValues.{raw_view}
-use Rattle.dwz_meanings.specs.Meanings.{meaning}
+use Rattle.dwz_meanings.specs.Meant.{meaning}
 use Rattle.dwz_narrow.specs.Walked.{NotesOperands}
 use Rattle.dwz_narrow.proofs.EntryLemmas.{ValuesLeft, values_all, values_end, values_more, values_sibling}
 use Rattle.dwz_out.specs.Refusals.{operands_of_attr}

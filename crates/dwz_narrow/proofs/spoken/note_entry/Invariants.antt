@@ -1,7 +1,8 @@
 use Rattle.std.proofs.Common.{◌≡◌, ◌++◌, ℕ, drop, map, List, Some, Ok, slice_get}
 use Rattle.dwz_flat.specs.Rows.{node_refs}
 use Rattle.dwz_meanings.specs.Documents.{Node}
-use Rattle.dwz_meanings.specs.Meanings.{Scope, node_meaning}
+use Rattle.dwz_meanings.specs.Meanings.{Scope}
+use Rattle.dwz_meanings.specs.Meant.{node_meaning}
 use Rattle.dwz_narrow.specs.Walked.{KeepsPlaces}
 use Rattle.dwz_narrow.proofs.EntryLemmas.{ValuesLeft}
 use Rattle.dwz_unit.specs.Rows.{EntryRow, rows_of, units_of}

@@ -1,6 +1,6 @@
 use Rattle.std.proofs.Common.{◌≡◌, ℕ, true, false, ap, drop, sym, ◌∙◌}
 use Rattle.dwz_docs.specs.Entries.{RawAttr}
-use Rattle.dwz_meanings.specs.Meanings.{class_of}
+use Rattle.dwz_meanings.specs.Classes.{class_of}
 use Rattle.dwz_narrow.proofs.ValueLemmas.{m, of_entry, of_expression, of_other, reads, targets_are}
 use Rattle.dwz_resolve.specs.Resolved.{stored}
 use Rattle.dwz_scan.specs.Bound.{is_expression}

@@ -23,8 +23,8 @@ loop-k-preserved c = λ after at more is are. (
     let target = c.target_at.ensures ∙ ap (λ (w : List ℕ). get_or w k 0) are ∙ beside (λ (p : Operand). after (led_to at p)) os more k no_operand lt in
     let number = c.number_of-number.ensures ∙ (λ i. target i - base_place (is i) o.base) in
     let split = units_all at (drop k os) ∙ left_at (of_unit at) os k no_operand lt ∙ ap (λ (w : List ListOperand). of_unit at o ∷ w) (sym (units_all at (drop (k + 1) os))) in
-    noted_more (number_by after) (of_unit at o) (all_of_unit at os) (all_of_unit at (drop k os)) (all_of_unit at (drop (k + 1) os)) c.args.first c.loop-k.so_far c.noted-so_far.result split
-    (c.noted-so_far.ensures ∙ ap (λ (n : ℕ). lesser c.loop-k.so_far (place_if (is_over o.uleb o.width n) o.at)) number) (c.loop-k.invariant after at more is are))
+    noted_more (number_by after) (of_unit at o) (all_of_unit at os) (all_of_unit at (drop k os)) (all_of_unit at (drop (k + 1) os)) c.args.first c.loop-k.so_far c.note-so_far.result split
+    (c.note-so_far.ensures ∙ ap (λ (n : ℕ). lesser c.loop-k.so_far (place_if (is_over o.uleb o.width n) o.at)) number) (c.loop-k.invariant after at more is are))
 
 pub returns : goal.returns
 returns c = λ after at more is are. (

@@ -7,5 +7,5 @@ use Rattle.dwz_places.proofs.sizes.measure.Goals as goal
 pub returns-in-Imported-clause-size : goal.returns-in-Imported-clause-size
 returns-in-Imported-clause-size c =
     let unit = unit_of_part c.args.known.now c.in-Imported.part in
-    rw c.in-Imported.is (ok_sized c.measured.result 4 (import_attr c.args.known.now c.args.here.unit unit ∷ []) c.measured.ensures.size
+    rw c.in-Imported.is (ok_sized c.measure_stored.result 4 (import_attr c.args.known.now c.args.here.unit unit ∷ []) c.measure_stored.ensures.size
     (import_sized no_numbers c.args.known.now c.args.here.unit unit))

@@ -6,4 +6,4 @@ pub returns-in-None-clause-size : goal.returns-in-None-clause-size
 returns-in-None-clause-size c = rw c.in-None.is (none_sized no_numbers)
 
 pub returns-in-Some-clause-size : goal.returns-in-Some-clause-size
-returns-in-Some-clause-size c = ok_sized c.measured.result 4 (line_attrs c.args.line) c.measured.ensures.size (rw c.in-Some.is (line_sized no_numbers c.in-Some.field-0))
+returns-in-Some-clause-size c = ok_sized c.measure_stored.result 4 (line_attrs c.args.line) c.measure_stored.ensures.size (rw c.in-Some.is (line_sized no_numbers c.in-Some.field-0))

@@ -5,8 +5,8 @@ use Rattle.dwz_gain.specs.Gaining.{AreNumbers, weights_of}
 use Rattle.dwz_plan.specs.Gained.{group_of, part_seed}
 use Rattle.dwz_plan.proofs.gained.marks_of.Goals as goal
 
-pub gaining-requires-clause-groups : goal.gaining-requires-clause-groups
-gaining-requires-clause-groups c =
+pub gaining_groups-requires-clause-groups : goal.gaining_groups-requires-clause-groups
+gaining_groups-requires-clause-groups c =
     let n = length c.args.partials.now in
     let len : length c.as_slice-2.result.now ≡ n = ap (λ (bs : List Bool). length bs) (c.as_slice-2.ensures.value ∙ c.in_ok-seeds.ensures)
     ∙ length-map c.args.partials.now (part_seed (weights_of c.as_slice.result.now)) in

@@ -1,7 +1,8 @@
 use Rattle.std.proofs.Common.{◌≡◌, List, Ok, length}
 use Rattle.dwz_meanings.specs.Documents.{DwUnit}
 use Rattle.std.proofs.Common.{ℕ}
-use Rattle.dwz_meanings.specs.Meanings.{Around, texts_of, units_meaning}
+use Rattle.dwz_meanings.specs.Meanings.{Around, texts_of}
+use Rattle.dwz_meanings.specs.Meant.{units_meaning}
 use Rattle.dwz_prunable.proofs.UnitLemmas.{Left}
 use Rattle.dwz_resolve.specs.Parts.{HaveLines}
 use Rattle.dwz_unit.specs.Rows.{units_of}

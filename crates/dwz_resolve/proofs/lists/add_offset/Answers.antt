@@ -1,5 +1,5 @@
 use Rattle.std.proofs.Common.{true, sym, ◌∙◌}
-use Rattle.dwz_meanings.specs.Meanings.{names_list}
+use Rattle.dwz_meanings.specs.Classes.{names_list}
 use Rattle.dwz_unit.specs.Rows.{units_of}
 use Rattle.dwz_resolve.specs.Resolved.{scope_in}
 use Rattle.dwz_resolve.proofs.ListGoes.{adds_if}

@@ -4,7 +4,8 @@ use Rattle.dwz_model.specs.declared.fault.Fault.{Fault}
 use Rattle.dwz_model.specs.declared.fault.Reason.TheVariants.{BadString}
 use Rattle.dwz_docs.specs.Entries.{RawAttr}
 use Rattle.dwz_docs.specs.Faults.{info_fault}
-use Rattle.dwz_meanings.specs.Meanings.{Scope, all_places, as_class, entry_among}
+use Rattle.dwz_meanings.specs.Meanings.{Scope, all_places}
+use Rattle.dwz_meanings.specs.Meant.{as_class, entry_among}
 use Rattle.dwz_meanings.specs.NamedLists.{lists_as}
 use Rattle.dwz_resolve.specs.declared.class.Class.{Class}
 use Rattle.dwz_resolve.specs.declared.state.State.{State}

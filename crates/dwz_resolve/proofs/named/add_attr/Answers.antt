@@ -2,7 +2,8 @@ use Rattle.std.proofs.Common.{refl, Result, Ok, sym, ap, subst, ◌∙◌}
 use Rattle.std.specs.Prelude.{◌==◌}
 use Rattle.std.proofs.lemmas.Bool.{cond-false, cond-true, eq-eqb, ne_eqb}
 use Rattle.dwz_model.specs.declared.fault.Fault.{Fault}
-use Rattle.dwz_meanings.specs.Meanings.{Class, as_class, meaning}
+use Rattle.dwz_meanings.specs.Classes.{Class}
+use Rattle.dwz_meanings.specs.Meant.{as_class, meaning}
 use Rattle.dwz_meanings.specs.NamedLists.{list_of_attr, lists_as}
 use Rattle.dwz_resolve.specs.Named.{Found, found_in, map_ok, nothing_found}
 use Rattle.dwz_resolve.specs.Resolved.{Goes, StateIn, scope_in, stored}

@@ -1,7 +1,8 @@
 use Rattle.std.proofs.Common.{ℕ, [], refl, sym, subst, arith}
 use Rattle.dwz_model.specs.declared.fault.ReadErr.{ReadErr}
 use Rattle.dwz_docs.specs.Faults.{Fails}
-use Rattle.dwz_meanings.specs.Meanings.{entry_among, has}
+use Rattle.dwz_meanings.specs.Meanings.{has}
+use Rattle.dwz_meanings.specs.Meant.{entry_among}
 use Rattle.dwz_unit.specs.Rows.{units_of}
 use Rattle.dwz_resolve.proofs.NamedSteps.{entry_added, entry_missed}
 use Rattle.dwz_resolve.proofs.PlaceLemmas.{among_none, among_there}

@@ -34,8 +34,8 @@ returns-in_err-check_ranges-clause-answers c =
     let added = c.in_ok-add_units.ensures.goes (none_behind raw a c.new-state.result n.rows n.operands n.slots n.seen (n.tables a.sources)) in
     rw (p.1, p.2) (sets_fail a raw c.args.sections.now.aranges.now (map (place_at raw) added.more) added.lists c.in_err-check_ranges.field-0.0 added.is c.in_err-check_ranges.ensures)
 
-pub unshared-requires : goal.unshared-requires
-unshared-requires c =
+pub unshared_operands-requires : goal.unshared_operands-requires
+unshared_operands-requires c =
     let raw = units_of c.args.units.now in
     let a = around c.args.sections.now raw in
     let n = c.new-state.ensures in

@@ -1,5 +1,5 @@
 use Rattle.std.proofs.Common.{sym}
-use Rattle.dwz_resolve.proofs.ApartLemmas.{passed_all, passed_none, step_clash, step_one, step_same}
+use Rattle.dwz_resolve.proofs.PassLemmas.{passed_all, passed_none, step_clash, step_one, step_same}
 use Rattle.dwz_resolve.proofs.shared.apart.Goals as goal
 
 pub loop-operand-init : goal.loop-operand-init

@@ -1,6 +1,6 @@
 use Rattle.std.proofs.Common.{◌≡◌, [], take}
 use Rattle.dwz_resolve.specs.Apart.{AreWide, Rise}
-use Rattle.dwz_resolve.proofs.ApartLemmas.{Passed}
+use Rattle.dwz_resolve.proofs.PassLemmas.{Passed}
 use Rattle.dwz_resolve.proofs.shared.apart.Given as goal
 
 abbrev pub invariant-loop-operand : goal.invariant-loop-operand

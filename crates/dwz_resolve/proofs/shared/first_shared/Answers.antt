@@ -4,7 +4,7 @@ use Rattle.dwz_resolve.specs.declared.lists.ListRow.{ListRow}
 use Rattle.dwz_resolve.specs.declared.operands.ListOperand.{ListOperand}
 use Rattle.dwz_resolve.specs.Apart.{FindsForeign, Rows}
 use Rattle.dwz_resolve.specs.ListRows.{IsWithin, own_rows, row_test, slot_test}
-use Rattle.dwz_resolve.proofs.ApartLemmas.{got_in, rows_from_none, tested_begin, tested_end, tested_first, tested_last, tested_next, tested_start}
+use Rattle.dwz_resolve.proofs.PassLemmas.{got_in, rows_from_none, tested_begin, tested_end, tested_first, tested_last, tested_next, tested_start}
 use Rattle.dwz_resolve.proofs.shared.first_shared.Goals as goal
 
 -- where there is none

@@ -17,8 +17,8 @@ members_of-requires-clause-numbers c =
     subst (λ (l : List ℕ). All (λ n. n < c.in_ok-named.named.count) l) (sym c.as_slice.ensures.value)
     (λ k d l. subst (λ (x : ℕ). x < c.in_ok-named.named.count) (get_or_default numbers k 0 d l) (m.below k (let e = m.len in omega arith)))
 
-pub moved-requires-clause-classes : goal.moved-requires-clause-classes
-moved-requires-clause-classes c = λ k d l.
+pub moved_nodes-requires-clause-classes : goal.moved_nodes-requires-clause-classes
+moved_nodes-requires-clause-classes c = λ k d l.
     let level = c.requires.level.1 in
     let classes : List ℕ = c.args.classes.now in
     subst (λ (x : ℕ). x < length classes) (get_or_default classes k 0 d l) (let e = level.len in let i = (level.each k (omega arith)).inside in omega arith)

@@ -1,13 +1,13 @@
 use Rattle.std.proofs.Common.{◌≡◌, ◌<◌, ℕ, List, Bool, All, length, ap, sym, subst, arith}
+use Rattle.dwz_keys.specs.Mentions.{part_key, AreMentions}
+use Rattle.dwz_keys.specs.declared.mentions.Mention.{Mention}
+use Rattle.dwz_keys.specs.Among.{Among}
 use Rattle.dwz_rounds.specs.declared.members.Range.{Range}
 use Rattle.std.specs.Prelude.{slice_index}
 use Rattle.dwz_rounds.specs.Marked.{AreMarked}
-use Rattle.dwz_rounds.specs.Mentions.{part_key, AreMentions}
 use Rattle.dwz_rounds.specs.Pending.{AreSame}
-use Rattle.dwz_rounds.specs.declared.mentions.Mention.{Mention}
 use Rattle.std.specs.List.Sorted.{IsNonDecreasingBy}
 use Rattle.dwz_rounds.specs.Split.{IsGrouped}
-use Rattle.dwz_rounds.specs.Turns.{Among}
 use Rattle.dwz_rounds.specs.declared.split.Part.{Part}
 use Rattle.dwz_rounds.proofs.Marking.{marked-inside}
 use Rattle.dwz_rounds.proofs.Membership.{numbers-below}
@@ -28,14 +28,14 @@ look-requires-clause-numbers c =
     subst (λ (l : List Range). All (λ n. n < length l) c.args.numbers.now) (sym c.as_slice.ensures.value)
     (numbers-below c.args.numbers.now c.args.ranges.now.items c.args.members.now.items c.requires.members)
 
-pub grouped-requires-clause-inside : goal.grouped-requires-clause-inside
-grouped-requires-clause-inside c =
+pub group_nodes-requires-clause-inside : goal.group_nodes-requires-clause-inside
+group_nodes-requires-clause-inside c =
     let r = c.in_ok-look.ensures.looking in
     subst (λ (l : List ℕ). All (λ a. a < length c.args.numbers.now) l) (sym c.as_slice-5.ensures.value)
     (marked-inside c.look.new.room.marks.items c.look.new.room.visit.items (length c.args.numbers.now) r.marks_len r.marked)
 
-pub grouped-requires-clause-rising : goal.grouped-requires-clause-rising
-grouped-requires-clause-rising c =
+pub group_nodes-requires-clause-rising : goal.group_nodes-requires-clause-rising
+group_nodes-requires-clause-rising c =
     subst (λ (ms : List Mention). IsNonDecreasingBy (λ (m : Mention). m.source) ms) (sym c.as_slice-4.ensures.value)
     (by-source c.look.new.room.mentions.items c.in_ok-look.ensures.mentions.rising)
 

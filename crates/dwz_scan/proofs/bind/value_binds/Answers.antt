@@ -4,7 +4,7 @@ use Rattle.dwz_alike.specs.Alike.{binding_forms}
 use Rattle.dwz_docs.specs.Entries.{RawAttr}
 use Rattle.dwz_docs.specs.Lists.{has}
 use Rattle.dwz_meanings.specs.Documents.{Value}
-use Rattle.dwz_meanings.specs.Meanings.{class_of}
+use Rattle.dwz_meanings.specs.Classes.{class_of}
 use Rattle.dwz_resolve.specs.Named.{value_refs}
 use Rattle.dwz_resolve.specs.Resolved.{stored}
 use Rattle.dwz_scan.specs.Bound.{AreInto, is_expression}

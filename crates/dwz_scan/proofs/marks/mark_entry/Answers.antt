@@ -3,7 +3,7 @@ use Rattle.dwz_alike.specs.Alike.{any_attr}
 use Rattle.dwz_docs.specs.Entries.{RawAttr}
 use Rattle.dwz_forms.specs.RawValues.{raw_view}
 use Rattle.dwz_meanings.specs.Documents.{attr_map, node_map}
-use Rattle.dwz_meanings.specs.Meanings.{attr_with, meaning}
+use Rattle.dwz_meanings.specs.Meant.{attr_with, meaning}
 use Rattle.dwz_resolve.proofs.RowLemmas.{row_there}
 use Rattle.dwz_resolve.proofs.ValueSteps.{no_pair}
 use Rattle.dwz_unit.specs.Rows.{units_of}

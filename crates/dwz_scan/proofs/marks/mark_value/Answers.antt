@@ -4,7 +4,8 @@ use Rattle.dwz_docs.specs.Entries.{RawAttr}
 use Rattle.dwz_docs.specs.Lists.{In}
 use Rattle.dwz_meanings.specs.declared.exprs.Operand.{Operand}
 use Rattle.dwz_meanings.specs.Documents.{attr_map}
-use Rattle.dwz_meanings.specs.Meanings.{attr_with, class_of}
+use Rattle.dwz_meanings.specs.Classes.{class_of}
+use Rattle.dwz_meanings.specs.Meant.{attr_with}
 use Rattle.dwz_resolve.specs.Named.{value_refs}
 use Rattle.dwz_resolve.specs.Resolved.{stored}
 use Rattle.dwz_scan.specs.Bound.{is_expression}

@@ -1,5 +1,5 @@
 use Rattle.std.proofs.Common.{◌≡◌, ◌≤◌, ◌<◌, ℕ, Some, false, slice_get}
-use Rattle.dwz_meanings.specs.Meanings.{class_of}
+use Rattle.dwz_meanings.specs.Classes.{class_of}
 use Rattle.dwz_model.specs.declared.place.Pair.{Pair}
 use Rattle.dwz_scan.specs.Bound.{is_expression}
 use Rattle.dwz_scan.proofs.marks.up_to_expressions.Given as goal

@@ -12,10 +12,10 @@ loop-i-init c = record {
 
 pub loop-i-preserved : goal.loop-i-preserved
 loop-i-preserved c = record {
-  few = capped_few (c.loop-i.weight + c.weight_of_entry.result) c.added-weight.result c.added-weight.ensures;
-  left = λ s numbers rows after ds name m. rows_more (units_of c.args.units.now) s name c.args.end c.loop-i.i c.loop-i.weight c.weight_of_entry.result c.added-weight.result
+  few = capped_few (c.loop-i.weight + c.weight_of_entry.result) c.add_weights-weight.result c.add_weights-weight.ensures;
+  left = λ s numbers rows after ds name m. rows_more (units_of c.args.units.now) s name c.args.end c.loop-i.i c.loop-i.weight c.weight_of_entry.result c.add_weights-weight.result
       (rows_weight name c.args.first rows ds) c.loop-i-test.true
-      (λ ns r d h. c.weight_of_entry.ensures s ns r d name h) c.added-weight.ensures (c.loop-i.invariant.left s numbers rows after ds name m);
+      (λ ns r d h. c.weight_of_entry.ensures s ns r d name h) c.add_weights-weight.ensures (c.loop-i.invariant.left s numbers rows after ds name m);
 }
 
 pub returns-then-weight-eq-HEAVY-clause-weight : goal.returns-then-weight-eq-HEAVY-clause-weight

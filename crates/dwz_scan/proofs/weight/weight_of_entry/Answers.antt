@@ -51,7 +51,7 @@ loop-pair-preserved c =
           elim c.if-pair-ne-SIBLING.branch [
             | then-pair-ne-SIBLING w ↦
                 left_more raw s name row.entry.attrs j a c.loop-pair.weight w.weight_of_value.result c.if-pair-ne-SIBLING.weight all is w.if-pair-ne-SIBLING.true
-                (λ v e. w.weight_of_value.ensures s a.at a.end v e) (w.weight-is ∙ w.added-weight.ensures) h
+                (λ v e. w.weight_of_value.ensures s a.at a.end v e) (w.weight-is ∙ w.add_weights-weight.ensures) h
             | else-pair-ne-SIBLING w ↦
                 subst (λ (n : ℕ). AreLeft raw s name (drop (j + 1) row.entry.attrs) n all) (sym w.weight-is)
                 (left_sibling raw s name row.entry.attrs j a c.loop-pair.weight all is w.if-pair-ne-SIBLING.false h)

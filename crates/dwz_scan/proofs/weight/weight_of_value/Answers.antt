@@ -1,7 +1,7 @@
 use Rattle.std.proofs.Common.{◌≡◌, ℕ, ◌+◌, List, Option, Some, None, length, sym, ap, ◌∙◌, arith}
 use Rattle.dwz_docs.specs.Values.{value_bytes}
 use Rattle.dwz_forms.specs.RawValues.{raw_view}
-use Rattle.dwz_meanings.specs.Meanings.{class_of, names_file}
+use Rattle.dwz_meanings.specs.Classes.{class_of, names_file}
 use Rattle.dwz_resolve.specs.Resolved.{stored}
 use Rattle.dwz_scan.specs.Weights.{set_weight}
 use Rattle.dwz_scan.proofs.WeightLemmas.{form_fits, text_weighs, value_weighs, weight_or}

@@ -40,10 +40,10 @@ pub loop-place-preserved : goal.loop-place-preserved
 loop-place-preserved c =
     let s = subst (Stand c.args.section.now) (sym c.as_slice-place-items.ensures) (stand c.args.section.now c.args.places.now c.requires) in
     let at = get_or c.as_slice-place-items.result.now c.loop-place.place-index 0 in
-    let number = c.moved-number.ensures ∙ ap (moved_or_same c.args.pruned.now) (c.front_number.ensures ∙ ap (λ (w : List ℕ). le_value (take 4 w)) (whole_rest c.args.section.now at)) in
-    let fits : c.moved-number.result < 256 ^ 4 = c.moved-number.type_inv in
-    slot_step (moved_or_same c.args.pruned.now) c.as_slice-place-items.result.now c.args.section.now c.loop-place.out.items c.put_bytes.new.out.items c.loop-place.place-index c.moved-number.result s
-    c.loop-place-test.true number fits c.put_bytes.ensures c.loop-place.invariant
+    let number = c.new_number-number.ensures ∙ ap (moved_or_same c.args.pruned.now) (c.front_number.ensures ∙ ap (λ (w : List ℕ). le_value (take 4 w)) (whole_rest c.args.section.now at)) in
+    let fits : c.new_number-number.result < 256 ^ 4 = c.new_number-number.type_inv in
+    slot_step (moved_or_same c.args.pruned.now) c.as_slice-place-items.result.now c.args.section.now c.loop-place.out.items c.put_bytes.new.out.items c.loop-place.place-index
+    c.new_number-number.result s c.loop-place-test.true number fits c.put_bytes.ensures c.loop-place.invariant
 
 pub returns : goal.returns
 returns c =

@@ -1,7 +1,8 @@
 use Rattle.std.proofs.Common.{◌≡◌, ℕ, List, Ok}
 use Rattle.dwz_alike.specs.Spots.{Spot}
 use Rattle.dwz_meanings.specs.Documents.{DwUnit}
-use Rattle.dwz_meanings.specs.Meanings.{Around, units_meaning}
+use Rattle.dwz_meanings.specs.Meanings.{Around}
+use Rattle.dwz_meanings.specs.Meant.{units_meaning}
 use Rattle.dwz_scan.specs.Known.{KnowsRefs}
 use Rattle.dwz_scan.specs.Marked.{MarksIf, expression_pins}
 use Rattle.dwz_unit.specs.Rows.{units_of}

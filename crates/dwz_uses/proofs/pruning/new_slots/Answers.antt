@@ -38,10 +38,10 @@ loop-place-preserved c =
     let i = c.loop-place.place-index in
     let at = get_or places i 0 in
     let number = λ (place : ℕ). moved_or_same c.args.pruned.now (number_in_slot offsets place) in
-    let is = c.moved.ensures ∙ ap (moved_or_same c.args.pruned.now) (front_is offsets at c.front_number-number.result c.front_number-number.ensures) in
+    let is = c.new_number.ensures ∙ ap (moved_or_same c.args.pruned.now) (front_is offsets at c.front_number-number.result c.front_number-number.ensures) in
     record {
-      len = same_len at (le_bytes 4 c.moved.result) offsets c.put_four.new.out.items c.loop-place.out.items c.put_four.ensures c.loop-place.invariant.len;
-      left = written_step number places i c.moved.result c.loop-place.out.items c.put_four.new.out.items
+      len = same_len at (le_bytes 4 c.new_number.result) offsets c.put_four.new.out.items c.loop-place.out.items c.put_four.ensures c.loop-place.invariant.len;
+      left = written_step number places i c.new_number.result c.loop-place.out.items c.put_four.new.out.items
           (with_slots number places offsets) c.loop-place-test.true is c.put_four.ensures c.loop-place.invariant.left;
     }
 

@@ -41,7 +41,7 @@ returns c =
           let past : length rows ≤ c.args.code - 1 = search rules in
           ap (λ (o : Option Decl). or_else o c.args.code None) (slice_get_past rows (c.args.code - 1) past)
     ] in
-    subst (λ (t : List Declaration). option_map decl_view (option_copied c.stored_behind.result) ≡ find_decl (drop c.args.skip t) c.args.code) c.self.view_is
-    (ap (option_map decl_view) c.stored_behind.ensures
+    subst (λ (t : List Declaration). option_map decl_view (option_copied c.find_stored_behind.result) ≡ find_decl (drop c.args.skip t) c.args.code) c.self.view_is
+    (ap (option_map decl_view) c.find_stored_behind.ensures
     ∙ ap (λ (ds : List Decl). option_map decl_view (stored_decl_behind ds c.self.inside.places c.args.skip c.args.code)) c.as_slice-decls.ensures.value
     ∙ at_stored rows c.self.inside.places c.args.skip c.args.code c.self.invariant different not_first)

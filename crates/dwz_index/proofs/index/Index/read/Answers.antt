@@ -1,6 +1,6 @@
 use Rattle.std.proofs.Common.{◌≡◌, ℕ, ◌+◌, List, [], length, sym, ap, subst, ◌∙◌, arith}
 use Rattle.dwz_docs.specs.Units.{RawUnit, entries_in}
-use Rattle.dwz_meanings.proofs.MeaningLemmas.{units_agree}
+use Rattle.dwz_meanings.proofs.MeaningUnits.{units_agree}
 use Rattle.dwz_resolve.proofs.UnitStarts.{all_whole}
 use Rattle.dwz_unit.specs.Rows.{units_of}
 use Rattle.dwz_index.specs.declared.index.SpaceEntry.{SpaceEntry}

@@ -1,5 +1,6 @@
 use Rattle.std.proofs.Common.{ℕ, length, sym, subst}
-use Rattle.dwz_known.proofs.MakeLemmas.{Small, begins, ends, goes_on, small_first, small_fits, small_next, small_olds, small_parts}
+use Rattle.dwz_known.proofs.MakeLemmas.{begins, ends, goes_on}
+use Rattle.dwz_known.proofs.MakeCounts.{Small, small_first, small_fits, small_next, small_olds, small_parts}
 use Rattle.dwz_known.proofs.numbers.UnitNumbers.make.Goals as goal
 
 pub add_parts-requires : goal.add_parts-requires

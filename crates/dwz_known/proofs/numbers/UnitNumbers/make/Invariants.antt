@@ -4,7 +4,8 @@ use Rattle.dwz_moving.specs.Homes.{Rule}
 use Rattle.dwz_same.specs.Units.{common_units}
 use Rattle.dwz_known.specs.Numbering.{HaveUnits}
 use Rattle.dwz_known.specs.Owners.{move_of}
-use Rattle.dwz_known.proofs.MakeLemmas.{Going, Small}
+use Rattle.dwz_known.proofs.MakeLemmas.{Going}
+use Rattle.dwz_known.proofs.MakeCounts.{Small}
 use Rattle.dwz_known.proofs.numbers.UnitNumbers.make.Given as goal
 
 abbrev pub invariant-loop-file : goal.invariant-loop-file

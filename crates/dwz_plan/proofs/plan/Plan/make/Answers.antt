@@ -112,8 +112,8 @@ stand_ins-requires-clause-few c =
     let count = homes_count g marks c.as_slice-6.result.now (length c.args.tops.now.rows) (c.as_slice-6.ensures.value ∙ homes) many in
     omega (arith, count, c.requires.rows)
 
-pub kept-requires-clause-homes : goal.kept-requires-clause-homes
-kept-requires-clause-homes c =
+pub kept_of_units-requires-clause-homes : goal.kept_of_units-requires-clause-homes
+kept_of_units-requires-clause-homes c =
     let g : Given = given c.args.scope c.args.tops.now c.args.least.now in
     let marks : List Bool = c.in_ok-marks.marks.items in
     let many = length-rows_from c.args.tops.now.files_of_units 0 c.args.tops.now.rows c.args.least.now c.requires.least in

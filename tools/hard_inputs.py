@@ -1,7 +1,8 @@
 #!/usr/bin/env python3
 """Measures the program on files that are made to be hard: an entry with 40,000 attributes, 4,000 units over the suffixes of one
-abbreviation table (in ascending, descending and random order of offset), and 40,000 abbreviations whose shapes have one hash,
-beside as many that haven't.
+abbreviation table (in ascending, descending and random order of offset), units over each byte of a table at which a table is
+spelled, 4,000 units over tables that begin inside one declaration, and 40,000 abbreviations whose shapes have one hash, beside as
+many that haven't.
 
     tools/hard_inputs.py [--program PROGRAM] [--times N]
 
@@ -17,9 +18,9 @@ import tempfile
 from bench_runs import best_of
 from many_units import elf
 
-NAME, BYTE_SIZE, ENCODING, FIRST_USER_NAME = 0x03, 0x0B, 0x3E, 0x2000
-STRING, DATA1, IMPLICIT_CONST = 0x08, 0x0B, 0x21
-COMPILE_UNIT, BASE_TYPE, VARIABLE = 0x11, 0x24, 0x34
+SIBLING, NAME, BYTE_SIZE, ENCODING, FIRST_USER_NAME = 0x01, 0x03, 0x0B, 0x3E, 0x2000
+ADDR, STRING, DATA1, IMPLICIT_CONST = 0x01, 0x08, 0x0B, 0x21
+COMPILE_UNIT, BASE_TYPE, VARIABLE, FIRST_USER_TAG = 0x11, 0x24, 0x34, 0x4080
 
 # How a shape is hashed (dwz_tables): from 0 on, for each word the exclusive or with it, times this, of which 64 bits stay.
 STEP, MASK = 0x9E3779B97F4A7C15, (1 << 64) - 1
@@ -77,6 +78,55 @@ def suffixes(count, arrange):
     return elf(b"".join(units), table + b"\0")
 
 
+def uleb_at(data, at):
+    number = shift = 0
+    while True:
+        number, shift, at = number | (data[at] & 127) << shift, shift + 7, at + 1
+        if data[at - 1] < 128:
+            return number, at
+
+
+def read_declaration(data, at):
+    """The code of the declaration at a place, and the place behind it, or None."""
+    code, at = uleb_at(data, at)
+    tag, at = uleb_at(data, at)
+    children, at = data[at], at + 1
+    if code == 0 or not 0 < tag < 1 << 16 or children > 1:
+        return None
+    while True:
+        name, at = uleb_at(data, at)
+        form, at = uleb_at(data, at)
+        if form == IMPLICIT_CONST:
+            at = uleb_at(data, at)[1]
+        if name == form == 0:
+            return code, at
+        if name == 0 or form == 0 or name >= 1 << 16:
+            return None
+
+
+def every_byte(count):
+    """Units of one entry each, over each byte of a table of so many declarations, and one more for the entry, at which a table is spelled."""
+    table, codes = b"", {}
+    for number in range(count):
+        codes[number + 1] = len(table)
+        table += declaration(number + 1, FIRST_USER_TAG + number, 1, [(SIBLING, DATA1), (BYTE_SIZE, IMPLICIT_CONST, 5)])
+    codes[count + 1] = len(table)
+    table += declaration(count + 1, COMPILE_UNIT, 0, []) + b"\0"
+    starts, units = set(codes.values()), []
+    for start in range(codes[count + 1] + 1):
+        read = (0, start) if start in starts else read_declaration(table, start)
+        if read and read[1] in starts and codes.get(read[0], -1) < read[1]:
+            units.append(unit(start, uleb(count + 1)))
+    return elf(b"".join(units), table)
+
+
+def inside_one(count):
+    """Units of one entry each, over tables that begin at each second byte of one declaration."""
+    table = declaration(1, 1, 1, [(SIBLING, ADDR)] * count)
+    units = [unit(2 * number, uleb(2)) for number in range(count)]
+    return elf(b"".join(units), table + declaration(2, COMPILE_UNIT, 0, []) + b"\0")
+
+
 def constants(count, one_hash):
     """For each name a constant, such that all shapes with these two have one hash, or that they have as many bytes and differ."""
     found = []
@@ -107,6 +157,8 @@ def main():
         ("4,000 units over suffixes of one table, ascending", suffixes(4000, lambda units: None)),
         ("the same, descending", suffixes(4000, list.reverse)),
         ("the same, shuffled", suffixes(4000, random.Random(1).shuffle)),
+        ("units over each byte of 1,000 declarations", every_byte(1000)),
+        ("4,000 units over tables inside one declaration", inside_one(4000)),
         ("40,000 shapes of one hash", many_shapes(40000, True)),
         ("40,000 shapes of different hashes", many_shapes(40000, False)),
     )

@@ -39,7 +39,7 @@ def main():
     letters = defaultdict(list)
     for name in sorted(names, key=lambda name: (name.lower(), name)):
         letters[name[0].upper()].append("`%s` (%s)" % (name, "; ".join(dict.fromkeys(places[name]))))
-    lines = [HEAD, "", "Each name that stands above, with the crate and the file of its folder `specs` where it is defined."]
+    lines = [HEAD, "", "Each definition whose name stands above, with the crate and the file of its folder `specs` where it stands. The cases of one aren't listed."]
     for entries in letters.values():
         lines += ["", *textwrap.wrap(", ".join(entries) + ".", 160, break_long_words=False, break_on_hyphens=False)]
     with open(PAGE, "w", encoding="utf-8") as file:

@@ -1,5 +1,6 @@
 pub mod AppendLemmas
 pub mod BehindLemmas
+pub mod FollowLemmas
 pub mod PlaceLemmas
 pub mod StartLemmas
 pub mod WriteLemmas

@@ -1,11 +1,11 @@
 //! Tables that are read.
 
-ghost use Rattle.std.specs.Prelude.{◌≡◌, [], IfOk};
+ghost use Rattle.std.specs.Prelude.{◌≡◌, [], IfErr, IfOk, IfSome, true};
 ghost use Rattle.std.specs.Option.{option_map};
-ghost use Rattle.dwz_docs.specs.Abbrevs.{constant_at, declaration_at, pair_at, pairs_at, table_at};
-ghost use Rattle.dwz_docs.specs.Faults.{Answers, AnswersAt, bad_abbrev};
+ghost use Rattle.dwz_docs.specs.Abbrevs.{FitsTable, constant_at, declaration_at, pair_at, pairs_at, table_at};
+ghost use Rattle.dwz_docs.specs.Faults.{Answers, AnswersAt, Fails, bad_abbrev};
 ghost use Rattle.dwz_model.specs.declared.fault.ReadErr.TheVariants.{Refused};
-ghost use Rattle.dwz_abbrev.specs.Starts.{AreStarts};
+ghost use Rattle.dwz_abbrev.specs.Starts.{IsReadUpTo, IsStop};
 ghost use Rattle.dwz_abbrev.specs.Views.{decl_view};
 
 use crate::decl::{Decl, IMPLICIT_CONST};
@@ -101,16 +101,32 @@ fn declaration(alloc: Global, earlier: &Rows, cursor: &mut Cursor) -> Result<Opt
     }))
 }
 
-// Declarations that were read, and where each begins.
+// Declarations that were read, where each begins, and where others follow that weren't.
+#[derive(Drop)]
 struct ReadRows {
     rows: Rows,
     starts: Vec<usize>,
+    stop: Option<usize>,
 }
 
-// The declarations of the table at a place.
-fn rows(alloc: Global, section: &[u8], at: usize) -> Result<ReadRows, ReadErr>
-    ensures rows { Answers (λ r. r.rows) result (table_at section.now at) }
-    ensures starts { IfOk result (λ r. AreStarts section.now r.rows r.starts.items) }
+// Whether a place is in one of the lists, which ascend.
+fn is_stop(stops: &[&[usize]], place: usize) -> bool
+    ensures { result ≡ true → IsStop stops.now place }
+{
+    for list in stops {
+        if let Ok(_) = list.binary_search(&place) {
+            return true;
+        }
+    }
+    false
+}
+
+// The declarations of the table at a place, up to one of the stops or to the end.
+fn rows(alloc: Global, section: &[u8], at: usize, stops: &[&[usize]]) -> Result<ReadRows, ReadErr>
+    ensures read { IfOk result (λ r. IsReadUpTo section.now at r.rows r.starts.items r.stop) }
+    ensures fits { IfOk result (λ r. FitsTable r.rows) }
+    ensures stop { IfOk result (λ r. IfSome r.stop (IsStop stops.now)) }
+    ensures fault { IfErr result (λ e. Fails e (table_at section.now at)) }
 {
     if at > section.len() {
         return Err(bad(at));
@@ -119,34 +135,53 @@ fn rows(alloc: Global, section: &[u8], at: usize) -> Result<ReadRows, ReadErr>
     let mut starts = Vec::new(alloc);
     let mut cursor = Cursor::new(section, at);
     let mut start = at;
-    while let Some(decl) = declaration(alloc, &rows, &mut cursor)? {
+    while !is_stop(stops, start) {
+        let Some(decl) = declaration(alloc, &rows, &mut cursor)? else {
+            return Ok(ReadRows {
+                rows,
+                starts,
+                stop: None,
+            });
+        };
         rows.push(decl)?;
         starts.push(start)?;
         start = cursor.at();
     }
-    Ok(ReadRows { rows, starts })
+    Ok(ReadRows {
+        rows,
+        starts,
+        stop: Some(start),
+    })
 }
 
 impl Table {
-    /// Reads the table at an offset of `.debug_abbrev`, in bytes from the section's first (DWARF 5, 7.5.3), and says where each of
-    /// its declarations begins: a table at one of those offsets is the end of this one. Refused as `BadAbbrev` exactly where no
-    /// table is spelled there: at the first declaration that isn't spelled, or whose code one before it has, or at the offset
-    /// where that is past the end of the section.
-    pub fn read_with_starts(alloc: Global, section: &[u8], at: u32) -> Result<ReadTable, ReadErr>
-        ensures table { Answers (λ r. r.table) result (table_at section.now at) }
-        ensures starts { IfOk result (λ r. AreStarts section.now r.table r.starts.items) }
+    /// Reads the table at an offset of `.debug_abbrev`, in bytes from the section's first (DWARF 5, 7.5.3), up to a declaration that
+    /// begins at one of the `stops`, ascending lists of places, or else to its end. Says where each declaration begins: the table
+    /// there is the end of this one. Refused as `BadAbbrev` at the first declaration that isn't spelled, or whose code one before
+    /// it has, or at the offset where that is past the end of the section.
+    pub fn read_up_to(
+        alloc: Global,
+        section: &[u8],
+        at: u32,
+        stops: &[&[usize]],
+    ) -> Result<ReadTable, ReadErr>
+        ensures read { IfOk result (λ r. IsReadUpTo section.now at r.table r.starts.items r.stop) }
+        ensures stop { IfOk result (λ r. IfSome r.stop (IsStop stops.now)) }
+        ensures fault { IfErr result (λ e. Fails e (table_at section.now at)) }
     {
-        let ReadRows { rows, starts } = rows(alloc, section, at as usize)?;
+        let ReadRows { rows, starts, stop } = rows(alloc, section, at as usize, stops)?;
         Ok(ReadTable {
             table: Table { rows },
             starts,
+            stop,
         })
     }
 
-    /// The same without the places.
+    /// Reads the whole table at an offset. Refused exactly where no table is spelled there, at the same places.
     pub fn read(alloc: Global, section: &[u8], at: u32) -> Result<Table, ReadErr>
         ensures { Answers (λ t. t) result (table_at section.now at) }
     {
-        Ok(Table::read_with_starts(alloc, section, at)?.table)
+        let ReadRows { rows, .. } = rows(alloc, section, at as usize, &[])?;
+        Ok(Table { rows })
     }
 }

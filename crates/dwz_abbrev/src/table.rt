@@ -4,7 +4,7 @@ ghost use Rattle.std.specs.Prelude.{◌≡◌, ◌==◌, ◌<◌, ◌^◌, ◌+�
 ghost use Rattle.std.specs.Option.{option_copied, option_map};
 ghost use Rattle.dwz_docs.specs.Abbrevs.{IsCounted, IsPlainPair, find_decl, with_code};
 ghost use Rattle.dwz_abbrev.specs.Ranges.{IsInRange};
-ghost use Rattle.dwz_abbrev.specs.Views.{decl_view};
+ghost use Rattle.dwz_abbrev.specs.Views.{decl_view, views};
 
 use crate::decl::Decl;
 use crate::rows::Rows;
@@ -18,11 +18,13 @@ pub struct Table {
     pub(crate) rows: Rows,
 }
 
-/// A table that was read, and where each of its declarations begins, in bytes from the section's first.
+/// Declarations of a table that were read, and where each begins, in bytes from the section's first.
 #[derive(Drop)]
 pub struct ReadTable {
     pub table: Table,
     pub starts: Vec<usize>,
+    /// Where the table goes on, if it wasn't read to its end.
+    pub stop: Option<usize>,
 }
 
 impl Model for Table {
@@ -95,6 +97,13 @@ impl Table {
         ensures { option_map decl_view (option_copied result) ≡ find_decl (drop skip self.now) code }
     {
         self.rows.decl_behind(skip, code)
+    }
+
+    /// The declarations, in the order in which they stand.
+    pub fn decls(&self) -> &[Decl]
+        ensures { views result.now ≡ self.now }
+    {
+        self.rows.as_slice()
     }
 
     /// Appends a declaration of this tag, with or without children, and these pairs, under the next code, counted from 1. After

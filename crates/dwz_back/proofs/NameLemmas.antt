@@ -6,7 +6,7 @@ use Rattle.dwz_alike.specs.Spots.{Spot, same_spot}
 use Rattle.dwz_seen.specs.Lists.{NoneTwice}
 use Rattle.dwz_seen.specs.Shown.{units_keys}
 use Rattle.dwz_same.specs.Units.{all_units, common_units, file_units, out_units}
-use Rattle.dwz_same.proofs.ApartUnits.{keys_joined}
+use Rattle.dwz_same.proofs.ApartOwn.{keys_joined}
 use Rattle.dwz_writing.specs.Meant.{all_entry_keys}
 use Rattle.dwz_writing.specs.Placing.{FileOut, file_in, files_keys, has_key}
 use Rattle.dwz_seen.proofs.OnceLemmas.{none_both, none_left, none_right}

@@ -13,7 +13,7 @@ use Rattle.dwz_moving.specs.Homes.{IsChoice, Rule}
 use Rattle.dwz_same.specs.After.{ArePlaced, FilesSame, Place, at_file}
 use Rattle.dwz_same.specs.Units.{all_units, changes, common_units, file_units, out_units}
 use Rattle.dwz_same.proofs.FileLemmas.{files_same}
-use Rattle.dwz_same.proofs.ApartUnits.{keys_joined}
+use Rattle.dwz_same.proofs.ApartOwn.{keys_joined}
 use Rattle.dwz_same.proofs.OldFiles.{shown_append}
 use Rattle.dwz_writing.specs.Meant.{placed_attr, placed_entries, placed_node, placed_units}
 use Rattle.dwz_writing.specs.Placing.{FileFit, Fit, fit, fit_attr, fit_node, fit_unit, fit_units, unit_fit, with_form, with_keys}

@@ -1,7 +1,9 @@
 -- Booleans, options and results, case by case.
 use Rattle.std.proofs.Common.{◌≡◌, ◌||◌, Bool, true, false, refl, ℕ, zero, suc, ◌<◌, arith, Ok, Result, sym, ◌∙◌, ◌&&◌, Err, IfOk, OnOk}
 use Rattle.std.specs.Prelude.{◌↔◌, IsSome, None, Option, Some}
+use Rattle.std.specs.Ordering.{is_eq, nat_cmp}
 use Rattle.std.proofs.lemmas.Bool.{false≢true}
+use Rattle.std.proofs.lemmas.Bool.Decides.{nat_tests}
 
 pub or_left : (a b : Bool) → (a || b) ≡ false → a ≡ false
 or_left true b e = e
@@ -46,3 +48,7 @@ if_ok (Err e) P Q to h = tt
 pub on_ok : {X E : Type 0} (r : Result X E) (P Q : Type 0) → (P → Q) → OnOk r P → OnOk r Q
 on_ok (Ok x) P Q f h = f h
 on_ok (Err e) P Q f h = tt
+
+-- numbers that compare as equal are equal
+pub same_number : (a b : ℕ) → is_eq (nat_cmp a b) ≡ true → a ≡ b
+same_number a b e = grind (arith, nat_tests)

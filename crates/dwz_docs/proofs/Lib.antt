@@ -25,10 +25,9 @@ pub mod UnitLemmas
 pub mod UnitListLemmas
 pub mod UnitReads
 mod UnitRows
-mod ModeRows
 pub mod FitLemmas
 pub mod OrderLemmas
-pub mod CodeLemmas
+pub mod FindLemmas
 pub mod ListFacts
 pub mod CaseFacts
 pub mod RangeBytes

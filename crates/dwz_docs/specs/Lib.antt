@@ -18,4 +18,3 @@ pub mod PlainFile
 pub mod Supplementary
 pub mod Entries
 pub mod Units
-pub mod Modes

@@ -18,7 +18,7 @@ mod trees;
 mod units;
 mod values;
 
-pub use abbrevs::{code_laws, order_laws, table_laws};
+pub use abbrevs::{order_laws, table_laws};
 pub use elf::{FileHeader, Header, Moved, Name, NewContent, Section};
 pub use elf_faults::elf_fault_laws;
 pub use entries::{attrs_laws, entry_laws};

@@ -119,6 +119,9 @@ pub record IsFileThere (l : Limits) (number : ℕ) (xs : List (List ℕ)) (i : �
   pub read : IsRead limits number b f
   pub there : HasFile l xs i limits b (units_of f.units) read.doc
 
+first_there : (l : Limits) (number : ℕ) (x b : List ℕ) (xs : List (List ℕ)) (f : File) → x ≡ b → IsRead l number b f → IsFileThere l number (x ∷ xs) zero b f
+first_there l number x b xs f same r = record { limits = l; read = r; there = (refl, same, ap (file_meaning l) same ∙ r.means) }
+
 pub file_there : (l : Limits) (n : ℕ) (xs : List (List ℕ)) (fs : List File) (end : Limits) (i number : ℕ) (b : List ℕ) (f : File) → number ≡ n + i → AreRead l n xs fs end → slice_get xs i ≡ Some b
     → slice_get fs i ≡ Some f → IsFileThere l number xs i b f
 file_there l n [] fs end i number b f at h e g = absurd cc
@@ -127,8 +130,8 @@ file_there l n (x ∷ xs) (y ∷ fs) end zero number b f at h e g =
     let same : x ≡ b = cc in
     let one : y ≡ f = cc in
     let here : n ≡ number = omega arith in
-    let r : IsRead l number b f = subst (λ (k : ℕ). IsRead l k b f) here (subst (λ (w : File). IsRead l n b w) one (subst (λ (w : List ℕ). IsRead l n w y) same h.0)) in
-    record { limits = l; read = r; there = (refl, same, ap (file_meaning l) same ∙ r.means) }
+    first_there l number x b xs f same
+    (subst (λ (k : ℕ). IsRead l k b f) here (subst (λ (w : File). IsRead l n b w) one (subst (λ (w : List ℕ). IsRead l n w y) same h.0)))
 file_there l n (x ∷ xs) (y ∷ fs) end (suc i) number b f at h e g =
     let r = file_there (limits_after l x (units_of y.units)) (suc n) xs fs end i number b f (omega arith) h.1 e g in
     record { limits = r.limits; read = r.read; there = (units_of y.units, h.0.doc, h.0.means, r.there) }

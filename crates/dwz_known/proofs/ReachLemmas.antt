@@ -15,7 +15,8 @@ use Rattle.dwz_moving.specs.Homes.{Rule}
 use Rattle.dwz_moving.specs.Moves.{Move}
 use Rattle.dwz_same.specs.After.{ArePlaced}
 use Rattle.dwz_same.specs.Units.{common_units, file_units, out_units}
-use Rattle.dwz_same.proofs.ApartUnits.{all_apart, keys_joined}
+use Rattle.dwz_same.proofs.ApartOwn.{keys_joined}
+use Rattle.dwz_same.proofs.ApartUnits.{all_apart}
 use Rattle.dwz_same.proofs.OldFiles.{files_old}
 use Rattle.dwz_same.proofs.FileLemmas.{numbers_rise}
 use Rattle.dwz_writing.specs.Placing.{has_key}

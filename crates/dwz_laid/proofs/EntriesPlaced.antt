@@ -12,7 +12,7 @@ use Rattle.dwz_moving.specs.Homes.{Local}
 use Rattle.dwz_moving.specs.Moves.{image_in}
 use Rattle.dwz_same.specs.Units.{common_units, file_units, kept_unit, kept_units, out_units, partial_units}
 use Rattle.dwz_same.proofs.FileLemmas.{files_are}
-use Rattle.dwz_same.proofs.ApartUnits.{keys_joined}
+use Rattle.dwz_same.proofs.ApartOwn.{keys_joined}
 use Rattle.dwz_writing.specs.Placing.{Forms, UnitsStand, files_keys, fit_unit, fit_units, with_keys}
 use Rattle.dwz_writing.specs.Pruned.{renumbered_unit, renumbered_units}
 use Rattle.dwz_writing.specs.Writing.{Numbering, header_size, unit_size}

@@ -18,7 +18,7 @@ use Rattle.dwz_moving.specs.Homes.{Common, Local}
 use Rattle.dwz_moving.specs.Moves.{Move}
 use Rattle.dwz_moving.specs.Plan.{PartialUnit}
 use Rattle.dwz_same.specs.Units.{changes, common_units, kept_units, out_units, partial_unit, partial_units}
-use Rattle.dwz_same.proofs.ApartUnits.{keys_joined}
+use Rattle.dwz_same.proofs.ApartOwn.{keys_joined}
 use Rattle.dwz_writing.specs.Placing.{has_key}
 use Rattle.dwz_back.proofs.WithinLemmas.{parts_to}
 use Rattle.dwz_known.specs.Owners.{IsFileWritten, StandsIn, files_written}

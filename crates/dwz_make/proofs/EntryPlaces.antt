@@ -9,7 +9,7 @@ use Rattle.dwz_seen.specs.Shown.{units_keys}
 use Rattle.dwz_alike.specs.Spots.{Spot}
 use Rattle.dwz_moving.specs.Plan.{image}
 use Rattle.dwz_same.specs.Units.{common_units, file_units, out_units}
-use Rattle.dwz_same.proofs.ApartUnits.{keys_joined}
+use Rattle.dwz_same.proofs.ApartOwn.{keys_joined}
 use Rattle.dwz_writing.specs.Placing.{files_keys}
 use Rattle.dwz_back.specs.Files.{file_out, name_after, places}
 use Rattle.dwz_back.proofs.NameLemmas.{common_names, fitted_names}

@@ -1,5 +1,5 @@
 -- What operands of location lists name.
-use Rattle.std.specs.Prelude.{ℕ, List, [], ◌∷◌, Option, Some, map, if◌then◌else◌}
+use Rattle.std.specs.Prelude.{ℕ, List, [], ◌∷◌, Option, map, if◌then◌else◌}
 use Rattle.dwz_resolve.specs.declared.operands.ListOperand.{ListOperand}
 
 abbrev pub entries_of : List ListOperand → List ℕ
@@ -9,7 +9,3 @@ entries_of rows = map (λ row. row.entry) rows
 abbrev pub uleb_tops : List ListOperand → List (Option ℕ) → List (Option ℕ)
 uleb_tops (row ∷ rows) (t ∷ tops) = if row.uleb then t ∷ uleb_tops rows tops else uleb_tops rows tops
 uleb_tops _ _ = []
-
--- the entries that operands name that are ULEB128 numbers
-abbrev pub uleb_entries : List ListOperand → List (Option ℕ)
-uleb_entries rows = uleb_tops rows (map (λ row. Some row.entry) rows)

@@ -6,9 +6,8 @@ use Rattle.std.proofs.lemmas.Bool.{ltb-false, ltb-true}
 use Rattle.dwz_model.specs.declared.place.Base.{Base}
 use Rattle.dwz_model.specs.declared.place.Base.TheVariants.{Unit as FromUnit, Info as FromInfo}
 use Rattle.dwz_meanings.specs.declared.exprs.Operand.{Operand}
-use Rattle.dwz_docs.specs.Abbrevs.{least}
 use Rattle.dwz_docs.specs.Lists.{In}
-use Rattle.dwz_meanings.specs.Shared.{Clashes, HasByte, IsInSlot, IsSame, IsShared, IsSharedAt, IsSharedFault, ListOperand, NamedList, NoneShared, OneOf, ReadsInside, any_byte, clashes, has_byte}
+use Rattle.dwz_meanings.specs.Shared.{lesser, Clashes, HasByte, IsInSlot, IsSame, IsShared, IsSharedAt, IsSharedFault, ListOperand, NamedList, NoneShared, OneOf, ReadsInside, any_byte, clashes, has_byte}
 use Rattle.dwz_meanings.specs.Shared.{is_same, is_shared, is_within, least_place, none_shared, operands_in_lists, own_operands, places_from, reads_inside, same_base, same_truth, shared_list, slot_has}
 use Rattle.dwz_meanings.specs.Shared.{unless_shared}
 use Rattle.dwz_meanings.proofs.AgreeLemmas.{Agrees, agrees_err, agrees_ok, in_words}
@@ -106,32 +105,32 @@ abbrev IsLeast : (ListOperand → Type 0) → List ListOperand → Option ℕ �
 IsLeast P operands None = (o : ListOperand) → In o operands → P o → ⊥
 IsLeast P operands (Some n) = OneOf operands (λ o. (n ≡ o.operand.at) × P o) × ((o : ListOperand) → In o operands → P o → n ≤ o.operand.at)
 
-least_le : (n : ℕ) (o : Option ℕ) → least n o ≤ n
-least_le n None = omega arith
-least_le n (Some m) = omega arith
+lesser_le : (n : ℕ) (o : Option ℕ) → lesser n o ≤ n
+lesser_le n None = omega arith
+lesser_le n (Some m) = omega arith
 
 is_least : (test : ListOperand → Bool) (P : ListOperand → Type 0) → ((o : ListOperand) → Decides (test o) (P o)) → (operands : List ListOperand) → IsLeast P operands (least_place test operands)
 unfolding least_place
 is_least test P each [] = λ o none p. none
 is_least test P each (o ∷ operands) = by (test o) refl (least_place test operands) (is_least test P each operands) where
-  by : (b : Bool) → test o ≡ b → (rest : Option ℕ) → IsLeast P operands rest → IsLeast P (o ∷ operands) (cond b (Some (least o.operand.at rest)) rest)
+  by : (b : Bool) → test o ≡ b → (rest : Option ℕ) → IsLeast P operands rest → IsLeast P (o ∷ operands) (cond b (Some (lesser o.operand.at rest)) rest)
   by true e None none = (
     (o, inl refl, (refl, (each o).yes e)),
     λ p there is. elim there [ inl same ↦ subst (λ (q : ListOperand). o.operand.at ≤ q.operand.at) same (omega arith) | inr later ↦ absurd (none p later is) ],
   )
   by true e (Some m) h = pick (ltb m o.operand.at) refl where
-    below : (p : ListOperand) → In p (o ∷ operands) → P p → least o.operand.at (Some m) ≤ p.operand.at
-    below p (inl same) is = subst (λ (q : ListOperand). least o.operand.at (Some m) ≤ q.operand.at) same (omega arith)
+    below : (p : ListOperand) → In p (o ∷ operands) → P p → lesser o.operand.at (Some m) ≤ p.operand.at
+    below p (inl same) is = subst (λ (q : ListOperand). lesser o.operand.at (Some m) ≤ q.operand.at) same (omega arith)
     below p (inr later) is = let le = h.1 p later is in omega (arith, le)
 
-    pick : (b : Bool) → ltb m o.operand.at ≡ b → IsLeast P (o ∷ operands) (Some (least o.operand.at (Some m)))
+    pick : (b : Bool) → ltb m o.operand.at ≡ b → IsLeast P (o ∷ operands) (Some (lesser o.operand.at (Some m)))
     pick true lt =
         let less = ltb-true m o.operand.at lt in
-        let same : least o.operand.at (Some m) ≡ m = omega (arith, less) in
+        let same : lesser o.operand.at (Some m) ≡ m = omega (arith, less) in
         ((h.0.0, inr h.0.1, (same ∙ h.0.2.0, h.0.2.1)), below)
     pick false ge =
         let more = ltb-false m o.operand.at ge in
-        let same : least o.operand.at (Some m) ≡ o.operand.at = omega (arith, more) in
+        let same : lesser o.operand.at (Some m) ≡ o.operand.at = omega (arith, more) in
         ((o, inl refl, (same, (each o).yes e)), below)
   by false e None none = λ p there is. elim there [ inl same ↦ (each o).no e (subst P (sym same) is) | inr later ↦ none p later is ]
   by false e (Some m) h = (

@@ -1,13 +1,12 @@
 -- Location lists that share bytes with operands of others, so that their numbers can't be changed one by one.
 use Rattle.std.specs.Prelude.{◌≡◌, ◌⊎◌, ℕ, zero, suc, ◌+◌, ◌<◌, ◌≤◌, Bool, true, false, List, [], ◌∷◌, ◌++◌, map, Option, Some, None}
-use Rattle.std.specs.Prelude.{Result, Ok, Err, ◌==◌, ◌&&◌, ◌||◌, not, nat_lt, if◌then◌else◌}
+use Rattle.std.specs.Prelude.{Result, Ok, Err, min, ◌==◌, ◌&&◌, ◌||◌, not, nat_lt, if◌then◌else◌}
 use Rattle.std.specs.List.{list_any}
 use Rattle.dwz_model.specs.declared.fault.Fault.{Fault}
 use Rattle.dwz_model.specs.declared.fault.Reason.TheVariants.{SharedList}
 use Rattle.dwz_model.specs.declared.place.Base.{Base}
 use Rattle.dwz_model.specs.declared.place.Base.TheVariants.{Unit as FromUnit, Info as FromInfo}
 use Rattle.dwz_meanings.specs.declared.exprs.Operand.{Operand}
-use Rattle.dwz_docs.specs.Abbrevs.{least}
 use Rattle.dwz_meanings.specs.Exprs.{Expression}
 use Rattle.dwz_docs.specs.Lists.{In}
 use Rattle.dwz_meanings.specs.LocLists.{LocList}
@@ -152,10 +151,15 @@ abbrev pub is_shared : List NamedList → ListOperand → Bool
 is_shared lists o = list_any (clashes o) (operands_in_lists lists)
     || (list_any (reads_inside o.operand) lists || list_any (λ l. slot_has o.operand l.slot) lists)
 
+-- the lesser of a place and of another, if there is one
+abbrev pub lesser : ℕ → Option ℕ → ℕ
+lesser place None = place
+lesser place (Some other) = min place other
+
 -- the least place of the operands that pass a test
 unfoldable pub least_place : (ListOperand → Bool) → List ListOperand → Option ℕ
 least_place test [] = None
-least_place test (o ∷ operands) = if test o then Some (least o.operand.at (least_place test operands)) else least_place test operands
+least_place test (o ∷ operands) = if test o then Some (lesser o.operand.at (least_place test operands)) else least_place test operands
 
 abbrev pub unless_shared : Option ℕ → Result (Unit {0}) Fault
 unless_shared None = Ok tt

@@ -105,11 +105,6 @@ part_row n part = top_row (filter in_root part.tops) (chains n part.tops 0 (lead
 
 -- ---- what is kept
 
--- a ULEB128 operand names an entry, which so has to stand near the beginning
-abbrev pub is_uleb_operand : Part → Bool
-is_uleb_operand (Same bytes) = false
-is_uleb_operand (Operand width uleb base) = uleb
-
 -- the targets of the ULEB128 operands among parts, whose operands have these targets
 unfoldable pub uleb_targets : List Part → List Spot → List Spot
 uleb_targets [] refs = []

@@ -11,7 +11,7 @@ use Rattle.dwz_flat.proofs.TreeLemmas.{node_attrs}
 use Rattle.dwz_meanings.specs.Documents.{Attr, Node, Value}
 use Rattle.dwz_meanings.specs.Meanings.{Scope, without_siblings}
 use Rattle.dwz_meanings.specs.Meant.{attr_with, attrs_meaning, meaning, node_meaning, with_attr}
-use Rattle.dwz_narrow.specs.First.{first_over, lesser}
+use Rattle.dwz_narrow.specs.First.{first_over, first_of_two}
 use Rattle.dwz_narrow.specs.Narrow.{number_by}
 use Rattle.dwz_narrow.specs.Walked.{NotesOperands, row_operands, rows_operands}
 use Rattle.dwz_narrow.proofs.FirstLemmas.{Noted, noted_end, noted_some, units_append}
@@ -46,7 +46,7 @@ module _ (s : Scope ℕ) (after : ℕ → ℕ) (more : List ℕ) (old : Option �
           attrs = h.attrs;
           means = ap (attrs_meaning s) (sym same) ∙ h.means;
           targets = h.targets;
-          noted = h.noted ∙ ap (λ (w : List RawAttr). lesser now (first_over (number_by after) (all_of_unit s.unit (operands_of_attrs s w)))) same;
+          noted = h.noted ∙ ap (λ (w : List RawAttr). first_of_two now (first_over (number_by after) (all_of_unit s.unit (operands_of_attrs s w)))) same;
         }
 
     pub values_more : a.pair.name ≢ 1 → (new : Option ℕ) (rest_left : List ℕ)

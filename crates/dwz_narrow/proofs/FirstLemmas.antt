@@ -1,4 +1,4 @@
--- The first place is the least of those of narrow operands; that of two rows is the lesser of theirs.
+-- The first place is the least of those of narrow operands; that of two rows is the first of theirs.
 use Rattle.std.proofs.Common.{◌≡◌, ◌↔◌, ℕ, zero, suc, ◌+◌, ◌^◌, ◌<◌, ◌≤◌, min, Bool, true, false, List, [], ◌∷◌, ◌++◌, drop, get_or, length, map, Option, Some, None, refl, sym, ap, subst, ◌∙◌, inl}
 use Rattle.std.proofs.Common.{inr, arith}
 use Rattle.std.specs.Prelude.{nat_le}
@@ -7,52 +7,52 @@ use Rattle.std.proofs.lemmas.Bool.Decides.{leb_tells}
 use Rattle.std.proofs.lemmas.Bool.{cases_lt, false≢true, le-leb, leb-true}
 use Rattle.dwz_meanings.specs.declared.exprs.Operand.{Operand}
 use Rattle.dwz_meanings.specs.Shared.{ListOperand, of_unit}
-use Rattle.dwz_narrow.specs.First.{first_over, is_over, lesser, place_if}
+use Rattle.dwz_narrow.specs.First.{first_over, is_over, first_of_two, place_if}
 use Rattle.dwz_narrow.specs.Narrow.{FirstPlace, NeedsMore}
 use Rattle.dwz_out.specs.Refusals.{IsOver, all_of_unit}
 
--- ---- the lesser of places
+-- ---- the first of two places
 
-pub lesser_none : (a : Option ℕ) → lesser a None ≡ a
-lesser_none None = refl
-lesser_none (Some at) = refl
+pub first_alone : (a : Option ℕ) → first_of_two a None ≡ a
+first_alone None = refl
+first_alone (Some at) = refl
 
-pub lesser_assoc : (a b c : Option ℕ) → lesser (lesser a b) c ≡ lesser a (lesser b c)
-lesser_assoc None b c = refl
-lesser_assoc (Some x) None c = refl
-lesser_assoc (Some x) (Some y) None = refl
-lesser_assoc (Some x) (Some y) (Some z) = ap (λ (n : ℕ). Some n) (let same : min (min x y) z ≡ min x (min y z) = omega arith in same)
+pub first_of_three : (a b c : Option ℕ) → first_of_two (first_of_two a b) c ≡ first_of_two a (first_of_two b c)
+first_of_three None b c = refl
+first_of_three (Some x) None c = refl
+first_of_three (Some x) (Some y) None = refl
+first_of_three (Some x) (Some y) (Some z) = ap (λ (n : ℕ). Some n) (let same : min (min x y) z ≡ min x (min y z) = omega arith in same)
 
-pub first_append : (number : ListOperand → ℕ) (xs ys : List ListOperand) → first_over number (xs ++ ys) ≡ lesser (first_over number xs) (first_over number ys)
+pub first_append : (number : ListOperand → ℕ) (xs ys : List ListOperand) → first_over number (xs ++ ys) ≡ first_of_two (first_over number xs) (first_over number ys)
 unfolding first_over
 first_append number [] ys = refl
 first_append number (o ∷ xs) ys =
     let here = place_if (is_over o.operand.uleb o.operand.width (number o)) o.operand.at in
-    ap (lesser here) (first_append number xs ys) ∙ sym (lesser_assoc here (first_over number xs) (first_over number ys))
+    ap (first_of_two here) (first_append number xs ys) ∙ sym (first_of_three here (first_over number xs) (first_over number ys))
 
 -- ---- one operand more
 
--- the first place of all is the lesser of what was noted and of that of those that are left
+-- the first place of all is the first of what was noted and of that of those that are left
 abbrev pub Noted : (ListOperand → ℕ) → Option ℕ → List ListOperand → Option ℕ → List ListOperand → Type 0
-Noted number old all now left = lesser old (first_over number all) ≡ lesser now (first_over number left)
+Noted number old all now left = first_of_two old (first_over number all) ≡ first_of_two now (first_over number left)
 
 pub noted_more : (number : ListOperand → ℕ) (o : ListOperand) (all left rest : List ListOperand) (old now new : Option ℕ) → left ≡ o ∷ rest
-    → new ≡ lesser now (place_if (is_over o.operand.uleb o.operand.width (number o)) o.operand.at)
+    → new ≡ first_of_two now (place_if (is_over o.operand.uleb o.operand.width (number o)) o.operand.at)
     → Noted number old all now left → Noted number old all new rest
 unfolding first_over
 noted_more number o all left rest old now new is made so =
     let here = place_if (is_over o.operand.uleb o.operand.width (number o)) o.operand.at in
-    so ∙ ap (λ (w : List ListOperand). lesser now (first_over number w)) is ∙ sym (lesser_assoc now here (first_over number rest)) ∙ ap (λ (w : Option ℕ). lesser w (first_over number rest)) (sym made)
+    so ∙ ap (λ (w : List ListOperand). first_of_two now (first_over number w)) is ∙ sym (first_of_three now here (first_over number rest)) ∙ ap (λ (w : Option ℕ). first_of_two w (first_over number rest)) (sym made)
 
-pub noted_some : (number : ListOperand → ℕ) (all left some rest : List ListOperand) (old now new : Option ℕ) → left ≡ some ++ rest → new ≡ lesser now (first_over number some)
+pub noted_some : (number : ListOperand → ℕ) (all left some rest : List ListOperand) (old now new : Option ℕ) → left ≡ some ++ rest → new ≡ first_of_two now (first_over number some)
     → Noted number old all now left → Noted number old all new rest
 noted_some number all left some rest old now new is made so =
-    so ∙ ap (λ (w : List ListOperand). lesser now (first_over number w)) is ∙ ap (lesser now) (first_append number some rest) ∙ sym (lesser_assoc now (first_over number some) (first_over number rest))
-    ∙ ap (λ (w : Option ℕ). lesser w (first_over number rest)) (sym made)
+    so ∙ ap (λ (w : List ListOperand). first_of_two now (first_over number w)) is ∙ ap (first_of_two now) (first_append number some rest) ∙ sym (first_of_three now (first_over number some) (first_over number rest))
+    ∙ ap (λ (w : Option ℕ). first_of_two w (first_over number rest)) (sym made)
 
-pub noted_end : (number : ListOperand → ℕ) (all left : List ListOperand) (old now : Option ℕ) → left ≡ [] → Noted number old all now left → now ≡ lesser old (first_over number all)
+pub noted_end : (number : ListOperand → ℕ) (all left : List ListOperand) (old now : Option ℕ) → left ≡ [] → Noted number old all now left → now ≡ first_of_two old (first_over number all)
 unfolding first_over
-noted_end number all left old now none so = sym (so ∙ ap (λ (w : List ListOperand). lesser now (first_over number w)) none ∙ lesser_none now)
+noted_end number all left old now none so = sym (so ∙ ap (λ (w : List ListOperand). first_of_two now (first_over number w)) none ∙ first_alone now)
 
 -- ---- what it is
 
@@ -70,7 +70,7 @@ module _ (number : ListOperand → ℕ) where
   fits : (o p : ListOperand) → over o ≡ false → o ≡ p → NeedsMore number p → ⊥
   fits o p e same narrow = false≢true (sym e ∙ ap over same ∙ yes_over p narrow)
 
-  first_with : (o : ListOperand) (os : List ListOperand) (b : Bool) → over o ≡ b → (r : Option ℕ) → FirstPlace number os r → FirstPlace number (o ∷ os) (lesser (place_if b o.operand.at) r)
+  first_with : (o : ListOperand) (os : List ListOperand) (b : Bool) → over o ≡ b → (r : Option ℕ) → FirstPlace number os r → FirstPlace number (o ∷ os) (first_of_two (place_if b o.operand.at) r)
   first_with o os false e None h = λ p there narrow. elim there [ inl same ↦ fits o p e same narrow | inr later ↦ h p later narrow ]
   first_with o os false e (Some at) h = record {
     operand = h.operand;

@@ -15,7 +15,7 @@ use Rattle.dwz_meanings.specs.Documents.{DwUnit}
 use Rattle.dwz_meanings.specs.Meanings.{Around, Scope, scope_of, without_siblings}
 use Rattle.dwz_meanings.specs.Meant.{unit_meaning, units_meaning, with_units}
 use Rattle.dwz_meanings.proofs.UnitMeans.{root_is}
-use Rattle.dwz_narrow.specs.First.{first_over, lesser}
+use Rattle.dwz_narrow.specs.First.{first_over, first_of_two}
 use Rattle.dwz_narrow.specs.Narrow.{FirstPlace, number_by}
 use Rattle.dwz_narrow.specs.Walked.{NotesOperands, row_operands, rows_operands}
 use Rattle.dwz_narrow.proofs.FirstLemmas.{Noted, first_so, noted_end, noted_some}
@@ -85,7 +85,7 @@ unit_notes around raw n x u v h is_unit means shown here =
 pub unit_noted : (around : Around ℕ) (raw : List RawUnit) (u : RawUnit) (v : DwUnit ℕ) (h : Here) (n : UnitNotes around raw u v h) (after : ℕ → ℕ) (old new : Option ℕ) (more left : List ℕ)
     → NotesOperands after u.at (rows_operands (scope_of around u) n.rows) old new more left → NotesOperands after u.at (operands_of_unit around u) old new more left
 unit_noted around raw u v h n after old new more left k =
-    record { first = k.first ∙ ap (λ (w : List Operand). lesser old (first_over (number_by after) (all_of_unit u.at w))) n.operands; behind = k.behind }
+    record { first = k.first ∙ ap (λ (w : List Operand). first_of_two old (first_over (number_by after) (all_of_unit u.at w))) n.operands; behind = k.behind }
 
 -- ---- units
 

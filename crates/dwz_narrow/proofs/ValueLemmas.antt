@@ -13,10 +13,10 @@ use Rattle.dwz_meanings.specs.Meant.{meaning}
 use Rattle.dwz_meanings.proofs.ExprLemmas.{expr_agrees}
 use Rattle.dwz_model.specs.declared.place.Base.{Base}
 use Rattle.dwz_model.specs.declared.place.Base.TheVariants.{Unit as FromUnit, Info as FromInfo}
-use Rattle.dwz_narrow.specs.First.{first_over, lesser}
+use Rattle.dwz_narrow.specs.First.{first_over, first_of_two}
 use Rattle.dwz_narrow.specs.Narrow.{number_by}
 use Rattle.dwz_narrow.specs.Walked.{KeepsPlaces, NotesOperands}
-use Rattle.dwz_narrow.proofs.FirstLemmas.{lesser_none}
+use Rattle.dwz_narrow.proofs.FirstLemmas.{first_alone}
 use Rattle.dwz_out.specs.Refusals.{all_of_unit, operands_as, operands_of_attr, operands_read}
 use Rattle.dwz_resolve.specs.Named.{value_refs}
 use Rattle.dwz_scan.specs.Bound.{is_expression}
@@ -41,9 +41,9 @@ module _ (s : Scope ℕ) (plain : KeepsPlaces s) (a : RawAttr) (v : Value ℕ) (
   left_behind : (n : ℕ) → length (value_refs v) ≡ n → drop n targets ≡ more
   left_behind n many = ap (drop n) are ∙ drop_at (map after (value_refs v)) more n (length-map (value_refs v) after ∙ many)
 
-  nothing : (first : Option ℕ) → is_expression (class_of a.pair.form) ≡ false → first ≡ lesser first (first_over (number_by after) (all_of_unit s.unit (operands_of_attr s a)))
+  nothing : (first : Option ℕ) → is_expression (class_of a.pair.form) ≡ false → first ≡ first_of_two first (first_over (number_by after) (all_of_unit s.unit (operands_of_attr s a)))
   unfolding operands_of_attr first_over
-  nothing first none = sym (ap (λ (w : List Operand). lesser first (first_over (number_by after) (all_of_unit s.unit w))) (none_as s a (class_of a.pair.form) none) ∙ lesser_none first)
+  nothing first none = sym (ap (λ (w : List Operand). first_of_two first (first_over (number_by after) (all_of_unit s.unit w))) (none_as s a (class_of a.pair.form) none) ∙ first_alone first)
 
   pub of_entry : (first : Option ℕ) (left : List ℕ) → is_entry (class_of a.pair.form) ≡ true → left ≡ drop 1 targets → NotesOperands after s.unit (operands_of_attr s a) first first more left
   of_entry first left is drops = record {
@@ -88,10 +88,10 @@ module _ (s : Scope ℕ) (plain : KeepsPlaces s) (a : RawAttr) (v : Value ℕ) (
     pub targets_are : (operands : List Operand) → operands ≡ os → targets ≡ map (λ (o : Operand). after (led_to s.unit o)) operands ++ more
     targets_are operands same = are ∙ ap (λ (w : List ℕ). w ++ more) (refs_are ∙ ap (map (λ (o : Operand). after (led_to s.unit o))) (sym same))
 
-    pub of_expression : (operands : List Operand) → operands ≡ os → (old new : Option ℕ) (left : List ℕ) → new ≡ lesser old (first_over (number_by after) (all_of_unit s.unit operands))
+    pub of_expression : (operands : List Operand) → operands ≡ os → (old new : Option ℕ) (left : List ℕ) → new ≡ first_of_two old (first_over (number_by after) (all_of_unit s.unit operands))
         → left ≡ drop (length operands) targets → NotesOperands after s.unit (operands_of_attr s a) old new more left
     of_expression operands same old new left made drops = record {
-      first = made ∙ ap (λ (w : List Operand). lesser old (first_over (number_by after) (all_of_unit s.unit w))) (same ∙ sym operands_are);
+      first = made ∙ ap (λ (w : List Operand). first_of_two old (first_over (number_by after) (all_of_unit s.unit w))) (same ∙ sym operands_are);
       behind = drops ∙ ap (drop (length operands)) (targets_are operands same) ∙ drop_at (map (λ (o : Operand). after (led_to s.unit o)) operands) more (length operands)
           (length-map operands (λ (o : Operand). after (led_to s.unit o)));
     }

@@ -11,13 +11,13 @@ abbrev pub place_if : Bool → ℕ → Option ℕ
 place_if true at = Some at
 place_if false at = None
 
--- the lesser of two places, or the one if there is no other
-abbrev pub lesser : Option ℕ → Option ℕ → Option ℕ
-lesser None other = other
-lesser (Some at) None = Some at
-lesser (Some at) (Some other) = Some (min at other)
+-- the first of two places, or the one if there is no other
+abbrev pub first_of_two : Option ℕ → Option ℕ → Option ℕ
+first_of_two None other = other
+first_of_two (Some at) None = Some at
+first_of_two (Some at) (Some other) = Some (min at other)
 
 unfoldable pub first_over : (ListOperand → ℕ) → List ListOperand → Option ℕ
 first_over number [] = None
 first_over number (o ∷ operands) =
-    lesser (place_if (is_over o.operand.uleb o.operand.width (number o)) o.operand.at) (first_over number operands)
+    first_of_two (place_if (is_over o.operand.uleb o.operand.width (number o)) o.operand.at) (first_over number operands)

@@ -3,7 +3,7 @@ use Rattle.std.specs.Prelude.{◌≡◌, ℕ, List, Option}
 use Rattle.std.specs.List.{flat_map}
 use Rattle.dwz_meanings.specs.declared.exprs.Operand.{Operand}
 use Rattle.dwz_meanings.specs.Meanings.{Scope, without_siblings}
-use Rattle.dwz_narrow.specs.First.{first_over, lesser}
+use Rattle.dwz_narrow.specs.First.{first_over, first_of_two}
 use Rattle.dwz_narrow.specs.Narrow.{number_by}
 use Rattle.dwz_out.specs.Refusals.{all_of_unit, operands_of_attrs}
 use Rattle.dwz_unit.specs.Rows.{EntryRow}
@@ -14,7 +14,7 @@ KeepsPlaces s = (p : ℕ) → s.around.place p ≡ p
 
 -- the first place is that of these operands and of those before, and these targets are left
 pub record NotesOperands (after : ℕ → ℕ) (unit : ℕ) (operands : List Operand) (old new : Option ℕ) (more left : List ℕ) : Type 0 where
-  pub first : new ≡ lesser old (first_over (number_by after) (all_of_unit unit operands))
+  pub first : new ≡ first_of_two old (first_over (number_by after) (all_of_unit unit operands))
   pub behind : left ≡ more
 
 -- the operands of the expressions of an entry, and of entries

@@ -36,10 +36,10 @@ fn is_over(uleb: bool, width: u8, number: u64) -> bool
     }
 }
 
-// The lesser of two places, or the one if there is no other.
+// The first of two places, or the one if there is no other.
 #[inline(always)]
-fn lesser(first: Option<u64>, at: u64) -> Option<u64>
-    ensures { result ≡ First.lesser first (Some at) }
+fn first_of_two(first: Option<u64>, at: u64) -> Option<u64>
+    ensures { result ≡ First.first_of_two first (Some at) }
 {
     match first {
         None => Some(at),
@@ -50,10 +50,10 @@ fn lesser(first: Option<u64>, at: u64) -> Option<u64>
 /// The first place, with that of an operand among the places if its number needs more than `width` bytes.
 #[inline(always)]
 pub(crate) fn note(first: Option<u64>, at: u64, uleb: bool, width: u8, number: u64) -> Option<u64>
-    ensures { result ≡ First.lesser first (First.place_if (First.is_over uleb width number) at) }
+    ensures { result ≡ First.first_of_two first (First.place_if (First.is_over uleb width number) at) }
 {
     if is_over(uleb, width, number) {
-        lesser(first, at)
+        first_of_two(first, at)
     } else {
         first
     }

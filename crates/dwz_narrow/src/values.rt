@@ -8,7 +8,7 @@ ghost use Rattle.dwz_meanings.specs.Exprs.{Expression, expr_at};
 ghost use Rattle.dwz_meanings.specs.Meanings;
 ghost use Rattle.dwz_meanings.specs.Meanings.{Scope, expr_context};
 ghost use Rattle.dwz_meanings.specs.Meant.{meaning};
-ghost use Rattle.dwz_narrow.specs.First.{first_over, lesser};
+ghost use Rattle.dwz_narrow.specs.First.{first_over, first_of_two};
 ghost use Rattle.dwz_narrow.specs.Narrow.{number_by};
 ghost use Rattle.dwz_narrow.specs.Walked.{KeepsPlaces, NotesOperands};
 ghost use Rattle.dwz_out.specs.Refusals.{all_of_unit, operands_of_attr};
@@ -115,7 +115,7 @@ fn behind(targets: &[u64], count: usize) -> &[u64]
 // first among the targets.
 fn noted_all(first: Option<u64>, operands: &[Operand], targets: &[u64], unit: u64) -> Option<u64>
     ensures { (after : ℕ → ℕ) (at : ℕ) (more : List ℕ) → unit ≡ after at → targets.now ≡ map (λ o. after (led_to at o)) operands.now ++ more
-        → result ≡ lesser first (first_over (number_by after) (all_of_unit at operands.now)) }
+        → result ≡ first_of_two first (first_over (number_by after) (all_of_unit at operands.now)) }
 {
     let mut so_far = first;
     for (k, operand) in operands.iter().enumerate() {

@@ -116,12 +116,15 @@ fn finds_declarations(rt: HostRuntime) -> Result<(), Fail> {
     Ok(())
 }
 
-// A table at a place of a section, and where its declarations begin, or the fault.
+// A table at a place of a section, that is read up to one of the stops: where its declarations begin, or the
+// fault, and where reading stopped.
 struct Begun {
     shows: &'static str,
     section: &'static [u8],
     at: u32,
+    stops: &'static [&'static [usize]],
     starts: Result<&'static [usize], u64>,
+    stop: Option<usize>,
 }
 
 const BEGUN: &[Begun] = &[
@@ -129,31 +132,57 @@ const BEGUN: &[Begun] = &[
         shows: "three declarations",
         section: THREE,
         at: 1,
+        stops: &[],
         starts: Ok(&[1, 8, 15]),
+        stop: None,
+    },
+    Begun {
+        shows: "a stop in the second list",
+        section: THREE,
+        at: 1,
+        stops: &[&[2, 9], &[3, 15, 21]],
+        starts: Ok(&[1, 8]),
+        stop: Some(15),
+    },
+    Begun {
+        shows: "a stop where the table begins",
+        section: THREE,
+        at: 1,
+        stops: &[&[1, 8]],
+        starts: Ok(&[]),
+        stop: Some(1),
     },
     Begun {
         shows: "an empty table",
         section: THREE,
         at: 21,
+        stops: &[],
         starts: Ok(&[]),
+        stop: None,
     },
     Begun {
         shows: "the end of a table",
         section: TWO,
         at: 17,
+        stops: &[],
         starts: Ok(&[]),
+        stop: None,
     },
     Begun {
         shows: "a code twice",
         section: &[1, 0x34, 0, 0, 0, 2, 0x24, 0, 0, 0, 1, 0x16, 0, 0, 0, 0],
         at: 0,
+        stops: &[],
         starts: Err(10),
+        stop: None,
     },
     Begun {
         shows: "no flag for children",
         section: &[9, 9, 1, 0x34, 2, 0, 0, 0],
         at: 2,
+        stops: &[],
         starts: Err(2),
+        stop: None,
     },
     Begun {
         shows: "no end of the table",
@@ -161,7 +190,9 @@ const BEGUN: &[Begun] = &[
             1, 0x11, 1, 0x03, 0x08, 0, 0, 2, 0x24, 0, 0x0b, 0x0b, 0x3e, 0x21, 5, 0, 0,
         ],
         at: 0,
+        stops: &[],
         starts: Err(17),
+        stop: None,
     },
     Begun {
         shows: "no end of a declaration",
@@ -169,26 +200,33 @@ const BEGUN: &[Begun] = &[
             1, 0x11, 1, 0x03, 0x08, 0, 0, 2, 0x24, 0, 0x0b, 0x0b, 0x3e, 0x21, 5,
         ],
         at: 0,
+        stops: &[],
         starts: Err(7),
+        stop: None,
     },
     Begun {
         shows: "the end of the section",
         section: TWO,
         at: 18,
+        stops: &[],
         starts: Err(18),
+        stop: None,
     },
     Begun {
         shows: "past the end of the section",
         section: TWO,
         at: 40,
+        stops: &[],
         starts: Err(40),
+        stop: None,
     },
 ];
 
-// Where the declarations begin, and there are as many of them.
+// Where the declarations begin, and there are as many of them, up to the stop.
 fn starts_of(rt: &impl Abort, alloc: Global, row: &Begun) -> Result<Vec<usize>, ReadErr> {
-    let read = Table::read_with_starts(alloc, row.section, row.at)?;
+    let read = Table::read_up_to(alloc, row.section, row.at, row.stops)?;
     assert!(rt; read.table.len() == read.starts.len(), "{}", row.shows);
+    same_for(rt, &row.shows, &read.stop, &row.stop);
     Ok(read.starts)
 }
 

@@ -15,6 +15,7 @@ pub mod ApartTrees
 pub mod ApartKept
 pub mod ApartParts
 pub mod KeyLemmas
+pub mod ApartOwn
 pub mod ApartUnits
 pub mod StillLemmas
 pub mod BackLemmas

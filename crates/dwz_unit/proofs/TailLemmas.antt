@@ -1,18 +1,16 @@
--- Where tables are added, the ends of the others stay; an end that begins at an offset is the table there.
-use Rattle.std.proofs.Common.{◌≡◌, ℕ, ◌<◌, List, [], ◌∷◌, ◌++◌, drop, length, map, Option, Some, None, Result, Ok, Err, refl, sym, ap, subst, append_assoc, ◌∙◌, arith}
-use Rattle.std.proofs.lemmas.List.{append-nil, get_or_append_left, get_or_at, length-append, length-map, length_push, map-append, map_push}
+-- Where tables are added, the ends of the others stay.
+use Rattle.std.proofs.Common.{◌≡◌, ℕ, ◌<◌, List, [], ◌∷◌, ◌++◌, drop, length, map, Result, Ok, Err, refl, sym, ap, subst, append_assoc, ◌∙◌, arith}
+use Rattle.std.proofs.lemmas.List.{append-nil, get_or_append_left, length-append, map-append}
 use Rattle.std.proofs.lemmas.List.Elements.{All-head, All-push, All-tail, All-weaker}
-use Rattle.std.specs.Prelude.{All, IfSome, slice_index_or}
+use Rattle.std.specs.Prelude.{All}
 use Rattle.std.specs.BTreeMap.{BTreeMap}
-use Rattle.std.proofs.lemmas.Option.{get_or_from_slice_get, slice_get_within}
-use Rattle.dwz_abbrev.specs.declared.table.ReadTable.{ReadTable}
 use Rattle.dwz_docs.specs.Abbrevs.{Declaration, table_at}
 use Rattle.dwz_docs.proofs.ListFacts.{get_last, got_map}
 use Rattle.dwz_unit.specs.declared.tail.Tail.{Tail}
 use Rattle.dwz_unit.specs.Tables.{Grows, HasTable, Stored}
 use Rattle.dwz_docs.specs.Faults.{Fails}
 use Rattle.dwz_model.specs.declared.fault.ReadErr.{ReadErr}
-use Rattle.dwz_unit.specs.Tails.{AnswersTail, AreTables, BeginsAt, FindsTail, HasTail, KnowsStarts, read_from, stored, tail_in}
+use Rattle.dwz_unit.specs.Tails.{AnswersTail, AreTables, FindsTail, HasTail, stored, tail_in}
 use Rattle.dwz_unit.proofs.NumberLemmas.{numbers_kept}
 
 -- ---- ends of tables
@@ -24,47 +22,11 @@ base_kept old new t grows lt =
 grown_within : (old new : Stored) (n : ℕ) → Grows old new → n < length old.tables → n < length new.tables
 grown_within old new n grows lt = omega (arith, lt, ap length grows.tables, length-append old.tables grows.others)
 
-pub last_tail : (section : List ℕ) (tables new : List (List Declaration)) (table : List Declaration) (place : ℕ) (t : Tail) → new ≡ tables ++ table ∷ [] → t.base ≡ length tables
-    → table_at section place ≡ Ok (drop t.skip table) → HasTail (record { section = section; tables = new }) place t
-last_tail section tables new table place t is at read =
-    let last : slice_index_or new t.base [] ≡ table = ap (λ (w : List (List Declaration)). slice_index_or w t.base []) is ∙ get_or_at tables table [] [] t.base (sym at) in
-    record {
-      within = omega (arith, at, ap length is, length_push tables table);
-      read = read ∙ ap (λ (w : List Declaration). Ok (drop t.skip w)) (sym last);
-    }
-
-pub grows_by_one : (section : List ℕ) (tables new : List (List Declaration)) (table : List Declaration) → new ≡ tables ++ table ∷ []
-    → Grows (record { section = section; tables = tables }) (record { section = section; tables = new })
-grows_by_one section tables new table is = record { section = refl; others = table ∷ []; tables = is }
-
-abbrev table_of : ReadTable → List Declaration
-table_of r = r.table
-
--- an end that begins at an offset is the table there
-pub begins_there : (section : List ℕ) (reads : List ReadTable) (offset : ℕ) (t : Tail) → All (KnowsStarts section) reads → BeginsAt reads offset t → HasTail (read_from section reads) offset t
-begins_there section reads offset t know is =
-    let lt = slice_get_within reads t.base is.read is.base in
-    let starts = subst (KnowsStarts section) (get_or_from_slice_get reads t.base is.read is.read is.base) (know t.base is.read lt) in
-    let table : slice_index_or (map table_of reads) t.base [] ≡ is.read.table = get_or_from_slice_get (map table_of reads) t.base is.read.table []
-    (got_map table_of reads t.base is.read is.base) in
-    record {
-      within = slice_get_within (map table_of reads) t.base is.read.table (got_map table_of reads t.base is.read is.base);
-      read = starts.each t.skip offset is.start ∙ ap (λ (w : List Declaration). Ok (drop t.skip w)) (sym table);
-    }
-
-pub some_begins : (section : List ℕ) (reads given : List ReadTable) (offset : ℕ) (t : Option Tail) → All (KnowsStarts section) reads → given ≡ reads → IfSome t (BeginsAt given offset)
-    → IfSome t (HasTail (read_from section reads) offset)
-some_begins section reads given offset None know same is = tt
-some_begins section reads given offset (Some t) know same is = begins_there section reads offset t know (subst (λ (w : List ReadTable). BeginsAt w offset t) same is)
-
--- a table was read, and stands behind the others
-pub read_more : (section : List ℕ) (reads new : List ReadTable) (r : ReadTable) (offset : ℕ) (t : Tail) → new ≡ reads ++ r ∷ [] → t.base ≡ length reads
-    → table_at section offset ≡ Ok (drop t.skip r.table) → HasTail (read_from section new) offset t
-read_more section reads new r offset t is at read =
-    last_tail section (map table_of reads) (map table_of new) r.table offset t (ap (map table_of) is ∙ map_push table_of reads r) (at ∙ sym (length-map reads table_of)) read
-
-pub reads_grow : (section : List ℕ) (reads new : List ReadTable) (r : ReadTable) → new ≡ reads ++ r ∷ [] → Grows (read_from section reads) (read_from section new)
-reads_grow section reads new r is = grows_by_one section (map table_of reads) (map table_of new) r.table (ap (map table_of) is ∙ map_push table_of reads r)
+pub tail_grown : (old new : Stored) (offset : ℕ) (t : Tail) → Grows old new → HasTail old offset t → HasTail new offset t
+tail_grown old new offset t grows has = record {
+  within = grown_within old new t.base grows has.within;
+  read = ap (λ (w : List ℕ). table_at w offset) grows.section ∙ has.read ∙ ap (λ (w : List Declaration). Ok w) (sym (base_kept old new t grows has.within));
+}
 
 -- ---- tables that are ends of others
 

@@ -4,8 +4,8 @@ ghost use Rattle.std.specs.Prelude.{◌≤◌, ◌+◌, IfOk, length};
 ghost use Rattle.dwz_unit.specs.Tables.{Grows};
 ghost use Rattle.dwz_unit.specs.Tails.{FindsTail};
 
-use crate::bases::Bases;
 use crate::header::u32_at;
+use crate::joined_tables::JoinedTables;
 use crate::tail::Tail;
 use dwz_model::{NoMemory, ReadErr};
 use std::alloc::{AllocError, Global};
@@ -13,9 +13,9 @@ use std::alloc::{AllocError, Global};
 // The header of a compile unit has so many bytes (DWARF 5, 7.5.1.1), and no other has fewer.
 const HEADER: usize = 12;
 
-/// The offsets of the tables that units name, in the order of the units, so that those are read in ascending order of which
-/// none is known yet. Where one of them isn't a table, half as many are read at once from then on, since its fault is told only
-/// where its unit is read: a file ends with the first that isn't one, so at most three times are as many read at once.
+/// The offsets of the tables that units name, in the order of the units. From the first whose table isn't known a stretch of them
+/// is read in ascending order. Where one of these isn't a table, stretches are half as long from then on, since its fault is told
+/// only where its unit is read. The file ends with that unit at the latest, so at most three stretches of each length are read.
 #[derive(Drop)]
 pub(crate) struct Ahead {
     offsets: Vec<u32>,
@@ -42,11 +42,11 @@ fn offsets_in(alloc: Global, info: &[u8]) -> Result<Vec<u32>, NoMemory> {
 }
 
 // Reads the tables at these offsets, up to the first that isn't one, and tells whether all are tables.
-fn read_all(alloc: Global, offsets: &[u32], bases: &mut Bases) -> Result<bool, NoMemory>
-    ensures { Grows bases.old bases.new }
+fn read_all(alloc: Global, offsets: &[u32], joined: &mut JoinedTables) -> Result<bool, NoMemory>
+    ensures { Grows joined.old joined.new }
 {
     for offset in offsets {
-        match bases.tail_at(alloc, *offset) {
+        match joined.tail_at(alloc, *offset) {
             Ok(_) => {}
             Err(ReadErr::NoMemory) => return Err(AllocError),
             Err(ReadErr::Refused(_)) => return Ok(false),
@@ -68,9 +68,9 @@ impl Ahead {
     }
 
     // Passes over those whose tables are known.
-    fn pass_known(&mut self, bases: &Bases) {
+    fn pass_known(&mut self, joined: &JoinedTables) {
         while let Some(offset) = self.offsets.get(self.done) {
-            if bases.known_tail(*offset).is_none() {
+            if joined.known_tail(*offset).is_none() {
                 return;
             }
             self.done += 1;
@@ -88,12 +88,12 @@ impl Ahead {
     }
 
     // Reads tables ahead, from the first that isn't known on.
-    fn read_ahead(&mut self, alloc: Global, bases: &mut Bases) -> Result<(), NoMemory>
-        ensures { Grows bases.old bases.new }
+    fn read_ahead(&mut self, alloc: Global, joined: &mut JoinedTables) -> Result<(), NoMemory>
+        ensures { Grows joined.old joined.new }
     {
-        self.pass_known(bases);
+        self.pass_known(joined);
         let next = self.ascending(alloc)?;
-        if read_all(alloc, next.as_slice(), bases)? {
+        if read_all(alloc, next.as_slice(), joined)? {
             self.done += next.len();
         } else {
             self.most = (self.most / 2).max(1);
@@ -105,15 +105,15 @@ impl Ahead {
     pub fn tail_at(
         &mut self,
         alloc: Global,
-        bases: &mut Bases,
+        joined: &mut JoinedTables,
         offset: u32,
     ) -> Result<Tail, ReadErr>
-        ensures { FindsTail bases.old bases.new offset result }
+        ensures { FindsTail joined.old joined.new offset result }
     {
-        if let Some(tail) = bases.known_tail(offset) {
+        if let Some(tail) = joined.known_tail(offset) {
             return Ok(tail);
         }
-        self.read_ahead(alloc, bases)?;
-        bases.tail_at(alloc, offset)
+        self.read_ahead(alloc, joined)?;
+        joined.tail_at(alloc, offset)
     }
 }

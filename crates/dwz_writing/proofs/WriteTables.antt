@@ -13,6 +13,7 @@ use Rattle.dwz_docs.specs.Abbrevs.{Declaration, EndsPairs, EndsTable, IsDeclared
 use Rattle.dwz_docs.specs.Abbrevs.{pairs_bytes, table_bytes}
 use Rattle.dwz_meanings.specs.Documents.{Attr, DwUnit, Entries, Node}
 use Rattle.dwz_docs.specs.Lists.{Each, SpellsItems}
+use Rattle.dwz_docs.proofs.FindLemmas.{found_behind}
 use Rattle.dwz_meanings.specs.Classes.{Unread}
 use Rattle.dwz_meanings.specs.Classes.{ClassRow, class_in, class_of, class_rows}
 use Rattle.dwz_docs.specs.Parts.{StandsAt}
@@ -91,18 +92,10 @@ decl_written n s some fits good = record {
 abbrev New : ℕ → List Declaration → Type 0
 New n earlier = (c : ℕ) → n ≤ c → find_decl earlier c ≡ None
 
-find_behind : (earlier others : List Declaration) (c : ℕ) → find_decl earlier c ≡ None → find_decl (earlier ++ others) c ≡ find_decl others c
-find_behind [] others c e = refl
-find_behind (d ∷ earlier) others c e = go (find_behind earlier others c) (eqb d.code c) e where
-  go : (find_decl earlier c ≡ None → find_decl (earlier ++ others) c ≡ find_decl others c) → (t : Bool) → cond t (Some d) (find_decl earlier c) ≡ None
-      → cond t (Some d) (find_decl (earlier ++ others) c) ≡ find_decl others c
-  go rest true e = absurd cc
-  go rest false e = rest e
-
 new_next : (n : ℕ) (s : Shape) (earlier : List Declaration) → New n earlier → New (suc n) (earlier ++ declaration_of n s ∷ [])
 new_next n s earlier new c le =
     let test : eqb n c ≡ false = ne_eqb n c (λ h. omega (arith, h, le)) in
-    find_behind earlier (declaration_of n s ∷ []) c (new c (omega (arith, le))) ∙ ap (λ (b : Bool). cond b (Some (declaration_of n s)) None) test
+    found_behind earlier (declaration_of n s ∷ []) c (new c (omega (arith, le))) ∙ ap (λ (b : Bool). cond b (Some (declaration_of n s)) None) test
 
 shapes_written : (table : List Shape) (n : ℕ) (earlier : List Declaration) → 0 < n → n + length table < 2 ^ 64 → New n earlier → Each GoodShape table
     → SpellsItems IsDeclared EndsTable earlier (coded n table) (table_bytes (coded n table))

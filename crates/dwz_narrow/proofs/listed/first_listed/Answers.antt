@@ -2,7 +2,7 @@ use Rattle.std.proofs.Common.{◌+◌, ℕ, false, List, [], None, ap, drop, get
 use Rattle.std.proofs.lemmas.List.{append-nil}
 use Rattle.dwz_meanings.specs.Shared.{ListOperand}
 use Rattle.dwz_model.specs.declared.place.Base.TheVariants.{Unit as FromUnit}
-use Rattle.dwz_narrow.specs.First.{is_over, lesser, place_if}
+use Rattle.dwz_narrow.specs.First.{is_over, first_of_two, place_if}
 use Rattle.dwz_narrow.proofs.FirstLemmas.{beside, first_so, left_at, left_end, noted_end, noted_more}
 use Rattle.dwz_resolve.specs.declared.operands.ListOperand.{ListOperand as OperandOfCode}
 use Rattle.dwz_resolve.specs.ListRows.{operand_view}
@@ -21,7 +21,7 @@ loop-k-preserved c = λ raw number are. (
     let same = ap (λ (w : List ℕ). get_or w k 0) (are ∙ sym (append-nil (map (λ p. number (operand_view raw p)) rows))) ∙ beside (λ p. number (operand_view raw p)) rows [] k no_row
     c.loop-k-test.true in
     noted_more number o (map view rows) (map view (drop k rows)) (map view (drop (k + 1) rows)) None c.loop-k.first c.note-first.result (left_at view rows k no_row c.loop-k-test.true)
-    (c.note-first.ensures ∙ ap (λ (n : ℕ). lesser c.loop-k.first (place_if (is_over o.operand.uleb o.operand.width n) o.operand.at)) same) (c.loop-k.invariant raw number are))
+    (c.note-first.ensures ∙ ap (λ (n : ℕ). first_of_two c.loop-k.first (place_if (is_over o.operand.uleb o.operand.width n) o.operand.at)) same) (c.loop-k.invariant raw number are))
 
 pub returns : goal.returns
 returns c = λ raw number are. (

@@ -2,7 +2,7 @@ use Rattle.std.proofs.Common.{◌+◌, ◌-◌, ◌∷◌, ℕ, false, List, ap,
 use Rattle.dwz_meanings.specs.declared.exprs.Operand.{Operand}
 use Rattle.dwz_meanings.specs.Shared.{ListOperand, of_unit}
 use Rattle.dwz_model.specs.declared.place.Base.TheVariants.{Unit as FromUnit}
-use Rattle.dwz_narrow.specs.First.{is_over, lesser, place_if}
+use Rattle.dwz_narrow.specs.First.{is_over, first_of_two, place_if}
 use Rattle.dwz_narrow.specs.Narrow.{number_by}
 use Rattle.dwz_narrow.proofs.FirstLemmas.{beside, left_at, left_end, noted_end, noted_more, units_all}
 use Rattle.dwz_out.specs.Refusals.{all_of_unit}
@@ -24,7 +24,7 @@ loop-k-preserved c = λ after at more is are. (
     let number = c.number_of-number.ensures ∙ (λ i. target i - base_place (is i) o.base) in
     let split = units_all at (drop k os) ∙ left_at (of_unit at) os k no_operand lt ∙ ap (λ (w : List ListOperand). of_unit at o ∷ w) (sym (units_all at (drop (k + 1) os))) in
     noted_more (number_by after) (of_unit at o) (all_of_unit at os) (all_of_unit at (drop k os)) (all_of_unit at (drop (k + 1) os)) c.args.first c.loop-k.so_far c.note-so_far.result split
-    (c.note-so_far.ensures ∙ ap (λ (n : ℕ). lesser c.loop-k.so_far (place_if (is_over o.uleb o.width n) o.at)) number) (c.loop-k.invariant after at more is are))
+    (c.note-so_far.ensures ∙ ap (λ (n : ℕ). first_of_two c.loop-k.so_far (place_if (is_over o.uleb o.width n) o.at)) number) (c.loop-k.invariant after at more is are))
 
 pub returns : goal.returns
 returns c = λ after at more is are. (

@@ -2,13 +2,13 @@ use Rattle.std.proofs.Common.{◌≡◌, ℕ, List, Some, get_or, rules, ap, sym
 use Rattle.std.specs.Prelude.{slice_get}
 use Rattle.std.specs.Ordering.{is_eq}
 use Rattle.std.proofs.lemmas.Option.{slice_get-get_or, slice_get_read}
-use Rattle.dwz_unit.proofs.NumberLemmas.{is_same}
-use Rattle.dwz_unit.proofs.bases.tail_of.Goals as goal
+use Rattle.dwz_docs.proofs.CaseFacts.{same_number}
+use Rattle.dwz_unit.proofs.joined.tail_of.Goals as goal
 
 pub returns-in-Ok : goal.returns-in-Ok
 returns-in-Ok c =
     let places = c.as_slice.result.now in
-    let here : get_or places c.in-Ok.skip 0 ≡ c.args.offset = is_same (get_or places c.in-Ok.skip 0) c.args.offset (ap is_eq (c.in-Ok.ensures.ok 0)) in
+    let here : get_or places c.in-Ok.skip 0 ≡ c.args.place = same_number (get_or places c.in-Ok.skip 0) c.args.place (ap is_eq (c.in-Ok.ensures.ok 0)) in
     record {
       read = c.in_ok-read.read.now;
       base = search (rules, slice_get_read);

@@ -1,0 +1,41 @@
+-- A table that was read is added to those that are kept.
+use Rattle.std.proofs.Common.{◌≡◌, ℕ, List, [], ◌∷◌, ◌++◌, Some, sym, subst, ◌∙◌, inl, inr}
+use Rattle.std.specs.BTreeMap.{BTreeMap, Updates, get}
+use Rattle.std.specs.Ordering.{is_eq, nat_cmp}
+use Rattle.dwz_bytes.proofs.GroupLemmas.{chosen}
+use Rattle.dwz_docs.proofs.CaseFacts.{same_number}
+use Rattle.dwz_unit.specs.declared.joined.JoinedTable.{JoinedTable}
+use Rattle.dwz_unit.specs.declared.tail.Tail.{Tail}
+use Rattle.dwz_unit.specs.Tables.{Grows, Stored}
+use Rattle.dwz_unit.specs.Tails.{AreJoinedTables, AreTails, BeginsAt, HasTail, IsJoined, read_from, whole_tables}
+use Rattle.dwz_unit.proofs.LinkLemmas.{begins_has, known_pushed, reads_grow}
+use Rattle.dwz_unit.proofs.TailLemmas.{tail_grown}
+
+pub tails_grown : (old new : Stored) (tails : BTreeMap ℕ Tail) → Grows old new → AreTails old tails → AreTails new tails
+tails_grown old new tails grows are = λ offset t is. tail_grown old new offset t grows (are offset t is)
+
+pub tails_kept : (s : Stored) (tails others : BTreeMap ℕ Tail) → AreTails s tails → others.entries ≡ tails.entries → AreTails s others
+tails_kept s tails others are is = λ offset t e.
+    let before : get nat_cmp tails offset ≡ Some t = rw is at e in
+    are offset t before
+
+-- the end of a table was asked for
+pub tails_added : (s : Stored) (tails others : BTreeMap ℕ Tail) (offset : ℕ) (t : Tail) → AreTails s tails → HasTail s offset t → Updates nat_cmp tails others offset (Some t) → AreTails s others
+tails_added s tails others offset t are has updates = λ place u is.
+    elim (chosen (is_eq (nat_cmp offset place)) (Some t) (get nat_cmp tails place) (Some u) (sym (updates.0 place) ∙ is)) [
+      | inl p ↦
+          let same : t ≡ u = cc in
+          subst (λ (w : ℕ). HasTail s w u) (same_number offset place p.0) (subst (HasTail s offset) same has)
+      | inr p ↦ are place u p.1
+    ]
+
+pub bases_pushed : (section : List ℕ) (reads given new : List JoinedTable) (tails : BTreeMap ℕ Tail) (offset : ℕ) (r : JoinedTable) → AreJoinedTables section reads tails → given ≡ reads
+    → IsJoined section given (whole_tables given) offset r → new ≡ reads ++ r ∷ [] → AreJoinedTables section new tails
+bases_pushed section reads given new tails offset r are same joins is = record {
+  known = known_pushed section reads new offset r is are.known (subst (λ (w : List JoinedTable). IsJoined section w (whole_tables w) offset r) same joins);
+  asked = tails_grown (read_from section reads) (read_from section new) tails (reads_grow section reads new r is) are.asked;
+}
+
+pub begins_given : (section : List ℕ) (reads given : List JoinedTable) (tails : BTreeMap ℕ Tail) (place : ℕ) (t : Tail) → AreJoinedTables section reads tails → given ≡ reads → BeginsAt given place t
+    → HasTail (read_from section reads) place t
+begins_given section reads given tails place t are same begins = begins_has section reads place are.known t (subst (λ (w : List JoinedTable). BeginsAt w place t) same begins)

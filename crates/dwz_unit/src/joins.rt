@@ -1,0 +1,81 @@
+//! Reading a table, up to where it goes on as the end of another.
+
+ghost use Rattle.dwz_unit.specs.Tails.{AreReadTables, FindsJoined, whole_tables};
+
+use crate::joined::{JoinedTable, are_apart, tail_among};
+use dwz_abbrev::{ReadTable, Table};
+use dwz_model::{NoMemory, ReadErr};
+use std::alloc::Global;
+
+// Whether the last declaration of a table's own begins at a place or behind it.
+fn reaches(reads: &[JoinedTable], base: usize, place: usize) -> bool {
+    match reads.get(base) {
+        Some(read) => match read.starts.as_slice().last() {
+            Some(last) => *last >= place,
+            None => false,
+        },
+        None => false,
+    }
+}
+
+/// Drops the numbers of the tables whose own declarations all begin before a place.
+pub(crate) fn close_before(reads: &[JoinedTable], place: usize, open: &mut Vec<usize>) {
+    open.retain(|base| reaches(reads, *base, place));
+}
+
+// Where the declarations of tables begin, by their numbers.
+fn starts_of<'t>(
+    alloc: Global,
+    reads: &'t [JoinedTable],
+    open: &[usize],
+) -> Result<Vec<&'t [usize]>, NoMemory> {
+    let mut starts = Vec::new(alloc);
+    for base in open {
+        if let Some(read) = reads.get(*base) {
+            starts.push(read.starts.as_slice())?;
+        }
+    }
+    Ok(starts)
+}
+
+/// Reads the table at an offset, up to the first of its declarations that begins where one does of the open tables. A code that
+/// stands again behind that place is a fault of the table, which is found by reading it whole.
+pub(crate) fn read_joined(
+    alloc: Global,
+    section: &[u8],
+    offset: u32,
+    reads: &[JoinedTable],
+    open: &[usize],
+) -> Result<JoinedTable, ReadErr>
+    requires { AreReadTables section.now reads.now (whole_tables reads.now) }
+    ensures { FindsJoined section.now reads.now offset result }
+{
+    let stops = starts_of(alloc, reads, open)?;
+    let ReadTable {
+        table,
+        starts,
+        stop,
+    } = Table::read_up_to(alloc, section, offset, stops.as_slice())?;
+    let next = match stop {
+        Some(place) => tail_among(reads, open, place),
+        None => {
+            return Ok(JoinedTable {
+                table,
+                starts,
+                next: None,
+            });
+        }
+    };
+    match next {
+        Some(tail) if are_apart(reads, table.decls(), tail) => Ok(JoinedTable {
+            table,
+            starts,
+            next,
+        }),
+        _ => Ok(JoinedTable {
+            table: Table::read(alloc, section, offset)?,
+            starts: Vec::new(alloc),
+            next: None,
+        }),
+    }
+}
